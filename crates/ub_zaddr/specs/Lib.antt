@@ -1,0 +1,4 @@
+pub mod Address
+pub mod Digit
+pub mod Padded
+pub mod Places

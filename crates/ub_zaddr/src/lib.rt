@@ -1,0 +1,16 @@
+// Addresses on the Z-curve (Bayer 1997; Morton's order): a point of one to four dimensions, its address by the
+// interleaving of the bits of its coordinates, and back. What belongs here is only the map between points and
+// addresses; boxes of addresses and steps along the curve stand in the crates above. Nothing allocates.
+#![tactic(auto)]
+
+mod address;
+mod fault;
+mod point;
+mod shape;
+
+pub use address::interleave;
+pub use address::last;
+pub use address::spread;
+pub use fault::ZFault;
+pub use point::Point;
+pub use shape::Shape;
