@@ -270,3 +270,14 @@ address-order d p q hp hq h =
       let c : slice_index p i ≤ slice_index q i = h.1 i lt in
       rw (a, b) c) in
     rw (address-digits p, address-digits q) le
+
+-- the address of one more bit, as the code computes it
+pub address_below-step : (z v d b : ℕ) (p : List ℕ) → b < 32 → d ≡ length p → length p ≤ 4 → v ≡ digit_at b p → z ≡ address_below p b
+    → (z + v * 2 ^ (b * d) % 2 ^ 128 ≡ address_below p (b + 1)) × (z + v * 2 ^ (b * d) % 2 ^ 128 < 2 ^ ((b + 1) * length p)) × (z + v * 2 ^ (b * d) % 2 ^ 128 < 2 ^ 128)
+address_below-step z v d b p hb ed long ev ez =
+    let whole : v * 2 ^ (b * d) % 2 ^ 128 ≡ digit_at b p * 2 ^ (b * length p) = rw (ed, ev) (shifted (digit_at b p) b (length p) hb long (digit-lt b p)) in
+    let sum : z + v * 2 ^ (b * d) % 2 ^ 128 ≡ address_below p (b + 1) =
+      ap (λ (m : ℕ). z + m) whole ∙ ap (λ (m : ℕ). m + digit_at b p * 2 ^ (b * length p)) ez ∙ sym (address_below-next p b) in
+    let lt : address_below p (b + 1) < 2 ^ ((b + 1) * length p) = address_below-lt p (b + 1) in
+    let room : 2 ^ ((b + 1) * length p) ≤ 2 ^ 128 = pow_mono {i = (b + 1) * length p} {j = 128} (within b (length p) hb long) in
+    (sum, rw sum lt, rw sum (omega arith))

@@ -1,1 +1,4 @@
 pub mod AddressFacts
+mod BitFacts
+mod PlacesFacts
+mod SpreadFacts

@@ -78,7 +78,8 @@ fn digit(values: &[u32], b: u32) -> u32
 fn coordinate(dims: u32, i: u32, z: u128) -> u32
     requires below { i < dims }
     requires dims { dims ≤ 4 }
-    ensures { (b : ℕ) → b < 32 → bit_at result b ≡ bit_at z (place dims i b) }
+    ensures bits { (b : ℕ) → b < 32 → bit_at result b ≡ bit_at z (place dims i b) }
+    ensures word { result < 2 ^ 32 }
 {
     let mut x = 0u32;
     for b in 0..32u32 {
