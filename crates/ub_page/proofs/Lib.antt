@@ -1,0 +1,2 @@
+pub mod DistinctFacts
+pub mod NameFacts

@@ -1,0 +1,4 @@
+pub mod Block
+pub mod Name
+pub mod Schema
+pub mod Table

@@ -1,0 +1,37 @@
+ghost use Rattle.std.specs.Prelude.{◌≡◌, ◌+◌, ◌<◌};
+
+/// One row of a table: its number, from 1 in the order of insertion, its coordinates, and its measures.
+///
+/// Places that the schema does not use are 0.
+#[derive(Clone, Copy, PartialEq, Eq, Debug)]
+pub struct Row {
+    pub number: u32,
+    pub dims: [u32; 4],
+    pub measures: [i64; 4],
+}
+
+/// Where a row stands in the order of the tree: by address, then by row number.
+#[derive(Clone, Copy, PartialEq, Eq, PartialOrd, Ord, Debug)]
+pub struct Key {
+    pub z: u128,
+    pub number: u32,
+}
+
+impl Row {
+    ghost use Rattle.std.specs.Prelude.{◌≡◌, ◌+◌, ◌<◌};
+    ghost use Rattle.ub_page.specs.Table as spec;
+
+    /// The value in a column, from 0, of a table with so many dimensions: coordinates first, then measures.
+    pub fn column_value(&self, dims: u32, column: usize) -> i128
+        requires dims { dims < 5 }
+        requires column { column < dims + 4 }
+        ensures { result ≡ spec.column_value dims self.now column }
+    {
+        let dims = dims as usize;
+        if column < dims {
+            i128::from(self.dims[column])
+        } else {
+            i128::from(self.measures[column - dims])
+        }
+    }
+}
