@@ -1,5 +1,5 @@
 -- Facts about addresses: the digits, the bits, the order and the inverse.
-use Rattle.std.proofs.Common.{◌≡◌, ◌≢◌, ◌≤◌, ◌<◌, ◌+◌, ◌-◌, ◌*◌, ◌/◌, ◌%◌, ◌^◌, ℕ, zero, suc, List, [], ◌∷◌, length, refl, sym, ap, arith, ◌∙◌, add-one, inl, inr, slice_index, All}
+use Rattle.std.proofs.Common.{◌≡◌, ◌≤◌, ◌<◌, ◌+◌, ◌-◌, ◌*◌, ◌/◌, ◌%◌, ◌^◌, ℕ, zero, suc, List, [], ◌∷◌, length, refl, sym, ap, arith, ◌∙◌, add-one, inl, inr, slice_index, All, below_more}
 use Rattle.std.proofs.Math.Nat.{mul-le-mul_right, add-mul, mul_assoc, add_comm, add-mul-mod_self_right, mod-eq_of_lt}
 use Rattle.std.proofs.Math.Pow.{pow_mono}
 use Rattle.std.proofs.lemmas.Bool.Decides.{leb_tells}
@@ -10,6 +10,7 @@ use Rattle.std.proofs.lemmas.Nat.Bits.{bit_at-lt, bit_at_cat_low, bit_at_cat_hig
 use Rattle.std.specs.Int.{bit_at}
 use Rattle.ub_zaddr.specs.Address.{sum_below, IsPoint, place, address, last_address, IsAtMost}
 use Rattle.ub_zaddr.specs.Digit.{digit_at}
+use Rattle.ub_zaddr.proofs.BitFacts.{with_bit-lt, with_bit-low, with_bit-top}
 
 -- the sum of the n lowest digits, each at its place
 unfoldable pub address_below : List ℕ → ℕ → ℕ
@@ -40,13 +41,13 @@ digit_sum (x ∷ xs) b base =
     let f : ℕ → ℕ = λ i. bit_at (slice_index (x ∷ xs) i) b * 2 ^ (base + (suc n - 1 - i)) in
     let g : ℕ → ℕ = λ i. bit_at (slice_index xs i) b * 2 ^ (base + (n - 1 - i)) in
     let rest : sum_below (λ i. f (suc i)) n ≡ sum_below g n =
-      sum_same (λ i. f (suc i)) g n (λ i lt. ap (λ (k : ℕ). bit_at (slice_index xs i) b * 2 ^ (base + k)) (omega arith)) in
+    sum_same (λ i. f (suc i)) g n (λ i lt. ap (λ (k : ℕ). bit_at (slice_index xs i) b * 2 ^ (base + k)) (omega arith)) in
     let more : sum_below g n ≡ digit_at b xs * 2 ^ base = digit_sum xs b base in
     let width : base + (suc n - 1 - 0) ≡ n + base = omega arith in
     let head : f 0 ≡ bit_at x b * 2 ^ n * 2 ^ base =
-      ap (λ (k : ℕ). bit_at x b * 2 ^ k) width ∙ ap (λ (m : ℕ). bit_at x b * m) (pow-add 2 n base) ∙ sym (mul_assoc (bit_at x b) (2 ^ n) (2 ^ base)) in
+    ap (λ (k : ℕ). bit_at x b * 2 ^ k) width ∙ ap (λ (m : ℕ). bit_at x b * m) (pow-add 2 n base) ∙ sym (mul_assoc (bit_at x b) (2 ^ n) (2 ^ base)) in
     let parts : (bit_at x b * 2 ^ n + digit_at b xs) * 2 ^ base ≡ bit_at x b * 2 ^ n * 2 ^ base + digit_at b xs * 2 ^ base =
-      add-mul (bit_at x b * 2 ^ n) (digit_at b xs) (2 ^ base) in
+    add-mul (bit_at x b * 2 ^ n) (digit_at b xs) (2 ^ base) in
     let whole : sum_below f (suc n) ≡ f 0 + sum_below (λ i. f (suc i)) n = sum_first f n in
     whole ∙ ap (λ (m : ℕ). m + sum_below (λ i. f (suc i)) n) head ∙ ap (λ (m : ℕ). bit_at x b * 2 ^ n * 2 ^ base + m) (rest ∙ more) ∙ sym parts
 
@@ -94,7 +95,7 @@ digit_below a v k d m h =
     let split : m ≡ (m - (d + k)) + (d + k) = omega arith in
     let power : 2 ^ m ≡ 2 ^ (m - (d + k)) * 2 ^ (d + k) = ap (λ (n : ℕ). 2 ^ n) split ∙ pow-add 2 (m - (d + k)) (d + k) in
     let same_low : (a + v * 2 ^ m) % 2 ^ (d + k) ≡ a % 2 ^ (d + k) =
-      ap (λ (x : ℕ). (a + x) % 2 ^ (d + k)) (ap (λ (x : ℕ). v * x) power ∙ sym (mul_assoc v (2 ^ (m - (d + k))) (2 ^ (d + k)))) ∙ add-mul-mod_self_right a (v * 2 ^ (m - (d + k))) (2 ^ (d + k)) in
+    ap (λ (x : ℕ). (a + x) % 2 ^ (d + k)) (ap (λ (x : ℕ). v * x) power ∙ sym (mul_assoc v (2 ^ (m - (d + k))) (2 ^ (d + k)))) ∙ add-mul-mod_self_right a (v * 2 ^ (m - (d + k))) (2 ^ (d + k)) in
     let parts = sym (mod-pow-add (a + v * 2 ^ m) d k) ∙ same_low ∙ mod-pow-add a d k in
     (same_from_place _ _ _ _ (2 ^ k) (mod_below (a + v * 2 ^ m) (2 ^ k) (pow_pos k)) (mod_below a (2 ^ k) (pow_pos k)) parts).0
 
@@ -118,7 +119,7 @@ address_below-digit p zero b h = absurd (omega arith)
 address_below-digit p (suc n) b h = elim (leb_tells n b) [
   | inl t ↦ let le = t.1 in let same : b ≡ n = omega arith in
       rw same (ap (λ (x : ℕ). x / 2 ^ (n * length p) % 2 ^ length p) (add_comm (address_below p n) (digit_at n p * 2 ^ (n * length p)))
-        ∙ ap (λ (x : ℕ). x % 2 ^ length p) (div-mul-add (digit_at n p) (2 ^ (n * length p)) (address_below p n) (address_below-lt p n)) ∙ mod-eq_of_lt (digit-lt n p))
+      ∙ ap (λ (x : ℕ). x % 2 ^ length p) (div-mul-add (digit_at n p) (2 ^ (n * length p)) (address_below p n) (address_below-lt p n)) ∙ mod-eq_of_lt (digit-lt n p))
   | inr f ↦ let lt = f.1 in
       let room : (b + 1) * length p ≤ n * length p = mul-le-mul_right (length p) (omega arith) in
       digit_below (address_below p n) (digit_at n p) (b * length p) (length p) (n * length p) (omega arith) ∙ address_below-digit p n b lt
@@ -151,24 +152,24 @@ digit-bit (x ∷ xs) b zero h =
     let top : suc (length xs) - 1 - 0 ≡ length xs = omega arith in
     let none : length xs - length xs ≡ 0 = omega arith in
     ap (λ (j : ℕ). bit_at (digit_at b (x ∷ xs)) j) top
-      ∙ bit_at_cat_high (bit_at x b) (length xs) (digit_at b xs) (length xs) (digit-lt b xs) (omega arith)
-      ∙ ap (λ (j : ℕ). bit_at (bit_at x b) j) none
-      ∙ bit_at_lowest (bit_at x b)
-      ∙ mod-eq_of_lt (bit_at-lt x b)
+    ∙ bit_at_cat_high (bit_at x b) (length xs) (digit_at b xs) (length xs) (digit-lt b xs) (omega arith)
+    ∙ ap (λ (j : ℕ). bit_at (bit_at x b) j) none
+    ∙ bit_at_lowest (bit_at x b)
+    ∙ mod-eq_of_lt (bit_at-lt x b)
 digit-bit (x ∷ xs) b (suc i) h =
     let down : suc (length xs) - 1 - suc i ≡ length xs - 1 - i = omega arith in
     ap (λ (j : ℕ). bit_at (digit_at b (x ∷ xs)) j) down
-      ∙ bit_at_cat_low (bit_at x b) (length xs) (digit_at b xs) (length xs - 1 - i) (omega arith)
-      ∙ digit-bit xs b i (omega arith)
+    ∙ bit_at_cat_low (bit_at x b) (length xs) (digit_at b xs) (length xs - 1 - i) (omega arith)
+    ∙ digit-bit xs b i (omega arith)
 
 -- bit b of dimension i stands at its place in the address
 pub address-bit : (p : List ℕ) (i b : ℕ) → i < length p → b < 32 → bit_at (address p) (place (length p) i b) ≡ bit_at (slice_index p i) b
 address-bit p i b hi hb =
     let d : ℕ = length p in
     sym (bit_of_shift (address p) (b * d) (d - 1 - i))
-      ∙ sym (bit_of_low (address p / 2 ^ (b * d)) d (d - 1 - i) (omega arith))
-      ∙ ap (λ (m : ℕ). bit_at m (d - 1 - i)) (address-digit p b hb)
-      ∙ digit-bit p b i hi
+    ∙ sym (bit_of_low (address p / 2 ^ (b * d)) d (d - 1 - i) (omega arith))
+    ∙ ap (λ (m : ℕ). bit_at m (d - 1 - i)) (address-digit p b hb)
+    ∙ digit-bit p b i hi
 
 -- each bit of an address is the place of some bit of some dimension
 pub is_place : (d k : ℕ) → k < 32 * d → (i b : ℕ) × (i < d) × (b < 32) × (place d i b ≡ k)
@@ -184,17 +185,17 @@ pub address-of_bits : (p : List ℕ) (z : ℕ) → z < 2 ^ (32 * length p)
     → ((i b : ℕ) → i < length p → b < 32 → bit_at (slice_index p i) b ≡ bit_at z (place (length p) i b)) → address p ≡ z
 address-of_bits p z hz h =
     same_from_bits_below (32 * length p) (address p) z (address-lt p) hz (λ k lt.
-      let at = is_place (length p) k lt in
-      sym (ap (λ (j : ℕ). bit_at (address p) j) at.4) ∙ address-bit p at.0 at.1 at.2 at.3 ∙ h at.0 at.1 at.2 at.3 ∙ ap (λ (j : ℕ). bit_at z j) at.4)
+    let at = is_place (length p) k lt in
+    sym (ap (λ (j : ℕ). bit_at (address p) j) at.4) ∙ address-bit p at.0 at.1 at.2 at.3 ∙ h at.0 at.1 at.2 at.3 ∙ ap (λ (j : ℕ). bit_at z j) at.4)
 
 -- two points of one shape with one address are one
 pub address-one_to_one : (d : ℕ) (p q : List ℕ) → IsPoint d p → IsPoint d q → address p ≡ address q → p ≡ q
 address-one_to_one d p q hp hq e =
     let same : length p ≡ length q = hp.0 ∙ sym hq.0 in
     same_number_lists p q same (λ i lt.
-      same_from_bits_below 32 (slice_index p i) (slice_index q i)
-        (All-get_or (λ (x : ℕ). x < 2 ^ 32) p i 0 lt hp.1) (All-get_or (λ (x : ℕ). x < 2 ^ 32) q i 0 (omega arith) hq.1) (λ b hb.
-          sym (address-bit p i b lt hb) ∙ ap (λ (z : ℕ). bit_at z (place (length p) i b)) e ∙ ap (λ (n : ℕ). bit_at (address q) (place n i b)) same ∙ address-bit q i b (omega arith) hb))
+    same_from_bits_below 32 (slice_index p i) (slice_index q i)
+    (All-get_or (λ (x : ℕ). x < 2 ^ 32) p i 0 lt hp.1) (All-get_or (λ (x : ℕ). x < 2 ^ 32) q i 0 (omega arith) hq.1) (λ b hb.
+    sym (address-bit p i b lt hb) ∙ ap (λ (z : ℕ). bit_at z (place (length p) i b)) e ∙ ap (λ (n : ℕ). bit_at (address q) (place n i b)) same ∙ address-bit q i b (omega arith) hb))
 
 -- ---- the order
 
@@ -251,8 +252,8 @@ address_below-le p q e (suc n) h =
           let same : digit_at n p ≡ digit_at n q = omega arith in
           let tops : digit_at n p * 2 ^ (n * length p) ≡ digit_at n q * 2 ^ (n * length p) = ap (λ (m : ℕ). m * 2 ^ (n * length p)) same in
           let rest : address_below p n ≤ address_below q n = address_below-le p q e n (λ i lt.
-            low_le (slice_index p i) (slice_index q i) n (h i lt)
-              (sym (digit-bit p n i lt) ∙ ap (λ (m : ℕ). bit_at m (length p - 1 - i)) same ∙ ap (λ (k : ℕ). bit_at (digit_at n q) (k - 1 - i)) e ∙ digit-bit q n i (omega arith))) in
+          low_le (slice_index p i) (slice_index q i) n (h i lt)
+          (sym (digit-bit p n i lt) ∙ ap (λ (m : ℕ). bit_at m (length p - 1 - i)) same ∙ ap (λ (k : ℕ). bit_at (digit_at n q) (k - 1 - i)) e ∙ digit-bit q n i (omega arith))) in
           omega arith
       | inr f ↦ let lt = f.1 in
           let room : (digit_at n p + 1) * 2 ^ (n * length p) ≤ digit_at n q * 2 ^ (n * length p) = mul-le-mul_right (2 ^ (n * length p)) (omega arith) in
@@ -265,10 +266,10 @@ pub address-order : (d : ℕ) (p q : List ℕ) → IsPoint d p → IsPoint d q �
 address-order d p q hp hq h =
     let same : length p ≡ length q = h.0 in
     let le : address_below p 32 ≤ address_below q 32 = address_below-le p q same 32 (λ i lt.
-      let a : slice_index p i % 2 ^ 32 ≡ slice_index p i = mod-eq_of_lt (All-get_or (λ (x : ℕ). x < 2 ^ 32) p i 0 lt hp.1) in
-      let b : slice_index q i % 2 ^ 32 ≡ slice_index q i = mod-eq_of_lt (All-get_or (λ (x : ℕ). x < 2 ^ 32) q i 0 (omega arith) hq.1) in
-      let c : slice_index p i ≤ slice_index q i = h.1 i lt in
-      rw (a, b) c) in
+    let a : slice_index p i % 2 ^ 32 ≡ slice_index p i = mod-eq_of_lt (All-get_or (λ (x : ℕ). x < 2 ^ 32) p i 0 lt hp.1) in
+    let b : slice_index q i % 2 ^ 32 ≡ slice_index q i = mod-eq_of_lt (All-get_or (λ (x : ℕ). x < 2 ^ 32) q i 0 (omega arith) hq.1) in
+    let c : slice_index p i ≤ slice_index q i = h.1 i lt in
+    rw (a, b) c) in
     rw (address-digits p, address-digits q) le
 
 -- the address of one more bit, as the code computes it
@@ -277,7 +278,49 @@ pub address_below-step : (z v d b : ℕ) (p : List ℕ) → b < 32 → d ≡ len
 address_below-step z v d b p hb ed long ev ez =
     let whole : v * 2 ^ (b * d) % 2 ^ 128 ≡ digit_at b p * 2 ^ (b * length p) = rw (ed, ev) (shifted (digit_at b p) b (length p) hb long (digit-lt b p)) in
     let sum : z + v * 2 ^ (b * d) % 2 ^ 128 ≡ address_below p (b + 1) =
-      ap (λ (m : ℕ). z + m) whole ∙ ap (λ (m : ℕ). m + digit_at b p * 2 ^ (b * length p)) ez ∙ sym (address_below-next p b) in
+    ap (λ (m : ℕ). z + m) whole ∙ ap (λ (m : ℕ). m + digit_at b p * 2 ^ (b * length p)) ez ∙ sym (address_below-next p b) in
     let lt : address_below p (b + 1) < 2 ^ ((b + 1) * length p) = address_below-lt p (b + 1) in
     let room : 2 ^ ((b + 1) * length p) ≤ 2 ^ 128 = pow_mono {i = (b + 1) * length p} {j = 128} (within b (length p) hb long) in
     (sum, rw sum lt, rw sum (omega arith))
+
+-- ---- every number up to the last address is the address of a point
+
+-- f 0, f 1, .., f (n - 1)
+table : (ℕ → ℕ) → ℕ → List ℕ
+table f zero = []
+table f (suc n) = f 0 ∷ table (λ i. f (suc i)) n
+
+length-table : (f : ℕ → ℕ) (n : ℕ) → length (table f n) ≡ n
+unfolding table
+length-table f zero = refl
+length-table f (suc n) = ap (λ (k : ℕ). suc k) (length-table (λ i. f (suc i)) n)
+
+table-at : (f : ℕ → ℕ) (n i : ℕ) → i < n → slice_index (table f n) i ≡ f i
+unfolding table
+table-at f zero i h = absurd (omega arith)
+table-at f (suc n) zero h = refl
+table-at f (suc n) (suc i) h = table-at (λ i. f (suc i)) n i (omega arith)
+
+-- a number with given bits
+with_bits : (f : ℕ → ℕ) (n : ℕ) → ((b : ℕ) → f b < 2) → (x : ℕ) × (x < 2 ^ n) × ((b : ℕ) → b < n → bit_at x b ≡ f b)
+with_bits f zero h = (0, omega arith, λ b lt. absurd (omega arith))
+with_bits f (suc n) h =
+    let low = with_bits f n h in (
+      low.0 + f n * 2 ^ n,
+      rw add-one at (with_bit-lt low.0 (f n) n low.1 (h n)),
+      λ b lt. (rw add-one at (below_more (λ k. bit_at (low.0 + f n * 2 ^ n) k ≡ f k) n (λ k less. with_bit-low low.0 (f n) n k less ∙ low.2 k less) (with_bit-top low.0 (f n) n low.1 (h n)) b)) lt,
+    )
+
+pub address-onto : (d z : ℕ) → z ≤ last_address d → (p : List ℕ) × IsPoint d p × (address p ≡ z)
+address-onto d z le =
+    let x : ℕ → ℕ = λ i. (with_bits (λ b. bit_at z (place d i b)) 32 (λ b. bit_at-lt z (place d i b))).0 in
+    let long : length (table x d) ≡ d = length-table x d in
+    let words : All (λ v. v < 2 ^ 32) (table x d) = All-from_get_or (λ (v : ℕ). v < 2 ^ 32) (table x d) 0 (λ i lt.
+    let here : slice_index (table x d) i ≡ x i = table-at x d i (omega arith) in
+    rw here ((with_bits (λ b. bit_at z (place d i b)) 32 (λ b. bit_at-lt z (place d i b))).1)) in
+    let small : z < 2 ^ (32 * length (table x d)) = rw long (omega (arith, pow_pos (32 * d))) in
+    let bits : (i b : ℕ) → i < length (table x d) → b < 32 → bit_at (slice_index (table x d) i) b ≡ bit_at z (place (length (table x d)) i b) =
+    λ i b lt hb. ap (λ (v : ℕ). bit_at v b) (table-at x d i (omega arith))
+    ∙ (with_bits (λ b. bit_at z (place d i b)) 32 (λ b. bit_at-lt z (place d i b))).2 b hb
+    ∙ ap (λ (n : ℕ). bit_at z (place n i b)) (sym long) in
+    (table x d, (long, words), address-of_bits (table x d) z small bits)

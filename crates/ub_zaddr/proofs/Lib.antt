@@ -1,4 +1,4 @@
 pub mod AddressFacts
-mod BitFacts
+pub mod BitFacts
 mod PlacesFacts
 mod SpreadFacts

@@ -1,5 +1,5 @@
 -- Places that get the bits of a number.
-use Rattle.std.proofs.Common.{◌≡◌, ◌≢◌, ◌≤◌, ◌<◌, ◌+◌, ◌-◌, ◌*◌, ◌^◌, ℕ, List, length, take, set, get_or, slice_index, All, Result, Ok, Err, IsOk, IfOk, refl, sym, ap, arith, ◌∙◌, below_more, rules, get_or-set_same, get_or-set_other}
+use Rattle.std.proofs.Common.{◌≡◌, ◌≤◌, ◌<◌, ◌+◌, ◌*◌, ◌^◌, ℕ, List, length, take, set, get_or, slice_index, All, Result, Ok, Err, IsOk, IfOk, sym, ap, arith, ◌∙◌, below_more, rules, get_or-set_same, get_or-set_other}
 use Rattle.std.proofs.lemmas.List.{length-set, length-take-le, get_or-take}
 use Rattle.std.proofs.lemmas.List.Elements.{All-from_get_or}
 use Rattle.std.proofs.lemmas.Nat.{pow_pos}
@@ -23,8 +23,8 @@ IsSpread-next dims z places i x small word bits h =
       four = length-set places i x ∙ four;
       words = below_more (λ k. get_or (set places i x) k 0 < 2 ^ 32) i (λ k lt. rw (there k lt) (h.words k lt)) (rw here word);
       bits = below_more (λ k. (b : ℕ) → b < 32 → bit_at (get_or (set places i x) k 0) b ≡ bit_at z (place dims k b)) i
-        (λ k lt b hb. ap (λ (m : ℕ). bit_at m b) (there k lt) ∙ h.bits k lt b hb)
-        (λ b hb. ap (λ (m : ℕ). bit_at m b) here ∙ bits b hb);
+          (λ k lt b hb. ap (λ (m : ℕ). bit_at m b) (there k lt) ∙ h.bits k lt b hb)
+          (λ b hb. ap (λ (m : ℕ). bit_at m b) here ∙ bits b hb);
     }
 
 -- where the places of all dimensions are filled, they are the point of the address
@@ -35,11 +35,11 @@ IsSpread-point dims z i places some within all le h =
     let long : length (take dims places) ≡ dims = length-take-le dims places (omega arith) in
     let at : (k : ℕ) → k < dims → get_or (take dims places) k 0 ≡ get_or places k 0 = λ k lt. get_or-take dims places k 0 lt in
     let words : All (λ x. x < 2 ^ 32) (take dims places) = All-from_get_or (λ (x : ℕ). x < 2 ^ 32) (take dims places) 0 (λ k lt.
-      let lt' : k < dims = omega arith in rw (at k lt') (h.words k (omega arith))) in
+    let lt' : k < dims = omega arith in rw (at k lt') (h.words k (omega arith))) in
     let small : z < 2 ^ (32 * length (take dims places)) = rw long (omega (arith, pow_pos (32 * dims))) in
     let bits : (k b : ℕ) → k < length (take dims places) → b < 32 → bit_at (slice_index (take dims places) k) b ≡ bit_at z (place (length (take dims places)) k b) =
-      λ k b lt hb. let lt' : k < dims = omega arith in
-        ap (λ (m : ℕ). bit_at m b) (at k lt') ∙ h.bits k (omega arith) b hb ∙ ap (λ (d : ℕ). bit_at z (place d k b)) (sym long) in
+    λ k b lt hb. let lt' : k < dims = omega arith in
+    ap (λ (m : ℕ). bit_at m b) (at k lt') ∙ h.bits k (omega arith) b hb ∙ ap (λ (d : ℕ). bit_at z (place d k b)) (sym long) in
     ((long, words), address-of_bits (take dims places) z small bits)
 
 pub ok_is : {T E : Type 0} (r : Result T E) (v w : T) → IsOk r → IfOk r (λ x. x ≡ v) → v ≡ w → r ≡ Ok w

@@ -41,7 +41,8 @@ pub fn spread(shape: Shape, z: u128) -> Result<Point, ZFault>
     ensures refused { IsErr result ↔ (last_address shape < z) }
     ensures refusal { IfErr result (λ e. e ≡ ZFault.TooLarge) }
 {
-    if last(shape) < z {
+    let greatest = last(shape);
+    if greatest < z {
         return Err(ZFault::TooLarge);
     }
     let dims = shape.dims();

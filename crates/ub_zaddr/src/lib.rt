@@ -7,10 +7,10 @@ mod address;
 mod fault;
 mod point;
 mod shape;
+#[cfg(test)]
+mod tests;
 
-pub use address::interleave;
-pub use address::last;
-pub use address::spread;
+pub use address::{interleave, last, spread};
 pub use fault::ZFault;
 pub use point::Point;
 pub use shape::Shape;

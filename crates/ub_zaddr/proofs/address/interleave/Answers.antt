@@ -1,8 +1,7 @@
-use Rattle.std.proofs.Common.{◌≡◌, ◌<◌, ◌*◌, ◌^◌, ◌+◌, ◌%◌, ℕ, List, length, arith, ap, sym, ◌∙◌}
+use Rattle.std.proofs.Common.{◌≡◌, ◌*◌, ℕ, List, length, arith, ap, sym, ◌∙◌}
 use Rattle.std.proofs.Math.Facts.{Fits-of_lt}
 use Rattle.std.proofs.lemmas.Nat.{pow_pos}
 use Rattle.ub_zaddr.specs.Address.{address}
-use Rattle.ub_zaddr.specs.Digit.{digit_at}
 use Rattle.ub_zaddr.proofs.AddressFacts.{address_below, address_below-none, address_below-step, address-digits, address-order, address-one_to_one}
 use Rattle.ub_zaddr.proofs.address.interleave.Goals as goal
 

@@ -1,12 +1,12 @@
-use Rattle.std.proofs.Common.{◌≡◌, ◌<◌, ◌≤◌, ℕ, List, length, take, arith, sym, ap, ◌∙◌}
+use Rattle.std.proofs.Common.{◌≡◌, ◌≤◌, ℕ, List, length, take, arith, sym, ap, ◌∙◌}
 use Rattle.std.proofs.lemmas.Result.{IfOk-weaker}
-use Rattle.ub_zaddr.specs.Address.{address, last_address, IsPoint}
+use Rattle.ub_zaddr.specs.Address.{address, last_address}
 use Rattle.ub_zaddr.proofs.AddressFacts.{address-le, address-one_to_one}
 use Rattle.ub_zaddr.proofs.SpreadFacts.{IsSpread-next, IsSpread-point, ok_is}
 use Rattle.ub_zaddr.proofs.address.spread.Goals as goal
 
-pub returns-then-last-z-clause-inverse : goal.returns-then-last-z-clause-inverse
-returns-then-last-z-clause-inverse c = λ p is e. let le : address p ≤ last_address c.args.shape = address-le c.args.shape p is.0 in absurd (omega arith)
+pub returns-then-greatest-z-clause-inverse : goal.returns-then-greatest-z-clause-inverse
+returns-then-greatest-z-clause-inverse c = λ p is e. let le : address p ≤ last_address c.args.shape = address-le c.args.shape p is.0 in absurd (omega arith)
 
 pub loop-i-preserved : goal.loop-i-preserved
 loop-i-preserved c = IsSpread-next c.dims-dims.result c.args.z c.loop-i.places c.loop-i.i c.coordinate.result (omega arith) c.coordinate.ensures.word c.coordinate.ensures.bits c.loop-i.invariant

@@ -1,4 +1,4 @@
-use Rattle.std.proofs.Common.{◌<◌, ◌≤◌, length, rules, arith}
+use Rattle.std.proofs.Common.{rules, arith}
 use Rattle.ub_zaddr.proofs.PlacesFacts.{IsFilled-next, IsFilled-padded}
 use Rattle.ub_zaddr.proofs.point.Point.new.Goals as goal
 
