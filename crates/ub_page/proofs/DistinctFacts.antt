@@ -35,6 +35,6 @@ pub distinct_more : (names : List (List ℕ)) (i : ℕ) (name : List ℕ) → ((
     → (a b : ℕ) → a < b → b < i + 1 → slice_get names a ≢ slice_get names b
 distinct_more names i name apart here none a b ab bi =
     below_more (λ (b : ℕ). (a : ℕ) → a < b → slice_get names a ≢ slice_get names b) i
-      (λ b bi a ab. apart a b ab bi)
-      (λ a ai same. missing names i name none a ai (same ∙ here))
-      b bi a ab
+    (λ b bi a ab. apart a b ab bi)
+    (λ a ai same. missing names i name none a ai (same ∙ here))
+    b bi a ab

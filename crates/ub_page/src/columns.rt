@@ -1,18 +1,17 @@
 ghost use Rattle.std.specs.Prelude.{◌≡◌, ◌+◌, ◌<◌, ◌≤◌, [], ◌∷◌, ◌++◌, length, slice_get};
 ghost use Rattle.std.specs.Option.{option_copied};
 
+use crate::name::Name;
 use std::marker::Model;
 
-use crate::name::Name;
-
 /// The most columns that a table has: 4 dimensions and 4 measures.
-pub const COLUMNS: usize = 8;
+pub const MAX_COLUMNS: usize = 8;
 
 /// The names of a table's columns, dimensions first: at most eight.
 #[derive(Drop)]
 pub struct Columns {
     len: usize,
-    names: [Name; 8],
+    names: [Name; MAX_COLUMNS],
 }
 
 impl Model for Columns {
@@ -32,7 +31,7 @@ impl Columns {
     {
         Columns {
             len: 1,
-            names: [first; COLUMNS],
+            names: [first; MAX_COLUMNS],
         }
     }
 
@@ -43,7 +42,7 @@ impl Columns {
         ensures { result ≡ names.now }
     {
         // The places that no column uses hold the first name again.
-        let mut all = [names[0]; COLUMNS];
+        let mut all = [names[0]; MAX_COLUMNS];
         all[..names.len()].copy_from_slice(names);
         Columns {
             len: names.len(),
@@ -81,5 +80,25 @@ impl Columns {
         ensures few { length result.now ≤ 8 }
     {
         &self.names[..self.len]
+    }
+}
+
+#[cfg(test)]
+mod tests {
+    use super::*;
+    use std::test::Fail;
+
+    #[test]
+    fn holds_columns_in_order(rt: HostRuntime) -> Result<(), Fail> {
+        let x = Name::new(b"x")?;
+        let y = Name::new(b"y")?;
+        let mut columns = Columns::new(x);
+        assert!(rt; columns.len() < MAX_COLUMNS);
+        columns.push(y);
+        assert_eq!(rt; columns.len(), 2);
+        assert!(rt; columns.as_slice() == [x, y].as_slice());
+        assert!(rt; columns.get(1) == Some(&y) && columns.get(2).is_none());
+        assert!(rt; Columns::from_slice(&[x, y]).as_slice() == columns.as_slice());
+        Ok(())
     }
 }

@@ -1,4 +1,10 @@
-// The types that every layer speaks of: names, schemas, rows and keys.
+// The types that every layer speaks of, and the rules that they keep: a name is spelled as the language spells names, a
+// schema has its numbers in range and no two columns of one name. A row is plain data, and so is the key by which the
+// tree orders it.
+//
+// What belongs here is what a table is (the definitions stand in specs/). How addresses are computed, how texts are read
+// and how rows are found stands elsewhere. Nothing in this crate takes memory.
+
 #![tactic(auto)]
 
 pub mod columns;

@@ -2,20 +2,19 @@ ghost use Rattle.std.specs.Prelude.{◌≡◌, ◌≤◌, ◌<◌, ◌-◌, ◌+
 ghost use Rattle.std.specs.List.{list_all};
 ghost use Rattle.ub_page.specs.Name as spec;
 
-use std::marker::Model;
-
 use crate::fault::PageFault;
 use crate::keyword::is_keyword;
+use std::marker::Model;
 
 /// The most bytes that a name has.
-pub const NAME_LEN: usize = 32;
+pub const MAX_NAME_LEN: usize = 32;
 
 /// The name of a table or of a column: 1 to 32 ASCII bytes, a letter or `_` first, then letters, digits or `_`, and no
 /// keyword of the language in any case.
 #[derive(Clone, Copy, Debug)]
 pub struct Name {
     len: usize,
-    text: [u8; 32],
+    text: [u8; MAX_NAME_LEN],
 }
 
 impl Model for Name {
@@ -97,7 +96,7 @@ fn is_name(text: &[u8]) -> bool
 fn has_name_len(text: &[u8]) -> bool
     ensures { IsTrue result ↔ (0 < length text.now) × (length text.now ≤ 32) }
 {
-    !text.is_empty() && text.len() <= NAME_LEN
+    !text.is_empty() && text.len() <= MAX_NAME_LEN
 }
 
 fn has_word_bytes(text: &[u8]) -> bool
@@ -119,11 +118,41 @@ fn is_word_byte(byte: u8) -> bool
 }
 
 // The text, and zeros after it.
-fn padded(text: &[u8]) -> [u8; 32]
+fn padded(text: &[u8]) -> [u8; MAX_NAME_LEN]
     requires { length text.now ≤ 32 }
     ensures { result ≡ text.now ++ replicate (32 - length text.now) 0 }
 {
-    let mut bytes = [0; 32];
+    let mut bytes = [0; MAX_NAME_LEN];
     bytes[..text.len()].copy_from_slice(text);
     bytes
+}
+
+#[cfg(test)]
+mod tests {
+    use super::*;
+    use std::test::Fail;
+
+    #[test]
+    fn takes_names_alone(rt: HostRuntime) -> Result<(), Fail> {
+        assert!(rt; Name::new(b"t")?.bytes() == b"t".as_slice());
+        assert!(rt; Name::new(b"_a9")?.bytes() == b"_a9".as_slice());
+        let longest = b"abcdefghijklmnopqrstuvwxyz_01234";
+        assert!(rt; Name::new(longest)?.bytes() == longest.as_slice());
+        assert!(rt; Name::new(b"selects").is_ok() && !is_keyword(b"selects"));
+        assert!(rt; Name::new(b"t")? == Name::new(b"t")? && Name::new(b"t")? != Name::new(b"T")?);
+        for text in ["", "9a", "a-b", "abcdefghijklmnopqrstuvwxyz_012345"] {
+            assert!(rt;
+                Name::new(text.as_bytes()) == Err(PageFault::BadName),
+                "{text}"
+            );
+        }
+        for text in ["select", "SeLeCt", "values", "BY"] {
+            assert!(rt; is_keyword(text.as_bytes()), "{text}");
+            assert!(rt;
+                Name::new(text.as_bytes()) == Err(PageFault::BadName),
+                "{text}"
+            );
+        }
+        Ok(())
+    }
 }

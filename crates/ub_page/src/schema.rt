@@ -89,7 +89,12 @@ fn are_counts(columns: usize, dims: u32, page_rows: u32) -> bool
     ensures { IsTrue result ↔ AreCounts columns dims page_rows }
 {
     let most = dims as usize + 4;
-    1 <= dims && dims <= 4 && dims as usize <= columns && columns <= most && 2 <= page_rows && page_rows <= 64
+    1 <= dims
+        && dims <= 4
+        && dims as usize <= columns
+        && columns <= most
+        && 2 <= page_rows
+        && page_rows <= 64
 }
 
 fn are_distinct(columns: &[Name]) -> bool
@@ -101,4 +106,32 @@ fn are_distinct(columns: &[Name]) -> bool
         }
     }
     true
+}
+
+#[cfg(test)]
+mod tests {
+    use super::*;
+    use std::test::Fail;
+
+    #[test]
+    fn takes_schemas(rt: HostRuntime) -> Result<(), Fail> {
+        let columns = [Name::new(b"x")?, Name::new(b"y")?, Name::new(b"m")?];
+        let schema = Schema::new(Name::new(b"t")?, &columns, 2, 2)?;
+        assert!(rt; schema.name().bytes() == b"t".as_slice());
+        assert!(rt; schema.columns() == columns.as_slice());
+        assert_eq!(rt;
+            (schema.dims(), schema.measures(), schema.page_rows()),
+            (2, 1, 2)
+        );
+        Ok(())
+    }
+
+    #[test]
+    fn refuses_counts_before_names(rt: HostRuntime) -> Result<(), Fail> {
+        let x = Name::new(b"x")?;
+        assert!(rt; Schema::new(x, &[x, x], 2, 65).err() == Some(PageFault::BadCount));
+        assert!(rt; Schema::new(x, &[x, x], 2, 64).err() == Some(PageFault::BadName));
+        assert!(rt; Schema::new(x, &[], 0, 64).err() == Some(PageFault::BadCount));
+        Ok(())
+    }
 }
