@@ -1,0 +1,4 @@
+pub mod Text
+pub mod Tokens
+pub mod Pieces
+pub mod Statements
