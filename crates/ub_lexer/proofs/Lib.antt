@@ -1,2 +1,4 @@
 pub mod Pieces
 pub mod Rows
+pub mod Spans
+pub mod Unique

@@ -1,8 +1,9 @@
 // Cuts a source into its pieces, and keeps those that are tokens.
-ghost use Rattle.std.specs.Prelude.{◌≡◌, ◌<◌, ◌≤◌, ◌+◌, ◌++◌, length, slice_index, IsTrue, IsFalse, IfOk, OnOk, MatchOption, [], ◌∷◌};
+ghost use Rattle.std.specs.Prelude.{◌≡◌, ◌<◌, ◌≤◌, ◌+◌, ◌++◌, length, slice_index, IsTrue, IsFalse, IfOk, OnOk, MatchOption, List, [], ◌∷◌};
 ghost use Rattle.std.specs.Char.{is_ascii_digit};
 ghost use Rattle.ub_lexer.specs.Text.{is_separator, is_letter, is_word_byte, IsSpelling};
-ghost use Rattle.ub_lexer.specs.Tokens.{AreTokens};
+ghost use Rattle.ub_lexer.specs.Tokens.{AreTokens, AreSpelled, SpansAscend};
+ghost use Rattle.ub_lexer.specs.declared.token.Token.{Token};
 ghost use Rattle.ub_lexer.specs.Pieces.{goes_on, IsRun, IsPair, IsPieceAt, token_if};
 
 use std::alloc::{AllocError, Global};
@@ -150,7 +151,12 @@ fn push_cut(tokens: &mut Vec<Token>, from: usize, cut: Cut) -> Result<(), AllocE
 ///
 /// `AllocError` where memory runs out.
 pub fn lex(alloc: Global, source: &[u8]) -> Result<Vec<Token>, AllocError>
-    ensures { IfOk result (λ ts. AreTokens source.now ts.items) }
+    ensures tokens { IfOk result (λ ts. AreTokens source.now ts.items) }
+
+    // There is no other reading of the source.
+    ensures only { (ts : List Token) → AreTokens source.now ts → IfOk result (λ r. r.items ≡ ts) }
+    ensures spelled { IfOk result (λ ts. AreSpelled source.now ts.items) }
+    ensures spans { IfOk result (λ ts. SpansAscend 0 (length source.now) ts.items) }
 {
     let mut tokens = Vec::new(alloc);
     let mut at = 0;

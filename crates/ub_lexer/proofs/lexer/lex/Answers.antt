@@ -1,6 +1,8 @@
 use Rattle.std.proofs.Common.{List, subst, sym}
 use Rattle.ub_lexer.specs.declared.token.Token.{Token}
 use Rattle.ub_lexer.proofs.Rows.{IsCutUpTo, cut_more, cut_all}
+use Rattle.ub_lexer.proofs.Spans.{AreSpelled-tokens, SpansAscend-tokens}
+use Rattle.ub_lexer.proofs.Unique.{same_tokens}
 use Rattle.ub_lexer.proofs.lexer.lex.Goals as goal
 
 pub loop-at-preserved : goal.loop-at-preserved
@@ -10,4 +12,13 @@ loop-at-preserved c =
     (cut_more c.args.source.now c.loop-at.tokens.items c.loop-at.at c.piece_at-cut.result.to c.piece_at-cut.result.kind c.loop-at.invariant c.piece_at-cut.ensures)
 
 pub returns : goal.returns
-returns c = cut_all c.args.source.now c.loop-at.tokens.items c.loop-at.at c.loop-at.invariant c.loop-at-test.false
+returns c =
+    let source = c.args.source.now in
+    let ts = c.loop-at.tokens.items in
+    let all = cut_all source ts c.loop-at.at c.loop-at.invariant c.loop-at-test.false in
+    record {
+      tokens = all;
+      only = λ us h. same_tokens source ts us all h;
+      spelled = AreSpelled-tokens source ts all;
+      spans = SpansAscend-tokens source ts all;
+    }
