@@ -1,0 +1,163 @@
+ghost use Rattle.std.specs.Prelude.{◌≡◌, ℕ, ◌+◌, ◌*◌, ◌<◌, ◌≤◌, ◌↔◌, List, length, slice_set, IsTrue};
+ghost use Rattle.std.specs.Int.{bit_at};
+ghost use Rattle.ub_bigmin.specs.Around.{IsAround, AreNeighbours};
+ghost use Rattle.ub_bigmin.specs.Middle.{middle};
+ghost use Rattle.ub_bigmin.specs.Step.{IsStep};
+
+use crate::zbox::ZBox;
+use ub_zaddr::{Point, Shape, interleave, last};
+
+// The neighbours of an address in a box: the greatest address up to it, and the least from it.
+#[derive(Clone, Copy)]
+pub struct Neighbours {
+    pub below: Option<u128>,
+    pub above: Option<u128>,
+}
+
+// What the search knows after some places: the part of the box that agrees with the address there has the corners
+// `low` and `high`; of the rest, `below` and `above` are the nearest addresses (LITMAX and BIGMIN).
+#[derive(Clone, Copy)]
+pub struct Search {
+    pub low: Point,
+    pub high: Point,
+    pub below: Option<u128>,
+    pub above: Option<u128>,
+}
+
+// The search goes on, or it has its end.
+#[derive(Clone, Copy)]
+pub enum Step {
+    Onward(Search),
+    Done(Neighbours),
+}
+
+/// The neighbours of z in the box (BIGMIN and LITMAX by one descent from the highest place; Tropf and Herzog 1981).
+pub fn find_neighbours(zbox: &ZBox, z: u128) -> Neighbours
+    ensures { AreNeighbours zbox.now z result.below result.above }
+{
+    let shape = zbox.shape();
+    if last(shape) < z {
+        return Neighbours {
+            below: Some(interleave(shape, zbox.hi())),
+            above: None,
+        };
+    }
+    let mut search = Search {
+        low: *zbox.lo(),
+        high: *zbox.hi(),
+        below: None,
+        above: None,
+    };
+    for place in (0..32 * shape.dims()).rev() {
+        match take_step(zbox, z, place, search) {
+            Step::Onward(next) => search = next,
+            Step::Done(found) => return found,
+        }
+    }
+    Neighbours {
+        below: Some(z),
+        above: Some(z),
+    }
+}
+
+// One place of the search: the decision table of Tropf and Herzog on the bits of the address and of the corners there.
+// The coordinates of the corners agree above the bit, so `middle` cuts the box into the half whose bit is 0 and the
+// half whose bit is 1.
+fn take_step(zbox: &ZBox, z: u128, place: u32, search: Search) -> Step
+    requires place { place < 32 * length zbox.now.lo }
+    requires around { IsAround zbox.now z (place + 1) search.low search.high search.below search.above }
+    ensures { IsStep zbox.now z place result }
+{
+    let shape = zbox.shape();
+    let dims = shape.dims();
+    let bit = place / dims;
+    let dimension = (dims - 1 - place % dims) as usize;
+    let low = search.low.values()[dimension];
+    let high = search.high.values()[dimension];
+    let middle = middle_of(high, bit);
+    match (
+        is_set(z, place),
+        is_set(u128::from(low), bit),
+        is_set(u128::from(high), bit),
+    ) {
+        // 000
+        (false, false, false) => Step::Onward(search),
+        // 111
+        (true, true, true) => Step::Onward(search),
+        // 001
+        (false, false, true) => {
+            let above = interleave(shape, &load(shape, &search.low, dimension, middle));
+            let high = load(shape, &search.high, dimension, middle - 1);
+            Step::Onward(Search {
+                low: search.low,
+                high,
+                below: search.below,
+                above: Some(above),
+            })
+        }
+        // 011
+        (false, true, true) => {
+            let above = interleave(shape, &search.low);
+            Step::Done(Neighbours {
+                below: search.below,
+                above: Some(above),
+            })
+        }
+        // 100
+        (true, false, false) => {
+            let below = interleave(shape, &search.high);
+            Step::Done(Neighbours {
+                below: Some(below),
+                above: search.above,
+            })
+        }
+        // 101
+        (true, false, true) => {
+            let below = interleave(shape, &load(shape, &search.high, dimension, middle - 1));
+            let low = load(shape, &search.low, dimension, middle);
+            Step::Onward(Search {
+                low,
+                high: search.high,
+                below: Some(below),
+                above: search.above,
+            })
+        }
+        // 010
+        (false, true, false) => unreachable!(),
+        // 110
+        (true, true, false) => unreachable!(),
+    }
+}
+
+// Whether the bit of a number at a place is 1.
+fn is_set(x: u128, place: u32) -> bool
+    requires { place < 128 }
+    ensures { IsTrue result ↔ (bit_at x place ≡ 1) }
+{
+    (x >> place) & 1 == 1
+}
+
+// The number with 0 in the bits below this one.
+fn middle_of(x: u32, bit: u32) -> u32
+    requires { bit < 32 }
+    ensures { result ≡ middle x bit }
+{
+    (x >> bit) << bit
+}
+
+// The point with one coordinate replaced. LOAD(1000..) gives the low corner the middle of its range there, and
+// LOAD(0111..) gives the high corner the value below the middle.
+fn load(shape: Shape, point: &Point, dimension: usize, value: u32) -> Point
+    requires shape { length point.now ≡ shape }
+    requires dimension { dimension < shape }
+    ensures { result ≡ slice_set point.now dimension value }
+{
+    let old = point.values();
+    let mut values = [0u32; 4];
+    values[..old.len()].copy_from_slice(old);
+    values[dimension] = value;
+    match Point::new(shape, &values[..old.len()]) {
+        Ok(changed) => changed,
+        Err(_) => unreachable!(),
+    }
+}
