@@ -2,3 +2,4 @@ pub mod Pieces
 pub mod Rows
 pub mod Spans
 pub mod Unique
+pub mod Ranges

@@ -1,14 +1,14 @@
 -- What stands at a place of a source, from the run, the sign or the byte that was found there.
-use Rattle.std.proofs.Common.{◌≡◌, ◌≢◌, ◌≤◌, ◌<◌, ◌+◌, ◌-◌, ◌==◌, ◌&&◌, ℕ, Bool, true, false, not, zero, suc, List, [], ◌∷◌, ◌++◌, length, take, drop, get_or, slice_index, slice_range, Option, None, Some, IsTrue, IsFalse, codes, refl, sym, ap, arith, rules, ◌∙◌, subst, inl, inr, ◌⊎◌, nat_le}
-use Rattle.std.specs.List.{All, AllPass}
+use Rattle.std.proofs.Common.{◌≡◌, ◌≢◌, ◌≤◌, ◌<◌, ◌+◌, ◌-◌, ◌==◌, ◌&&◌, ℕ, Bool, true, false, not, suc, List, [], ◌∷◌, ◌++◌, length, take, drop, get_or, slice_index, slice_range, None, Some, IsTrue, codes, refl, sym, ap, arith, ◌∙◌, subst, inl, inr, ◌⊎◌, nat_le}
+use Rattle.std.specs.List.{AllPass}
 use Rattle.std.specs.Char.{is_ascii_digit, is_ascii_alphabetic}
 use Rattle.std.proofs.Math.Seq.{take-append-add}
-use Rattle.std.proofs.lemmas.Bool.{false≢true, or_cases, or_parts, or_left, or_right, not-false, and_parts, eqb-true, eq-eqb, not-true, leb-true, eqb-false, both_ways}
-use Rattle.std.proofs.lemmas.List.{get_or-drop, length-drop, drop_all, drop_more, length-append, length-take-le, get_or_at, get_or-append-add}
-use Rattle.std.proofs.lemmas.List.Elements.{All-head, All-tail, All-weaker, All-cons, All-nil, All-get_or}
+use Rattle.std.proofs.lemmas.Bool.{false≢true, or_cases, or_parts, or_left, or_right, not-false, and_parts, eqb-true, eq-eqb, not-true, leb-true, both_ways}
+use Rattle.std.proofs.lemmas.List.{get_or-drop, length-drop, drop_all, drop_more, length-append, length-take-le, get_or_at}
+use Rattle.std.proofs.lemmas.List.Elements.{All-head, All-tail, All-weaker, All-cons, All-get_or}
 use Rattle.ub_lexer.specs.Text.{is_separator, is_letter, is_word_byte, IsSpelling}
-use Rattle.ub_lexer.specs.Tokens.{Piece, separator, comment, token, spelled, StandsBefore}
-use Rattle.ub_lexer.specs.Pieces.{IsRun, IsPair, IsPieceAt, kind_of, goes_on}
+use Rattle.ub_lexer.specs.Tokens.{separator, comment, token}
+use Rattle.ub_lexer.specs.Pieces.{IsRun, IsPair, IsPieceAt, goes_on}
 use Rattle.ub_lexer.specs.declared.lexer.Run.TheVariants.{OfComment}
 use Rattle.ub_lexer.specs.declared.token.TokenKind.{TokenKind}
 use Rattle.ub_lexer.specs.declared.token.TokenKind.TheVariants.{Word, Number, Comma, OpenParenthesis, CloseParenthesis, Star, Semicolon, Equal, NotEqual, Less, AtMost, Greater, AtLeast, Minus, Bad}
@@ -73,7 +73,7 @@ longer c more (r ∷ rs) none kind n lt le s =
     let k : ℕ = n - suc (suc (length more)) in
     let is : n ≡ length (c ∷ more) + suc k = omega arith in
     let cut : take n ((c ∷ more) ++ (r ∷ rs)) ≡ c ∷ (more ++ r ∷ take k rs) =
-      ap (λ (m : ℕ). take m ((c ∷ more) ++ (r ∷ rs))) is ∙ take-append-add (c ∷ more) (r ∷ rs) (suc k) in
+    ap (λ (m : ℕ). take m ((c ∷ more) ++ (r ∷ rs))) is ∙ take-append-add (c ∷ more) (r ∷ rs) (suc k) in
     none r rs refl k (shape kind c (more ++ r ∷ take k rs) (subst (IsSpelling kind) cut s))
 
 same_take : (m n : ℕ) (xs : List ℕ) → m ≡ n → take m xs ≡ take n xs
@@ -94,9 +94,10 @@ length_part s from to ordered within = omega (arith, length-take-le (to - from) 
 -- the byte at which the rest begins
 front : (s rs : List ℕ) (to r : ℕ) → drop to s ≡ r ∷ rs → (to < length s) × (slice_index s to ≡ r)
 front s rs to r e =
-    let long : length (drop to s) ≡ suc (length rs) = ap length e in
-    (omega (arith, length-drop to s),
-      ap (λ (i : ℕ). get_or s i 0) (let z : to ≡ to + 0 = omega arith in z) ∙ sym (get_or-drop to s 0 0) ∙ ap (λ (xs : List ℕ). get_or xs 0 0) e)
+    let long : length (drop to s) ≡ suc (length rs) = ap length e in (
+      omega (arith, length-drop to s),
+      ap (λ (i : ℕ). get_or s i 0) (let z : to ≡ to + 0 = omega arith in z) ∙ sym (get_or-drop to s 0 0) ∙ ap (λ (xs : List ℕ). get_or xs 0 0) e,
+    )
 
 -- the byte at which the rest after a run begins does not pass
 stops_before : (pass : ℕ → Bool) (s rs : List ℕ) (from to r : ℕ) → IsRun pass s from to → drop to s ≡ r ∷ rs → pass r ≡ true → ⊥
@@ -121,15 +122,25 @@ token_piece : (s : List ℕ) (from to c : ℕ) (more : List ℕ) (kind : TokenKi
     → IsSpelling kind (c ∷ more) → (take 2 ((c ∷ more) ++ drop to s) ≢ codes "--")
     → ((r : ℕ) (rs : List ℕ) → drop to s ≡ r ∷ rs → (k : ℕ) → Shape c (more ++ r ∷ take k rs) → ⊥)
     → IsPieceAt s from (Some kind) to
-token_piece s from to c more kind ordered within is spelling dashes none =
-    (token kind (c ∷ more), sym is, ap (λ (xs : List ℕ). from + length xs) (sym is) ∙ length_part s from to ordered within, refl, within,
-      (spelling, (dashes, longer c more (drop to s) none)))
+token_piece s from to c more kind ordered within is spelling dashes none = (
+  token kind (c ∷ more),
+  sym is,
+  ap (λ (xs : List ℕ). from + length xs) (sym is) ∙ length_part s from to ordered within,
+  refl,
+  within,
+  (spelling, (dashes, longer c more (drop to s) none)),
+)
 
 -- a separator
 pub separator_piece : (s : List ℕ) (at : ℕ) → at < length s → is_separator (slice_index s at) ≡ true → IsPieceAt s at None (at + 1)
-separator_piece s at inside is =
-    (separator (slice_index s at), sym (part_more s at (at + 1) (omega arith) inside ∙ ap (λ (xs : List ℕ). slice_index s at ∷ xs) (part_none s (at + 1))),
-      refl, refl, omega arith, is)
+separator_piece s at inside is = (
+  separator (slice_index s at),
+  sym (part_more s at (at + 1) (omega arith) inside ∙ ap (λ (xs : List ℕ). slice_index s at ∷ xs) (part_none s (at + 1))),
+  refl,
+  refl,
+  omega arith,
+  is,
+)
 
 -- a word: a run of letters and digits that begins with a letter
 pub word_piece : (s : List ℕ) (at to : ℕ) → at < length s → is_letter (slice_index s at) ≡ true → IsRun is_word_byte s (at + 1) to → IsPieceAt s at (Some Word) to
@@ -180,14 +191,21 @@ comment_piece s at to inside first second run =
     let ordered = run.ordered in
     let next : at + 1 + 1 ≡ at + 2 = omega arith in
     let is : slice_range s at to ≡ 45 ∷ 45 ∷ body =
-      part_more s at to (omega arith) (omega arith) ∙ ap (λ (x : ℕ). x ∷ slice_range s (at + 1) to) first
-      ∙ ap (λ (xs : List ℕ). 45 ∷ xs) (part_more s (at + 1) to (omega arith) inside ∙ ap (λ (x : ℕ). x ∷ slice_range s (at + 1 + 1) to) second ∙ ap (λ (i : ℕ). 45 ∷ slice_range s i to) next) in
-    (comment body, sym is, ap (λ (xs : List ℕ). at + length xs) (sym is) ∙ length_part s at to (omega arith) run.within, refl, run.within,
-      (All-weaker (λ x. not (x == 10) ≡ true) (λ x. x ≢ 10) (λ x h e. both_ways (x == 10) (not-true (x == 10) h) (eq-eqb x 10 e)) body run.passes,
+    part_more s at to (omega arith) (omega arith) ∙ ap (λ (x : ℕ). x ∷ slice_range s (at + 1) to) first
+    ∙ ap (λ (xs : List ℕ). 45 ∷ xs) (part_more s (at + 1) to (omega arith) inside ∙ ap (λ (x : ℕ). x ∷ slice_range s (at + 1 + 1) to) second ∙ ap (λ (i : ℕ). 45 ∷ slice_range s i to) next) in (
+      comment body,
+      sym is,
+      ap (λ (xs : List ℕ). at + length xs) (sym is) ∙ length_part s at to (omega arith) run.within,
+      refl,
+      run.within,
+      (
+        All-weaker (λ x. not (x == 10) ≡ true) (λ x. x ≢ 10) (λ x h e. both_ways (x == 10) (not-true (x == 10) h) (eq-eqb x 10 e)) body run.passes,
         elim run.stops [
           | inl end ↦ inl (drop_all to s (omega arith))
           | inr none ↦ inr (get_or-drop to s 0 0 ∙ ap (λ (i : ℕ). get_or s i 0) (let z : to + 0 ≡ to = omega arith in z) ∙ eqb-true (slice_index s to) 10 (line (slice_index s to == 10) none))
-        ]))
+        ],
+      ),
+    )
   where
     line : (b : Bool) → not b ≡ false → b ≡ true
     line b h = not-false b h
@@ -201,8 +219,8 @@ pair_piece s at kind inside pair spelling =
     let next : at + 1 + 1 ≡ at + 2 = omega arith in
     let says = pair_first c d pair in
     let is : slice_range s at (at + 2) ≡ c ∷ d ∷ [] =
-      part_more s at (at + 2) (omega arith) (omega arith)
-      ∙ ap (λ (xs : List ℕ). c ∷ xs) (part_more s (at + 1) (at + 2) (omega arith) inside ∙ ap (λ (i : ℕ). d ∷ slice_range s i (at + 2)) next ∙ ap (λ (xs : List ℕ). d ∷ xs) (part_none s (at + 2))) in
+    part_more s at (at + 2) (omega arith) (omega arith)
+    ∙ ap (λ (xs : List ℕ). c ∷ xs) (part_more s (at + 1) (at + 2) (omega arith) inside ∙ ap (λ (i : ℕ). d ∷ slice_range s i (at + 2)) next ∙ ap (λ (xs : List ℕ). d ∷ xs) (part_none s (at + 2))) in
     token_piece s at (at + 2) c (d ∷ []) kind (omega arith) (omega arith) is spelling
     (λ e. says.2 (cc))
     (λ r rs e k h. elim h [
@@ -223,7 +241,7 @@ pub single_piece : (s : List ℕ) (at : ℕ) (kind : TokenKind) → at < length 
 single_piece s at kind inside word spelling pair dashes =
     let c = slice_index s at in
     let is : slice_range s at (at + 1) ≡ c ∷ [] =
-      part_more s at (at + 1) (omega arith) inside ∙ ap (λ (xs : List ℕ). c ∷ xs) (part_none s (at + 1)) in
+    part_more s at (at + 1) (omega arith) inside ∙ ap (λ (xs : List ℕ). c ∷ xs) (part_none s (at + 1)) in
     token_piece s at (at + 1) c [] kind (omega arith) (omega arith) is spelling
     (λ e. two_dashes (drop (at + 1) s) refl e)
     (λ r rs e k h. elim h [

@@ -1,5 +1,5 @@
 -- Rows of pieces that grow at their end.
-use Rattle.std.proofs.Common.{◌≡◌, ◌≤◌, ◌<◌, ◌+◌, ℕ, suc, List, [], ◌∷◌, ◌++◌, length, take, drop, slice_range, Option, None, Some, refl, sym, ap, arith, ◌∙◌, subst, append_assoc}
+use Rattle.std.proofs.Common.{◌≡◌, ◌≤◌, ◌+◌, ℕ, suc, List, [], ◌∷◌, ◌++◌, length, drop, Option, Some, refl, sym, ap, arith, ◌∙◌, subst, append_assoc}
 use Rattle.std.specs.List.{flat_map}
 use Rattle.std.proofs.lemmas.List.{append-nil, length-append, flat_map_more, drop_all}
 use Rattle.std.proofs.lemmas.List.Folds.{drop_split}
@@ -58,7 +58,7 @@ cut_more source tokens at to kind cut piece =
     let ps = cut.pieces in
     let rest : drop at source ≡ spelled p ++ drop to source = drop_split source at to (omega arith) ∙ ap (λ (xs : List ℕ). xs ++ drop to source) (sym is) in
     let long : length (flat_map spelled (ps ++ p ∷ [])) ≡ length (flat_map spelled ps) + length (spelled p) =
-      ap length (sym (spelled_more ps p)) ∙ length-append (flat_map spelled ps) (spelled p) in
+    ap length (sym (spelled_more ps p)) ∙ length-append (flat_map spelled ps) (spelled p) in
     let before = cut.place in
     record {
       pieces = ps ++ p ∷ [];
@@ -67,7 +67,7 @@ cut_more source tokens at to kind cut piece =
       within = within;
       row = row_more ps p (drop to source) (subst (AreInRowBefore ps) rest cut.row) stands;
       are = ap (λ (ts : List Token). ts ++ token_if kind at to) cut.are ∙ ap (λ (k : Option TokenKind). tokens_from 0 ps ++ token_if k at to) (sym of_kind)
-        ∙ sym (tokens_more ps p 0 at to (omega arith) place);
+          ∙ sym (tokens_more ps p 0 at to (omega arith) place);
     }
 
 row_at_end : (ps : List Piece) → AreInRowBefore ps [] → AreInRow ps
@@ -77,6 +77,9 @@ row_at_end (p ∷ ps) h = (subst (StandsBefore p) (append-nil (flat_map spelled 
 -- all is cut
 pub cut_all : (source : List ℕ) (tokens : List Token) (at : ℕ) → IsCutUpTo source at tokens → length source ≤ at → AreTokens source tokens
 cut_all source tokens at cut past =
-    let rest = drop_all at source past in
-    (cut.pieces, cut.text ∙ ap (λ (xs : List ℕ). flat_map spelled cut.pieces ++ xs) rest ∙ append-nil (flat_map spelled cut.pieces),
-      row_at_end cut.pieces (subst (AreInRowBefore cut.pieces) rest cut.row), cut.are)
+    let rest = drop_all at source past in (
+      cut.pieces,
+      cut.text ∙ ap (λ (xs : List ℕ). flat_map spelled cut.pieces ++ xs) rest ∙ append-nil (flat_map spelled cut.pieces),
+      row_at_end cut.pieces (subst (AreInRowBefore cut.pieces) rest cut.row),
+      cut.are,
+    )

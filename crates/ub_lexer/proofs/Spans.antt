@@ -1,10 +1,10 @@
 -- The spans of a row's tokens, and their texts.
-use Rattle.std.proofs.Common.{◌≡◌, ◌≤◌, ◌<◌, ◌+◌, ◌-◌, ℕ, zero, suc, List, [], ◌∷◌, ◌++◌, length, take, drop, slice_range, All, codes, refl, sym, ap, arith, ◌∙◌, subst, inl, inr, append_assoc}
+use Rattle.std.proofs.Common.{◌≡◌, ◌≤◌, ◌<◌, ◌+◌, ◌-◌, ℕ, List, [], ◌∷◌, ◌++◌, length, take, drop, slice_range, codes, refl, sym, ap, arith, ◌∙◌, subst, inl, inr, append_assoc}
 use Rattle.std.specs.List.{flat_map}
-use Rattle.std.proofs.lemmas.List.{append-nil, length-append, take_at, drop_at}
+use Rattle.std.proofs.lemmas.List.{length-append, take_at, drop_at}
 use Rattle.std.proofs.lemmas.List.Elements.{All-nil, All-cons}
 use Rattle.ub_lexer.specs.Text.{IsSpelling}
-use Rattle.ub_lexer.specs.Tokens.{Piece, separator, comment, token, spelled, StandsBefore, AreInRow, tokens_from, AreTokens, AreSpelled, SpansAscend, text_of}
+use Rattle.ub_lexer.specs.Tokens.{Piece, separator, comment, token, spelled, AreInRow, tokens_from, AreTokens, AreSpelled, SpansAscend, text_of}
 use Rattle.ub_lexer.specs.declared.token.TokenKind.{TokenKind}
 use Rattle.ub_lexer.specs.declared.token.TokenKind.TheVariants.{Word, Number, Comma, OpenParenthesis, CloseParenthesis, Star, Semicolon, Equal, NotEqual, Less, AtMost, Greater, AtLeast, Minus, Bad}
 use Rattle.ub_lexer.specs.declared.token.Token.{Token}
@@ -76,7 +76,7 @@ AreSpelled-tokens_from source before (token kind text ∷ ps) at place is row =
     (record { kind = kind; from = at; to = at + length text }) (tokens_from (at + length text) ps)
     (omega arith, omega arith, subst (IsSpelling kind) (sym part) row.0.0)
     (AreSpelled-tokens_from source (before ++ text) ps (at + length text) (omega (arith, length-append before text))
-      (is ∙ sym (append_assoc before text rest)) row.1)
+    (is ∙ sym (append_assoc before text rest)) row.1)
 
 -- each of a source's tokens is spelled as its kind asks
 pub AreSpelled-tokens : (source : List ℕ) (ts : List Token) → AreTokens source ts → AreSpelled source ts

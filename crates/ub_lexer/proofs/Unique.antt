@@ -1,9 +1,9 @@
 -- A source is a row of pieces in one way only.
-use Rattle.std.proofs.Common.{◌≡◌, ◌≢◌, ◌≤◌, ◌<◌, ◌+◌, ◌-◌, ◌==◌, ◌&&◌, ◌||◌, ℕ, Bool, true, false, cond, nat_le, zero, suc, List, [], ◌∷◌, ◌++◌, length, take, drop, get_or, slice_index, All, codes, refl, sym, ap, arith, ◌∙◌, subst, inl, inr, ◌⊎◌}
-use Rattle.std.specs.List.{flat_map, AllPass}
-use Rattle.std.specs.Char.{is_ascii_digit, is_ascii_alphabetic}
-use Rattle.std.proofs.lemmas.Bool.{false≢true, or_cases, or_parts, and_parts, eqb-true, leb-true, both_ways, false_from_ne_true, cases_order, or_left, or_right}
-use Rattle.std.proofs.lemmas.List.{append-nil, length-append, take_at, drop_at, append_cancel_left}
+use Rattle.std.proofs.Common.{◌≡◌, ◌≢◌, ◌<◌, ◌+◌, ◌==◌, ◌||◌, ℕ, true, false, cond, List, [], ◌∷◌, ◌++◌, length, take, slice_index, All, refl, sym, ap, arith, ◌∙◌, subst, inl, inr, ◌⊎◌}
+use Rattle.std.specs.List.{flat_map}
+use Rattle.std.specs.Char.{is_ascii_digit}
+use Rattle.std.proofs.lemmas.Bool.{false≢true, or_cases, or_parts, eqb-true, both_ways, false_from_ne_true, cases_order}
+use Rattle.std.proofs.lemmas.List.{length-append, take_at, append_cancel_left}
 use Rattle.std.proofs.lemmas.List.Elements.{All-head, All-tail, All-get_or}
 use Rattle.ub_lexer.specs.Text.{is_separator, is_letter, is_word_byte, is_sign, IsSpelling}
 use Rattle.ub_lexer.specs.Tokens.{Piece, separator, comment, token, spelled, StandsBefore, IsLongest, AreInRow, tokens_from, AreTokens}

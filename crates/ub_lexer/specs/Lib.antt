@@ -1,4 +1,5 @@
 pub mod Text
 pub mod Tokens
 pub mod Pieces
+pub mod Ranges
 pub mod Statements

@@ -1,8 +1,8 @@
 -- What the tokenizer's own functions tell of a place in a source.
-use Rattle.std.specs.Prelude.{◌≡◌, ◌==◌, ◌≤◌, ◌+◌, ℕ, Bool, not, ◌⊎◌, List, [], ◌∷◌, ◌++◌, length, drop, slice_index, slice_range, Option, None, Some, IsFalse, codes}
+use Rattle.std.specs.Prelude.{◌≡◌, ◌==◌, ◌≤◌, ◌+◌, ℕ, Bool, not, ◌⊎◌, List, [], ◌∷◌, length, drop, slice_index, slice_range, Option, None, Some, IsFalse, codes}
 use Rattle.std.specs.List.{AllPass}
 use Rattle.std.specs.Char.{is_ascii_digit}
-use Rattle.ub_lexer.specs.Text.{is_word_byte, IsSpelling}
+use Rattle.ub_lexer.specs.Text.{is_word_byte}
 use Rattle.ub_lexer.specs.Tokens.{Piece, separator, comment, token, spelled, StandsBefore}
 use Rattle.ub_lexer.specs.declared.token.TokenKind.{TokenKind}
 use Rattle.ub_lexer.specs.declared.token.Token.{Token}

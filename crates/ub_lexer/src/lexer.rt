@@ -6,9 +6,8 @@ ghost use Rattle.ub_lexer.specs.Tokens.{AreTokens, AreSpelled, SpansAscend};
 ghost use Rattle.ub_lexer.specs.declared.token.Token.{Token};
 ghost use Rattle.ub_lexer.specs.Pieces.{goes_on, IsRun, IsPair, IsPieceAt, token_if};
 
-use std::alloc::{AllocError, Global};
-
 use crate::token::{Token, TokenKind};
+use std::alloc::{AllocError, Global};
 
 /// What a run of bytes belongs to.
 #[derive(Clone, Copy)]
@@ -109,11 +108,20 @@ fn sign_at(source: &[u8], at: usize) -> Cut
     let first = source[at];
     let next = byte_at(source, at + 1);
     if first == b'-' && next == b'-' {
-        return Cut { kind: None, to: run_end(source, at + 2, Run::OfComment) };
+        return Cut {
+            kind: None,
+            to: run_end(source, at + 2, Run::OfComment),
+        };
     }
     match pair_kind(first, next) {
-        Some(kind) => Cut { kind: Some(kind), to: at + 2 },
-        None => Cut { kind: Some(single_kind(first)), to: at + 1 },
+        Some(kind) => Cut {
+            kind: Some(kind),
+            to: at + 2,
+        },
+        None => Cut {
+            kind: Some(single_kind(first)),
+            to: at + 1,
+        },
     }
 }
 
@@ -124,11 +132,20 @@ fn piece_at(source: &[u8], at: usize) -> Cut
 {
     let first = source[at];
     if is_separator(first) {
-        Cut { kind: None, to: at + 1 }
+        Cut {
+            kind: None,
+            to: at + 1,
+        }
     } else if is_letter(first) {
-        Cut { kind: Some(TokenKind::Word), to: run_end(source, at + 1, Run::OfWord) }
+        Cut {
+            kind: Some(TokenKind::Word),
+            to: run_end(source, at + 1, Run::OfWord),
+        }
     } else if first.is_ascii_digit() {
-        Cut { kind: Some(TokenKind::Number), to: run_end(source, at + 1, Run::OfNumber) }
+        Cut {
+            kind: Some(TokenKind::Number),
+            to: run_end(source, at + 1, Run::OfNumber),
+        }
     } else {
         sign_at(source, at)
     }
@@ -139,7 +156,11 @@ fn push_cut(tokens: &mut Vec<Token>, from: usize, cut: Cut) -> Result<(), AllocE
     ensures { OnOk result (tokens.new.items ≡ tokens.old.items ++ token_if cut.kind from cut.to) }
 {
     if let Some(kind) = cut.kind {
-        tokens.push(Token { kind, from, to: cut.to })?;
+        tokens.push(Token {
+            kind,
+            from,
+            to: cut.to,
+        })?;
     }
     Ok(())
 }
@@ -166,4 +187,80 @@ pub fn lex(alloc: Global, source: &[u8]) -> Result<Vec<Token>, AllocError>
         at = cut.to;
     }
     Ok(tokens)
+}
+
+#[cfg(test)]
+mod tests {
+    use super::*;
+    use std::test::Fail;
+
+    fn token(kind: TokenKind, from: usize, to: usize) -> Token {
+        Token { kind, from, to }
+    }
+
+    #[test]
+    fn cuts_a_query(rt: HostRuntime) -> Result<(), Fail> {
+        let tokens = lex(rt.alloc(), b"SELECT * FROM t WHERE x BETWEEN 2 AND 3;")?;
+        let expected = [
+            token(TokenKind::Word, 0, 6),
+            token(TokenKind::Star, 7, 8),
+            token(TokenKind::Word, 9, 13),
+            token(TokenKind::Word, 14, 15),
+            token(TokenKind::Word, 16, 21),
+            token(TokenKind::Word, 22, 23),
+            token(TokenKind::Word, 24, 31),
+            token(TokenKind::Number, 32, 33),
+            token(TokenKind::Word, 34, 37),
+            token(TokenKind::Number, 38, 39),
+            token(TokenKind::Semicolon, 39, 40),
+        ];
+        assert_eq!(rt; tokens.as_slice(), expected.as_slice());
+        Ok(())
+    }
+
+    #[test]
+    fn takes_the_longest_token(rt: HostRuntime) -> Result<(), Fail> {
+        let tokens = lex(rt.alloc(), b"12ab a<=b!=c<>d")?;
+        let expected = [
+            token(TokenKind::Number, 0, 2),
+            token(TokenKind::Word, 2, 4),
+            token(TokenKind::Word, 5, 6),
+            token(TokenKind::AtMost, 6, 8),
+            token(TokenKind::Word, 8, 9),
+            token(TokenKind::NotEqual, 9, 11),
+            token(TokenKind::Word, 11, 12),
+            token(TokenKind::NotEqual, 12, 14),
+            token(TokenKind::Word, 14, 15),
+        ];
+        assert_eq!(rt; tokens.as_slice(), expected.as_slice());
+        Ok(())
+    }
+
+    #[test]
+    fn leaves_out_comments(rt: HostRuntime) -> Result<(), Fail> {
+        let tokens = lex(rt.alloc(), b"x--y\nz -1 - -1--")?;
+        let expected = [
+            token(TokenKind::Word, 0, 1),
+            token(TokenKind::Word, 5, 6),
+            token(TokenKind::Minus, 7, 8),
+            token(TokenKind::Number, 8, 9),
+            token(TokenKind::Minus, 10, 11),
+            token(TokenKind::Minus, 12, 13),
+            token(TokenKind::Number, 13, 14),
+        ];
+        assert_eq!(rt; tokens.as_slice(), expected.as_slice());
+        Ok(())
+    }
+
+    #[test]
+    fn takes_each_other_byte_as_bad(rt: HostRuntime) -> Result<(), Fail> {
+        let tokens = lex(rt.alloc(), b"!\0\xff")?;
+        let expected = [
+            token(TokenKind::Bad, 0, 1),
+            token(TokenKind::Bad, 1, 2),
+            token(TokenKind::Bad, 2, 3),
+        ];
+        assert_eq!(rt; tokens.as_slice(), expected.as_slice());
+        Ok(())
+    }
 }

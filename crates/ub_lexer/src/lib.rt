@@ -4,7 +4,9 @@
 #![tactic(auto)]
 
 pub mod lexer;
+pub mod statement;
 pub mod token;
 
 pub use lexer::lex;
+pub use statement::statements;
 pub use token::{Token, TokenKind};

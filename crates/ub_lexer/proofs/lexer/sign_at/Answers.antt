@@ -1,5 +1,4 @@
-use Rattle.std.proofs.Common.{◌≡◌, ◌+◌, ◌<◌, slice_index, length, arith, sym, ◌∙◌, inl, inr}
-use Rattle.ub_lexer.specs.Pieces.{IsPair}
+use Rattle.std.proofs.Common.{arith, sym, ◌∙◌, inl, inr}
 use Rattle.ub_lexer.proofs.Pieces.{comment_piece, pair_piece, pair_second, single_piece}
 use Rattle.ub_lexer.proofs.lexer.sign_at.Goals as goal
 
