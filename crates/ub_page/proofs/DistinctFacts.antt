@@ -1,5 +1,5 @@
 -- What a search of a name among the names before it tells.
-use Rattle.std.proofs.Common.{◌≡◌, ◌≢◌, ◌<◌, ◌+◌, ℕ, zero, suc, Bool, true, false, List, [], ◌∷◌, take, ap, sym, inl, inr, arith, ◌∙◌, below_more, slice_get, Some}
+use Rattle.std.proofs.Common.{◌≡◌, ◌≢◌, ◌<◌, ◌+◌, ℕ, zero, suc, true, false, List, [], ◌∷◌, take, ap, sym, inl, inr, arith, ◌∙◌, below_more, slice_get, Some}
 use Rattle.std.proofs.lemmas.Bool.{cases_Bool}
 use Rattle.std.specs.Cmp.Lexicographic.{same_text, other_text}
 use Rattle.std.specs.List.{list_any}

@@ -1,7 +1,7 @@
 -- What the rule for names gives, and that a name and its zeros fill a block.
-use Rattle.std.proofs.Common.{◌≡◌, ◌≤◌, ◌<◌, ◌+◌, ◌-◌, ◌++◌, ◌&&◌, ℕ, Bool, true, false, List, length, take, drop, replicate, refl, sym, ap, arith, nat_le, leb-true, le-leb, nat_lt, lt-ltb, not, slice_index}
+use Rattle.std.proofs.Common.{◌≡◌, ◌≤◌, ◌<◌, ◌-◌, ◌++◌, ◌&&◌, ℕ, Bool, true, false, List, length, take, replicate, refl, arith, nat_le, leb-true, le-leb, nat_lt, lt-ltb, not, slice_index}
 use Rattle.std.specs.List.{list_all}
-use Rattle.std.proofs.lemmas.List.{length-append, length-replicate, drop-replicate}
+use Rattle.std.proofs.lemmas.List.{length-append, length-replicate}
 use Rattle.std.proofs.Math.Seq.{take-append_seam}
 use Rattle.ub_page.specs.Name.{IsName, is_name, is_letter, is_word_byte, is_keyword}
 use Rattle.ub_page.specs.Block.{IsNameBlock}

