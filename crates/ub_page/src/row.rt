@@ -5,15 +5,20 @@ ghost use Rattle.std.specs.Prelude.{◌≡◌, ◌+◌, ◌<◌};
 /// Places that the schema does not use are 0.
 #[derive(Clone, Copy, PartialEq, Eq, Debug)]
 pub struct Row {
+    /// The row number, from 1.
     pub number: u32,
+    /// The coordinates, in the order of the columns.
     pub dims: [u32; 4],
+    /// The values of the measures, in the order of the columns.
     pub measures: [i64; 4],
 }
 
 /// Where a row stands in the order of the tree: by address, then by row number.
 #[derive(Clone, Copy, PartialEq, Eq, PartialOrd, Ord, Debug)]
 pub struct Key {
+    /// The row's address.
     pub z: u128,
+    /// The row number.
     pub number: u32,
 }
 

@@ -9,9 +9,13 @@ use crate::name::Name;
 /// dimensions (1 to 4; 0 to 4 are measures), and how many rows a region page holds (2 to 64).
 #[derive(Drop)]
 pub struct Schema {
+    /// The table's name.
     pub name: Name,
+    /// The columns, dimensions first.
     pub columns: Columns,
+    /// How many columns are dimensions.
     pub dims: u32,
+    /// How many rows a region page holds.
     pub page_rows: u32,
     ghost counts: { AreCounts (length columns) dims page_rows },
     ghost distinct: { AreDistinct columns },
