@@ -1,0 +1,4 @@
+pub mod Grammar
+pub mod Parts
+pub mod Truth
+pub mod Meaning
