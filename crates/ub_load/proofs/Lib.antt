@@ -1,0 +1,6 @@
+pub mod FieldFacts
+pub mod RefusalFacts
+pub mod RowFacts
+pub mod CsvFacts
+pub mod HeaderFacts
+pub mod LoadFacts

@@ -1,0 +1,138 @@
+-- The values of a record's fields, one field at a time.
+use Rattle.std.proofs.Common.{Bor, ◌≡◌, ◌+◌, ◌-◌, ◌<◌, ◌≤◌, ℕ, zero, suc, List, [], ◌∷◌, ◌++◌, length, take, drop, map, replicate, slice_get, slice_set, Option, Some, None, refl, sym, ap, ◌∙◌, arith, length-append, add-one}
+use Rattle.std.proofs.lemmas.List.{map-append, length-map}
+use Rattle.std.specs.Prelude.{ℤ, pos, nat_abs, IsSome, option_map}
+use Rattle.csv.specs.Records.{field_at}
+use Rattle.ub_page.specs.declared.row.Row.{Row}
+use Rattle.ub_load.proofs.RefusalFacts.{take_one, length-taken}
+use Rattle.ub_load.specs.Field.{trimmed, number_of}
+use Rattle.ub_load.specs.LoadedTable.{coordinates_of, measures_of, row_of}
+
+module _ {X A : Type 0} (g : X → A) (z : A) where
+  -- the values of some items, and then z at each place up to the n-th
+  abbrev pub padded : ℕ → List X → List A
+  padded n xs = map g xs ++ replicate (n - length xs) z
+
+  -- one more value, written at the first place that is free
+  pub padded-more : (n : ℕ) (xs : List X) (x : X) → length xs < n → padded n (xs ++ x ∷ []) ≡ slice_set (padded n xs) (length xs) (g x)
+  padded-more zero xs x h = absurd (omega arith)
+  padded-more (suc n) [] x h =
+      let all : suc n - 0 ≡ suc n = omega arith in
+      let rest : suc n - 1 ≡ n = omega arith in
+      rw (all, rest) refl
+  padded-more (suc n) (y ∷ ys) x h =
+      let before : suc n - suc (length ys) ≡ n - length ys = omega arith in
+      let after : suc n - suc (length (ys ++ x ∷ [])) ≡ n - length (ys ++ x ∷ []) = omega arith in
+      rw (before, after) (ap (λ r. g y ∷ r) (padded-more n ys x (omega arith)))
+
+take_short : {X : Type 0} (n : ℕ) (xs : List X) → length xs ≤ n → take n xs ≡ xs
+take_short zero [] h = refl
+take_short zero (x ∷ xs) h = absurd (omega arith)
+take_short (suc n) [] h = refl
+take_short (suc n) (x ∷ xs) h = ap (λ ys. x ∷ ys) (take_short n xs (omega arith))
+
+drop_short : {X : Type 0} (n : ℕ) (xs : List X) → length xs ≤ n → drop n xs ≡ []
+drop_short zero [] h = refl
+drop_short zero (x ∷ xs) h = absurd (omega arith)
+drop_short (suc n) [] h = refl
+drop_short (suc n) (x ∷ xs) h = drop_short n xs (omega arith)
+
+take_long : {X : Type 0} (n : ℕ) (xs ys : List X) → n ≤ length xs → take n (xs ++ ys) ≡ take n xs
+take_long zero xs ys h = refl
+take_long (suc n) [] ys h = absurd (omega arith)
+take_long (suc n) (x ∷ xs) ys h = ap (λ zs. x ∷ zs) (take_long n xs ys (omega arith))
+
+drop_long : {X : Type 0} (n : ℕ) (xs ys : List X) → n ≤ length xs → drop n (xs ++ ys) ≡ drop n xs ++ ys
+drop_long zero xs ys h = refl
+drop_long (suc n) [] ys h = absurd (omega arith)
+drop_long (suc n) (x ∷ xs) ys h = drop_long n xs ys (omega arith)
+
+length_left : {X : Type 0} (n : ℕ) (xs : List X) → length (drop n xs) ≡ length xs - n
+length_left zero xs = omega arith
+length_left (suc n) [] = omega arith
+length_left (suc n) (x ∷ xs) = length_left n xs ∙ omega arith
+
+-- the value of a field
+abbrev pub coordinate : List ℕ → ℕ
+coordinate f = nat_abs (number_of (trimmed f))
+
+abbrev pub measure : List ℕ → ℤ
+measure f = number_of (trimmed f)
+
+-- a dimension's field goes to its place among the coordinates
+pub more_coordinates : (dims : ℕ) (fs : List (List ℕ)) (f : List ℕ) → length fs < dims → dims ≤ 4
+    → (coordinates_of dims (fs ++ f ∷ []) ≡ slice_set (coordinates_of dims fs) (length fs) (coordinate f)) × (measures_of dims (fs ++ f ∷ []) ≡ measures_of dims fs)
+more_coordinates dims fs f h le =
+    let more : length (fs ++ f ∷ []) ≤ dims = omega (arith, length-append fs (f ∷ [])) in
+    rw (take_short dims (fs ++ f ∷ []) more, drop_short dims (fs ++ f ∷ []) more, take_short dims fs (omega arith), drop_short dims fs (omega arith))
+    (padded-more coordinate 0 4 fs f (omega arith), refl)
+
+-- a measure's to its own
+pub more_measures : (dims : ℕ) (fs : List (List ℕ)) (f : List ℕ) → dims ≤ length fs → length fs < dims + 4
+    → (coordinates_of dims (fs ++ f ∷ []) ≡ coordinates_of dims fs) × (measures_of dims (fs ++ f ∷ []) ≡ slice_set (measures_of dims fs) (length fs - dims) (measure f))
+more_measures dims fs f le h =
+    let long = length_left dims fs in
+    let few : length (drop dims fs) < 4 = omega arith in
+    rw (take_long dims fs (f ∷ []) le, drop_long dims fs (f ∷ []) le, ← long)
+    (refl, padded-more measure (pos 0) 4 (drop dims fs) f few)
+
+-- a field that is there
+there : (fs : List (List ℕ)) (i : ℕ) → i < length fs → (f : List ℕ) × (field_at fs i ≡ Some f)
+unfolding field_at
+there [] i h = absurd (omega arith)
+there (f ∷ fs) zero h = (f, refl)
+there (f ∷ fs) (suc i) h = there fs i (omega arith)
+
+at_place : (fs : List (List ℕ)) (i : ℕ) → field_at fs i ≡ slice_get fs i
+unfolding field_at
+at_place [] i = refl
+at_place (f ∷ fs) zero = refl
+at_place (f ∷ fs) (suc i) = at_place fs i
+
+pub got : (fs : List (List ℕ)) (i : ℕ) (o : Option (Bor (List ℕ))) → i < length fs → option_map (λ s. s.now) o ≡ field_at fs i → IsSome o
+got fs i None l h = let f = there fs i l in let bad : None ≡ Some f.0 = h ∙ f.1 in cc
+got fs i (Some r) l h = refl
+
+pub got_is : (fs : List (List ℕ)) (i : ℕ) (o : Option (Bor (List ℕ))) (r : Bor (List ℕ)) → o ≡ Some r → option_map (λ s. s.now) o ≡ field_at fs i → slice_get fs i ≡ Some r.now
+got_is fs i o r e h = sym (at_place fs i) ∙ sym h ∙ ap (option_map (λ s. s.now)) e
+
+-- one more field of a row
+pub coordinate_more : (dims number : ℕ) (fs : List (List ℕ)) (f : List ℕ) → length fs < dims → dims ≤ 4
+    → row_of dims (number, fs ++ f ∷ []) ≡ record (row_of dims (number, fs)) { dims = slice_set (row_of dims (number, fs)).dims (length fs) (coordinate f) }
+unfolding row_of
+coordinate_more dims number fs f h le =
+    let m = more_coordinates dims fs f h le in
+    rw (m.0, m.1) refl
+
+pub measure_more : (dims number : ℕ) (fs : List (List ℕ)) (f : List ℕ) → dims ≤ length fs → length fs < dims + 4
+    → row_of dims (number, fs ++ f ∷ []) ≡ record (row_of dims (number, fs)) { measures = slice_set (row_of dims (number, fs)).measures (length fs - dims) (measure f) }
+unfolding row_of
+measure_more dims number fs f le h =
+    let m = more_measures dims fs f le h in
+    rw (m.0, m.1) refl
+
+-- the row of no fields
+pub row_of_none : (dims number : ℕ) → row_of dims (number, []) ≡ record { number = number; dims = replicate 4 0; measures = replicate 4 (pos 0) }
+unfolding row_of
+row_of_none zero number = refl
+row_of_none (suc n) number = refl
+
+pub take_all : {X : Type 0} (n : ℕ) (xs : List X) → length xs ≤ n → take n xs ≡ xs
+take_all n xs h = take_short n xs h
+
+-- the row with the value of one more field in its place
+pub row_with_coordinate : (dims number place : ℕ) (fs : List (List ℕ)) (f : List ℕ) (row new : Row) (v : ℤ) → slice_get fs place ≡ Some f → row ≡ row_of dims (number, take place fs)
+    → place < dims → dims ≤ 4 → v ≡ number_of (trimmed f) → new ≡ record { number = row.number; dims = slice_set row.dims place (nat_abs v); measures = row.measures }
+    → new ≡ row_of dims (number, take (place + 1) fs)
+row_with_coordinate dims number place fs f row new v at is h le val e =
+    let long : length (take place fs) ≡ place = length-taken fs place f at in
+    let more = coordinate_more dims number (take place fs) f (omega arith) le in
+    e ∙ rw (is, val, add-one, take_one fs place f at) (sym (rw long at more))
+
+pub row_with_measure : (dims number place : ℕ) (fs : List (List ℕ)) (f : List ℕ) (row new : Row) (v : ℤ) → slice_get fs place ≡ Some f → row ≡ row_of dims (number, take place fs)
+    → dims ≤ place → place < dims + 4 → v ≡ number_of (trimmed f) → new ≡ record { number = row.number; dims = row.dims; measures = slice_set row.measures (place - dims) v }
+    → new ≡ row_of dims (number, take (place + 1) fs)
+row_with_measure dims number place fs f row new v at is le h val e =
+    let long : length (take place fs) ≡ place = length-taken fs place f at in
+    let more = measure_more dims number (take place fs) f (omega arith) (omega arith) in
+    e ∙ rw (is, val, add-one, take_one fs place f at) (sym (rw long at more))

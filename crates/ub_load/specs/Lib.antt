@@ -1,0 +1,3 @@
+pub mod Field
+pub mod Refusals
+pub mod LoadedTable

@@ -1,0 +1,43 @@
+-- The table that a CSV text holds: the first record is the header, and record k of the rest is row k.
+use Rattle.std.specs.Prelude.{◌≡◌, ℕ, ◌-◌, ℤ, pos, nat_abs, List, ◌∷◌, ◌++◌, length, map, take, drop, replicate, None}
+use Rattle.std.specs.List.{enumerate_from}
+use Rattle.csv.specs.Reading.{default_config, strip_bom, records}
+use Rattle.ub_page.specs.declared.row.Row.{Row}
+use Rattle.ub_page.specs.declared.schema.Schema.{Schema}
+use Rattle.ub_load.specs.Field.{trimmed, number_of}
+use Rattle.ub_load.specs.Refusals.{first_refusal}
+
+-- the records of a text, each a list of fields, each a list of bytes, as `csv` reads them with its defaults; a byte
+-- order mark at the front is dropped
+abbrev pub records_of : List ℕ → List (List (List ℕ))
+records_of text = records default_config (strip_bom text)
+
+-- the coordinates of a record, four with the unused ones 0
+abbrev pub coordinates_of : ℕ → List (List ℕ) → List ℕ
+coordinates_of dims fields =
+    map (λ f. nat_abs (number_of (trimmed f))) (take dims fields) ++ replicate (4 - length (take dims fields)) 0
+
+-- the measures of a record, four with the unused ones 0
+abbrev pub measures_of : ℕ → List (List ℕ) → List ℤ
+measures_of dims fields =
+    map (λ f. number_of (trimmed f)) (drop dims fields) ++ replicate (4 - length (drop dims fields)) (pos 0)
+
+-- the row of a record with its number
+unfoldable pub row_of : ℕ → ℕ × List (List ℕ) → Row
+row_of dims r = record { number = r.0; dims = coordinates_of dims r.1; measures = measures_of dims r.1 }
+
+-- the rows of the records after the header, numbered from 1
+unfoldable pub rows_of : ℕ → List (List (List ℕ)) → List Row
+rows_of dims records = map (row_of dims) (enumerate_from 1 records)
+
+-- the text is that of a table with this schema and these rows, with nothing wrong in it
+pub record IsLoaded (text : List ℕ) (dims page_rows : ℕ) (name : List ℕ) (schema : Schema) (rows : List Row) : Type 0 where
+  pub header : List (List ℕ)
+  pub rest : List (List (List ℕ))
+  pub records : records_of text ≡ header ∷ rest
+  pub accepted : first_refusal dims name (header ∷ rest) ≡ None
+  pub name_is : schema.name ≡ name
+  pub columns_are : schema.columns ≡ map trimmed header
+  pub dims_are : schema.dims ≡ dims
+  pub page_rows_are : schema.page_rows ≡ page_rows
+  pub rows_are : rows ≡ rows_of dims rest

@@ -1,0 +1,57 @@
+-- What can be wrong with the records of a CSV text, in the order in which it is told.
+use Rattle.std.specs.Prelude.{ℕ, ◌+◌, ◌==◌, ◌&&◌, ◌||◌, not, Bool, nat_lt, nat_le, if◌then◌else◌, List, [], ◌∷◌, ◌++◌, length, map, take, Option, Some, None, slice_get}
+use Rattle.std.specs.List.{filter_map, flat_map, enumerate_from, list_any}
+use Rattle.std.specs.Str.{bytes_eq}
+use Rattle.ub_page.specs.Name.{is_name}
+use Rattle.ub_load.specs.Field.{trimmed, is_number, number_of, fits_column}
+use Rattle.ub_load.specs.declared.fault.LoadFault.{LoadFault}
+use Rattle.ub_load.specs.declared.fault.LoadFault.TheVariants.{NoHeader, BadName, ColumnCount, BadNumber, OutOfRange, Csv, Full, Memory}
+use Rattle.csv.specs.declared.error.ErrorKind.{ErrorKind}
+use Rattle.csv.specs.declared.error.ErrorKind.TheVariants as kind
+
+-- a column's name (with its place from 0) is refused where it is no name or an earlier column has it
+abbrev pub name_refusal : List (List ℕ) → ℕ × List ℕ → Option LoadFault
+name_refusal names c =
+    if is_name c.1 && not (list_any (bytes_eq c.1) (take c.0 names)) then None else Some (BadName (c.0 + 1))
+
+-- what can be wrong with the header, in order: how many columns it has, the table's name, each column's name
+unfoldable pub header_refusals : ℕ → List ℕ → List (List ℕ) → List (Option LoadFault)
+header_refusals dims name names =
+    (if nat_lt (length names) dims || nat_lt (dims + 4) (length names) then Some ColumnCount else None)
+    ∷ (if is_name name then None else Some (BadName 0))
+    ∷ map (name_refusal names) (enumerate_from 0 names)
+
+-- a field (with its place from 0) of a row is refused where it is no number, or one that its column can't hold
+abbrev pub field_refusal : ℕ → ℕ → ℕ × List ℕ → Option LoadFault
+field_refusal dims row f =
+    if not (is_number (trimmed f.1)) then Some (BadNumber row (f.0 + 1))
+    else (if fits_column (nat_lt f.0 dims) (number_of (trimmed f.1)) then None else Some (OutOfRange row (f.0 + 1)))
+
+-- what can be wrong with a record (with its row number), in order: its length, each field, that there is no such number
+unfoldable pub record_refusals : ℕ → ℕ → ℕ × List (List ℕ) → List (Option LoadFault)
+record_refusals dims width r =
+    (if length r.1 == width then None else Some Csv)
+    ∷ (map (field_refusal dims r.0) (enumerate_from 0 r.1) ++ (if nat_le r.0 16777215 then None else Some Full) ∷ [])
+
+-- all that can be wrong with the records of a text, in order
+unfoldable pub refusals : ℕ → List ℕ → List (List (List ℕ)) → List (Option LoadFault)
+refusals dims name [] = Some NoHeader ∷ []
+refusals dims name (header ∷ rows) =
+    header_refusals dims name (map trimmed header)
+    ++ flat_map (record_refusals dims (length header)) (enumerate_from 1 rows)
+
+-- the first thing that is wrong, if any is
+abbrev pub first_of : List (Option LoadFault) → Option LoadFault
+first_of faults = slice_get (filter_map (λ f. f) faults) 0
+
+abbrev pub first_refusal : ℕ → List ℕ → List (List (List ℕ)) → Option LoadFault
+first_refusal dims name records = first_of (refusals dims name records)
+
+-- what a refusal of `csv` is to the loader
+abbrev pub fault_of : ErrorKind → LoadFault
+fault_of kind.OutOfMemory = Memory
+fault_of (kind.Io e) = Csv
+fault_of (kind.UnequalLengths pos expected len) = Csv
+fault_of (kind.Utf8 pos why) = Csv
+fault_of (kind.Serialize why) = Csv
+fault_of (kind.Deserialize pos why) = Csv

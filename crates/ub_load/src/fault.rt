@@ -1,0 +1,58 @@
+use csv::ErrorKind;
+use std::alloc::AllocFailed;
+use thiserror::Error;
+
+/// Why a CSV text is no table. Rows and columns count from 1, the header not among the rows.
+#[derive(Clone, Copy, PartialEq, Eq, Debug, Error)]
+pub enum LoadFault {
+    /// The text has no record at all.
+    #[error("NoHeader")]
+    NoHeader,
+    /// The table's name (0) or a column's (from 1) is no name, or an earlier column has it.
+    #[error("BadName {0}")]
+    BadName(u32),
+    /// The header has fewer columns than dimensions, or more than four more.
+    #[error("ColumnCount")]
+    ColumnCount,
+    /// A field is no number.
+    #[error("BadNumber row {row} column {column}")]
+    BadNumber { row: u32, column: u32 },
+    /// A field is a number that its column cannot hold.
+    #[error("OutOfRange row {row} column {column}")]
+    OutOfRange { row: u32, column: u32 },
+    /// `csv` refused a record, which is of another length than the header.
+    #[error("Csv")]
+    Csv,
+    /// There are more rows than row numbers: 16777215.
+    #[error("Full")]
+    Full,
+    /// The memory for it was refused.
+    #[error("Memory")]
+    Memory,
+}
+
+impl From<csv::Error> for LoadFault {
+    ghost use Rattle.std.specs.Prelude.{◌≡◌};
+    ghost use Rattle.csv.specs.Reading.{error_kind};
+    ghost use Rattle.ub_load.specs.Refusals as spec;
+
+    ghost from_gives = { λ error fault. fault ≡ spec.fault_of (error_kind error) };
+
+    fn from(error: csv::Error) -> LoadFault {
+        match error.kind() {
+            ErrorKind::OutOfMemory => LoadFault::Memory,
+            _ => LoadFault::Csv,
+        }
+    }
+}
+
+impl<T: Drop> From<AllocFailed<T>> for LoadFault {
+    ghost use Rattle.std.specs.Prelude.{◌≡◌};
+    ghost use Rattle.ub_load.specs.declared.fault.LoadFault.TheVariants.{Memory};
+
+    ghost from_gives = { λ _ fault. fault ≡ Memory };
+
+    fn from(_failed: AllocFailed<T>) -> LoadFault {
+        LoadFault::Memory
+    }
+}

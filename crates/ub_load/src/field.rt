@@ -1,0 +1,113 @@
+//! What one field of a record says.
+
+ghost use Rattle.std.specs.Prelude.{◌≡◌, ◌<◌, ◌^◌, ◌↔◌, reverse, true, false, nat_lt, IsSome, IfSome, MatchResult};
+ghost use Rattle.std.specs.Char.{is_ascii_digit};
+ghost use Rattle.std.specs.List.{list_all};
+ghost use Rattle.std.specs.Str.Parse.{without_leading_sign};
+ghost use Rattle.ub_load.specs.Refusals.{field_refusal};
+ghost use Rattle.ub_load.specs.Field as spec;
+
+use std::str;
+
+use crate::fault::LoadFault;
+
+/// The field without the spaces (32) at its two ends. No other byte is taken away, a tab neither.
+#[tactic(auto, unfolding(crate::specs::Field::trimmed))]
+pub fn trim_spaces(field: &[u8]) -> &[u8]
+    ensures { result.now ≡ spec.trimmed field.now }
+{
+    before_spaces(after_spaces(field))
+}
+
+// The bytes after any spaces at the front.
+fn after_spaces(field: &[u8]) -> &[u8]
+    ensures { result.now ≡ spec.after_spaces field.now }
+{
+    let mut rest = field;
+    while let Some((first, after)) = rest.split_first() {
+        if *first != b' ' {
+            return rest;
+        }
+        rest = after;
+    }
+    rest
+}
+
+// The bytes before any spaces at the end.
+fn before_spaces(field: &[u8]) -> &[u8]
+    ensures { result.now ≡ reverse (spec.after_spaces (reverse field.now)) }
+{
+    let mut rest = field;
+    while let Some((last, before)) = rest.split_last() {
+        if *last != b' ' {
+            return rest;
+        }
+        rest = before;
+    }
+    rest
+}
+
+/// Whether the text is an optional sign (`+` or `-`) and then one digit or more.
+#[tactic(auto, unfolding(crate::specs::Field::is_number))]
+pub fn is_number(text: &[u8]) -> bool
+    ensures { result ≡ spec.is_number text.now }
+{
+    let digits = without_sign(text);
+    !digits.is_empty() && are_digits(digits)
+}
+
+fn are_digits(text: &[u8]) -> bool
+    ensures { result ≡ list_all is_ascii_digit text.now }
+{
+    text.iter().all(|byte| byte.is_ascii_digit())
+}
+
+// The text without the sign that may stand first.
+fn without_sign(text: &[u8]) -> &[u8]
+    ensures { result.now ≡ without_leading_sign text.now }
+{
+    if !text.is_empty() && (text[0] == b'-' || text[0] == b'+') {
+        &text[1..]
+    } else {
+        text
+    }
+}
+
+/// The number that the text writes, where the text is a number (`is_number`) and fits 64 bits with sign.
+pub fn read_number(text: &[u8]) -> Option<i64>
+    ensures value { IfSome result (λ v. v ≡ spec.number_of text.now) }
+    ensures valid { IsSome result ↔ ((spec.is_number text.now ≡ true) × (spec.fits_column false (spec.number_of text.now) ≡ true)) }
+{
+    match str::from_utf8(text) {
+        Ok(text) => text.parse().ok(),
+        Err(_) => None,
+    }
+}
+
+/// The value of a field in a column (its place counts from 0) of a table with so many dimensions, in the row of this
+/// number. `BadNumber` where it is no number, and `OutOfRange` where its column cannot hold it.
+pub fn read_field(field: &[u8], place: usize, dims: u32, row: u32) -> Result<i64, LoadFault>
+    requires { place < 2 ^ 31 }
+    ensures {
+        MatchResult result
+            (λ v. (field_refusal dims row (place, field.now) ≡ None) × (v ≡ spec.number_of (spec.trimmed field.now)) × (spec.fits_column (nat_lt place dims) v ≡ true))
+            (λ f. field_refusal dims row (place, field.now) ≡ Some f)
+    }
+{
+    let text = trim_spaces(field);
+    let column = place as u32 + 1;
+    if !is_number(text) {
+        return Err(LoadFault::BadNumber { row, column });
+    }
+    match read_number(text) {
+        Some(value) if fits_column(place < dims as usize, value) => Ok(value),
+        _ => Err(LoadFault::OutOfRange { row, column }),
+    }
+}
+
+// Whether a dimension or a measure can hold the value.
+fn fits_column(is_dimension: bool, value: i64) -> bool
+    ensures { result ≡ spec.fits_column is_dimension value }
+{
+    !is_dimension || (0 <= value && value <= i64::from(u32::MAX))
+}

@@ -1,0 +1,75 @@
+//! The header of a CSV text as the schema of the table.
+
+ghost use Rattle.std.specs.Prelude.{◌≡◌, ◌+◌, ◌≤◌, ◌<◌, ◌&&◌, not, true, false, length, map, take, IfOk, IfErr};
+ghost use Rattle.std.specs.Result.{OnOk, OnErr};
+ghost use Rattle.std.specs.List.{enumerate_from, list_any};
+ghost use Rattle.std.specs.Str.{bytes_eq};
+ghost use Rattle.csv.specs.Records.{fields_of};
+ghost use Rattle.ub_page.specs.Name.{is_name};
+ghost use Rattle.ub_load.specs.Field.{trimmed};
+ghost use Rattle.ub_load.specs.Refusals.{first_of, header_refusals, name_refusal};
+
+use csv::ByteRecord;
+use ub_page::{Name, Schema};
+
+use crate::fault::LoadFault;
+use crate::field::trim_spaces;
+use crate::row::field_at;
+
+/// The schema of a table of this name whose columns are the header's fields, or the first thing that is wrong with them:
+/// `ColumnCount`, `BadName(0)` for the table's name, `BadName` for a column's.
+pub fn read_schema(header: &ByteRecord, dims: u32, page_rows: u32, name: &[u8]) -> Result<Schema, LoadFault>
+    requires some_dims { 1 ≤ dims }
+    requires few_dims { dims ≤ 4 }
+    requires some_rows { 2 ≤ page_rows }
+    requires few_rows { page_rows ≤ 64 }
+    ensures schema {
+        IfOk result (λ s. (s.name ≡ name.now) × (s.columns ≡ map trimmed (fields_of header.now)) × (s.dims ≡ dims) × (s.page_rows ≡ page_rows))
+    }
+    ensures few_columns { OnOk result (length (fields_of header.now) ≤ dims + 4) }
+    ensures accepted { OnOk result (first_of (header_refusals dims name.now (map trimmed (fields_of header.now))) ≡ None) }
+    ensures refused { IfErr result (λ fault. first_of (header_refusals dims name.now (map trimmed (fields_of header.now))) ≡ Some fault) }
+{
+    let width = header.len();
+    if width < dims as usize || width > dims as usize + 4 {
+        return Err(LoadFault::ColumnCount);
+    }
+    let Ok(table) = Name::new(name) else {
+        return Err(LoadFault::BadName(0));
+    };
+    let columns = read_names(header, table)?;
+    // The numbers are in range and the names distinct, so there is such a schema.
+    Ok(Schema::new(table, &columns[..width], dims, page_rows).unwrap())
+}
+
+// The names of the columns in the first places, and the filler in the others; or the first name's refusal.
+fn read_names(header: &ByteRecord, filler: Name) -> Result<[Name; 8], LoadFault>
+    requires { length (fields_of header.now) ≤ 8 }
+    ensures names { IfOk result (λ names. take (length (fields_of header.now)) names ≡ map trimmed (fields_of header.now)) }
+    ensures accepted {
+        OnOk result (first_of (map (name_refusal (map trimmed (fields_of header.now))) (enumerate_from 0 (map trimmed (fields_of header.now)))) ≡ None)
+    }
+    ensures refused {
+        IfErr result (λ fault. first_of (map (name_refusal (map trimmed (fields_of header.now))) (enumerate_from 0 (map trimmed (fields_of header.now)))) ≡ Some fault)
+    }
+{
+    let mut names = [filler; 8];
+    for place in 0..header.len() {
+        names[place] = read_name(field_at(header, place), place, &names[..place])?;
+    }
+    Ok(names)
+}
+
+// The name in the column at a place from 0, which is none of the earlier ones.
+fn read_name(field: &[u8], place: usize, earlier: &[Name]) -> Result<Name, LoadFault>
+    requires { place < 8 }
+    ensures name { IfOk result (λ name. name ≡ trimmed field.now) }
+    ensures accepted { OnOk result (is_name (trimmed field.now) && not (list_any (bytes_eq (trimmed field.now)) earlier.now) ≡ true) }
+    ensures refused { OnErr result (is_name (trimmed field.now) && not (list_any (bytes_eq (trimmed field.now)) earlier.now) ≡ false) }
+    ensures column { IfErr result (λ fault. fault ≡ LoadFault.BadName (place + 1)) }
+{
+    match Name::new(trim_spaces(field)) {
+        Ok(name) if !earlier.contains(&name) => Ok(name),
+        _ => Err(LoadFault::BadName(place as u32 + 1)),
+    }
+}
