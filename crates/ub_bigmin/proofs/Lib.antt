@@ -3,3 +3,5 @@ pub mod PointFacts
 pub mod AddressOrder
 pub mod AroundFacts
 pub mod StepFacts
+pub mod EventFacts
+pub mod SeveralFacts

@@ -16,3 +16,10 @@ LeastFrom P z o = MatchOption o ((m : ℕ) → P m → m < z) (IsLeastFrom P z)
 -- the greatest member up to z where there is one, else nothing
 abbrev pub GreatestUpTo : (ℕ → Type 0) → ℕ → Option ℕ → Type 0
 GreatestUpTo P z o = MatchOption o ((m : ℕ) → P m → z < m) (IsGreatestUpTo P z)
+
+-- the least member of a set where there is one, else nothing; and the greatest
+abbrev pub Least : (ℕ → Type 0) → Option ℕ → Type 0
+Least P o = MatchOption o ((m : ℕ) → ¬ (P m)) (λ n. P n × ((m : ℕ) → P m → n ≤ m))
+
+abbrev pub Greatest : (ℕ → Type 0) → Option ℕ → Type 0
+Greatest P o = MatchOption o ((m : ℕ) → ¬ (P m)) (λ n. P n × ((m : ℕ) → P m → m ≤ n))

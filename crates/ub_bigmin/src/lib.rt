@@ -4,7 +4,13 @@
 // here speaks of addresses and boxes alone; pages, regions and queries stand in the crates above. Nothing allocates.
 #![tactic(auto)]
 
+mod event;
 mod search;
+mod several;
 mod zbox;
 
+pub use several::{greatest_value, least_value, next_in_any};
 pub use zbox::ZBox;
+
+#[cfg(test)]
+mod tests;

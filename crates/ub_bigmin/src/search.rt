@@ -24,11 +24,11 @@ pub struct Search {
     pub above: Option<u128>,
 }
 
-// The search goes on, or it has its end.
+// The search goes on at the next place, or nothing of the box is left and it has found both neighbours.
 #[derive(Clone, Copy)]
 pub enum Step {
     Onward(Search),
-    Done(Neighbours),
+    Done(Search),
 }
 
 /// The neighbours of z in the box (BIGMIN and LITMAX by one descent from the highest place; Tropf and Herzog 1981).
@@ -51,7 +51,12 @@ pub fn find_neighbours(zbox: &ZBox, z: u128) -> Neighbours
     for place in (0..32 * shape.dims()).rev() {
         match take_step(zbox, z, place, search) {
             Step::Onward(next) => search = next,
-            Step::Done(found) => return found,
+            Step::Done(end) => {
+                return Neighbours {
+                    below: end.below,
+                    above: end.above,
+                };
+            }
         }
     }
     Neighbours {
@@ -61,9 +66,9 @@ pub fn find_neighbours(zbox: &ZBox, z: u128) -> Neighbours
 }
 
 // One place of the search: the decision table of Tropf and Herzog on the bits of the address and of the corners there.
-// The coordinates of the corners agree above the bit, so `middle` cuts the box into the half whose bit is 0 and the
+// Where the corners' bits are 0 and 1, `middle` cuts their range in this dimension into the half whose bit is 0 and the
 // half whose bit is 1.
-fn take_step(zbox: &ZBox, z: u128, place: u32, search: Search) -> Step
+fn take_step(zbox: &ZBox, z: u128, place: u32, mut search: Search) -> Step
     requires place { place < 32 * length zbox.now.lo }
     requires around { IsAround zbox.now z (place + 1) search.low search.high search.below search.above }
     ensures { IsStep zbox.now z place result }
@@ -82,50 +87,36 @@ fn take_step(zbox: &ZBox, z: u128, place: u32, search: Search) -> Step
     ) {
         // 000
         (false, false, false) => Step::Onward(search),
-        // 111
-        (true, true, true) => Step::Onward(search),
         // 001
         (false, false, true) => {
-            let above = interleave(shape, &load(shape, &search.low, dimension, middle));
-            let high = load(shape, &search.high, dimension, middle - 1);
-            Step::Onward(Search {
-                low: search.low,
-                high,
-                below: search.below,
-                above: Some(above),
-            })
-        }
-        // 011
-        (false, true, true) => {
-            let above = interleave(shape, &search.low);
-            Step::Done(Neighbours {
-                below: search.below,
-                above: Some(above),
-            })
-        }
-        // 100
-        (true, false, false) => {
-            let below = interleave(shape, &search.high);
-            Step::Done(Neighbours {
-                below: Some(below),
-                above: search.above,
-            })
-        }
-        // 101
-        (true, false, true) => {
-            let below = interleave(shape, &load(shape, &search.high, dimension, middle - 1));
-            let low = load(shape, &search.low, dimension, middle);
-            Step::Onward(Search {
-                low,
-                high: search.high,
-                below: Some(below),
-                above: search.above,
-            })
+            let over = load(shape, &search.low, dimension, middle);
+            search.above = Some(interleave(shape, &over));
+            search.high = load(shape, &search.high, dimension, middle - 1);
+            Step::Onward(search)
         }
         // 010
         (false, true, false) => unreachable!(),
+        // 011
+        (false, true, true) => {
+            search.above = Some(interleave(shape, &search.low));
+            Step::Done(search)
+        }
+        // 100
+        (true, false, false) => {
+            search.below = Some(interleave(shape, &search.high));
+            Step::Done(search)
+        }
+        // 101
+        (true, false, true) => {
+            let under = load(shape, &search.high, dimension, middle - 1);
+            search.below = Some(interleave(shape, &under));
+            search.low = load(shape, &search.low, dimension, middle);
+            Step::Onward(search)
+        }
         // 110
         (true, true, false) => unreachable!(),
+        // 111
+        (true, true, true) => Step::Onward(search),
     }
 }
 
@@ -147,7 +138,7 @@ fn middle_of(x: u32, bit: u32) -> u32
 
 // The point with one coordinate replaced. LOAD(1000..) gives the low corner the middle of its range there, and
 // LOAD(0111..) gives the high corner the value below the middle.
-fn load(shape: Shape, point: &Point, dimension: usize, value: u32) -> Point
+pub fn load(shape: Shape, point: &Point, dimension: usize, value: u32) -> Point
     requires shape { length point.now ≡ shape }
     requires dimension { dimension < shape }
     ensures { result ≡ slice_set point.now dimension value }

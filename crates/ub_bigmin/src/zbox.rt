@@ -64,14 +64,16 @@ impl ZBox {
 
     /// The corner that is least in each coordinate.
     pub fn lo(&self) -> &Point
-        ensures { result.now ≡ self.now.lo }
+        ensures lo { result.now ≡ self.now.lo }
+        ensures corners { IsBox (length self.now.lo) self.now }
     {
         &self.lo
     }
 
     /// The corner that is greatest in each coordinate.
     pub fn hi(&self) -> &Point
-        ensures { result.now ≡ self.now.hi }
+        ensures hi { result.now ≡ self.now.hi }
+        ensures corners { IsBox (length self.now.lo) self.now }
     {
         &self.hi
     }

@@ -8,13 +8,13 @@ pub returns-then-last-z : goal.returns-then-last-z
 returns-then-last-z c =
     let box = c.shape-shape.ensures.corners in
     let big : 2 ^ (32 * c.shape-shape.result) ≤ c.args.z = let pos = pow_pos (32 * c.shape-shape.result) in omega (arith, c.last.ensures) in
-    rw (c.interleave.ensures.address, c.hi.ensures) (neighbours_past c.shape-shape.result _ box.hi box.ordered c.args.z big)
+    rw (c.interleave.ensures.address, c.hi.ensures.hi) (neighbours_past c.shape-shape.result _ box.hi box.ordered c.args.z big)
 
 pub loop-place-init : goal.loop-place-init
 loop-place-init c =
     let box = c.shape-shape.ensures.corners in
     let small : c.args.z < 2 ^ (32 * c.shape-shape.result) = let pos = pow_pos (32 * c.shape-shape.result) in omega (arith, c.last.ensures) in
-    rw (c.dims-place.ensures.same, c.lo.ensures, c.hi-2.ensures) (around_start c.shape-shape.result _ box.hi box.ordered c.args.z small)
+    rw (c.dims-place.ensures.same, c.lo.ensures.lo, c.hi-2.ensures.hi) (around_start c.shape-shape.result _ box.hi box.ordered c.args.z small)
 
 pub take_step-requires-clause-around : goal.take_step-requires-clause-around
 take_step-requires-clause-around c = let e : c.loop-place.place - 1 + 1 ≡ c.loop-place.place = omega arith in rw e c.loop-place.invariant

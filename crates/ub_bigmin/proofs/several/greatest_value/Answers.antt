@@ -1,0 +1,20 @@
+-- One box after the other.
+use Rattle.std.proofs.Common.{◌≡◌, ℕ, max, rules}
+use Rattle.std.specs.Option.{option_map_or}
+use Rattle.ub_bigmin.proofs.SeveralFacts.{greatest_skips, no_boxes, take_whole, greatest_more}
+use Rattle.ub_bigmin.proofs.several.greatest_value.Goals as goal
+use Rattle.ub_bigmin.proofs.several.greatest_value.Goals.{in-Some, in_default}
+
+pub loop-zbox-init : goal.loop-zbox-init
+loop-zbox-init c = λ m h. no_boxes h.2
+
+pub loop-zbox-preserved : goal.loop-zbox-preserved
+loop-zbox-preserved c = elim c.match-greatest_in_box.branch [
+  | in-Some w ↦
+      let is : w.map_or.result ≡ option_map_or (λ (other : ℕ). max other w.in-Some.found) c.loop-zbox.greatest w.in-Some.found = search rules in
+      rw (w.greatest-is, is) (greatest_more _ _ _ c.loop-zbox-test.true c.zbox-item.is _ _ _ _ w.in-Some.found c.loop-zbox.invariant w.in-Some.ensures)
+  | in_default w ↦ rw w.greatest-is (greatest_skips _ _ _ c.loop-zbox-test.true c.zbox-item.is _ _ _ _ c.loop-zbox.invariant w.in_default.ensures)
+]
+
+pub returns : goal.returns
+returns c = let whole = take_whole _ _ c.loop-zbox-test.false in rw whole at c.loop-zbox.invariant
