@@ -1,0 +1,4 @@
+pub mod Cache
+pub mod Facts
+pub mod Faulty
+pub mod View

@@ -1,0 +1,21 @@
+// Pages of 4096 bytes by number, and who keeps them.
+//
+// A store holds the pages: one in memory, and one that fails when a test wants it to. A pager stands before a store with a
+// cache of the pages last used, and notes which region pages were asked for. The bytes of a page mean nothing here: the
+// crate ub_page spells and reads them, and the crates above say which page holds what.
+
+#![tactic(auto)]
+
+pub mod fault;
+pub mod faulty;
+pub mod memory;
+pub mod pager;
+pub mod store;
+#[cfg(test)]
+mod tests;
+
+pub use fault::{Rejected, StoreFault};
+pub use faulty::FaultyStore;
+pub use memory::MemStore;
+pub use pager::Pager;
+pub use store::PageStore;

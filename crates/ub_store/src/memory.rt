@@ -1,0 +1,107 @@
+ghost use Rattle.std.specs.Prelude.{◌≡◌, ◌<◌, ◌≤◌, ◌++◌, ◌∷◌, ◌↔◌, ◌⊎◌, [], Ok, Err, length, slice_get, slice_set, IfOk, IfErr, OnOk, OnErr, IsOk, IsErrOf};
+ghost use Rattle.std.specs.Option.{ok_or};
+ghost use Rattle.ub_store.specs.Facts.{memory_facts, zero_page};
+
+use crate::fault::StoreFault;
+use crate::store::{MAX_PAGES, PageStore};
+use std::alloc::Global;
+use std::marker::Model;
+use ub_page::Page;
+
+/// A store whose pages lie in memory. It is honest and never fails.
+#[derive(Drop)]
+pub struct MemStore {
+    pages: Vec<Page>,
+}
+
+impl Model for MemStore {
+    ghost use Rattle.std.specs.Prelude.{List, ℕ, ◌≤◌, length};
+
+    ghost Value = { List (List ℕ) };
+
+    ghost view = { λ s. s.pages.items };
+
+    ghost invariant = { λ s. length s.pages.items ≤ 4294967295 };
+}
+
+impl MemStore {
+    /// A store with no pages. It takes no memory.
+    pub fn new(alloc: Global) -> MemStore
+        ensures pages { result ≡ [] }
+        ensures facts { ⟦<MemStore as PageStore>⟧.facts result ≡ memory_facts [] }
+    {
+        MemStore {
+            pages: Vec::new(alloc),
+        }
+    }
+}
+
+impl PageStore for MemStore {
+    ghost use Rattle.std.specs.Prelude.{false};
+    ghost use Rattle.ub_store.specs.Facts.{memory_facts};
+
+    ghost facts = { memory_facts };
+
+    ghost reads_need_memory = { false };
+
+    fn pages(&self) -> u32
+        ensures { result ≡ length self.now }
+    {
+        self.pages.len() as u32
+    }
+
+    /// The page of this number. NoPage comes where there is none, and no other fault does.
+    fn read_page(&mut self, n: u32) -> Result<Page, StoreFault>
+        ensures page { result ≡ ok_or (slice_get self.old n) StoreFault.NoPage }
+        ensures kept { self.new ≡ self.old }
+    {
+        self.pages
+            .get(n as usize)
+            .copied()
+            .ok_or(StoreFault::NoPage)
+    }
+
+    /// Puts a page in the place of that of this number. NoPage comes where there is none, and no other fault does.
+    fn write_page(&mut self, n: u32, page: &Page) -> Result<(), StoreFault>
+        ensures there { n < length self.old → IsOk result }
+        ensures missing { length self.old ≤ n → IsErrOf result StoreFault.NoPage }
+        ensures written { self.new ≡ slice_set self.old n page.now }
+    {
+        let n = n as usize;
+        if n < self.pages.len() {
+            self.pages[n] = *page;
+            Ok(())
+        } else {
+            Err(StoreFault::NoPage)
+        }
+    }
+
+    /// Adds a page of zeros and gives its number. BadSize comes exactly where there are 4294967295 pages, Memory where memory
+    /// was refused. After a fault the store is as it was.
+    fn extend(&mut self) -> Result<u32, StoreFault>
+        ensures number { IfOk result (λ n. n ≡ length self.old) }
+        ensures room { OnOk result (length self.old < 4294967295) }
+        ensures full { IsErrOf result StoreFault.BadSize ↔ (length self.old ≡ 4294967295) }
+        ensures faults { IfErr result (λ fault. (fault ≡ StoreFault.Memory) ⊎ (fault ≡ StoreFault.BadSize)) }
+        ensures added { OnOk result (self.new ≡ self.old ++ zero_page ∷ []) }
+        ensures failed { OnErr result (self.new ≡ self.old) }
+    {
+        let count = self.pages();
+        if count == MAX_PAGES {
+            return Err(StoreFault::BadSize);
+        }
+        match self.pages.push([0; 4096]) {
+            Ok(()) => Ok(count),
+            Err(_) => Err(StoreFault::Memory),
+        }
+    }
+
+    /// Does nothing, and no fault comes.
+    fn sync(&mut self) -> Result<(), StoreFault>
+        ensures done { IsOk result }
+        ensures kept { self.new ≡ self.old }
+    {
+        // What was written to memory lasts as long as memory does.
+        Ok(())
+    }
+}

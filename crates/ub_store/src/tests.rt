@@ -1,0 +1,139 @@
+// The happy paths of each store and of the pager, and what the contracts promise over memory, where no call fails but the one
+// that is told to.
+
+ghost use Rattle.std.specs.Prelude.{◌≡◌, ◌≢◌, ◌<◌, [], Err, Some, length, slice_get, slice_set, IfOk, IsOk, IsOkAnd};
+ghost use Rattle.ub_store.specs.Facts.{IsHonest};
+ghost use Rattle.ub_store.specs.Faulty.{faulty_view};
+
+use crate::fault::StoreFault;
+use crate::faulty::FaultyStore;
+use crate::memory::MemStore;
+use crate::pager::Pager;
+use crate::store::PageStore;
+use std::alloc::Global;
+use std::num::NonZeroUsize;
+use std::test::Fail;
+use ub_page::Page;
+
+// Over memory a page that is there is read, unless the failure is due.
+fn read_in_memory(store: &mut FaultyStore<MemStore>, n: u32) -> Result<Page, StoreFault>
+    requires there { n < length store.old.inner }
+    requires not_due { store.old.due ≢ 1 }
+    ensures done { IsOkAnd result (λ page. slice_get store.old.inner n ≡ Some page) }
+    ensures kept { store.new.inner ≡ store.old.inner }
+{
+    store.read_page(n)
+}
+
+// Over memory a page that is there is written, unless the failure is due.
+fn write_in_memory(store: &mut FaultyStore<MemStore>, n: u32, page: &Page) -> Result<(), StoreFault>
+    requires there { n < length store.old.inner }
+    requires not_due { store.old.due ≢ 1 }
+    ensures done { IsOk result }
+    ensures written { store.new.inner ≡ slice_set store.old.inner n page.now }
+{
+    store.write_page(n, page)
+}
+
+// Where the failure is due, memory isn't reached.
+fn fail_in_memory(store: &mut FaultyStore<MemStore>) -> Result<u32, StoreFault>
+    requires { store.old.due ≡ 1 }
+    ensures failed { result ≡ Err StoreFault.Device }
+    ensures kept { store.new.inner ≡ store.old.inner }
+{
+    store.extend()
+}
+
+// A sync that isn't due to fail succeeds over memory.
+fn sync_in_memory(store: &mut FaultyStore<MemStore>) -> Result<(), StoreFault>
+    requires { store.old.due ≢ 1 }
+    ensures done { IsOk result }
+    ensures kept { store.new.inner ≡ store.old.inner }
+{
+    store.sync()
+}
+
+fn store_failing_at(alloc: Global, k: u64) -> FaultyStore<MemStore>
+    ensures { result ≡ faulty_view [] k 0 }
+{
+    FaultyStore::new(MemStore::new(alloc), k)
+}
+
+#[test]
+fn fails_at_the_second_call_alone(rt: HostRuntime) -> Result<(), Fail> {
+    let mut store = store_failing_at(rt.alloc(), 2);
+    assert_eq!(rt; store.extend(), Ok(0));
+    assert_eq!(rt; store.extend(), Err(StoreFault::Device));
+    assert_eq!(rt; store.pages(), 1);
+    assert_eq!(rt; store.sync(), Ok(()));
+    assert_eq!(rt; store.extend(), Ok(1));
+    Ok(())
+}
+
+#[test]
+fn never_fails_at_zero(rt: HostRuntime) -> Result<(), Fail> {
+    let mut store = store_failing_at(rt.alloc(), 0);
+    assert_eq!(rt; store.extend(), Ok(0));
+    assert_eq!(rt; store.write_page(0, &[7; 4096]), Ok(()));
+    assert!(rt; store.read_page(0) == Ok([7; 4096]));
+    assert!(rt; store.read_page(1) == Err(StoreFault::NoPage));
+    assert_eq!(rt; store.sync(), Ok(()));
+    Ok(())
+}
+
+// What is put is what is fetched, cached or not.
+fn put_and_fetch(
+    pager: &mut Pager<FaultyStore<MemStore>>,
+    n: u32,
+    page: &Page,
+) -> Result<Page, StoreFault>
+    requires { IsHonest pager.old.store }
+    ensures { IfOk result (λ fetched. fetched ≡ page.now) }
+{
+    pager.put(n, page)?;
+    pager.fetch(n)
+}
+
+// A pager over three pages more of this store, whose cache holds one page.
+fn three_pages<S: PageStore>(alloc: Global, store: S) -> Result<Pager<S>, StoreFault>
+    ensures honest { IsHonest (S.facts store) → IfOk result (λ pager. IsHonest pager.store) }
+    ensures trace { IfOk result (λ pager. pager.trace ≡ []) }
+{
+    let mut pager = match Pager::new(alloc, store, NonZeroUsize::MIN) {
+        Ok(pager) => pager,
+        Err(refused) => return Err(refused.fault),
+    };
+    pager.extend()?;
+    pager.extend()?;
+    pager.extend()?;
+    Ok(pager)
+}
+
+#[test]
+fn fetches_the_page_last_put(rt: HostRuntime) -> Result<(), Fail> {
+    let mut pager = three_pages(rt.alloc(), store_failing_at(rt.alloc(), 0))?;
+    assert_eq!(rt; pager.pages(), 3);
+    assert!(rt; pager.fetch(1)? == [0; 4096]);
+    assert!(rt; pager.fetch(2)? == [0; 4096]);
+    pager.put(1, &[7; 4096])?;
+    assert!(rt; pager.fetch(1)? == [7; 4096]);
+    assert!(rt; put_and_fetch(&mut pager, 1, &[8; 4096])? == [8; 4096]);
+    assert!(rt; pager.fetch(3) == Err(StoreFault::NoPage));
+    pager.sync()?;
+    let mut store = pager.into_store();
+    assert!(rt; store.read_page(1) == Ok([8; 4096]));
+    Ok(())
+}
+
+#[test]
+fn notes_region_pages_in_order(rt: HostRuntime) -> Result<(), Fail> {
+    let mut pager = three_pages(rt.alloc(), MemStore::new(rt.alloc()))?;
+    pager.fetch_region(1)?;
+    pager.fetch_region(2)?;
+    pager.fetch(0)?;
+    pager.fetch_region(1)?;
+    assert!(rt; pager.trace() == [1, 2, 1].as_slice());
+    pager.begin();
+    assert!(rt; pager.trace().is_empty());
+    Ok(())
+}
