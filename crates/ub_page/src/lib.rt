@@ -11,6 +11,7 @@ pub mod columns;
 pub mod fault;
 pub mod keyword;
 pub mod name;
+pub mod page;
 pub mod row;
 pub mod schema;
 
@@ -18,5 +19,6 @@ pub use columns::Columns;
 pub use fault::PageFault;
 pub use keyword::is_keyword;
 pub use name::Name;
+pub use page::Page;
 pub use row::{Key, Row};
 pub use schema::Schema;
