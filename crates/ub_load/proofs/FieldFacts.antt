@@ -1,14 +1,13 @@
 -- Spaces at the ends, and numbers as `parse` reads them.
-use Rattle.std.proofs.Common.{◌≡◌, ◌≢◌, ◌↔◌, ◌<◌, ◌≤◌, ◌+◌, ◌-◌, ◌&&◌, ◌==◌, ℕ, zero, suc, Bool, true, false, cond, List, [], ◌∷◌, ◌++◌, length, drop, reverse, refl, sym, ap, ◌∙◌, arith, rules, slice_index, ◌⊎◌, inl, inr}
-use Rattle.std.proofs.lemmas.Bool.{and_parts, and_from, false≢true, cases_Bool, ltb-true, lt-ltb, leb-true, le-leb, lt-leb, eqb-true, ne_eqb}
+use Rattle.std.proofs.Common.{◌≡◌, ◌↔◌, ◌<◌, ◌==◌, ℕ, zero, suc, true, false, List, [], ◌∷◌, refl, arith, inl, inr}
+use Rattle.std.proofs.lemmas.Bool.{and_parts, and_from, false≢true, cases_Bool, ltb-true, lt-ltb, leb-true, le-leb, eqb-true}
 use Rattle.std.proofs.lemmas.Bool.Decides.{nat_tests}
 use Rattle.std.proofs.lemmas.Str.Parse.{digit_from_value}
-use Rattle.std.proofs.lemmas.List.{reverse-append}
 use Rattle.std.specs.Char.{is_ascii_digit, digit_value}
 use Rattle.std.specs.List.{list_all}
 use Rattle.std.specs.Str.{IsAscii, IsUtf8}
 use Rattle.std.proofs.lemmas.Str.{IsUtf8-from_ascii}
-use Rattle.std.specs.Str.Parse.{AllDigits, IsNumeral, ParsesSigned, without_leading_sign, starts_with_minus, without_leading_plus}
+use Rattle.std.specs.Str.Parse.{AllDigits, IsNumeral, ParsesSigned, without_leading_sign}
 use Rattle.std.specs.Prelude.{ℤ, pos, negsuc, nat_abs, FitsSigned, nat_le, Result, Ok, Err, IfSome, IsSome}
 use Rattle.std.specs.Result.{result_ok}
 use Rattle.std.specs.Int.{w64}

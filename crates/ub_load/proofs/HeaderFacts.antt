@@ -1,18 +1,16 @@
 -- The names of the columns, one at a time, and that no two are the same.
-use Rattle.std.proofs.Common.{◌≡◌, ◌≢◌, ◌+◌, ◌<◌, ◌≤◌, ◌&&◌, ◌||◌, ℕ, zero, suc, Bool, true, false, not, List, [], ◌∷◌, ◌++◌, length, take, map, Option, Some, None, slice_get, slice_set, refl, sym, ap, ◌∙◌, arith, add-one, add-zero, ◌⊎◌, inl, inr}
+use Rattle.std.proofs.Common.{◌≡◌, ◌+◌, ◌<◌, ◌≤◌, ◌&&◌, ℕ, zero, suc, Bool, true, false, not, List, [], ◌∷◌, length, take, map, Option, Some, None, slice_get, slice_set, refl, sym, ap, ◌∙◌, arith, add-one, add-zero, ◌⊎◌, inl, inr}
 use Rattle.std.proofs.lemmas.Bool.{cases_Bool, and_parts, false≢true, not-true, le-ltb, lt-ltb}
 use Rattle.std.proofs.lemmas.Slice.Eq.{bytes_eq-Decides}
 use Rattle.std.proofs.Math.Seq.{take-suc-set}
 use Rattle.std.specs.List.{enumerate_from, list_any}
-use Rattle.std.specs.Prelude.{if◌then◌else◌, nat_lt}
 use Rattle.std.specs.Str.{bytes_eq}
 use Rattle.ub_page.specs.Name.{is_name}
 use Rattle.ub_page.specs.Schema.{AreCounts, AreDistinct}
-use Rattle.ub_load.specs.Field.{trimmed}
 use Rattle.ub_load.specs.Refusals.{first_of, header_refusals, name_refusal}
 use Rattle.ub_load.specs.declared.fault.LoadFault.{LoadFault}
 use Rattle.ub_load.specs.declared.fault.LoadFault.TheVariants.{BadName, ColumnCount}
-use Rattle.ub_load.proofs.RefusalFacts.{first-here, first-skip, take_one, length-taken}
+use Rattle.ub_load.proofs.RefusalFacts.{take_one}
 
 pub get-map : {X Y : Type 0} (h : X → Y) (xs : List X) (i : ℕ) (x : X) → slice_get xs i ≡ Some x → slice_get (map h xs) i ≡ Some (h x)
 get-map h [] i x e = cc

@@ -1,13 +1,12 @@
 -- What has been read of a text: the records so far, and the rows of those after the header.
-use Rattle.std.proofs.Common.{Bor, ◌≡◌, ◌≢◌, ◌≤◌, ◌<◌, ◌+◌, ℕ, zero, suc, true, false, List, [], ◌∷◌, ◌++◌, length, map, Option, Some, None, Result, Ok, Err, refl, sym, ap, ◌∙◌, arith, append_assoc, length-append, inl, inr, ◌⊎◌}
+use Rattle.std.proofs.Common.{Bor, ◌≡◌, ◌≢◌, ◌≤◌, ◌<◌, ◌+◌, ℕ, false, List, [], ◌∷◌, ◌++◌, length, map, Option, Some, None, Ok, refl, sym, ap, ◌∙◌, arith, append_assoc, length-append, inl, inr}
 use Rattle.std.proofs.lemmas.List.{map-append, length-map}
 use Rattle.std.proofs.lemmas.List.FromFn.{length-enumerate_from}
 use Rattle.std.specs.List.{enumerate_from, flat_map}
 use Rattle.csv.proofs.ReadFacts.{rows-more, rows-end}
-use Rattle.csv.specs.Reading.{AreRecords, Reached, Ready, RowStep, builder_config, builder_names_headers, builder_trim, default_config, names_headers, owned_rows_left, owned_rows_reader, reader_config, reader_headers, reader_state, reader_trim, records, source_of, strip_bom, with_names_headers}
+use Rattle.csv.specs.Reading.{Reached, Ready, RowStep, builder_config, builder_names_headers, builder_trim, default_config, names_headers, owned_rows_left, owned_rows_reader, reader_config, reader_headers, reader_state, reader_trim, source_of, strip_bom, with_names_headers}
 use Rattle.csv.specs.declared.reader.ReaderBuilder.{ReaderBuilder}
 use Rattle.csv.specs.Records.{Row as Fields, fields_of}
-use Rattle.csv.specs.declared.error.Error.{Error}
 use Rattle.csv.specs.declared.iter.ByteRecordsIntoIter.{ByteRecordsIntoIter}
 use Rattle.csv.specs.declared.parser.State.TheVariants as st
 use Rattle.csv.specs.declared.reader.Reader.{Reader}

@@ -1,6 +1,5 @@
 -- The values of a record's fields, one field at a time.
 use Rattle.std.proofs.Common.{Bor, ◌≡◌, ◌+◌, ◌-◌, ◌<◌, ◌≤◌, ℕ, zero, suc, List, [], ◌∷◌, ◌++◌, length, take, drop, map, replicate, slice_get, slice_set, Option, Some, None, refl, sym, ap, ◌∙◌, arith, length-append, add-one}
-use Rattle.std.proofs.lemmas.List.{map-append, length-map}
 use Rattle.std.specs.Prelude.{ℤ, pos, nat_abs, IsSome, option_map}
 use Rattle.csv.specs.Records.{field_at}
 use Rattle.ub_page.specs.declared.row.Row.{Row}

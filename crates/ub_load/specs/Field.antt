@@ -1,5 +1,5 @@
 -- What a field of a CSV record says.
-use Rattle.std.specs.Prelude.{◌≡◌, ℕ, ◌<◌, ◌==◌, ◌&&◌, Bool, nat_lt, ℤ, pos, negsuc, int_le, if◌then◌else◌, List, [], ◌∷◌, length, reverse}
+use Rattle.std.specs.Prelude.{ℕ, ◌==◌, ◌&&◌, Bool, nat_lt, ℤ, pos, negsuc, int_le, if◌then◌else◌, List, [], ◌∷◌, length, reverse}
 use Rattle.std.specs.List.{list_all}
 use Rattle.std.specs.Char.{is_ascii_digit}
 use Rattle.std.specs.Str.Parse.{without_leading_sign, signed_digits_value}

@@ -20,13 +20,13 @@ pub enum LoadFault {
     /// A field is a number that its column cannot hold.
     #[error("OutOfRange row {row} column {column}")]
     OutOfRange { row: u32, column: u32 },
-    /// `csv` refused a record, which is of another length than the header.
+    /// `csv` refused a record: it is of another length than the header, or reading failed, which a text in memory does not.
     #[error("Csv")]
     Csv,
     /// There are more rows than row numbers: 16777215.
     #[error("Full")]
     Full,
-    /// The memory for it was refused.
+    /// The memory for a record or for the rows was refused.
     #[error("Memory")]
     Memory,
 }

@@ -7,9 +7,8 @@ ghost use Rattle.std.specs.Str.Parse.{without_leading_sign};
 ghost use Rattle.ub_load.specs.Refusals.{field_refusal};
 ghost use Rattle.ub_load.specs.Field as spec;
 
-use std::str;
-
 use crate::fault::LoadFault;
+use std::str;
 
 /// The field without the spaces (32) at its two ends. No other byte is taken away, a tab neither.
 #[tactic(auto, unfolding(crate::specs::Field::trimmed))]
@@ -88,11 +87,9 @@ pub fn read_number(text: &[u8]) -> Option<i64>
 /// number. `BadNumber` where it is no number, and `OutOfRange` where its column cannot hold it.
 pub fn read_field(field: &[u8], place: usize, dims: u32, row: u32) -> Result<i64, LoadFault>
     requires { place < 2 ^ 31 }
-    ensures {
-        MatchResult result
-            (λ v. (field_refusal dims row (place, field.now) ≡ None) × (v ≡ spec.number_of (spec.trimmed field.now)) × (spec.fits_column (nat_lt place dims) v ≡ true))
-            (λ f. field_refusal dims row (place, field.now) ≡ Some f)
-    }
+    ensures { MatchResult result
+        (λ v. (field_refusal dims row (place, field.now) ≡ None) × (v ≡ spec.number_of (spec.trimmed field.now)) × (spec.fits_column (nat_lt place dims) v ≡ true))
+        (λ f. field_refusal dims row (place, field.now) ≡ Some f) }
 {
     let text = trim_spaces(field);
     let column = place as u32 + 1;

@@ -9,23 +9,25 @@ ghost use Rattle.ub_page.specs.Name.{is_name};
 ghost use Rattle.ub_load.specs.Field.{trimmed};
 ghost use Rattle.ub_load.specs.Refusals.{first_of, header_refusals, name_refusal};
 
-use csv::ByteRecord;
-use ub_page::{Name, Schema};
-
 use crate::fault::LoadFault;
 use crate::field::trim_spaces;
 use crate::row::field_at;
+use csv::ByteRecord;
+use ub_page::{Name, Schema};
 
 /// The schema of a table of this name whose columns are the header's fields, or the first thing that is wrong with them:
 /// `ColumnCount`, `BadName(0)` for the table's name, `BadName` for a column's.
-pub fn read_schema(header: &ByteRecord, dims: u32, page_rows: u32, name: &[u8]) -> Result<Schema, LoadFault>
+pub fn read_schema(
+    header: &ByteRecord,
+    dims: u32,
+    page_rows: u32,
+    name: &[u8],
+) -> Result<Schema, LoadFault>
     requires some_dims { 1 ≤ dims }
     requires few_dims { dims ≤ 4 }
     requires some_rows { 2 ≤ page_rows }
     requires few_rows { page_rows ≤ 64 }
-    ensures schema {
-        IfOk result (λ s. (s.name ≡ name.now) × (s.columns ≡ map trimmed (fields_of header.now)) × (s.dims ≡ dims) × (s.page_rows ≡ page_rows))
-    }
+    ensures schema { IfOk result (λ s. (s.name ≡ name.now) × (s.columns ≡ map trimmed (fields_of header.now)) × (s.dims ≡ dims) × (s.page_rows ≡ page_rows)) }
     ensures few_columns { OnOk result (length (fields_of header.now) ≤ dims + 4) }
     ensures accepted { OnOk result (first_of (header_refusals dims name.now (map trimmed (fields_of header.now))) ≡ None) }
     ensures refused { IfErr result (λ fault. first_of (header_refusals dims name.now (map trimmed (fields_of header.now))) ≡ Some fault) }
@@ -46,12 +48,8 @@ pub fn read_schema(header: &ByteRecord, dims: u32, page_rows: u32, name: &[u8]) 
 fn read_names(header: &ByteRecord, filler: Name) -> Result<[Name; 8], LoadFault>
     requires { length (fields_of header.now) ≤ 8 }
     ensures names { IfOk result (λ names. take (length (fields_of header.now)) names ≡ map trimmed (fields_of header.now)) }
-    ensures accepted {
-        OnOk result (first_of (map (name_refusal (map trimmed (fields_of header.now))) (enumerate_from 0 (map trimmed (fields_of header.now)))) ≡ None)
-    }
-    ensures refused {
-        IfErr result (λ fault. first_of (map (name_refusal (map trimmed (fields_of header.now))) (enumerate_from 0 (map trimmed (fields_of header.now)))) ≡ Some fault)
-    }
+    ensures accepted { OnOk result (first_of (map (name_refusal (map trimmed (fields_of header.now))) (enumerate_from 0 (map trimmed (fields_of header.now)))) ≡ None) }
+    ensures refused { IfErr result (λ fault. first_of (map (name_refusal (map trimmed (fields_of header.now))) (enumerate_from 0 (map trimmed (fields_of header.now)))) ≡ Some fault) }
 {
     let mut names = [filler; 8];
     for place in 0..header.len() {

@@ -1,4 +1,5 @@
-// From the text of a CSV file to the rows of a table.
+// From the text of a CSV file to the rows of a table: what a field says (field), the header as a schema (header), a record
+// as a row (row), and the whole text (table). Reading a file, storing rows and answering queries belong elsewhere.
 #![tactic(auto)]
 
 pub mod fault;
@@ -9,3 +10,6 @@ pub mod table;
 
 pub use fault::LoadFault;
 pub use table::LoadedTable;
+
+#[cfg(test)]
+mod tests;

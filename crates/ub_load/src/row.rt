@@ -7,11 +7,10 @@ ghost use Rattle.csv.specs.Records.{fields_of};
 ghost use Rattle.ub_load.specs.LoadedTable.{row_of};
 ghost use Rattle.ub_load.specs.Refusals.{field_refusal, first_of, record_refusals};
 
-use csv::ByteRecord;
-use ub_page::Row;
-
 use crate::fault::LoadFault;
 use crate::field::read_field;
+use csv::ByteRecord;
+use ub_page::Row;
 
 /// The most rows that a table has, since a row's number is less than 2^24.
 pub const MOST_ROWS: u32 = 16777215;

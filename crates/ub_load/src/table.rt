@@ -4,13 +4,12 @@ ghost use Rattle.std.specs.Prelude.{◌≡◌, ◌≢◌, ◌≤◌, Some, IfOk,
 ghost use Rattle.ub_load.specs.LoadedTable.{IsLoaded, records_of};
 ghost use Rattle.ub_load.specs.Refusals.{first_refusal};
 
-use csv::ReaderBuilder;
-use std::alloc::Global;
-use ub_page::{Row, Schema};
-
 use crate::fault::LoadFault;
 use crate::header::read_schema;
 use crate::row::read_row;
+use csv::ReaderBuilder;
+use std::alloc::Global;
+use ub_page::{Row, Schema};
 
 /// The table of a CSV text: its schema, and its rows in order, numbered from 1.
 #[derive(Drop)]
@@ -26,7 +25,13 @@ pub struct LoadedTable {
 /// The error is the first thing that is wrong, in the order of the text: `NoHeader`, `ColumnCount`, `BadName`, and then
 /// for each row `Csv` for a length other than the header's, `BadNumber` or `OutOfRange`, and `Full`. `Csv` comes only where
 /// `csv` refused a record, which is also where reading failed, and `Memory` only where memory was refused.
-pub fn read_table(alloc: Global, text: &[u8], dims: u32, page_rows: u32, name: &[u8]) -> Result<LoadedTable, LoadFault>
+pub fn read_table(
+    alloc: Global,
+    text: &[u8],
+    dims: u32,
+    page_rows: u32,
+    name: &[u8],
+) -> Result<LoadedTable, LoadFault>
     requires some_dims { 1 ≤ dims }
     requires few_dims { dims ≤ 4 }
     requires some_rows { 2 ≤ page_rows }

@@ -1,4 +1,3 @@
-use Rattle.std.proofs.Common.{rules}
 use Rattle.std.proofs.lemmas.Bool.{false≢true}
 use Rattle.ub_load.proofs.FieldFacts.{parsed_value, parsed_valid, utf8_from}
 use Rattle.ub_load.proofs.field.read_number.Goals as goal

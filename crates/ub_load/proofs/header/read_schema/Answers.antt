@@ -1,11 +1,9 @@
-use Rattle.std.proofs.Common.{rules, ◌≡◌, ◌<◌, ◌≤◌, ◌+◌, ◌-◌, length, map, take, sym, refl, ◌∙◌, ap, arith, inl, inr}
+use Rattle.std.proofs.Common.{length, map, take, refl, ◌∙◌, ap, arith, inl, inr}
 use Rattle.std.proofs.lemmas.Bool.{false≢true}
-use Rattle.std.proofs.lemmas.Grind.{common_steps}
 use Rattle.std.proofs.lemmas.List.{length-map}
 use Rattle.std.proofs.lemmas.Result.{err_from_is_err_and}
 use Rattle.csv.specs.Records.{fields_of}
 use Rattle.ub_load.specs.Field.{trimmed}
-use Rattle.ub_load.specs.Refusals.{first_of, name_refusal}
 use Rattle.ub_load.proofs.HeaderFacts.{header_of_few, header_with_bad_table, header_with_names, distinct_names, counts, never_true}
 use Rattle.ub_load.proofs.header.read_schema.Goals as goal
 use Rattle.ub_load.proofs.header.read_schema.Goals.{then-width-dims-via-then-width-dims, then-width-dims-via-else-width-dims+then-width-dims-2}
@@ -36,12 +34,11 @@ unwrap-requires c =
     let distinct = distinct_names (map trimmed (fields_of c.args.header.now)) c.in_ok-columns.ensures.accepted in
     let names = ap (λ n. take n c.in_ok-columns.columns) c.len-width.ensures ∙ c.in_ok-columns.ensures.names in
     c.new-2.ensures.valid.1
-    (rw names
-      (
-        counts (length (map trimmed (fields_of c.args.header.now))) c.args.dims c.args.page_rows c.requires.some_dims c.requires.few_dims (omega arith) (omega arith) c.requires.some_rows
+    (rw names (
+      counts (length (map trimmed (fields_of c.args.header.now))) c.args.dims c.args.page_rows c.requires.some_dims c.requires.few_dims (omega arith) (omega arith) c.requires.some_rows
           c.requires.few_rows,
-        distinct,
-      ))
+      distinct,
+    ))
 
 pub returns-clause-accepted : goal.returns-clause-accepted
 returns-clause-accepted c =

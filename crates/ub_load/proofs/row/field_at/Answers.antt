@@ -1,4 +1,3 @@
-use Rattle.std.proofs.Common.{rules}
 use Rattle.csv.specs.Records.{fields_of}
 use Rattle.ub_load.proofs.RowFacts.{got, got_is}
 use Rattle.ub_load.proofs.row.field_at.Goals as goal

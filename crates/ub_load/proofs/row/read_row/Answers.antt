@@ -1,4 +1,4 @@
-use Rattle.std.proofs.Common.{sym, ◌∙◌, arith, rules, length, ◌≡◌}
+use Rattle.std.proofs.Common.{sym, ◌∙◌, arith}
 use Rattle.std.proofs.lemmas.Result.{err_from_is_err_and}
 use Rattle.csv.specs.Records.{fields_of}
 use Rattle.ub_load.proofs.RefusalFacts.{record_of_other_length, record_with_bad_field, record_past_last, record_is_fine}
@@ -13,7 +13,7 @@ returns-in_err-row-clause-refused c =
     let p = err_from_is_err_and c.from_residual.result c.from_residual.ensures.1 in
     rw (p.1, p.2)
     (record_with_bad_field c.args.dims c.args.width c.args.number (fields_of c.args.fields.now) c.in_err-row.field-0.0 (sym c.len.ensures ∙ c.if-len-width.false)
-      c.in_err-row.ensures.refused)
+    c.in_err-row.ensures.refused)
 
 pub returns-then-number-gt-MOST_ROWS-clause-refused :
     goal.returns-then-number-gt-MOST_ROWS-clause-refused

@@ -1,10 +1,10 @@
-use Rattle.std.proofs.Common.{rules, ◌≡◌, ◌<◌, ◌≤◌, ◌+◌, length, map, None, Some, Bor, slice_get, sym, refl, ◌∙◌, arith, take}
+use Rattle.std.proofs.Common.{rules, sym, refl, arith}
 use Rattle.std.proofs.lemmas.Int.{to_z-of_z}
 use Rattle.std.specs.Int.{w64}
 use Rattle.std.specs.Prelude.{FitsSigned}
 use Rattle.std.proofs.lemmas.Result.{err_from_is_err_and}
 use Rattle.csv.specs.Records.{fields_of}
-use Rattle.ub_load.specs.Refusals.{field_refusal, first_of}
+use Rattle.ub_load.specs.Refusals.{field_refusal}
 use Rattle.ub_load.proofs.RowFacts.{row_of_none, row_with_coordinate, row_with_measure}
 use Rattle.ub_load.proofs.RefusalFacts.{each-more, each-refused}
 use Rattle.ub_load.proofs.row.read_values.Goals as goal
@@ -18,7 +18,7 @@ returns-in_err-value-clause-refused c =
     let p = err_from_is_err_and c.from_residual.result c.from_residual.ensures.1 in
     rw (p.1, p.2)
     (each-refused (field_refusal c.args.dims c.args.number) (fields_of c.args.fields.now) c.loop-place.place c.field_at.result.now c.in_err-value.field-0.0 c.field_at.ensures
-      c.loop-place.invariant.accepted c.in_err-value.ensures)
+    c.loop-place.invariant.accepted c.in_err-value.ensures)
 
 pub loop-place-preserved : goal.loop-place-preserved
 loop-place-preserved c =
@@ -29,12 +29,12 @@ loop-place-preserved c =
     record {
       row = elim c.if-place-dims.branch [
         | then-place-dims w ↦
-          row_with_coordinate c.args.dims c.args.number c.loop-place.place fs c.field_at.result.now c.loop-place.row c.if-place-dims.row c.in_ok-value.value c.field_at.ensures
-          c.loop-place.invariant.row w.if-place-dims.true c.requires.few_dims value (rw same at w.row-is)
+            row_with_coordinate c.args.dims c.args.number c.loop-place.place fs c.field_at.result.now c.loop-place.row c.if-place-dims.row c.in_ok-value.value c.field_at.ensures
+            c.loop-place.invariant.row w.if-place-dims.true c.requires.few_dims value (rw same at w.row-is)
         | else-place-dims w ↦
-          row_with_measure c.args.dims c.args.number c.loop-place.place fs c.field_at.result.now c.loop-place.row c.if-place-dims.row c.in_ok-value.value c.field_at.ensures
-          c.loop-place.invariant.row w.if-place-dims.false (omega arith) value (rw same at w.row-is)
+            row_with_measure c.args.dims c.args.number c.loop-place.place fs c.field_at.result.now c.loop-place.row c.if-place-dims.row c.in_ok-value.value c.field_at.ensures
+            c.loop-place.invariant.row w.if-place-dims.false (omega arith) value (rw same at w.row-is)
       ];
       accepted = each-more (field_refusal c.args.dims c.args.number) fs c.loop-place.place c.field_at.result.now c.field_at.ensures
-        c.loop-place.invariant.accepted c.in_ok-value.ensures.0;
+          c.loop-place.invariant.accepted c.in_ok-value.ensures.0;
     }
