@@ -1,0 +1,3 @@
+pub mod HeldFacts
+pub mod LineFacts
+pub mod RunFacts

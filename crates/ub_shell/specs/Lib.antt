@@ -1,0 +1,5 @@
+pub mod Counts
+pub mod Faults
+pub mod Text
+pub mod Script
+pub mod Run
