@@ -1,5 +1,5 @@
 -- Two bounds are a literal at the front, AND, and a literal that is all the rest.
-use Rattle.std.proofs.Common.{◌≡◌, ◌≢◌, ◌↔◌, ◌≤◌, ◌+◌, ℕ, ℤ, List, [], ◌∷◌, ◌++◌, length, take, drop, Option, Some, None, refl, sym, ap, ◌∙◌, subst, arith, codes}
+use Rattle.std.proofs.Common.{◌≡◌, ◌≢◌, ◌↔◌, ◌≤◌, ℕ, ℤ, List, [], ◌∷◌, ◌++◌, length, take, drop, Option, Some, None, refl, sym, ap, ◌∙◌, subst, arith, codes}
 use Rattle.std.proofs.lemmas.List.{length-append, take-append-drop}
 use Rattle.std.proofs.Math.Seq.{take-length, take-append_seam, drop-append_seam}
 use Rattle.std.proofs.lemmas.Int.{to_z-of_z}
@@ -118,8 +118,8 @@ bounds_found ls o l x rest p k r first some e keyword next found len is low high
     let literal : IsLiteral rest k.value = let P : List Lexeme → Type 0 = λ xs. IsLiteral xs k.value in subst P all back.1 in
     some_iff (AreBoundsOf ls) r (l.value, k.value) is (x, take l.len ls, rest, joined, front.1, keyword, literal)
     (λ q h.
-      let u = upper_of ls o l first some q.0 q.1 h in
-      let high_is = (upper_is (drop l.len ls) x rest p k e next found q.1 u.1).1 in
-      let low_is = u.0 in
-      rw (← low_is, high_is) refl)
+    let u = upper_of ls o l first some q.0 q.1 h in
+    let high_is = (upper_is (drop l.len ls) x rest p k e next found q.1 u.1).1 in
+    let low_is = u.0 in
+    rw (← low_is, high_is) refl)
     (low, high)

@@ -1,5 +1,5 @@
 -- A condition is a name, BETWEEN and two bounds.
-use Rattle.std.proofs.Common.{◌≡◌, ◌↔◌, ℕ, ℤ, List, [], ◌∷◌, Option, Some, None, refl, sym, ap, ◌∙◌, subst, codes}
+use Rattle.std.proofs.Common.{◌≡◌, ◌↔◌, ℕ, ℤ, List, ◌∷◌, Option, Some, None, refl, sym, ap, ◌∙◌, subst, codes}
 use Rattle.std.proofs.lemmas.Int.{to_z-of_z}
 use mir.Syntax.{w128}
 use mir.Val.{SFits, to_z, of_z}
@@ -35,8 +35,13 @@ parts schema ls name between bounds e (Between column low high) h =
     let K : Lexeme → Type 0 = λ l. IsKeyword (codes "BETWEEN") l in
     let B : List Lexeme → Type 0 = λ xs. AreBounds xs low high in
     record {
-      column = column; low = low; high = high; is = refl;
-      dimension = subst D same_name h.4; keyword = subst K same_between h.5; bounds = subst B same_bounds h.6;
+      column = column;
+      low = low;
+      high = high;
+      is = refl;
+      dimension = subst D same_name h.4;
+      keyword = subst K same_between h.5;
+      bounds = subst B same_bounds h.6;
     }
 
 abbrev IsAnswer : Schema → List Lexeme → Option Cond → Type 0
@@ -67,10 +72,10 @@ condition_found schema ls name between bounds o k p low high r e keyword of some
     some_iff (IsCondition schema ls) r (Between k low high) is
     (name, between, bounds, e, (of k).0 some, keyword, (bound low high).0 given)
     (λ c h.
-      let q = parts schema ls name between bounds e c h in
-      let column : k ≡ q.column = some_only (IsDimension schema name) o of k q.column some q.dimension in
-      let pair : ◌≡◌ {A = ℤ × ℤ} (low, high) (q.low, q.high) =
-        some_only (λ x. AreBounds bounds x.0 x.1) p (λ x. bound x.0 x.1) (low, high) (q.low, q.high) given q.bounds in
-      let lower : low ≡ q.low = ap (λ (x : ℤ × ℤ). x.0) pair in
-      let upper : high ≡ q.high = ap (λ (x : ℤ × ℤ). x.1) pair in
-      rw (column, lower, upper) (sym q.is))
+    let q = parts schema ls name between bounds e c h in
+    let column : k ≡ q.column = some_only (IsDimension schema name) o of k q.column some q.dimension in
+    let pair : ◌≡◌ {A = ℤ × ℤ} (low, high) (q.low, q.high) =
+    some_only (λ x. AreBounds bounds x.0 x.1) p (λ x. bound x.0 x.1) (low, high) (q.low, q.high) given q.bounds in
+    let lower : low ≡ q.low = ap (λ (x : ℤ × ℤ). x.0) pair in
+    let upper : high ≡ q.high = ap (λ (x : ℤ × ℤ). x.1) pair in
+    rw (column, lower, upper) (sym q.is))

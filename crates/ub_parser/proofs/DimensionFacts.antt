@@ -1,5 +1,5 @@
 -- The place of a name among the first of some names, no two of which are one.
-use Rattle.std.proofs.Common.{◌≡◌, ◌≢◌, ◌↔◌, ◌≤◌, ◌<◌, ◌+◌, ◌⊎◌, inl, inr, ℕ, zero, suc, List, [], ◌∷◌, length, take, Option, Some, None, Bool, true, false, cond, slice_get, IfSome, refl, sym, ap, ◌∙◌, subst, arith, add-one}
+use Rattle.std.proofs.Common.{◌≡◌, ◌↔◌, ◌≤◌, ◌<◌, ◌+◌, inl, inr, ℕ, zero, suc, List, [], ◌∷◌, length, take, Option, Some, None, true, false, slice_get, IfSome, refl, sym, ap, ◌∙◌, subst, arith}
 use Rattle.std.specs.List.{position_from}
 use Rattle.std.specs.Str.{bytes_eq}
 use Rattle.std.proofs.lemmas.Bool.{cases_Bool, cases_order}
@@ -7,7 +7,6 @@ use Rattle.std.proofs.lemmas.Option.{slice_get_within}
 use Rattle.std.proofs.lemmas.Slice.Eq.{bytes_eq-Decides}
 use Rattle.ub_page.specs.Schema.{AreDistinct}
 use Rattle.ub_page.specs.declared.schema.Schema.{Schema}
-use Rattle.ub_lexer.specs.declared.token.TokenKind.{TokenKind}
 use Rattle.ub_lexer.specs.declared.token.TokenKind.TheVariants.{Word}
 use Rattle.ub_parser.specs.Grammar.{Lexeme, IsDimension}
 use Rattle.ub_parser.proofs.OptionFacts.{none_iff, some_iff}
@@ -86,8 +85,7 @@ place_iff names n text distinct = by_answer names n text distinct (place_from 0 
 pub dimension_iff : (schema : Schema) (l : Lexeme) (names : List (List ℕ)) (r : Option ℕ) → l.kind ≡ Word → names ≡ schema.columns → AreDistinct names
     → r ≡ place_from 0 l.text (take schema.dims names) → (column : ℕ) → (r ≡ Some column) ↔ IsDimension schema l column
 dimension_iff schema l names r kind all distinct is column =
-    let p = place_iff names schema.dims l.text distinct column in
-    (
+    let p = place_iff names schema.dims l.text distinct column in (
       λ e. let h = p.0 (sym is ∙ e) in (kind, ap (λ (ns : List (List ℕ)). slice_get ns column) (sym all) ∙ h.0, h.1),
       λ h. is ∙ p.1 (ap (λ (ns : List (List ℕ)). slice_get ns column) all ∙ h.1, h.2),
     )

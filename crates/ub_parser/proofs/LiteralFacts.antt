@@ -1,12 +1,11 @@
 -- A list of lexemes begins with one literal at most.
-use Rattle.std.proofs.Common.{◌≡◌, ◌≢◌, ◌↔◌, ◌≤◌, ◌+◌, ◌⊎◌, inl, inr, ℕ, ℤ, pos, neg_ℤ, List, [], ◌∷◌, ◌++◌, length, take, drop, Option, Some, None, refl, sym, ap, ◌∙◌, subst, arith}
+use Rattle.std.proofs.Common.{◌≡◌, ◌≢◌, ◌↔◌, ◌≤◌, ◌⊎◌, inl, inr, ℕ, ℤ, pos, neg_ℤ, List, [], ◌∷◌, ◌++◌, length, take, drop, Option, Some, None, refl, sym, ap, ◌∙◌, subst, arith}
 use Rattle.std.proofs.lemmas.List.{length-take, take-append-drop}
-use Rattle.ub_lexer.specs.declared.token.TokenKind.{TokenKind}
 use Rattle.ub_lexer.specs.declared.token.TokenKind.TheVariants.{Number, Minus}
-use Rattle.ub_parser.specs.Grammar.{Lexeme, IsMagnitude, IsLiteral}
+use Rattle.ub_parser.specs.Grammar.{Lexeme, IsMagnitude}
 use Rattle.ub_parser.specs.Parts.{BeginsWith, plain, negated}
 use Rattle.ub_parser.specs.declared.literal.Literal.{Literal}
-use Rattle.ub_parser.proofs.OptionFacts.{none_iff, some_iff, none_no, some_only}
+use Rattle.ub_parser.proofs.OptionFacts.{none_iff, some_iff, none_no}
 
 literal_is : (l : Literal) (v : ℤ) (n : ℕ) → l.value ≡ v → l.len ≡ n → l ≡ record { value = v; len = n }
 literal_is l v n e f = rw (← e, ← f) refl
@@ -87,33 +86,33 @@ pub minus_none : (ls : List Lexeme) (m d : Lexeme) (rest : List Lexeme) (o : Opt
     → ((n : ℕ) → (o ≡ Some n) ↔ IsMagnitude d n) → o ≡ None → r ≡ None → (l : Literal) → (r ≡ Some l) ↔ BeginsWith ls l
 minus_none ls m d rest o r e kind of none is = none_iff (BeginsWith ls) r is
     (λ l h. let q = after_minus ls m (d ∷ rest) e kind l h in
-      let same : m ∷ d ∷ rest ≡ q.minus ∷ q.digits ∷ q.rest = sym e ∙ q.front in
-      let digits : q.digits ≡ d = cc in
-      none_no (IsMagnitude d) o of none q.size (magnitude_at q.digits d q.size digits q.magnitude))
+    let same : m ∷ d ∷ rest ≡ q.minus ∷ q.digits ∷ q.rest = sym e ∙ q.front in
+    let digits : q.digits ≡ d = cc in
+    none_no (IsMagnitude d) o of none q.size (magnitude_at q.digits d q.size digits q.magnitude))
 
 pub minus_some : (ls : List Lexeme) (m d : Lexeme) (rest : List Lexeme) (o : Option ℕ) (n : ℕ) (r : Option Literal) → ls ≡ m ∷ d ∷ rest → m.kind ≡ Minus
     → ((n : ℕ) → (o ≡ Some n) ↔ IsMagnitude d n) → o ≡ Some n → r ≡ Some (negated n) → (l : Literal) → (r ≡ Some l) ↔ BeginsWith ls l
 minus_some ls m d rest o n r e kind of some is = some_iff (BeginsWith ls) r (negated n) is (begins_negated ls m d rest n e kind ((of n).0 some))
     (λ l h. let q = after_minus ls m (d ∷ rest) e kind l h in
-      let same : m ∷ d ∷ rest ≡ q.minus ∷ q.digits ∷ q.rest = sym e ∙ q.front in
-      let digits : q.digits ≡ d = cc in
-      let size : n ≡ q.size = magnitude_only d n q.size ((of n).0 some) (magnitude_at q.digits d q.size digits q.magnitude) in
-      ap negated size ∙ sym q.is)
+    let same : m ∷ d ∷ rest ≡ q.minus ∷ q.digits ∷ q.rest = sym e ∙ q.front in
+    let digits : q.digits ≡ d = cc in
+    let size : n ≡ q.size = magnitude_only d n q.size ((of n).0 some) (magnitude_at q.digits d q.size digits q.magnitude) in
+    ap negated size ∙ sym q.is)
 
 -- what is answered where another lexeme stands first
 pub plain_none : (ls : List Lexeme) (d : Lexeme) (rest : List Lexeme) (o : Option ℕ) (r : Option Literal) → ls ≡ d ∷ rest → d.kind ≢ Minus
     → ((n : ℕ) → (o ≡ Some n) ↔ IsMagnitude d n) → o ≡ None → r ≡ None → (l : Literal) → (r ≡ Some l) ↔ BeginsWith ls l
 plain_none ls d rest o r e kind of none is = none_iff (BeginsWith ls) r is
     (λ l h. let q = without_minus ls d rest e kind l h in
-      let same : d ∷ rest ≡ q.digits ∷ q.rest = sym e ∙ q.front in
-      let digits : q.digits ≡ d = cc in
-      none_no (IsMagnitude d) o of none q.size (magnitude_at q.digits d q.size digits q.magnitude))
+    let same : d ∷ rest ≡ q.digits ∷ q.rest = sym e ∙ q.front in
+    let digits : q.digits ≡ d = cc in
+    none_no (IsMagnitude d) o of none q.size (magnitude_at q.digits d q.size digits q.magnitude))
 
 pub plain_some : (ls : List Lexeme) (d : Lexeme) (rest : List Lexeme) (o : Option ℕ) (n : ℕ) (r : Option Literal) → ls ≡ d ∷ rest → d.kind ≢ Minus
     → ((n : ℕ) → (o ≡ Some n) ↔ IsMagnitude d n) → o ≡ Some n → r ≡ Some (plain n) → (l : Literal) → (r ≡ Some l) ↔ BeginsWith ls l
 plain_some ls d rest o n r e kind of some is = some_iff (BeginsWith ls) r (plain n) is (begins_plain ls d rest n e ((of n).0 some))
     (λ l h. let q = without_minus ls d rest e kind l h in
-      let same : d ∷ rest ≡ q.digits ∷ q.rest = sym e ∙ q.front in
-      let digits : q.digits ≡ d = cc in
-      let size : n ≡ q.size = magnitude_only d n q.size ((of n).0 some) (magnitude_at q.digits d q.size digits q.magnitude) in
-      ap plain size ∙ sym q.is)
+    let same : d ∷ rest ≡ q.digits ∷ q.rest = sym e ∙ q.front in
+    let digits : q.digits ≡ d = cc in
+    let size : n ≡ q.size = magnitude_only d n q.size ((of n).0 some) (magnitude_at q.digits d q.size digits q.magnitude) in
+    ap plain size ∙ sym q.is)

@@ -1,5 +1,5 @@
 -- When an answer is just the value of which something holds.
-use Rattle.std.proofs.Common.{◌≡◌, ◌↔◌, Bool, true, false, IsTrue, Option, Some, None, refl, sym, ap, ◌∙◌, subst}
+use Rattle.std.proofs.Common.{◌≡◌, ◌↔◌, Bool, true, false, IsTrue, Option, Some, None, sym, ap, ◌∙◌, subst}
 
 module _ {A : Type 0} where
   -- nothing is answered, and it holds of nothing

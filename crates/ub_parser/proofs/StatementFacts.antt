@@ -1,14 +1,12 @@
 -- A statement is SELECT * FROM, a name, WHERE and a condition.
-use Rattle.std.proofs.Common.{◌≡◌, ◌↔◌, ℕ, List, [], ◌∷◌, Option, Some, None, refl, sym, ap, ◌∙◌, subst, codes}
+use Rattle.std.proofs.Common.{◌≡◌, ◌↔◌, List, ◌∷◌, Option, Some, None, refl, sym, ap, ◌∙◌, subst, codes}
 use Rattle.ub_page.specs.declared.schema.Schema.{Schema}
-use Rattle.ub_lexer.specs.declared.token.TokenKind.{TokenKind}
 use Rattle.ub_lexer.specs.declared.token.TokenKind.TheVariants.{Star}
 use Rattle.ub_parser.specs.declared.statement.Cond.{Cond}
-use Rattle.ub_parser.specs.declared.statement.Query.{Query}
 use Rattle.ub_parser.specs.declared.statement.Statement.{Statement}
 use Rattle.ub_parser.specs.declared.statement.Statement.TheVariants.{Select}
 use Rattle.ub_parser.specs.Grammar.{Lexeme, IsKeyword, IsNamed, IsCondition, IsStatement}
-use Rattle.ub_parser.proofs.OptionFacts.{none_iff, some_iff, none_no, some_only}
+use Rattle.ub_parser.proofs.OptionFacts.{none_iff, some_iff, some_only}
 
 -- the parts of a statement
 pub record IsParts (schema : Schema) (select star from name where' : Lexeme) (rest : List Lexeme) (s : Statement) : Type 0 where
@@ -38,9 +36,14 @@ parts schema ls select star from name where' condition e (Select q) h =
     let W : Lexeme → Type 0 = λ l. IsKeyword (codes "WHERE") l in
     let C : List Lexeme → Type 0 = λ xs. IsCondition schema xs q.filter in
     record {
-      filter = q.filter; is = refl;
-      select_keyword = subst S same_select h.7; star_kind = subst K same_star h.8; from_keyword = subst F same_from h.9;
-      table = subst N same_name h.10; where_keyword = subst W same_where h.11; condition = subst C same_condition h.12;
+      filter = q.filter;
+      is = refl;
+      select_keyword = subst S same_select h.7;
+      star_kind = subst K same_star h.8;
+      from_keyword = subst F same_from h.9;
+      table = subst N same_name h.10;
+      where_keyword = subst W same_where h.11;
+      condition = subst C same_condition h.12;
     }
 
 abbrev IsAnswer : Schema → List Lexeme → Option Statement → Type 0
@@ -59,6 +62,6 @@ statement_found schema ls select star from name where' condition o filter r e se
     some_iff (IsStatement schema ls) r (Select (record { filter = filter })) is
     (select, star, from, name, where', condition, e, select_is, star_is, from_is, name_is, where_is, (of filter).0 some)
     (λ s h.
-      let p = parts schema ls select star from name where' condition e s h in
-      let same : filter ≡ p.filter = some_only (IsCondition schema condition) o of filter p.filter some p.condition in
-      ap (λ (c : Cond). Select (record { filter = c })) same ∙ sym p.is)
+    let p = parts schema ls select star from name where' condition e s h in
+    let same : filter ≡ p.filter = some_only (IsCondition schema condition) o of filter p.filter some p.condition in
+    ap (λ (c : Cond). Select (record { filter = c })) same ∙ sym p.is)

@@ -1,7 +1,6 @@
 -- Tokens after the first, and their lexemes.
-use Rattle.std.proofs.Common.{◌≡◌, ◌≤◌, ◌<◌, ◌+◌, ◌-◌, ℕ, zero, suc, List, [], ◌∷◌, length, take, drop, map, get_or, refl, sym, ap, ◌∙◌, arith, subst}
-use Rattle.std.specs.List.{All}
-use Rattle.std.proofs.lemmas.List.{length-map, length-drop, drop-map, take_all}
+use Rattle.std.proofs.Common.{◌≡◌, ◌≤◌, ◌-◌, ℕ, suc, List, [], ◌∷◌, length, take, drop, get_or, refl, sym, ap, ◌∙◌, arith, subst}
+use Rattle.std.proofs.lemmas.List.{length-drop, drop-map, take_all}
 use Rattle.std.proofs.lemmas.List.Elements.{All-drop}
 use Rattle.ub_lexer.specs.declared.token.Token.{Token}
 use Rattle.ub_lexer.specs.declared.token.TokenKind.TheVariants.{Word}
@@ -79,9 +78,9 @@ two_bound source ts h =
 
 pub five_bound : (source : List ℕ) (ts : List Token) → 5 ≤ length ts
     → lexemes source ts ≡ lexeme source (at ts 0) ∷ lexeme source (at ts 1) ∷ lexeme source (at ts 2) ∷ lexeme source (at ts 3) ∷ lexeme source (at ts 4)
-      ∷ lexemes source (take (length ts - 5) (drop 5 ts))
+    ∷ lexemes source (take (length ts - 5) (drop 5 ts))
 five_bound source ts h =
     ap (lexemes source) (first_five ts blank blank blank blank blank h)
     ∙ ap
-      (λ (rest : List Token). lexeme source (at ts 0) ∷ lexeme source (at ts 1) ∷ lexeme source (at ts 2) ∷ lexeme source (at ts 3) ∷ lexeme source (at ts 4) ∷ lexemes source rest)
-      (sym (rest_is ts 5))
+    (λ (rest : List Token). lexeme source (at ts 0) ∷ lexeme source (at ts 1) ∷ lexeme source (at ts 2) ∷ lexeme source (at ts 3) ∷ lexeme source (at ts 4) ∷ lexemes source rest)
+    (sym (rest_is ts 5))

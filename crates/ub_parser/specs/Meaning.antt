@@ -1,5 +1,5 @@
 -- The meaning of a query on a table (SQL): a list of rows of cells.
-use Rattle.std.specs.Prelude.{◌<◌, ◌+◌, ℕ, ℤ, List, length, map}
+use Rattle.std.specs.Prelude.{◌<◌, ℕ, ℤ, List, length, map}
 use Rattle.std.specs.List.{filter, enumerate_from}
 use Rattle.ub_page.specs.Table.{Table, column_value}
 use Rattle.ub_page.specs.declared.row.Row.{Row}

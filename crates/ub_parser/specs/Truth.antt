@@ -1,5 +1,5 @@
 -- Whether a condition holds of a row (SQL's search condition; no value is null, so it is true or false).
-use Rattle.std.specs.Prelude.{ℕ, Bool, ◌&&◌, ℤ, int_le}
+use Rattle.std.specs.Prelude.{ℕ, Bool, ◌&&◌, int_le}
 use Rattle.ub_page.specs.Table.{column_value}
 use Rattle.ub_page.specs.declared.row.Row.{Row}
 use Rattle.ub_parser.specs.declared.statement.Cond.{Cond}

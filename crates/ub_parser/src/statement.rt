@@ -16,7 +16,11 @@ pub struct Query {
 #[derive(Clone, Copy, PartialEq, Eq, Debug)]
 pub enum Cond {
     /// The value in a column (from 0, dimensions first) is at least `low` and at most `high`.
-    Between { column: usize, low: i128, high: i128 },
+    Between {
+        column: usize,
+        low: i128,
+        high: i128,
+    },
 }
 
 impl Cond {
@@ -35,5 +39,47 @@ impl Cond {
                 *low <= value && value <= *high
             }
         }
+    }
+}
+
+#[cfg(test)]
+mod tests {
+    use super::*;
+    use std::test::Fail;
+    use ub_page::{Name, PageFault};
+
+    // A table t of the dimensions x and y and the measure m.
+    fn table() -> Result<Schema, PageFault> {
+        let columns = [Name::new(b"x")?, Name::new(b"y")?, Name::new(b"m")?];
+        Schema::new(Name::new(b"t")?, &columns, 2, 2)
+    }
+
+    fn row(number: u32, x: u32, y: u32, m: i64) -> Row {
+        Row {
+            number,
+            dims: [x, y, 0, 0],
+            measures: [m, 0, 0, 0],
+        }
+    }
+
+    #[test]
+    fn holds_within_the_bounds(rt: HostRuntime) -> Result<(), Fail> {
+        let schema = table()?;
+        assert!(rt; schema.columns().len() == 3);
+        let first = Cond::Between {
+            column: 0,
+            low: 2,
+            high: 3,
+        };
+        assert!(rt; first.truth(&schema, &row(1, 2, 3, 20)));
+        assert!(rt; !first.truth(&schema, &row(2, 1, 1, 10)));
+        let last = Cond::Between {
+            column: 2,
+            low: -5,
+            high: 10,
+        };
+        assert!(rt; last.truth(&schema, &row(2, 1, 1, 10)));
+        assert!(rt; !last.truth(&schema, &row(1, 2, 3, 20)));
+        Ok(())
     }
 }

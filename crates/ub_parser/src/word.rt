@@ -1,5 +1,6 @@
 ghost use Rattle.std.specs.Prelude.{◌≡◌, ◌↔◌, IsTrue};
 ghost use Rattle.ub_lexer.specs.Tokens.{text_of};
+ghost use Rattle.ub_page.specs.Name as spec;
 ghost use Rattle.ub_parser.specs.Grammar.{IsKeyword, IsNamed, lexeme};
 ghost use Rattle.ub_parser.specs.Parts.{IsSpelled};
 
@@ -29,8 +30,7 @@ pub(crate) fn is_named(source: &[u8], token: &Token, name: &[u8]) -> bool
     token.kind == TokenKind::Word && text(source, token) == name
 }
 
-ghost use Rattle.ub_page.specs.Name as spec;
-
+// Whether the two are one word, in any mix of cases.
 fn is_word(word: &[u8], text: &[u8]) -> bool
     ensures { result ≡ spec.is_word word.now text.now }
 {

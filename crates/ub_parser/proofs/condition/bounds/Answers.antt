@@ -1,9 +1,7 @@
 -- Each way to answer, by what stands first, what follows it and what ends it.
-use Rattle.std.proofs.Common.{◌≡◌, ◌∙◌, ap, refl, sym, rules, ℕ, List, ◌∷◌, Some, None, Option, drop, arith}
-use Rattle.std.proofs.lemmas.List.{drop-map, length-map}
-use Rattle.ub_lexer.specs.declared.token.Token.{Token}
-use Rattle.ub_lexer.specs.Tokens.{AreSpelled}
-use Rattle.ub_parser.specs.Grammar.{Lexeme, lexeme, lexemes}
+use Rattle.std.proofs.Common.{◌∙◌, refl, sym, rules}
+use Rattle.std.proofs.lemmas.List.{length-map}
+use Rattle.ub_parser.specs.Grammar.{lexeme, lexemes}
 use Rattle.ub_parser.proofs.TokenFacts.{first_spelled, rest_spelled, first_lexeme, no_lexemes, drop_spelled, drop_lexemes}
 use Rattle.ub_parser.proofs.BoundsFacts.{copied, bounds_no_low, bounds_no_upper, bounds_found, upper_ends, upper_other, upper_none, upper_longer}
 use Rattle.ub_parser.proofs.OptionFacts.{untrue}
@@ -29,7 +27,7 @@ returns-then-not-is_keyword c =
     let rest = drop_lexemes c.args.source.now c.args.tokens.now c.in_ok-low.low.len _ c.split_at.ensures.back in
     bounds_no_upper ls c.first.result c.in_ok-low.low _ c.first.ensures.is c.in_ok-low.was
     (upper_other _ (lexeme c.args.source.now c.in_ok-and.and.now) _ (rest ∙ first_lexeme c.args.source.now _ _ _ c.in_ok-and.ensures.cases.0)
-      (λ k. untrue c.is_keyword.result c.if-not-is_keyword.true (c.is_keyword.ensures.1 k))) refl
+    (λ k. untrue c.is_keyword.result c.if-not-is_keyword.true (c.is_keyword.ensures.1 k))) refl
 
 pub first-requires-2 : goal.first-requires-2
 first-requires-2 c =
@@ -41,7 +39,7 @@ returns-in_err-high c =
     let rest = drop_lexemes c.args.source.now c.args.tokens.now c.in_ok-low.low.len _ c.split_at.ensures.back in
     bounds_no_upper ls c.first.result c.in_ok-low.low _ c.first.ensures.is c.in_ok-low.was
     (upper_none _ (lexeme c.args.source.now c.in_ok-and.and.now) _ c.first-2.result (rest ∙ first_lexeme c.args.source.now _ _ _ c.in_ok-and.ensures.cases.0)
-      c.first-2.ensures.is c.in_err-high.was) c.from_residual-in_err-high.ensures
+    c.first-2.ensures.is c.in_err-high.was) c.from_residual-in_err-high.ensures
 
 pub returns-then-high-after_and : goal.returns-then-high-after_and
 returns-then-high-after_and c =
@@ -49,7 +47,7 @@ returns-then-high-after_and c =
     let rest = drop_lexemes c.args.source.now c.args.tokens.now c.in_ok-low.low.len _ c.split_at.ensures.back in
     bounds_no_upper ls c.first.result c.in_ok-low.low _ c.first.ensures.is c.in_ok-low.was
     (upper_longer _ (lexeme c.args.source.now c.in_ok-and.and.now) _ c.first-2.result c.in_ok-high.high (rest ∙ first_lexeme c.args.source.now _ _ _ c.in_ok-and.ensures.cases.0)
-      c.first-2.ensures.is c.in_ok-high.was (λ e. c.if-high-after_and.true (e ∙ length-map c.in_ok-and.after_and.now (λ t. lexeme c.args.source.now t)))) refl
+    c.first-2.ensures.is c.in_ok-high.was (λ e. c.if-high-after_and.true (e ∙ length-map c.in_ok-and.after_and.now (λ t. lexeme c.args.source.now t)))) refl
 
 pub returns : goal.returns
 returns c =

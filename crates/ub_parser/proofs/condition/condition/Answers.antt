@@ -1,10 +1,5 @@
 -- The ways to answer where a name and BETWEEN stand first.
-use Rattle.std.proofs.Common.{◌≡◌, ◌∙◌, ap, refl, sym, rules, arith, ℕ, ℤ, List, ◌∷◌, Some, None, Option, take, drop, length, get_or, ◌-◌}
-use Rattle.ub_lexer.specs.declared.token.Token.{Token}
-use Rattle.ub_lexer.specs.declared.token.TokenKind.TheVariants.{Word}
-use Rattle.ub_parser.specs.declared.statement.Cond.{Cond}
-use Rattle.ub_parser.specs.declared.statement.Cond.TheVariants.{Between}
-use Rattle.ub_parser.specs.Grammar.{Lexeme, lexeme, lexemes, IsCondition}
+use Rattle.std.proofs.Common.{rules}
 use Rattle.ub_parser.proofs.TokenFacts.{two_bound}
 use Rattle.ub_parser.proofs.ConditionFacts.{stored, other_bounds, condition_found}
 use Rattle.ub_parser.proofs.condition.condition.Goals as goal

@@ -1,5 +1,5 @@
 -- A number's bytes are ASCII, and so they are text.
-use Rattle.std.proofs.Common.{◌≡◌, ℕ, Option, None, refl}
+use Rattle.std.proofs.Common.{None, refl}
 use Rattle.std.proofs.lemmas.Fmt.{IsAscii-from_digits}
 use Rattle.std.proofs.lemmas.Str.{IsUtf8-from_ascii}
 use Rattle.ub_parser.specs.Grammar.{IsMagnitude, lexeme}

@@ -1,6 +1,5 @@
 -- The ways to answer where there are five tokens, by the first that is not as it must be.
-use Rattle.std.proofs.Common.{◌≡◌, ◌∙◌, ap, refl, sym, rules, arith, ℕ, List, ◌∷◌, Some, None, Option, take, drop, length, get_or, ◌-◌}
-use Rattle.ub_parser.specs.Grammar.{Lexeme, lexeme, lexemes}
+use Rattle.std.proofs.Common.{◌∙◌, refl, sym, rules}
 use Rattle.ub_parser.proofs.OptionFacts.{untrue, none_no}
 use Rattle.ub_parser.proofs.TokenFacts.{five_bound, after_spelled}
 use Rattle.ub_parser.proofs.StatementFacts.{statement_none, statement_found}

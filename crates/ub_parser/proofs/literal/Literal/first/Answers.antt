@@ -1,7 +1,7 @@
 -- Each way to answer, by what stands first.
-use Rattle.std.proofs.Common.{◌≡◌, ◌∙◌, ap, refl, sym, rules, ℕ, List, ◌∷◌, Some, None, Option}
+use Rattle.std.proofs.Common.{ap, rules, Some}
 use Rattle.ub_parser.specs.declared.literal.Literal.{Literal}
-use Rattle.ub_parser.specs.Grammar.{Lexeme, lexeme, lexemes}
+use Rattle.ub_parser.specs.Grammar.{lexeme}
 use Rattle.ub_parser.proofs.TokenFacts.{first_spelled, rest_spelled, first_lexeme, two_lexemes, no_lexemes}
 use Rattle.ub_parser.proofs.LiteralFacts.{minus_alone, minus_none, minus_some, plain_none, plain_some}
 use Rattle.ub_parser.proofs.literal.Literal.first.Goals as goal
