@@ -1,0 +1,13 @@
+// Tests that cross crates: from a CSV text and a script, or a command line, to the lines that are written. The values
+// come from worked rows and hand arithmetic, never from the program's own output.
+#![tactic(auto)]
+
+#[cfg(test)]
+mod scripts;
+#[cfg(test)]
+mod tables;
+#[cfg(test)]
+mod writers;
+
+/// The CSV text of a small table: two dimensions, one measure, five rows, two of them at one point.
+pub const SMALL_TABLE: &str = "x,y,m\n1,1,10\n2,3,20\n3,0,5\n0,2,7\n2,3,1\n";

@@ -1,0 +1,57 @@
+use std::alloc::Global;
+use std::str;
+use std::test::Fail;
+use ub_load::LoadFault;
+use ub_shell::{Over, RunFault, Summary, try_text};
+
+const ALL_ROWS: &[u8] = b"SELECT * FROM t WHERE x BETWEEN 0 AND 4294967295;";
+
+fn run(alloc: Global, csv: &[u8]) -> (Vec<u8>, Result<Summary, RunFault>) {
+    let mut out = Over::new(Vec::new(alloc));
+    let end = try_text(alloc, csv, 2, 2, b"t", ALL_ROWS, &mut out);
+    (out.into_inner(), end)
+}
+
+// Whether a CSV text is refused with this fault, and nothing is written.
+fn is_refused(alloc: Global, csv: &[u8], want: LoadFault) -> bool {
+    let (bytes, end) = run(alloc, csv);
+    let fault = match end {
+        Err(RunFault::Load(fault)) => Some(fault),
+        _ => None,
+    };
+    bytes.is_empty() && fault == Some(want)
+}
+
+#[test]
+fn refuses_what_is_no_table(rt: HostRuntime) -> Result<(), Fail> {
+    let cases: [(&[u8], LoadFault); 9] = [
+        (b"", LoadFault::NoHeader),
+        (b"x,y,a,b,c,d,e\n", LoadFault::ColumnCount),
+        (b"x,select\n", LoadFault::BadName(2)),
+        (b"x,y,x\n", LoadFault::BadName(3)),
+        (b"x,y,m\n1,2,3\n4,a,5\n", LoadFault::BadNumber { row: 2, column: 2 }),
+        (b"x,y,m\n4294967296,0,0\n", LoadFault::OutOfRange { row: 1, column: 1 }),
+        (b"x,y,m\n0,0,-9223372036854775809\n", LoadFault::OutOfRange { row: 1, column: 3 }),
+        (b"x,y,m\n1,2\n", LoadFault::Csv),
+        (b"x,y,m\n\t1,2,3\n", LoadFault::BadNumber { row: 1, column: 1 }),
+    ];
+    for (csv, want) in cases {
+        assert!(rt; is_refused(rt.alloc(), csv, want));
+    }
+    Ok(())
+}
+
+#[test]
+fn reads_signs_spaces_quotes_and_line_ends(rt: HostRuntime) -> Result<(), Fail> {
+    let cases: [(&[u8], &str); 3] = [
+        (b"x, y ,m\r\n 1,\"2\",-9223372036854775808\r\n", "x,y,m\n1,2,-9223372036854775808\n-- rows 1, pages 0\n"),
+        (b"\xEF\xBB\xBFx,y\n+0007, 8 \n\n", "x,y\n7,8\n-- rows 1, pages 0\n"),
+        (b"x,y,m\n", "x,y,m\n-- rows 0, pages 0\n"),
+    ];
+    for (csv, want) in cases {
+        let (bytes, end) = run(rt.alloc(), csv);
+        end?;
+        assert_eq!(rt; str::from_utf8(bytes.as_slice())?, want);
+    }
+    Ok(())
+}
