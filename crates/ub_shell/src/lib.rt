@@ -13,3 +13,6 @@ pub use fault::RunFault;
 pub use out::{Out, OutFault, Over, put_all};
 pub use script::{Summary, try_text};
 pub use text::{accepted_text, query_text, refused_text};
+
+#[cfg(test)]
+mod tests;

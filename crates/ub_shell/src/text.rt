@@ -101,8 +101,7 @@ fn push_counts(text: &mut Vec<u8>, rows: usize, pages: usize) -> Result<(), Allo
     push_number(text, rows)?;
     text.extend_from_slice(b", pages ")?;
     push_number(text, pages)?;
-    text.push(b'\n')?;
-    Ok(())
+    text.extend_from_slice(b"\n")
 }
 
 fn push_number(text: &mut Vec<u8>, number: usize) -> Result<(), AllocError>
