@@ -4,7 +4,7 @@ ghost use Rattle.ub_store.specs.Facts.{page_count, zero_page, IsPage, Failed, Ke
 ghost use Rattle.ub_store.specs.Faulty.{faulty_view, faulty_facts, with_failures, Unreached};
 
 use crate::fault::StoreFault;
-use crate::store::PageStore;
+use crate::store::{MAX_PAGES, PageStore};
 use std::marker::Model;
 use ub_page::Page;
 
@@ -109,8 +109,8 @@ impl<S: PageStore> PageStore for FaultyStore<S> {
         ensures counted { self.new.due ≡ self.old.due - 1 }
         ensures passed { self.old.due ≢ 1 → IsErrOf result StoreFault.Device → Failed (S.facts self.old.inner) (S.facts self.new.inner) }
         ensures number { IfOk result (λ n. n ≡ page_count (faulty_facts S.facts self.old)) }
-        ensures room { OnOk result (page_count (faulty_facts S.facts self.old) < 4294967295) }
-        ensures full { IsErrOf result StoreFault.BadSize → page_count (faulty_facts S.facts self.old) ≡ 4294967295 }
+        ensures room { OnOk result (page_count (faulty_facts S.facts self.old) < MAX_PAGES) }
+        ensures full { IsErrOf result StoreFault.BadSize → page_count (faulty_facts S.facts self.old) ≡ MAX_PAGES }
         ensures device { IsErrOf result StoreFault.Device → Failed (faulty_facts S.facts self.old) (faulty_facts S.facts self.new) }
         ensures no_page { ¬ (IsErrOf result StoreFault.NoPage) }
         ensures added { OnOk result (Appends zero_page (faulty_facts S.facts self.old) (faulty_facts S.facts self.new)) }

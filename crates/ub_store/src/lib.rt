@@ -18,4 +18,4 @@ pub use fault::{Rejected, StoreFault};
 pub use faulty::FaultyStore;
 pub use memory::MemStore;
 pub use pager::Pager;
-pub use store::PageStore;
+pub use store::{MAX_PAGES, PageStore};

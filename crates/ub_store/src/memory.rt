@@ -80,8 +80,8 @@ impl PageStore for MemStore {
     /// was refused. After a fault the store is as it was.
     fn extend(&mut self) -> Result<u32, StoreFault>
         ensures number { IfOk result (λ n. n ≡ length self.old) }
-        ensures room { OnOk result (length self.old < 4294967295) }
-        ensures full { IsErrOf result StoreFault.BadSize ↔ (length self.old ≡ 4294967295) }
+        ensures room { OnOk result (length self.old < MAX_PAGES) }
+        ensures full { IsErrOf result StoreFault.BadSize ↔ (length self.old ≡ MAX_PAGES) }
         ensures faults { IfErr result (λ fault. (fault ≡ StoreFault.Memory) ⊎ (fault ≡ StoreFault.BadSize)) }
         ensures added { OnOk result (self.new ≡ self.old ++ zero_page ∷ []) }
         ensures failed { OnErr result (self.new ≡ self.old) }

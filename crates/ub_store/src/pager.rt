@@ -3,7 +3,7 @@ ghost use Rattle.ub_store.specs.Facts.{page_count, raised, zero_page, IsPage, Fa
 ghost use Rattle.ub_store.specs.View.{pager_view, SameTrace};
 
 use crate::fault::{Rejected, StoreFault};
-use crate::store::PageStore;
+use crate::store::{MAX_PAGES, PageStore};
 use lru::LruCache;
 use std::alloc::Global;
 use std::marker::Model;
@@ -144,8 +144,8 @@ impl<S: PageStore> Pager<S> {
     pub fn extend(&mut self) -> Result<u32, StoreFault>
         ensures trace { SameTrace self.old self.new }
         ensures number { IfOk result (λ n. n ≡ page_count self.old.store) }
-        ensures room { OnOk result (page_count self.old.store < 4294967295) }
-        ensures full { IsErrOf result StoreFault.BadSize → page_count self.old.store ≡ 4294967295 }
+        ensures room { OnOk result (page_count self.old.store < MAX_PAGES) }
+        ensures full { IsErrOf result StoreFault.BadSize → page_count self.old.store ≡ MAX_PAGES }
         ensures device { IsErrOf result StoreFault.Device → Failed self.old.store self.new.store }
         ensures no_page { ¬ (IsErrOf result StoreFault.NoPage) }
         ensures added { OnOk result (Appends zero_page self.old.store self.new.store) }

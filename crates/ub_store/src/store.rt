@@ -47,8 +47,8 @@ pub trait PageStore: Drop {
     /// more or none.
     fn extend(&mut self) -> Result<u32, StoreFault>
         ensures number { IfOk result (λ n. n ≡ page_count (facts self.old)) }
-        ensures room { OnOk result (page_count (facts self.old) < 4294967295) }
-        ensures full { IsErrOf result StoreFault.BadSize → page_count (facts self.old) ≡ 4294967295 }
+        ensures room { OnOk result (page_count (facts self.old) < MAX_PAGES) }
+        ensures full { IsErrOf result StoreFault.BadSize → page_count (facts self.old) ≡ MAX_PAGES }
         ensures device { IsErrOf result StoreFault.Device → Failed (facts self.old) (facts self.new) }
         ensures no_page { ¬ (IsErrOf result StoreFault.NoPage) }
         ensures added { OnOk result (Appends zero_page (facts self.old) (facts self.new)) }

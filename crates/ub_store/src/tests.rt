@@ -53,6 +53,7 @@ fn sync_in_memory(store: &mut FaultyStore<MemStore>) -> Result<(), StoreFault>
     store.sync()
 }
 
+// A store in memory with no pages, which fails at its k-th call.
 fn store_failing_at(alloc: Global, k: u64) -> FaultyStore<MemStore>
     ensures { result ≡ faulty_view [] k 0 }
 {
