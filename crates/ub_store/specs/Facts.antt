@@ -28,6 +28,10 @@ raised old by = min (old + by) 18446744073709551615
 abbrev pub Failed : StoreFacts → StoreFacts → Type 0
 Failed old new = Rose old.failures new.failures
 
+-- the store hasn't failed since
+abbrev pub Unfailed : StoreFacts → StoreFacts → Type 0
+Unfailed old new = new.failures ≡ old.failures
+
 -- a page of zeros
 abbrev pub zero_page : List ℕ
 zero_page = replicate 4096 0

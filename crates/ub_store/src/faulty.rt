@@ -1,6 +1,6 @@
 ghost use Rattle.std.specs.Prelude.{◌≡◌, ◌≢◌, ◌<◌, ◌≤◌, ◌-◌, ◌⊎◌, ◌↔◌, Err, IfOk, IfErr, OnOk, OnErr, IsTrue, IsErrOf};
 ghost use Rattle.std.specs.Bool.{OnTrue, OnFalse};
-ghost use Rattle.ub_store.specs.Facts.{page_count, zero_page, IsPage, Failed, Keeps, Writes, Spoils, Appends, MayAppend};
+ghost use Rattle.ub_store.specs.Facts.{page_count, zero_page, IsPage, Failed, Unfailed, Keeps, Writes, Spoils, Appends, MayAppend};
 ghost use Rattle.ub_store.specs.Faulty.{faulty_view, faulty_facts, with_failures, Unreached};
 
 use crate::fault::StoreFault;
@@ -129,6 +129,7 @@ impl<S: PageStore> PageStore for FaultyStore<S> {
         ensures passed { self.old.due ≢ 1 → IsErrOf result StoreFault.Device → Failed (S.facts self.old.inner) (S.facts self.new.inner) }
         ensures device { IsErrOf result StoreFault.Device → Failed (faulty_facts S.facts self.old) (faulty_facts S.facts self.new) }
         ensures faults { IfErr result (λ fault. fault ≡ StoreFault.Device) }
+        ensures done { OnOk result (Unfailed (faulty_facts S.facts self.old) (faulty_facts S.facts self.new)) }
         ensures kept { Keeps (faulty_facts S.facts self.old) (faulty_facts S.facts self.new) }
     {
         if self.fails() {

@@ -1,5 +1,5 @@
 ghost use Rattle.std.specs.Prelude.{◌≡◌, ◌<◌, ◌≤◌, ◌⊎◌, ◌++◌, ◌∷◌, [], Err, IfOk, IfErr, OnOk, OnErr, IsErrOf};
-ghost use Rattle.ub_store.specs.Facts.{page_count, raised, zero_page, IsPage, Failed, Keeps, Writes, Spoils, Appends, MayAppend};
+ghost use Rattle.ub_store.specs.Facts.{page_count, raised, zero_page, IsPage, Failed, Unfailed, Keeps, Writes, Spoils, Appends, MayAppend};
 ghost use Rattle.ub_store.specs.View.{pager_view, SameTrace};
 
 use crate::fault::{Rejected, StoreFault};
@@ -159,6 +159,7 @@ impl<S: PageStore> Pager<S> {
         ensures trace { SameTrace self.old self.new }
         ensures device { IsErrOf result StoreFault.Device → Failed self.old.store self.new.store }
         ensures faults { IfErr result (λ fault. fault ≡ StoreFault.Device) }
+        ensures done { OnOk result (Unfailed self.old.store self.new.store) }
         ensures kept { Keeps self.old.store self.new.store }
     {
         self.store.sync()

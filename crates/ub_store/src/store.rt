@@ -1,5 +1,5 @@
 ghost use Rattle.std.specs.Prelude.{◌≡◌, ◌<◌, ◌≤◌, ◌⊎◌, Bool, IsTrue, IfOk, IfErr, OnOk, OnErr, IsErrOf};
-ghost use Rattle.ub_store.specs.Facts.{StoreFacts, page_count, zero_page, IsPage, Failed, Keeps, Writes, Spoils, Appends, MayAppend};
+ghost use Rattle.ub_store.specs.Facts.{StoreFacts, page_count, zero_page, IsPage, Failed, Unfailed, Keeps, Writes, Spoils, Appends, MayAppend};
 
 use crate::fault::StoreFault;
 use ub_page::Page;
@@ -58,5 +58,6 @@ pub trait PageStore: Drop {
     fn sync(&mut self) -> Result<(), StoreFault>
         ensures device { IsErrOf result StoreFault.Device → Failed (facts self.old) (facts self.new) }
         ensures faults { IfErr result (λ fault. fault ≡ StoreFault.Device) }
+        ensures done { OnOk result (Unfailed (facts self.old) (facts self.new)) }
         ensures kept { Keeps (facts self.old) (facts self.new) };
 }
