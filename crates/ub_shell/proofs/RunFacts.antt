@@ -1,5 +1,5 @@
 -- How a run grows by one statement, and what a run of all statements is.
-use Rattle.std.proofs.Common.{◌≡◌, ◌<◌, ◌+◌, ℕ, suc, Bool, true, false, cond, List, [], ◌∷◌, ◌++◌, length, take, All, Contains, slice_range, slice_index_or, Option, Result, refl, sym, ap, ◌∙◌, zero-add, IfOk, Ok, Err}
+use Rattle.std.proofs.Common.{◌≡◌, ◌<◌, ◌+◌, ℕ, suc, Bool, cond, List, [], ◌∷◌, ◌++◌, length, take, All, slice_range, slice_index_or, Option, Result, refl, sym, ap, ◌∙◌, zero-add, IfOk, Ok, Err}
 use Rattle.std.proofs.lemmas.List.{flat_map_more, take_more}
 use Rattle.std.proofs.lemmas.List.Elements.{All-contains_itself}
 use Rattle.std.proofs.lemmas.List.Sums.{sum_by-append}
@@ -57,7 +57,7 @@ pub HaveRun-more : (table : Table) (source : List ℕ) (tokens : List Token) (ra
     → HaveRun table source tokens (take (i + 1) ranges) a c next
 HaveRun-more table source tokens ranges i d a b c refused next text is_refused run below answer more e =
     let grown : script_text table (run.outcomes ++ answer.outcome ∷ []) ≡ script_text table run.outcomes ++ text =
-      sym (flat_map_more (statement_text table) [] run.outcomes answer.outcome) ∙ ap (λ (t : List ℕ). script_text table run.outcomes ++ t) (sym answer.text_is) in
+    sym (flat_map_more (statement_text table) [] run.outcomes answer.outcome) ∙ ap (λ (t : List ℕ). script_text table run.outcomes ++ t) (sym answer.text_is) in
     rw (take_more ranges i d below) (record {
       outcomes = run.outcomes ++ answer.outcome ∷ [];
       heard = outcomes_more table.schema source tokens (take i ranges) run.outcomes (slice_index_or ranges i d) answer.outcome run.heard answer.heard;
@@ -73,7 +73,7 @@ pub HaveRun-broken : (table : Table) (source : List ℕ) (tokens : List Token) (
     → HaveBroken table source tokens (take (i + 1) ranges) a c
 HaveRun-broken table source tokens ranges i d a b c refused text is_refused n run below answer more =
     let grown : script_text table (run.outcomes ++ answer.outcome ∷ []) ≡ script_text table run.outcomes ++ text =
-      sym (flat_map_more (statement_text table) [] run.outcomes answer.outcome) ∙ ap (λ (t : List ℕ). script_text table run.outcomes ++ t) (sym answer.text_is) in
+    sym (flat_map_more (statement_text table) [] run.outcomes answer.outcome) ∙ ap (λ (t : List ℕ). script_text table run.outcomes ++ t) (sym answer.text_is) in
     rw (take_more ranges i d below) (record {
       outcomes = run.outcomes ++ answer.outcome ∷ [];
       bytes = length (script_text table run.outcomes) + n;
@@ -82,13 +82,15 @@ HaveRun-broken table source tokens ranges i d a b c refused text is_refused n ru
     })
 
 module _ (text : List ℕ) (dims page_rows : ℕ) (name script : List ℕ) (old new : Option (List ℕ)) (schema : Schema) (rows : List Row) (tokens : List Token) (ranges : List (ℕ × ℕ))
-  (loaded : IsLoaded text dims page_rows name schema rows) (tokens_are : AreTokens script tokens) (ranges_are : AreStatements tokens ranges) where
-
+    (loaded : IsLoaded text dims page_rows name schema rows) (tokens_are : AreTokens script tokens) (ranges_are : AreStatements tokens ranges) where
   -- all statements were run
   pub run_whole : (s : Summary) → (s.statements ≡ length ranges) × HaveRun (record { schema = schema; rows = rows }) script tokens ranges old new s.refused
       → HasRun text dims page_rows name script old new s
   run_whole s h = record {
-    schema = schema; rows = rows; outcomes = h.1.outcomes; loaded = loaded;
+    schema = schema;
+    rows = rows;
+    outcomes = h.1.outcomes;
+    loaded = loaded;
     heard = (tokens, ranges, tokens_are, ranges_are, h.1.heard);
     told = h.1.told;
     statements_are = h.0 ∙ sym (length-outcomes schema script tokens ranges h.1.outcomes h.1.heard);
@@ -99,16 +101,35 @@ module _ (text : List ℕ) (dims page_rows : ℕ) (name script : List ℕ) (old 
   pub run_begun : (n refused : ℕ) × HaveRun (record { schema = schema; rows = rows }) script tokens (take n ranges) old new refused
       → HasBegun text dims page_rows name script old new
   run_begun h = record {
-    schema = schema; rows = rows; tokens = tokens; ranges = ranges; count = h.0; outcomes = h.2.outcomes;
-    loaded = loaded; tokens_are = tokens_are; ranges_are = ranges_are; heard = h.2.heard; told = h.2.told;
+    schema = schema;
+    rows = rows;
+    tokens = tokens;
+    ranges = ranges;
+    count = h.0;
+    outcomes = h.2.outcomes;
+    loaded = loaded;
+    tokens_are = tokens_are;
+    ranges_are = ranges_are;
+    heard = h.2.heard;
+    told = h.2.told;
   }
 
   -- the first statements were run, the last of them not to its end
   pub run_broken : (n : ℕ) × HaveBroken (record { schema = schema; rows = rows }) script tokens (take n ranges) old new
       → HasBroken text dims page_rows name script old new
   run_broken h = record {
-    schema = schema; rows = rows; tokens = tokens; ranges = ranges; count = h.0; outcomes = h.1.outcomes; bytes = h.1.bytes;
-    loaded = loaded; tokens_are = tokens_are; ranges_are = ranges_are; heard = h.1.heard; told = h.1.told;
+    schema = schema;
+    rows = rows;
+    tokens = tokens;
+    ranges = ranges;
+    count = h.0;
+    outcomes = h.1.outcomes;
+    bytes = h.1.bytes;
+    loaded = loaded;
+    tokens_are = tokens_are;
+    ranges_are = ranges_are;
+    heard = h.1.heard;
+    told = h.1.told;
   }
 
 -- what follows from what holds of the value holds of the value

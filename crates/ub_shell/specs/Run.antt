@@ -8,11 +8,16 @@ use Rattle.ub_lexer.specs.Tokens.{AreTokens}
 use Rattle.ub_lexer.specs.Statements.{AreStatements}
 use Rattle.ub_lexer.specs.declared.token.Token.{Token}
 use Rattle.ub_load.specs.LoadedTable.{IsLoaded}
+use Rattle.ub_load.specs.declared.table.LoadedTable.{LoadedTable}
 use Rattle.ub_parser.specs.declared.statement.Statement.{Statement}
 use Rattle.ub_parser.specs.declared.fault.SqlFault.{SqlFault}
 use Rattle.ub_shell.specs.Script.{IsOutcome, AreOutcomesAt, AreOutcomes, refused_count}
 use Rattle.ub_shell.specs.Text.{statement_text, script_text}
 use Rattle.ub_shell.specs.declared.script.Summary.{Summary}
+
+-- the table that was loaded
+abbrev pub table_of : LoadedTable → Table
+table_of t = record { schema = t.schema; rows = t.rows.items }
 
 -- a range of tokens, not empty
 abbrev pub IsRange : List Token → ℕ × ℕ → Type 0

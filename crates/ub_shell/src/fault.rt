@@ -2,11 +2,10 @@ ghost use Rattle.std.specs.Prelude.{◌≡◌};
 ghost use Rattle.ub_shell.specs.declared.fault.RunFault.TheVariants.{Memory, Write};
 ghost use Rattle.ub_shell.specs.Faults.{fault_of_load};
 
+use crate::out::OutFault;
 use std::alloc::AllocError;
 use thiserror::Error;
 use ub_load::LoadFault;
-
-use crate::out::OutFault;
 
 /// Why a script was not run to its end.
 #[derive(Clone, Copy, PartialEq, Eq, Debug, Error)]

@@ -16,6 +16,7 @@ pub struct OutFault {}
 /// how often a write failed, a count that stays at its greatest value.
 pub trait Out {
     ghost told: { Self → Option (List ℕ) };
+
     ghost failures: { Self → ℕ };
 
     /// Takes some of the bytes, from the first on, and says how many; or fails, and takes none.
@@ -56,6 +57,7 @@ impl<W: Write> Over<W> {
 
 impl<W: Write> Out for Over<W> {
     ghost told = { λ over. W.contents over.inner };
+
     ghost failures = { λ over. over.failed };
 
     fn write(&mut self, bytes: &[u8]) -> Result<usize, OutFault> {

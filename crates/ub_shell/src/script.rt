@@ -6,17 +6,16 @@ ghost use Rattle.ub_load.specs.LoadedTable.{records_of};
 ghost use Rattle.ub_load.specs.Refusals.{first_refusal};
 ghost use Rattle.ub_load.specs.declared.fault.LoadFault.{LoadFault};
 ghost use Rattle.ub_shell.specs.Counts.{Rose};
-ghost use Rattle.ub_shell.specs.Run.{IsAnswer, IsRange, HaveRun, HaveBroken, HasRun, HasBegun, HasBroken};
-
-use std::alloc::{AllocError, Global};
-use ub_lexer::{Token, lex, statements};
-use ub_load::table::{LoadedTable, read_table};
-use ub_load::LoadFault;
-use ub_parser::parse;
+ghost use Rattle.ub_shell.specs.Run.{table_of, IsAnswer, IsRange, HaveRun, HaveBroken, HasRun, HasBegun, HasBroken};
 
 use crate::fault::RunFault;
 use crate::out::{Out, put_all};
 use crate::text::{accepted_text, refused_text};
+use std::alloc::{AllocError, Global};
+use ub_lexer::{Token, lex, statements};
+use ub_load::LoadFault;
+use ub_load::table::{LoadedTable, read_table};
+use ub_parser::parse;
 
 /// How many statements a script has, and how many of them were refused.
 #[derive(Clone, Copy, PartialEq, Eq, Debug)]
@@ -30,7 +29,15 @@ pub struct Summary {
 ///
 /// `Load` where the text is no table, and then nothing is written. `Write` where the output fails. `Memory` where memory
 /// is refused, and then nothing is written of the statement that needed it.
-pub fn try_text<W: Out>(alloc: Global, text: &[u8], dims: u32, page_rows: u32, name: &[u8], script: &[u8], out: &mut W) -> Result<Summary, RunFault>
+pub fn try_text<W: Out>(
+    alloc: Global,
+    text: &[u8],
+    dims: u32,
+    page_rows: u32,
+    name: &[u8],
+    script: &[u8],
+    out: &mut W,
+) -> Result<Summary, RunFault>
     requires some_dims { 1 ≤ dims }
     requires few_dims { dims ≤ 4 }
     requires some_rows { 2 ≤ page_rows }
@@ -54,12 +61,19 @@ pub fn try_text<W: Out>(alloc: Global, text: &[u8], dims: u32, page_rows: u32, n
 }
 
 // Runs the statements at these ranges of the tokens of a script.
-fn run_statements<W: Out>(alloc: Global, table: &LoadedTable, source: &[u8], tokens: &[Token], ranges: &[(usize, usize)], out: &mut W) -> Result<Summary, RunFault>
+fn run_statements<W: Out>(
+    alloc: Global,
+    table: &LoadedTable,
+    source: &[u8],
+    tokens: &[Token],
+    ranges: &[(usize, usize)],
+    out: &mut W,
+) -> Result<Summary, RunFault>
     requires spelled { AreSpelled source.now tokens.now }
     requires ranges { All (λ range. IsRange tokens.now range) ranges.now }
-    ensures done { IfOk result (λ s. (s.statements ≡ length ranges.now) × HaveRun (record { schema = table.now.schema; rows = table.now.rows.items }) source.now tokens.now ranges.now (W.told out.old) (W.told out.new) s.refused) }
-    ensures memory { IsErrOf result RunFault.Memory → (n refused : ℕ) × HaveRun (record { schema = table.now.schema; rows = table.now.rows.items }) source.now tokens.now (take n ranges.now) (W.told out.old) (W.told out.new) refused }
-    ensures write { IsErrOf result RunFault.Write → (n : ℕ) × HaveBroken (record { schema = table.now.schema; rows = table.now.rows.items }) source.now tokens.now (take n ranges.now) (W.told out.old) (W.told out.new) }
+    ensures done { IfOk result (λ s. (s.statements ≡ length ranges.now) × HaveRun (table_of table.now) source.now tokens.now ranges.now (W.told out.old) (W.told out.new) s.refused) }
+    ensures memory { IsErrOf result RunFault.Memory → (n refused : ℕ) × HaveRun (table_of table.now) source.now tokens.now (take n ranges.now) (W.told out.old) (W.told out.new) refused }
+    ensures write { IsErrOf result RunFault.Write → (n : ℕ) × HaveBroken (table_of table.now) source.now tokens.now (take n ranges.now) (W.told out.old) (W.told out.new) }
     ensures failed { IsErrOf result RunFault.Write → Rose (W.failures out.old) (W.failures out.new) }
     ensures others { IfErr result (λ fault. (fault ≡ RunFault.Memory) ⊎ (fault ≡ RunFault.Write)) }
 {
@@ -76,12 +90,19 @@ fn run_statements<W: Out>(alloc: Global, table: &LoadedTable, source: &[u8], tok
 }
 
 // Writes the text of the statement at this range of the tokens, and says whether it was refused.
-fn run_statement<W: Out>(alloc: Global, table: &LoadedTable, source: &[u8], tokens: &[Token], range: (usize, usize), out: &mut W) -> Result<bool, RunFault>
+fn run_statement<W: Out>(
+    alloc: Global,
+    table: &LoadedTable,
+    source: &[u8],
+    tokens: &[Token],
+    range: (usize, usize),
+    out: &mut W,
+) -> Result<bool, RunFault>
     requires spelled { AreSpelled source.now tokens.now }
     requires range { IsRange tokens.now range }
-    ensures done { IfOk result (λ is_refused. (text : List ℕ) × IsAnswer (record { schema = table.now.schema; rows = table.now.rows.items }) source.now (slice_range tokens.now range.0 range.1) text is_refused × Appends (W.told out.old) (W.told out.new) text) }
+    ensures done { IfOk result (λ is_refused. (text : List ℕ) × IsAnswer (table_of table.now) source.now (slice_range tokens.now range.0 range.1) text is_refused × Appends (W.told out.old) (W.told out.new) text) }
     ensures memory { IsErrOf result RunFault.Memory → Keeps (W.told out.old) (W.told out.new) }
-    ensures write { IsErrOf result RunFault.Write → (text : List ℕ) × (is_refused : Bool) × (n : ℕ) × IsAnswer (record { schema = table.now.schema; rows = table.now.rows.items }) source.now (slice_range tokens.now range.0 range.1) text is_refused × Appends (W.told out.old) (W.told out.new) (take n text) }
+    ensures write { IsErrOf result RunFault.Write → (text : List ℕ) × (is_refused : Bool) × (n : ℕ) × IsAnswer (table_of table.now) source.now (slice_range tokens.now range.0 range.1) text is_refused × Appends (W.told out.old) (W.told out.new) (take n text) }
     ensures failed { IsErrOf result RunFault.Write → Rose (W.failures out.old) (W.failures out.new) }
     ensures others { IfErr result (λ fault. (fault ≡ RunFault.Memory) ⊎ (fault ≡ RunFault.Write)) }
     ensures counts { W.failures out.old ≤ W.failures out.new }
@@ -99,10 +120,16 @@ struct Answer {
     is_refused: bool,
 }
 
-fn answer_to(alloc: Global, table: &LoadedTable, source: &[u8], tokens: &[Token]) -> Result<Answer, AllocError>
+// Parses the statement of these tokens, and makes its text.
+fn answer_to(
+    alloc: Global,
+    table: &LoadedTable,
+    source: &[u8],
+    tokens: &[Token],
+) -> Result<Answer, AllocError>
     requires some { 0 < length tokens.now }
     requires spelled { AreSpelled source.now tokens.now }
-    ensures { IfOk result (λ a. IsAnswer (record { schema = table.now.schema; rows = table.now.rows.items }) source.now tokens.now a.text.items a.is_refused) }
+    ensures { IfOk result (λ a. IsAnswer (table_of table.now) source.now tokens.now a.text.items a.is_refused) }
 {
     match parse(source, tokens, &table.schema) {
         Ok(statement) => Ok(Answer {

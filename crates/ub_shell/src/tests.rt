@@ -5,7 +5,9 @@ use std::test::Fail;
 use ub_load::LoadFault;
 
 const TABLE: &[u8] = b"x,y,m\n1,1,10\n2,3,20\n3,0,5\n0,2,7\n2,3,1\n";
+
 const SCRIPT: &[u8] = b"SELECT * FROM t WHERE x BETWEEN 2 AND 3;";
+
 const ANSWER: &[u8] = b"x,y,m\n2,3,20\n3,0,5\n2,3,1\n-- rows 3, pages 0\n";
 
 // Takes a byte at a time, and no more than there is room for.
@@ -40,7 +42,13 @@ impl Out for Narrow {
 fn writes_the_selected_rows(rt: HostRuntime) -> Result<(), Fail> {
     let mut out = Over::new(Vec::new(rt.alloc()));
     let summary = try_text(rt.alloc(), TABLE, 2, 2, b"t", SCRIPT, &mut out)?;
-    assert_eq!(rt; summary, Summary { statements: 1, refused: 0 });
+    assert_eq!(rt;
+        summary,
+        Summary {
+            statements: 1,
+            refused: 0
+        }
+    );
     assert_eq!(rt; out.into_inner().as_slice(), ANSWER);
     Ok(())
 }
@@ -48,16 +56,33 @@ fn writes_the_selected_rows(rt: HostRuntime) -> Result<(), Fail> {
 #[test]
 fn goes_on_after_a_refused_statement(rt: HostRuntime) -> Result<(), Fail> {
     let script = b"; SELECT m;\n-- a comment\nselect * from t where y between 0 and 0";
-    let mut out = Narrow { held: Vec::new(rt.alloc()), room: 100, failed: 0 };
+    let mut out = Narrow {
+        held: Vec::new(rt.alloc()),
+        room: 100,
+        failed: 0,
+    };
     let summary = try_text(rt.alloc(), TABLE, 2, 2, b"t", script, &mut out)?;
-    assert_eq!(rt; summary, Summary { statements: 2, refused: 1 });
-    assert_eq!(rt; out.held.as_slice(), b"! Syntax at 2\nx,y,m\n3,0,5\n-- rows 1, pages 0\n".as_slice());
+    assert_eq!(rt;
+        summary,
+        Summary {
+            statements: 2,
+            refused: 1
+        }
+    );
+    assert_eq!(rt;
+        out.held.as_slice(),
+        b"! Syntax at 2\nx,y,m\n3,0,5\n-- rows 1, pages 0\n".as_slice()
+    );
     Ok(())
 }
 
 #[test]
 fn stops_where_writing_fails(rt: HostRuntime) -> Result<(), Fail> {
-    let mut out = Narrow { held: Vec::new(rt.alloc()), room: 10, failed: 0 };
+    let mut out = Narrow {
+        held: Vec::new(rt.alloc()),
+        room: 10,
+        failed: 0,
+    };
     let run = try_text(rt.alloc(), TABLE, 2, 2, b"t", SCRIPT, &mut out);
     assert_eq!(rt; run, Err(RunFault::Write));
     assert_eq!(rt; out.held.as_slice(), b"x,y,m\n2,3,".as_slice());

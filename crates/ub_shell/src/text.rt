@@ -10,8 +10,14 @@ use std::alloc::{AllocError, Global};
 use ub_page::{Row, Schema};
 use ub_parser::{Query, SqlFault, Statement};
 
-/// The text of an accepted statement's result on a table of this schema and these rows.
-pub fn accepted_text(alloc: Global, schema: &Schema, rows: &[Row], statement: &Statement) -> Result<Vec<u8>, AllocError>
+/// The text of an accepted statement's result on a table of this schema and these rows. `AllocError` only where memory is
+/// refused.
+pub fn accepted_text(
+    alloc: Global,
+    schema: &Schema,
+    rows: &[Row],
+    statement: &Statement,
+) -> Result<Vec<u8>, AllocError>
     requires { sql.IsOver schema.now (sql.filter_of statement.now) }
     ensures { IfOk result (λ text. text.items ≡ spec.accepted_text (record { schema = schema.now; rows = rows.now }) statement.now) }
 {
@@ -20,7 +26,8 @@ pub fn accepted_text(alloc: Global, schema: &Schema, rows: &[Row], statement: &S
     }
 }
 
-/// The text of a refused statement: the refusal's name, and the byte offset in the script where it is seen.
+/// The text of a refused statement: the refusal's name, and the byte offset in the script where it is seen. `AllocError`
+/// only where memory is refused.
 pub fn refused_text(alloc: Global, fault: &SqlFault) -> Result<Vec<u8>, AllocError>
     ensures { IfOk result (λ text. text.items ≡ spec.refused_text fault.now) }
 {
@@ -29,10 +36,15 @@ pub fn refused_text(alloc: Global, fault: &SqlFault) -> Result<Vec<u8>, AllocErr
     }
 }
 
-#[tactic(auto, unfolding(crate::specs::Text::query_text))]
 /// The text of a query's result on a table of this schema and these rows, which no page holds: a line of the columns'
-/// names, a line for each selected row, and a line of counts. Or `AllocError`, where memory for it is refused.
-pub fn query_text(alloc: Global, schema: &Schema, rows: &[Row], query: &Query) -> Result<Vec<u8>, AllocError>
+/// names, a line for each selected row, and a line of counts. `AllocError` only where memory is refused.
+#[tactic(auto, unfolding(crate::specs::Text::query_text))]
+pub fn query_text(
+    alloc: Global,
+    schema: &Schema,
+    rows: &[Row],
+    query: &Query,
+) -> Result<Vec<u8>, AllocError>
     requires { sql.IsOver schema.now query.now.filter }
     ensures { IfOk result (λ text. text.items ≡ spec.query_text (record { schema = schema.now; rows = rows.now }) 0 query.now) }
 {
@@ -43,6 +55,7 @@ pub fn query_text(alloc: Global, schema: &Schema, rows: &[Row], query: &Query) -
     Ok(text)
 }
 
+// A refusal's line: its name, and the byte offset where it is seen.
 #[tactic(auto, unfolding(crate::specs::Text::refusal_text))]
 fn refusal_text(alloc: Global, name: &str, at: usize) -> Result<Vec<u8>, AllocError>
     ensures { IfOk result (λ text. text.items ≡ spec.refusal_text name.now at) }
@@ -55,6 +68,7 @@ fn refusal_text(alloc: Global, name: &str, at: usize) -> Result<Vec<u8>, AllocEr
     Ok(text)
 }
 
+// Puts the line of the columns' names.
 fn push_titles(text: &mut Vec<u8>, schema: &Schema) -> Result<(), AllocError>
     ensures { OnOk result (text.new.items ≡ text.old.items ++ spec.line schema.now.columns) }
 {
@@ -66,7 +80,12 @@ fn push_titles(text: &mut Vec<u8>, schema: &Schema) -> Result<(), AllocError>
 }
 
 // Puts a line for each row on which the condition holds, and says how many.
-fn push_selected(text: &mut Vec<u8>, schema: &Schema, rows: &[Row], query: &Query) -> Result<usize, AllocError>
+fn push_selected(
+    text: &mut Vec<u8>,
+    schema: &Schema,
+    rows: &[Row],
+    query: &Query,
+) -> Result<usize, AllocError>
     requires { sql.IsOver schema.now query.now.filter }
     ensures count { IfOk result (λ n. n ≡ length (sql.meaning (record { schema = schema.now; rows = rows.now }) query.now)) }
     ensures lines { OnOk result (text.new.items ≡ text.old.items ++ flat_map spec.row_line (sql.meaning (record { schema = schema.now; rows = rows.now }) query.now)) }
@@ -81,6 +100,7 @@ fn push_selected(text: &mut Vec<u8>, schema: &Schema, rows: &[Row], query: &Quer
     Ok(count)
 }
 
+// Puts the line of a row's values.
 fn push_row(text: &mut Vec<u8>, schema: &Schema, row: &Row) -> Result<(), AllocError>
     ensures { OnOk result (text.new.items ≡ text.old.items ++ spec.row_line (sql.all_cells schema.now row.now)) }
 {
@@ -94,6 +114,7 @@ fn push_row(text: &mut Vec<u8>, schema: &Schema, row: &Row) -> Result<(), AllocE
     Ok(())
 }
 
+// Puts the line that says how many rows were written and how many region pages were fetched for them.
 fn push_counts(text: &mut Vec<u8>, rows: usize, pages: usize) -> Result<(), AllocError>
     ensures { OnOk result (text.new.items ≡ text.old.items ++ spec.counts_line rows pages) }
 {

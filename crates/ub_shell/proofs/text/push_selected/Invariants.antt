@@ -7,9 +7,9 @@ use Rattle.ub_shell.proofs.text.push_selected.Given as goal
 
 abbrev pub invariant-loop-row : goal.invariant-loop-row
 invariant-loop-row l =
-  let chosen = filter (λ row. truth l.schema.dims row l.query.filter) (take l.row-index l.rows) in
-  record {
-    count : l.count ≡ length (map (all_cells l.schema) chosen);
-    few : l.count ≤ l.row-index;
-    lines : l.text.items ≡ l.initial.text.items ++ flat_map row_line (map (all_cells l.schema) chosen);
-  }
+    let chosen = filter (λ row. truth l.schema.dims row l.query.filter) (take l.row-index l.rows) in
+    record {
+      count : l.count ≡ length (map (all_cells l.schema) chosen);
+      few : l.count ≤ l.row-index;
+      lines : l.text.items ≡ l.initial.text.items ++ flat_map row_line (map (all_cells l.schema) chosen);
+    }

@@ -1,4 +1,4 @@
-use Rattle.std.proofs.Common.{◌≡◌, ◌<◌, length, arith, refl, ◌∙◌}
+use Rattle.std.proofs.Common.{refl, ◌∙◌}
 use Rattle.ub_shell.proofs.LineFacts.{line_next, get_there}
 use Rattle.ub_shell.proofs.text.push_titles.Goals as goal
 
