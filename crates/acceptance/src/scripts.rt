@@ -7,14 +7,29 @@ use ub_shell::{Over, RunFault, Summary, try_text};
 // What a script writes on a table of two dimensions, and how the run ended.
 fn run(alloc: Global, csv: &str, script: &str) -> (Vec<u8>, Result<Summary, RunFault>) {
     let mut out = Over::new(Vec::new(alloc));
-    let end = try_text(alloc, csv.as_bytes(), 2, 2, b"t", script.as_bytes(), &mut out);
+    let end = try_text(
+        alloc,
+        csv.as_bytes(),
+        2,
+        2,
+        b"t",
+        script.as_bytes(),
+        &mut out,
+    );
     (out.into_inner(), end)
 }
 
 #[test]
 fn answers_the_worked_row(rt: HostRuntime) -> Result<(), Fail> {
-    let (bytes, end) = run(rt.alloc(), SMALL_TABLE, "SELECT * FROM t WHERE x BETWEEN 2 AND 3;");
-    assert_eq!(rt; str::from_utf8(bytes.as_slice())?, "x,y,m\n2,3,20\n3,0,5\n2,3,1\n-- rows 3, pages 0\n");
+    let (bytes, end) = run(
+        rt.alloc(),
+        SMALL_TABLE,
+        "SELECT * FROM t WHERE x BETWEEN 2 AND 3;",
+    );
+    assert_eq!(rt;
+        str::from_utf8(bytes.as_slice())?,
+        "x,y,m\n2,3,20\n3,0,5\n2,3,1\n-- rows 3, pages 0\n"
+    );
     let summary = end?;
     assert_eq!(rt; summary.statements, 1);
     assert_eq!(rt; summary.refused, 0);
@@ -29,12 +44,24 @@ fn answers_each_statement(rt: HostRuntime) -> Result<(), Fail> {
         ("", ""),
         (";; -- nothing", ""),
         ("-- one\n-- two", ""),
-        ("select * from t where x between 3 and 3", "x,y,m\n3,0,5\n-- rows 1, pages 0\n"),
+        (
+            "select * from t where x between 3 and 3",
+            "x,y,m\n3,0,5\n-- rows 1, pages 0\n",
+        ),
         ("SELECT * FROM t WHERE x BETWEEN 3 AND 2;", none),
         ("SELECT * FROM t WHERE y BETWEEN -1 AND 99999999999;", all),
-        ("SELECT * FROM t WHERE m BETWEEN 1 AND 2;", "! Syntax at 0\n"),
-        ("SELECT * FROM T WHERE x BETWEEN 1 AND 2;", "! Syntax at 0\n"),
-        ("SELECT * FROM t WHERE x BETWEEN 1 AND 18446744073709551616", "! Syntax at 0\n"),
+        (
+            "SELECT * FROM t WHERE m BETWEEN 1 AND 2;",
+            "! Syntax at 0\n",
+        ),
+        (
+            "SELECT * FROM T WHERE x BETWEEN 1 AND 2;",
+            "! Syntax at 0\n",
+        ),
+        (
+            "SELECT * FROM t WHERE x BETWEEN 1 AND 18446744073709551616",
+            "! Syntax at 0\n",
+        ),
         ("; SELECT # FROM t", "! Syntax at 2\n"),
     ];
     for (script, want) in cases {
@@ -49,7 +76,10 @@ fn answers_each_statement(rt: HostRuntime) -> Result<(), Fail> {
 fn goes_on_after_a_refused_statement(rt: HostRuntime) -> Result<(), Fail> {
     let script = "SELECT m FROM t; SELECT * FROM t WHERE x BETWEEN 0 AND 0;";
     let (bytes, end) = run(rt.alloc(), SMALL_TABLE, script);
-    assert_eq!(rt; str::from_utf8(bytes.as_slice())?, "! Syntax at 0\nx,y,m\n0,2,7\n-- rows 1, pages 0\n");
+    assert_eq!(rt;
+        str::from_utf8(bytes.as_slice())?,
+        "! Syntax at 0\nx,y,m\n0,2,7\n-- rows 1, pages 0\n"
+    );
     let summary = end?;
     assert_eq!(rt; summary.statements, 2);
     assert_eq!(rt; summary.refused, 1);

@@ -29,11 +29,23 @@ fn refuses_what_is_no_table(rt: HostRuntime) -> Result<(), Fail> {
         (b"x,y,a,b,c,d,e\n", LoadFault::ColumnCount),
         (b"x,select\n", LoadFault::BadName(2)),
         (b"x,y,x\n", LoadFault::BadName(3)),
-        (b"x,y,m\n1,2,3\n4,a,5\n", LoadFault::BadNumber { row: 2, column: 2 }),
-        (b"x,y,m\n4294967296,0,0\n", LoadFault::OutOfRange { row: 1, column: 1 }),
-        (b"x,y,m\n0,0,-9223372036854775809\n", LoadFault::OutOfRange { row: 1, column: 3 }),
+        (
+            b"x,y,m\n1,2,3\n4,a,5\n",
+            LoadFault::BadNumber { row: 2, column: 2 },
+        ),
+        (
+            b"x,y,m\n4294967296,0,0\n",
+            LoadFault::OutOfRange { row: 1, column: 1 },
+        ),
+        (
+            b"x,y,m\n0,0,-9223372036854775809\n",
+            LoadFault::OutOfRange { row: 1, column: 3 },
+        ),
         (b"x,y,m\n1,2\n", LoadFault::Csv),
-        (b"x,y,m\n\t1,2,3\n", LoadFault::BadNumber { row: 1, column: 1 }),
+        (
+            b"x,y,m\n\t1,2,3\n",
+            LoadFault::BadNumber { row: 1, column: 1 },
+        ),
     ];
     for (csv, want) in cases {
         assert!(rt; is_refused(rt.alloc(), csv, want));
@@ -44,8 +56,14 @@ fn refuses_what_is_no_table(rt: HostRuntime) -> Result<(), Fail> {
 #[test]
 fn reads_signs_spaces_quotes_and_line_ends(rt: HostRuntime) -> Result<(), Fail> {
     let cases: [(&[u8], &str); 3] = [
-        (b"x, y ,m\r\n 1,\"2\",-9223372036854775808\r\n", "x,y,m\n1,2,-9223372036854775808\n-- rows 1, pages 0\n"),
-        (b"\xEF\xBB\xBFx,y\n+0007, 8 \n\n", "x,y\n7,8\n-- rows 1, pages 0\n"),
+        (
+            b"x, y ,m\r\n 1,\"2\",-9223372036854775808\r\n",
+            "x,y,m\n1,2,-9223372036854775808\n-- rows 1, pages 0\n",
+        ),
+        (
+            b"\xEF\xBB\xBFx,y\n+0007, 8 \n\n",
+            "x,y\n7,8\n-- rows 1, pages 0\n",
+        ),
         (b"x,y,m\n", "x,y,m\n-- rows 0, pages 0\n"),
     ];
     for (csv, want) in cases {

@@ -5,7 +5,8 @@ use std::str;
 use std::test::Fail;
 use ub_shell::{Out, OutFault, RunFault, try_text};
 
-const SCRIPT: &[u8] = b"SELECT * FROM t WHERE x BETWEEN 0 AND 0; SELECT * FROM t WHERE x BETWEEN 9 AND 9;";
+const SCRIPT: &[u8] =
+    b"SELECT * FROM t WHERE x BETWEEN 0 AND 0; SELECT * FROM t WHERE x BETWEEN 9 AND 9;";
 
 // Takes one byte at a time, and fails once it has taken so many.
 #[derive(Drop)]
@@ -37,8 +38,20 @@ impl Out for Narrow {
 
 #[test]
 fn writes_byte_by_byte(rt: HostRuntime) -> Result<(), Fail> {
-    let mut out = Narrow { taken: Vec::new(rt.alloc()), room: 1000, failed: 0 };
-    let end = try_text(rt.alloc(), SMALL_TABLE.as_bytes(), 2, 2, b"t", SCRIPT, &mut out);
+    let mut out = Narrow {
+        taken: Vec::new(rt.alloc()),
+        room: 1000,
+        failed: 0,
+    };
+    let end = try_text(
+        rt.alloc(),
+        SMALL_TABLE.as_bytes(),
+        2,
+        2,
+        b"t",
+        SCRIPT,
+        &mut out,
+    );
     assert_eq!(rt; end?.statements, 2);
     let want = "x,y,m\n0,2,7\n-- rows 1, pages 0\nx,y,m\n-- rows 0, pages 0\n";
     assert_eq!(rt; str::from_utf8(out.taken.as_slice())?, want);
@@ -48,8 +61,20 @@ fn writes_byte_by_byte(rt: HostRuntime) -> Result<(), Fail> {
 #[test]
 fn stops_where_the_output_fails(rt: HostRuntime) -> Result<(), Fail> {
     for room in [0usize, 1, 20, 31, 40] {
-        let mut out = Narrow { taken: Vec::new(rt.alloc()), room, failed: 0 };
-        let end = try_text(rt.alloc(), SMALL_TABLE.as_bytes(), 2, 2, b"t", SCRIPT, &mut out);
+        let mut out = Narrow {
+            taken: Vec::new(rt.alloc()),
+            room,
+            failed: 0,
+        };
+        let end = try_text(
+            rt.alloc(),
+            SMALL_TABLE.as_bytes(),
+            2,
+            2,
+            b"t",
+            SCRIPT,
+            &mut out,
+        );
         assert!(rt; matches!(&end, Err(RunFault::Write)));
         assert_eq!(rt; out.taken.len(), room);
         assert_eq!(rt; out.failed, 1);

@@ -19,7 +19,10 @@ fn checksum(shape: Shape, calls: u64) -> u128 {
         let (low, high) = numbers.corners();
         let z = numbers.address() & last(shape);
         let dims = shape.dims() as usize;
-        if let (Ok(lo), Ok(hi)) = (Point::new(shape, &low[..dims]), Point::new(shape, &high[..dims]))
+        if let (Ok(lo), Ok(hi)) = (
+            Point::new(shape, &low[..dims]),
+            Point::new(shape, &high[..dims]),
+        )
             && let Some(space) = ZBox::new(shape, &lo, &hi)
         {
             sum = sum.rotate_left(1) ^ space.next_in_box(z).unwrap_or(u128::MAX);

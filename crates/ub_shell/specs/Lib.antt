@@ -3,3 +3,5 @@ pub mod Faults
 pub mod Text
 pub mod Script
 pub mod Run
+pub mod Next
+pub mod Status

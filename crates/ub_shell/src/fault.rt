@@ -2,7 +2,7 @@ ghost use Rattle.std.specs.Prelude.{◌≡◌};
 ghost use Rattle.ub_shell.specs.declared.fault.RunFault.TheVariants.{Memory, Write};
 ghost use Rattle.ub_shell.specs.Faults.{fault_of_load};
 
-use crate::out::OutFault;
+use crate::output::OutFault;
 use std::alloc::AllocError;
 use thiserror::Error;
 use ub_load::LoadFault;

@@ -9,7 +9,7 @@ ghost use Rattle.ub_shell.specs.Counts.{Rose};
 ghost use Rattle.ub_shell.specs.Run.{table_of, IsAnswer, IsRange, HaveRun, HaveBroken, HasRun, HasBegun, HasBroken};
 
 use crate::fault::RunFault;
-use crate::out::{Out, put_all};
+use crate::output::{Out, put_all};
 use crate::text::{accepted_text, refused_text};
 use std::alloc::{AllocError, Global};
 use ub_lexer::{Token, lex, statements};

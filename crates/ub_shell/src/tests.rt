@@ -1,5 +1,5 @@
 use crate::fault::RunFault;
-use crate::out::{Out, OutFault, Over};
+use crate::output::{Out, OutFault, Over};
 use crate::script::{Summary, try_text};
 use std::test::Fail;
 use ub_load::LoadFault;

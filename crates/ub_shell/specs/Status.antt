@@ -1,0 +1,71 @@
+-- How the program's commands end, and what they write then.
+use Rattle.std.specs.Prelude.{◌≡◌, ◌≢◌, ◌⊎◌, ℕ, ◌==◌, if◌then◌else◌, List, ◌++◌, Option, Some, codes, decimal}
+use Rattle.std.specs.Io.KnownBytes.{Appends, Keeps}
+use Rattle.ub_load.specs.LoadedTable.{records_of}
+use Rattle.ub_load.specs.Refusals.{first_refusal}
+use Rattle.ub_load.specs.declared.fault.LoadFault.{LoadFault}
+use Rattle.ub_load.specs.declared.fault.LoadFault.TheVariants.{NoHeader, BadName, ColumnCount, BadNumber, OutOfRange, Csv, Full}
+use Rattle.ub_load.specs.declared.fault.LoadFault.TheVariants as load
+use Rattle.ub_shell.specs.declared.script.Summary.{Summary}
+use Rattle.ub_shell.specs.declared.status.Status.{Status}
+use Rattle.ub_shell.specs.declared.status.Status.TheVariants.{Done, Refused, CommandLine, Data, Device, Memory}
+use Rattle.ub_shell.specs.Counts.{Rose}
+use Rattle.ub_shell.specs.Run.{HasBegun}
+
+-- the number that the program ends with
+abbrev pub status_code : Status → ℕ
+status_code Done = 0
+status_code Refused = 1
+status_code CommandLine = 2
+status_code Data = 3
+status_code Device = 4
+status_code Memory = 5
+
+-- how a script ends that was run to its end
+abbrev pub summary_status : Summary → Status
+summary_status s = if s.refused == 0 then Done else Refused
+
+-- how a run ends whose table was refused
+abbrev pub load_fault_status : LoadFault → Status
+load_fault_status load.Memory = Memory
+load_fault_status fault = Data
+
+-- the place of a field, rows and columns counted from 1
+abbrev pub place_text : ℕ → ℕ → List ℕ
+place_text row column = codes " row " ++ (decimal row ++ (codes " column " ++ (decimal column ++ codes "\n")))
+
+-- the last line after a table was refused
+abbrev pub load_fault_text : LoadFault → List ℕ
+load_fault_text NoHeader = codes "! NoHeader\n"
+load_fault_text (BadName column) =
+    if column == 0 then codes "! BadName table\n" else codes "! BadName column " ++ decimal column ++ codes "\n"
+load_fault_text ColumnCount = codes "! ColumnCount\n"
+load_fault_text (BadNumber row column) = codes "! BadNumber" ++ place_text row column
+load_fault_text (OutOfRange row column) = codes "! OutOfRange" ++ place_text row column
+load_fault_text Csv = codes "! Csv\n"
+load_fault_text Full = codes "! Full\n"
+load_fault_text load.Memory = codes "! Memory\n"
+
+-- the bytes were told and the status is this one, or a write failed
+abbrev pub Tells : Option (List ℕ) → Option (List ℕ) → ℕ → ℕ → List ℕ → Status → Status → Type 0
+Tells told told_now failures failures_now bytes wanted status =
+    ((status ≡ wanted) × Appends told told_now bytes) ⊎ ((status ≡ Device) × Rose failures failures_now)
+
+-- the same, or it was told that memory was refused
+abbrev pub TellsIfMemory : Option (List ℕ) → Option (List ℕ) → ℕ → ℕ → List ℕ → Status → Status → Type 0
+TellsIfMemory told told_now failures failures_now bytes wanted status =
+    Tells told told_now failures failures_now bytes wanted status
+    ⊎ Tells told told_now failures failures_now (codes "! Memory\n") Memory status
+
+-- a run of a script wrote nothing or the texts of its first statements, and then the line that says that memory was
+-- refused
+pub record HasNoMemory (text : List ℕ) (dims page_rows : ℕ) (name script : List ℕ) (old new : Option (List ℕ)) : Type 0 where
+  pub before : Option (List ℕ)
+  pub begun : Keeps old before ⊎ HasBegun text dims page_rows name script old before
+  pub told : Appends before new (codes "! Memory\n")
+
+-- the table was refused: the line of the first thing that is wrong with the text was written, unless `csv` refused a record
+pub record HasNoTable (text : List ℕ) (dims : ℕ) (name : List ℕ) (old new : Option (List ℕ)) : Type 0 where
+  pub fault : LoadFault
+  pub first : fault ≢ Csv → first_refusal dims name (records_of text) ≡ Some fault
+  pub told : Appends old new (load_fault_text fault)

@@ -1,0 +1,128 @@
+ghost use Rattle.std.specs.Prelude.{◌≡◌, ◌≤◌, IfOk, codes};
+ghost use Rattle.std.specs.String.{string_bytes};
+ghost use Rattle.ub_shell.specs.Status.{status_code, summary_status, load_fault_status, load_fault_text, Tells, TellsIfMemory};
+
+use crate::output::{Out, put_all};
+use crate::script::Summary;
+use std::alloc::{AllocError, Global};
+use ub_load::LoadFault;
+
+/// How a command of the program ends.
+#[derive(Clone, Copy, PartialEq, Eq, Debug)]
+pub enum Status {
+    /// All was done.
+    Done,
+    /// A statement was refused, and there was no fault.
+    Refused,
+    /// The command line was refused.
+    CommandLine,
+    /// The data were refused.
+    Data,
+    /// A file or the output failed.
+    Device,
+    /// Memory was refused.
+    Memory,
+}
+
+impl Status {
+    /// The number that the program ends with, 0 to 5 in the order of the variants.
+    pub fn code(self) -> u8
+        ensures { result ≡ status_code self }
+    {
+        match self {
+            Status::Done => 0,
+            Status::Refused => 1,
+            Status::CommandLine => 2,
+            Status::Data => 3,
+            Status::Device => 4,
+            Status::Memory => 5,
+        }
+    }
+}
+
+/// How a script ends that was run to its end: by whether a statement was refused.
+pub fn summary_status(summary: Summary) -> Status
+    ensures { result ≡ summary_status summary }
+{
+    if summary.refused == 0 {
+        Status::Done
+    } else {
+        Status::Refused
+    }
+}
+
+/// How a run ends whose table was refused: by the data, but for want of memory.
+pub fn load_fault_status(fault: LoadFault) -> Status
+    ensures { result ≡ load_fault_status fault }
+{
+    match fault {
+        LoadFault::Memory => Status::Memory,
+        _ => Status::Data,
+    }
+}
+
+/// The line for a table that was refused.
+pub fn load_fault_line(alloc: Global, fault: LoadFault) -> Result<String, AllocError>
+    ensures { IfOk result (λ line. string_bytes line ≡ load_fault_text fault) }
+{
+    match fault {
+        LoadFault::BadName(0) => String::from_str(alloc, "! BadName table\n"),
+        LoadFault::BadName(column) => format!(in alloc; "! BadName column {column}\n"),
+        LoadFault::BadNumber { row, column } => {
+            format!(in alloc; "! BadNumber row {row} column {column}\n")
+        }
+        LoadFault::OutOfRange { row, column } => {
+            format!(in alloc; "! OutOfRange row {row} column {column}\n")
+        }
+        LoadFault::NoHeader => String::from_str(alloc, "! NoHeader\n"),
+        LoadFault::ColumnCount => String::from_str(alloc, "! ColumnCount\n"),
+        LoadFault::Csv => String::from_str(alloc, "! Csv\n"),
+        LoadFault::Full => String::from_str(alloc, "! Full\n"),
+        LoadFault::Memory => String::from_str(alloc, "! Memory\n"),
+    }
+}
+
+/// Writes the bytes, and ends with the status, or with `Device` where a write fails.
+pub fn tell<W: Out>(out: &mut W, bytes: &[u8], status: Status) -> Status
+    ensures { Tells (W.told out.old) (W.told out.new) (W.failures out.old) (W.failures out.new) bytes.now status result }
+{
+    match put_all(out, bytes) {
+        Ok(()) => status,
+        Err(_) => Status::Device,
+    }
+}
+
+/// Writes the line that says that memory was refused.
+pub fn tell_memory<W: Out>(out: &mut W) -> Status
+    ensures { Tells (W.told out.old) (W.told out.new) (W.failures out.old) (W.failures out.new) (codes "! Memory\n") Status.Memory result }
+{
+    tell(out, b"! Memory\n", Status::Memory)
+}
+
+/// Writes the line for a table that was refused.
+pub fn tell_load_fault<W: Out>(alloc: Global, fault: LoadFault, out: &mut W) -> Status
+    ensures { TellsIfMemory (W.told out.old) (W.told out.new) (W.failures out.old) (W.failures out.new) (load_fault_text fault) (load_fault_status fault) result }
+{
+    match load_fault_line(alloc, fault) {
+        Ok(line) => tell(out, line.as_bytes(), load_fault_status(fault)),
+        Err(_) => tell_memory(out),
+    }
+}
+
+#[cfg(test)]
+mod tests {
+    use super::*;
+    use std::test::Fail;
+
+    #[test]
+    fn faults_have_lines(rt: HostRuntime) -> Result<(), Fail> {
+        let alloc = rt.alloc();
+        let table = load_fault_line(alloc, LoadFault::BadName(0))?;
+        assert_eq!(rt; table.as_str(), "! BadName table\n");
+        let column = load_fault_line(alloc, LoadFault::BadName(3))?;
+        assert_eq!(rt; column.as_str(), "! BadName column 3\n");
+        let field = load_fault_line(alloc, LoadFault::OutOfRange { row: 12, column: 2 })?;
+        assert_eq!(rt; field.as_str(), "! OutOfRange row 12 column 2\n");
+        Ok(())
+    }
+}
