@@ -1,2 +1,6 @@
+pub mod BytesFacts
+pub mod DirectoryFacts
 pub mod DistinctFacts
+pub mod DraftFacts
+pub mod HeaderFacts
 pub mod NameFacts

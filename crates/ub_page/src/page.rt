@@ -1,2 +1,53 @@
-/// A page of a table's file: 4096 bytes.
+ghost use Rattle.std.specs.Prelude.{◌≡◌, ◌+◌, ◌<◌, ◌≤◌, ◌^◌, ◌↔◌, IsTrue};
+ghost use Rattle.ub_page.specs.Bytes.{number_at};
+
+use byteorder::{BigEndian, ByteOrder};
+
+/// One page of a table's file: 4096 bytes.
 pub type Page = [u8; 4096];
+
+// The byte at a place.
+pub(crate) fn u8_at(page: &Page, place: usize) -> u8
+    requires { place + 1 ≤ 4096 }
+    ensures { result ≡ number_at 1 place page.now }
+{
+    page[place]
+}
+
+// The number in the two bytes from a place on.
+pub(crate) fn u16_at(page: &Page, place: usize) -> u16
+    requires { place + 2 ≤ 4096 }
+    ensures { result ≡ number_at 2 place page.now }
+{
+    BigEndian::read_u16(&page[place..])
+}
+
+// The number in the four bytes from a place on.
+pub(crate) fn u32_at(page: &Page, place: usize) -> u32
+    requires { place + 4 ≤ 4096 }
+    ensures { result ≡ number_at 4 place page.now }
+{
+    BigEndian::read_u32(&page[place..])
+}
+
+// The number in the sixteen bytes from a place on.
+pub(crate) fn u128_at(page: &Page, place: usize) -> u128
+    requires { place + 16 ≤ 4096 }
+    ensures { result ≡ number_at 16 place page.now }
+{
+    BigEndian::read_u128(&page[place..])
+}
+
+// Whether two pages are the same, byte for byte.
+pub(crate) fn is_same(a: &Page, b: &Page) -> bool
+    ensures { IsTrue result ↔ (a.now ≡ b.now) }
+{
+    *a == *b
+}
+
+// Whether two texts are the same, byte for byte.
+pub(crate) fn are_equal(a: &[u8], b: &[u8]) -> bool
+    ensures { IsTrue result ↔ (a.now ≡ b.now) }
+{
+    a == b
+}

@@ -1,0 +1,238 @@
+-- What the page of a header reads as.
+use Rattle.std.proofs.Common.{◌≡◌, ◌≢◌, ◌≤◌, ◌<◌, ◌+◌, ◌-◌, ◌*◌, ◌^◌, ◌↔◌, ℕ, zero, suc, List, [], ◌∷◌, ◌++◌, true, false, Result, Ok, Err, IsOk, IfErr, length, take, drop, replicate, if◌then◌else◌, refl, sym, ap, arith, ◌∙◌, append_assoc, length-take-le}
+use Rattle.std.specs.Prelude.{IsErrOf}
+use Rattle.std.proofs.lemmas.List.{length-append, length-replicate, length-drop}
+use Rattle.std.specs.List.{flat_map, AllByRecursion}
+use Rattle.ub_page.specs.Block.{IsNameBlock}
+use Rattle.ub_page.specs.Bytes.{number_bytes, number_at, layout, padded}
+use Rattle.ub_page.specs.Header.{numbers_of, names_of, number_fields, name_bytes, page_of, header_page, IsHeader, AreInRange, AreSame, IsHeaderKind, IsHeaderFault, HasNames, columns_on, numbers_on, name_on, names_on, IsNameOn, AreNamesOn}
+use Rattle.ub_page.specs.Name.{IsName}
+use Rattle.ub_page.specs.declared.fault.PageFault.{PageFault}
+use Rattle.ub_page.specs.declared.fault.PageFault.TheVariants.{WrongKind, Unclean, BadCount, BadName, BadRow, BadOrder, OutOfRegion, BadPadding}
+use Rattle.ub_page.specs.declared.header.Header.{Header}
+use Rattle.ub_page.specs.declared.header.Numbers.{Numbers}
+use Rattle.ub_page.specs.declared.schema.Schema.{Schema}
+use Rattle.ub_page.proofs.BytesFacts.{length-number_bytes, read_at, layout_read, length-layout, AllFit}
+use Rattle.ub_page.proofs.DraftFacts.{of_front}
+use Rattle.ub_page.proofs.NameFacts.{name_block, length-name}
+
+-- the name that stands after some bytes of a page
+pub name_read : (name page front rest : List ℕ) (place : ℕ) → place ≡ length front → IsName name → page ≡ front ++ (name_bytes name ++ rest)
+    → IsNameOn place page × (name_on place page ≡ name)
+name_read name page front rest place is good e =
+    let zeros : List ℕ = replicate (32 - length name) 0 in
+    let len = number_bytes 1 (length name) in
+    let short = length-name name good in
+    let whole : page ≡ front ++ (len ++ ((name ++ zeros) ++ rest)) = e ∙ ap (λ (s : List ℕ). front ++ s) (append_assoc len (name ++ zeros) rest) in
+    let number : number_at 1 place page ≡ length name = read_at page front ((name ++ zeros) ++ rest) place 1 (length name) is (omega arith) whole in
+    let behind : page ≡ (front ++ len) ++ ((name ++ zeros) ++ rest) = whole ∙ sym (append_assoc front len _) in
+    let next : place + 1 ≡ length (front ++ len) = omega (arith, length-append front len, length-number_bytes 1 (length name)) in
+    let after : drop (place + 1) page ≡ (name ++ zeros) ++ rest = (of_front (front ++ len) ((name ++ zeros) ++ rest) page (place + 1) next behind).0 in
+    let long : 32 ≡ length (name ++ zeros) = omega (arith, length-append name zeros, length-replicate {A = ℕ} (32 - length name) 0) in
+    let block : take 32 (drop (place + 1) page) ≡ name ++ zeros = (of_front (name ++ zeros) rest _ 32 long after).1 in
+    let text : take (length name) (drop (place + 1) page) ≡ name = (of_front name (zeros ++ rest) _ (length name) refl (after ∙ append_assoc name zeros rest)).1 in
+    (rw (number, block) (name_block name good), rw number text)
+
+-- the names that stand after some bytes of a page
+pub names_read : (names : List (List ℕ)) (page front rest : List ℕ) (place : ℕ) → place ≡ length front → AllByRecursion IsName names
+    → page ≡ front ++ (flat_map name_bytes names ++ rest)
+    → AreNamesOn place (length names) page × (names_on place (length names) page ≡ names)
+names_read [] page front rest place is good e = (tt, refl)
+names_read (name ∷ names) page front rest place is good e =
+    let zeros : List ℕ = replicate (32 - length name) 0 in
+    let len = number_bytes 1 (length name) in
+    let short = length-name name good.0 in
+    let whole : page ≡ front ++ (name_bytes name ++ (flat_map name_bytes names ++ rest)) = e ∙ ap (λ (s : List ℕ). front ++ s) (append_assoc (name_bytes name) (flat_map name_bytes names) rest) in
+    let behind : page ≡ (front ++ name_bytes name) ++ (flat_map name_bytes names ++ rest) = whole ∙ sym (append_assoc front (name_bytes name) _) in
+    let next : place + 33 ≡ length (front ++ name_bytes name)
+    = omega (arith, length-append front (name_bytes name), length-append len (name ++ zeros), length-append name zeros, length-replicate {A = ℕ} (32 - length name) 0, length-number_bytes 1 (length name)) in
+    let first = name_read name page front _ place is good.0 whole in
+    let others = names_read names page (front ++ name_bytes name) rest (place + 33) next good.1 behind in
+    ((first.0, others.0), rw (first.1, others.1) refl)
+
+take_short : (n m : ℕ) (xs : List ℕ) → n ≤ m → take n (take m xs) ≡ take n xs
+take_short zero m xs h = refl
+take_short (suc n) zero xs h = absurd (omega arith)
+take_short (suc n) (suc m) [] h = refl
+take_short (suc n) (suc m) (x ∷ xs) h = ap (λ (ys : List ℕ). x ∷ ys) (take_short n m xs (omega arith))
+
+-- a name that stands on a page is a name
+name_valid : (place : ℕ) (page : List ℕ) → IsNameOn place page → IsName (name_on place page)
+name_valid place page h = rw (take_short (number_at 1 place page) 32 (drop (place + 1) page) h.short) at h.name
+
+-- names that stand on a page are names
+names_valid : (place n : ℕ) (page : List ℕ) → AreNamesOn place n page → AllByRecursion IsName (names_on place n page)
+names_valid place zero page h = tt
+names_valid place (suc n) page h = (name_valid place page h.0, names_valid (place + 33) n page h.1)
+
+-- what the tests of a name tell
+pub named : (page name : List ℕ) (place len m : ℕ) → m ≡ 32 → length page ≡ 4096 → place + 33 ≤ 4096 → len ≡ number_at 1 place page → len ≤ 32
+    → name ≡ take len (take m (drop (place + 1) page)) → IsName (take len (take m (drop (place + 1) page)))
+    → name ++ replicate (32 - length name) 0 ≡ take m (drop (place + 1) page)
+    → (name ≡ name_on place page) × IsNameOn place page
+named page name place len m width long room is short text good block =
+    let block32 : take m (drop (place + 1) page) ≡ take 32 (drop (place + 1) page) = ap (λ (k : ℕ). take k (drop (place + 1) page)) width in
+    let whole : length (take 32 (drop (place + 1) page)) ≡ 32 = length-take-le 32 (drop (place + 1) page) (omega (arith, length-drop (place + 1) page)) in
+    let text32 : name ≡ take len (take 32 (drop (place + 1) page)) = text ∙ ap (take len) block32 in
+    let count : length name ≡ len = ap length text32 ∙ length-take-le len (take 32 (drop (place + 1) page)) (omega arith) in
+    let good32 : IsName (take len (take 32 (drop (place + 1) page))) = rw block32 at good in
+    let filled : take 32 (drop (place + 1) page) ≡ take len (take 32 (drop (place + 1) page)) ++ replicate (32 - len) 0
+    = sym block32 ∙ sym block ∙ ap (λ (n : ℕ). name ++ replicate (32 - n) 0) count ∙ ap (λ (xs : List ℕ). xs ++ replicate (32 - len) 0) text32 in
+    let here : IsNameBlock len (take 32 (drop (place + 1) page)) = record { name = good32; short = short; whole = whole; padded = filled } in
+    (text32 ∙ take_short len 32 (drop (place + 1) page) short ∙ ap (λ (n : ℕ). take n (drop (place + 1) page)) is, rw is at here)
+
+pub names_next : (place n after less : ℕ) (page : List ℕ) → 0 < n → after ≡ place + 33 → less ≡ n - 1
+    → names_on place n page ≡ name_on place page ∷ names_on after less page
+names_next place zero after less page some a b = absurd (omega arith)
+names_next place (suc n) after less page some a b = let m : less ≡ n = omega arith in rw (a, m) refl
+
+pub valid_next : (place n after less : ℕ) (page : List ℕ) → 0 < n → after ≡ place + 33 → less ≡ n - 1
+    → AreNamesOn place n page ↔ (IsNameOn place page × AreNamesOn after less page)
+valid_next place zero after less page some a b = absurd (omega arith)
+valid_next place (suc n) after less page some a b = let m : less ≡ n = omega arith in rw (a, m) (λ h. h, λ h. h)
+
+pub names_step : (columns all : List (List ℕ)) (page : List ℕ) (i count : ℕ) → i < count
+    → columns ++ names_on (65 + 33 * i) (count - i) page ≡ all
+    → (columns ++ name_on (65 + 33 * i) page ∷ []) ++ names_on (65 + 33 * (i + 1)) (count - (i + 1)) page ≡ all
+names_step columns all page i count more is =
+    let next = names_next (65 + 33 * i) (count - i) (65 + 33 * (i + 1)) (count - (i + 1)) page (omega arith) (omega arith) (omega arith) in
+    append_assoc columns (name_on (65 + 33 * i) page ∷ []) _ ∙ ap (λ (rest : List (List ℕ)). columns ++ rest) (sym next) ∙ is
+
+pub length-names_on : (place n : ℕ) (page : List ℕ) → length (names_on place n page) ≡ n
+length-names_on place zero page = refl
+length-names_on place (suc n) page = omega (arith, length-names_on (place + 33) n page)
+
+-- where the counts are right, a schema is refused for its names alone
+pub refused_schema : (r : Result Schema PageFault) (P Q : Type 0) → (IsOk r ↔ (P × Q)) → (IsErrOf r BadName ↔ (P × (¬ Q))) → P → IfErr r (λ e. (e ≡ BadName) × (¬ Q))
+refused_schema (Ok s) P Q valid bad p = tt
+refused_schema (Err e) P Q valid bad p =
+    let no : ¬ Q = λ q. (let bad : false ≡ true = valid.1 (p, q) in cc) in
+    let is = bad.1 (p, no) in
+    (cc, no)
+
+with_same : (n : Numbers) (state dims measures page_rows : ℕ) → state ≡ n.state → dims ≡ n.dims → measures ≡ n.measures → page_rows ≡ n.page_rows
+    → record n { state = state; dims = dims; measures = measures; page_rows = page_rows } ≡ n
+with_same n state dims measures page_rows a b c d = rw (a, b, c, d) refl
+
+pub same_numbers : (n : Numbers) (s : Schema) → s.dims ≡ n.dims → length s.columns ≡ n.dims + n.measures → s.page_rows ≡ n.page_rows → n.state ≢ 1 → AreInRange n
+    → numbers_of (record { schema = s; next = n.next; rows = n.rows; regions = n.regions; root = n.root; levels = n.levels; unclean = false }) ≡ n
+same_numbers n s dims columns rows clean range =
+    let few = range.state in
+    let zero_state : 0 ≡ n.state = omega arith in
+    let measures : length s.columns - s.dims ≡ n.measures = omega arith in
+    with_same n 0 s.dims (length s.columns - s.dims) s.page_rows zero_state dims measures rows
+
+-- the parts of a header that stand on a page make a header
+pub is_header : (h : Header) (page : List ℕ) → numbers_of h ≡ numbers_on page → AreInRange (numbers_on page) → h.regions < 2 ^ 32 → h.root < 2 ^ 32
+    → h.schema.name ≡ name_on 32 page → h.schema.columns ≡ names_on 65 (columns_on page) page → HasNames (columns_on page) page → IsHeader h
+is_header h page numbers range regions root name columns names = record {
+  numbers = rw numbers range;
+  regions = regions;
+  root = root;
+  names = rw (name, columns) (name_valid 32 page names.0, names_valid 65 (columns_on page) page names.1);
+}
+
+pub record HasParts (h : Header) (page : List ℕ) : Type 0 where
+  pub kind : IsHeaderKind page
+  pub numbers : numbers_on page ≡ numbers_of h
+  pub name : name_on 32 page ≡ h.schema.name
+  pub columns : names_on 65 (columns_on page) page ≡ h.schema.columns
+  pub names : HasNames (columns_on page) page
+
+-- the parts of a header are read from its page
+pub parts : (h : Header) (page : List ℕ) → IsHeader h → page ≡ header_page h → HasParts h page
+unfolding page_of
+parts h page is e =
+    let n = numbers_of h in
+    let fields = number_fields n in
+    let names = flat_map name_bytes (names_of h) in
+    let zeros : List ℕ = replicate (4096 - length (layout fields ++ names)) 0 in
+    let whole : page ≡ layout fields ++ (names ++ zeros) = e ∙ append_assoc (layout fields) names zeros in
+    let state = is.numbers.state in
+    let counts = is.numbers.counts in
+    let flag : (if h.unclean then 1 else 0) < 256 = omega (arith, state) in
+    let next = is.numbers.last_next in
+    let rows = is.numbers.rows in
+    let levels = is.numbers.levels in
+    let regions = is.regions in
+    let root = is.root in
+    let fit : AllFit fields = (omega arith, (omega arith, (omega arith, (omega arith, (omega arith, (omega arith, (omega arith, (omega arith, (omega arith, (omega arith, (omega arith, (omega arith, tt)))))))))))) in
+    let ats = layout_read fields page [] (names ++ zeros) 0 refl fit whole in
+    let at5 = ats.1.1 in
+    let at12 = at5.1.1.1.1.1 in
+    let dims = at5.1.0 in
+    let measures = at5.1.1.0 in
+    let read = names_read (names_of h) page (layout fields) zeros 32 (sym (length-layout fields)) is.names whole in
+    let covers = h.schema.counts.covers_dims in
+    let count : number_at 1 6 page + number_at 1 7 page ≡ length h.schema.columns = omega arith in
+    let all = read.1 in
+    let columns : names_on 65 (length h.schema.columns) page ≡ h.schema.columns = cc in
+    record {
+      kind = (ats.0, ats.1.0);
+      numbers = rw (at5.0, dims, measures, at5.1.1.1.0, at12.0, at12.1.0, at12.1.1.0, at12.1.1.1.0, at12.1.1.1.1.0) refl;
+      name = cc;
+      columns = rw count columns;
+      names = rw count (read.0.0, read.0.1, rw columns h.schema.distinct);
+    }
+
+-- headers of one page agree
+pub same : (a b : Header) → numbers_of a ≡ numbers_of b → a.schema.name ≡ b.schema.name → a.schema.columns ≡ b.schema.columns → a.unclean ≡ b.unclean → AreSame a b
+same a b numbers name columns unclean = record {
+  name = name;
+  columns = columns;
+  dims = ap (λ (n : Numbers). n.dims) numbers;
+  page_rows = ap (λ (n : Numbers). n.page_rows) numbers;
+  next = ap (λ (n : Numbers). n.next) numbers;
+  rows = ap (λ (n : Numbers). n.rows) numbers;
+  regions = ap (λ (n : Numbers). n.regions) numbers;
+  root = ap (λ (n : Numbers). n.root) numbers;
+  levels = ap (λ (n : Numbers). n.levels) numbers;
+  unclean = unclean;
+}
+
+-- where the numbers and the names are the same, so is the page
+pub same_page : (a b : Header) → numbers_of a ≡ numbers_of b → a.schema.name ≡ b.schema.name → a.schema.columns ≡ b.schema.columns → header_page a ≡ header_page b
+same_page a b numbers name columns = rw (numbers, name, columns) refl
+
+-- a page that holds a clean header's parts and is not its page has another byte that is not zero
+pub padding_fault : (h : Header) (page : List ℕ) → numbers_of h ≡ numbers_on page → AreInRange (numbers_on page) → h.schema.name ≡ name_on 32 page
+    → h.schema.columns ≡ names_on 65 (columns_on page) page → IsHeaderKind page → h.unclean ≡ false → HasNames (columns_on page) page
+    → header_page h ≢ page → IsHeaderFault page BadPadding
+padding_fault h page numbers range name columns kind clean names other =
+    let state = ap (λ (n : Numbers). n.state) numbers in
+    let zero_state = rw clean at state in (
+      kind,
+      (λ one. omega arith),
+      range,
+      names,
+      (λ k is e. let read = parts k page is e in
+          other (same_page h k (numbers ∙ read.numbers) (name ∙ read.name) (columns ∙ read.columns) ∙ sym e)),
+    )
+
+-- the page of a clean header is not refused
+pub not_refused : (h : Header) (page : List ℕ) → IsHeader h → h.unclean ≡ false → page ≡ header_page h → (e : PageFault) → IsHeaderFault page e → ⊥
+not_refused h page is clean same WrongKind fault = fault (parts h page is same).kind
+not_refused h page is clean same Unclean fault =
+    let state = ap (λ (n : Numbers). n.state) (parts h page is same).numbers in
+    let zero_state = rw clean at state in
+    let one = fault.1 in
+    omega arith
+not_refused h page is clean same BadCount fault = fault.2 (rw (parts h page is same).numbers is.numbers)
+not_refused h page is clean same BadName fault = fault.3 (parts h page is same).names
+not_refused h page is clean same BadPadding fault = fault.4 h is same
+not_refused h page is clean same BadRow fault = fault
+not_refused h page is clean same BadOrder fault = fault
+not_refused h page is clean same OutOfRegion fault = fault
+
+-- what is written one after the other is the page of all
+regrouped : (a1 a2 a3 a4 a5 a6 a7 a8 a9 a10 a11 a12 b c : List ℕ) → padded ((((((((((((((a1 ++ a2) ++ a3) ++ a4) ++ a5) ++ a6) ++ a7) ++ a8) ++ a9) ++ a10) ++ a11) ++ a12) ++ b) ++ c)) ≡ padded ((a1 ++ (a2 ++ (a3 ++ (a4 ++ (a5 ++ (a6 ++ (a7 ++ (a8 ++ (a9 ++ (a10 ++ (a11 ++ (a12 ++ [])))))))))))) ++ (b ++ c))
+regrouped a1 a2 a3 a4 a5 a6 a7 a8 a9 a10 a11 a12 b c =
+    let e : (((((((((((((a1 ++ a2) ++ a3) ++ a4) ++ a5) ++ a6) ++ a7) ++ a8) ++ a9) ++ a10) ++ a11) ++ a12) ++ b) ++ c) ≡ (a1 ++ (a2 ++ (a3 ++ (a4 ++ (a5 ++ (a6 ++ (a7 ++ (a8 ++ (a9 ++ (a10 ++ (a11 ++ (a12 ++ [])))))))))))) ++ (b ++ c) = simp append_assoc in
+    ap padded e
+
+-- the writer's bytes are those of the spelling
+pub written : (n : Numbers) (name : List ℕ) (columns : List (List ℕ))
+    → padded ((((((((((((((number_bytes 4 0x55425452 ++ number_bytes 1 1) ++ number_bytes 1 n.state) ++ number_bytes 1 n.dims) ++ number_bytes 1 n.measures) ++ number_bytes 1 n.page_rows) ++ number_bytes 3 0) ++ number_bytes 4 n.next) ++ number_bytes 4 n.rows) ++ number_bytes 4 n.regions) ++ number_bytes 4 n.root) ++ number_bytes 4 n.levels) ++ name_bytes name) ++ flat_map name_bytes columns)) ≡ page_of n (name ∷ columns)
+unfolding page_of
+written n name columns =
+    regrouped (number_bytes 4 0x55425452) (number_bytes 1 1) (number_bytes 1 n.state) (number_bytes 1 n.dims) (number_bytes 1 n.measures) (number_bytes 1 n.page_rows) (number_bytes 3 0) (number_bytes 4 n.next) (number_bytes 4 n.rows) (number_bytes 4 n.regions) (number_bytes 4 n.root) (number_bytes 4 n.levels) (name_bytes name) (flat_map name_bytes columns)

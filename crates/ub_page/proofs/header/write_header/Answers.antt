@@ -1,0 +1,26 @@
+use Rattle.ub_page.specs.Header.{numbers_of}
+use Rattle.ub_page.proofs.HeaderFacts.{written}
+use Rattle.ub_page.proofs.header.write_header.Goals as goal
+
+pub returns : goal.returns
+returns c =
+    rw (
+      c.finish.ensures,
+      c.put_names.ensures.bytes,
+      c.put_name.ensures.bytes,
+      c.put_u32-6.ensures.bytes,
+      c.put_u32-5.ensures.bytes,
+      c.put_u32-4.ensures.bytes,
+      c.put_u32-3.ensures.bytes,
+      c.put_u32-2.ensures.bytes,
+      c.put_u24.ensures.bytes,
+      c.put_u8-5.ensures.bytes,
+      c.put_u8-4.ensures.bytes,
+      c.put_u8-3.ensures.bytes,
+      c.put_u8-2.ensures.bytes,
+      c.put_u8.ensures.bytes,
+      c.put_u32.ensures.bytes,
+      c.new-draft.ensures,
+    )
+    (rw (c.state_of.ensures, c.dims.ensures.dims, c.measures.ensures.measures, c.page_rows.ensures.page_rows, c.name.ensures, c.columns.ensures.columns)
+    (written (numbers_of c.args.header.now) c.args.header.now.schema.name c.args.header.now.schema.columns))

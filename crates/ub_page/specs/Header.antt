@@ -1,0 +1,133 @@
+-- The header page of a table, format 1.
+use Rattle.std.specs.Prelude.{◌≡◌, ◌≢◌, ◌≤◌, ◌<◌, ◌+◌, ◌-◌, ◌/◌, ◌^◌, ◌++◌, ℕ, zero, suc, List, [], ◌∷◌, length, take, drop, replicate, if◌then◌else◌}
+use Rattle.std.specs.List.{flat_map, AllByRecursion}
+use Rattle.ub_page.specs.Block.{IsNameBlock}
+use Rattle.ub_page.specs.Bytes.{number_bytes, number_at, layout, padded}
+use Rattle.ub_page.specs.Name.{IsName}
+use Rattle.ub_page.specs.Schema.{AreCounts, AreDistinct}
+use Rattle.ub_page.specs.declared.fault.PageFault.{PageFault}
+use Rattle.ub_page.specs.declared.fault.PageFault.TheVariants.{WrongKind, Unclean, BadCount, BadName, BadPadding}
+use Rattle.ub_page.specs.declared.header.Header.{Header}
+use Rattle.ub_page.specs.declared.header.Numbers.{Numbers}
+
+-- the numbers of a header, as its page holds them
+abbrev pub numbers_of : Header → Numbers
+numbers_of h = record {
+  state = if h.unclean then 1 else 0;
+  dims = h.schema.dims;
+  measures = length h.schema.columns - h.schema.dims;
+  page_rows = h.schema.page_rows;
+  next = h.next;
+  rows = h.rows;
+  regions = h.regions;
+  root = h.root;
+  levels = h.levels;
+}
+
+-- each in its range: 170 regions stand on a directory page, and rows are numbered below the next number
+pub record AreInRange (n : Numbers) : Type 0 where
+  pub state : n.state ≤ 1
+  pub counts : AreCounts (n.dims + n.measures) n.dims n.page_rows
+  pub some_next : 1 ≤ n.next
+  pub last_next : n.next ≤ 16777216
+  pub rows : n.rows < n.next
+  pub regions : 1 ≤ n.regions
+  pub root : 1 ≤ n.root
+  pub levels : n.levels ≡ (n.regions + 169) / 170
+
+-- the table's name, then the columns' names
+abbrev pub names_of : Header → List (List ℕ)
+names_of h = h.schema.name ∷ h.schema.columns
+
+-- a header that a page can hold
+pub record IsHeader (h : Header) : Type 0 where
+  pub numbers : AreInRange (numbers_of h)
+  pub regions : h.regions < 2 ^ 32
+  pub root : h.root < 2 ^ 32
+  pub names : AllByRecursion IsName (names_of h)
+
+-- 'UBTR', version 1, and the numbers, each with its bytes
+abbrev pub number_fields : Numbers → List (ℕ × ℕ)
+number_fields n =
+    (4, 0x55425452) ∷ (1, 1) ∷ (1, n.state) ∷ (1, n.dims) ∷ (1, n.measures) ∷ (1, n.page_rows) ∷ (3, 0)
+    ∷ (4, n.next) ∷ (4, n.rows) ∷ (4, n.regions) ∷ (4, n.root) ∷ (4, n.levels) ∷ []
+
+-- a name on 33 bytes: its length, its bytes, and zeros
+abbrev pub name_bytes : List ℕ → List ℕ
+name_bytes name = number_bytes 1 (length name) ++ (name ++ replicate (32 - length name) 0)
+
+-- a page of these numbers and names
+unfoldable pub page_of : Numbers → List (List ℕ) → List ℕ
+page_of numbers names = padded (layout (number_fields numbers) ++ flat_map name_bytes names)
+
+-- the one spelling of a header
+abbrev pub header_page : Header → List ℕ
+header_page h = page_of (numbers_of h) (names_of h)
+
+-- the page begins with 'UBTR', and its version is 1
+abbrev pub IsHeaderKind : List ℕ → Type 0
+IsHeaderKind page = (number_at 4 0 page ≡ 0x55425452) × (number_at 1 4 page ≡ 1)
+
+-- the numbers that stand on the page
+abbrev pub numbers_on : List ℕ → Numbers
+numbers_on page = record {
+  state = number_at 1 5 page;
+  dims = number_at 1 6 page;
+  measures = number_at 1 7 page;
+  page_rows = number_at 1 8 page;
+  next = number_at 4 12 page;
+  rows = number_at 4 16 page;
+  regions = number_at 4 20 page;
+  root = number_at 4 24 page;
+  levels = number_at 4 28 page;
+}
+
+-- the bytes of the name that stands at a place, whose length comes first
+abbrev pub name_on : ℕ → List ℕ → List ℕ
+name_on place page = take (number_at 1 place page) (drop (place + 1) page)
+
+-- a name stands there, and its unused bytes are zero
+abbrev pub IsNameOn : ℕ → List ℕ → Type 0
+IsNameOn place page = IsNameBlock (number_at 1 place page) (take 32 (drop (place + 1) page))
+
+-- so many names, one after the other
+abbrev pub names_on : ℕ → ℕ → List ℕ → List (List ℕ)
+names_on place zero page = []
+names_on place (suc n) page = name_on place page ∷ names_on (place + 33) n page
+
+abbrev pub AreNamesOn : ℕ → ℕ → List ℕ → Type 0
+AreNamesOn place zero page = Unit {0}
+AreNamesOn place (suc n) page = IsNameOn place page × AreNamesOn (place + 33) n page
+
+-- the table's name and those of so many columns stand on the page, the columns' all different
+abbrev pub HasNames : ℕ → List ℕ → Type 0
+HasNames columns page = IsNameOn 32 page × AreNamesOn 65 columns page × AreDistinct (names_on 65 columns page)
+
+-- how many columns the page tells of
+abbrev pub columns_on : List ℕ → ℕ
+columns_on page = number_at 1 6 page + number_at 1 7 page
+
+-- the refusal is the first that holds of the page
+abbrev pub IsHeaderFault : List ℕ → PageFault → Type 0
+IsHeaderFault page WrongKind = ¬ (IsHeaderKind page)
+IsHeaderFault page Unclean = IsHeaderKind page × (number_at 1 5 page ≡ 1)
+IsHeaderFault page BadCount = IsHeaderKind page × (number_at 1 5 page ≢ 1) × (¬ (AreInRange (numbers_on page)))
+IsHeaderFault page BadName =
+    IsHeaderKind page × (number_at 1 5 page ≢ 1) × AreInRange (numbers_on page) × (¬ (HasNames (columns_on page) page))
+IsHeaderFault page BadPadding =
+    IsHeaderKind page × (number_at 1 5 page ≢ 1) × AreInRange (numbers_on page) × HasNames (columns_on page) page
+    × ((h : Header) → IsHeader h → page ≢ header_page h)
+IsHeaderFault page _ = ⊥
+
+-- two headers agree in each part
+pub record AreSame (a b : Header) : Type 0 where
+  pub name : a.schema.name ≡ b.schema.name
+  pub columns : a.schema.columns ≡ b.schema.columns
+  pub dims : a.schema.dims ≡ b.schema.dims
+  pub page_rows : a.schema.page_rows ≡ b.schema.page_rows
+  pub next : a.next ≡ b.next
+  pub rows : a.rows ≡ b.rows
+  pub regions : a.regions ≡ b.regions
+  pub root : a.root ≡ b.root
+  pub levels : a.levels ≡ b.levels
+  pub unclean : a.unclean ≡ b.unclean

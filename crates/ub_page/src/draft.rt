@@ -1,0 +1,116 @@
+ghost use Rattle.std.specs.Prelude.{◌≡◌, ◌+◌, ◌<◌, ◌≤◌, ◌^◌, [], ◌∷◌, ◌++◌, length, drop};
+ghost use Rattle.ub_page.specs.Bytes.{number_bytes, padded};
+
+use crate::page::Page;
+use byteorder::{BigEndian, ByteOrder};
+use std::marker::Model;
+
+// A page that is being written from its front: the bytes so far, and zeros after them.
+#[derive(Drop)]
+pub(crate) struct Draft {
+    page: [u8; 4096],
+    len: usize,
+}
+
+impl Model for Draft {
+    ghost use Rattle.std.specs.Prelude.{ℕ, List};
+
+    ghost Value = { List ℕ };
+
+    ghost use Rattle.ub_page.specs.Draft.{written, IsBlankAfter};
+
+    ghost view = { written };
+
+    ghost invariant = { IsBlankAfter };
+}
+
+impl Draft {
+    // A page with nothing written.
+    pub(crate) fn new() -> Draft
+        ensures { result ≡ [] }
+    {
+        Draft {
+            page: [0; 4096],
+            len: 0,
+        }
+    }
+
+    pub(crate) fn put_u8(&mut self, x: u8)
+        requires { length self.old + 1 ≤ 4096 }
+        ensures bytes { self.new ≡ self.old ++ number_bytes 1 x }
+        ensures len { length self.new ≡ length self.old + 1 }
+    {
+        self.page[self.len] = x;
+        self.len += 1;
+    }
+
+    pub(crate) fn put_u16(&mut self, x: u16)
+        requires { length self.old + 2 ≤ 4096 }
+        ensures bytes { self.new ≡ self.old ++ number_bytes 2 x }
+        ensures len { length self.new ≡ length self.old + 2 }
+    {
+        BigEndian::write_u16(&mut self.page[self.len..], x);
+        self.len += 2;
+    }
+
+    pub(crate) fn put_u24(&mut self, x: u32)
+        requires room { length self.old + 3 ≤ 4096 }
+        requires small { x < 2 ^ 24 }
+        ensures bytes { self.new ≡ self.old ++ number_bytes 3 x }
+        ensures len { length self.new ≡ length self.old + 3 }
+    {
+        BigEndian::write_u24(&mut self.page[self.len..], x);
+        self.len += 3;
+    }
+
+    pub(crate) fn put_u32(&mut self, x: u32)
+        requires { length self.old + 4 ≤ 4096 }
+        ensures bytes { self.new ≡ self.old ++ number_bytes 4 x }
+        ensures len { length self.new ≡ length self.old + 4 }
+    {
+        BigEndian::write_u32(&mut self.page[self.len..], x);
+        self.len += 4;
+    }
+
+    pub(crate) fn put_u64(&mut self, x: u64)
+        requires { length self.old + 8 ≤ 4096 }
+        ensures bytes { self.new ≡ self.old ++ number_bytes 8 x }
+        ensures len { length self.new ≡ length self.old + 8 }
+    {
+        BigEndian::write_u64(&mut self.page[self.len..], x);
+        self.len += 8;
+    }
+
+    pub(crate) fn put_u128(&mut self, x: u128)
+        requires { length self.old + 16 ≤ 4096 }
+        ensures bytes { self.new ≡ self.old ++ number_bytes 16 x }
+        ensures len { length self.new ≡ length self.old + 16 }
+    {
+        BigEndian::write_u128(&mut self.page[self.len..], x);
+        self.len += 16;
+    }
+
+    pub(crate) fn put_bytes(&mut self, bytes: &[u8])
+        requires { length self.old + length bytes.now ≤ 4096 }
+        ensures bytes { self.new ≡ self.old ++ bytes.now }
+        ensures len { length self.new ≡ length self.old + length bytes.now }
+    {
+        copy_to_front(&mut self.page[self.len..], bytes);
+        self.len += bytes.len();
+    }
+
+    // The page, all bytes that are not written being zero.
+    pub(crate) fn finish(self) -> Page
+        ensures { result ≡ padded self }
+    {
+        self.page
+    }
+}
+
+// Copies the bytes to the front of the target.
+fn copy_to_front(target: &mut [u8], bytes: &[u8])
+    requires { length bytes.now ≤ length target.old }
+    ensures { target.new ≡ bytes.now ++ drop (length bytes.now) target.old }
+{
+    target[..bytes.len()].copy_from_slice(bytes);
+}

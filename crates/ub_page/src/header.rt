@@ -1,0 +1,295 @@
+ghost use Rattle.std.specs.Prelude.{◌≡◌, ◌≢◌, ◌+◌, ◌-◌, ◌*◌, ◌≤◌, ◌<◌, ◌^◌, ◌↔◌, ◌++◌, false, if◌then◌else◌, length, replicate, IsTrue, IsOk, IfOk, IfErr};
+ghost use Rattle.std.specs.List.{flat_map};
+ghost use Rattle.ub_page.specs.Bytes.{number_bytes};
+ghost use Rattle.ub_page.specs.Header.{numbers_of, names_of, numbers_on, columns_on, name_bytes, name_on, names_on, header_page, AreInRange, IsHeader, AreSame, IsHeaderKind, IsHeaderFault, IsNameOn, AreNamesOn, HasNames};
+ghost use Rattle.ub_page.specs.Schema.{AreCounts};
+
+use crate::columns::Columns;
+use crate::draft::Draft;
+use crate::fault::PageFault;
+use crate::name::{MAX_NAME_LEN, Name};
+use crate::page::{Page, are_equal, is_same, u8_at, u32_at};
+use crate::schema::Schema;
+
+// 'UBTR', with which each header begins.
+const KIND: u32 = 0x5542_5452;
+
+// The only version so far.
+const VERSION: u8 = 1;
+
+/// What the first page of a table's file tells: the schema, the counts, and where the directory begins.
+#[derive(Drop)]
+pub struct Header {
+    /// What the table is made of.
+    pub schema: Schema,
+    /// The number that the next row gets: 1 to 16777216.
+    pub next: u32,
+    /// How many rows the table has: fewer than `next`.
+    pub rows: u32,
+    /// How many regions the table has: at least 1.
+    pub regions: u32,
+    /// The page on which the directory begins: at least 1.
+    pub root: u32,
+    /// How many pages the directory takes: one for each 170 regions begun.
+    pub levels: u32,
+    /// Whether the table was changed and not closed since.
+    pub unclean: bool,
+}
+
+// The numbers of a header, as they stand on its page.
+#[derive(Clone, Copy)]
+pub(crate) struct Numbers {
+    pub state: u8,
+    pub dims: u8,
+    pub measures: u8,
+    pub page_rows: u8,
+    pub next: u32,
+    pub rows: u32,
+    pub regions: u32,
+    pub root: u32,
+    pub levels: u32,
+}
+
+/// The page of a header, clean or not.
+pub fn write_header(header: &Header) -> Page
+    ensures { result ≡ header_page header.now }
+{
+    let mut draft = Draft::new();
+    draft.put_u32(KIND);
+    draft.put_u8(VERSION);
+    draft.put_u8(state_of(header.unclean));
+    draft.put_u8(header.schema.dims() as u8);
+    draft.put_u8(header.schema.measures() as u8);
+    draft.put_u8(header.schema.page_rows() as u8);
+    draft.put_u24(0);
+    draft.put_u32(header.next);
+    draft.put_u32(header.rows);
+    draft.put_u32(header.regions);
+    draft.put_u32(header.root);
+    draft.put_u32(header.levels);
+    put_name(&mut draft, header.schema.name());
+    put_names(&mut draft, header.schema.columns());
+    draft.finish()
+}
+
+// The state byte of a header.
+fn state_of(unclean: bool) -> u8
+    ensures { result ≡ (if unclean then 1 else 0) }
+{
+    u8::from(unclean)
+}
+
+fn put_names(draft: &mut Draft, names: &[Name])
+    requires { length draft.old + 33 * length names.now ≤ 4096 }
+    ensures bytes { draft.new ≡ draft.old ++ flat_map (λ name. name_bytes name) names.now }
+    ensures len { length draft.new ≡ length draft.old + 33 * length names.now }
+{
+    for name in names {
+        put_name(draft, name);
+    }
+}
+
+fn put_name(draft: &mut Draft, name: &Name)
+    requires { length draft.old + 33 ≤ 4096 }
+    ensures bytes { draft.new ≡ draft.old ++ name_bytes name.now }
+    ensures len { length draft.new ≡ length draft.old + 33 }
+{
+    let block = block_of(name);
+    draft.put_u8(name.bytes().len() as u8);
+    draft.put_bytes(&block);
+}
+
+// The bytes of a name, and zeros after them.
+fn block_of(name: &Name) -> [u8; MAX_NAME_LEN]
+    ensures { result ≡ name.now ++ replicate (32 - length name.now) 0 }
+{
+    let text = name.bytes();
+    let mut block = [0; MAX_NAME_LEN];
+    block[..text.len()].copy_from_slice(text);
+    block
+}
+
+/// The header that the page holds, where it is clean. Otherwise the first of these that holds: `WrongKind` (the first
+/// four bytes are not 'UBTR', or the version is not 1), `Unclean`, `BadCount` (a number is out of its range), `BadName`
+/// (a name breaks the rule for names, its unused bytes are not zero, or two columns have one name), `BadPadding` (another
+/// byte is not zero).
+pub fn read_header(page: &Page) -> Result<Header, PageFault>
+    ensures found { IfOk result (λ h. IsHeader h × (h.unclean ≡ false) × (page.now ≡ header_page h)) }
+    ensures exact { (h : Header) → IsHeader h → h.unclean ≡ false → page.now ≡ header_page h → IsOk result × IfOk result (λ read. AreSame read h) }
+    ensures refused { IfErr result (IsHeaderFault page.now) }
+{
+    let header = parts_on(page)?;
+    if !is_same(&write_header(&header), page) {
+        return Err(PageFault::BadPadding);
+    }
+    Ok(header)
+}
+
+// The header whose parts stand on the page.
+fn parts_on(page: &Page) -> Result<Header, PageFault>
+    ensures numbers { IfOk result (λ h. (numbers_of h ≡ numbers_on page.now) × AreInRange (numbers_on page.now)) }
+    ensures names { IfOk result (λ h. (h.schema.name ≡ name_on 32 page.now) × (h.schema.columns ≡ names_on 65 (columns_on page.now) page.now)) }
+    ensures clean { IfOk result (λ h. IsHeaderKind page.now × (h.unclean ≡ false) × HasNames (columns_on page.now) page.now) }
+    ensures small { IfOk result (λ h. (h.regions < 2 ^ 32) × (h.root < 2 ^ 32)) }
+    ensures refused { IfErr result (IsHeaderFault page.now) }
+    ensures early { IfErr result (λ e. e ≢ PageFault.BadPadding) }
+{
+    if u32_at(page, 0) != KIND || u8_at(page, 4) != VERSION {
+        return Err(PageFault::WrongKind);
+    }
+    let numbers = read_numbers(page);
+    if numbers.state == 1 {
+        return Err(PageFault::Unclean);
+    }
+    if !are_in_range(&numbers) {
+        return Err(PageFault::BadCount);
+    }
+    let schema = read_schema(page, &numbers)?;
+    Ok(Header {
+        schema,
+        next: numbers.next,
+        rows: numbers.rows,
+        regions: numbers.regions,
+        root: numbers.root,
+        levels: numbers.levels,
+        unclean: false,
+    })
+}
+
+fn read_numbers(page: &Page) -> Numbers
+    ensures { result ≡ numbers_on page.now }
+{
+    Numbers {
+        state: u8_at(page, 5),
+        dims: u8_at(page, 6),
+        measures: u8_at(page, 7),
+        page_rows: u8_at(page, 8),
+        next: u32_at(page, 12),
+        rows: u32_at(page, 16),
+        regions: u32_at(page, 20),
+        root: u32_at(page, 24),
+        levels: u32_at(page, 28),
+    }
+}
+
+fn are_in_range(numbers: &Numbers) -> bool
+    ensures { IsTrue result ↔ AreInRange numbers.now }
+{
+    let counts = (1..=4).contains(&numbers.dims)
+        && numbers.measures <= 4
+        && (2..=64).contains(&numbers.page_rows);
+    let rows = (1..=16_777_216).contains(&numbers.next) && numbers.rows < numbers.next;
+    let pages = numbers.regions >= 1
+        && numbers.root >= 1
+        && u64::from(numbers.levels) == (u64::from(numbers.regions) + 169) / 170;
+    numbers.state <= 1 && counts && rows && pages
+}
+
+// The schema that the names on the page make with these numbers, or `BadName`.
+fn read_schema(page: &Page, numbers: &Numbers) -> Result<Schema, PageFault>
+    requires { AreCounts (numbers.now.dims + numbers.now.measures) numbers.now.dims numbers.now.page_rows }
+    ensures names { IfOk result (λ s. (s.name ≡ name_on 32 page.now) × (s.columns ≡ names_on 65 (numbers.now.dims + numbers.now.measures) page.now)) }
+    ensures numbers { IfOk result (λ s. (s.dims ≡ numbers.now.dims) × (s.page_rows ≡ numbers.now.page_rows)) }
+    ensures valid { IfOk result (λ _. HasNames (numbers.now.dims + numbers.now.measures) page.now) }
+    ensures refused { IfErr result (λ e. (e ≡ PageFault.BadName) × (¬ (HasNames (numbers.now.dims + numbers.now.measures) page.now))) }
+{
+    let name = read_name(page, 32)?;
+    let columns = read_columns(page, usize::from(numbers.dims + numbers.measures))?;
+    Schema::new(
+        name,
+        columns.as_slice(),
+        u32::from(numbers.dims),
+        u32::from(numbers.page_rows),
+    )
+}
+
+// The names of so many columns, or `BadName`.
+fn read_columns(page: &Page, count: usize) -> Result<Columns, PageFault>
+    requires some { 1 ≤ count }
+    requires few { count ≤ 8 }
+    ensures names { IfOk result (λ columns. (columns ≡ names_on 65 count page.now) × AreNamesOn 65 count page.now) }
+    ensures refused { IfErr result (λ e. (e ≡ PageFault.BadName) × (¬ (AreNamesOn 65 count page.now))) }
+{
+    let mut columns = Columns::new(read_name(page, 65)?);
+    for i in 1..count {
+        columns.push(read_name(page, 65 + 33 * i)?);
+    }
+    Ok(columns)
+}
+
+// The name that stands at a place, or `BadName`.
+fn read_name(page: &Page, place: usize) -> Result<Name, PageFault>
+    requires { place + 33 ≤ 4096 }
+    ensures name { IfOk result (λ name. (name ≡ name_on place page.now) × IsNameOn place page.now) }
+    ensures refused { IfErr result (λ e. (e ≡ PageFault.BadName) × (¬ (IsNameOn place page.now))) }
+{
+    let len = usize::from(u8_at(page, place));
+    let block = &page[place + 1..place + 33];
+    if len > MAX_NAME_LEN {
+        return Err(PageFault::BadName);
+    }
+    let name = Name::new(&block[..len])?;
+    if !are_equal(&block_of(&name), block) {
+        return Err(PageFault::BadName);
+    }
+    Ok(name)
+}
+
+#[cfg(test)]
+mod tests {
+    use super::*;
+    use std::test::Fail;
+
+    fn example() -> Result<Header, PageFault> {
+        let columns = [Name::new(b"x")?, Name::new(b"y")?, Name::new(b"m")?];
+        let schema = Schema::new(Name::new(b"t")?, &columns, 2, 2)?;
+        Ok(Header {
+            schema,
+            next: 6,
+            rows: 5,
+            regions: 3,
+            root: 4,
+            levels: 1,
+            unclean: false,
+        })
+    }
+
+    fn example_page() -> Page {
+        let mut page = [0; 4096];
+        page[..32].copy_from_slice(&[
+            0x55, 0x42, 0x54, 0x52, 1, 0, 2, 1, 2, 0, 0, 0, 0, 0, 0, 6, 0, 0, 0, 5, 0, 0, 0, 3, 0,
+            0, 0, 4, 0, 0, 0, 1,
+        ]);
+        page[32..34].copy_from_slice(b"\x01t");
+        page[65..67].copy_from_slice(b"\x01x");
+        page[98..100].copy_from_slice(b"\x01y");
+        page[131..133].copy_from_slice(b"\x01m");
+        page
+    }
+
+    #[test]
+    fn reads_what_it_writes(rt: HostRuntime) -> Result<(), Fail> {
+        assert!(rt; is_same(&write_header(&example()?), &example_page()));
+        let header = read_header(&example_page())?;
+        assert!(rt; header.schema.name().bytes() == b"t".as_slice());
+        assert_eq!(rt; (header.schema.dims(), header.schema.measures()), (2, 1));
+        assert_eq!(rt; (header.next, header.rows, header.regions), (6, 5, 3));
+        assert_eq!(rt; (header.root, header.levels, header.unclean), (4, 1, false));
+        Ok(())
+    }
+
+    #[test]
+    fn refuses_the_first_fault(rt: HostRuntime) {
+        let mut page = example_page();
+        for (place, byte, fault) in [
+            (4095, 1, PageFault::BadPadding),
+            (34, 1, PageFault::BadName),
+            (8, 1, PageFault::BadCount),
+            (5, 1, PageFault::Unclean),
+            (4, 2, PageFault::WrongKind),
+        ] {
+            page[place % 4096] = byte;
+            assert!(rt; read_header(&page).err() == Some(fault), "{place}");
+        }
+    }
+}
