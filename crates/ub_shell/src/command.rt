@@ -114,7 +114,7 @@ fn tell_unread<W: Out>(fault: ReadFault, out: &mut W) -> Status
 /// each with a last line that says so; `Device` where a write fails.
 pub fn tell_try<W: Out>(
     alloc: Global,
-    data: &[u8],
+    text: &[u8],
     dims: u32,
     page_rows: u32,
     name: &[u8],
@@ -125,12 +125,12 @@ pub fn tell_try<W: Out>(
     requires few_dims { dims ≤ 4 }
     requires some_rows { 2 ≤ page_rows }
     requires few_rows { page_rows ≤ 64 }
-    ensures run { (result ≡ Status.Done) ⊎ (result ≡ Status.Refused) → (summary : Summary) × (result ≡ summary_status summary) × HasRun data.now dims page_rows name.now script.now (W.told out.old) (W.told out.new) summary }
-    ensures data { result ≡ Status.Data → HasNoTable data.now dims name.now (W.told out.old) (W.told out.new) }
-    ensures memory { result ≡ Status.Memory → HasNoMemory data.now dims page_rows name.now script.now (W.told out.old) (W.told out.new) }
+    ensures run { (result ≡ Status.Done) ⊎ (result ≡ Status.Refused) → (summary : Summary) × (result ≡ summary_status summary) × HasRun text.now dims page_rows name.now script.now (W.told out.old) (W.told out.new) summary }
+    ensures no_table { result ≡ Status.Data → HasNoTable text.now dims name.now (W.told out.old) (W.told out.new) }
+    ensures no_memory { result ≡ Status.Memory → HasNoMemory text.now dims page_rows name.now script.now (W.told out.old) (W.told out.new) }
     ensures parsed { result ≢ Status.CommandLine }
 {
-    match try_text(alloc, data, dims, page_rows, name, script, out) {
+    match try_text(alloc, text, dims, page_rows, name, script, out) {
         Ok(summary) => summary_status(summary),
         Err(RunFault::Memory) => tell_memory(out),
         Err(RunFault::Write) => Status::Device,
