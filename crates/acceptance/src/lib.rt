@@ -3,6 +3,8 @@
 #![tactic(auto)]
 
 #[cfg(test)]
+mod boxes;
+#[cfg(test)]
 mod commands;
 #[cfg(test)]
 mod scripts;
