@@ -1,5 +1,5 @@
 -- How the program's commands end, and what they write then.
-use Rattle.std.specs.Prelude.{◌≡◌, ◌≢◌, ◌⊎◌, ℕ, ◌==◌, if◌then◌else◌, List, ◌++◌, Option, Some, codes, decimal}
+use Rattle.std.specs.Prelude.{◌≡◌, ◌≢◌, ◌⊎◌, ℕ, ◌==◌, if◌then◌else◌, List, ◌++◌, Option, Some, Result, codes, decimal}
 use Rattle.std.specs.Io.KnownBytes.{Appends, Keeps}
 use Rattle.ub_load.specs.LoadedTable.{records_of}
 use Rattle.ub_load.specs.Refusals.{first_refusal}
@@ -10,7 +10,10 @@ use Rattle.ub_shell.specs.declared.script.Summary.{Summary}
 use Rattle.ub_shell.specs.declared.status.Status.{Status}
 use Rattle.ub_shell.specs.declared.status.Status.TheVariants.{Done, Refused, CommandLine, Data, Device, Memory}
 use Rattle.ub_shell.specs.Counts.{Rose}
-use Rattle.ub_shell.specs.Run.{HasBegun}
+use Rattle.ub_shell.specs.Run.{HasBegun, HasRun}
+use Rattle.ub_shell.specs.Next.{IsNextAnswer, answer_text, answer_status}
+use Rattle.ub_shell.specs.declared.next.Neighbours.{Neighbours}
+use Rattle.ub_shell.specs.declared.next.NextFault.{NextFault}
 
 -- the number that the program ends with
 abbrev pub status_code : Status → ℕ
@@ -69,3 +72,35 @@ pub record HasNoTable (text : List ℕ) (dims : ℕ) (name : List ℕ) (old new 
   pub fault : LoadFault
   pub first : fault ≢ Csv → first_refusal dims name (records_of text) ≡ Some fault
   pub told : Appends old new (load_fault_text fault)
+
+-- whole lines were written, one at least
+abbrev pub TellsLines : Option (List ℕ) → Option (List ℕ) → Type 0
+TellsLines old new = (lines : List ℕ) × Appends old new (lines ++ codes "\n")
+
+-- a script was run to its end on the table of a CSV text, and the status says whether a statement of it was refused
+abbrev pub RanScript : Option (List ℕ) → Option (List ℕ) → Status → Type 0
+RanScript old new status =
+    (text name script : List ℕ) × (dims page_rows : ℕ) × (summary : Summary)
+    × HasRun text dims page_rows name script old new summary × (status ≡ summary_status summary)
+
+-- what three words are told that ask for an address's neighbours was written, and the status goes with it
+abbrev pub AnsweredNext : Option (List ℕ) → Option (List ℕ) → Status → Type 0
+AnsweredNext old new status =
+    (lo hi z : List ℕ) × (answer : Result Neighbours NextFault)
+    × IsNextAnswer lo hi z answer × Appends old new (answer_text answer) × (status ≡ answer_status answer)
+
+-- nothing or the texts of a script's first statements were written, and then the line that says that memory was refused
+abbrev pub EndedWithoutMemory : Option (List ℕ) → Option (List ℕ) → Type 0
+EndedWithoutMemory old new =
+    Appends old new (codes "! Memory\n")
+    ⊎ ((text name script : List ℕ) × (dims page_rows : ℕ) × HasNoMemory text dims page_rows name script old new)
+
+-- what a command of the program has done and written that ends with this status: told is what its output held before and
+-- after, failures how often that failed
+abbrev pub HasEnded : Option (List ℕ) → Option (List ℕ) → ℕ → ℕ → Status → Type 0
+HasEnded old new failures failures_now Done = RanScript old new Done ⊎ (AnsweredNext old new Done ⊎ TellsLines old new)
+HasEnded old new failures failures_now Refused = RanScript old new Refused
+HasEnded old new failures failures_now CommandLine = AnsweredNext old new CommandLine ⊎ TellsLines old new
+HasEnded old new failures failures_now Data = (text name : List ℕ) × (dims : ℕ) × HasNoTable text dims name old new
+HasEnded old new failures failures_now Device = Rose failures failures_now ⊎ Appends old new (codes "! Device\n")
+HasEnded old new failures failures_now Memory = EndedWithoutMemory old new

@@ -1,7 +1,9 @@
-ghost use Rattle.std.specs.Prelude.{◌≡◌, ◌≢◌, ◌≤◌, ◌⊎◌, codes};
+ghost use Rattle.std.specs.Prelude.{◌≡◌, ◌≢◌, ◌≤◌, ◌⊎◌, ◌++◌, ℕ, List, codes, IfOk};
 ghost use Rattle.ub_shell.specs.Run.{HasRun};
-ghost use Rattle.ub_shell.specs.Status.{summary_status, Tells, HasNoTable, HasNoMemory};
+ghost use Rattle.ub_shell.specs.Status.{status_code, summary_status, Tells, HasNoTable, HasNoMemory, HasEnded};
+ghost use Rattle.ub_shell.specs.Counts.{Rose};
 ghost use Rattle.ub_shell.specs.declared.script.Summary.{Summary};
+ghost use Rattle.ub_shell.specs.declared.status.Status.{Status};
 
 use crate::fault::RunFault;
 use crate::next::tell_next;
@@ -128,6 +130,7 @@ pub fn tell_try<W: Out>(
     ensures run { (result ≡ Status.Done) ⊎ (result ≡ Status.Refused) → (summary : Summary) × (result ≡ summary_status summary) × HasRun text.now dims page_rows name.now script.now (W.told out.old) (W.told out.new) summary }
     ensures no_table { result ≡ Status.Data → HasNoTable text.now dims name.now (W.told out.old) (W.told out.new) }
     ensures no_memory { result ≡ Status.Memory → HasNoMemory text.now dims page_rows name.now script.now (W.told out.old) (W.told out.new) }
+    ensures device { result ≡ Status.Device → Rose (W.failures out.old) (W.failures out.new) }
     ensures parsed { result ≢ Status.CommandLine }
 {
     match try_text(alloc, text, dims, page_rows, name, script, out) {
@@ -150,6 +153,7 @@ fn try_files<R: Files + AllocGlobal, W: Out>(
     requires few_dims { dims ≤ 4 }
     requires some_rows { 2 ≤ page_rows }
     requires few_rows { page_rows ≤ 64 }
+    ensures ended { HasEnded (W.told out.old) (W.told out.new) (W.failures out.old) (W.failures out.new) result }
 {
     let data = words.get_str("DATA").unwrap_or("");
     let script = words.get_str("SCRIPT").unwrap_or("");
@@ -173,8 +177,17 @@ fn try_files<R: Files + AllocGlobal, W: Out>(
     )
 }
 
+// Ends a command line that is none of the commands, which `clap` does not let through.
+fn tell_no_command<W: Out>(out: &mut W) -> Status
+    ensures ended { HasEnded (W.told out.old) (W.told out.new) (W.failures out.old) (W.failures out.new) result }
+{
+    tell(out, b"error: no such command\n", Status::CommandLine)
+}
+
 // The command `try`: its numbers are in their ranges, as `clap` saw to.
-fn run_try<R: Files + AllocGlobal, W: Out>(rt: &R, words: &ArgMatches<'_>, out: &mut W) -> Status {
+fn run_try<R: Files + AllocGlobal, W: Out>(rt: &R, words: &ArgMatches<'_>, out: &mut W) -> Status
+    ensures ended { HasEnded (W.told out.old) (W.told out.new) (W.failures out.old) (W.failures out.new) result }
+{
     match (
         words.get_one::<u32>("dims"),
         words.get_one::<u32>("page-rows"),
@@ -183,12 +196,14 @@ fn run_try<R: Files + AllocGlobal, W: Out>(rt: &R, words: &ArgMatches<'_>, out: 
             if 1 <= dims && dims <= 4 && 2 <= page_rows && page_rows <= 64 => {
             try_files(rt, words, dims, page_rows, out)
         }
-        _ => Status::CommandLine,
+        _ => tell_no_command(out),
     }
 }
 
 // The command `next`.
-fn run_next<W: Out>(alloc: Global, words: &ArgMatches<'_>, out: &mut W) -> Status {
+fn run_next<W: Out>(alloc: Global, words: &ArgMatches<'_>, out: &mut W) -> Status
+    ensures ended { HasEnded (W.told out.old) (W.told out.new) (W.failures out.old) (W.failures out.new) result }
+{
     let low = words.get_str("LO").unwrap_or("");
     let high = words.get_str("HI").unwrap_or("");
     let address = words.get_str("Z").unwrap_or("");
@@ -196,20 +211,34 @@ fn run_next<W: Out>(alloc: Global, words: &ArgMatches<'_>, out: &mut W) -> Statu
 }
 
 // Ends a command line that `clap` did not parse with its text, which may be help or the version.
-fn tell_usage<W: Out>(alloc: Global, error: &clap::Error, out: &mut W) -> Status {
+fn tell_usage<W: Out>(alloc: Global, error: &clap::Error, out: &mut W) -> Status
+    ensures ended { HasEnded (W.told out.old) (W.told out.new) (W.failures out.old) (W.failures out.new) result }
+{
     let status = match error.kind() {
         ErrorKind::OutOfMemory => return tell_memory(out),
         ErrorKind::DisplayHelp | ErrorKind::DisplayVersion => Status::Done,
         _ => Status::CommandLine,
     };
-    match format!(in alloc; "{error}") {
-        Ok(text) => tell(out, text.as_bytes(), status),
+    match usage_lines(alloc, error) {
+        Ok(lines) => tell(out, lines.as_slice(), status),
         Err(_) => tell_memory(out),
     }
 }
 
+// The text of `clap`, with a line feed at its end.
+fn usage_lines(alloc: Global, error: &clap::Error) -> Result<Vec<u8>, AllocError>
+    ensures { IfOk result (λ bytes. (lines : List ℕ) × (bytes.items ≡ lines ++ codes "\n")) }
+{
+    let text = format!(in alloc; "{error}")?;
+    let mut bytes = Vec::from_slice(alloc, text.trim_end().as_bytes())?;
+    bytes.push(b'\n')?;
+    Ok(bytes)
+}
+
 // Runs the command that the words name.
-fn run_words<R: Files + AllocGlobal, W: Out>(rt: &R, words: &[String], out: &mut W) -> Status {
+fn run_words<R: Files + AllocGlobal, W: Out>(rt: &R, words: &[String], out: &mut W) -> Status
+    ensures ended { HasEnded (W.told out.old) (W.told out.new) (W.failures out.old) (W.failures out.new) result }
+{
     let Ok(program) = program(rt.alloc()) else {
         return tell_memory(out);
     };
@@ -217,7 +246,7 @@ fn run_words<R: Files + AllocGlobal, W: Out>(rt: &R, words: &[String], out: &mut
         Ok(matches) => match matches.subcommand() {
             Some(("next", words)) => run_next(rt.alloc(), words, out),
             Some(("try", words)) => run_try(rt, words, out),
-            _ => Status::CommandLine,
+            _ => tell_no_command(out),
         },
         Err(error) => tell_usage(rt.alloc(), &error, out),
     }
@@ -228,7 +257,7 @@ fn run_words<R: Files + AllocGlobal, W: Out>(rt: &R, words: &[String], out: &mut
 /// line was, 3 the data were, 4 a file or the output failed, 5 memory was refused. After a fault the last line tells it,
 /// but for a failed write.
 pub fn command<R: Files + AllocGlobal, W: Out>(rt: &R, words: &[String], out: &mut W) -> u8
-    ensures { result ≤ 5 }
+    ensures { (status : Status) × (result ≡ status_code status) × HasEnded (W.told out.old) (W.told out.new) (W.failures out.old) (W.failures out.new) status }
 {
     run_words(rt, words, out).code()
 }

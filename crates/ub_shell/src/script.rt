@@ -53,6 +53,7 @@ pub fn try_text<W: Out>(
 
     // Nothing is written, or the texts of the first statements and no more.
     ensures memory { IsErrOf result RunFault.Memory → Keeps (W.told out.old) (W.told out.new) ⊎ HasBegun text.now dims page_rows name.now script.now (W.told out.old) (W.told out.new) }
+    ensures counts { W.failures out.old ≤ W.failures out.new }
 {
     let table = read_table(alloc, text, dims, page_rows, name)?;
     let tokens = lex(alloc, script)?;
@@ -76,6 +77,7 @@ fn run_statements<W: Out>(
     ensures write { IsErrOf result RunFault.Write → (n : ℕ) × HaveBroken (table_of table.now) source.now tokens.now (take n ranges.now) (W.told out.old) (W.told out.new) }
     ensures failed { IsErrOf result RunFault.Write → Rose (W.failures out.old) (W.failures out.new) }
     ensures others { IfErr result (λ fault. (fault ≡ RunFault.Memory) ⊎ (fault ≡ RunFault.Write)) }
+    ensures counts { W.failures out.old ≤ W.failures out.new }
 {
     let mut refused = 0u64;
     for range in ranges {
