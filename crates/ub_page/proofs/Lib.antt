@@ -4,3 +4,4 @@ pub mod DistinctFacts
 pub mod DraftFacts
 pub mod HeaderFacts
 pub mod NameFacts
+pub mod RegionFacts

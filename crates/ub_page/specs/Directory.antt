@@ -1,21 +1,17 @@
 -- The pages of a table's directory, format 1.
-use Rattle.std.specs.Prelude.{◌≡◌, ◌≢◌, ◌≤◌, ◌<◌, ◌+◌, ◌^◌, ◌++◌, ◌⊎◌, ℕ, zero, suc, List, [], ◌∷◌, length}
+use Rattle.std.specs.Prelude.{◌≡◌, ◌≢◌, ◌≤◌, ◌<◌, ◌+◌, ◌^◌, ◌++◌, ℕ, zero, suc, List, [], ◌∷◌, length}
 use Rattle.std.specs.List.{flat_map, AllByRecursion}
 use Rattle.ub_zaddr.specs.Address.{last_address}
 use Rattle.ub_page.specs.Bytes.{number_at, layout, padded}
+use Rattle.ub_page.specs.Keys.{IsBefore}
 use Rattle.ub_page.specs.declared.directory.Entry.{Entry}
 use Rattle.ub_page.specs.declared.fault.PageFault.{PageFault}
 use Rattle.ub_page.specs.declared.fault.PageFault.TheVariants.{WrongKind, BadCount, BadRow, BadOrder, BadPadding}
-use Rattle.ub_page.specs.declared.row.Key.{Key}
 
 -- what a page of the directory tells: the entries, and the next page of the directory, 0 for none
 pub record Listing : Type 0 where
   pub entries : List Entry
   pub next : ℕ
-
--- by address, then by row number
-abbrev pub IsBefore : Key → Key → Type 0
-IsBefore a b = (a.z < b.z) ⊎ ((a.z ≡ b.z) × (a.number < b.number))
 
 -- each entry's first key is before the next entry's
 abbrev pub AreAscending : List Entry → Type 0

@@ -3,6 +3,8 @@ pub mod Bytes
 pub mod Directory
 pub mod Draft
 pub mod Header
+pub mod Keys
 pub mod Name
+pub mod Region
 pub mod Schema
 pub mod Table

@@ -2,15 +2,15 @@ ghost use Rattle.std.specs.Prelude.{◌≡◌, ◌+◌, ◌*◌, ◌<◌, ◌≤
 ghost use Rattle.std.specs.List.{flat_map, AllByRecursion};
 ghost use Rattle.ub_zaddr.specs.Address.{last_address};
 ghost use Rattle.ub_page.specs.Bytes.{number_at};
-ghost use Rattle.ub_page.specs.Directory.{Listing, IsBefore, AreAscending, IsEntry, IsListing, entry_bytes, directory_page, entry_on, entries_on, listing_on, IsDirectoryKind, HasCount, HasEntries, IsDirectoryFault};
+ghost use Rattle.ub_page.specs.Directory.{Listing, AreAscending, IsEntry, IsListing, entry_bytes, directory_page, entry_on, entries_on, listing_on, IsDirectoryKind, HasCount, HasEntries, IsDirectoryFault};
 
 use crate::draft::Draft;
 use crate::fault::PageFault;
 use crate::page::{Page, is_same, u8_at, u16_at, u32_at, u128_at};
-use crate::row::Key;
+use crate::row::{Key, is_before};
 use crate::schema::Schema;
 use std::marker::Model;
-use ub_zaddr::{Shape, last};
+use ub_zaddr::last;
 
 /// The most entries that a page of the directory has.
 pub const MAX_ENTRIES: usize = 170;
@@ -168,10 +168,7 @@ fn listing_of(schema: &Schema, page: &Page) -> Result<Directory, PageFault>
 fn last_of(schema: &Schema) -> u128
     ensures { result ≡ last_address schema.now.dims }
 {
-    match Shape::new(schema.dims()) {
-        Ok(shape) => last(shape),
-        Err(_) => unreachable!(),
-    }
+    last(schema.shape())
 }
 
 fn read_entries(page: &Page, count: usize, next: u32) -> Directory
@@ -226,13 +223,6 @@ fn are_ascending(entries: &[Entry]) -> bool
         }
     }
     true
-}
-
-// Whether a key stands before another: by address, then by row number.
-fn is_before(a: &Key, b: &Key) -> bool
-    ensures { IsTrue result ↔ IsBefore a.now b.now }
-{
-    a.z < b.z || (a.z == b.z && a.number < b.number)
 }
 
 #[cfg(test)]

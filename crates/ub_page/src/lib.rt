@@ -17,6 +17,7 @@ pub mod header;
 pub mod keyword;
 pub mod name;
 pub mod page;
+pub mod region;
 pub mod row;
 pub mod schema;
 
@@ -27,5 +28,6 @@ pub use header::{Header, read_header, write_header};
 pub use keyword::is_keyword;
 pub use name::Name;
 pub use page::Page;
+pub use region::write_region;
 pub use row::{Key, Row};
 pub use schema::Schema;

@@ -30,6 +30,14 @@ pub(crate) fn u32_at(page: &Page, place: usize) -> u32
     BigEndian::read_u32(&page[place..])
 }
 
+// The number in the eight bytes from a place on.
+pub(crate) fn u64_at(page: &Page, place: usize) -> u64
+    requires { place + 8 ≤ 4096 }
+    ensures { result ≡ number_at 8 place page.now }
+{
+    BigEndian::read_u64(&page[place..])
+}
+
 // The number in the sixteen bytes from a place on.
 pub(crate) fn u128_at(page: &Page, place: usize) -> u128
     requires { place + 16 ≤ 4096 }

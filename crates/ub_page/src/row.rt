@@ -1,4 +1,5 @@
-ghost use Rattle.std.specs.Prelude.{◌≡◌, ◌+◌, ◌<◌};
+ghost use Rattle.std.specs.Prelude.{◌≡◌, ◌+◌, ◌<◌, ◌↔◌, IsTrue};
+ghost use Rattle.ub_page.specs.Keys.{IsBefore};
 
 /// One row of a table: its number, from 1 in the order of insertion, its coordinates, and its measures.
 ///
@@ -39,6 +40,13 @@ impl Row {
             i128::from(self.measures[column - dims])
         }
     }
+}
+
+// Whether a key stands before another: by address, then by row number.
+pub(crate) fn is_before(a: &Key, b: &Key) -> bool
+    ensures { IsTrue result ↔ IsBefore a.now b.now }
+{
+    a.z < b.z || (a.z == b.z && a.number < b.number)
 }
 
 #[cfg(test)]

@@ -4,6 +4,7 @@ ghost use Rattle.ub_page.specs.Schema.{AreCounts, AreDistinct};
 use crate::columns::Columns;
 use crate::fault::PageFault;
 use crate::name::Name;
+use ub_zaddr::Shape;
 
 /// What a table is called and made of: its name, its columns (dimensions first, then measures), how many of them are
 /// dimensions (1 to 4; 0 to 4 are measures), and how many rows a region page holds (2 to 64).
@@ -77,6 +78,16 @@ impl Schema {
         ensures few { result ≤ 4 }
     {
         self.columns.len() as u32 - self.dims
+    }
+
+    // The dimensions, as the shape of a space.
+    pub(crate) fn shape(&self) -> Shape
+        ensures { result ≡ self.now.dims }
+    {
+        match Shape::new(self.dims()) {
+            Ok(shape) => shape,
+            Err(_) => unreachable!(),
+        }
     }
 
     /// How many rows a region page holds: 2 to 64.
