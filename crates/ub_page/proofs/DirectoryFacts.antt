@@ -11,7 +11,7 @@ use Rattle.ub_page.specs.declared.fault.PageFault.TheVariants.{WrongKind, Unclea
 use Rattle.ub_page.proofs.BytesFacts.{layout_read, length-layout, AllFit}
 
 -- an address of a space of at most four dimensions takes 16 bytes
-small_address : (d z : ℕ) → d ≤ 4 → z ≤ last_address d → z < 256 ^ 16
+pub small_address : (d z : ℕ) → d ≤ 4 → z ≤ last_address d → z < 256 ^ 16
 small_address zero z few le = omega arith
 small_address (suc zero) z few le = omega arith
 small_address (suc (suc zero)) z few le = omega arith

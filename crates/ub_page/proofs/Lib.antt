@@ -3,5 +3,8 @@ pub mod DirectoryFacts
 pub mod DistinctFacts
 pub mod DraftFacts
 pub mod HeaderFacts
+pub mod KeyFacts
+pub mod MaskFacts
 pub mod NameFacts
+pub mod PlacesFacts
 pub mod RegionFacts

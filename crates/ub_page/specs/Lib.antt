@@ -6,5 +6,6 @@ pub mod Header
 pub mod Keys
 pub mod Name
 pub mod Region
+pub mod RowBlock
 pub mod Schema
 pub mod Table

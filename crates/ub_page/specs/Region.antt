@@ -1,5 +1,5 @@
 -- The pages of a table's regions, format 1.
-use Rattle.std.specs.Prelude.{◌≡◌, ◌≢◌, ◌≤◌, ◌<◌, ◌+◌, ◌-◌, ◌*◌, ◌^◌, ◌++◌, ℕ, ℤ, pos, List, [], ◌∷◌, Some, length, map, take, drop, replicate, slice_get, slice_index, slice_index_or, FitsSigned}
+use Rattle.std.specs.Prelude.{◌≡◌, ◌≢◌, ◌≤◌, ◌<◌, ◌+◌, ◌-◌, ◌*◌, ◌^◌, ◌++◌, ℕ, pos, List, [], ◌∷◌, Some, length, map, take, drop, replicate, slice_get, slice_index, slice_index_or, FitsSigned}
 use Rattle.std.specs.Int.{w64, cast_signed, cast_unsigned}
 use Rattle.std.specs.List.{All, AllByRecursion, flat_map, range_with_len}
 use Rattle.ub_zaddr.specs.Address.{address, last_address}

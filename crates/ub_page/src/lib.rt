@@ -28,6 +28,6 @@ pub use header::{Header, read_header, write_header};
 pub use keyword::is_keyword;
 pub use name::Name;
 pub use page::Page;
-pub use region::write_region;
+pub use region::{RegionPage, write_region};
 pub use row::{Key, Row};
 pub use schema::Schema;

@@ -1,4 +1,5 @@
 ghost use Rattle.std.specs.Prelude.{◌≡◌, ◌+◌, ◌<◌, ◌≤◌, ◌^◌, ◌↔◌, IsTrue};
+ghost use Rattle.std.specs.Int.{w64, cast_signed};
 ghost use Rattle.ub_page.specs.Bytes.{number_at};
 
 use byteorder::{BigEndian, ByteOrder};
@@ -31,11 +32,19 @@ pub(crate) fn u32_at(page: &Page, place: usize) -> u32
 }
 
 // The number in the eight bytes from a place on.
-pub(crate) fn u64_at(page: &Page, place: usize) -> u64
+fn u64_at(page: &Page, place: usize) -> u64
     requires { place + 8 ≤ 4096 }
     ensures { result ≡ number_at 8 place page.now }
 {
     BigEndian::read_u64(&page[place..])
+}
+
+// The same eight bytes in two's complement.
+pub(crate) fn i64_at(page: &Page, place: usize) -> i64
+    requires { place + 8 ≤ 4096 }
+    ensures { result ≡ cast_signed w64 (number_at 8 place page.now) }
+{
+    u64_at(page, place).cast_signed()
 }
 
 // The number in the sixteen bytes from a place on.
