@@ -1,7 +1,7 @@
 // The types that every layer speaks of, and the rules that they keep: a name is spelled as the language spells names, a
 // schema has its numbers in range and no two columns of one name. A row is plain data, and so is the key by which the
-// tree orders it. And the pages of a table's file: the header, and the directory of its regions, each value with one
-// spelling of 4096 bytes. A reader takes what a writer spells and refuses all else.
+// tree orders it. And the pages of a table's file: the header, the directory of its regions, and the regions, each value
+// with one spelling of 4096 bytes. A reader takes what a writer spells and refuses all else.
 //
 // What belongs here is what a table is and how its pages are spelled (the definitions stand in specs/). How addresses are
 // computed, how texts are read, where pages are kept and how rows are found stands elsewhere. Nothing in this crate takes

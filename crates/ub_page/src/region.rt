@@ -104,7 +104,7 @@ impl RegionPage {
         requires { i < length self.now.region.rows }
         ensures { slice_get (keys_of self.now.dims self.now.region.rows) i ≡ Some result }
     {
-        key_of(self.shape, &self.rows()[i])
+        key_of(self.shape, &self.row(i))
     }
 
     /// Which rows lie in a box of the region's shape: bit i is 1 exactly where there is a row at place i, from 0, and it
@@ -284,7 +284,7 @@ fn read_region(schema: &Schema, page: &Page) -> RegionPage
     }
 }
 
-// So many rows of the page, and blank ones after them.
+// The rows of a page that tells of so many, and blank ones after them.
 fn read_rows(schema: &Schema, page: &Page, count: usize) -> [Row; MAX_ROWS]
     requires { count ≤ 64 }
     ensures { result ≡ map (row_on schema.now.dims (measures_of schema.now) count page.now) (range_with_len 0 count) ++ replicate (64 - count) blank_row }
@@ -332,8 +332,8 @@ fn read_dims(page: &Page, dims: usize, place: usize, count: usize, i: usize) -> 
     ensures { result ≡ places 0 (λ d. number_at 4 (place + 4 * (count * d + i)) page.now) dims }
 {
     let mut values = [0; 4];
-    for d in 0..dims {
-        values[d] = u32_at(page, place + 4 * (count * d + i));
+    for dim in 0..dims {
+        values[dim] = u32_at(page, place + 4 * (count * dim + i));
     }
     values
 }
@@ -347,8 +347,8 @@ fn read_measures(page: &Page, measures: usize, place: usize, count: usize, i: us
     ensures { result ≡ places (pos 0) (λ m. cast_signed w64 (number_at 8 (place + 8 * (count * m + i)) page.now)) measures }
 {
     let mut values = [0; 4];
-    for m in 0..measures {
-        values[m] = i64_at(page, place + 8 * (count * m + i));
+    for measure in 0..measures {
+        values[measure] = i64_at(page, place + 8 * (count * measure + i));
     }
     values
 }
@@ -520,8 +520,9 @@ mod tests {
 
     #[test]
     fn masks_rows_in_a_box(rt: HostRuntime) -> Result<(), Fail> {
-        let region = RegionPage::read(&plane()?, &low_page())?;
-        let shape = Shape::new(2)?;
+        let schema = plane()?;
+        let region = RegionPage::read(&schema, &low_page())?;
+        let shape = Shape::new(schema.dims())?;
         let lo = Point::new(shape, &[0, 0])?;
         let hi = Point::new(shape, &[0, 3])?;
         let zbox = ZBox::new(shape, &lo, &hi).ok_or(PageFault::BadCount)?;

@@ -5,7 +5,7 @@ use Rattle.ub_page.specs.Bytes.{number_at}
 use Rattle.ub_page.proofs.PlacesFacts.{block_more}
 use Rattle.ub_page.proofs.region.read_measures.Goals as goal
 
-pub loop-m-preserved : goal.loop-m-preserved
-loop-m-preserved c =
-    rw (to_z-of_z w64 c.i64_at.result (search rules), c.i64_at.ensures, c.loop-m.invariant)
-    (block_more 4 (pos 0) (λ m. cast_signed w64 (number_at 8 (c.args.place + 8 * (c.args.count * m + c.args.i)) c.args.page.now)) c.loop-m.m (omega arith))
+pub loop-measure-preserved : goal.loop-measure-preserved
+loop-measure-preserved c =
+    rw (to_z-of_z w64 c.i64_at.result (search rules), c.i64_at.ensures, c.loop-measure.invariant)
+    (block_more 4 (pos 0) (λ m. cast_signed w64 (number_at 8 (c.args.place + 8 * (c.args.count * m + c.args.i)) c.args.page.now)) c.loop-measure.measure (omega arith))
