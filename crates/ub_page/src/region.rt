@@ -57,6 +57,7 @@ impl RegionPage {
     /// row's key is before the first key), `BadPadding` (a byte that no field uses is not zero). Takes no memory.
     pub fn read(schema: &Schema, page: &Page) -> Result<RegionPage, PageFault>
         ensures dims { IfOk result (λ r. r.dims ≡ schema.now.dims) }
+        ensures on { IfOk result (λ r. r.region ≡ region_on schema.now page.now) }
         ensures found { IfOk result (λ r. IsRegion schema.now r.region × (page.now ≡ region_page schema.now r.region)) }
         ensures exact { (region : Region) → IsRegion schema.now region → page.now ≡ region_page schema.now region → result ≡ Ok (record { dims = schema.now.dims; region = region }) }
         ensures refused { IfErr result (IsRegionFault schema.now page.now) }
@@ -157,7 +158,9 @@ fn key_of(shape: Shape, row: &Row) -> Key
 /// columns hold. Takes no memory.
 pub fn write_region(schema: &Schema, first: Key, rows: &[Row]) -> Page
     requires { length rows.now ≤ 64 }
-    ensures { result ≡ region_page schema.now (record { first = first; rows = rows.now }) }
+    ensures page { result ≡ region_page schema.now (record { first = first; rows = rows.now }) }
+    // what a page can hold stands on it
+    ensures reads_back { IsRegion schema.now (record { first = first; rows = rows.now }) → region_on schema.now result ≡ record { first = first; rows = rows.now } }
 {
     let mut draft = Draft::new();
     draft.put_u8(KIND);

@@ -1,8 +1,8 @@
-use Rattle.ub_page.proofs.RegionFacts.{written}
+use Rattle.ub_page.proofs.RegionFacts.{written, parts}
 use Rattle.ub_page.proofs.region.write_region.Goals as goal
 
-pub returns : goal.returns
-returns c =
+pub returns-clause-page : goal.returns-clause-page
+returns-clause-page c =
     rw (
       c.finish.ensures,
       c.put_measures.ensures,
@@ -18,3 +18,6 @@ returns c =
     )
     (rw (c.dims.ensures.dims, c.measures.ensures.measures, c.dims-2.ensures.dims, c.measures-2.ensures.measures)
     (written c.args.schema.now c.args.first c.args.rows.now))
+
+pub returns-clause-reads_back : goal.returns-clause-reads_back
+returns-clause-reads_back c = λ is. (parts c.args.schema.now (record { first = c.args.first; rows = c.args.rows.now }) _ is (returns-clause-page c)).on

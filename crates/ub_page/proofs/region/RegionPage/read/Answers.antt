@@ -10,14 +10,14 @@ returns-in_err-region-clause-exact c = λ region is e. absurd (not_refused c.arg
 pub returns-then-not-is_same-clause-refused : goal.returns-then-not-is_same-clause-refused
 returns-then-not-is_same-clause-refused c =
     let read = c.in_ok-region.ensures in
-    let written : c.write_region.result ≡ region_page c.args.schema.now c.in_ok-region.region.region = rw (c.first.ensures, c.rows.ensures.rows) at c.write_region.ensures in
+    let written : c.write_region.result ≡ region_page c.args.schema.now c.in_ok-region.region.region = rw (c.first.ensures, c.rows.ensures.rows) at c.write_region.ensures.page in
     padding_fault c.args.schema.now c.in_ok-region.region.region c.args.page.now read.region.1 read.range.0 read.range.1 read.range.2 read.order.0 read.order.1
     (λ e. let yes : c.is_same.result ≡ true = c.is_same.ensures.1 (written ∙ e) in let no = c.if-not-is_same.true in cc)
 
 pub returns-then-not-is_same-clause-exact : goal.returns-then-not-is_same-clause-exact
 returns-then-not-is_same-clause-exact c = λ region is e.
     let read = c.in_ok-region.ensures in
-    let written : c.write_region.result ≡ region_page c.args.schema.now c.in_ok-region.region.region = rw (c.first.ensures, c.rows.ensures.rows) at c.write_region.ensures in
+    let written : c.write_region.result ≡ region_page c.args.schema.now c.in_ok-region.region.region = rw (c.first.ensures, c.rows.ensures.rows) at c.write_region.ensures.page in
     let fault = padding_fault c.args.schema.now c.in_ok-region.region.region c.args.page.now read.region.1 read.range.0 read.range.1 read.range.2 read.order.0 read.order.1
     (λ e. let yes : c.is_same.result ≡ true = c.is_same.ensures.1 (written ∙ e) in let no = c.if-not-is_same.true in cc) in
     absurd (fault.5 region is e)
@@ -25,7 +25,7 @@ returns-then-not-is_same-clause-exact c = λ region is e.
 pub returns-clause-found : goal.returns-clause-found
 returns-clause-found c =
     let read = c.in_ok-region.ensures in
-    let written : c.write_region.result ≡ region_page c.args.schema.now c.in_ok-region.region.region = rw (c.first.ensures, c.rows.ensures.rows) at c.write_region.ensures in
+    let written : c.write_region.result ≡ region_page c.args.schema.now c.in_ok-region.region.region = rw (c.first.ensures, c.rows.ensures.rows) at c.write_region.ensures.page in
     let is : IsRegion c.args.schema.now (region_on c.args.schema.now c.args.page.now) = is_region c.args.schema.now c.args.page.now c.fits-page read.range.1 read.range.2 read.order.0 read.order.1 in
     (rw (sym read.region.1) at is, sym (c.is_same.ensures.0 c.if-not-is_same.false) ∙ written)
 
