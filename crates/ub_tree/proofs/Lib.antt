@@ -1,0 +1,4 @@
+pub mod KeyFacts
+pub mod PlaceFacts
+pub mod SpanFacts
+pub mod SeekFacts

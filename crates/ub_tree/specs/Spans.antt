@@ -1,0 +1,40 @@
+-- The spans of a UB-tree's regions (Bayer 1997), and which regions a search asks for.
+use Rattle.std.specs.Prelude.{◌≤◌, ℕ, zero, suc, ◌-◌, List, [], ◌∷◌, map, Option, MatchOption, IfSome, Contains}
+use Rattle.ub_bigmin.specs.Box.{Corners, HoldsAny}
+use Rattle.ub_page.specs.Keys.{IsBefore}
+use Rattle.ub_page.specs.declared.directory.Entry.{Entry}
+use Rattle.ub_page.specs.declared.row.Key.{Key}
+use Rattle.ub_tree.specs.declared.region.Region.{Region}
+
+-- the greatest address that a key before this one, of an address and a number, can have
+abbrev pub address_before : ℕ → ℕ → ℕ
+address_before z zero = z - 1
+address_before z (suc n) = z
+
+-- where a span ends before regions with these first keys: with the last address of all, if there are none
+abbrev pub span_end : ℕ → List Key → ℕ
+span_end last [] = last
+span_end last (next ∷ firsts) = address_before next.z next.number
+
+abbrev pub first_keys : List Entry → List Key
+first_keys entries = map (λ entry. entry.first) entries
+
+-- the regions of these entries, each with its span, in a space that ends with this address
+abbrev pub regions_of : ℕ → List Entry → List Region
+regions_of last [] = []
+regions_of last (entry ∷ entries) =
+    record { first = entry.first; from = entry.first.z; to = span_end last (first_keys entries); page = entry.page } ∷ regions_of last entries
+
+-- some address of the region's span lies in one of the boxes
+abbrev pub Meets : List Corners → Region → Type 0
+Meets boxes region = (z : ℕ) × HoldsAny boxes z × (region.from ≤ z) × (z ≤ region.to)
+
+-- the region begins after another one, where one is given
+abbrev pub IsLater : Option Region → Region → Type 0
+IsLater after region = IfSome after (λ other. IsBefore other.first region.first)
+
+-- r is the first of the regions that have a property, in the order of their first keys; or none has it
+abbrev pub First : (Region → Type 0) → List Region → Option Region → Type 0
+First P regions found =
+    MatchOption found ((r : Region) → Contains regions r → ¬ (P r))
+    (λ r. Contains regions r × P r × ((other : Region) → Contains regions other → P other → ¬ (IsBefore other.first r.first)))

@@ -1,0 +1,14 @@
+use ub_page::Key;
+
+/// A region: its place in the order of addresses, the span of addresses that its rows can have, and its page.
+#[derive(Clone, Copy, PartialEq, Eq, Debug)]
+pub struct Region {
+    /// The region's first key: no row of it is before.
+    pub first: Key,
+    /// The first address of the span: that of the first key.
+    pub from: u128,
+    /// The last address of the span. The next region's span can begin with the same address.
+    pub to: u128,
+    /// The region's page: at least 1.
+    pub page: u32,
+}

@@ -1,0 +1,180 @@
+ghost use Rattle.std.specs.Prelude.{◌≡◌, ◌+◌, ◌<◌, ◌≤◌, [], ◌∷◌, ◌++◌, length, take, drop, is_some, IfSome};
+ghost use Rattle.std.specs.Option.{IfNone};
+ghost use Rattle.ub_page.specs.Region.{key_of};
+ghost use Rattle.ub_tree.specs.Rows.{insert_row, has_key, remove_row, cut, key_at, split};
+
+use crate::keys::{first_between, is_before, is_equal, row_key};
+use std::marker::Model;
+use ub_page::{Key, Row};
+use ub_zaddr::Shape;
+
+/// The most rows that a list of them has: one more than a page holds.
+pub const MAX_ROWS: usize = 65;
+
+/// The rows of one region, at most 65, in the order of their keys. They stand in the value itself.
+#[derive(Drop)]
+pub struct Rows {
+    rows: [Row; MAX_ROWS],
+    len: usize,
+}
+
+impl Model for Rows {
+    ghost use Rattle.std.specs.Prelude.{List, ◌≤◌, take};
+    ghost use Rattle.ub_page.specs.declared.row.Row.{Row};
+
+    ghost Value = { List Row };
+
+    ghost view = { λ r. take r.len r.rows };
+
+    ghost invariant = { λ r. r.len ≤ 65 };
+}
+
+/// What a list of rows is split into: two lists, and the first key of the second.
+#[derive(Drop)]
+pub struct Halves {
+    /// The rows of the first keys.
+    pub left: Rows,
+    /// The first key of the region that takes the other rows.
+    pub first: Key,
+    /// The other rows.
+    pub right: Rows,
+}
+
+impl Rows {
+    /// No rows.
+    pub fn new() -> Rows
+        ensures { result ≡ [] }
+    {
+        let row = Row {
+            number: 0,
+            dims: [0; 4],
+            measures: [0; 4],
+        };
+        Rows {
+            rows: [row; MAX_ROWS],
+            len: 0,
+        }
+    }
+
+    /// These rows, at most 65.
+    pub fn from_slice(rows: &[Row]) -> Rows
+        requires { length rows.now ≤ 65 }
+        ensures { result ≡ rows.now }
+    {
+        let mut all = Rows::new();
+        all.extend(rows);
+        all
+    }
+
+    /// The rows in order: at most 65.
+    pub fn as_slice(&self) -> &[Row]
+        ensures rows { result.now ≡ self.now }
+        ensures few { length result.now ≤ 65 }
+    {
+        &self.rows[..self.len]
+    }
+
+    fn push(&mut self, row: Row)
+        requires { length self.old < 65 }
+        ensures { self.new ≡ self.old ++ row ∷ [] }
+    {
+        self.rows[self.len] = row;
+        self.len += 1;
+    }
+
+    /// Puts rows after the others, where there are at most 65 together.
+    pub fn extend(&mut self, rows: &[Row])
+        requires { length self.old + length rows.now ≤ 65 }
+        ensures { self.new ≡ self.old ++ rows.now }
+    {
+        for row in rows {
+            self.push(*row);
+        }
+    }
+
+    /// Puts a row in its place in the order of keys. There is room for one.
+    pub fn insert(&mut self, shape: Shape, row: Row)
+        requires { length self.old < 65 }
+        ensures { self.new ≡ insert_row shape row self.old }
+    {
+        let place = place_for(shape, &row, self.as_slice());
+        let (before, after) = self.as_slice().split_at(place);
+        let mut all = Rows::from_slice(before);
+        all.push(row);
+        all.extend(after);
+        *self = all;
+    }
+
+    /// Takes out the row with this key, and tells whether there is one.
+    pub fn remove(&mut self, shape: Shape, key: &Key) -> bool
+        ensures found { result ≡ has_key shape key.now self.old }
+        ensures rows { self.new ≡ remove_row shape key.now self.old }
+    {
+        let Some(place) = find(shape, key, self.as_slice()) else {
+            return false;
+        };
+        let rows = self.as_slice();
+        let (before, _) = rows.split_at(place);
+        let (_, after) = rows.split_at(place + 1);
+        let mut all = Rows::from_slice(before);
+        all.extend(after);
+        *self = all;
+        true
+    }
+
+    /// The halves of c + 1 rows, where a page holds c: the first (c + 2) / 2, and the others.
+    pub fn split(&self, shape: Shape, page_rows: u32) -> Halves
+        requires some { 2 ≤ page_rows }
+        requires over { length self.now ≡ page_rows + 1 }
+        ensures { let halves = split shape page_rows self.now in (result.left ≡ halves.left) × (result.first ≡ halves.first) × (result.right ≡ halves.right) }
+    {
+        let count = (page_rows as usize + 2) / 2;
+        let rows = self.as_slice();
+        let (left, right) = rows.split_at(count);
+        let first = first_between(
+            &row_key(shape, &rows[count - 1]),
+            &row_key(shape, &rows[count]),
+        );
+        Halves {
+            left: Rows::from_slice(left),
+            first,
+            right: Rows::from_slice(right),
+        }
+    }
+
+    /// The rows of this region and of the next one, at most 65 together.
+    pub fn join(&mut self, next: &Rows)
+        requires { length self.old + length next.now ≤ 65 }
+        ensures { self.new ≡ self.old ++ next.now }
+    {
+        self.extend(next.as_slice());
+    }
+}
+
+// How many rows stand before the first one whose key is after that of the row.
+fn place_for(shape: Shape, row: &Row, rows: &[Row]) -> usize
+    ensures within { result ≤ length rows.now }
+    ensures place { insert_row shape row.now rows.now ≡ take result rows.now ++ row.now ∷ drop result rows.now }
+{
+    let key = row_key(shape, row);
+    for (i, other) in rows.iter().enumerate() {
+        if is_before(&key, &row_key(shape, other)) {
+            return i;
+        }
+    }
+    rows.len()
+}
+
+// The place of the first row with this key.
+fn find(shape: Shape, key: &Key, rows: &[Row]) -> Option<usize>
+    ensures found { is_some result ≡ has_key shape key.now rows.now }
+    ensures place { IfSome result (λ i. (i < length rows.now) × (remove_row shape key.now rows.now ≡ take i rows.now ++ drop (i + 1) rows.now)) }
+    ensures none { IfNone result (remove_row shape key.now rows.now ≡ rows.now) }
+{
+    for (i, row) in rows.iter().enumerate() {
+        if is_equal(key, &row_key(shape, row)) {
+            return Some(i);
+        }
+    }
+    None
+}
