@@ -2,3 +2,5 @@ pub mod KeyFacts
 pub mod PlaceFacts
 pub mod SpanFacts
 pub mod SeekFacts
+pub mod Example
+pub mod EntryFacts

@@ -100,11 +100,13 @@ reaches last z (e ∷ next ∷ entries) up le zero r at =
       | inr f ↦ rw f (λ x. absurd (let t = is.0 (omega arith) in cc), λ x. absurd (omega arith))
     ]
 reaches last z (e ∷ next ∷ entries) up le (suc i) r at =
-    let more : (z ≤ r.to) ↔ (place_of (record { z = z; number = 0 }) (first_keys (next ∷ entries)) ≤ i) =
-    reaches last z (next ∷ entries) (and_parts _ _ up).1 le i r at in
+    let both : (precedes e.first next.first ≡ true) × (are_ascending (first_keys (next ∷ entries)) ≡ true) = and_parts _ _ up in
+    let rest_up = both.1 in
+    let more : (z ≤ r.to) ↔ (place_of (record { z = z; number = 0 }) (first_keys (next ∷ entries)) ≤ i) = reaches last z (next ∷ entries) rest_up le i r at in
     elim (cases_Bool (precedes (record { z = z; number = 0 }) next.first)) [
       | inl t ↦
-          let none : place_of (record { z = z; number = 0 }) (first_keys (next ∷ entries)) ≡ 0 = place_zero (record { z = z; number = 0 }) next.first (first_keys entries) (and_parts _ _ up).1 t in
+          let none : place_of (record { z = z; number = 0 }) (first_keys (next ∷ entries)) ≡ 0 =
+          place_zero (record { z = z; number = 0 }) next.first (first_keys entries) rest_up t in
           let far : z ≤ r.to = more.1 (omega (arith, none)) in
           rw t (λ x. omega arith, λ x. far)
       | inr f ↦ rw f (λ x. let n = more.0 x in omega arith, λ x. more.1 (omega arith))

@@ -47,23 +47,23 @@ place_of key (first ∷ firsts) = if is_before_next key firsts then 0 else suc (
 abbrev pub change_from : ℕ → (List Region → List Region) → List Region → List Region
 change_from place change regions = take place regions ++ change (drop place regions)
 
--- a region of a row more than a page holds becomes two
+-- a region of a row more than the c that a page holds becomes two
 abbrev pub two_regions : Key → Halves → List Region
 two_regions first halves = record { first = first; rows = halves.left } ∷ record { first = halves.first; rows = halves.right } ∷ []
 
-abbrev pub split_region : Schema → Region → List Region
-split_region schema region =
-    if nat_le (length region.rows) schema.page_rows then region ∷ [] else two_regions region.first (split schema.dims schema.page_rows region.rows)
+abbrev pub split_region : ℕ → ℕ → Region → List Region
+split_region dims c region =
+    if nat_le (length region.rows) c then region ∷ [] else two_regions region.first (split dims c region.rows)
 
 -- the row put into the first region
-abbrev pub insert_first : Schema → Row → List Region → List Region
-insert_first schema row [] = []
-insert_first schema row (region ∷ regions) =
-    split_region schema (record { first = region.first; rows = insert_row schema.dims row region.rows }) ++ regions
+abbrev pub insert_first : ℕ → ℕ → Row → List Region → List Region
+insert_first dims c row [] = []
+insert_first dims c row (region ∷ regions) =
+    split_region dims c (record { first = region.first; rows = insert_row dims row region.rows }) ++ regions
 
--- insertion: the row is put into the region that holds its key
-abbrev pub insert : Schema → Row → List Region → List Region
-insert schema row regions = change_from (place_of (key_of schema.dims row) (firsts_of regions)) (insert_first schema row) regions
+-- insertion, where a page holds c rows: the row is put into the region that holds its key
+abbrev pub insert : ℕ → ℕ → Row → List Region → List Region
+insert dims c row regions = change_from (place_of (key_of dims row) (firsts_of regions)) (insert_first dims c row) regions
 
 -- the row of the key taken from the first region
 abbrev pub remove_first : ℕ → Key → List Region → List Region
@@ -100,9 +100,9 @@ settle c place regions =
     else regions
 
 -- removal of the row of a key: it is taken from the region that holds the key, which may then have too few rows
-abbrev pub remove_at : Schema → Key → ℕ → List Region → List Region
-remove_at schema key place regions = settle schema.page_rows place (change_from place (remove_first schema.dims key) regions)
+abbrev pub remove_at : ℕ → ℕ → Key → ℕ → List Region → List Region
+remove_at dims c key place regions = settle c place (change_from place (remove_first dims key) regions)
 
-abbrev pub remove : Schema → Key → List Region → List Region
-remove schema key regions =
-    if has_key schema.dims key (rows_of regions) then remove_at schema key (place_of key (firsts_of regions)) regions else regions
+abbrev pub remove : ℕ → ℕ → Key → List Region → List Region
+remove dims c key regions =
+    if has_key dims key (rows_of regions) then remove_at dims c key (place_of key (firsts_of regions)) regions else regions

@@ -1,9 +1,10 @@
 -- The spans of a UB-tree's regions (Bayer 1997), and which regions a search asks for.
-use Rattle.std.specs.Prelude.{◌≤◌, ℕ, zero, suc, ◌-◌, List, [], ◌∷◌, map, Option, MatchOption, IfSome, Contains}
+use Rattle.std.specs.Prelude.{◌≡◌, ◌≤◌, ℕ, zero, suc, ◌-◌, List, [], ◌∷◌, map, Option, Some, MatchOption, IfSome, All, Contains, IsTrue, slice_get}
 use Rattle.ub_bigmin.specs.Box.{Corners, HoldsAny}
 use Rattle.ub_page.specs.Keys.{IsBefore}
 use Rattle.ub_page.specs.declared.directory.Entry.{Entry}
 use Rattle.ub_page.specs.declared.row.Key.{Key}
+use Rattle.ub_tree.specs.Keys.{origin, are_ascending}
 use Rattle.ub_tree.specs.declared.region.Region.{Region}
 
 -- the greatest address that a key before this one, of an address and a number, can have
@@ -18,6 +19,11 @@ span_end last (next ∷ firsts) = address_before next.z next.number
 
 abbrev pub first_keys : List Entry → List Key
 first_keys entries = map (λ entry. entry.first) entries
+
+-- the entries are those of a tree's regions in order, in a space that ends with this address
+abbrev pub ArePlaces : ℕ → List Entry → Type 0
+ArePlaces last entries =
+    (slice_get (first_keys entries) 0 ≡ Some origin) × All (λ entry. entry.first.z ≤ last) entries × IsTrue (are_ascending (first_keys entries))
 
 -- the regions of these entries, each with its span, in a space that ends with this address
 abbrev pub regions_of : ℕ → List Entry → List Region

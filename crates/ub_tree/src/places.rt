@@ -1,12 +1,14 @@
-ghost use Rattle.std.specs.Prelude.{◌≡◌, ℕ, ◌+◌, ◌-◌, ◌<◌, ◌≤◌, ◌↔◌, max, Some, None, IsTrue, All, Bool, if◌then◌else◌, nat_le, nat_lt, length, slice_get, option_copied};
+ghost use Rattle.std.specs.Prelude.{◌≡◌, ℕ, ◌+◌, ◌-◌, ◌<◌, ◌≤◌, ◌↔◌, max, Some, None, IsTrue, All, Bool, if◌then◌else◌, nat_le, nat_lt, length, slice_get, option_copied, IsSome, IfSome, OnOk, OnErr};
+ghost use Rattle.std.specs.List.{insert, remove};
 ghost use Rattle.ub_bigmin.specs.Box.{Corners};
 ghost use Rattle.ub_page.specs.Keys.{IsBefore};
 ghost use Rattle.ub_tree.specs.Keys.{origin, are_ascending};
 ghost use Rattle.ub_tree.specs.Regions.{place_of};
-ghost use Rattle.ub_tree.specs.Spans.{address_before, first_keys, regions_of, Meets, IsLater, First};
+ghost use Rattle.ub_tree.specs.Spans.{ArePlaces, address_before, first_keys, regions_of, Meets, IsLater, First};
 
 use crate::keys::is_before;
 use crate::region::Region;
+use std::alloc::AllocError;
 use ub_bigmin::{ZBox, next_in_any};
 use ub_page::{Entry, Key};
 
@@ -23,6 +25,41 @@ pub struct Places {
 }
 
 impl Places {
+    /// The regions of these entries, in a space with this last address. `None` unless the first one begins with the least
+    /// key of all, each begins after the one before it, and none begins after the last address.
+    pub fn new(entries: Vec<Entry>, last: u128) -> Option<Places>
+        ensures some { IsSome result ↔ ArePlaces last entries.items }
+        ensures parts { IfSome result (λ p. (p.entries ≡ entries) × (p.last ≡ last)) }
+    {
+        if begins(&entries) && are_within(&entries, last) && are_in_order(&entries) {
+            Some(Places { entries, last })
+        } else {
+            None
+        }
+    }
+
+    /// Puts an entry after the one at a place, where the entries stay in order. Refused memory leaves all as it was.
+    pub fn insert_after(&mut self, place: usize, entry: Entry) -> Result<(), AllocError>
+        requires place { place < length self.old.entries.items }
+        requires places { ArePlaces self.old.last (insert self.old.entries.items (place + 1) entry) }
+        ensures last { self.new.last ≡ self.old.last }
+        ensures ok { OnOk result (self.new.entries.items ≡ insert self.old.entries.items (place + 1) entry) }
+        ensures err { OnErr result (self.new.entries.items ≡ self.old.entries.items) }
+    {
+        self.entries.insert(place + 1, entry)?;
+        Ok(())
+    }
+
+    /// Takes out the entry at a place, but not the first one.
+    pub fn remove(&mut self, place: usize)
+        requires some { 1 ≤ place }
+        requires within { place < length self.old.entries.items }
+        ensures last { self.new.last ≡ self.old.last }
+        ensures entries { self.new.entries.items ≡ remove self.old.entries.items place }
+    {
+        self.entries.remove(place);
+    }
+
     /// The place of the region that holds a key: the last one that does not begin after it.
     pub fn place_of(&self, key: &Key) -> usize
         ensures place { result ≡ place_of key.now (first_keys self.now.entries.items) }
@@ -110,6 +147,35 @@ impl Places {
     }
 }
 
+// Whether the first region begins with the least key of all.
+fn begins(entries: &[Entry]) -> bool
+    ensures { IsTrue result ↔ (slice_get (first_keys entries.now) 0 ≡ Some origin) }
+{
+    match entries.first() {
+        Some(entry) => entry.first.z == 0 && entry.first.number == 0,
+        None => false,
+    }
+}
+
+// Whether no region begins after this address.
+fn are_within(entries: &[Entry], last: u128) -> bool
+    ensures { IsTrue result ↔ All (λ entry. entry.first.z ≤ last) entries.now }
+{
+    entries.iter().all(|entry| entry.first.z <= last)
+}
+
+// Whether each region begins after the one before it.
+fn are_in_order(entries: &[Entry]) -> bool
+    ensures { result ≡ are_ascending (first_keys entries.now) }
+{
+    for i in 1..entries.len() {
+        if !is_before(&entries[i - 1].first, &entries[i].first) {
+            return false;
+        }
+    }
+    true
+}
+
 // The greatest address that a key before this one can have.
 fn end_before(key: &Key) -> u128
     ensures { result ≡ address_before key.now.z key.now.number }
@@ -118,5 +184,88 @@ fn end_before(key: &Key) -> u128
         key.z.saturating_sub(1)
     } else {
         key.z
+    }
+}
+
+#[cfg(test)]
+mod tests {
+    use super::*;
+    use std::test::Fail;
+    use ub_zaddr::{Point, Shape};
+
+    // Regions of two dimensions from these first keys on, kept on the pages 1, 2 and so on.
+    fn places(rt: &HostRuntime, firsts: &[(u128, u32)]) -> Result<Places, Fail> {
+        let mut entries = Vec::new(rt.alloc());
+        let mut page = 1;
+        for (z, number) in firsts {
+            let first = Key {
+                z: *z,
+                number: *number,
+            };
+            entries.push(Entry { first, page })?;
+            page = page.wrapping_add(1);
+        }
+        let all = Places::new(entries, u128::from(u64::MAX)).ok_or("not in order")?;
+        Ok(all)
+    }
+
+    // The box of two dimensions between two corners.
+    fn rectangle(lo: [u32; 2], hi: [u32; 2]) -> Result<ZBox, Fail> {
+        let shape = Shape::new(2)?;
+        let zbox = ZBox::new(shape, &Point::new(shape, &lo)?, &Point::new(shape, &hi)?);
+        Ok(zbox.ok_or("an empty box")?)
+    }
+
+    fn span(region: Option<Region>) -> Option<(u128, u128)> {
+        region.map(|r| (r.from, r.to))
+    }
+
+    #[test]
+    fn spans_and_places(rt: HostRuntime) -> Result<(), Fail> {
+        let all = places(&rt, &[(0, 0), (10, 0), (13, 0)])?;
+        let last = u128::from(u64::MAX);
+        assert_eq!(rt; span(all.region_at(0)), Some((0, 9)));
+        assert_eq!(rt; span(all.region_at(1)), Some((10, 12)));
+        assert_eq!(rt; span(all.region_at(2)), Some((13, last)));
+        assert_eq!(rt; all.region_at(3), None);
+        assert_eq!(rt; all.place_of(&Key { z: 13, number: 5 }), 2);
+        assert_eq!(rt; all.place_of(&Key { z: 12, number: 9 }), 1);
+        assert_eq!(rt; span(all.seek(12, None)), Some((10, 12)));
+        assert_eq!(rt; all.seek(last + 1, None), None);
+        Ok(())
+    }
+
+    #[test]
+    fn next_that_meets(rt: HostRuntime) -> Result<(), Fail> {
+        let all = places(&rt, &[(0, 0), (10, 0), (13, 0)])?;
+        let boxes = [rectangle([2, 2], [u32::MAX, u32::MAX])?];
+        let middle = all.next_meeting(&boxes, None).ok_or("no region")?;
+        let end = all.next_meeting(&boxes, Some(&middle)).ok_or("no region")?;
+        assert_eq!(rt; (middle.from, end.from), (10, 13));
+        assert_eq!(rt; all.next_meeting(&boxes, Some(&end)), None);
+        assert_eq!(rt; all.next_meeting(&[], None), None);
+        Ok(())
+    }
+
+    #[test]
+    fn regions_that_share_an_address(rt: HostRuntime) -> Result<(), Fail> {
+        let all = places(&rt, &[(0, 0), (63, 3)])?;
+        let boxes = [rectangle([7, 7], [7, 7])?];
+        let left = all.next_meeting(&boxes, None).ok_or("no region")?;
+        let right = all.next_meeting(&boxes, Some(&left)).ok_or("no region")?;
+        assert_eq!(rt; (left.from, left.to, right.from), (0, 63, 63));
+        assert_eq!(rt; all.next_meeting(&boxes, Some(&right)), None);
+        Ok(())
+    }
+
+    #[test]
+    fn entries_come_and_go(rt: HostRuntime) -> Result<(), Fail> {
+        let mut all = places(&rt, &[(0, 0), (10, 0)])?;
+        if all.entries.len() > 1 {
+            all.remove(1);
+        }
+        assert_eq!(rt; span(all.region_at(0)), Some((0, u128::from(u64::MAX))));
+        assert!(rt; Places::new(Vec::new(rt.alloc()), 9).is_none());
+        Ok(())
     }
 }
