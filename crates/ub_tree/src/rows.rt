@@ -1,4 +1,4 @@
-ghost use Rattle.std.specs.Prelude.{◌≡◌, ◌+◌, ◌<◌, ◌≤◌, [], ◌∷◌, ◌++◌, length, take, drop, is_some, IfSome};
+ghost use Rattle.std.specs.Prelude.{◌≡◌, ◌+◌, ◌<◌, ◌≤◌, [], ◌∷◌, ◌++◌, ◌/◌, length, take, drop, is_some, IfSome, if◌then◌else◌, nat_lt, nat_le};
 ghost use Rattle.std.specs.Option.{IfNone};
 ghost use Rattle.ub_page.specs.Region.{key_of};
 ghost use Rattle.ub_tree.specs.Rows.{insert_row, has_key, remove_row, cut, key_at, split};
@@ -142,12 +142,25 @@ impl Rows {
         }
     }
 
-    /// The rows of this region and of the next one, at most 65 together.
-    pub fn join(&mut self, next: &Rows)
-        requires { length self.old + length next.now ≤ 65 }
-        ensures { self.new ≡ self.old ++ next.now }
+    /// Whether these are fewer rows than half of what a page holds.
+    pub fn are_few(&self, page_rows: u32) -> bool
+        ensures { result ≡ nat_lt (length self.now) (page_rows / 2) }
     {
-        self.extend(next.as_slice());
+        self.as_slice().len() < page_rows as usize / 2
+    }
+
+    /// Takes over the rows of the next region, if a page holds them together with these, and tells whether it does.
+    pub fn join(&mut self, next: &Rows, page_rows: u32) -> bool
+        requires { page_rows ≤ 65 }
+        ensures fit { result ≡ nat_le (length self.old + length next.now) page_rows }
+        ensures rows { self.new ≡ (if result then self.old ++ next.now else self.old) }
+    {
+        let others = next.as_slice();
+        let fit = self.as_slice().len() + others.len() <= page_rows as usize;
+        if fit {
+            self.extend(others);
+        }
+        fit
     }
 }
 
@@ -244,9 +257,9 @@ mod tests {
         assert!(rt; !all.remove(shape, &Key { z: 13, number: 1 }));
         assert!(rt; all.remove(shape, &Key { z: 13, number: 2 }));
         assert!(rt; numbers_are(&all, &[1]));
-        if all.as_slice().len() < MAX_ROWS {
-            all.join(&Rows::from_slice(&[row(4, 0, 2)]));
-        }
+        let other = Rows::from_slice(&[row(4, 0, 2)]);
+        assert!(rt; all.are_few(4) && !all.are_few(2));
+        assert!(rt; !all.join(&other, 1) && all.join(&other, 2));
         assert!(rt; numbers_are(&all, &[1, 4]));
         Ok(())
     }
