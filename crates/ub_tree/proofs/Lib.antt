@@ -3,4 +3,8 @@ pub mod PlaceFacts
 pub mod SpanFacts
 pub mod SeekFacts
 pub mod Example
+pub mod KeyLists
+pub mod RowFacts
+pub mod ChainFacts
+pub mod InsertFacts
 pub mod EntryFacts
