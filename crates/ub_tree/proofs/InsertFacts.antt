@@ -205,7 +205,7 @@ other_numbers : (n : ℕ) (rows : List Row) → AllByRecursion (λ row. row.numb
 other_numbers n [] h = tt
 other_numbers n (row ∷ rows) h = let less = h.0 in (ne_eqb n row.number (λ e. omega arith), other_numbers n rows h.1)
 
-nat_eq_flips : (a b : ℕ) → nat_eq a b ≡ nat_eq b a
+pub nat_eq_flips : (a b : ℕ) → nat_eq a b ≡ nat_eq b a
 nat_eq_flips a b = elim (cases_eq a b) [
   | inl e ↦ rw e refl
   | inr ne ↦ ne_eqb a b ne ∙ sym (ne_eqb b a (λ e. ne (sym e)))

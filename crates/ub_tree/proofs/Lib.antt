@@ -7,4 +7,5 @@ pub mod KeyLists
 pub mod RowFacts
 pub mod ChainFacts
 pub mod InsertFacts
+pub mod RemoveFacts
 pub mod EntryFacts
