@@ -50,7 +50,7 @@ below_same dims region first (x ∷ xs) (y ∷ ys) bx by h =
     rw same at h
 
 -- the first key of rows in range is in range
-row_first : (dims measures : ℕ) (row : Row) → dims ≤ 4 → IsRow dims measures row → IsFirst dims (key_of dims row)
+pub row_first : (dims measures : ℕ) (row : Row) → dims ≤ 4 → IsRow dims measures row → IsFirst dims (key_of dims row)
 row_first dims measures row few h =
     let four = h.dims_rest.0 in
     let number = h.number.1 in

@@ -8,4 +8,5 @@ pub mod RowFacts
 pub mod ChainFacts
 pub mod InsertFacts
 pub mod RemoveFacts
+pub mod CoverFacts
 pub mod EntryFacts
