@@ -9,4 +9,5 @@ pub mod ChainFacts
 pub mod InsertFacts
 pub mod RemoveFacts
 pub mod CoverFacts
+pub mod TableFacts
 pub mod EntryFacts

@@ -1,6 +1,6 @@
 -- The regions of a UB-tree (Bayer 1997): disjoint, in the order of keys, each on one page.
-use Rattle.std.specs.Prelude.{◌≡◌, ◌<◌, ◌↔◌, ℕ, zero, suc, ◌+◌, ◌/◌, nat_lt, nat_le, Bool, false, if◌then◌else◌, List, [], ◌∷◌, ◌++◌, Some, length, map, take, drop, slice_get}
-use Rattle.std.specs.List.{AllByRecursion, Contains, IsDistinct, flat_map}
+use Rattle.std.specs.Prelude.{◌≡◌, ◌<◌, ◌↔◌, ℕ, zero, suc, ◌+◌, ◌/◌, nat_lt, nat_le, Bool, false, not, ◌==◌, if◌then◌else◌, List, [], ◌∷◌, ◌++◌, Some, length, map, take, drop, slice_get}
+use Rattle.std.specs.List.{AllByRecursion, Contains, IsDistinct, filter, flat_map}
 use Rattle.std.specs.Bool.{nat_eq}
 use Rattle.ub_page.specs.Keys.{IsBefore, AreKeysAscending}
 use Rattle.ub_page.specs.Region.{Region, IsRegion, key_of, keys_of}
@@ -37,6 +37,10 @@ pub record AreRegions (schema : Schema) (next : ℕ) (regions : List Region) : T
 pub record AreTableRows (regions : List Region) (rows : List Row) : Type 0 where
   pub ascending : IsInOrder rows
   pub same : (row : Row) → Contains rows row ↔ Contains (rows_of regions) row
+
+-- a table's rows without the one of a number
+abbrev pub without_number : ℕ → List Row → List Row
+without_number number rows = filter (λ row. not (row.number == number)) rows
 
 -- the place of the region that holds a key, of regions with these first keys: the last one that does not begin after it
 abbrev pub place_of : Key → List Key → ℕ
