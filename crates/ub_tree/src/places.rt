@@ -260,11 +260,15 @@ mod tests {
 
     #[test]
     fn entries_come_and_go(rt: HostRuntime) -> Result<(), Fail> {
-        let mut all = places(&rt, &[(0, 0), (10, 0)])?;
-        if all.entries.len() > 1 {
-            all.remove(1);
-        }
-        assert_eq!(rt; span(all.region_at(0)), Some((0, u128::from(u64::MAX))));
+        let mut entries = Vec::new(rt.alloc());
+        let first = Key { z: 0, number: 0 };
+        entries.push(Entry { first, page: 1 })?;
+        let mut all = Places::new(entries, 99).ok_or("not in order")?;
+        let first = Key { z: 10, number: 0 };
+        all.insert_after(0, Entry { first, page: 2 })?;
+        assert_eq!(rt; span(all.region_at(0)), Some((0, 9)));
+        all.remove(1);
+        assert_eq!(rt; span(all.region_at(0)), Some((0, 99)));
         assert!(rt; Places::new(Vec::new(rt.alloc()), 9).is_none());
         Ok(())
     }
