@@ -10,4 +10,5 @@ pub mod InsertFacts
 pub mod RemoveFacts
 pub mod CoverFacts
 pub mod TableFacts
+pub mod StepFacts
 pub mod EntryFacts
