@@ -112,7 +112,13 @@ fn tries_a_script_on_a_file(rt: HostRuntime) -> Result<(), Fail> {
     let lines = "x,y,m\n2,3,20\n3,0,5\n2,3,1\n-- rows 3, pages 0\n";
     let cases = [
         (SMALL_TABLE, worked, "2", lines, 0),
-        (SMALL_TABLE, "SELECT m FROM t;", "64", "! Syntax at 0\n", 1),
+        (
+            SMALL_TABLE,
+            "SELECT m FROM u;",
+            "64",
+            "! UnknownTable at 14\n",
+            1,
+        ),
         (
             "x,y,m\n1,2,3\n4,a,5\n",
             worked,

@@ -9,6 +9,8 @@ mod commands;
 #[cfg(test)]
 mod scripts;
 #[cfg(test)]
+mod statements;
+#[cfg(test)]
 mod tables;
 #[cfg(test)]
 mod writers;

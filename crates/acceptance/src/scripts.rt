@@ -5,7 +5,7 @@ use std::test::Fail;
 use ub_shell::{Over, RunFault, Summary, try_text};
 
 // What a script writes on a table of two dimensions, and how the run ended.
-fn run(alloc: Global, csv: &str, script: &str) -> (Vec<u8>, Result<Summary, RunFault>) {
+pub(crate) fn run(alloc: Global, csv: &str, script: &str) -> (Vec<u8>, Result<Summary, RunFault>) {
     let mut out = Over::new(Vec::new(alloc));
     let end = try_text(
         alloc,
@@ -52,17 +52,17 @@ fn answers_each_statement(rt: HostRuntime) -> Result<(), Fail> {
         ("SELECT * FROM t WHERE y BETWEEN -1 AND 99999999999;", all),
         (
             "SELECT * FROM t WHERE m BETWEEN 1 AND 2;",
-            "! Syntax at 0\n",
+            "x,y,m\n2,3,1\n-- rows 1, pages 0\n",
         ),
         (
             "SELECT * FROM T WHERE x BETWEEN 1 AND 2;",
-            "! Syntax at 0\n",
+            "! UnknownTable at 14\n",
         ),
         (
             "SELECT * FROM t WHERE x BETWEEN 1 AND 18446744073709551616",
-            "! Syntax at 0\n",
+            "! NumberTooLarge at 38\n",
         ),
-        ("; SELECT # FROM t", "! Syntax at 2\n"),
+        ("; SELECT # FROM t", "! BadByte at 9\n"),
     ];
     for (script, want) in cases {
         let (bytes, end) = run(rt.alloc(), SMALL_TABLE, script);
@@ -74,11 +74,11 @@ fn answers_each_statement(rt: HostRuntime) -> Result<(), Fail> {
 
 #[test]
 fn goes_on_after_a_refused_statement(rt: HostRuntime) -> Result<(), Fail> {
-    let script = "SELECT m FROM t; SELECT * FROM t WHERE x BETWEEN 0 AND 0;";
+    let script = "SELECT m FROM u; SELECT * FROM t WHERE x BETWEEN 0 AND 0;";
     let (bytes, end) = run(rt.alloc(), SMALL_TABLE, script);
     assert_eq!(rt;
         str::from_utf8(bytes.as_slice())?,
-        "! Syntax at 0\nx,y,m\n0,2,7\n-- rows 1, pages 0\n"
+        "! UnknownTable at 14\nx,y,m\n0,2,7\n-- rows 1, pages 0\n"
     );
     let summary = end?;
     assert_eq!(rt; summary.statements, 2);

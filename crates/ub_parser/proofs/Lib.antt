@@ -1,7 +1,11 @@
-pub mod BoundsFacts
-pub mod ConditionFacts
-pub mod DimensionFacts
-pub mod LiteralFacts
-pub mod OptionFacts
-pub mod StatementFacts
-pub mod TokenFacts
+mod FirstFacts
+mod NumberFacts
+mod PlaceFacts
+mod KnownFacts
+mod Among
+mod GoodTokens
+mod FaultFacts
+mod LimitFacts
+mod GroupFacts
+mod ParseFacts
+mod MisfitFacts

@@ -1,4 +1,8 @@
-pub mod Grammar
-pub mod Parts
-pub mod Truth
+pub mod Shape
+pub mod Sense
+pub mod Refusals
+pub mod Spans
+pub mod Firsts
+pub mod Outcome
 pub mod Meaning
+pub mod Known

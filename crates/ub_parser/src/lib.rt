@@ -1,19 +1,28 @@
-// Statements: which lists of tokens are accepted, and what an accepted statement means.
+// Statements: what a statement of a script asks of a table, or why it is refused.
 //
-// This crate reads the tokens of one statement (`parse`) and evaluates its condition on a row (`Cond::truth`). The
-// grammar and the meaning of a query stand in specs/; what belongs here is whatever turns tokens into a statement.
-// How a source becomes tokens is the lexer's part, and how a query is answered is the part of the crates above.
+// The grammar is the crate below's (`ub_syntax`): it builds the syntax of a statement from its tokens. This crate looks at
+// the names and numbers that stand in it: which refusal comes first (specs/Refusals), what a statement that is accepted asks
+// (specs/Sense), and what that means on the rows of a table (specs/Shape, specs/Meaning). How a query is answered is the part
+// of the crates above.
 #![tactic(auto)]
 
 ghost use Rattle.ub_parser.specs.Meaning.{meaning};
+ghost use Rattle.ub_parser.specs.Outcome.{IsOutcome};
 
-mod condition;
+mod check;
+mod columns;
 pub mod fault;
-mod literal;
+mod grouping;
+mod limits;
 pub mod parser;
+pub mod query;
+mod sense;
 pub mod statement;
-mod word;
+mod text;
+mod tokens;
 
 pub use fault::SqlFault;
 pub use parser::parse;
-pub use statement::{Cond, Query, Statement};
+pub use query::{Cond, Item, Key, Query};
+pub use statement::Statement;
+pub use ub_syntax::{Aggregate, Items, Operator};

@@ -1,62 +1,95 @@
-ghost use Rattle.std.specs.Prelude.{◌≡◌, ◌<◌, ◌↔◌, length, IfOk, IfSome};
+ghost use Rattle.std.specs.Prelude.{◌≡◌, ◌<◌, ◌⊎◌, length, IfOk, IfErr, MatchResult};
+ghost use Rattle.std.specs.List.{All};
 ghost use Rattle.ub_lexer.specs.Tokens.{AreSpelled};
-ghost use Rattle.ub_parser.specs.Grammar.{IsParsed, IsStatement, first_offset, lexemes};
-ghost use Rattle.ub_parser.specs.Meaning.{IsOver, filter_of};
-ghost use Rattle.ub_parser.specs.declared.statement.Statement.{Statement};
+ghost use Rattle.ub_syntax.specs.Grammar.{lexemes, IsStatement};
+ghost use Rattle.ub_syntax.specs.Tree.{Select};
+ghost use Rattle.ub_parser.specs.Outcome.{Told, told, IsAccepted};
+ghost use Rattle.ub_parser.specs.Refusals.{IsFirstFault, IsTooLarge};
+ghost use Rattle.ub_parser.specs.Shape.{IsAskedOver, asked};
 
-use crate::condition::condition;
+use crate::check::misfit;
 use crate::fault::SqlFault;
-use crate::statement::{Query, Statement};
-use crate::word::{is_keyword, is_named};
+use crate::query::Query;
+use crate::sense::query;
+use crate::statement::Statement;
+use crate::tokens::{bad_byte, number_too_large};
+use std::alloc::Global;
 use ub_lexer::{Token, TokenKind};
 use ub_page::Schema;
+use ub_syntax::{Verdict, build, recognise};
 
-/// The statement that the tokens of one statement are, over a table of this schema: SELECT * FROM, the table's name,
-/// WHERE, the name of a dimension, BETWEEN, a literal, AND, a literal. Keywords are taken in any mix of cases, names
-/// only as they are spelled in the schema; a literal is digits or `-` and digits, of magnitude up to 2^64 - 1.
-/// Anything else is `Syntax` at the first token.
-pub fn parse(source: &[u8], tokens: &[Token], schema: &Schema) -> Result<Statement, SqlFault>
+/// What the tokens of one statement ask of a table of this schema; or why it is refused: of the conditions that hold the
+/// first in the order of `SqlFault`, with the offset where it is seen. `Memory` only where memory is refused.
+pub fn parse(
+    alloc: Global,
+    source: &[u8],
+    tokens: &[Token],
+    schema: &Schema,
+) -> Result<Statement, SqlFault>
     requires some { 0 < length tokens.now }
     requires spelled { AreSpelled source.now tokens.now }
-    ensures parsed { IsParsed schema.now (lexemes source.now tokens.now) (first_offset tokens.now) result }
-    // there is no other statement that the tokens are
-    ensures only { (s : Statement) → IsStatement schema.now (lexemes source.now tokens.now) s → result ≡ Ok s }
+    ensures accepted { IfOk result (λ s. IsAccepted source.now schema.now tokens.now (told s)) }
+    // there is nothing else that they ask
+    ensures only { (t : Told) → IsAccepted source.now schema.now tokens.now t → MatchResult result (λ s. told s ≡ t) (λ fault. fault ≡ SqlFault.Memory) }
+    ensures refused { IfErr result (λ fault. (fault ≡ SqlFault.Memory) ⊎ IsFirstFault source.now schema.now tokens.now fault) }
     // its columns are the schema's
-    ensures over { IfOk result (λ s. IsOver schema.now (filter_of s)) }
+    ensures over { IfOk result (λ s. IsAskedOver (length schema.now.columns) (told s).asked) }
 {
-    match statement(source, tokens, schema) {
-        Some(statement) => Ok(statement),
-        None => Err(SqlFault::Syntax { at: tokens[0].from }),
+    if let Some(fault) = bad_byte(tokens) {
+        return Err(fault);
     }
+    let verdict = recognise(alloc, source, tokens)?;
+    if let Verdict::Syntax { at } = verdict {
+        return Err(SqlFault::Syntax { at });
+    }
+    if let Some(fault) = number_too_large(source, tokens) {
+        return Err(fault);
+    }
+    if let Verdict::TooDeep { at } = verdict {
+        return Err(SqlFault::TooDeep { at });
+    }
+    sense(alloc, source, tokens, schema)
 }
 
-/// The statement that the tokens are: SELECT * FROM, the table's name, WHERE, a condition.
-fn statement(source: &[u8], tokens: &[Token], schema: &Schema) -> Option<Statement>
-    requires { AreSpelled source.now tokens.now }
-    ensures is { (s : Statement) → (result ≡ Some s) ↔ IsStatement schema.now (lexemes source.now tokens.now) s }
-    ensures over { IfSome result (λ s. IsOver schema.now (filter_of s)) }
+// The same of tokens that are a statement of the grammar, where no byte is bad and no number too large.
+fn sense(
+    alloc: Global,
+    source: &[u8],
+    tokens: &[Token],
+    schema: &Schema,
+) -> Result<Statement, SqlFault>
+    requires spelled { AreSpelled source.now tokens.now }
+    requires bytes { All (λ t. ¬ (t.kind ≡ TokenKind.Bad)) tokens.now }
+    requires numbers { All (λ t. ¬ (IsTooLarge source.now t)) tokens.now }
+    requires statement { (s : Select) × IsStatement 64 (lexemes source.now tokens.now) s }
+    ensures accepted { IfOk result (λ s. IsAccepted source.now schema.now tokens.now (told s)) }
+    ensures only { (t : Told) → IsAccepted source.now schema.now tokens.now t → MatchResult result (λ s. told s ≡ t) (λ fault. fault ≡ SqlFault.Memory) }
+    ensures refused { IfErr result (λ fault. (fault ≡ SqlFault.Memory) ⊎ IsFirstFault source.now schema.now tokens.now fault) }
+    ensures over { IfOk result (λ s. IsAskedOver (length schema.now.columns) (told s).asked) }
 {
-    let [select, star, from, name, where_word, rest @ ..] = tokens else {
-        return None;
-    };
-    if !is_keyword(source, select, b"SELECT") || star.kind != TokenKind::Star {
-        return None;
+    let syntax = build(alloc, source, tokens)?;
+    if let Some(fault) = misfit(source, schema, &syntax) {
+        return Err(fault);
     }
-    if !is_keyword(source, from, b"FROM") || !is_keyword(source, where_word, b"WHERE") {
-        return None;
+    let query = query(alloc, source, schema, &syntax)?;
+    Ok(statement(syntax.is_explained, query))
+}
+
+// The statement of a query, which is explained or not.
+fn statement(is_explained: bool, query: Query) -> Statement
+    ensures explained { (told result).is_explained ≡ is_explained }
+    ensures asked { (told result).asked ≡ asked query }
+{
+    if is_explained {
+        Statement::Explain(query)
+    } else {
+        Statement::Select(query)
     }
-    if !is_named(source, name, schema.name().bytes()) {
-        return None;
-    }
-    let filter = condition(source, rest, schema)?;
-    Some(Statement::Select(Query { filter }))
 }
 
 #[cfg(test)]
 mod tests {
     use super::*;
-    use crate::statement::Cond;
-    use std::alloc::Global;
     use std::test::Fail;
     use ub_lexer::lex;
     use ub_page::{Name, PageFault};
@@ -67,54 +100,58 @@ mod tests {
         Schema::new(Name::new(b"t")?, &columns, 2, 2)
     }
 
-    // What a source of one statement is told, if it has a token.
-    fn told(alloc: Global, source: &[u8]) -> Result<Option<Result<Statement, SqlFault>>, Fail> {
+    // Why a source of one statement is refused, if it is.
+    fn refused(alloc: Global, source: &[u8]) -> Result<Option<SqlFault>, Fail> {
         let schema = table()?;
         let tokens = lex(alloc, source)?;
         if tokens.is_empty() {
             return Ok(None);
         }
-        Ok(Some(parse(source, &tokens, &schema)))
-    }
-
-    fn between(column: usize, low: i128, high: i128) -> Option<Result<Statement, SqlFault>> {
-        let filter = Cond::Between { column, low, high };
-        Some(Ok(Statement::Select(Query { filter })))
-    }
-
-    fn syntax(at: usize) -> Option<Result<Statement, SqlFault>> {
-        Some(Err(SqlFault::Syntax { at }))
+        Ok(parse(alloc, source, &tokens, &schema).err())
     }
 
     #[test]
-    fn accepts_a_range(rt: HostRuntime) -> Result<(), Fail> {
-        let plain = told(rt.alloc(), b"SELECT * FROM t WHERE x BETWEEN 2 AND 3")?;
-        assert!(rt; plain == between(0, 2, 3));
-        let signed = told(
-            rt.alloc(),
-            b"select*from t where y between -1 and 99999999999",
-        )?;
-        assert!(rt; signed == between(1, -1, 99_999_999_999));
-        let widest = told(
-            rt.alloc(),
-            b"SELECT * FROM t WHERE x BETWEEN -18446744073709551615 AND 18446744073709551615",
-        )?;
-        assert!(rt; widest == between(0, -18_446_744_073_709_551_615, 18_446_744_073_709_551_615));
-        Ok(())
-    }
-
-    #[test]
-    fn refuses_other_statements(rt: HostRuntime) -> Result<(), Fail> {
-        assert!(rt; told(rt.alloc(), b"SELECT FROM")? == syntax(0));
-        assert!(rt; told(rt.alloc(), b"  SELECT * FROM t WHERE m BETWEEN 2 AND 3")? == syntax(2));
-        assert!(rt; told(rt.alloc(), b"SELECT * FROM T WHERE x BETWEEN 2 AND 3")? == syntax(0));
-        assert!(rt; told(rt.alloc(), b"SELECT * FROM t WHERE x BETWEEN 2 AND 3 4")? == syntax(0));
-        assert!(rt;
-            told(
-                rt.alloc(),
-                b"SELECT * FROM t WHERE x BETWEEN 2 AND 18446744073709551616"
-            )? == syntax(0)
-        );
+    fn tells_the_first_refusal(rt: HostRuntime) -> Result<(), Fail> {
+        for (source, fault) in [
+            (
+                "SELECT z FROM u WHERE x = 1 # 2",
+                Some(SqlFault::BadByte { at: 28 }),
+            ),
+            (
+                "SELECT FROM t LIMIT 18446744073709551616",
+                Some(SqlFault::Syntax { at: 7 }),
+            ),
+            (
+                "SELECT * FROM u LIMIT 18446744073709551616",
+                Some(SqlFault::NumberTooLarge { at: 22 }),
+            ),
+            (
+                "SELECT x,x,x,x,x,x,x,x,x FROM u",
+                Some(SqlFault::TooMany { at: 23 }),
+            ),
+            ("SELECT z FROM u", Some(SqlFault::UnknownTable { at: 14 })),
+            (
+                "SELECT z, COUNT(*) FROM t",
+                Some(SqlFault::UnknownColumn { at: 7 }),
+            ),
+            (
+                "SELECT y, SUM(m) FROM t GROUP BY x ORDER BY m",
+                Some(SqlFault::NotGrouped { at: 7 }),
+            ),
+            (
+                "SELECT x, COUNT(*) FROM t GROUP BY x ORDER BY SUM(m)",
+                Some(SqlFault::NotSelected { at: 46 }),
+            ),
+            (
+                "EXPLAIN SELECT m FROM t WHERE NOT x = 1 ORDER BY y DESC LIMIT 3",
+                None,
+            ),
+        ] {
+            assert!(rt;
+                refused(rt.alloc(), source.as_bytes())? == fault,
+                "{source}"
+            );
+        }
         Ok(())
     }
 }

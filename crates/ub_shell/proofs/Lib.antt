@@ -1,5 +1,6 @@
 pub mod HeldFacts
 pub mod LineFacts
 pub mod NextFacts
+pub mod QueryFacts
 pub mod RunFacts
 pub mod StatusFacts

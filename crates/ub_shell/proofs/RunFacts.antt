@@ -14,7 +14,7 @@ use Rattle.ub_page.specs.Table.{Table}
 use Rattle.ub_page.specs.declared.row.Row.{Row}
 use Rattle.ub_page.specs.declared.schema.Schema.{Schema}
 use Rattle.ub_parser.specs.declared.fault.SqlFault.{SqlFault}
-use Rattle.ub_parser.specs.declared.statement.Statement.{Statement}
+use Rattle.ub_parser.specs.Meaning.{RowQuery}
 use Rattle.ub_shell.specs.Run.{IsRange, IsAnswer, HaveRun, HaveBroken, HasRun, HasBegun, HasBroken}
 use Rattle.ub_shell.specs.Script.{IsOutcome, AreOutcomesAt, refused_count}
 use Rattle.ub_shell.specs.Text.{statement_text, script_text}
@@ -26,24 +26,24 @@ pub All-ranges : (tokens : List Token) (ranges : List (ℕ × ℕ)) → AreState
 All-ranges tokens ranges h k d below =
     let is = (h.1 (slice_index_or ranges k d)).0 (All-contains_itself ranges k d below) in (is.0, is.1)
 
-outcomes_more : (schema : Schema) (source : List ℕ) (tokens : List Token) (ranges : List (ℕ × ℕ)) (os : List (Result Statement SqlFault))
-    (r : ℕ × ℕ) (o : Result Statement SqlFault) → AreOutcomesAt schema source tokens ranges os → IsOutcome schema source (slice_range tokens r.0 r.1) o
+outcomes_more : (schema : Schema) (source : List ℕ) (tokens : List Token) (ranges : List (ℕ × ℕ)) (os : List (Result RowQuery SqlFault))
+    (r : ℕ × ℕ) (o : Result RowQuery SqlFault) → AreOutcomesAt schema source tokens ranges os → IsOutcome schema source (slice_range tokens r.0 r.1) o
     → AreOutcomesAt schema source tokens (ranges ++ r ∷ []) (os ++ o ∷ [])
 outcomes_more schema source tokens [] [] r o h is = (is, tt)
 outcomes_more schema source tokens [] (p ∷ os) r o h is = absurd h
 outcomes_more schema source tokens (q ∷ ranges) [] r o h is = absurd h
 outcomes_more schema source tokens (q ∷ ranges) (p ∷ os) r o h is = (h.0, outcomes_more schema source tokens ranges os r o h.1 is)
 
-length-outcomes : (schema : Schema) (source : List ℕ) (tokens : List Token) (ranges : List (ℕ × ℕ)) (os : List (Result Statement SqlFault))
+length-outcomes : (schema : Schema) (source : List ℕ) (tokens : List Token) (ranges : List (ℕ × ℕ)) (os : List (Result RowQuery SqlFault))
     → AreOutcomesAt schema source tokens ranges os → length os ≡ length ranges
 length-outcomes schema source tokens [] [] h = refl
 length-outcomes schema source tokens [] (p ∷ os) h = absurd h
 length-outcomes schema source tokens (q ∷ ranges) [] h = absurd h
 length-outcomes schema source tokens (q ∷ ranges) (p ∷ os) h = ap (λ (n : ℕ). suc n) (length-outcomes schema source tokens ranges os h.1)
 
-refused_more : (os : List (Result Statement SqlFault)) (o : Result Statement SqlFault) → refused_count (os ++ o ∷ []) ≡ refused_count os + cond (is_err o) 1 0
+refused_more : (os : List (Result RowQuery SqlFault)) (o : Result RowQuery SqlFault) → refused_count (os ++ o ∷ []) ≡ refused_count os + cond (is_err o) 1 0
 refused_more os o =
-    sum_by-append (λ (p : Result Statement SqlFault). cond (is_err p) 1 0) os (o ∷ []) ∙ ap (λ (n : ℕ). refused_count os + n) (zero-add (cond (is_err o) 1 0))
+    sum_by-append (λ (p : Result RowQuery SqlFault). cond (is_err p) 1 0) os (o ∷ []) ∙ ap (λ (n : ℕ). refused_count os + n) (zero-add (cond (is_err o) 1 0))
 
 -- before the first statement nothing is told
 pub HaveRun-none : (table : Table) (source : List ℕ) (tokens : List Token) (told : Option (List ℕ)) → HaveRun table source tokens [] told told 0

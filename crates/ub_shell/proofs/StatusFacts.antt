@@ -1,14 +1,13 @@
 -- How a command has ended, by what was told.
-use Rattle.std.proofs.Common.{◌≡◌, ◌++◌, ◌⊎◌, ℕ, List, Option, Result, Ok, Err, inl, inr, codes, refl}
+use Rattle.std.proofs.Common.{◌≡◌, ◌++◌, ℕ, List, Option, Result, Ok, Err, inl, inr, codes, refl}
 use Rattle.std.specs.Io.KnownBytes.{Appends}
-use Rattle.ub_shell.specs.Counts.{Rose}
 use Rattle.ub_shell.specs.Next.{IsNextAnswer, answer_text, answer_status}
 use Rattle.ub_shell.specs.Status.{Tells, HasEnded}
 use Rattle.ub_shell.specs.declared.next.Neighbours.{Neighbours}
 use Rattle.ub_shell.specs.declared.next.NextFault.{NextFault}
 use Rattle.ub_shell.specs.declared.next.NextFault.TheVariants.{BadPoint, EmptyBox, TooLarge, Memory}
 use Rattle.ub_shell.specs.declared.status.Status.{Status}
-use Rattle.ub_shell.specs.declared.status.Status.TheVariants.{Done, CommandLine}
+use Rattle.ub_shell.specs.declared.status.Status.TheVariants.{CommandLine}
 
 -- where telling these bytes ends a command, the command has ended
 pub told_ends : (old new : Option (List ℕ)) (f g : ℕ) (bytes : List ℕ) (wanted status : Status)

@@ -17,7 +17,7 @@ pub mod text;
 pub use fault::RunFault;
 pub use output::{Out, OutFault, Over, put_all};
 pub use script::{Summary, try_text};
-pub use text::{accepted_text, query_text, refused_text};
+pub use text::{RowQuery, query_text, refused_text, row_query};
 
 #[cfg(test)]
 mod tests;

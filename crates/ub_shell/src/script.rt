@@ -1,4 +1,4 @@
-ghost use Rattle.std.specs.Prelude.{◌≡◌, ◌≢◌, ◌<◌, ◌≤◌, ◌⊎◌, ℕ, Bool, List, length, take, Some, Err, All, slice_range, IfOk, IfErr, IsErrOf};
+ghost use Rattle.std.specs.Prelude.{◌≡◌, ◌≢◌, ◌<◌, ◌≤◌, ◌⊎◌, ℕ, Bool, true, List, length, take, Some, Err, All, slice_range, IfOk, IfErr, IsErrOf};
 ghost use Rattle.std.specs.Io.KnownBytes.{Appends, Keeps};
 ghost use Rattle.ub_lexer.specs.Tokens.{AreSpelled};
 ghost use Rattle.ub_lexer.specs.Statements.{AreStatements};
@@ -7,15 +7,16 @@ ghost use Rattle.ub_load.specs.Refusals.{first_refusal};
 ghost use Rattle.ub_load.specs.declared.fault.LoadFault.{LoadFault};
 ghost use Rattle.ub_shell.specs.Counts.{Rose};
 ghost use Rattle.ub_shell.specs.Run.{table_of, IsAnswer, IsRange, HaveRun, HaveBroken, HasRun, HasBegun, HasBroken};
+ghost use Rattle.ub_shell.specs.Text.{refused_text};
 
 use crate::fault::RunFault;
 use crate::output::{Out, put_all};
-use crate::text::{accepted_text, refused_text};
+use crate::text::{query_text, refused_text, row_query};
 use std::alloc::{AllocError, Global};
 use ub_lexer::{Token, lex, statements};
 use ub_load::LoadFault;
 use ub_load::table::{LoadedTable, read_table};
-use ub_parser::parse;
+use ub_parser::{SqlFault, parse};
 
 /// How many statements a script has, and how many of them were refused.
 #[derive(Clone, Copy, PartialEq, Eq, Debug)]
@@ -122,7 +123,8 @@ struct Answer {
     is_refused: bool,
 }
 
-// Parses the statement of these tokens, and makes its text.
+// Parses the statement of these tokens, and makes its text: a query of rows is answered, and any other statement that is
+// accepted is refused, so far, at its first token.
 fn answer_to(
     alloc: Global,
     table: &LoadedTable,
@@ -133,12 +135,25 @@ fn answer_to(
     requires spelled { AreSpelled source.now tokens.now }
     ensures { IfOk result (λ a. IsAnswer (table_of table.now) source.now tokens.now a.text.items a.is_refused) }
 {
-    match parse(source, tokens, &table.schema) {
-        Ok(statement) => Ok(Answer {
-            text: accepted_text(alloc, &table.schema, &table.rows, &statement)?,
-            is_refused: false,
-        }),
-        Err(fault) => Ok(Answer {
+    match parse(alloc, source, tokens, &table.schema) {
+        Ok(statement) => match row_query(alloc, &statement)? {
+            Some(query) => Ok(Answer {
+                text: query_text(alloc, &table.schema, &table.rows, &query)?,
+                is_refused: false,
+            }),
+            None => refusal(alloc, SqlFault::Syntax { at: tokens[0].from }),
+        },
+        Err(fault) => refusal(alloc, fault),
+    }
+}
+
+// What a refused statement writes; want of memory is no refusal.
+fn refusal(alloc: Global, fault: SqlFault) -> Result<Answer, AllocError>
+    ensures { IfOk result (λ a. (a.text.items ≡ refused_text fault) × (a.is_refused ≡ true) × (fault ≢ SqlFault.Memory)) }
+{
+    match fault {
+        SqlFault::Memory => Err(AllocError),
+        fault => Ok(Answer {
             text: refused_text(alloc, &fault)?,
             is_refused: true,
         }),

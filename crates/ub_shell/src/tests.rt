@@ -55,7 +55,7 @@ fn writes_the_selected_rows(rt: HostRuntime) -> Result<(), Fail> {
 
 #[test]
 fn goes_on_after_a_refused_statement(rt: HostRuntime) -> Result<(), Fail> {
-    let script = b"; SELECT m;\n-- a comment\nselect * from t where y between 0 and 0";
+    let script = b"; SELECT m;\n-- a comment\nselect m, y from t where not x >= 2";
     let mut out = Narrow {
         held: Vec::new(rt.alloc()),
         room: 100,
@@ -71,7 +71,7 @@ fn goes_on_after_a_refused_statement(rt: HostRuntime) -> Result<(), Fail> {
     );
     assert_eq!(rt;
         out.held.as_slice(),
-        b"! Syntax at 2\nx,y,m\n3,0,5\n-- rows 1, pages 0\n".as_slice()
+        b"! Syntax at 10\nm,y\n10,1\n7,2\n-- rows 2, pages 0\n".as_slice()
     );
     Ok(())
 }

@@ -1,38 +1,87 @@
-ghost use Rattle.std.specs.Prelude.{◌≡◌, ◌<◌, [], ◌∷◌, ◌++◌, length, map, codes, decimal, IfOk, OnOk, if◌then◌else◌};
+ghost use Rattle.std.specs.Prelude.{◌≡◌, ◌<◌, false, [], ◌∷◌, ◌++◌, length, map, decimal, slice_index_or, IfOk, OnOk, if◌then◌else◌};
 ghost use Rattle.std.specs.Fmt.{signed_decimal};
-ghost use Rattle.std.specs.List.{flat_map};
-ghost use Rattle.ub_page.specs.Table.{Table};
+ghost use Rattle.std.specs.List.{All, flat_map};
+ghost use Rattle.std.specs.Option.{option_map};
+ghost use Rattle.ub_page.specs.Table.{Table, column_value};
 ghost use Rattle.ub_parser.specs.Meaning as sql;
+ghost use Rattle.ub_parser.specs.Outcome.{told};
+ghost use Rattle.ub_parser.specs.Shape.{asked};
+ghost use Rattle.ub_shell.specs.Text.{IsRowsOver, held};
 ghost use Rattle.ub_shell.specs.Text as spec;
 
 use itoa::Buffer;
 use std::alloc::{AllocError, Global};
 use ub_page::{Row, Schema};
-use ub_parser::{Query, SqlFault, Statement};
+use ub_parser::{Cond, Item, Query, SqlFault, Statement};
 
-/// The text of an accepted statement's result on a table of this schema and these rows. `AllocError` only where memory is
-/// refused.
-pub fn accepted_text(
-    alloc: Global,
-    schema: &Schema,
-    rows: &[Row],
-    statement: &Statement,
-) -> Result<Vec<u8>, AllocError>
-    requires { sql.IsOver schema.now (sql.filter_of statement.now) }
-    ensures { IfOk result (λ text. text.items ≡ spec.accepted_text (record { schema = schema.now; rows = rows.now }) statement.now) }
+/// A query of rows: their columns, and which rows.
+#[derive(Drop)]
+pub struct RowQuery<'a> {
+    /// The columns of the result, in order, counted from 0.
+    pub columns: Vec<usize>,
+    /// Which rows are selected; all where there is none.
+    pub filter: Option<&'a Cond>,
+}
+
+/// The query of rows that a statement is, where it groups, orders and limits nothing, none of its items is an aggregate,
+/// and it is not explained. `AllocError` only where memory is refused.
+pub fn row_query(alloc: Global, statement: &Statement) -> Result<Option<RowQuery<'_>>, AllocError>
+    ensures { IfOk result (λ q. option_map held q ≡ sql.row_query (told statement.now)) }
 {
     match statement {
-        Statement::Select(query) => query_text(alloc, schema, rows, query),
+        Statement::Select(query) => query_of_rows(alloc, query),
+        Statement::Explain(_) => Ok(None),
     }
 }
 
-/// The text of a refused statement: the refusal's name, and the byte offset in the script where it is seen. `AllocError`
-/// only where memory is refused.
+// The query of rows that a query is, if it is one.
+fn query_of_rows(alloc: Global, query: &Query) -> Result<Option<RowQuery<'_>>, AllocError>
+    ensures { IfOk result (λ q. option_map held q ≡ sql.row_query (record { is_explained = false; asked = asked query.now })) }
+{
+    let is_grouped = !query.group.as_slice().is_empty();
+    let is_ordered = !query.order.as_slice().is_empty();
+    if is_grouped || is_ordered || query.limit.is_some() {
+        return Ok(None);
+    }
+    let Some(columns) = columns_of(alloc, query.items.as_slice())? else {
+        return Ok(None);
+    };
+    Ok(Some(RowQuery {
+        columns,
+        filter: query.filter.as_ref(),
+    }))
+}
+
+// The columns that the items are, where none of them is an aggregate.
+fn columns_of(alloc: Global, items: &[Item]) -> Result<Option<Vec<usize>>, AllocError>
+    ensures { IfOk result (λ columns. option_map (λ v. v.items) columns ≡ sql.columns_of items.now) }
+{
+    let mut columns = Vec::new(alloc);
+    for item in items {
+        let Item::Column(column) = *item else {
+            return Ok(None);
+        };
+        columns.push(column)?;
+    }
+    Ok(Some(columns))
+}
+
+/// The text of a refused statement: the refusal's name, and the byte offset in the script where it is seen; nothing for
+/// want of memory, which is no refusal. `AllocError` only where memory is refused.
 pub fn refused_text(alloc: Global, fault: &SqlFault) -> Result<Vec<u8>, AllocError>
     ensures { IfOk result (λ text. text.items ≡ spec.refused_text fault.now) }
 {
     match fault {
+        SqlFault::BadByte { at } => refusal_text(alloc, "BadByte", *at),
         SqlFault::Syntax { at } => refusal_text(alloc, "Syntax", *at),
+        SqlFault::NumberTooLarge { at } => refusal_text(alloc, "NumberTooLarge", *at),
+        SqlFault::TooDeep { at } => refusal_text(alloc, "TooDeep", *at),
+        SqlFault::TooMany { at } => refusal_text(alloc, "TooMany", *at),
+        SqlFault::UnknownTable { at } => refusal_text(alloc, "UnknownTable", *at),
+        SqlFault::UnknownColumn { at } => refusal_text(alloc, "UnknownColumn", *at),
+        SqlFault::NotGrouped { at } => refusal_text(alloc, "NotGrouped", *at),
+        SqlFault::NotSelected { at } => refusal_text(alloc, "NotSelected", *at),
+        SqlFault::Memory => Ok(Vec::new(alloc)),
     }
 }
 
@@ -43,13 +92,13 @@ pub fn query_text(
     alloc: Global,
     schema: &Schema,
     rows: &[Row],
-    query: &Query,
+    query: &RowQuery,
 ) -> Result<Vec<u8>, AllocError>
-    requires { sql.IsOver schema.now query.now.filter }
-    ensures { IfOk result (λ text. text.items ≡ spec.query_text (record { schema = schema.now; rows = rows.now }) 0 query.now) }
+    requires { IsRowsOver (length schema.now.columns) (held query.now) }
+    ensures { IfOk result (λ text. text.items ≡ spec.query_text (record { schema = schema.now; rows = rows.now }) 0 (held query.now)) }
 {
     let mut text = Vec::new(alloc);
-    push_titles(&mut text, schema)?;
+    push_titles(&mut text, schema, &query.columns)?;
     let count = push_selected(&mut text, schema, rows, query)?;
     push_counts(&mut text, count, 0)?;
     Ok(text)
@@ -69,49 +118,72 @@ fn refusal_text(alloc: Global, name: &str, at: usize) -> Result<Vec<u8>, AllocEr
 }
 
 // Puts the line of the columns' names.
-fn push_titles(text: &mut Vec<u8>, schema: &Schema) -> Result<(), AllocError>
-    ensures { OnOk result (text.new.items ≡ text.old.items ++ spec.line schema.now.columns) }
+fn push_titles(text: &mut Vec<u8>, schema: &Schema, columns: &[usize]) -> Result<(), AllocError>
+    requires { All (λ column. column < length schema.now.columns) columns.now }
+    ensures { OnOk result (text.new.items ≡ text.old.items ++ spec.line (map (λ column. slice_index_or schema.now.columns column []) columns.now)) }
 {
-    for (place, name) in schema.columns().iter().enumerate() {
-        push_piece(text, place == 0, name.bytes())?;
+    for (place, column) in columns.iter().enumerate() {
+        push_piece(text, place == 0, schema.columns()[*column].bytes())?;
     }
     text.push(b'\n')?;
     Ok(())
 }
 
-// Puts a line for each row on which the condition holds, and says how many.
+// Puts a line for each selected row, and says how many.
 fn push_selected(
     text: &mut Vec<u8>,
     schema: &Schema,
     rows: &[Row],
-    query: &Query,
+    query: &RowQuery,
 ) -> Result<usize, AllocError>
-    requires { sql.IsOver schema.now query.now.filter }
-    ensures count { IfOk result (λ n. n ≡ length (sql.meaning (record { schema = schema.now; rows = rows.now }) query.now)) }
-    ensures lines { OnOk result (text.new.items ≡ text.old.items ++ flat_map spec.row_line (sql.meaning (record { schema = schema.now; rows = rows.now }) query.now)) }
+    requires { IsRowsOver (length schema.now.columns) (held query.now) }
+    ensures count { IfOk result (λ n. n ≡ length (sql.meaning (record { schema = schema.now; rows = rows.now }) (held query.now))) }
+    ensures lines { OnOk result (text.new.items ≡ text.old.items ++ flat_map spec.row_line (sql.meaning (record { schema = schema.now; rows = rows.now }) (held query.now))) }
 {
     let mut count = 0usize;
     for row in rows {
-        if query.filter.truth(schema, row) {
-            push_row(text, schema, row)?;
+        if is_selected(schema, row, query) {
+            push_row(text, schema, &query.columns, row)?;
             count += 1;
         }
     }
     Ok(count)
 }
 
-// Puts the line of a row's values.
-fn push_row(text: &mut Vec<u8>, schema: &Schema, row: &Row) -> Result<(), AllocError>
-    ensures { OnOk result (text.new.items ≡ text.old.items ++ spec.row_line (sql.all_cells schema.now row.now)) }
+// Whether the query selects a row.
+fn is_selected(schema: &Schema, row: &Row, query: &RowQuery) -> bool
+    requires { IsRowsOver (length schema.now.columns) (held query.now) }
+    ensures { result ≡ sql.is_selected schema.now.dims (held query.now).filter row.now }
 {
-    let dims = schema.dims();
-    let columns = (dims + schema.measures()) as usize;
-    for column in 0..columns {
-        let value = row.column_value(dims, column);
-        push_value(text, column == 0, value)?;
+    match query.filter {
+        None => true,
+        Some(condition) => condition.truth(schema, row),
+    }
+}
+
+// Puts the line of a row's values in some columns.
+fn push_row(
+    text: &mut Vec<u8>,
+    schema: &Schema,
+    columns: &[usize],
+    row: &Row,
+) -> Result<(), AllocError>
+    requires { All (λ column. column < length schema.now.columns) columns.now }
+    ensures { OnOk result (text.new.items ≡ text.old.items ++ spec.row_line (sql.cells schema.now.dims columns.now row.now)) }
+{
+    for (place, column) in columns.iter().enumerate() {
+        push_value(text, place == 0, value_in(row, schema, *column))?;
     }
     text.push(b'\n')?;
     Ok(())
+}
+
+// The value of a row in a column of the schema.
+fn value_in(row: &Row, schema: &Schema, column: usize) -> i128
+    requires { column < length schema.now.columns }
+    ensures { result ≡ column_value schema.now.dims row.now column }
+{
+    row.column_value(schema.dims(), column)
 }
 
 // Puts the line that says how many rows were written and how many region pages were fetched for them.

@@ -1,0 +1,50 @@
+use Rattle.std.proofs.Common.{◌≡◌, ◌∙◌, inl, inr, refl, sym}
+use Rattle.ub_syntax.specs.Tree.{select_of}
+use Rattle.ub_parser.specs.Outcome.{told, IsAccepted}
+use Rattle.ub_parser.proofs.FaultFacts.{fits, misfit_first}
+use Rattle.ub_parser.proofs.ParseFacts.{nothing_accepted, is_statement, are_written, table_within, accepted_only}
+use Rattle.ub_parser.proofs.parser.sense.Goals as goal
+
+pub misfit-requires-clause-table : goal.misfit-requires-clause-table
+misfit-requires-clause-table c =
+    let is = is_statement c.args.source.now c.args.schema.now c.args.tokens.now (select_of c.in_ok-syntax.syntax) c.in_ok-syntax.ensures c.requires.statement in
+    table_within c.args.source.now c.args.schema.now c.args.tokens.now (select_of c.in_ok-syntax.syntax) c.requires.spelled c.requires.numbers is
+
+pub misfit-requires-clause-names : goal.misfit-requires-clause-names
+misfit-requires-clause-names c =
+    let is = is_statement c.args.source.now c.args.schema.now c.args.tokens.now (select_of c.in_ok-syntax.syntax) c.in_ok-syntax.ensures c.requires.statement in
+    (are_written c.args.source.now c.args.schema.now c.args.tokens.now (select_of c.in_ok-syntax.syntax) c.requires.spelled c.requires.numbers is).names_are
+
+pub returns-in-Some-clause-refused : goal.returns-in-Some-clause-refused
+returns-in-Some-clause-refused c =
+    let is = is_statement c.args.source.now c.args.schema.now c.args.tokens.now (select_of c.in_ok-syntax.syntax) c.in_ok-syntax.ensures c.requires.statement in
+    inr (misfit_first c.args.source.now c.args.schema.now c.args.tokens.now (select_of c.in_ok-syntax.syntax) c.requires.bytes c.requires.numbers is c.in_ok-syntax.ensures
+    c.in-Some.fault c.in-Some.ensures.first)
+
+pub returns-in-Some-clause-only : goal.returns-in-Some-clause-only
+returns-in-Some-clause-only c =
+    let is = is_statement c.args.source.now c.args.schema.now c.args.tokens.now (select_of c.in_ok-syntax.syntax) c.in_ok-syntax.ensures c.requires.statement in
+    nothing_accepted c.args.source.now c.args.schema.now c.args.tokens.now c.in-Some.fault
+    (misfit_first c.args.source.now c.args.schema.now c.args.tokens.now (select_of c.in_ok-syntax.syntax) c.requires.bytes c.requires.numbers is c.in_ok-syntax.ensures
+    c.in-Some.fault c.in-Some.ensures.first)
+
+pub query-requires-clause-written : goal.query-requires-clause-written
+query-requires-clause-written c =
+    let is = is_statement c.args.source.now c.args.schema.now c.args.tokens.now (select_of c.in_ok-syntax.syntax) c.in_ok-syntax.ensures c.requires.statement in
+    are_written c.args.source.now c.args.schema.now c.args.tokens.now (select_of c.in_ok-syntax.syntax) c.requires.spelled c.requires.numbers is
+
+pub returns-clause-accepted : goal.returns-clause-accepted
+returns-clause-accepted c =
+    let is = is_statement c.args.source.now c.args.schema.now c.args.tokens.now (select_of c.in_ok-syntax.syntax) c.in_ok-syntax.ensures c.requires.statement in
+    record {
+      syntax = select_of c.in_ok-syntax.syntax;
+      is = is;
+      fits = fits c.args.source.now c.args.schema.now c.args.tokens.now (select_of c.in_ok-syntax.syntax) c.requires.bytes c.requires.numbers is c.in_ok-syntax.ensures c.in_default.ensures.first;
+      explained = c.statement.ensures.explained;
+      asks = c.statement.ensures.asked ∙ c.in_ok-query.ensures.asked;
+    }
+
+pub returns-clause-only : goal.returns-clause-only
+returns-clause-only c = λ t accepted.
+    accepted_only c.args.source.now c.args.schema.now c.args.tokens.now (select_of c.in_ok-syntax.syntax) c.in_ok-syntax.ensures (told c.statement.result) t accepted
+    c.statement.ensures.explained (c.statement.ensures.asked ∙ c.in_ok-query.ensures.asked)

@@ -1,0 +1,38 @@
+-- Statements whose names are columns of a table.
+use Rattle.std.specs.Prelude.{ℕ, List, Contains}
+use Rattle.std.specs.List.{All}
+use Rattle.ub_lexer.specs.Tokens.{text_of}
+use Rattle.ub_lexer.specs.declared.token.Token.{Token}
+use Rattle.ub_page.specs.declared.schema.Schema.{Schema}
+use Rattle.ub_syntax.specs.Tree.{Shape, both, either, neither, compares, between}
+use Rattle.ub_syntax.specs.declared.syntax.Item.{Item}
+use Rattle.ub_parser.specs.Refusals.{item_names}
+use Rattle.ub_parser.specs.Spans.{IsWithin, IsNumber}
+
+-- the token lies in the source and names a column
+abbrev pub IsColumn : List ℕ → Schema → Token → Type 0
+IsColumn source schema t = IsWithin source t × Contains schema.columns (text_of source t)
+
+-- the item names a column, or none
+abbrev pub IsKnownItem : List ℕ → Schema → Item → Type 0
+IsKnownItem source schema item = All (λ t. IsColumn source schema t) (item_names item)
+
+-- each comparison of the condition names a column, and its numbers may be written
+abbrev pub IsKnown : List ℕ → Schema → Shape → Type 0
+IsKnown source schema (both a b) = IsKnown source schema a × IsKnown source schema b
+IsKnown source schema (either a b) = IsKnown source schema a × IsKnown source schema b
+IsKnown source schema (neither a) = IsKnown source schema a
+IsKnown source schema (compares name operator v) = IsColumn source schema name × IsNumber source v.digits
+IsKnown source schema (between name low high) = IsColumn source schema name × IsNumber source low.digits × IsNumber source high.digits
+
+-- the columns of the comparisons lie in the source
+abbrev pub AreComparedWithin : List ℕ → Shape → Type 0
+AreComparedWithin source (both a b) = AreComparedWithin source a × AreComparedWithin source b
+AreComparedWithin source (either a b) = AreComparedWithin source a × AreComparedWithin source b
+AreComparedWithin source (neither a) = AreComparedWithin source a
+AreComparedWithin source (compares name operator v) = IsWithin source name
+AreComparedWithin source (between name low high) = IsWithin source name
+
+-- the token names no column
+abbrev pub IsUnknown : List ℕ → Schema → Token → Type 0
+IsUnknown source schema t = ¬ Contains schema.columns (text_of source t)

@@ -1,0 +1,141 @@
+-- Why a statement is refused: nine conditions, the first of which is told.
+use Rattle.std.specs.Prelude.{◌≡◌, ◌≢◌, ◌<◌, ◌⊎◌, ℕ, List, [], ◌∷◌, ◌++◌, map, drop, Option, Some, None, slice_get, Contains}
+use Rattle.std.specs.List.{All}
+use Rattle.ub_lexer.specs.Tokens.{text_of}
+use Rattle.ub_lexer.specs.declared.token.Token.{Token}
+use Rattle.ub_lexer.specs.declared.token.TokenKind.TheVariants as kind
+use Rattle.ub_page.specs.declared.schema.Schema.{Schema}
+use Rattle.ub_syntax.specs.Grammar.{lexemes, IsStatement}
+use Rattle.ub_syntax.specs.Stop.{IsRefusedAt, IsTooDeepAt}
+use Rattle.ub_syntax.specs.Tree.{Select, Shape, both, either, neither, compares, between}
+use Rattle.ub_syntax.specs.declared.syntax.Item.{Item}
+use Rattle.ub_syntax.specs.declared.syntax.Item.TheVariants.{Column, Count, Aggregate}
+use Rattle.ub_syntax.specs.declared.syntax.OrderKey.{OrderKey}
+use Rattle.ub_syntax.specs.declared.syntax.Selection.{Selection}
+use Rattle.ub_syntax.specs.declared.syntax.Selection.TheVariants.{All as Star, Listed}
+use Rattle.ub_parser.specs.Sense.{item_of, number_of}
+use Rattle.ub_parser.specs.declared.fault.SqlFault.{SqlFault}
+use Rattle.ub_parser.specs.declared.fault.SqlFault.TheVariants.{BadByte, Syntax, NumberTooLarge, TooDeep, TooMany, UnknownTable, UnknownColumn, NotGrouped, NotSelected, Memory}
+
+-- the first of some things of which P holds
+abbrev pub IsFirst : {A : Type 0} → (A → Type 0) → List A → A → Type 0
+IsFirst {A = A} P xs x = (before after : List A) × (xs ≡ before ++ x ∷ after) × All (λ y. ¬ P y) before × P x
+
+-- the greatest number that a statement may write
+abbrev pub greatest_number : ℕ
+greatest_number = 18446744073709551615
+
+abbrev pub IsTooLarge : List ℕ → Token → Type 0
+IsTooLarge source t = (t.kind ≡ kind.Number) × (greatest_number < number_of source t)
+
+-- the token with which an item begins
+abbrev pub first_token : Item → Token
+first_token (Column name) = name
+first_token (Count first) = first
+first_token (Aggregate aggregate first name) = first
+
+-- the columns that an item names
+abbrev pub item_names : Item → List Token
+item_names (Column name) = name ∷ []
+item_names (Count first) = []
+item_names (Aggregate aggregate first name) = name ∷ []
+
+abbrev pub names_in : List Item → List Token
+names_in [] = []
+names_in (item ∷ items) = item_names item ++ names_in items
+
+-- the items that are written; `*` is none
+abbrev pub listed : Selection → List Item
+listed (Star star) = []
+listed (Listed items) = items
+
+-- the columns of the comparisons of a condition, in order
+abbrev pub compared : Shape → List Token
+compared (both a b) = compared a ++ compared b
+compared (either a b) = compared a ++ compared b
+compared (neither a) = compared a
+compared (compares name operator v) = name ∷ []
+compared (between name low high) = name ∷ []
+
+abbrev pub comparisons : Option Shape → List Token
+comparisons None = []
+comparisons (Some c) = compared c
+
+abbrev pub key_items : List OrderKey → List Item
+key_items keys = map (λ key. key.item) keys
+
+-- the names of a statement but that of its table, in the order of its tokens
+abbrev pub names : Select → List Token
+names s = names_in (listed s.selection) ++ (comparisons s.filter ++ (s.group ++ names_in (key_items s.order)))
+
+-- the tokens at which it has more than 8 items, 64 comparisons, 8 group columns or 8 order keys, in the order of its tokens
+abbrev pub past_limits : Select → List Token
+past_limits s =
+    drop 8 (map first_token (listed s.selection)) ++ (drop 64 (comparisons s.filter)
+    ++ (drop 8 s.group ++ drop 8 (map first_token (key_items s.order))))
+
+abbrev pub IsAggregate : Item → Type 0
+IsAggregate (Column name) = ⊥
+IsAggregate _ = Unit {0}
+
+-- a query with GROUP BY or with an aggregate among its items
+abbrev pub IsGrouping : Select → Type 0
+IsGrouping s = (s.group ≢ []) ⊎ ((item : Item) × Contains (listed s.selection) item × IsAggregate item)
+
+-- the item is a column by which is not grouped
+abbrev pub IsUngrouped : List ℕ → Select → Item → Type 0
+IsUngrouped source s (Column name) = ¬ Contains (map (text_of source) s.group) (text_of source name)
+IsUngrouped source s _ = ⊥
+
+-- in a grouping query the key is none of the items, in another it is an aggregate
+abbrev pub IsUnselected : List ℕ → Schema → Select → Item → Type 0
+IsUnselected source schema s key =
+    (IsGrouping s × (¬ Contains (map (item_of source schema) (listed s.selection)) (item_of source schema key)))
+    ⊎ ((¬ IsGrouping s) × IsAggregate key)
+
+-- in a grouping query, the `*`, or the first item that is a column by which is not grouped
+abbrev pub IsNotGrouped : List ℕ → Select → Selection → Token → Type 0
+IsNotGrouped source s (Star star) t = t ≡ star
+IsNotGrouped source s (Listed items) t = (item : Item) × IsFirst (IsUngrouped source s) items item × (t ≡ first_token item)
+
+-- the refusals of a statement whose syntax this is, each with the token where it is seen
+abbrev pub IsMisfit : List ℕ → Schema → Select → SqlFault → Type 0
+IsMisfit source schema s (TooMany at) = (t : Token) × (slice_get (past_limits s) 0 ≡ Some t) × (at ≡ t.from)
+IsMisfit source schema s (UnknownTable at) = (text_of source s.table ≢ schema.name) × (at ≡ s.table.from)
+IsMisfit source schema s (UnknownColumn at) =
+    (t : Token) × IsFirst (λ name. ¬ Contains schema.columns (text_of source name)) (names s) t × (at ≡ t.from)
+IsMisfit source schema s (NotGrouped at) = IsGrouping s × (t : Token) × IsNotGrouped source s s.selection t × (at ≡ t.from)
+IsMisfit source schema s (NotSelected at) =
+    (key : Item) × IsFirst (IsUnselected source schema s) (key_items s.order) key × (at ≡ (first_token key).from)
+IsMisfit source schema s _ = ⊥
+
+-- the conditions, each with the offset where it is seen
+abbrev pub IsFault : List ℕ → Schema → List Token → SqlFault → Type 0
+IsFault source schema tokens (BadByte at) = (t : Token) × IsFirst (λ t. t.kind ≡ kind.Bad) tokens t × (at ≡ t.from)
+IsFault source schema tokens (Syntax at) = IsRefusedAt 64 (lexemes source tokens) at
+IsFault source schema tokens (NumberTooLarge at) = (t : Token) × IsFirst (IsTooLarge source) tokens t × (at ≡ t.from)
+IsFault source schema tokens (TooDeep at) = IsTooDeepAt 64 (lexemes source tokens) at
+IsFault source schema tokens fault = (s : Select) × IsStatement 64 (lexemes source tokens) s × IsMisfit source schema s fault
+
+-- the order in which they are told
+abbrev pub rank : SqlFault → ℕ
+rank (BadByte at) = 1
+rank (Syntax at) = 2
+rank (NumberTooLarge at) = 3
+rank (TooDeep at) = 4
+rank (TooMany at) = 5
+rank (UnknownTable at) = 6
+rank (UnknownColumn at) = 7
+rank (NotGrouped at) = 8
+rank (NotSelected at) = 9
+rank Memory = 10
+
+-- the first misfit of a syntax
+abbrev pub IsFirstMisfit : List ℕ → Schema → Select → SqlFault → Type 0
+IsFirstMisfit source schema s fault =
+    IsMisfit source schema s fault × ((other : SqlFault) → rank other < rank fault → ¬ IsMisfit source schema s other)
+
+-- the first fault of a statement
+abbrev pub IsFirstFault : List ℕ → Schema → List Token → SqlFault → Type 0
+IsFirstFault source schema tokens fault =
+    IsFault source schema tokens fault × ((other : SqlFault) → rank other < rank fault → ¬ IsFault source schema tokens other)

@@ -1,0 +1,15 @@
+pub mod SymbolFacts
+pub mod Parts
+pub mod Equal
+pub mod Chains
+pub mod Operands
+pub mod Clauses
+pub mod Statements
+pub mod Moves
+pub mod Drives
+pub mod StatementDrives
+pub mod GoalsSound
+pub mod StatementSound
+pub mod Completions
+pub mod Depths
+pub mod Verdicts

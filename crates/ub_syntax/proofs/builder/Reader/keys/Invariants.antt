@@ -1,0 +1,11 @@
+use Rattle.std.proofs.Common.{[], ◌∷◌, length}
+use Rattle.ub_syntax.specs.Grammar.{IsKey}
+use Rattle.ub_syntax.specs.declared.symbol.Symbol.TheVariants as symbol
+use Rattle.ub_syntax.proofs.Chains.{Joins}
+use Rattle.ub_syntax.proofs.builder.Reader.keys.Given as goal
+
+abbrev pub invariant-joined : goal.invariant-joined
+invariant-joined l = Joins symbol.Comma (IsKey) (symbol.Comma ∷ symbol.Descending ∷ symbol.Ascending ∷ []) l.fn.self l.keys.items l.self
+
+abbrev pub decreases-joined : goal.decreases-joined
+decreases-joined l = length l.self

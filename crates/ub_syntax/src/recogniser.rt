@@ -1,0 +1,117 @@
+ghost use Rattle.std.specs.Prelude.{◌≡◌, ◌<◌, length, IfOk};
+ghost use Rattle.ub_lexer.specs.Tokens.{AreSpelled};
+ghost use Rattle.ub_syntax.specs.Grammar.{lexemes};
+ghost use Rattle.ub_syntax.specs.Verdicts.{IsVerdict, refused_at};
+
+use crate::machine::{Machine, Refusal};
+use crate::symbol::symbol_of;
+use std::alloc::{AllocError, Global};
+use ub_lexer::Token;
+
+/// What a list of tokens is to the grammar.
+#[derive(Clone, Copy, PartialEq, Eq, Debug)]
+pub enum Verdict {
+    Statement,
+    /// No statement. The first token with which no statement goes on begins at this offset; where each goes on, the
+    /// statement isn't complete, and this is the offset where its last token ends.
+    Syntax { at: usize },
+    /// The token that begins at this offset is a `(` or NOT inside as many of them as may stand one in the other, and a
+    /// statement that might nest deeper could go on with it.
+    TooDeep { at: usize },
+}
+
+/// What these tokens are to the grammar, with at most 64 parentheses and NOTs round a place of the condition. `AllocError`
+/// only where memory is refused.
+pub fn recognise(alloc: Global, source: &[u8], tokens: &[Token]) -> Result<Verdict, AllocError>
+    requires some { 0 < length tokens.now }
+    requires spelled { AreSpelled source.now tokens.now }
+    ensures { IfOk result (λ verdict. IsVerdict 64 (lexemes source.now tokens.now) verdict) }
+{
+    let mut machine = Machine::new(alloc);
+    for token in tokens {
+        if let Err(refusal) = machine.read(symbol_of(source, token))? {
+            return Ok(refused(refusal, token.from));
+        }
+    }
+    if machine.can_end() {
+        Ok(Verdict::Statement)
+    } else {
+        Ok(Verdict::Syntax {
+            at: tokens[tokens.len() - 1].to,
+        })
+    }
+}
+
+// The verdict where a token that begins here is refused.
+fn refused(refusal: Refusal, at: usize) -> Verdict
+    ensures { result ≡ refused_at refusal at }
+{
+    match refusal {
+        Refusal::Syntax => Verdict::Syntax { at },
+        Refusal::TooDeep => Verdict::TooDeep { at },
+    }
+}
+
+#[cfg(test)]
+mod tests {
+    use super::*;
+    use std::test::Fail;
+    use ub_lexer::lex;
+
+    // The verdict on a source, if it has a token.
+    fn told(alloc: Global, source: &[u8]) -> Result<Option<Verdict>, Fail> {
+        let tokens = lex(alloc, source)?;
+        if tokens.is_empty() {
+            return Ok(None);
+        }
+        Ok(Some(recognise(alloc, source, &tokens)?))
+    }
+
+    // A statement with so many parentheses round a condition; the first stands at 22.
+    fn nested(alloc: Global, count: usize, condition: &[u8]) -> Result<Vec<u8>, AllocError> {
+        let mut source = Vec::new(alloc);
+        source.extend_from_slice(b"SELECT x FROM t WHERE ")?;
+        for _ in 0..count {
+            source.push(b'(')?;
+        }
+        source.extend_from_slice(condition)?;
+        for _ in 0..count {
+            source.push(b')')?;
+        }
+        Ok(source)
+    }
+
+    #[test]
+    fn tells_where_a_statement_stops(rt: HostRuntime) -> Result<(), Fail> {
+        for (source, verdict) in [
+            (
+                "SELECT COUNT(*), x FROM t GROUP BY x LIMIT 5",
+                Verdict::Statement,
+            ),
+            ("SELECT FROM t", Verdict::Syntax { at: 7 }),
+            ("SELECT x, * FROM t", Verdict::Syntax { at: 10 }),
+            ("SELECT * FROM t WHERE", Verdict::Syntax { at: 21 }),
+            ("SELECT", Verdict::Syntax { at: 6 }),
+        ] {
+            assert!(rt;
+                told(rt.alloc(), source.as_bytes())? == Some(verdict),
+                "{source}"
+            );
+        }
+        Ok(())
+    }
+
+    #[test]
+    fn nests_64_deep(rt: HostRuntime) -> Result<(), Fail> {
+        for (count, condition, verdict) in [
+            (64, "x = 1", Verdict::Statement),
+            (65, "x = 1", Verdict::TooDeep { at: 86 }),
+            (64, "NOT x = 1", Verdict::TooDeep { at: 86 }),
+            (63, "NOT x = 1 OR y = 2", Verdict::Statement),
+        ] {
+            let source = nested(rt.alloc(), count, condition.as_bytes())?;
+            assert!(rt; told(rt.alloc(), &source)? == Some(verdict), "{count}");
+        }
+        Ok(())
+    }
+}
