@@ -2,6 +2,14 @@ pub mod KeyFacts
 pub mod PlaceFacts
 pub mod SpanFacts
 pub mod SeekFacts
+pub mod TreeFacts
+pub mod CallFacts
+pub mod MadeFacts
+pub mod RoomFacts
+pub mod WriteFacts
+pub mod GrowFacts
+pub mod StoredFacts
+pub mod SchemaFacts
 pub mod Example
 pub mod KeyLists
 pub mod RowFacts
@@ -10,5 +18,4 @@ pub mod InsertFacts
 pub mod RemoveFacts
 pub mod CoverFacts
 pub mod TableFacts
-pub mod StepFacts
 pub mod EntryFacts

@@ -2,3 +2,9 @@ pub mod Keys
 pub mod Rows
 pub mod Regions
 pub mod Spans
+pub mod View
+pub mod Stored
+pub mod Calls
+pub mod Faults
+pub mod Tree
+pub mod Change

@@ -21,8 +21,7 @@ abbrev pub remove_row : ℕ → Key → List Row → List Row
 remove_row dims key [] = []
 remove_row dims key (row ∷ rows) = if is_same key (key_of dims row) then rows else row ∷ remove_row dims key rows
 
--- the first key of a region of which the first row has the key `right`, where the row before has the key `left`: the
--- least key of the address, where that is another one, and else the row's own
+-- what parts the rows up to one key from those from another on: the address alone, where it is another one
 abbrev pub separator : Key → Key → Key
 separator left right = if nat_lt left.z right.z then record { z = right.z; number = 0 } else right
 

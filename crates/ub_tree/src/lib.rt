@@ -1,13 +1,23 @@
-// The UB-tree (Bayer 1997) over memory: disjoint regions in the order of addresses, each on one page, and a row in the
-// region that holds its key. Here stand the definitions (specs/), and what touches no store: the rows of one region, which
-// take a row in, are split, lose a row and are joined; and the directory, which tells the region that holds a key, the
-// first whose span ends at an address or later, and the next that meets some boxes. Pages are spelled in the crate below.
+// The UB-tree (Bayer 1997): disjoint regions in the order of addresses, each on a page of a store, and each row in the region
+// that holds its key. The definitions stand in specs/: `Regions` (what regions are, insertion and removal as functions on their
+// list), `Spans` (the addresses that a region covers), `View` (what contracts see of a tree, and when it is sound). The code, from
+// the bottom: keys and the rows of one region (`keys`, `rows`), the directory in memory (`places`), and the tree over a store
+// (`tree` to search and read, `change` to put rows in, `closing` to begin). Pages are spelled, and stores kept, in the crates below.
 
 #![tactic(auto)]
 
+mod change;
+mod closing;
+pub mod fault;
 mod keys;
 mod places;
+mod reading;
 pub mod region;
 mod rows;
+#[cfg(test)]
+mod tests;
+pub mod tree;
 
+pub use fault::TreeFault;
 pub use region::Region;
+pub use tree::Tree;

@@ -1,5 +1,6 @@
-ghost use Rattle.std.specs.Prelude.{◌≡◌, ℕ, ◌+◌, ◌<◌, ◌≤◌, ◌↔◌, max, Some, None, IsTrue, All, if◌then◌else◌, nat_le, length, slice_get, option_copied, IsSome, IfSome, OnOk, OnErr};
+ghost use Rattle.std.specs.Prelude.{◌≡◌, ℕ, ◌+◌, ◌-◌, ◌<◌, ◌≤◌, ◌↔◌, max, Some, None, IsTrue, All, Bool, if◌then◌else◌, nat_le, nat_lt, length, slice_get, option_copied, IsSome, IfSome, OnOk, OnErr};
 ghost use Rattle.std.specs.List.{insert, remove};
+ghost use Rattle.ub_bigmin.specs.Box.{Corners};
 ghost use Rattle.ub_page.specs.Keys.{IsBefore};
 ghost use Rattle.ub_tree.specs.Keys.{origin, are_ascending};
 ghost use Rattle.ub_tree.specs.Regions.{place_of};

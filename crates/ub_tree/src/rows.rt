@@ -1,6 +1,7 @@
 ghost use Rattle.std.specs.Prelude.{◌≡◌, ◌+◌, ◌<◌, ◌≤◌, [], ◌∷◌, ◌++◌, ◌/◌, length, take, drop, is_some, IfSome, if◌then◌else◌, nat_lt, nat_le};
 ghost use Rattle.std.specs.Option.{IfNone};
-ghost use Rattle.ub_tree.specs.Rows.{insert_row, has_key, remove_row, split};
+ghost use Rattle.ub_page.specs.Region.{key_of};
+ghost use Rattle.ub_tree.specs.Rows.{insert_row, has_key, remove_row, cut, key_at, split};
 
 use crate::keys::{first_between, is_before, is_equal, row_key};
 use std::marker::Model;

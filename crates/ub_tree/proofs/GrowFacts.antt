@@ -1,0 +1,320 @@
+-- A row put into a tree.
+use Rattle.std.proofs.Common.{◌≡◌, ◌≢◌, ◌<◌, ◌≤◌, ◌+◌, ◌-◌, ◌^◌, inl, inr, ℕ, ℤ, pos, zero, suc, Bool, true, false, List, [], ◌∷◌, ◌++◌, Some, Ok, Err, Result, OnOk, length, map, take, drop, replicate, nat_le, ◌∙◌, sym, ap, subst, refl, arith, slice_get, append_assoc, add-one, length-append}
+use Rattle.std.proofs.lemmas.Bool.{lt-leb}
+use Rattle.std.proofs.lemmas.List.{map-append, take-map, drop-map}
+use Rattle.std.proofs.lemmas.List.Elements.{All-append, All-from_recursion}
+use Rattle.std.proofs.Common.{rules}
+use Rattle.std.proofs.Math.Facts.{Fits-lt-pow}
+use Rattle.std.proofs.Math.Seq.{drop-append_seam}
+use Rattle.std.proofs.lemmas.List.{length-replicate}
+use Rattle.std.proofs.lemmas.List.Sorted.{length_permutation}
+use Rattle.std.specs.Prelude.{FitsSigned}
+use Rattle.std.specs.Int.{w64}
+use Rattle.std.specs.List.{All, AllByRecursion, insert as insert_at}
+use Rattle.std.specs.List.Sorted.{IsPermutation}
+use Rattle.ub_zaddr.specs.Address.{last_address}
+use Rattle.ub_page.specs.Region.{Region, IsRegion, IsRow, HasRest, key_of, measures_of}
+use Rattle.ub_page.specs.declared.directory.Entry.{Entry}
+use Rattle.ub_page.specs.declared.row.Key.{Key}
+use Rattle.ub_page.specs.declared.row.Row.{Row}
+use Rattle.ub_page.specs.declared.schema.Schema.{Schema}
+use Rattle.ub_store.specs.Facts.{StoreFacts, IsHonest, Keeps, Rose}
+use Rattle.ub_store.specs.View.{PagerView}
+use Rattle.ub_store.specs.declared.fault.StoreFault.TheVariants as store
+use Rattle.ub_tree.specs.Change.{HasRoom, IsChangeFault, IsStored, IsSplitAt, IsInserted, placed_with, regions_with, row_of, split_of}
+use Rattle.ub_tree.specs.Regions.{AreRegions, firsts_of, insert, place_of, rows_of, split_region}
+use Rattle.ub_tree.specs.Rows.{Halves, insert_row, split}
+use Rattle.ub_tree.specs.Spans.{ArePlaces, first_keys}
+use Rattle.ub_tree.specs.Tree.{known_pages, tree_view}
+use Rattle.ub_tree.specs.View.{placed_of, TreeView, Placed, IsSound, entry_of, regions, regions_in}
+use Rattle.ub_tree.specs.declared.fault.TreeFault.{TreeFault}
+use Rattle.ub_tree.proofs.CoverFacts.{places_of_regions}
+use Rattle.ub_tree.proofs.InsertFacts.{insert_keeps}
+use Rattle.ub_tree.proofs.TreeFacts.{firsts_back, length-placed}
+use Rattle.ub_tree.proofs.WriteFacts.{stored_of}
+use Rattle.ub_tree.specs.declared.fault.TreeFault.TheVariants.{Full, Page, Store, Failed as HasFailed, Memory}
+use Rattle.std.proofs.Common.{Fits, IfErr, get_or, w32}
+use Rattle.std.proofs.lemmas.Grind.{get_or_default_zero}
+use Rattle.std.specs.Result.{IsErrAnd}
+use Rattle.ub_tree.proofs.KeyLists.{all_left, all_right}
+
+map_with : {X Y : Type 0} (f : X → Y) (n : ℕ) (news xs : List X) → map f (take n xs ++ news ++ drop (suc n) xs) ≡ take n (map f xs) ++ map f news ++ drop (suc n) (map f xs)
+map_with f n news xs =
+    map-append f (take n xs ++ news) (drop (suc n) xs)
+    ∙ ap (λ zs. zs ++ map f (drop (suc n) xs)) (map-append f (take n xs) news)
+    ∙ rw (take-map f n xs, drop-map f (suc n) xs) refl
+
+pub regions_placed : (place : ℕ) (news placed : List Placed) → regions_in (placed_with place news placed) ≡ regions_with place (regions_in news) (regions_in placed)
+regions_placed place news placed = map_with (λ (p : Placed). p.region) place news placed
+
+module _ (old new : TreeView) (place : ℕ) (p : Placed) (rows : List Row) where
+  pub one_region : nat_le (length rows) old.schema.page_rows ≡ true → AllByRecursion (IsRegion old.schema) (split_of old.schema p.region.first rows) → IsRegion old.schema (record { first = p.region.first; rows = rows })
+  one_region fits all = let one = rw fits at all in one.0
+
+  pub one_stored : (r : Result (Unit {0}) TreeFault) → nat_le (length rows) old.schema.page_rows ≡ true
+      → OnOk r (IsStored new × (new.placed ≡ placed_with place (record { page = p.page; region = record { first = p.region.first; rows = rows } } ∷ []) old.placed))
+      → OnOk r (IsStored new × (regions new ≡ regions_with place (split_of old.schema p.region.first rows) (regions old)))
+  one_stored (Err e) fits h = tt
+  one_stored (Ok x) fits h = (h.0, ap regions_in h.1 ∙ regions_placed place (record { page = p.page; region = record { first = p.region.first; rows = rows } } ∷ []) old.placed ∙ rw fits refl)
+
+  abbrev halves : Halves
+  halves = split old.schema.dims old.schema.page_rows rows
+
+  pub two_are : nat_le (length rows) old.schema.page_rows ≡ false → AllByRecursion (IsRegion old.schema) (split_of old.schema p.region.first rows)
+      → IsRegion old.schema (record { first = p.region.first; rows = halves.left }) × IsRegion old.schema (record { first = halves.first; rows = halves.right })
+  two_are over all = let two = rw over at all in (two.0, two.1.0)
+
+  pub two_stored : (r : Result (Unit {0}) TreeFault) → nat_le (length rows) old.schema.page_rows ≡ false → OnOk r (IsStored new × IsSplitAt place p halves old new)
+      → OnOk r (IsStored new × (regions new ≡ regions_with place (split_of old.schema p.region.first rows) (regions old)))
+  two_stored (Err e) over h = tt
+  two_stored (Ok x) over h = (
+    h.0,
+    ap regions_in h.1.1
+        ∙ regions_placed place (record { page = p.page; region = record { first = p.region.first; rows = halves.left } } ∷ record { page = h.1.0; region = record { first = halves.first; rows = halves.right } } ∷ []) old.placed
+        ∙ rw over refl,
+  )
+
+drop_at : {X : Type 0} (xs : List X) (i : ℕ) (x : X) → slice_get xs i ≡ Some x → drop i xs ≡ x ∷ drop (suc i) xs
+drop_at [] i x at = cc
+drop_at (y ∷ xs) zero x at = let same : y ≡ x = cc in ap (λ z. z ∷ xs) same
+drop_at (y ∷ xs) (suc i) x at = drop_at xs i x at
+
+pub some_at : {X : Type 0} (xs : List X) (i : ℕ) → i < length xs → (x : X) × (slice_get xs i ≡ Some x)
+some_at [] i lt = absurd (omega arith)
+some_at (x ∷ xs) zero lt = (x, refl)
+some_at (x ∷ xs) (suc i) lt = some_at xs i (omega arith)
+
+inserted_parts : {X : Type 0} (es : List X) (i : ℕ) (e x : X) → slice_get es i ≡ Some e → take (suc i) es ++ x ∷ drop (suc i) es ≡ take i es ++ (e ∷ x ∷ []) ++ drop (suc i) es
+inserted_parts [] i e x at = cc
+inserted_parts (y ∷ es) zero e x at = let same : y ≡ e = cc in ap (λ z. z ∷ x ∷ es) same
+inserted_parts (y ∷ es) (suc i) e x at = ap (λ zs. y ∷ zs) (inserted_parts es i e x at)
+
+-- insertion changes the region at the place of the row's key
+pub insert_at_place : (dims c : ℕ) (row : Row) (rs : List Region) (place : ℕ) (r : Region) → slice_get rs place ≡ Some r → place ≡ place_of (key_of dims row) (firsts_of rs)
+    → insert dims c row rs ≡ regions_with place (split_region dims c (record { first = r.first; rows = insert_row dims row r.rows })) rs
+insert_at_place dims c row rs place r at is =
+    rw (← is) (rw (drop_at rs place r at) (sym (append_assoc (take place rs) (split_region dims c (record { first = r.first; rows = insert_row dims row r.rows })) (drop (suc place) rs))))
+
+placed_region : (placed : List Placed) (place : ℕ) (p : Placed) → slice_get placed place ≡ Some p → slice_get (regions_in placed) place ≡ Some p.region
+placed_region [] place p at = cc
+placed_region (q ∷ placed) zero p at = let same : q ≡ p = cc in ap (λ (x : Placed). Some x.region) same
+placed_region (q ∷ placed) (suc place) p at = placed_region placed place p at
+
+entry_at : (placed : List Placed) (place : ℕ) (p : Placed) → slice_get placed place ≡ Some p → slice_get (map entry_of placed) place ≡ Some (entry_of p)
+entry_at [] place p at = cc
+entry_at (q ∷ placed) zero p at = let same : q ≡ p = cc in ap (λ (x : Placed). Some (entry_of x)) same
+entry_at (q ∷ placed) (suc place) p at = entry_at placed place p at
+
+firsts_placed : (placed : List Placed) → first_keys (map entry_of placed) ≡ firsts_of (regions_in placed)
+firsts_placed [] = refl
+firsts_placed (p ∷ placed) = ap (λ (ks : List Key). p.region.first ∷ ks) (firsts_placed placed)
+
+-- of a sound tree, a new row of its own number, and the place of the row's key
+module _ (t : TreeView) (row : Row) (place : ℕ) (p : Placed) (sound : IsSound t) (good : IsRow t.schema.dims (measures_of t.schema) row) (number : row.number ≡ t.next)
+    (is : place ≡ place_of (key_of t.schema.dims row) (firsts_of (regions t))) (at : slice_get t.placed place ≡ Some p) where
+  abbrev dims : ℕ
+  dims = t.schema.dims
+
+  abbrev c : ℕ
+  c = t.schema.page_rows
+
+  abbrev rows : List Row
+  rows = insert_row dims row p.region.rows
+
+  abbrev news : List Region
+  news = split_of t.schema p.region.first rows
+
+  pub insert_is : insert dims c row (regions t) ≡ regions_with place news (regions t)
+  insert_is = insert_at_place dims c row (regions t) place p.region (placed_region t.placed place p at) is
+
+  kept : AreRegions t.schema (t.next + 1) (insert dims c row (regions t)) × IsPermutation (row ∷ rows_of (regions t)) (rows_of (insert dims c row (regions t)))
+  kept = insert_keeps t.schema t.next row (regions t) sound.regions_are good number
+
+  pub news_are : AllByRecursion (IsRegion t.schema) news
+  news_are =
+      let each : AllByRecursion (IsRegion t.schema) (take place (regions t) ++ news ++ drop (suc place) (regions t)) = subst (AllByRecursion (IsRegion t.schema)) insert_is kept.0.each in
+      all_right (IsRegion t.schema) (take place (regions t)) news (all_left (IsRegion t.schema) (take place (regions t) ++ news) (drop (suc place) (regions t)) each)
+
+  -- where the rows are more than a page holds, there is room for the other half
+  pub has_room : c < length rows → (page : ℕ) → ArePlaces (last_address dims) (insert_at (map entry_of t.placed) (place + 1) (record { first = (split dims c rows).first; page = page }))
+  has_room over page =
+      places_of_regions t.schema (t.next + 1) (insert dims c row (regions t)) (insert_at (map entry_of t.placed) (place + 1) x) kept.0 firsts
+    where
+      x : Entry
+      x = record { first = (split dims c rows).first; page = page }
+
+      es : List Entry
+      es = map entry_of t.placed
+
+      twos : List Region
+      twos = record { first = p.region.first; rows = (split dims c rows).left } ∷ record { first = (split dims c rows).first; rows = (split dims c rows).right } ∷ []
+
+      two : news ≡ record { first = p.region.first; rows = (split dims c rows).left } ∷ record { first = (split dims c rows).first; rows = (split dims c rows).right } ∷ []
+      two = rw (lt-leb (length rows) c over) refl
+
+      parts : insert_at (map entry_of t.placed) (place + 1) (record { first = (split dims c rows).first; page = page })
+          ≡ take place (map entry_of t.placed) ++ (entry_of p ∷ record { first = (split dims c rows).first; page = page } ∷ []) ++ drop (suc place) (map entry_of t.placed)
+      parts = rw add-one (inserted_parts (map entry_of t.placed) place (entry_of p) (record { first = (split dims c rows).first; page = page }) (entry_at t.placed place p at))
+
+      firsts : first_keys (insert_at (map entry_of t.placed) (place + 1) (record { first = (split dims c rows).first; page = page })) ≡ firsts_of (insert dims c row (regions t))
+      firsts =
+          ap first_keys parts
+          ∙ map_with (λ (e : Entry). e.first) place (entry_of p ∷ record { first = (split dims c rows).first; page = page } ∷ []) (map entry_of t.placed)
+          ∙ ap (λ (ks : List Key). take place ks ++ (p.region.first ∷ (split dims c rows).first ∷ []) ++ drop (suc place) ks) (firsts_placed t.placed)
+          ∙ sym (map_with (λ (r : Region). r.first) place (record { first = p.region.first; rows = (split dims c rows).left } ∷ record { first = (split dims c rows).first; rows = (split dims c rows).right } ∷ []) (regions t))
+          ∙ ap firsts_of (sym (insert_is ∙ ap (λ (rs : List Region). regions_with place rs (regions t)) two))
+
+-- a row was put into a sound tree
+pub inserted_sound : (a b d : TreeView) (row : Row) → b.schema ≡ a.schema → b.next ≡ a.next → b.rows ≡ a.rows → d ≡ record b { next = b.next + 1; rows = b.rows + 1 }
+    → IsSound a → IsRow a.schema.dims (measures_of a.schema) row → row.number ≡ a.next → a.next ≢ 16777216 → IsStored b → regions b ≡ insert a.schema.dims a.schema.page_rows row (regions a) → length b.placed < 2 ^ 32
+    → IsInserted row a d
+inserted_sound a b d row schema next rows changed sound good number more stored are few = subst (IsInserted row a) (sym changed) (record {
+  number = number;
+  schema = schema;
+  regions_are = are;
+  next = ap (λ (n : ℕ). n + 1) next;
+  rows = ap (λ (n : ℕ). n + 1) rows;
+  sound = record {
+    working = stored.working;
+    honest = stored.honest;
+    regions_are = rw (schema, next, are) kept.0;
+    placed_are = stored.placed_are;
+    rows_are = counted;
+    some_next = omega arith;
+    last_next = (let most = sound.last_next in omega arith);
+    few = few;
+  };
+})
+  where
+    kept : AreRegions a.schema (a.next + 1) (insert a.schema.dims a.schema.page_rows row (regions a))
+        × IsPermutation (row ∷ rows_of (regions a)) (rows_of (insert a.schema.dims a.schema.page_rows row (regions a)))
+    kept = insert_keeps a.schema a.next row (regions a) sound.regions_are good number
+
+    counted : b.rows + 1 ≡ length (rows_of (regions b))
+    counted =
+        let long : length (rows_of (insert a.schema.dims a.schema.page_rows row (regions a))) ≡ length (row ∷ rows_of (regions a)) = length_permutation (row ∷ rows_of (regions a)) (rows_of (insert a.schema.dims a.schema.page_rows row (regions a))) kept.1 in
+        let old : a.rows ≡ length (rows_of (regions a)) = sound.rows_are in
+        let same : length (rows_of (regions b)) ≡ length (rows_of (insert a.schema.dims a.schema.page_rows row (regions a))) = ap (λ (rs : List Region). length (rows_of rs)) are in
+        omega arith
+
+all_same : {X : Type 0} (P : X → Type 0) (x : X) (n : ℕ) → P x → AllByRecursion P (replicate n x)
+all_same P x zero h = tt
+all_same P x (suc n) h = (h, all_same P x n h)
+
+rest_of : {X : Type 0} (x : X) (used : ℕ) (xs : List X) → length xs ≡ used → used ≤ 4 → HasRest x used (xs ++ replicate (4 - length xs) x)
+rest_of x used xs long few = (
+  length-append xs (replicate (4 - length xs) x) ∙ (let rest = length-replicate (4 - length xs) x in omega arith),
+  rw (← long) (drop-append_seam xs (replicate (4 - length xs) x)),
+)
+
+pub new_row : (dims measures n : ℕ) (ds : List ℕ) (ms : List ℤ) → length ds ≡ dims → length ms ≡ measures → dims ≤ 4 → measures ≤ 4 → 1 ≤ n → n ≤ 16777215
+    → All (λ x. x < 2 ^ 32) ds → AllByRecursion (λ x. FitsSigned w64 x) ms → IsRow dims measures (row_of n ds ms)
+new_row dims measures n ds ms long_dims long_measures few_dims few_measures some most words signed = record {
+  number = (some, most);
+  dims_rest = rest_of 0 dims ds long_dims few_dims;
+  dims_words = All-append (λ x. x < 2 ^ 32) ds (replicate (4 - length ds) 0) words (All-from_recursion (λ x. x < 2 ^ 32) (replicate (4 - length ds) 0) (all_same (λ x. x < 2 ^ 32) 0 (4 - length ds) (omega arith)));
+  measures_rest = rest_of (pos 0) measures ms long_measures few_measures;
+  measures_words = All-append (λ x. FitsSigned w64 x) ms (replicate (4 - length ms) (pos 0)) (All-from_recursion (λ x. FitsSigned w64 x) ms signed)
+      (All-from_recursion (λ x. FitsSigned w64 x) (replicate (4 - length ms) (pos 0)) (all_same (λ x. FitsSigned w64 x) (pos 0) (4 - length ms) zero_fits));
+}
+  where
+    zero_fits : FitsSigned w64 (pos 0)
+    zero_fits = search rules
+
+pub place_moved : (place : ℕ) (key other : Key) (firsts others : List Key) → key ≡ other → firsts ≡ others → place ≡ place_of key firsts → place ≡ place_of other others
+place_moved place key other firsts others same_key same_firsts is = rw (← same_key, ← same_firsts) is
+
+pub words_of : (xs : List ℕ) → ((i : ℕ) → Fits w32 (get_or xs i 0)) → All (λ x. x < 2 ^ 32) xs
+words_of xs fits k d lt = let fit = fits k in rw (get_or_default_zero xs k d lt) (Fits-lt-pow fit)
+
+-- a tree whose store may have changed its cache alone, a new row for it, its place, and the rows that the region there is to have
+pub record IsReady (b : TreeView) (row : Row) (place : ℕ) (rows : List Row) : Type 0 where
+  pub good : IsRow b.schema.dims (measures_of b.schema) row
+  pub number : row.number ≡ b.next
+  pub is : place ≡ place_of (key_of b.schema.dims row) (firsts_of (regions b))
+  pub within : place < length b.placed
+  pub rows_are : IsHonest b.store → (p : Placed) → slice_get b.placed place ≡ Some p → rows ≡ insert_row b.schema.dims row p.region.rows
+
+pub ready : (schema : Schema) (entries : List Entry) (chain : List ℕ) (next count : ℕ) (changed failed : Bool) (pager : PagerView) (s : StoreFacts)
+    (shape place : ℕ) (key : Key) (row : Row) (ds : List ℕ) (ms : List ℤ) (read rows : List Row)
+    → s.honest ≡ pager.store.honest → row ≡ row_of next ds ms → length ds ≡ schema.dims → length ms ≡ measures_of schema → All (λ x. x < 2 ^ 32) ds → AllByRecursion (λ x. FitsSigned w64 x) ms
+    → count < next → next ≤ 16777216 → next ≢ 16777216 → key ≡ key_of shape row → shape ≡ schema.dims → place ≡ place_of key (first_keys entries) → place < length entries
+    → (IsHonest pager.store → (p : Placed) → slice_get (placed_of schema (known_pages pager.store) entries) place ≡ Some p → read ≡ p.region.rows) → rows ≡ insert_row shape row read
+    → IsReady (record (tree_view schema entries chain next count changed failed pager) { store = s }) row place rows
+ready schema entries chain next count changed failed pager s shape place key row ds ms read rows honest is_row long_dims long_measures words signed fewer most not_last is_key is_shape at_place lt is_read is_rows =
+    let few_dims = schema.counts.few_dims in
+    let few = schema.counts.few_measures in
+    let covers = schema.counts.covers_dims in
+    record {
+      good = rw is_row (new_row schema.dims (measures_of schema) next ds ms long_dims long_measures few_dims (omega arith) (omega arith) (omega arith) words signed);
+      number = ap (λ (r : Row). r.number) is_row;
+      is = place_moved place key (key_of schema.dims row) (first_keys entries) (firsts_of (regions_in (placed_of schema (known_pages pager.store) entries)))
+          (is_key ∙ ap (λ (d : ℕ). key_of d row) is_shape) (sym (firsts_back schema (known_pages pager.store) entries)) at_place;
+      within = (let long = length-placed schema (known_pages pager.store) entries in omega arith);
+      rows_are = λ now p there. is_rows ∙ ap (λ (d : ℕ). insert_row d row read) is_shape ∙ ap (insert_row schema.dims row) (is_read (sym honest ∙ now) p there);
+    }
+
+pub room_of : (b : TreeView) (row : Row) (place : ℕ) (rows : List Row) → IsReady b row place rows → b.schema.page_rows < length rows → HasRoom place (split b.schema.dims b.schema.page_rows rows).first b
+room_of b row place rows h over sound page =
+    let some = some_at b.placed place h.within in
+    let are = h.rows_are sound.honest some.0 some.1 in
+    let here : b.schema.page_rows < length (insert_row b.schema.dims row some.0.region.rows) = subst (λ (rs : List Row). b.schema.page_rows < length rs) are over in
+    rw are (has_room b row place some.0 sound h.good h.number h.is some.1 here page)
+
+-- a sound tree's store may be read
+pub keeps_sound : (a : TreeView) (s : StoreFacts) → Keeps a.store s → IsSound a → IsSound (record a { store = s })
+keeps_sound a s kept sound = record {
+  working = sound.working;
+  honest = kept.honesty ∙ sound.honest;
+  regions_are = sound.regions_are;
+  placed_are = rw (kept.pages sound.honest) sound.placed_are;
+  rows_are = sound.rows_are;
+  some_next = sound.some_next;
+  last_next = sound.last_next;
+  few = sound.few;
+}
+
+rose_later : (x y z : ℕ) → x ≤ y → Rose y z → Rose x z
+rose_later x y z le (inl lt) = inl (omega arith)
+rose_later x y z le (inr most) = inr most
+
+-- a fault of a change that came after a read
+change_later : (a c : TreeView) (s : StoreFacts) (fault : TreeFault) → Keeps a.store s → IsChangeFault (record a { store = s }) c fault → IsChangeFault a c fault
+change_later a c s Full kept h = (h.0, λ sound. let after = h.1 (keeps_sound a s kept sound) in (record { schema = after.0.schema; placed = after.0.placed; rows = after.0.rows; next = after.0.next }, after.1))
+change_later a c s HasFailed kept h = (h.0, λ sound. let after = h.1 (keeps_sound a s kept sound) in (record { schema = after.0.schema; placed = after.0.placed; rows = after.0.rows; next = after.0.next }, after.1))
+change_later a c s Memory kept h = λ sound. let after = h (keeps_sound a s kept sound) in (record { schema = after.0.schema; placed = after.0.placed; rows = after.0.rows; next = after.0.next }, after.1)
+change_later a c s (Page page fault) kept h = λ sound. h (keeps_sound a s kept sound)
+change_later a c s (Store store.Device) kept (rose, inl failed) = (rose_later a.store.failures s.failures c.store.failures kept.failures rose, inl failed)
+change_later a c s (Store store.Device) kept (rose, inr leaves) = (
+  rose_later a.store.failures s.failures c.store.failures kept.failures rose,
+  inr (λ sound. let after = leaves (keeps_sound a s kept sound) in (record { schema = after.0.schema; placed = after.0.placed; rows = after.0.rows; next = after.0.next }, after.1)),
+)
+change_later a c s (Store store.NoPage) kept h = λ sound. h (keeps_sound a s kept sound)
+change_later a c s (Store store.BadSize) kept h = λ sound. let after = h (keeps_sound a s kept sound) in (record { schema = after.0.schema; placed = after.0.placed; rows = after.0.rows; next = after.0.next }, after.1)
+change_later a c s (Store store.Memory) kept h = h
+
+pub insert_refused : {T : Type 0} (r : Result T TreeFault) (a b c : TreeView) (fault : TreeFault) → IsErrAnd r (λ e. e ≡ fault) → b ≡ record a { store = b.store } → Keeps a.store b.store
+    → IsChangeFault b c fault → IfErr r (IsChangeFault a c)
+insert_refused (Ok x) a b c fault is same kept h = tt
+insert_refused (Err e) a b c fault is same kept h = rw is (change_later a c b.store fault kept (subst (λ (t : TreeView). IsChangeFault t c fault) same h))
+
+-- what an insertion makes of a sound tree
+pub grown : (a b after d : TreeView) (row : Row) (place : ℕ) (rows : List Row) → b ≡ record a { store = b.store } → Keeps a.store b.store → IsReady b row place rows → a.next ≢ 16777216
+    → (IsStored b → (p : Placed) → slice_get b.placed place ≡ Some p → AllByRecursion (IsRegion b.schema) (split_of b.schema p.region.first rows)
+    → IsStored after × (regions after ≡ regions_with place (split_of b.schema p.region.first rows) (regions b)))
+    → after.schema ≡ b.schema → after.next ≡ b.next → after.rows ≡ b.rows → length after.placed < 2 ^ 32 → d ≡ record after { next = after.next + 1; rows = after.rows + 1 } → IsSound a → IsInserted row a d
+grown a b after d row place rows same kept h not_last written schema next count few changed sound_a =
+    let sound : IsSound b = subst IsSound (sym same) (keeps_sound a b.store kept sound_a) in
+    let some = some_at b.placed place h.within in
+    let are = h.rows_are sound.honest some.0 some.1 in
+    let news = news_are b row place some.0 sound h.good h.number h.is some.1 in
+    let both = written (stored_of b sound) some.0 some.1 (rw are news) in
+    let schema_b : b.schema ≡ a.schema = ap (λ (t : TreeView). t.schema) same in
+    let next_b : b.next ≡ a.next = ap (λ (t : TreeView). t.next) same in
+    let rows_b : b.rows ≡ a.rows = ap (λ (t : TreeView). t.rows) same in
+    let is : regions after ≡ insert a.schema.dims a.schema.page_rows row (regions a) =
+    both.1 ∙ ap (λ (rs : List Row). regions_with place (split_of b.schema some.0.region.first rs) (regions b)) are
+    ∙ sym (insert_is b row place some.0 sound h.good h.number h.is some.1)
+    ∙ ap (λ (t : TreeView). insert t.schema.dims t.schema.page_rows row (regions t)) same in
+    inserted_sound a after d row (schema ∙ schema_b) (next ∙ next_b) (count ∙ rows_b) changed sound_a
+    (subst (λ (s : Schema). IsRow s.dims (measures_of s) row) schema_b h.good) (h.number ∙ next_b) not_last both.0 is few

@@ -1,0 +1,218 @@
+-- A tree's regions, by its entries and the pages of its store.
+use Rattle.std.proofs.Common.{◌≡◌, ◌≢◌, ◌<◌, ◌≤◌, ◌+◌, ◌-◌, ◌↔◌, inl, inr, add-one, ℕ, zero, suc, Bool, true, false, List, [], ◌∷◌, Option, Some, None, IfSome, length, map, ◌∙◌, sym, ap, subst, refl, arith, slice_get, slice_index_or}
+use Rattle.std.proofs.lemmas.Bool.{cases_Bool, cases_eq, and_parts, eqb-true}
+use Rattle.std.proofs.lemmas.List.{length-map}
+use Rattle.std.proofs.lemmas.Option.{slice_get_past, slice_get_read, slice_get_within, get_or_from_slice_get}
+use Rattle.std.specs.List.{All, AllByRecursion, Contains}
+use Rattle.ub_zaddr.specs.Address.{last_address}
+use Rattle.ub_page.specs.Keys.{IsBefore, AreKeysAscending}
+use Rattle.ub_page.specs.Region.{Region, IsRegion, region_on, region_page, key_of, keys_of}
+use Rattle.ub_page.specs.declared.directory.Entry.{Entry}
+use Rattle.ub_page.specs.declared.row.Key.{Key}
+use Rattle.ub_page.specs.declared.row.Row.{Row}
+use Rattle.ub_page.specs.declared.schema.Schema.{Schema}
+use Rattle.ub_tree.specs.Keys.{precedes, is_same, are_ascending}
+use Rattle.ub_tree.specs.Regions.{AreRegions, AreApart, firsts_of, place_of}
+use Rattle.ub_tree.specs.Spans.{first_keys, span_end, regions_of}
+use Rattle.ub_tree.specs.Tree.{IsHeldBy}
+use Rattle.ub_tree.specs.View.{Placed, ArePlaced, placed_of, regions_in, entry_of, spans_in}
+use Rattle.ub_tree.specs.declared.region.Region.{Region as Span}
+use Rattle.ub_tree.proofs.KeyFacts.{before_of, precedes_of, before_trans, not_both_before, not_before_self, ascending_get}
+use Rattle.ub_tree.proofs.PlaceFacts.{place_is, first_at}
+use Rattle.ub_tree.proofs.SpanFacts.{region_with}
+
+-- the region of an entry, with the rows of its page
+abbrev pub placed_at : Schema → List (List ℕ) → Entry → Placed
+placed_at schema pages e = record { page = e.page; region = record { first = e.first; rows = (region_on schema (slice_index_or pages e.page [])).rows } }
+
+pub entries_back : (schema : Schema) (pages : List (List ℕ)) (entries : List Entry) → map entry_of (placed_of schema pages entries) ≡ entries
+entries_back schema pages [] = refl
+entries_back schema pages (e ∷ entries) = ap (λ (es : List Entry). e ∷ es) (entries_back schema pages entries)
+
+pub spans_are : (schema : Schema) (pages : List (List ℕ)) (entries : List Entry) (last : ℕ) → last ≡ last_address schema.dims
+    → regions_of last entries ≡ spans_in schema (placed_of schema pages entries)
+spans_are schema pages entries last is = rw (is, entries_back schema pages entries) refl
+
+-- the regions' first keys are those of the entries
+pub firsts_back : (schema : Schema) (pages : List (List ℕ)) (entries : List Entry) → firsts_of (regions_in (placed_of schema pages entries)) ≡ first_keys entries
+firsts_back schema pages [] = refl
+firsts_back schema pages (e ∷ entries) = ap (λ (ks : List Key). e.first ∷ ks) (firsts_back schema pages entries)
+
+pub placed_get : (schema : Schema) (pages : List (List ℕ)) (entries : List Entry) (i : ℕ) (e : Entry) → slice_get entries i ≡ Some e
+    → slice_get (placed_of schema pages entries) i ≡ Some (placed_at schema pages e)
+placed_get schema pages [] i e at = cc
+placed_get schema pages (f ∷ entries) zero e at = let same : f ≡ e = cc in rw same refl
+placed_get schema pages (f ∷ entries) (suc i) e at = placed_get schema pages entries i e at
+
+pub region_get : (placed : List Placed) (i : ℕ) (p : Placed) → slice_get placed i ≡ Some p → slice_get (regions_in placed) i ≡ Some p.region
+region_get [] i p at = cc
+region_get (q ∷ placed) zero p at = let same : q ≡ p = cc in rw same refl
+region_get (q ∷ placed) (suc i) p at = region_get placed i p at
+
+module _ {X : Type 0} (P : X → Type 0) where
+  pub each_get : (xs : List X) (i : ℕ) (x : X) → AllByRecursion P xs → slice_get xs i ≡ Some x → P x
+  each_get [] i x all at = cc
+  each_get (y ∷ xs) zero x all at = let same : y ≡ x = cc in subst P same all.0
+  each_get (y ∷ xs) (suc i) x all at = each_get xs i x all.1 at
+
+  pub all_get : (xs : List X) (i : ℕ) (x : X) → All P xs → slice_get xs i ≡ Some x → P x
+  all_get xs i x all at = subst P (get_or_from_slice_get xs i x x at) (all i x (slice_get_within xs i x at))
+
+  pub contained_at : (xs : List X) (i : ℕ) (x : X) → slice_get xs i ≡ Some x → Contains xs x
+  contained_at xs i x at = (i, slice_get_within xs i x at, get_or_from_slice_get xs i x x at)
+
+  pub if_some : (o : Option X) (x : X) → o ≡ Some x → IfSome o P → P x
+  if_some None x e h = cc
+  if_some (Some y) x e h = let same : y ≡ x = cc in subst P same h
+
+-- each row's key is before the first key of the next region
+pub apart_next : (dims : ℕ) (regions : List Region) (i : ℕ) (r : Region) → AreApart dims regions → slice_get regions i ≡ Some r
+    → IfSome (slice_get (firsts_of regions) (suc i)) (λ next. AllByRecursion (λ key. IsBefore key next) (keys_of dims r.rows))
+apart_next dims [] i r apart at = cc
+apart_next dims (a ∷ []) zero r apart at = tt
+apart_next dims (a ∷ []) (suc i) r apart at = tt
+apart_next dims (a ∷ b ∷ regions) zero r apart at = let same : a ≡ r = cc in rw (← same) apart.0
+apart_next dims (a ∷ b ∷ regions) (suc i) r apart at = apart_next dims (b ∷ regions) i r apart.1 at
+
+-- in ascending keys, a key is at the place that holds it
+pub place_at : (firsts : List Key) → are_ascending firsts ≡ true → (i : ℕ) (first : Key) → slice_get firsts i ≡ Some first → place_of first firsts ≡ i
+place_at firsts up i first at = place_is first firsts i (slice_get_within firsts i first at) (record {
+  below = λ j f lt at_j. below j f lt at_j;
+  above = λ j f le at_j. ascending_get firsts up i j (omega arith) first f at at_j;
+})
+  where
+    not_before : (f : Key) → ¬ (IsBefore first f) → precedes first f ≡ false
+    not_before f never = elim (cases_Bool (precedes first f)) [
+      | inl t ↦ absurd (never (before_of first f t))
+      | inr n ↦ n
+    ]
+
+    below : (j : ℕ) (f : Key) → j < suc i → slice_get firsts j ≡ Some f → precedes first f ≡ false
+    below j f lt at_j = elim (cases_eq j i) [
+      | inl e ↦
+          let there : slice_get firsts i ≡ Some f = ap (slice_get firsts) (sym e) ∙ at_j in
+          let same : first ≡ f = cc in
+          not_before f (subst (λ (k : Key). ¬ (IsBefore first k)) same (not_before_self first))
+      | inr ne ↦ not_before f (not_both_before f first (before_of f first (ascending_get firsts up j i (omega arith) f first at_j at)))
+    ]
+
+-- what is known of the region of a span, on a sound tree
+pub record IsKnown (schema : Schema) (entries : List Entry) (pages : List (List ℕ)) (span : Span) (p : Placed) : Type 0 where
+  pub there : Contains (placed_of schema pages entries) p
+  pub page : p.page ≡ span.page
+  pub first : p.region.first ≡ span.first
+  pub spelled : slice_get pages span.page ≡ Some (region_page schema p.region)
+  pub region : IsRegion schema p.region
+  pub held : IsHeldBy schema.dims (first_keys entries) p.region
+
+span_entry : (last : ℕ) (entries : List Entry) (i : ℕ) (r : Span) → slice_get (regions_of last entries) i ≡ Some r
+    → (entry : Entry) × (slice_get entries i ≡ Some entry) × (entry.first ≡ r.first) × (entry.page ≡ r.page)
+span_entry last [] i r at = cc
+span_entry last (e ∷ entries) zero r at =
+    let whole : Span = region_with (span_end last (first_keys entries)) e in
+    let same : whole ≡ r = cc in
+    (e, refl, ap (λ (q : Span). q.first) same, ap (λ (q : Span). q.page) same)
+span_entry last (e ∷ entries) (suc i) r at = span_entry last entries i r at
+
+pub span_known : (schema : Schema) (entries : List Entry) (pages : List (List ℕ)) (next last : ℕ) (reserved : List ℕ) (span : Span)
+    → are_ascending (first_keys entries) ≡ true → AreRegions schema next (regions_in (placed_of schema pages entries))
+    → ArePlaced schema (placed_of schema pages entries) reserved pages → Contains (regions_of last entries) span
+    → (p : Placed) × IsKnown schema entries pages span p
+span_known schema entries pages next last reserved span up regions placed found =
+    let at : slice_get (regions_of last entries) found.0 ≡ Some span = slice_get_read (regions_of last entries) (length (regions_of last entries)) found.0 span refl found.1 (sym found.2) in
+    let entry = span_entry last entries found.0 span at in
+    let e = entry.0 in
+    let there = placed_get schema pages entries found.0 e entry.1 in
+    let region = region_get (placed_of schema pages entries) found.0 (placed_at schema pages e) there in
+    let first = first_at entries found.0 e entry.1 in
+    let place : place_of e.first (first_keys entries) ≡ found.0 = place_at (first_keys entries) up found.0 e.first first in
+    let spelled = all_get (λ p. slice_get pages p.page ≡ Some (region_page schema p.region)) (placed_of schema pages entries) found.0 (placed_at schema pages e) placed.spelled there in
+    let apart = apart_next schema.dims (regions_in (placed_of schema pages entries)) found.0 (placed_at schema pages e).region regions.apart region in (
+      placed_at schema pages e,
+      record {
+        there = contained_at (λ (_ : Placed). Unit {0}) (placed_of schema pages entries) found.0 (placed_at schema pages e) there;
+        page = entry.3;
+        first = entry.2;
+        spelled = ap (slice_get pages) (sym entry.3) ∙ spelled;
+        region = each_get (IsRegion schema) (regions_in (placed_of schema pages entries)) found.0 (placed_at schema pages e).region regions.each region;
+        held = rw place (first, rw (← firsts_back schema pages entries) apart);
+      },
+    )
+
+-- before a key is each of ascending keys, where the last is
+pub before_last : (key : Key) (keys : List Key) (i : ℕ) (end : Key) → AreKeysAscending keys → length keys ≡ suc i → slice_get keys i ≡ Some end → IsBefore end key
+    → AllByRecursion (λ k. IsBefore k key) keys
+before_last key [] i end up long at before = tt
+before_last key (k ∷ []) zero end up long at before = let same : k ≡ end = cc in (subst (λ (j : Key). IsBefore j key) (sym same) before, tt)
+before_last key (k ∷ []) (suc i) end up long at before = cc
+before_last key (k ∷ j ∷ keys) zero end up long at before = absurd (omega arith)
+before_last key (k ∷ j ∷ keys) (suc i) end up long at before =
+    let rest = before_last key (j ∷ keys) i end up.1 (omega arith) at before in
+    (before_trans k j key up.0 rest.0, rest)
+
+pub all_before : (key : Key) (keys : List Key) (i : ℕ) (end : Key) → AreKeysAscending keys → length keys ≡ suc i → slice_get keys i ≡ Some end
+    → IsBefore end key ↔ AllByRecursion (λ k. IsBefore k key) keys
+all_before key keys i end up long at = (before_last key keys i end up long at, λ all. each_get (λ k. IsBefore k key) keys i end all at)
+
+abbrev key_with : ℕ → ℕ → Key
+key_with z number = record { z = z; number = number }
+
+pub same_key : (a b : Key) → is_same a b ≡ true → a ≡ b
+same_key a b t = let parts = and_parts _ _ t in ap (λ (z : ℕ). key_with z a.number) (eqb-true a.z b.z parts.0) ∙ ap (key_with b.z) (eqb-true a.number b.number parts.1)
+
+pub last_tells : (key end : Key) (dims len : ℕ) (rows : List Row) (b : Bool) → AreKeysAscending (keys_of dims rows) → len ≡ length rows → len ≢ 0
+    → slice_get (keys_of dims rows) (len - 1) ≡ Some end → b ≡ precedes end key → (b ≡ true) ↔ AllByRecursion (λ k. IsBefore k key) (keys_of dims rows)
+last_tells key end dims len rows b up is some at tells =
+    let long = length-map rows (key_of dims) in
+    let all = all_before key (keys_of dims rows) (len - 1) end up (omega arith) at in
+    (λ t. all.0 (before_of end key (sym tells ∙ t)), λ h. tells ∙ precedes_of end key (all.1 h))
+
+module _ (dims : ℕ) (entries : List Entry) (region : Region) (place : ℕ) (entry : Entry) (is : place ≡ place_of region.first (first_keys entries))
+    (at : slice_get entries place ≡ Some entry) (first : entry.first ≡ region.first) where
+  begins_there : slice_get (first_keys entries) (place_of region.first (first_keys entries)) ≡ Some region.first
+  begins_there = rw (← is, ← first) (first_at entries place entry at)
+
+  pub held_before : (next : Entry) (b : Bool) → slice_get entries (place + 1) ≡ Some next
+      → (b ≡ true) ↔ AllByRecursion (λ k. IsBefore k next.first) (keys_of dims region.rows) → (b ≡ true) ↔ IsHeldBy dims (first_keys entries) region
+  held_before next b after tells =
+      let there : slice_get (first_keys entries) (suc (place_of region.first (first_keys entries))) ≡ Some next.first = rw (← is) (first_at entries (suc place) next (rw add-one at after)) in
+      (λ t. (begins_there, rw there (tells.0 t)), λ h. tells.1 (if_some (λ next. AllByRecursion (λ key. IsBefore key next) (keys_of dims region.rows)) _ next.first there h.1))
+
+  pub held_last : length entries ≤ place + 1 → IsHeldBy dims (first_keys entries) region
+  held_last past =
+      let long = length-map entries (λ (e : Entry). e.first) in
+      let none : slice_get (first_keys entries) (suc (place_of region.first (first_keys entries))) ≡ None = rw (← is) (slice_get_past (first_keys entries) (suc place) (omega arith)) in
+      (begins_there, rw none tt)
+
+pub length-placed : (schema : Schema) (pages : List (List ℕ)) (entries : List Entry) → length (placed_of schema pages entries) ≡ length entries
+length-placed schema pages entries = length-map entries (placed_at schema pages)
+
+-- what is known of the region of an entry, on a sound tree
+pub record IsKnownAt (schema : Schema) (entries : List Entry) (pages : List (List ℕ)) (e : Entry) : Type 0 where
+  pub spelled : slice_get pages e.page ≡ Some (region_page schema (placed_at schema pages e).region)
+  pub region : IsRegion schema (placed_at schema pages e).region
+  pub held : IsHeldBy schema.dims (first_keys entries) (placed_at schema pages e).region
+
+pub entry_known : (schema : Schema) (entries : List Entry) (pages : List (List ℕ)) (next : ℕ) (reserved : List ℕ) (i : ℕ) (e : Entry)
+    → are_ascending (first_keys entries) ≡ true → AreRegions schema next (regions_in (placed_of schema pages entries))
+    → ArePlaced schema (placed_of schema pages entries) reserved pages → slice_get entries i ≡ Some e → IsKnownAt schema entries pages e
+entry_known schema entries pages next reserved i e up regions placed at =
+    let there = placed_get schema pages entries i e at in
+    let region = region_get (placed_of schema pages entries) i (placed_at schema pages e) there in
+    let first = first_at entries i e at in
+    let place : place_of e.first (first_keys entries) ≡ i = place_at (first_keys entries) up i e.first first in
+    let apart = apart_next schema.dims (regions_in (placed_of schema pages entries)) i (placed_at schema pages e).region regions.apart region in
+    record {
+      spelled = all_get (λ p. slice_get pages p.page ≡ Some (region_page schema p.region)) (placed_of schema pages entries) i (placed_at schema pages e) placed.spelled there;
+      region = each_get (IsRegion schema) (regions_in (placed_of schema pages entries)) i (placed_at schema pages e).region regions.each region;
+      held = rw place (first, rw (← firsts_back schema pages entries) apart);
+    }
+
+pub rows_read : (schema : Schema) (pages : List (List ℕ)) (entries : List Entry) (place : ℕ) (e : Entry) (page : List ℕ) (rows : List Row) (region : Region) (p : Placed)
+    → slice_get entries place ≡ Some e → slice_get pages e.page ≡ Some page → rows ≡ region.rows → region ≡ region_on schema page
+    → slice_get (placed_of schema pages entries) place ≡ Some p → rows ≡ p.region.rows
+rows_read schema pages entries place e page rows region p at at_page same on there =
+    let here = placed_get schema pages entries place e at in
+    let one : placed_at schema pages e ≡ p = cc in
+    let read : slice_index_or pages e.page [] ≡ page = get_or_from_slice_get pages e.page page [] at_page in
+    same ∙ ap (λ (r : Region). r.rows) on ∙ ap (λ (q : List ℕ). (region_on schema q).rows) (sym read) ∙ ap (λ (q : Placed). q.region.rows) one

@@ -1,0 +1,15 @@
+use Rattle.std.proofs.Common.{◌∙◌, ap}
+use Rattle.ub_store.specs.View.{PagerView}
+use Rattle.ub_tree.proofs.MadeFacts.{created}
+use Rattle.ub_tree.proofs.tree.Tree.create.Goals as goal
+
+pub returns-in-Ok-lay_out-clause-made : goal.returns-in-Ok-lay_out-clause-made
+returns-in-Ok-lay_out-clause-made g c =
+    let facts = g.S.PageStore.facts c.args.store in
+    let made = c.in-Ok.ensures.made in
+    let places = c.in-Ok-lay_out.ensures.places in
+    let trace = c.in-Ok-lay_out.ensures.trace in
+    rw (c.copy_of.ensures, places.0, places.2)
+    (created facts c.args.schema.now c.lay_out.new.pager (c.in-Ok-lay_out.ensures.honest ∙ ap (λ (p : PagerView). p.store.honest) made)
+    (trace.0 ∙ ap (λ (p : PagerView). p.trace) made) (trace.1 ∙ ap (λ (p : PagerView). p.fetches) made)
+    (λ honest. c.in-Ok-lay_out.ensures.pages (ap (λ (p : PagerView). p.store.honest) made ∙ honest)))

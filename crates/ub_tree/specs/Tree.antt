@@ -1,0 +1,59 @@
+-- A tree's parts, as contracts see them together.
+use Rattle.std.specs.Prelude.{◌≡◌, ◌≤◌, ◌<◌, ◌^◌, ℕ, suc, length, slice_get, Bool, if◌then◌else◌, List, [], ◌∷◌, Some, IfSome}
+use Rattle.std.specs.List.{AllByRecursion}
+use Rattle.ub_zaddr.specs.Address.{last_address}
+use Rattle.ub_page.specs.Keys.{IsBefore}
+use Rattle.ub_page.specs.Region.{Region, region_on, region_page, keys_of}
+use Rattle.ub_page.specs.declared.directory.Entry.{Entry}
+use Rattle.ub_page.specs.declared.row.Key.{Key}
+use Rattle.ub_page.specs.declared.schema.Schema.{Schema}
+use Rattle.ub_store.specs.Facts.{StoreFacts}
+use Rattle.ub_store.specs.View.{PagerView}
+use Rattle.ub_tree.specs.Keys.{origin}
+use Rattle.ub_tree.specs.Regions.{place_of}
+use Rattle.ub_tree.specs.View.{TreeView, placed_of}
+
+-- the pages of an honest store; of another one nothing is known
+abbrev pub known_pages : StoreFacts → List (List ℕ)
+known_pages facts = if facts.honest then facts.pages else []
+
+abbrev pub tree_view : Schema → List Entry → List ℕ → ℕ → ℕ → Bool → Bool → PagerView → TreeView
+tree_view schema entries chain next rows is_changed is_failed pager = record {
+  schema = schema;
+  placed = placed_of schema (known_pages pager.store) entries;
+  reserved = 0 ∷ chain;
+  rows = rows;
+  next = next;
+  is_changed = is_changed;
+  is_failed = is_failed;
+  store = pager.store;
+  trace = pager.trace;
+  fetches = pager.fetches;
+}
+
+-- what is true of a tree's parts: its places are those of its schema's space, and can be counted; the directory has a page;
+-- there are fewer rows than the next number, which is at most one above the last
+pub record IsTree (schema : Schema) (last : ℕ) (entries : List Entry) (chain : List ℕ) (next rows : ℕ) : Type 0 where
+  pub last_is : last ≡ last_address schema.dims
+  pub few : length entries < 2 ^ 32
+  pub some_chain : 1 ≤ length chain
+  pub fewer : rows < next
+  pub last_next : next ≤ 16777216
+
+-- the last of the regions with these first keys that does not begin after the region's first key begins with it, and the
+-- region's rows are before the next one
+abbrev pub IsHeldBy : ℕ → List Key → Region → Type 0
+IsHeldBy dims firsts region =
+    let place = place_of region.first firsts in
+    (slice_get firsts place ≡ Some region.first)
+    × IfSome (slice_get firsts (suc place)) (λ next. AllByRecursion (λ key. IsBefore key next) (keys_of dims region.rows))
+
+-- a region with no rows that begins with the least key of all
+abbrev pub empty_region : Region
+empty_region = record { first = origin; rows = [] }
+
+-- three pages, of which the second spells an empty region, and tells of it
+pub record IsLaidOut (schema : Schema) (pages : List (List ℕ)) : Type 0 where
+  pub count : length pages ≡ 3
+  pub spelled : slice_get pages 1 ≡ Some (region_page schema empty_region)
+  pub reads_back : region_on schema (region_page schema empty_region) ≡ empty_region

@@ -1,0 +1,50 @@
+use std::alloc::AllocError;
+use thiserror::Error;
+use ub_page::PageFault;
+use ub_store::StoreFault;
+
+/// Why a tree didn't do what it was asked.
+#[derive(Clone, Copy, PartialEq, Eq, Debug, Error)]
+pub enum TreeFault {
+    /// There is no row number left: the next would be 16777216.
+    #[error("Full")]
+    Full,
+    /// This page is refused, by its reader or because it doesn't fit the pages that name it.
+    #[error("{fault} page {page}")]
+    Page { page: u32, fault: PageFault },
+    /// The store refused.
+    #[error("{0}")]
+    Store(StoreFault),
+    /// A write, an extension or a sync failed earlier: nothing is said of what the store holds, and the tree does no more.
+    #[error("Device")]
+    Failed,
+    /// Memory was refused.
+    #[error("Memory")]
+    Memory,
+}
+
+impl From<StoreFault> for TreeFault {
+    ghost use Rattle.std.specs.Prelude.{◌≡◌};
+    ghost use Rattle.ub_tree.specs.Faults.{tree_fault};
+
+    ghost from_gives = { λ fault e. e ≡ tree_fault fault };
+
+    /// The store's fault, or Memory.
+    fn from(fault: StoreFault) -> TreeFault {
+        match fault {
+            StoreFault::Memory => TreeFault::Memory,
+            fault => TreeFault::Store(fault),
+        }
+    }
+}
+
+impl From<AllocError> for TreeFault {
+    ghost use Rattle.std.specs.Prelude.{◌≡◌};
+    ghost use Rattle.ub_tree.specs.declared.fault.TreeFault.TheVariants.{Memory};
+
+    ghost from_gives = { λ _ e. e ≡ Memory };
+
+    fn from(_fault: AllocError) -> TreeFault {
+        TreeFault::Memory
+    }
+}

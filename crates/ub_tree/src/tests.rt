@@ -1,0 +1,74 @@
+use crate::{Region, Tree, TreeFault};
+use std::test::Fail;
+use ub_page::{Name, Schema};
+use ub_store::{MemStore, PageStore};
+
+type MemTree = Tree<MemStore>;
+
+// Two dimensions, one measure, two rows on a page.
+fn plane() -> Result<Schema, Fail> {
+    let columns = [Name::new(b"x")?, Name::new(b"y")?, Name::new(b"m")?];
+    Ok(Schema::new(Name::new(b"t")?, &columns, 2, 2)?)
+}
+
+fn empty(rt: &HostRuntime) -> Result<MemTree, Fail> {
+    match Tree::create(rt.alloc(), MemStore::new(rt.alloc()), &plane()?) {
+        Ok(tree) => Ok(tree),
+        Err(refused) => Err(refused.fault.into()),
+    }
+}
+
+fn put<S: PageStore>(tree: &mut Tree<S>, x: u32, y: u32, m: i64) -> Result<u32, Fail> {
+    if tree.schema().dims() != 2 || tree.schema().measures() != 1 {
+        return Err("another schema".into());
+    }
+    Ok(tree.insert(&[x, y], &[m])?)
+}
+
+// The rows (1,1), (2,3), (3,0), (0,2) and (2,3), whose addresses are 3, 13, 10, 4 and 13.
+fn table_s(rt: &HostRuntime) -> Result<MemTree, Fail> {
+    let mut tree = empty(rt)?;
+    for (x, y, m) in [(1, 1, 10), (2, 3, 20), (3, 0, 5), (0, 2, 7), (2, 3, 1)] {
+        put(&mut tree, x, y, m)?;
+    }
+    Ok(tree)
+}
+
+// The span of the first region whose span ends at z or later, and the numbers of its first and last row.
+fn spans_to(tree: &mut MemTree, z: u128) -> Result<(u128, u128, u32, u32), Fail> {
+    let region = tree.seek(z, None)?.ok_or("no region")?;
+    let page = tree.read_region(&region)?;
+    let first = page.rows().first().ok_or("no row")?;
+    let last = page.rows().last().ok_or("no row")?;
+    Ok((region.from, region.to, first.number, last.number))
+}
+
+#[test]
+fn puts_rows_into_regions(rt: HostRuntime) -> Result<(), Fail> {
+    let mut tree = table_s(&rt)?;
+    let last = u128::from(u64::MAX);
+    assert_eq!(rt; (tree.rows(), tree.regions()), (5, 3));
+    assert_eq!(rt; spans_to(&mut tree, 0)?, (0, 9, 1, 4));
+    assert_eq!(rt; spans_to(&mut tree, 12)?, (10, 12, 3, 3));
+    assert_eq!(rt; spans_to(&mut tree, last)?, (13, last, 2, 5));
+    Ok(())
+}
+
+#[test]
+fn notes_region_pages(rt: HostRuntime) -> Result<(), Fail> {
+    let mut tree = table_s(&rt)?;
+    assert!(rt; tree.trace().is_empty());
+    let region = tree.seek(0, None)?.ok_or("no region")?;
+    tree.read_region(&region)?;
+    assert!(rt; tree.trace() == [1].as_slice());
+    tree.begin();
+    assert!(rt; tree.trace().is_empty());
+    let elsewhere = Region { page: 9, ..region };
+    assert!(rt;
+        matches!(
+            tree.read_region(&elsewhere).err(),
+            Some(TreeFault::Store(_))
+        )
+    );
+    Ok(())
+}

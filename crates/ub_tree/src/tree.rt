@@ -1,0 +1,151 @@
+ghost use Rattle.std.specs.Prelude.{◌⊎◌, ◌≡◌, ◌<◌, ◌≤◌, [], IsTrue, Ok, Err, length, IfOk, IfErr, OnOk, option_copied};
+ghost use Rattle.std.specs.List.{Contains};
+ghost use Rattle.ub_tree.specs.Calls.{IsReadFault, Keeps, HasNoted, StandsAt};
+ghost use Rattle.ub_tree.specs.Spans.{IsLater, Meets, First};
+ghost use Rattle.ub_tree.specs.View.{IsSound, KeepsTrace, spans_of};
+
+use crate::fault::TreeFault;
+use crate::places::Places;
+use crate::reading::region_on;
+use crate::region::Region;
+use std::marker::Model;
+use ub_bigmin::ZBox;
+use ub_page::{RegionPage, Schema};
+use ub_store::{PageStore, Pager};
+
+/// A UB-tree (Bayer 1997) over a store of pages: the rows of a table in regions, each on a page, in the order of their
+/// addresses.
+///
+/// The directory, which tells where each region begins and its page, is kept in memory, and in the store once the tree is
+/// closed. After a write, an extension or a sync that failed the tree does no more: every call that could fail answers Failed.
+#[derive(Drop)]
+pub struct Tree<S: PageStore> {
+    pub(crate) schema: Schema,
+    pub(crate) places: Places,
+    // The pages of the directory, in order.
+    pub(crate) chain: Vec<u32>,
+    // The number that the next row gets.
+    pub(crate) next: u32,
+    pub(crate) rows: u32,
+    // Whether the header in the store is marked unclean.
+    pub(crate) is_changed: bool,
+    pub(crate) is_failed: bool,
+    pub(crate) pager: Pager<S>,
+}
+
+impl<S: PageStore> Model for Tree<S> {
+    ghost use Rattle.std.specs.Prelude.{◌≡◌};
+    ghost use Rattle.ub_tree.specs.View.{TreeView};
+    ghost use Rattle.ub_tree.specs.Tree.{tree_view, IsTree};
+
+    ghost Value = { TreeView };
+
+    ghost view = { λ t. tree_view t.schema t.places.entries.items t.chain.items t.next t.rows t.is_changed t.is_failed t.pager };
+
+    ghost invariant = { λ t. IsTree t.schema t.places.last t.places.entries.items t.chain.items t.next t.rows };
+}
+
+impl<S: PageStore> Tree<S> {
+    /// What the table is made of.
+    pub fn schema(&self) -> &Schema
+        ensures { result.now ≡ self.now.schema }
+    {
+        &self.schema
+    }
+
+    /// How many regions there are.
+    pub fn regions(&self) -> u32
+        ensures { result ≡ length self.now.placed }
+    {
+        self.places.entries.len() as u32
+    }
+
+    /// How many rows there are.
+    pub fn rows(&self) -> u32
+        ensures { result ≡ self.now.rows }
+    {
+        self.rows
+    }
+
+    /// Whether a write, an extension or a sync failed: the tree then does no more.
+    pub fn has_failed(&self) -> bool
+        ensures { result ≡ self.now.is_failed }
+    {
+        self.is_failed
+    }
+
+    /// Empties the trace. The number of fetches stays.
+    pub fn begin(&mut self)
+        ensures { self.new ≡ record self.old { trace = [] } }
+    {
+        self.pager.begin();
+    }
+
+    /// The numbers of the region pages asked for since the trace began, in the order in which they were asked for.
+    pub fn trace(&self) -> &[u32]
+        ensures { result.now ≡ self.now.trace }
+    {
+        self.pager.trace()
+    }
+
+    /// The first region later than `after`, if one is given, whose span ends at z or later; `None` exactly where there is
+    /// none. Failed where the tree has failed.
+    pub fn seek(&mut self, z: u128, after: Option<&Region>) -> Result<Option<Region>, TreeFault>
+        ensures found { IfOk result (λ found. First (λ r. IsLater (option_copied after.entry) r × (z ≤ r.to)) (spans_of self.old) found) }
+        ensures failed { IsTrue self.old.is_failed → result ≡ Err TreeFault.Failed }
+        ensures refused { IfErr result (IsReadFault self.old self.new) }
+        ensures kept { Keeps self.old self.new }
+        ensures trace { KeepsTrace self.old self.new }
+    {
+        if self.has_failed() {
+            return Err(TreeFault::Failed);
+        }
+        Ok(self.places.seek(z, after))
+    }
+
+    /// The first region later than `after`, if one is given, that meets one of the boxes; `None` exactly where there is
+    /// none. Failed where the tree has failed.
+    pub fn next_meeting(
+        &mut self,
+        boxes: &[ZBox],
+        after: Option<&Region>,
+    ) -> Result<Option<Region>, TreeFault>
+        ensures found { IfOk result (λ found. First (λ r. IsLater (option_copied after.entry) r × Meets boxes.now r) (spans_of self.old) found) }
+        ensures failed { IsTrue self.old.is_failed → result ≡ Err TreeFault.Failed }
+        ensures refused { IfErr result (IsReadFault self.old self.new) }
+        ensures kept { Keeps self.old self.new }
+        ensures trace { KeepsTrace self.old self.new }
+    {
+        if self.has_failed() {
+            return Err(TreeFault::Failed);
+        }
+        Ok(self.places.next_meeting(boxes, after))
+    }
+
+    /// What stands on the region's page, which is noted in the trace first. The page is checked against the directory: its
+    /// first key is the region's, with which a region of the directory begins, and each of its rows is before the next
+    /// region; otherwise OutOfRegion. Failed where the tree has failed; Page where the page is refused; Store where the
+    /// store failed in this call or has no such page; Memory where memory was refused, for the note or for the page.
+    pub fn read_region(&mut self, region: &Region) -> Result<RegionPage, TreeFault>
+        ensures dims { IfOk result (λ r. r.dims ≡ self.old.schema.dims) }
+        ensures first { IfOk result (λ r. r.region.first ≡ region.now.first) }
+        ensures stands { IsSound self.old → Contains (spans_of self.old) region.now → IfOk result (λ r. StandsAt self.old.placed region.now.page r.region) }
+        ensures noted { (((result ≡ Err TreeFault.Failed) ⊎ (result ≡ Err TreeFault.Memory)) × KeepsTrace self.old self.new) ⊎ HasNoted region.now.page self.old self.new }
+        ensures listed { OnOk result (HasNoted region.now.page self.old self.new) }
+        ensures failed { IsTrue self.old.is_failed → result ≡ Err TreeFault.Failed }
+        ensures refused { Contains (spans_of self.old) region.now → IfErr result (IsReadFault self.old self.new) }
+        ensures kept { Keeps self.old self.new }
+    {
+        if self.has_failed() {
+            return Err(TreeFault::Failed);
+        }
+        let page = self.pager.fetch_region(region.page)?;
+        region_on(
+            &self.schema,
+            &self.places,
+            &region.first,
+            region.page,
+            &page,
+        )
+    }
+}
