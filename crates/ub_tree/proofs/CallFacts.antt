@@ -11,12 +11,13 @@ use Rattle.ub_store.specs.View.{PagerView}
 use Rattle.ub_store.specs.declared.fault.StoreFault.{StoreFault}
 use Rattle.ub_store.specs.declared.fault.StoreFault.TheVariants as store
 use Rattle.ub_tree.specs.Calls.{IsReadFault}
-use Rattle.ub_tree.specs.Change.{IsChangeFault}
+use Rattle.ub_tree.specs.Change.{HasGivenUp, IsChangeFault}
 use Rattle.ub_tree.specs.Faults.{tree_fault}
 use Rattle.ub_tree.specs.Keys.{are_ascending}
 use Rattle.ub_tree.specs.Spans.{first_keys}
 use Rattle.ub_tree.specs.Tree.{known_pages, tree_view}
-use Rattle.ub_tree.specs.View.{TreeView, Placed, ArePlaced, IsSound, placed_of, spans_of}
+use Rattle.ub_tree.specs.Placed.{Placed, ArePlaced, placed_of}
+use Rattle.ub_tree.specs.View.{TreeView, IsSound, spans_of}
 use Rattle.ub_tree.specs.declared.fault.TreeFault.{TreeFault}
 use Rattle.ub_tree.specs.declared.fault.TreeFault.TheVariants.{Page, Store}
 use Rattle.ub_tree.specs.declared.region.Region.{Region as Span}
@@ -65,9 +66,9 @@ tree_entry_known schema entries chain next rows changed failed pager place e up 
     entry_known schema entries (known_pages pager.store) next (0 ∷ chain) place e up sound.regions_are placed at
 
 pub write_refused : {U : Type 0} (fault : StoreFault) (old new : TreeView) → (fault ≡ store.Device) ⊎ (fault ≡ store.NoPage)
-    → (IsErrOf {T = U} (Err fault) store.Device → Failed old.store new.store) → (IsErrOf {T = U} (Err fault) store.NoPage → ¬ (IsSound old)) → new.is_failed ≡ true
+    → (IsErrOf {T = U} (Err fault) store.Device → Failed old.store new.store) → (IsErrOf {T = U} (Err fault) store.NoPage → ¬ (IsSound old)) → HasGivenUp old new
     → IsChangeFault old new (Store fault)
-write_refused store.Device old new faults device missing failed = (device refl, inl failed)
+write_refused store.Device old new faults device missing given_up = (device refl, inl given_up)
 write_refused store.NoPage old new faults device missing failed = missing refl
 write_refused store.Memory old new (inl e) device missing failed = cc
 write_refused store.Memory old new (inr e) device missing failed = cc

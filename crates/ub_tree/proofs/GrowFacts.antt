@@ -26,7 +26,8 @@ use Rattle.ub_tree.specs.Regions.{AreRegions, firsts_of, insert, place_of, rows_
 use Rattle.ub_tree.specs.Rows.{Halves, insert_row, split}
 use Rattle.ub_tree.specs.Spans.{ArePlaces, first_keys}
 use Rattle.ub_tree.specs.Tree.{known_pages, tree_view}
-use Rattle.ub_tree.specs.View.{placed_of, TreeView, Placed, IsSound, entry_of, regions, regions_in}
+use Rattle.ub_tree.specs.Placed.{placed_of, Placed, entry_of, regions_in}
+use Rattle.ub_tree.specs.View.{TreeView, IsSound, regions}
 use Rattle.ub_tree.specs.declared.fault.TreeFault.{TreeFault}
 use Rattle.ub_tree.proofs.CoverFacts.{places_of_regions}
 use Rattle.ub_tree.proofs.InsertFacts.{insert_keeps}
@@ -167,8 +168,8 @@ module _ (t : TreeView) (row : Row) (place : ℕ) (p : Placed) (sound : IsSound 
 -- a row was put into a sound tree
 pub inserted_sound : (a b d : TreeView) (row : Row) → b.schema ≡ a.schema → b.next ≡ a.next → b.rows ≡ a.rows → d ≡ record b { next = b.next + 1; rows = b.rows + 1 }
     → IsSound a → IsRow a.schema.dims (measures_of a.schema) row → row.number ≡ a.next → a.next ≢ 16777216 → IsStored b → regions b ≡ insert a.schema.dims a.schema.page_rows row (regions a) → length b.placed < 2 ^ 32
-    → IsInserted row a d
-inserted_sound a b d row schema next rows changed sound good number more stored are few = subst (IsInserted row a) (sym changed) (record {
+    → b.is_changed ≡ true → IsInserted row a d
+inserted_sound a b d row schema next rows changed sound good number more stored are few marked = subst (IsInserted row a) (sym changed) (record {
   number = number;
   schema = schema;
   regions_are = are;
@@ -183,6 +184,7 @@ inserted_sound a b d row schema next rows changed sound good number more stored 
     some_next = omega arith;
     last_next = (let most = sound.last_next in omega arith);
     few = few;
+    closed = λ e. cc;
   };
 })
   where
@@ -272,11 +274,20 @@ keeps_sound a s kept sound = record {
   some_next = sound.some_next;
   last_next = sound.last_next;
   few = sound.few;
+  closed = λ e. rw (kept.pages sound.honest) (sound.closed e);
 }
 
 rose_later : (x y z : ℕ) → x ≤ y → Rose y z → Rose x z
 rose_later x y z le (inl lt) = inl (omega arith)
 rose_later x y z le (inr most) = inr most
+
+keeps_trans : (x y z : StoreFacts) → Keeps x y → Keeps y z → Keeps x z
+keeps_trans x y z a b = record {
+  honesty = b.honesty ∙ a.honesty;
+  failures = (let one = a.failures in let two = b.failures in omega arith);
+  count = b.count ∙ a.count;
+  pages = λ honest. b.pages (a.honesty ∙ honest) ∙ a.pages honest;
+}
 
 -- a fault of a change that came after a read
 change_later : (a c : TreeView) (s : StoreFacts) (fault : TreeFault) → Keeps a.store s → IsChangeFault (record a { store = s }) c fault → IsChangeFault a c fault
@@ -284,10 +295,17 @@ change_later a c s Full kept h = (h.0, λ sound. let after = h.1 (keeps_sound a 
 change_later a c s HasFailed kept h = (h.0, λ sound. let after = h.1 (keeps_sound a s kept sound) in (record { schema = after.0.schema; placed = after.0.placed; rows = after.0.rows; next = after.0.next }, after.1))
 change_later a c s Memory kept h = λ sound. let after = h (keeps_sound a s kept sound) in (record { schema = after.0.schema; placed = after.0.placed; rows = after.0.rows; next = after.0.next }, after.1)
 change_later a c s (Page page fault) kept h = λ sound. h (keeps_sound a s kept sound)
-change_later a c s (Store store.Device) kept (rose, inl failed) = (rose_later a.store.failures s.failures c.store.failures kept.failures rose, inl failed)
-change_later a c s (Store store.Device) kept (rose, inr leaves) = (
+change_later a c s (Store store.Device) kept (rose, inl failed) = (
   rose_later a.store.failures s.failures c.store.failures kept.failures rose,
-  inr (λ sound. let after = leaves (keeps_sound a s kept sound) in (record { schema = after.0.schema; placed = after.0.placed; rows = after.0.rows; next = after.0.next }, after.1)),
+  inl (record { failed = failed.failed; schema = failed.schema; regions = failed.regions; rows = failed.rows }),
+)
+change_later a c s (Store store.Device) kept (rose, inr read) = (
+  rose_later a.store.failures s.failures c.store.failures kept.failures rose,
+  inr (record {
+    same = read.same;
+    pages = keeps_trans a.store s c.store kept read.pages;
+    leaves = λ sound. let after = read.leaves (keeps_sound a s kept sound) in (record { schema = after.0.schema; placed = after.0.placed; rows = after.0.rows; next = after.0.next }, after.1);
+  }),
 )
 change_later a c s (Store store.NoPage) kept h = λ sound. h (keeps_sound a s kept sound)
 change_later a c s (Store store.BadSize) kept h = λ sound. let after = h (keeps_sound a s kept sound) in (record { schema = after.0.schema; placed = after.0.placed; rows = after.0.rows; next = after.0.next }, after.1)
@@ -302,8 +320,8 @@ insert_refused (Err e) a b c fault is same kept h = rw is (change_later a c b.st
 pub grown : (a b after d : TreeView) (row : Row) (place : ℕ) (rows : List Row) → b ≡ record a { store = b.store } → Keeps a.store b.store → IsReady b row place rows → a.next ≢ 16777216
     → (IsStored b → (p : Placed) → slice_get b.placed place ≡ Some p → AllByRecursion (IsRegion b.schema) (split_of b.schema p.region.first rows)
     → IsStored after × (regions after ≡ regions_with place (split_of b.schema p.region.first rows) (regions b)))
-    → after.schema ≡ b.schema → after.next ≡ b.next → after.rows ≡ b.rows → length after.placed < 2 ^ 32 → d ≡ record after { next = after.next + 1; rows = after.rows + 1 } → IsSound a → IsInserted row a d
-grown a b after d row place rows same kept h not_last written schema next count few changed sound_a =
+    → after.schema ≡ b.schema → after.next ≡ b.next → after.rows ≡ b.rows → length after.placed < 2 ^ 32 → after.is_changed ≡ true → d ≡ record after { next = after.next + 1; rows = after.rows + 1 } → IsSound a → IsInserted row a d
+grown a b after d row place rows same kept h not_last written schema next count few marked changed sound_a =
     let sound : IsSound b = subst IsSound (sym same) (keeps_sound a b.store kept sound_a) in
     let some = some_at b.placed place h.within in
     let are = h.rows_are sound.honest some.0 some.1 in
@@ -317,4 +335,4 @@ grown a b after d row place rows same kept h not_last written schema next count 
     ∙ sym (insert_is b row place some.0 sound h.good h.number h.is some.1)
     ∙ ap (λ (t : TreeView). insert t.schema.dims t.schema.page_rows row (regions t)) same in
     inserted_sound a after d row (schema ∙ schema_b) (next ∙ next_b) (count ∙ rows_b) changed sound_a
-    (subst (λ (s : Schema). IsRow s.dims (measures_of s) row) schema_b h.good) (h.number ∙ next_b) not_last both.0 is few
+    (subst (λ (s : Schema). IsRow s.dims (measures_of s) row) schema_b h.good) (h.number ∙ next_b) not_last both.0 is few marked

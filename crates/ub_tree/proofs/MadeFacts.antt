@@ -15,7 +15,7 @@ use Rattle.ub_tree.specs.Calls.{IsCreated}
 use Rattle.ub_tree.specs.Keys.{origin}
 use Rattle.ub_tree.specs.Regions.{AreRegions, rows_of}
 use Rattle.ub_tree.specs.Tree.{known_pages, tree_view, empty_region, IsLaidOut}
-use Rattle.ub_tree.specs.View.{Placed, ArePlaced, regions_in, placed_of}
+use Rattle.ub_tree.specs.Placed.{Placed, ArePlaced, regions_in, placed_of}
 use Rattle.ub_tree.proofs.CallFacts.{known_is}
 
 none_twice : IsDistinct nat_eq []
@@ -58,6 +58,7 @@ created facts schema pager honest trace fetches laid = record {
         some_next = omega arith;
         last_next = omega arith;
         few = omega arith;
+        closed = λ e. cc;
       };
   honest = honest;
   working = refl;

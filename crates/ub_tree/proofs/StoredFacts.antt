@@ -14,7 +14,7 @@ use Rattle.ub_page.specs.declared.directory.Entry.{Entry}
 use Rattle.ub_page.specs.declared.row.Row.{Row}
 use Rattle.ub_page.specs.declared.schema.Schema.{Schema}
 use Rattle.ub_tree.specs.Change.{placed_with}
-use Rattle.ub_tree.specs.View.{Placed, ArePlaced, placed_of, entry_of}
+use Rattle.ub_tree.specs.Placed.{Placed, ArePlaced, placed_of, entry_of}
 use Rattle.ub_tree.proofs.KeyLists.{all_more, all_append, all_left, all_right}
 use Rattle.ub_tree.proofs.TreeFacts.{placed_at}
 

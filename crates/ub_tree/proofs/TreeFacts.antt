@@ -15,7 +15,8 @@ use Rattle.ub_tree.specs.Keys.{precedes, is_same, are_ascending}
 use Rattle.ub_tree.specs.Regions.{AreRegions, AreApart, firsts_of, place_of}
 use Rattle.ub_tree.specs.Spans.{first_keys, span_end, regions_of}
 use Rattle.ub_tree.specs.Tree.{IsHeldBy}
-use Rattle.ub_tree.specs.View.{Placed, ArePlaced, placed_of, regions_in, entry_of, spans_in}
+use Rattle.ub_tree.specs.Placed.{Placed, ArePlaced, placed_of, regions_in, entry_of}
+use Rattle.ub_tree.specs.View.{spans_in}
 use Rattle.ub_tree.specs.declared.region.Region.{Region as Span}
 use Rattle.ub_tree.proofs.KeyFacts.{before_of, precedes_of, before_trans, not_both_before, not_before_self, ascending_get}
 use Rattle.ub_tree.proofs.PlaceFacts.{place_is, first_at}

@@ -1,5 +1,5 @@
 -- What a tree's pages are after a change.
-use Rattle.std.proofs.Common.{◌≡◌, ◌≢◌, ◌<◌, ◌≤◌, ◌+◌, ◌^◌, ◌⊎◌, inl, inr, ℕ, zero, suc, Bool, true, false, List, [], ◌∷◌, ◌++◌, Some, Err, length, nat_eq, ◌∙◌, sym, ap, subst, refl, arith, slice_get}
+use Rattle.std.proofs.Common.{◌≡◌, ◌≢◌, ◌<◌, ◌≤◌, ◌+◌, ◌^◌, ◌⊎◌, inl, inr, ℕ, zero, suc, Bool, true, false, List, [], ◌∷◌, ◌++◌, Some, Err, length, map, drop, nat_eq, ◌∙◌, sym, ap, subst, refl, arith, slice_get}
 use Rattle.std.proofs.lemmas.Bool.{eq-eqb}
 use Rattle.std.proofs.lemmas.Map.Keys.{IsDistinct-head}
 use Rattle.std.proofs.lemmas.Option.{slice_get_within}
@@ -18,7 +18,9 @@ use Rattle.ub_tree.specs.Change.{IsStored, IsFresh, Leaves, IsChangeFault, Puts,
 use Rattle.ub_tree.specs.Faults.{tree_fault}
 use Rattle.ub_tree.specs.Regions.{AreRegions, rows_of}
 use Rattle.ub_tree.specs.Tree.{known_pages, tree_view}
-use Rattle.ub_tree.specs.View.{TreeView, Placed, ArePlaced, IsSound, placed_of, regions_in}
+use Rattle.ub_tree.specs.Placed.{Placed, ArePlaced, placed_of, regions_in, entry_of}
+use Rattle.ub_tree.specs.Stored.{IsChain, AreSoundPages}
+use Rattle.ub_tree.specs.View.{TreeView, IsSound}
 use Rattle.ub_tree.proofs.CallFacts.{known_is}
 use Rattle.ub_tree.proofs.KeyLists.{all_right}
 use Rattle.ub_tree.proofs.StoredFacts.{IsTold, numbers_of, rewritten_pages, split_pages, extended_pages, fresh_number}
@@ -99,6 +101,36 @@ pub extended_may : (old new : StoreFacts) → MayAppend old new → IsExtended o
 extended_may old new (inl k) = extended_keeps old new k
 extended_may old new (inr a) = extended_appends a.0 old new a.1
 
+chain_extended : (pages new : List (List ℕ)) (chain : List ℕ) (entries : List Entry) → ((m : ℕ) → m < length pages → slice_get new m ≡ slice_get pages m) → IsChain pages chain entries → IsChain new chain entries
+chain_extended pages new [] entries kept h = h
+chain_extended pages new (n ∷ []) entries kept h = (h.0, h.1, kept n (slice_get_within pages n _ h.2) ∙ h.2)
+chain_extended pages new (n ∷ m ∷ chain) entries kept h =
+    (kept n (slice_get_within pages n _ h.0) ∙ h.0, h.1, chain_extended pages new (m ∷ chain) (drop 170 entries) kept h.2)
+
+-- pages that were added leave the pages of a closed table
+sound_pages_extended : (pages new : List (List ℕ)) (schema : Schema) (placed : List Placed) (next : ℕ) → ((m : ℕ) → m < length pages → slice_get new m ≡ slice_get pages m) → length pages ≤ length new
+    → AreSoundPages pages schema placed next → AreSoundPages new schema placed next
+sound_pages_extended pages new schema placed next kept more h = record {
+  header = h.header;
+  chain = h.chain;
+  spelled = kept 0 (slice_get_within pages 0 _ h.spelled) ∙ h.spelled;
+  in_range = h.in_range;
+  clean = h.clean;
+  schema_is = h.schema_is;
+  next_is = h.next_is;
+  rows_are = h.rows_are;
+  regions_are = h.regions_are;
+  root_is = h.root_is;
+  levels_are = h.levels_are;
+  directory = chain_extended pages new h.chain (map entry_of placed) kept h.directory;
+  well_formed = h.well_formed;
+  placed_are = record {
+    spelled = λ k d lt. (let old = h.placed_are.spelled k d lt in kept _ (slice_get_within pages _ _ old) ∙ old);
+    own = h.placed_are.own;
+    within = λ k d lt. (let old = h.placed_are.within k d lt in omega arith);
+  };
+}
+
 module _ (schema : Schema) (entries : List Entry) (chain : List ℕ) (next rows : ℕ) (changed failed : Bool) (old new : PagerView) (extended : IsExtended old.store new.store) where
   abbrev before : TreeView
   before = tree_view schema entries chain next rows changed failed old
@@ -130,6 +162,8 @@ module _ (schema : Schema) (entries : List Entry) (chain : List ℕ) (next rows 
           some_next = sound.some_next;
           last_next = sound.last_next;
           few = subst (λ (ps : List Placed). length ps < 2 ^ 32) (sym both.1) sound.few;
+          closed = λ e. subst (λ (ps : List Placed). AreSoundPages new.store.pages schema ps next) (sym both.1)
+              (sound_pages_extended old.store.pages new.store.pages schema (placed_of schema (known_pages old.store) entries) next (extended.kept sound.honest) extended.more (sound.closed e));
         },
       )
 
@@ -142,12 +176,12 @@ module _ (schema : Schema) (entries : List Entry) (chain : List ℕ) (next rows 
       fresh_of : (pages : List (List ℕ)) → pages ≡ old.store.pages → ArePlaced schema (placed_of schema pages entries) (0 ∷ chain) old.store.pages → IsDistinct nat_eq (n ∷ ((0 ∷ chain) ++ numbers_of (placed_of schema pages entries)))
       fresh_of pages is_old placed_are = rw is_old (fresh_number schema entries chain old.store.pages n (rw is_old at placed_are) (omega arith))
 
-pub extend_refused : {U : Type 0} (fault : StoreFault) (old new : TreeView) → (IsErrOf {T = U} (Err fault) store.Device → Failed old.store new.store) → (¬ (IsErrOf {T = U} (Err fault) store.NoPage)) → Leaves old new
+pub extend_refused : {U : Type 0} (fault : StoreFault) (old new : TreeView) → (IsErrOf {T = U} (Err fault) store.Device → Failed old.store new.store) → (¬ (IsErrOf {T = U} (Err fault) store.NoPage)) → (¬ (IsErrOf {T = U} (Err fault) store.Device)) → Leaves old new
     → IsChangeFault old new (tree_fault fault)
-extend_refused store.Device old new device no_page leaves = (device refl, inr leaves)
-extend_refused store.NoPage old new device no_page leaves = absurd (no_page refl)
-extend_refused store.Memory old new device no_page leaves = leaves
-extend_refused store.BadSize old new device no_page leaves = leaves
+extend_refused store.Device old new device no_page no_device leaves = absurd (no_device refl)
+extend_refused store.NoPage old new device no_page no_device leaves = absurd (no_page refl)
+extend_refused store.Memory old new device no_page no_device leaves = leaves
+extend_refused store.BadSize old new device no_page no_device leaves = leaves
 
 -- the rows of the region at a place, put on its page and on another one
 module _ (schema : Schema) (entries : List Entry) (chain : List ℕ) (next rows : ℕ) (changed failed : Bool) (old new : PagerView) (place : ℕ) (e x : Entry) (left right : List Row) (page other : List ℕ)

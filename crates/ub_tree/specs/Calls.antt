@@ -1,11 +1,12 @@
 -- Which faults the calls of a tree can answer, and what they leave.
 use Rattle.ub_page.specs.declared.schema.Schema.{Schema}
 use Rattle.ub_tree.specs.Keys.{origin}
-use Rattle.std.specs.Prelude.{false, ◌≡◌, ℕ, ◌++◌, [], ◌∷◌, IsTrue, List, Contains}
+use Rattle.std.specs.Prelude.{false, ◌≡◌, ◌≤◌, ℕ, ◌++◌, [], ◌∷◌, IsTrue, List, Contains}
 use Rattle.ub_page.specs.Region.{Region}
 use Rattle.ub_store.specs.Facts.{StoreFacts, IsHonest, Failed, raised}
 use Rattle.ub_store.specs.declared.fault.StoreFault.TheVariants as store
-use Rattle.ub_tree.specs.View.{TreeView, Placed, regions, IsSound, KeepsRegions}
+use Rattle.ub_tree.specs.Placed.{Placed}
+use Rattle.ub_tree.specs.View.{TreeView, regions, IsSound, KeepsRegions}
 use Rattle.ub_tree.specs.declared.fault.TreeFault.{TreeFault}
 use Rattle.ub_tree.specs.declared.fault.TreeFault.TheVariants.{Full, Page, Store, Failed as HasFailed, Memory}
 
@@ -20,9 +21,10 @@ IsReadFault old new (Store store.Device) = Failed old.store new.store
 IsReadFault old new (Store store.NoPage) = ¬ (IsSound old)
 IsReadFault old new (Store _) = ⊥
 
--- the regions, the rows and the next number are as they were, and a sound tree is one still
+-- the regions, the rows and the next number are as they were, and a sound tree is one still; no failure of the store is forgotten
 pub record Keeps (old new : TreeView) : Type 0 where
   pub regions : KeepsRegions old new
+  pub failures : old.store.failures ≤ new.store.failures
   pub failed : new.is_failed ≡ old.is_failed
   pub sound : IsSound old → IsSound new
 

@@ -9,11 +9,13 @@ use Rattle.ub_page.specs.Region.{Region}
 use Rattle.ub_page.specs.declared.row.Row.{Row}
 use Rattle.ub_page.specs.declared.row.Key.{Key}
 use Rattle.ub_page.specs.declared.schema.Schema.{Schema}
+use Rattle.ub_store.specs.Facts as facts
 use Rattle.ub_store.specs.Facts.{StoreFacts, IsHonest, Failed, page_count}
 use Rattle.ub_store.specs.declared.fault.StoreFault.TheVariants as store
 use Rattle.ub_tree.specs.Regions.{insert, split_region}
 use Rattle.ub_tree.specs.Rows.{Halves}
-use Rattle.ub_tree.specs.View.{TreeView, Placed, ArePlaced, IsSound, KeepsRegions, regions, entry_of}
+use Rattle.ub_tree.specs.Placed.{Placed, ArePlaced, entry_of}
+use Rattle.ub_tree.specs.View.{TreeView, IsSound, KeepsRegions, regions}
 use Rattle.ub_tree.specs.declared.fault.TreeFault.{TreeFault}
 use Rattle.ub_tree.specs.declared.fault.TreeFault.TheVariants.{Full, Page, Store, Failed as HasFailed, Memory}
 
@@ -54,13 +56,26 @@ placed_with place news placed = take place placed ++ news ++ drop (suc place) pl
 abbrev pub Leaves : TreeView → TreeView → Type 0
 Leaves old new = IsSound old → KeepsRegions old new × IsSound new
 
+-- a write, an extension or a sync failed: the tree does no more, and counts its regions and rows as before
+pub record HasGivenUp (old new : TreeView) : Type 0 where
+  pub failed : IsTrue new.is_failed
+  pub schema : new.schema ≡ old.schema
+  pub regions : length new.placed ≡ length old.placed
+  pub rows : new.rows ≡ old.rows
+
+-- a read failed: nothing but the count of the store's failures has changed
+pub record HasOnlyRead (old new : TreeView) : Type 0 where
+  pub same : new ≡ record old { store = new.store }
+  pub pages : facts.Keeps old.store new.store
+  pub leaves : Leaves old new
+
 -- what a call can answer that changes the tree
 abbrev pub IsChangeFault : TreeView → TreeView → TreeFault → Type 0
 IsChangeFault old new Full = (old.next ≡ 16777216) × Leaves old new
 IsChangeFault old new HasFailed = IsTrue old.is_failed × Leaves old new
 IsChangeFault old new Memory = Leaves old new
 IsChangeFault old new (Page page fault) = ¬ (IsSound old)
-IsChangeFault old new (Store store.Device) = Failed old.store new.store × (IsTrue new.is_failed ⊎ Leaves old new)
+IsChangeFault old new (Store store.Device) = Failed old.store new.store × (HasGivenUp old new ⊎ HasOnlyRead old new)
 IsChangeFault old new (Store store.NoPage) = ¬ (IsSound old)
 IsChangeFault old new (Store store.BadSize) = Leaves old new
 IsChangeFault old new (Store store.Memory) = ⊥

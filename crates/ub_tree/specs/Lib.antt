@@ -2,6 +2,7 @@ pub mod Keys
 pub mod Rows
 pub mod Regions
 pub mod Spans
+pub mod Placed
 pub mod View
 pub mod Stored
 pub mod Calls

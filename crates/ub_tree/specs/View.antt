@@ -1,21 +1,15 @@
 -- What contracts see of a tree: plain data, in which no type of a store stands.
-use Rattle.std.specs.Prelude.{◌≡◌, ◌≤◌, ◌<◌, ◌^◌, ℕ, Bool, false, List, [], ◌++◌, Some, length, map, slice_get, slice_index_or, All}
-use Rattle.std.specs.List.{IsDistinct}
-use Rattle.std.specs.Bool.{nat_eq}
+use Rattle.std.specs.Prelude.{◌≡◌, ◌≤◌, ◌<◌, ◌^◌, ℕ, Bool, false, List, length, map}
 use Rattle.ub_zaddr.specs.Address.{last_address}
-use Rattle.ub_page.specs.Region.{Region, region_on, region_page}
-use Rattle.ub_page.specs.declared.directory.Entry.{Entry}
+use Rattle.ub_page.specs.Region.{Region}
 use Rattle.ub_page.specs.declared.row.Row.{Row}
 use Rattle.ub_page.specs.declared.schema.Schema.{Schema}
 use Rattle.ub_store.specs.Facts.{StoreFacts, IsHonest}
+use Rattle.ub_tree.specs.Placed.{Placed, ArePlaced, regions_in, entry_of}
 use Rattle.ub_tree.specs.Regions.{AreRegions, rows_of}
 use Rattle.ub_tree.specs.Spans as spans
+use Rattle.ub_tree.specs.Stored.{AreSoundPages}
 use Rattle.ub_tree.specs.declared.region.Region.{Region as Span}
-
--- a region, and the number of its page
-pub record Placed : Type 0 where
-  pub page : ℕ
-  pub region : Region
 
 -- a tree: its schema; its regions in order; the pages that hold no region (the first, and others of its own); how many rows
 -- it counts; the next row number; whether it has changed since it was opened, and whether it has failed; the facts of its
@@ -32,24 +26,12 @@ pub record TreeView : Type 0 where
   pub trace : List ℕ
   pub fetches : ℕ
 
--- the regions that begin at these keys, each with the rows that its page tells of
-abbrev pub placed_of : Schema → List (List ℕ) → List Entry → List Placed
-placed_of schema pages entries =
-    map (λ e. record { page = e.page; region = record { first = e.first; rows = (region_on schema (slice_index_or pages e.page [])).rows } }) entries
-
-abbrev pub regions_in : List Placed → List Region
-regions_in placed = map (λ p. p.region) placed
-
 -- the regions of a tree, and its rows, one region after the other
 abbrev pub regions : TreeView → List Region
 regions t = regions_in t.placed
 
 abbrev pub tree_rows : TreeView → List Row
 tree_rows t = rows_of (regions t)
-
--- where each region begins, and its page
-abbrev pub entry_of : Placed → Entry
-entry_of p = record { first = p.region.first; page = p.page }
 
 -- the regions with their spans, in order
 abbrev pub spans_in : Schema → List Placed → List Span
@@ -58,14 +40,8 @@ spans_in schema placed = spans.regions_of (last_address schema.dims) (map entry_
 abbrev pub spans_of : TreeView → List Span
 spans_of t = spans_in t.schema t.placed
 
--- each region stands on a page of its own that spells it; the pages that hold none are others
-pub record ArePlaced (schema : Schema) (placed : List Placed) (reserved : List ℕ) (pages : List (List ℕ)) : Type 0 where
-  pub spelled : All (λ p. slice_get pages p.page ≡ Some (region_page schema p.region)) placed
-  pub own : IsDistinct nat_eq (reserved ++ map (λ p. p.page) placed)
-  pub within : All (λ n. n < length pages) reserved
-
 -- a tree is sound where it hasn't failed, its store is honest, each of its regions stands on a page of its own that spells it,
--- and its counts are those of its regions
+-- and its counts are those of its regions; until it is changed its pages are those of a closed table
 pub record IsSound (t : TreeView) : Type 0 where
   pub working : t.is_failed ≡ false
   pub honest : IsHonest t.store
@@ -75,6 +51,7 @@ pub record IsSound (t : TreeView) : Type 0 where
   pub some_next : 1 ≤ t.next
   pub last_next : t.next ≤ 16777216
   pub few : length t.placed < 2 ^ 32
+  pub closed : t.is_changed ≡ false → AreSoundPages t.store.pages t.schema t.placed t.next
 
 -- what a call that changes no region leaves: the regions with their pages, the rows and the next number
 pub record KeepsRegions (old new : TreeView) : Type 0 where

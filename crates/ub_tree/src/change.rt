@@ -13,8 +13,8 @@ ghost use Rattle.ub_tree.specs.Change.{IsStored, Puts, IsElsewhereSame, placed_w
 ghost use Rattle.ub_tree.specs.Keys.{is_before_next};
 ghost use Rattle.ub_tree.specs.Rows.{split};
 ghost use Rattle.ub_tree.specs.Spans.{ArePlaces, first_keys};
-ghost use Rattle.ub_tree.specs.View.{Placed, IsSound, KeepsTrace, entry_of, regions};
-
+ghost use Rattle.ub_tree.specs.Placed.{Placed, entry_of};
+ghost use Rattle.ub_tree.specs.View.{IsSound, KeepsTrace, regions};
 use crate::closing::{copy_of, shape_of};
 use crate::fault::TreeFault;
 use crate::keys::{is_before, row_key};
@@ -155,6 +155,7 @@ impl<S: PageStore> Tree<S> {
         ) {
             Ok(()) => Ok(()),
             Err(fault) => {
+                self.places.remove(place + 1);
                 self.is_failed = true;
                 Err(TreeFault::Store(fault))
             }

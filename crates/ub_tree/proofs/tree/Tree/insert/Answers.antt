@@ -60,5 +60,5 @@ returns-clause-inserted g c =
     ap (λ (n : ℕ). row_of n c.args.dims.now c.args.measures.now) (ap (λ (r : Row). r.number) c.row_of-row.ensures.row) ∙ sym c.row_of-row.ensures.row in
     λ sound. subst (λ (r : Row). IsInserted r a d) (sym number)
     (grown a b after d row c.place_of-place.result c.insert.new.self same kept is_ready not_last c.in_ok-store_rows.ensures.written
-    (ap (λ (v : TreeView). v.schema) stored) (ap (λ (v : TreeView). v.next) stored) (ap (λ (v : TreeView). v.rows) stored) few
+    (ap (λ (v : TreeView). v.schema) stored) (ap (λ (v : TreeView). v.next) stored) (ap (λ (v : TreeView). v.rows) stored) few (ap (λ (v : TreeView). v.is_changed) stored)
     (ap (λ (v : TreeView). record v { next = v.next + 1; rows = v.rows + 1 }) c.self-2.view_is) sound)

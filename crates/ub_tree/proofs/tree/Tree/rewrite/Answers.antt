@@ -1,10 +1,11 @@
-use Rattle.std.proofs.Common.{subst, ◌≡◌, ◌<◌, true, Some, refl, arith, length, slice_get}
+use Rattle.std.proofs.Common.{subst, ◌∙◌, sym, ◌≡◌, ◌<◌, true, Some, refl, arith, length, slice_get}
 use Rattle.std.proofs.lemmas.Option.{slice_get_read}
 use Rattle.ub_page.specs.Region.{region_page}
 use Rattle.ub_tree.specs.Change.{IsChangeFault}
 use Rattle.ub_tree.specs.declared.fault.TreeFault.TheVariants.{Store}
 use Rattle.ub_tree.specs.Tree.{tree_view, known_pages}
-use Rattle.ub_tree.specs.View.{TreeView, placed_of}
+use Rattle.ub_tree.specs.Placed.{placed_of}
+use Rattle.ub_tree.specs.View.{TreeView}
 use Rattle.ub_tree.proofs.CallFacts.{tree_entry_known, write_refused, known_is}
 use Rattle.ub_tree.proofs.TreeFacts.{length-placed, placed_at}
 use Rattle.ub_tree.proofs.WriteFacts.{rewritten, missing_page}
@@ -34,4 +35,5 @@ returns-in-Err-clause-refused g c =
     (λ no_page sound.
     let k = tree_entry_known t.schema t.places.entries.items t.chain.items t.next t.rows t.is_changed t.is_failed t.pager c.args.place e t.places.ascending sound at in
     let known = known_is t.pager.store sound.honest in
-    missing_page old (length t.pager.store.pages) e.page (region_page t.schema (placed_at t.schema t.pager.store.pages e).region) sound refl (rw known at k.spelled) (c.in-Err.ensures.missing no_page)) refl)
+    missing_page old (length t.pager.store.pages) e.page (region_page t.schema (placed_at t.schema t.pager.store.pages e).region) sound refl (rw known at k.spelled) (c.in-Err.ensures.missing no_page))
+    (record { failed = refl; schema = refl; regions = length-placed t.schema (known_pages c.write_page.new.pager.store) t.places.entries.items ∙ sym (length-placed t.schema (known_pages t.pager.store) t.places.entries.items); rows = refl }))

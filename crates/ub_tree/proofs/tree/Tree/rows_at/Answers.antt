@@ -2,7 +2,8 @@ use Rattle.std.proofs.Common.{◌≡◌, ◌<◌, ◌∙◌, Some, refl, arith, 
 use Rattle.std.proofs.lemmas.Option.{slice_get_read, slice_get_within}
 use Rattle.ub_page.specs.Region.{Region, region_page}
 use Rattle.ub_tree.specs.Tree.{tree_view, known_pages}
-use Rattle.ub_tree.specs.View.{TreeView, placed_of}
+use Rattle.ub_tree.specs.Placed.{placed_of}
+use Rattle.ub_tree.specs.View.{TreeView}
 use Rattle.ub_tree.proofs.CallFacts.{tree_entry_known, page_refused_by, store_refused, known_is}
 use Rattle.ub_tree.proofs.TreeFacts.{length-placed, placed_at, rows_read}
 use Rattle.ub_tree.proofs.tree.Tree.rows_at.Goals as goal

@@ -2,7 +2,8 @@ use Rattle.std.proofs.Common.{refl, arith, ◌≡◌, ◌∙◌, sym, ap, map, �
 use Rattle.ub_zaddr.specs.Address.{last_address}
 use Rattle.ub_page.specs.declared.directory.Entry.{Entry}
 use Rattle.ub_tree.specs.Tree.{known_pages}
-use Rattle.ub_tree.specs.View.{TreeView, entry_of}
+use Rattle.ub_tree.specs.Placed.{entry_of}
+use Rattle.ub_tree.specs.View.{TreeView}
 use Rattle.ub_tree.proofs.RoomFacts.{room_moved}
 use Rattle.ub_tree.proofs.TreeFacts.{entries_back}
 use Rattle.ub_tree.proofs.tree.Tree.split.Goals as goal

@@ -4,7 +4,8 @@ use Rattle.ub_page.specs.Region.{region_page}
 use Rattle.ub_page.specs.declared.directory.Entry.{Entry}
 use Rattle.ub_tree.specs.Change.{IsChangeFault}
 use Rattle.ub_tree.specs.Tree.{tree_view, known_pages}
-use Rattle.ub_tree.specs.View.{TreeView, placed_of}
+use Rattle.ub_tree.specs.Placed.{placed_of}
+use Rattle.ub_tree.specs.View.{TreeView}
 use Rattle.ub_tree.specs.declared.fault.TreeFault.TheVariants.{Store}
 use Rattle.ub_tree.proofs.CallFacts.{tree_entry_known, write_refused, known_is}
 use Rattle.ub_tree.proofs.TreeFacts.{length-placed, placed_at, entries_back}
