@@ -1,56 +1,54 @@
-ghost use Rattle.std.specs.Prelude.{◌≡◌, ◌+◌, ◌/◌, ◌<◌, ◌^◌, [], ◌∷◌, IfOk, IfErr, OnOk};
-ghost use Rattle.ub_zaddr.specs.Address.{last_address};
-ghost use Rattle.ub_store.specs.Facts.{page_count, IsHonest};
-ghost use Rattle.ub_store.specs.View.{pager_view, SameTrace};
-ghost use Rattle.ub_tree.specs.Calls.{IsCreated, IsCreateFault};
-ghost use Rattle.ub_tree.specs.Keys.{origin};
-ghost use Rattle.ub_tree.specs.Tree.{IsLaidOut};
+ghost use Rattle.std.specs.Prelude.{ℕ, List, ◌≡◌, ◌⊎◌, ◌+◌, ◌*◌, ◌<◌, ◌≤◌, [], ◌∷◌, false, length, take, drop, map, slice_get, Some, IsTrue, IsErr, IfOk, IfErr, OnOk, OnErr, IsErrOf};
+ghost use Rattle.std.specs.List.{AllByRecursion};
+ghost use Rattle.ub_page.specs.Header.{header_page};
+ghost use Rattle.ub_page.specs.Name.{IsName};
+ghost use Rattle.ub_store.specs.Facts.{page_count, IsHonest, Failed, Writes};
+ghost use Rattle.ub_tree.specs.Closing.{levels_for, AreOwn, Grows, KeepsBut, AreKept, HasDirectory, IsClosed, IsUnclosed, IsSaveFault, IsCloseFault};
+ghost use Rattle.ub_tree.specs.Placed.{entry_of};
+ghost use Rattle.ub_tree.specs.Stored.{IsChain, AreSoundPages};
+ghost use Rattle.ub_tree.specs.View.{IsSound};
 
 use crate::fault::TreeFault;
-use crate::places::Places;
 use crate::tree::Tree;
-use std::alloc::{AllocError, Global};
-use std::num::NonZeroUsize;
-use ub_page::{Entry, Header, Key, Schema, write_header, write_region};
-use ub_store::{PageStore, Pager, Rejected};
-use ub_zaddr::{Shape, last};
-
-// How many pages the cache of a tree holds.
-const CACHE_PAGES: usize = 64;
-
-// Where the first region of all begins.
-const ORIGIN: Key = Key { z: 0, number: 0 };
+use ub_page::directory::MAX_ENTRIES;
+use ub_page::{Entry, Header, Name, Schema, write_directory, write_header};
+use ub_store::{PageStore, Pager, Rejected, StoreFault};
 
 impl<S: PageStore> Tree<S> {
-    /// A tree of this schema with no rows, over a store that has no pages. It takes three: the header, marked unclean, the
-    /// page of the one region, and one for the directory, which is written when the tree is closed.
+    /// Hands the store back as a closed table. Where the tree was changed the directory is written first, on the pages of the
+    /// old one and on new ones, and then the clean header that names it, each followed by a sync. Where it was not, nothing is
+    /// written.
     ///
-    /// Memory comes where memory was refused, Store with Device where the store failed in this call; the store is then
-    /// handed back.
-    pub fn create(
-        alloc: Global,
-        store: S,
-        schema: &Schema,
-    ) -> Result<Tree<S>, Rejected<S, TreeFault>>
-        requires { page_count (S.facts store) ≡ 0 }
-        ensures made { IfOk result (λ t. IsCreated (S.facts store) schema.now t) }
-        ensures refused { IfErr result (λ refused. IsCreateFault (S.facts store) (S.facts refused.store) refused.fault) }
+    /// Failed comes where the tree has failed, and nothing is written then; Memory where memory was refused, and Store where
+    /// the store failed in this call, has no such page, or has room for no more. The store is handed back then too, and the
+    /// header in it is as it was unless the whole directory stands.
+    pub fn close(self) -> Result<S, Rejected<S, TreeFault>>
+        ensures closed { IsSound self → IfOk result (λ s. IsHonest (S.facts s) × AreSoundPages (S.facts s).pages self.schema self.placed self.next) }
+        ensures unchanged { self.is_changed ≡ false → IfOk result (λ s. S.facts s ≡ self.store) × IfErr result (λ r. S.facts r.store ≡ self.store) }
+        ensures failed { IsTrue self.is_failed → IsErr result × IfErr result (λ r. (r.fault ≡ TreeFault.Failed) × (S.facts r.store ≡ self.store)) }
+        ensures first { IsSound self → IfErr result (λ r. IsUnclosed (map (λ p. p.page) self.placed) (map entry_of self.placed) self.store (S.facts r.store)) }
+        ensures refused { IfErr result (λ r. IsCloseFault self (S.facts r.store) r.fault) }
     {
-        let mut pager = match pager_over(alloc, store) {
-            Ok(pager) => pager,
-            Err(refused) => return Err(refused),
-        };
-        match lay_out(alloc, &mut pager, schema) {
-            Ok((places, chain)) => Ok(Tree {
-                schema: copy_of(schema),
-                places,
-                chain,
-                next: 1,
-                rows: 0,
-                is_changed: true,
-                is_failed: false,
-                pager,
-            }),
+        if self.is_failed {
+            return Err(Rejected {
+                store: self.pager.into_store(),
+                fault: TreeFault::Failed,
+            });
+        }
+        if !self.is_changed {
+            return Ok(self.pager.into_store());
+        }
+        let Tree {
+            schema,
+            places,
+            chain,
+            next,
+            rows,
+            mut pager,
+            ..
+        } = self;
+        match write_table(&mut pager, chain, &places.entries, schema, next, rows) {
+            Ok(()) => Ok(pager.into_store()),
             Err(fault) => Err(Rejected {
                 store: pager.into_store(),
                 fault,
@@ -59,103 +57,150 @@ impl<S: PageStore> Tree<S> {
     }
 }
 
-// A pager over the store, with the cache of a tree.
-fn pager_over<S: PageStore>(alloc: Global, store: S) -> Result<Pager<S>, Rejected<S, TreeFault>>
-    ensures made { IfOk result (λ pager. pager ≡ pager_view (S.facts store) [] 0) }
-    ensures refused { IfErr result (λ refused. (refused.store ≡ store) × (refused.fault ≡ TreeFault.Memory)) }
-{
-    let cache = NonZeroUsize::new(CACHE_PAGES).unwrap();
-    match Pager::new(alloc, store, cache) {
-        Ok(pager) => Ok(pager),
-        Err(refused) => Err(Rejected {
-            store: refused.store,
-            fault: TreeFault::Memory,
-        }),
-    }
-}
-
-// The first pages of a table with no rows, and where its region and its directory stand.
-fn lay_out<S: PageStore>(
-    alloc: Global,
+// Writes the directory of these entries, on the pages of the chain and on new ones, and then a clean header.
+fn write_table<S: PageStore>(
     pager: &mut Pager<S>,
-    schema: &Schema,
-) -> Result<(Places, Vec<u32>), TreeFault>
-    requires { page_count pager.old.store ≡ 0 }
-    ensures places { IfOk result (λ made. (made.0.entries.items ≡ record { first = origin; page = 1 } ∷ []) × (made.0.last ≡ last_address schema.now.dims) × (made.1.items ≡ 2 ∷ [])) }
-    ensures pages { OnOk result (IsHonest pager.old.store → IsLaidOut schema.now pager.new.store.pages) }
+    chain: Vec<u32>,
+    entries: &[Entry],
+    schema: Schema,
+    next: u32,
+    rows: u32,
+) -> Result<(), TreeFault>
+    requires some { 1 ≤ length entries.now }
+    requires few { length entries.now < 4294967296 }
+    requires fewer { rows < next }
+    requires last_next { next ≤ 16777216 }
+    ensures closed { (numbers : List ℕ) → IsHonest pager.old.store → AreOwn (page_count pager.old.store) chain.items numbers → OnOk result (IsClosed schema next rows numbers entries.now pager.old.store pager.new.store) }
+    ensures left { (numbers : List ℕ) → IsHonest pager.old.store → AreOwn (page_count pager.old.store) chain.items numbers → OnErr result (IsUnclosed numbers entries.now pager.old.store pager.new.store) }
     ensures honest { pager.new.store.honest ≡ pager.old.store.honest }
-    ensures trace { SameTrace pager.old pager.new }
-    ensures refused { IfErr result (IsCreateFault pager.old.store pager.new.store) }
+    ensures refused { IfErr result (IsSaveFault chain.items pager.old.store pager.new.store) }
 {
-    let places = first_places(alloc, schema)?;
-    let mut chain = Vec::new(alloc);
-    chain.push(2).map_err(|_| TreeFault::Memory)?;
-    write_first_pages(pager, schema)?;
-    Ok((places, chain))
-}
-
-// The one region of a table with no rows, on page 1.
-fn first_places(alloc: Global, schema: &Schema) -> Result<Places, AllocError>
-    ensures entries { IfOk result (λ places. places.entries.items ≡ record { first = origin; page = 1 } ∷ []) }
-    ensures last { IfOk result (λ places. places.last ≡ last_address schema.now.dims) }
-{
-    let mut entries = Vec::new(alloc);
-    entries.push(Entry {
-        first: ORIGIN,
-        page: 1,
-    })?;
-    match Places::new(entries, last(shape_of(schema))) {
-        Some(places) => Ok(places),
-        None => unreachable!(),
-    }
-}
-
-// Three pages: the header, marked unclean, the empty region, and one of zeros.
-fn write_first_pages<S: PageStore>(pager: &mut Pager<S>, schema: &Schema) -> Result<(), TreeFault>
-    requires { page_count pager.old.store ≡ 0 }
-    ensures pages { OnOk result (IsHonest pager.old.store → IsLaidOut schema.now pager.new.store.pages) }
-    ensures honest { pager.new.store.honest ≡ pager.old.store.honest }
-    ensures trace { SameTrace pager.old pager.new }
-    ensures refused { IfErr result (IsCreateFault pager.old.store pager.new.store) }
-{
-    pager.extend()?;
-    pager.extend()?;
-    pager.extend()?;
+    tell_names(schema.columns());
+    tell_name(schema.name());
+    let root = write_places(pager, chain, entries)?;
+    let regions = entries.len();
     let header = Header {
-        schema: copy_of(schema),
-        next: 1,
-        rows: 0,
-        regions: 1,
-        root: 2,
-        levels: 1,
-        unclean: true,
+        schema,
+        next,
+        rows,
+        regions: regions as u32,
+        root,
+        levels: levels_of(regions) as u32,
+        unclean: false,
     };
-    pager.put(0, &write_header(&header))?;
-    pager.put(1, &write_region(schema, ORIGIN, &[]))?;
+    write_clean(pager, &header)?;
     Ok(())
 }
 
-/// The same schema.
-pub fn copy_of(schema: &Schema) -> Schema
-    ensures { result ≡ schema.now }
+// Writes the directory of these entries, on the pages of the chain and on new ones, and gives its first page.
+fn write_places<S: PageStore>(
+    pager: &mut Pager<S>,
+    mut chain: Vec<u32>,
+    entries: &[Entry],
+) -> Result<u32, TreeFault>
+    requires some { 1 ≤ length entries.now }
+    requires few { length entries.now < 4294967296 }
+    ensures written { (numbers : List ℕ) → IsHonest pager.old.store → AreOwn (page_count pager.old.store) chain.items numbers → IfOk result (λ root. HasDirectory numbers entries.now root pager.new.store) }
+    ensures kept { (numbers : List ℕ) → IsHonest pager.old.store → AreOwn (page_count pager.old.store) chain.items numbers → AreKept (0 ∷ numbers) pager.old.store pager.new.store }
+    ensures more { page_count pager.old.store ≤ page_count pager.new.store }
+    ensures honest { pager.new.store.honest ≡ pager.old.store.honest }
+    ensures failures { pager.old.store.failures ≤ pager.new.store.failures }
+    ensures refused { IfErr result (IsSaveFault chain.items pager.old.store pager.new.store) }
 {
-    match Schema::new(
-        *schema.name(),
-        schema.columns(),
-        schema.dims(),
-        schema.page_rows(),
-    ) {
-        Ok(copy) => copy,
-        Err(_) => unreachable!(),
+    grow_chain(pager, &mut chain, levels_of(entries.len()))?;
+    write_chain(pager, &chain, entries)?;
+    pager.sync()?;
+    Ok(chain[0])
+}
+
+// How many pages the directory of so many regions takes.
+fn levels_of(regions: usize) -> usize
+    requires { regions < 4294967296 }
+    ensures { result ≡ levels_for regions }
+{
+    (regions + MAX_ENTRIES - 1) / MAX_ENTRIES
+}
+
+// Makes the chain so long: by new pages at its end, or by a cut.
+fn grow_chain<S: PageStore>(
+    pager: &mut Pager<S>,
+    chain: &mut Vec<u32>,
+    levels: usize,
+) -> Result<(), TreeFault>
+    ensures own { (numbers : List ℕ) → AreOwn (page_count pager.old.store) chain.old.items numbers → OnOk result (AreOwn (page_count pager.new.store) chain.new.items numbers) }
+    ensures levels { OnOk result (length chain.new.items ≡ levels) }
+    ensures grows { Grows pager.old.store pager.new.store }
+    ensures refused { IfErr result (IsSaveFault chain.old.items pager.old.store pager.new.store) }
+{
+    chain.truncate(levels);
+    while chain.len() < levels {
+        let n = pager.extend()?;
+        if chain.push(n).is_err() {
+            return Err(TreeFault::Memory);
+        }
+    }
+    Ok(())
+}
+
+// Writes the directory of these entries on the pages of a chain that is as long as it takes, the last page first.
+fn write_chain<S: PageStore>(
+    pager: &mut Pager<S>,
+    chain: &[u32],
+    entries: &[Entry],
+) -> Result<(), StoreFault>
+    requires some { 1 ≤ length entries.now }
+    requires few { length entries.now < 4294967296 }
+    requires levels { length chain.now ≡ levels_for (length entries.now) }
+    ensures chain { (numbers : List ℕ) → IsHonest pager.old.store → AreOwn (page_count pager.old.store) chain.now numbers → OnOk result (IsChain pager.new.store.pages chain.now entries.now) }
+    ensures kept { KeepsBut chain.now pager.old.store pager.new.store }
+    ensures device { IsErrOf result StoreFault.Device → Failed pager.old.store pager.new.store }
+    ensures missing { IsErrOf result StoreFault.NoPage → (numbers : List ℕ) → ¬ (AreOwn (page_count pager.old.store) chain.now numbers) }
+    ensures faults { IfErr result (λ fault. (fault ≡ StoreFault.Device) ⊎ (fault ≡ StoreFault.NoPage)) }
+{
+    let mut next = 0;
+    let mut i = chain.len();
+    while i > 0 {
+        i -= 1;
+        pager.put(chain[i], &write_directory(part_of(entries, i), next))?;
+        next = chain[i];
+    }
+    Ok(())
+}
+
+// The entries of the directory's page at a place.
+fn part_of(entries: &[Entry], i: usize) -> &[Entry]
+    requires some { 170 * i ≤ length entries.now }
+    requires few { length entries.now < 4294967296 }
+    ensures part { result.now ≡ take 170 (drop (170 * i) entries.now) }
+    ensures few { length result.now ≤ 170 }
+{
+    let (_, rest) = entries.split_at(MAX_ENTRIES * i);
+    &rest[..MAX_ENTRIES.min(rest.len())]
+}
+
+// Writes the header, once what was written before stands.
+fn write_clean<S: PageStore>(pager: &mut Pager<S>, header: &Header) -> Result<(), StoreFault>
+    ensures written { IsHonest pager.old.store → OnOk result (slice_get pager.new.store.pages 0 ≡ Some (header_page header.now)) }
+    ensures kept { KeepsBut (0 ∷ []) pager.old.store pager.new.store }
+    ensures device { IsErrOf result StoreFault.Device → Failed pager.old.store pager.new.store }
+    ensures missing { IsErrOf result StoreFault.NoPage → page_count pager.old.store ≡ 0 }
+    ensures faults { IfErr result (λ fault. (fault ≡ StoreFault.Device) ⊎ (fault ≡ StoreFault.NoPage)) }
+{
+    pager.put(0, &write_header(header))?;
+    pager.sync()
+}
+
+// Each of these is a name: it tells this to the proof alone.
+fn tell_names(names: &[Name])
+    ensures { AllByRecursion IsName names.now }
+{
+    for name in names {
+        tell_name(name);
     }
 }
 
-/// The dimensions of a schema, as the shape of a space.
-pub fn shape_of(schema: &Schema) -> Shape
-    ensures { result ≡ schema.now.dims }
+fn tell_name(name: &Name)
+    ensures { IsName name.now }
 {
-    match Shape::new(schema.dims()) {
-        Ok(shape) => shape,
-        Err(_) => unreachable!(),
-    }
+    let _bytes = name.bytes();
 }

@@ -1,6 +1,6 @@
 use Rattle.std.proofs.Common.{◌∙◌}
 use Rattle.ub_tree.proofs.SchemaFacts.{same_schema}
-use Rattle.ub_tree.proofs.closing.copy_of.Goals as goal
+use Rattle.ub_tree.proofs.creation.copy_of.Goals as goal
 
 pub returns : goal.returns
 returns c =

@@ -1,0 +1,14 @@
+use Rattle.std.proofs.Common.{◌≤◌, ◌-◌, ℕ, List, length}
+use Rattle.ub_store.specs.Facts.{page_count}
+use Rattle.ub_tree.specs.Closing.{AreOwn, Grows}
+use Rattle.ub_tree.proofs.closing.grow_chain.Given as goal
+
+abbrev pub invariant-loop-pager : goal.invariant-loop-pager
+invariant-loop-pager g l = record {
+  within : length l.chain.items ≤ l.levels;
+  own : (numbers : List ℕ) → AreOwn (page_count l.fn.pager.store) l.fn.chain.items numbers → AreOwn (page_count l.pager.store) l.chain.items numbers;
+  grows : Grows l.fn.pager.store l.pager.store;
+}
+
+abbrev pub decreases-loop-pager : goal.decreases-loop-pager
+decreases-loop-pager g l = l.levels - length l.chain.items

@@ -1,0 +1,161 @@
+ghost use Rattle.std.specs.Prelude.{◌≡◌, ◌+◌, ◌/◌, ◌<◌, ◌^◌, [], ◌∷◌, IfOk, IfErr, OnOk};
+ghost use Rattle.ub_zaddr.specs.Address.{last_address};
+ghost use Rattle.ub_store.specs.Facts.{page_count, IsHonest};
+ghost use Rattle.ub_store.specs.View.{pager_view, SameTrace};
+ghost use Rattle.ub_tree.specs.Calls.{IsCreated, IsCreateFault};
+ghost use Rattle.ub_tree.specs.Keys.{origin};
+ghost use Rattle.ub_tree.specs.Tree.{IsLaidOut};
+
+use crate::fault::TreeFault;
+use crate::places::Places;
+use crate::tree::Tree;
+use std::alloc::{AllocError, Global};
+use std::num::NonZeroUsize;
+use ub_page::{Entry, Header, Key, Schema, write_header, write_region};
+use ub_store::{PageStore, Pager, Rejected};
+use ub_zaddr::{Shape, last};
+
+// How many pages the cache of a tree holds.
+const CACHE_PAGES: usize = 64;
+
+// Where the first region of all begins.
+const ORIGIN: Key = Key { z: 0, number: 0 };
+
+impl<S: PageStore> Tree<S> {
+    /// A tree of this schema with no rows, over a store that has no pages. It takes three: the header, marked unclean, the
+    /// page of the one region, and one for the directory, which is written when the tree is closed.
+    ///
+    /// Memory comes where memory was refused, Store with Device where the store failed in this call; the store is then
+    /// handed back.
+    pub fn create(
+        alloc: Global,
+        store: S,
+        schema: &Schema,
+    ) -> Result<Tree<S>, Rejected<S, TreeFault>>
+        requires { page_count (S.facts store) ≡ 0 }
+        ensures made { IfOk result (λ t. IsCreated (S.facts store) schema.now t) }
+        ensures refused { IfErr result (λ refused. IsCreateFault (S.facts store) (S.facts refused.store) refused.fault) }
+    {
+        let mut pager = match pager_over(alloc, store) {
+            Ok(pager) => pager,
+            Err(refused) => return Err(refused),
+        };
+        match lay_out(alloc, &mut pager, schema) {
+            Ok((places, chain)) => Ok(Tree {
+                schema: copy_of(schema),
+                places,
+                chain,
+                next: 1,
+                rows: 0,
+                is_changed: true,
+                is_failed: false,
+                pager,
+            }),
+            Err(fault) => Err(Rejected {
+                store: pager.into_store(),
+                fault,
+            }),
+        }
+    }
+}
+
+// A pager over the store, with the cache of a tree.
+fn pager_over<S: PageStore>(alloc: Global, store: S) -> Result<Pager<S>, Rejected<S, TreeFault>>
+    ensures made { IfOk result (λ pager. pager ≡ pager_view (S.facts store) [] 0) }
+    ensures refused { IfErr result (λ refused. (refused.store ≡ store) × (refused.fault ≡ TreeFault.Memory)) }
+{
+    let cache = NonZeroUsize::new(CACHE_PAGES).unwrap();
+    match Pager::new(alloc, store, cache) {
+        Ok(pager) => Ok(pager),
+        Err(refused) => Err(Rejected {
+            store: refused.store,
+            fault: TreeFault::Memory,
+        }),
+    }
+}
+
+// The first pages of a table with no rows, and where its region and its directory stand.
+fn lay_out<S: PageStore>(
+    alloc: Global,
+    pager: &mut Pager<S>,
+    schema: &Schema,
+) -> Result<(Places, Vec<u32>), TreeFault>
+    requires { page_count pager.old.store ≡ 0 }
+    ensures places { IfOk result (λ made. (made.0.entries.items ≡ record { first = origin; page = 1 } ∷ []) × (made.0.last ≡ last_address schema.now.dims) × (made.1.items ≡ 2 ∷ [])) }
+    ensures pages { OnOk result (IsHonest pager.old.store → IsLaidOut schema.now pager.new.store.pages) }
+    ensures honest { pager.new.store.honest ≡ pager.old.store.honest }
+    ensures trace { SameTrace pager.old pager.new }
+    ensures refused { IfErr result (IsCreateFault pager.old.store pager.new.store) }
+{
+    let places = first_places(alloc, schema)?;
+    let mut chain = Vec::new(alloc);
+    chain.push(2).map_err(|_| TreeFault::Memory)?;
+    write_first_pages(pager, schema)?;
+    Ok((places, chain))
+}
+
+// The one region of a table with no rows, on page 1.
+fn first_places(alloc: Global, schema: &Schema) -> Result<Places, AllocError>
+    ensures entries { IfOk result (λ places. places.entries.items ≡ record { first = origin; page = 1 } ∷ []) }
+    ensures last { IfOk result (λ places. places.last ≡ last_address schema.now.dims) }
+{
+    let mut entries = Vec::new(alloc);
+    entries.push(Entry {
+        first: ORIGIN,
+        page: 1,
+    })?;
+    match Places::new(entries, last(shape_of(schema))) {
+        Some(places) => Ok(places),
+        None => unreachable!(),
+    }
+}
+
+// Three pages: the header, marked unclean, the empty region, and one of zeros.
+fn write_first_pages<S: PageStore>(pager: &mut Pager<S>, schema: &Schema) -> Result<(), TreeFault>
+    requires { page_count pager.old.store ≡ 0 }
+    ensures pages { OnOk result (IsHonest pager.old.store → IsLaidOut schema.now pager.new.store.pages) }
+    ensures honest { pager.new.store.honest ≡ pager.old.store.honest }
+    ensures trace { SameTrace pager.old pager.new }
+    ensures refused { IfErr result (IsCreateFault pager.old.store pager.new.store) }
+{
+    pager.extend()?;
+    pager.extend()?;
+    pager.extend()?;
+    let header = Header {
+        schema: copy_of(schema),
+        next: 1,
+        rows: 0,
+        regions: 1,
+        root: 2,
+        levels: 1,
+        unclean: true,
+    };
+    pager.put(0, &write_header(&header))?;
+    pager.put(1, &write_region(schema, ORIGIN, &[]))?;
+    Ok(())
+}
+
+/// The same schema.
+pub fn copy_of(schema: &Schema) -> Schema
+    ensures { result ≡ schema.now }
+{
+    match Schema::new(
+        *schema.name(),
+        schema.columns(),
+        schema.dims(),
+        schema.page_rows(),
+    ) {
+        Ok(copy) => copy,
+        Err(_) => unreachable!(),
+    }
+}
+
+/// The dimensions of a schema, as the shape of a space.
+pub fn shape_of(schema: &Schema) -> Shape
+    ensures { result ≡ schema.now.dims }
+{
+    match Shape::new(schema.dims()) {
+        Ok(shape) => shape,
+        Err(_) => unreachable!(),
+    }
+}
