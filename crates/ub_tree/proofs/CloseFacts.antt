@@ -230,3 +230,8 @@ kept_but chain numbers a b k honest own =
 pub kept_all : (numbers : List ℕ) (a b : StoreFacts) → Keeps a b → IsHonest a → AreKept numbers a b
 kept_all [] a b k honest = tt
 kept_all (n ∷ numbers) a b k honest = (ap (λ (pages : List (List ℕ)). slice_get pages n) (k.pages honest), kept_all numbers a b k honest)
+
+-- a chain that was grown and then written
+pub kept_written : (chain grown numbers : List ℕ) (a b d : StoreFacts) → Grows a b → KeepsBut grown b d → IsHonest a → AreOwn (page_count a) chain numbers → AreOwn (page_count b) grown numbers → AreKept (0 ∷ numbers) a d
+kept_written chain grown numbers a b d g k honest own now =
+    kept_after (0 ∷ numbers) a b d (kept_grown chain numbers a b g honest own) (kept_but grown numbers b d k (g.honesty ∙ honest) now)
