@@ -1,4 +1,4 @@
-ghost use Rattle.std.specs.Prelude.{ℕ, List, ◌≡◌, ◌⊎◌, ◌+◌, ◌*◌, ◌<◌, ◌≤◌, [], ◌∷◌, false, length, take, drop, map, slice_get, Some, IsTrue, IsErr, IfOk, IfErr, OnOk, OnErr, IsErrOf};
+ghost use Rattle.std.specs.Prelude.{ℕ, List, ◌≡◌, ◌⊎◌, ◌+◌, ◌*◌, ◌^◌, ◌<◌, ◌≤◌, [], ◌∷◌, false, length, take, drop, map, slice_get, Some, IsTrue, IsErr, IfOk, IfErr, OnOk, OnErr, IsErrOf};
 ghost use Rattle.std.specs.List.{AllByRecursion};
 ghost use Rattle.ub_page.specs.Header.{header_page};
 ghost use Rattle.ub_page.specs.Name.{IsName};
@@ -67,7 +67,7 @@ fn write_table<S: PageStore>(
     rows: u32,
 ) -> Result<(), TreeFault>
     requires some { 1 ≤ length entries.now }
-    requires few { length entries.now < 4294967296 }
+    requires few { length entries.now < 2 ^ 32 }
     requires fewer { rows < next }
     requires last_next { next ≤ 16777216 }
     ensures closed { (numbers : List ℕ) → IsHonest pager.old.store → AreOwn (page_count pager.old.store) chain.items numbers → OnOk result (IsClosed schema next rows numbers entries.now pager.old.store pager.new.store) }
@@ -99,8 +99,9 @@ fn write_places<S: PageStore>(
     entries: &[Entry],
 ) -> Result<u32, TreeFault>
     requires some { 1 ≤ length entries.now }
-    requires few { length entries.now < 4294967296 }
+    requires few { length entries.now < 2 ^ 32 }
     ensures written { (numbers : List ℕ) → IsHonest pager.old.store → AreOwn (page_count pager.old.store) chain.items numbers → IfOk result (λ root. HasDirectory numbers entries.now root pager.new.store) }
+    ensures small { IfOk result (λ root. root < 2 ^ 32) }
     ensures kept { (numbers : List ℕ) → IsHonest pager.old.store → AreOwn (page_count pager.old.store) chain.items numbers → AreKept (0 ∷ numbers) pager.old.store pager.new.store }
     ensures more { page_count pager.old.store ≤ page_count pager.new.store }
     ensures honest { pager.new.store.honest ≡ pager.old.store.honest }
@@ -115,7 +116,7 @@ fn write_places<S: PageStore>(
 
 // How many pages the directory of so many regions takes.
 fn levels_of(regions: usize) -> usize
-    requires { regions < 4294967296 }
+    requires { regions < 2 ^ 32 }
     ensures { result ≡ levels_for regions }
 {
     (regions + MAX_ENTRIES - 1) / MAX_ENTRIES
@@ -149,7 +150,7 @@ fn write_chain<S: PageStore>(
     entries: &[Entry],
 ) -> Result<(), StoreFault>
     requires some { 1 ≤ length entries.now }
-    requires few { length entries.now < 4294967296 }
+    requires few { length entries.now < 2 ^ 32 }
     requires levels { length chain.now ≡ levels_for (length entries.now) }
     ensures chain { (numbers : List ℕ) → IsHonest pager.old.store → AreOwn (page_count pager.old.store) chain.now numbers → OnOk result (IsChain pager.new.store.pages chain.now entries.now) }
     ensures kept { KeepsBut chain.now pager.old.store pager.new.store }
@@ -170,7 +171,7 @@ fn write_chain<S: PageStore>(
 // The entries of the directory's page at a place.
 fn part_of(entries: &[Entry], i: usize) -> &[Entry]
     requires some { 170 * i ≤ length entries.now }
-    requires few { length entries.now < 4294967296 }
+    requires few { length entries.now < 2 ^ 32 }
     ensures part { result.now ≡ take 170 (drop (170 * i) entries.now) }
     ensures few { length result.now ≤ 170 }
 {
