@@ -1,4 +1,4 @@
-ghost use Rattle.std.specs.Prelude.{ℕ, List, ◌≡◌, ◌⊎◌, ◌+◌, ◌*◌, ◌^◌, ◌<◌, ◌≤◌, [], ◌∷◌, false, length, take, drop, map, slice_get, Some, IsTrue, IsErr, IfOk, IfErr, OnOk, OnErr, IsErrOf};
+ghost use Rattle.std.specs.Prelude.{ℕ, List, ◌≡◌, ◌⊎◌, ◌+◌, ◌-◌, ◌*◌, ◌^◌, ◌<◌, ◌≤◌, [], ◌∷◌, false, length, take, drop, map, slice_get, Some, IsTrue, IsErr, IfOk, IfErr, OnOk, OnErr, IsErrOf};
 ghost use Rattle.std.specs.List.{AllByRecursion};
 ghost use Rattle.ub_page.specs.Header.{header_page};
 ghost use Rattle.ub_page.specs.Name.{IsName};
@@ -27,6 +27,8 @@ impl<S: PageStore> Tree<S> {
         ensures unchanged { self.is_changed ≡ false → IfOk result (λ s. S.facts s ≡ self.store) × IfErr result (λ r. S.facts r.store ≡ self.store) }
         ensures failed { IsTrue self.is_failed → IsErr result × IfErr result (λ r. (r.fault ≡ TreeFault.Failed) × (S.facts r.store ≡ self.store)) }
         ensures first { IsSound self → IfErr result (λ r. IsUnclosed (map (λ p. p.page) self.placed) (map entry_of self.placed) self.store (S.facts r.store)) }
+        ensures honest { IfOk result (λ s. (S.facts s).honest ≡ self.store.honest) × IfErr result (λ r. (S.facts r.store).honest ≡ self.store.honest) }
+        ensures pages { IsTrue self.is_changed → IfOk result (λ s. page_count (S.facts s) ≡ page_count self.store + (levels_for (length self.placed) + 1 - length self.reserved)) }
         ensures refused { IfErr result (λ r. IsCloseFault self (S.facts r.store) r.fault) }
     {
         if self.is_failed {
@@ -72,6 +74,7 @@ fn write_table<S: PageStore>(
     requires last_next { next ≤ 16777216 }
     ensures closed { (numbers : List ℕ) → IsHonest pager.old.store → AreOwn (page_count pager.old.store) chain.items numbers → OnOk result (IsClosed schema next rows numbers entries.now pager.old.store pager.new.store) }
     ensures left { (numbers : List ℕ) → IsHonest pager.old.store → AreOwn (page_count pager.old.store) chain.items numbers → OnErr result (IsUnclosed numbers entries.now pager.old.store pager.new.store) }
+    ensures pages { OnOk result (page_count pager.new.store ≡ page_count pager.old.store + (levels_for (length entries.now) - length chain.items)) }
     ensures honest { pager.new.store.honest ≡ pager.old.store.honest }
     ensures refused { IfErr result (IsSaveFault chain.items pager.old.store pager.new.store) }
 {
@@ -104,6 +107,7 @@ fn write_places<S: PageStore>(
     ensures small { IfOk result (λ root. root < 2 ^ 32) }
     ensures kept { (numbers : List ℕ) → IsHonest pager.old.store → AreOwn (page_count pager.old.store) chain.items numbers → AreKept (0 ∷ numbers) pager.old.store pager.new.store }
     ensures more { page_count pager.old.store ≤ page_count pager.new.store }
+    ensures pages { OnOk result (page_count pager.new.store ≡ page_count pager.old.store + (levels_for (length entries.now) - length chain.items)) }
     ensures honest { pager.new.store.honest ≡ pager.old.store.honest }
     ensures failures { pager.old.store.failures ≤ pager.new.store.failures }
     ensures refused { IfErr result (IsSaveFault chain.items pager.old.store pager.new.store) }
@@ -130,6 +134,7 @@ fn grow_chain<S: PageStore>(
 ) -> Result<(), TreeFault>
     ensures own { (numbers : List ℕ) → AreOwn (page_count pager.old.store) chain.old.items numbers → OnOk result (AreOwn (page_count pager.new.store) chain.new.items numbers) }
     ensures levels { OnOk result (length chain.new.items ≡ levels) }
+    ensures pages { OnOk result (page_count pager.new.store ≡ page_count pager.old.store + (levels - length chain.old.items)) }
     ensures grows { Grows pager.old.store pager.new.store }
     ensures refused { IfErr result (IsSaveFault chain.old.items pager.old.store pager.new.store) }
 {

@@ -11,6 +11,8 @@ loop-pager-init g c =
     rw items (record {
       within = omega (arith, length-take c.args.levels c.args.chain.now.items);
       own = λ numbers own. own_cut (page_count c.args.pager.now.store) c.args.levels c.args.chain.now.items numbers own;
+      least = omega (arith, length-take c.args.levels c.args.chain.now.items);
+      pages = omega (arith, length-take c.args.levels c.args.chain.now.items);
       grows = grows_same c.args.pager.now.store;
     })
 
@@ -34,5 +36,7 @@ loop-pager-preserved g c =
     record {
       within = (let more = c.loop-pager-test.true in omega arith);
       own = λ numbers own. rw (items, c.in_ok-n.ensures.number, added.count) (own_push (page_count b) c.loop-pager.chain.items numbers (inv.own numbers own));
+      least = (let least = inv.least in omega arith);
+      pages = (let more = c.loop-pager-test.true in let least = inv.least in let pages = inv.pages in let count = added.count in omega arith);
       grows = grows_by zero_page a b d inv.grows added;
     }

@@ -1,4 +1,4 @@
-use Rattle.std.proofs.Common.{◌≤◌, ◌-◌, ℕ, List, length}
+use Rattle.std.proofs.Common.{◌≡◌, ◌≤◌, ◌+◌, ◌-◌, min, ℕ, List, length}
 use Rattle.ub_store.specs.Facts.{page_count}
 use Rattle.ub_tree.specs.Closing.{AreOwn, Grows}
 use Rattle.ub_tree.proofs.closing.grow_chain.Given as goal
@@ -7,6 +7,8 @@ abbrev pub invariant-loop-pager : goal.invariant-loop-pager
 invariant-loop-pager g l = record {
   within : length l.chain.items ≤ l.levels;
   own : (numbers : List ℕ) → AreOwn (page_count l.fn.pager.store) l.fn.chain.items numbers → AreOwn (page_count l.pager.store) l.chain.items numbers;
+  least : min l.levels (length l.fn.chain.items) ≤ length l.chain.items;
+  pages : page_count l.pager.store ≡ page_count l.fn.pager.store + (length l.chain.items - length l.fn.chain.items);
   grows : Grows l.fn.pager.store l.pager.store;
 }
 
