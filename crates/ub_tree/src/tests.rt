@@ -1,7 +1,7 @@
 use crate::{Region, Tree, TreeFault};
 use std::test::Fail;
-use ub_page::{Name, Schema};
-use ub_store::{MemStore, PageStore};
+use ub_page::{Entry, Header, Name, PageFault, Schema, read_directory, read_header};
+use ub_store::{FaultyStore, MemStore, PageStore, StoreFault};
 
 type MemTree = Tree<MemStore>;
 
@@ -71,4 +71,71 @@ fn notes_region_pages(rt: HostRuntime) -> Result<(), Fail> {
         )
     );
     Ok(())
+}
+
+fn closed(tree: MemTree) -> Result<MemStore, Fail> {
+    match tree.close() {
+        Ok(store) => Ok(store),
+        Err(refused) => Err(refused.fault.into()),
+    }
+}
+
+fn header_in<S: PageStore>(store: &mut S) -> Result<Header, Fail> {
+    Ok(read_header(&store.read_page(0)?)?)
+}
+
+// Next, rows, regions, root and levels.
+fn counts(header: &Header) -> (u32, u32, u32, u32, u32) {
+    (
+        header.next,
+        header.rows,
+        header.regions,
+        header.root,
+        header.levels,
+    )
+}
+
+fn first_key(entry: &Entry) -> (u128, u32) {
+    (entry.first.z, entry.first.number)
+}
+
+#[test]
+fn closes_an_empty_table(rt: HostRuntime) -> Result<(), Fail> {
+    let mut store = closed(empty(&rt)?)?;
+    let header = header_in(&mut store)?;
+    assert_eq!(rt; counts(&header), (1, 0, 1, 2, 1));
+    Ok(())
+}
+
+#[test]
+fn closes_a_table(rt: HostRuntime) -> Result<(), Fail> {
+    let mut store = closed(table_s(&rt)?)?;
+    let header = header_in(&mut store)?;
+    assert_eq!(rt; counts(&header), (6, 5, 3, 2, 1));
+    let directory = read_directory(&plane()?, &store.read_page(header.root)?)?;
+    let keys = [(0, 0), (10, 0), (13, 0)];
+    assert_eq!(rt; directory.entries().len(), keys.len());
+    for (entry, key) in directory.entries().iter().zip(&keys) {
+        assert_eq!(rt; first_key(entry), *key);
+    }
+    Ok(())
+}
+
+// Creation makes five calls of its store, so the sixth is the first of the closing.
+#[test]
+fn stays_unclean_where_closing_fails(rt: HostRuntime) -> Result<(), Fail> {
+    let store = FaultyStore::new(MemStore::new(rt.alloc()), 6);
+    let tree = match Tree::create(rt.alloc(), store, &plane()?) {
+        Ok(tree) => tree,
+        Err(refused) => return Err(refused.fault.into()),
+    };
+    match tree.close() {
+        Ok(_) => Err("closed".into()),
+        Err(refused) => {
+            let mut store = refused.store;
+            assert!(rt; refused.fault == TreeFault::Store(StoreFault::Device));
+            assert!(rt; read_header(&store.read_page(0)?).err() == Some(PageFault::Unclean));
+            Ok(())
+        }
+    }
 }
