@@ -86,7 +86,7 @@ own_push count chain numbers h =
     record {
       own = subst (IsDistinct nat_eq) moved (distinct_with count (0 ∷ chain) numbers h.within h.own);
       within = subst (AllByRecursion (λ m. m < count + 1)) moved
-      (all_with (λ m. m < count + 1) count (0 ∷ chain) numbers (omega arith) (all_more (λ m. m < count) (λ m. m < count + 1) (λ m lt. omega arith) ((0 ∷ chain) ++ numbers) h.within));
+          (all_with (λ m. m < count + 1) count (0 ∷ chain) numbers (omega arith) (all_more (λ m. m < count) (λ m. m < count + 1) (λ m lt. omega arith) ((0 ∷ chain) ++ numbers) h.within));
     }
 
 pub own_chain : (count : ℕ) (chain numbers : List ℕ) → AreOwn count chain numbers → IsDistinct nat_eq chain
@@ -390,7 +390,7 @@ module _ (schema : Schema) (entries : List Entry) (chain : List ℕ) (next rows 
       let done = closed numbers_in sound.honest own in (
         honest ∙ sound.honest,
         closed_pages schema tree.placed chain next rows pager.store new sound.placed_are sound.regions_are sound.rows_are
-        (subst (λ (es : List Entry). IsClosed schema next rows numbers_in es pager.store new) (sym (entries_back schema (known_pages pager.store) entries)) done),
+            (subst (λ (es : List Entry). IsClosed schema next rows numbers_in es pager.store new) (sym (entries_back schema (known_pages pager.store) entries)) done),
       )
 
   pub sound_unclosed : (new : StoreFacts)

@@ -1,4 +1,4 @@
-use Rattle.std.proofs.Common.{◌≡◌, ◌∙◌, ap, ℕ, List, take}
+use Rattle.std.proofs.Common.{◌∙◌, ap, ℕ, List, take}
 use Rattle.std.proofs.lemmas.List.{take_min}
 use Rattle.ub_page.specs.declared.directory.Entry.{Entry}
 use Rattle.ub_tree.proofs.closing.part_of.Goals as goal

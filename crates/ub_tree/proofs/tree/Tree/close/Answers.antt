@@ -1,7 +1,3 @@
-use Rattle.std.proofs.Common.{◌≡◌, ◌∙◌, sym, ap, subst, ℕ, List}
-use Rattle.ub_page.specs.declared.directory.Entry.{Entry}
-use Rattle.ub_store.specs.Facts.{StoreFacts, IsHonest, page_count}
-use Rattle.ub_tree.specs.Closing.{AreOwn, IsClosed, IsUnclosed}
 use Rattle.ub_tree.proofs.CloseFacts.{sound_pages, sound_unclosed, close_refused}
 use Rattle.ub_tree.proofs.tree.Tree.close.Goals as goal
 
