@@ -19,3 +19,4 @@ pub mod RemoveFacts
 pub mod CoverFacts
 pub mod TableFacts
 pub mod EntryFacts
+pub mod OpenFacts

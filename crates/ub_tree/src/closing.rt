@@ -59,8 +59,8 @@ impl<S: PageStore> Tree<S> {
     }
 }
 
-// A pager over the store, with the cache of a tree.
-fn pager_over<S: PageStore>(alloc: Global, store: S) -> Result<Pager<S>, Rejected<S, TreeFault>>
+/// A pager over the store, with the cache of a tree.
+pub fn pager_over<S: PageStore>(alloc: Global, store: S) -> Result<Pager<S>, Rejected<S, TreeFault>>
     ensures made { IfOk result (λ pager. pager ≡ pager_view (S.facts store) [] 0) }
     ensures refused { IfErr result (λ refused. (refused.store ≡ store) × (refused.fault ≡ TreeFault.Memory)) }
 {

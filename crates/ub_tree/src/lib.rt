@@ -10,6 +10,7 @@ mod change;
 mod closing;
 pub mod fault;
 mod keys;
+mod opening;
 mod places;
 mod reading;
 pub mod region;
