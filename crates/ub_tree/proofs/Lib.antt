@@ -20,3 +20,4 @@ pub mod CoverFacts
 pub mod TableFacts
 pub mod EntryFacts
 pub mod OpenFacts
+pub mod OpenedFacts

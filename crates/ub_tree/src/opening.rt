@@ -1,4 +1,4 @@
-ghost use Rattle.std.specs.Prelude.{◌≡◌, ◌<◌, ◌≤◌, ◌+◌, ◌-◌, ◌↔◌, ◌⊎◌, ◌++◌, ℕ, false, length, IsTrue, IfOk, IfErr, OnOk, OnErr};
+ghost use Rattle.std.specs.Prelude.{◌≡◌, ◌<◌, ◌≤◌, ◌+◌, ◌-◌, ◌↔◌, ◌⊎◌, ◌++◌, ℕ, List, false, length, IsTrue, IfOk, IfErr, OnOk, OnErr};
 ghost use Rattle.ub_zaddr.specs.Address.{last_address};
 ghost use Rattle.ub_page.specs.Directory.{AreAscending, IsListing, directory_page};
 ghost use Rattle.ub_page.specs.Header.{IsHeader, header_page};
@@ -17,8 +17,8 @@ use crate::places::Places;
 use crate::tree::Tree;
 use std::alloc::Global;
 use ub_page::directory::MAX_ENTRIES;
-use ub_page::{Directory, Entry, Header, Key, Page, PageFault, read_directory, read_header};
-use ub_store::{PageStore, Pager, Rejected};
+use ub_page::{Directory, Entry, Header, Key, Page, PageFault, Schema, read_directory, read_header};
+use ub_store::{PageStore, Pager, Rejected, StoreFault};
 use ub_zaddr::last;
 
 // The least key of all.
@@ -43,24 +43,35 @@ impl<S: PageStore> Tree<S> {
     /// that the store does not have, Store with Device where the store failed in this call, Memory where memory was refused.
     pub fn open(alloc: Global, store: S) -> Result<Tree<S>, Rejected<S, TreeFault>>
         ensures opened { IfOk result (IsOpened (S.facts store)) }
+        ensures exact { (header : Header) (chain : List ℕ) (entries : List Entry) → IsHonest (S.facts store) → IsDirectory (S.facts store).pages header chain entries
+            → IfErr result (λ refused. (refused.fault ≡ TreeFault.Memory) ⊎ (refused.fault ≡ TreeFault.Store StoreFault.Device)) }
+        ensures sound { (schema : Schema) (placed : List Placed) (next : ℕ) → IsHonest (S.facts store) → AreSoundPages (S.facts store).pages schema placed next
+            → IfOk result (λ t. IsSound t × (t.schema ≡ schema) × (t.placed ≡ placed) × (t.next ≡ next)) }
         ensures kept { IfErr result (λ refused. facts.Keeps (S.facts store) (S.facts refused.store)) }
         ensures refused { IfErr result (λ refused. IsOpenFault (S.facts store) (S.facts refused.store) refused.fault) }
     {
+        // Its contract tells the proof how many pages there can be.
+        let _pages = store.pages();
         let mut pager = match pager_over(alloc, store) {
             Ok(pager) => pager,
             Err(refused) => return Err(refused),
         };
         match read_table(alloc, &mut pager) {
-            Ok((header, places, chain)) => Ok(Tree {
-                schema: header.schema,
-                places,
-                chain,
-                next: header.next,
-                rows: header.rows,
-                is_changed: false,
-                is_failed: false,
-                pager,
-            }),
+            Ok((header, places, chain)) => {
+                let Header {
+                    schema, next, rows, ..
+                } = header;
+                Ok(Tree {
+                    schema,
+                    places,
+                    chain,
+                    next,
+                    rows,
+                    is_changed: false,
+                    is_failed: false,
+                    pager,
+                })
+            }
             Err(fault) => Err(Rejected {
                 store: pager.into_store(),
                 fault,
@@ -143,10 +154,15 @@ fn read_part<S: PageStore>(
 {
     let number = listed.next;
     let page = pager.fetch(number)?;
-    let part = part_on(header, &listed.entries, &page).map_err(|fault| TreeFault::Page {
-        page: number,
-        fault,
-    })?;
+    let part = match part_on(header, &listed.entries, &page) {
+        Ok(part) => part,
+        Err(fault) => {
+            return Err(TreeFault::Page {
+                page: number,
+                fault,
+            });
+        }
+    };
     listed.chain.push(number).map_err(|_| TreeFault::Memory)?;
     listed.entries.extend_from_slice(part.entries())?;
     listed.next = part.next();
