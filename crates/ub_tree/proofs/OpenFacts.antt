@@ -245,21 +245,21 @@ module _ (old : StoreFacts) (header : Header) (chain : List ℕ) (entries : List
         regions_are = omega arith;
         some_chain = omega arith;
         directory = λ is. (
-          let levels = h.in_range.numbers.levels in
-          let full = full_length header.schema.dims old.pages chain entries n (h.full is) in
-          record {
-            spelled = h.spelled is;
-            in_range = h.in_range;
-            clean = h.clean;
-            root_is = h.root_is;
-            levels_are = omega arith;
-            some_pages = all_append (λ n. 1 ≤ n) chain (n ∷ []) (full_some header.schema.dims old.pages chain entries n (h.full is)) (h.some_page, tt);
-            directory = chain_whole header.schema.dims old.pages chain entries n part (h.full is) (spells is) end;
-            regions_are = omega arith;
-            each = each_is;
-            places = places;
-          }
-        );
+            let levels = h.in_range.numbers.levels in
+            let full = full_length header.schema.dims old.pages chain entries n (h.full is) in
+            record {
+              spelled = h.spelled is;
+              in_range = h.in_range;
+              clean = h.clean;
+              root_is = h.root_is;
+              levels_are = omega arith;
+              some_pages = all_append (λ n. 1 ≤ n) chain (n ∷ []) (full_some header.schema.dims old.pages chain entries n (h.full is)) (h.some_page, tt);
+              directory = chain_whole header.schema.dims old.pages chain entries n part (h.full is) (spells is) end;
+              regions_are = omega arith;
+              each = each_is;
+              places = places;
+            }
+            );
       }
 
   module _ (chain_now : List ℕ) (entries_now : List Entry) (next : ℕ) (chain_is : chain_now ≡ chain ++ n ∷ []) (entries_are : entries_now ≡ entries ++ part.entries) where
@@ -271,4 +271,3 @@ module _ (old : StoreFacts) (header : Header) (chain : List ℕ) (entries : List
 
     pub part_read_last : header.regions ≤ length entries + 170 → IsReadWhole old header chain_now entries_now
     part_read_last last = rw (chain_is, entries_are) (part_whole last)
-

@@ -235,7 +235,7 @@ module _ (dims : ℕ) (few : dims ≤ 4) (pages : List (List ℕ)) where
         rest = on.rest;
         more = on.more;
         entries_are = sym (take-append-drop 170 all) ∙ ap (λ (es : List Entry). es ++ drop 170 all) (sym front) ∙ ap (λ (es : List Entry). take 170 entries ++ es) on.entries_are
-          ∙ sym (append_assoc (take 170 entries) (drop 170 entries) on.more) ∙ ap (λ (es : List Entry). es ++ on.more) (take-append-drop 170 entries);
+            ∙ sym (append_assoc (take 170 entries) (drop 170 entries) on.more) ∙ ap (λ (es : List Entry). es ++ on.more) (take-append-drop 170 entries);
         listed = on.listed;
       }
 
@@ -374,7 +374,7 @@ module _ (pages : List (List ℕ)) (small : length pages < 2 ^ 32) (schema : Sch
   entries_places = (
     ap (λ (ks : List Key). slice_get ks 0) (sym (firsts_same placed)) ∙ s.well_formed.begins,
     All-from_recursion (λ e. e.first.z ≤ last_address schema.dims) (map entry_of placed)
-    (all_more (IsEntry (last_address schema.dims)) (λ e. e.first.z ≤ last_address schema.dims) (λ e h. h.z) (map entry_of placed) entries_are),
+        (all_more (IsEntry (last_address schema.dims)) (λ e. e.first.z ≤ last_address schema.dims) (λ e h. h.z) (map entry_of placed) entries_are),
     ap are_ascending (sym (firsts_same placed)) ∙ are_ascending_of (firsts_of (regions_in placed)) s.well_formed.ascending,
   )
 

@@ -18,8 +18,8 @@ use ub_zaddr::{Shape, last};
 // How many pages the cache of a tree holds.
 const CACHE_PAGES: usize = 64;
 
-// Where the first region of all begins.
-const ORIGIN: Key = Key { z: 0, number: 0 };
+/// Where the first region of all begins.
+pub const ORIGIN: Key = Key { z: 0, number: 0 };
 
 impl<S: PageStore> Tree<S> {
     /// A tree of this schema with no rows, over a store that has no pages. It takes three: the header, marked unclean, the

@@ -10,19 +10,16 @@ ghost use Rattle.ub_tree.specs.Placed.{Placed};
 ghost use Rattle.ub_tree.specs.Stored.{AreSoundPages};
 ghost use Rattle.ub_tree.specs.View.{IsSound};
 
-use crate::closing::{pager_over, shape_of};
+use crate::closing::{ORIGIN, pager_over, shape_of};
 use crate::fault::TreeFault;
 use crate::keys::{is_before, is_equal};
 use crate::places::Places;
 use crate::tree::Tree;
 use std::alloc::Global;
 use ub_page::directory::MAX_ENTRIES;
-use ub_page::{Directory, Entry, Header, Key, Page, PageFault, Schema, read_directory, read_header};
+use ub_page::{Directory, Entry, Header, Page, PageFault, Schema, read_directory, read_header};
 use ub_store::{PageStore, Pager, Rejected, StoreFault};
 use ub_zaddr::last;
-
-// The least key of all.
-const ORIGIN: Key = Key { z: 0, number: 0 };
 
 // What was read of a directory: its regions, its pages, and the page that the last of these names.
 #[derive(Drop)]
@@ -59,7 +56,10 @@ impl<S: PageStore> Tree<S> {
         match read_table(alloc, &mut pager) {
             Ok((header, places, chain)) => {
                 let Header {
-                    schema, next, rows, ..
+                    schema,
+                    next,
+                    rows,
+                    ..
                 } = header;
                 Ok(Tree {
                     schema,
