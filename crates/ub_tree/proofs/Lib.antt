@@ -20,3 +20,5 @@ pub mod CoverFacts
 pub mod TableFacts
 pub mod EntryFacts
 pub mod CloseFacts
+pub mod OpenFacts
+pub mod OpenedFacts

@@ -49,7 +49,7 @@ spelled_kept schema pages new (e ∷ es) kept spelled = (kept.0 ∙ spelled.0, s
 abbrev pub IsTold : Schema → List (List ℕ) → Placed → Type 0
 IsTold schema pages p = IsSpelled schema pages p × (region_on schema (region_page schema p.region) ≡ p.region)
 
-placed_told : (schema : Schema) (pages : List (List ℕ)) (news : List Placed) → AllByRecursion (IsTold schema pages) news → placed_of schema pages (map entry_of news) ≡ news
+pub placed_told : (schema : Schema) (pages : List (List ℕ)) (news : List Placed) → AllByRecursion (IsTold schema pages) news → placed_of schema pages (map entry_of news) ≡ news
 placed_told schema pages [] told = refl
 placed_told schema pages (p ∷ news) told =
     let page : slice_index_or pages p.page [] ≡ region_page schema p.region = get_or_from_slice_get pages p.page (region_page schema p.region) [] told.0.0 in

@@ -10,3 +10,4 @@ pub mod Faults
 pub mod Tree
 pub mod Change
 pub mod Closing
+pub mod Opened

@@ -18,8 +18,8 @@ use ub_zaddr::{Shape, last};
 // How many pages the cache of a tree holds.
 const CACHE_PAGES: usize = 64;
 
-// Where the first region of all begins.
-const ORIGIN: Key = Key { z: 0, number: 0 };
+/// Where the first region of all begins.
+pub const ORIGIN: Key = Key { z: 0, number: 0 };
 
 impl<S: PageStore> Tree<S> {
     /// A tree of this schema with no rows, over a store that has no pages. It takes three: the header, marked unclean, the
@@ -59,8 +59,8 @@ impl<S: PageStore> Tree<S> {
     }
 }
 
-// A pager over the store, with the cache of a tree.
-fn pager_over<S: PageStore>(alloc: Global, store: S) -> Result<Pager<S>, Rejected<S, TreeFault>>
+/// A pager over the store, with the cache of a tree.
+pub fn pager_over<S: PageStore>(alloc: Global, store: S) -> Result<Pager<S>, Rejected<S, TreeFault>>
     ensures made { IfOk result (λ pager. pager ≡ pager_view (S.facts store) [] 0) }
     ensures refused { IfErr result (λ refused. (refused.store ≡ store) × (refused.fault ≡ TreeFault.Memory)) }
 {

@@ -11,6 +11,9 @@ mod closing;
 mod creation;
 pub mod fault;
 mod keys;
+mod opening;
+#[cfg(test)]
+mod opening_tests;
 mod places;
 mod reading;
 pub mod region;

@@ -3,10 +3,10 @@ use std::test::Fail;
 use ub_page::{Entry, Header, Name, PageFault, Schema, read_directory, read_header};
 use ub_store::{FaultyStore, MemStore, PageStore, StoreFault};
 
-type MemTree = Tree<MemStore>;
+pub type MemTree = Tree<MemStore>;
 
 // Two dimensions, one measure, two rows on a page.
-fn plane() -> Result<Schema, Fail> {
+pub fn plane() -> Result<Schema, Fail> {
     let columns = [Name::new(b"x")?, Name::new(b"y")?, Name::new(b"m")?];
     Ok(Schema::new(Name::new(b"t")?, &columns, 2, 2)?)
 }
@@ -18,7 +18,7 @@ fn empty(rt: &HostRuntime) -> Result<MemTree, Fail> {
     }
 }
 
-fn put<S: PageStore>(tree: &mut Tree<S>, x: u32, y: u32, m: i64) -> Result<u32, Fail> {
+pub fn put<S: PageStore>(tree: &mut Tree<S>, x: u32, y: u32, m: i64) -> Result<u32, Fail> {
     if tree.schema().dims() != 2 || tree.schema().measures() != 1 {
         return Err("another schema".into());
     }
@@ -35,7 +35,7 @@ fn table_s(rt: &HostRuntime) -> Result<MemTree, Fail> {
 }
 
 // The span of the first region whose span ends at z or later, and the numbers of its first and last row.
-fn spans_to(tree: &mut MemTree, z: u128) -> Result<(u128, u128, u32, u32), Fail> {
+pub fn spans_to(tree: &mut MemTree, z: u128) -> Result<(u128, u128, u32, u32), Fail> {
     let region = tree.seek(z, None)?.ok_or("no region")?;
     let page = tree.read_region(&region)?;
     let first = page.rows().first().ok_or("no row")?;

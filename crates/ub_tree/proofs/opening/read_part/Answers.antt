@@ -1,0 +1,29 @@
+use Rattle.std.proofs.Common.{rules, inr}
+use Rattle.ub_tree.proofs.OpenFacts.{fetch_refused, part_read, part_read_last}
+use Rattle.ub_tree.proofs.opening.read_part.Goals as goal
+
+pub returns-in_err-page-clause-refused : goal.returns-in_err-page-clause-refused
+returns-in_err-page-clause-refused g c =
+    fetch_refused c.args.pager.now.store c.fetch.new.self.store c.args.listed.now.next c.from_residual.result c.in_err-page.field-0.0 c.from_residual.ensures.1
+    c.in_err-page.ensures.device c.in_err-page.ensures.missing c.in_err-page.ensures.no_size
+    (inr (c.args.header.now, c.args.listed.now.chain.items, c.args.listed.now.entries.items, c.requires))
+
+pub returns-clause-full : goal.returns-clause-full
+returns-clause-full g c =
+    let was = c.args.listed.now in
+    part_read c.args.pager.now.store c.args.header.now was.chain.items was.entries.items was.next c.in_ok-page.page c.in-Ok.part c.requires c.in_ok-page.ensures.page
+    c.in-Ok.ensures.listing.0 c.in-Ok.ensures.listing.1 (rw (← c.deref.ensures.value) c.in-Ok.ensures.part) (rw (← c.deref.ensures.value) c.in-Ok.ensures.begun)
+    c.push.new.self.items c.extend_from_slice.new.self.items c.next-listed.result (search rules) (search rules)
+    c.fetch.new.self.store c.in_ok-page.ensures.kept c.next-listed.ensures
+
+pub returns-clause-whole : goal.returns-clause-whole
+returns-clause-whole g c =
+    let was = c.args.listed.now in
+    part_read_last c.args.pager.now.store c.args.header.now was.chain.items was.entries.items was.next c.in_ok-page.page c.in-Ok.part c.requires c.in_ok-page.ensures.page
+    c.in-Ok.ensures.listing.0 c.in-Ok.ensures.listing.1 (rw (← c.deref.ensures.value) c.in-Ok.ensures.part) (rw (← c.deref.ensures.value) c.in-Ok.ensures.begun)
+    c.push.new.self.items c.extend_from_slice.new.self.items c.next-listed.result (search rules) (search rules)
+
+pub returns-in-Err-clause-refused : goal.returns-in-Err-clause-refused
+returns-in-Err-clause-refused g c =
+    let was = c.args.listed.now in
+    (c.in_ok-page.page, c.in_ok-page.ensures.page, inr (c.args.header.now, was.chain.items, was.entries.items, c.requires, rw (← c.deref.ensures.value) c.in-Err.ensures.refused))

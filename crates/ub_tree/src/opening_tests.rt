@@ -1,0 +1,212 @@
+// Tables that are opened, from pages written by hand.
+use crate::tests::{MemTree, plane, put, spans_to};
+use crate::{Tree, TreeFault};
+use std::test::Fail;
+use ub_page::{
+    Entry, Header, Key, Page, PageFault, Row, write_directory, write_header, write_region,
+};
+use ub_store::{MemStore, PageStore, StoreFault};
+
+// The header of a table in the plane whose directory begins on page 2.
+fn header(next: u32, rows: u32, regions: u32) -> Result<Header, Fail> {
+    Ok(Header {
+        schema: plane()?,
+        next,
+        rows,
+        regions,
+        root: 2,
+        levels: regions.saturating_add(169) / 170,
+        unclean: false,
+    })
+}
+
+// The page of such a header, of as many rows as a table has that is not opened.
+fn header_page(regions: u32) -> Result<Page, Fail> {
+    Ok(write_header(&header(1, 0, regions)?))
+}
+
+// A region from a key on, with these rows of one measure 0.
+fn region_page(z: u128, rows: &[(u32, [u32; 2])]) -> Result<Page, Fail> {
+    let mut all = [Row {
+        number: 0,
+        dims: [0; 4],
+        measures: [0; 4],
+    }; 2];
+    for (row, (number, point)) in all.iter_mut().zip(rows.iter()) {
+        row.number = *number;
+        row.dims = [point[0], point[1], 0, 0];
+    }
+    let first = Key { z, number: 0 };
+    Ok(write_region(&plane()?, first, &all[..rows.len().min(2)]))
+}
+
+// A page of the directory whose regions begin with so many addresses, from one on.
+fn part(from: u128, count: usize, next: u32) -> Page {
+    let first = Key { z: 0, number: 0 };
+    let mut entries = [Entry { first, page: 1 }; 170];
+    let mut z = from;
+    for entry in entries.iter_mut() {
+        entry.first.z = z;
+        z = z.wrapping_add(1);
+    }
+    write_directory(&entries[..count.min(170)], next)
+}
+
+fn stored(rt: &HostRuntime, pages: &[Page]) -> Result<MemStore, Fail> {
+    let mut store = MemStore::new(rt.alloc());
+    for page in pages {
+        let n = store.extend()?;
+        store.write_page(n, page)?;
+    }
+    Ok(store)
+}
+
+fn opened(rt: &HostRuntime, pages: &[Page]) -> Result<MemTree, Fail> {
+    match Tree::open(rt.alloc(), stored(rt, pages)?) {
+        Ok(tree) => Ok(tree),
+        Err(refused) => Err(refused.fault.into()),
+    }
+}
+
+// Why a store with these pages isn't opened.
+fn refusal(rt: &HostRuntime, pages: &[Page]) -> Result<Option<TreeFault>, Fail> {
+    match Tree::open(rt.alloc(), stored(rt, pages)?) {
+        Ok(_) => Ok(None),
+        Err(refused) => Ok(Some(refused.fault)),
+    }
+}
+
+fn page_fault(page: u32, fault: PageFault) -> Option<TreeFault> {
+    Some(TreeFault::Page { page, fault })
+}
+
+// The table of `table_s`, its regions on the pages 1, 3 and 4.
+#[test]
+fn opens_a_closed_table(rt: HostRuntime) -> Result<(), Fail> {
+    let entries = [(0, 1), (10, 3), (13, 4)].map(|(z, page)| Entry {
+        first: Key { z, number: 0 },
+        page,
+    });
+    let pages = [
+        write_header(&header(6, 5, 3)?),
+        region_page(0, &[(1, [1, 1]), (4, [0, 2])])?,
+        write_directory(&entries, 0),
+        region_page(10, &[(3, [3, 0])])?,
+        region_page(13, &[(2, [2, 3]), (5, [2, 3])])?,
+    ];
+    let mut tree = opened(&rt, &pages)?;
+    let last = u128::from(u64::MAX);
+    assert_eq!(rt; (tree.rows(), tree.regions()), (5, 3));
+    assert!(rt; tree.trace().is_empty());
+    assert_eq!(rt; spans_to(&mut tree, 0)?, (0, 9, 1, 4));
+    assert_eq!(rt; spans_to(&mut tree, 12)?, (10, 12, 3, 3));
+    assert_eq!(rt; spans_to(&mut tree, last)?, (13, last, 2, 5));
+    assert_eq!(rt; put(&mut tree, 1, 1, 0)?, 6);
+    Ok(())
+}
+
+// Why a row isn't put into a tree of the plane.
+fn refused_row(tree: &mut MemTree) -> Option<TreeFault> {
+    if tree.schema().dims() != 2 || tree.schema().measures() != 1 {
+        return None;
+    }
+    tree.insert(&[1, 1], &[0]).err()
+}
+
+#[test]
+fn opens_with_no_number_left(rt: HostRuntime) -> Result<(), Fail> {
+    let header = write_header(&header(16_777_216, 0, 1)?);
+    let pages = [header, region_page(0, &[])?, part(0, 1, 0)];
+    let mut tree = opened(&rt, &pages)?;
+    assert_eq!(rt; refused_row(&mut tree), Some(TreeFault::Full));
+    assert_eq!(rt; (tree.rows(), tree.has_failed()), (0, false));
+    Ok(())
+}
+
+#[test]
+fn opens_two_pages_of_directory(rt: HostRuntime) -> Result<(), Fail> {
+    let pages = [
+        header_page(171)?,
+        [0; 4096],
+        part(0, 170, 3),
+        part(170, 1, 0),
+    ];
+    assert_eq!(rt; opened(&rt, &pages)?.regions(), 171);
+    Ok(())
+}
+
+#[test]
+fn refuses_a_header(rt: HostRuntime) -> Result<(), Fail> {
+    let unclean = Header {
+        unclean: true,
+        ..header(1, 0, 1)?
+    };
+    let pages = [write_header(&unclean), [0; 4096], part(0, 1, 0)];
+    assert_eq!(rt; refusal(&rt, &pages)?, page_fault(0, PageFault::Unclean));
+    assert_eq!(rt;
+        refusal(&rt, &[])?,
+        Some(TreeFault::Store(StoreFault::NoPage))
+    );
+    assert_eq!(rt;
+        refusal(&rt, &pages[1..])?,
+        page_fault(0, PageFault::WrongKind)
+    );
+    Ok(())
+}
+
+// The number of regions that the header counts, the pages 2 and 3 of the directory, and which of them is refused.
+#[test]
+fn refuses_a_directory(rt: HostRuntime) -> Result<(), Fail> {
+    for (regions, first, second, page, fault) in [
+        // It ends early; it goes on; a page is short; the last page has an entry too many.
+        (
+            171,
+            part(0, 170, 0),
+            part(170, 1, 0),
+            2,
+            PageFault::BadCount,
+        ),
+        (1, part(0, 1, 3), part(1, 1, 0), 2, PageFault::BadCount),
+        (
+            171,
+            part(0, 169, 3),
+            part(169, 2, 0),
+            2,
+            PageFault::BadCount,
+        ),
+        (
+            171,
+            part(0, 170, 3),
+            part(170, 2, 0),
+            3,
+            PageFault::BadCount,
+        ),
+        // The first key isn't the least; a page begins with the last key of the one before; a page names itself.
+        (1, part(1, 1, 0), part(1, 1, 0), 2, PageFault::BadOrder),
+        (
+            171,
+            part(0, 170, 3),
+            part(169, 1, 0),
+            3,
+            PageFault::BadOrder,
+        ),
+        (
+            510,
+            part(0, 170, 2),
+            part(170, 1, 0),
+            2,
+            PageFault::BadOrder,
+        ),
+        // A page of another kind.
+        (171, part(0, 170, 3), [0; 4096], 3, PageFault::WrongKind),
+    ] {
+        let pages = [header_page(regions)?, [0; 4096], first, second];
+        assert_eq!(rt; refusal(&rt, &pages)?, page_fault(page, fault));
+    }
+    let pages = [header_page(171)?, [0; 4096], part(0, 170, 4)];
+    assert_eq!(rt;
+        refusal(&rt, &pages)?,
+        Some(TreeFault::Store(StoreFault::NoPage))
+    );
+    Ok(())
+}
