@@ -9,3 +9,4 @@ pub mod Calls
 pub mod Faults
 pub mod Tree
 pub mod Change
+pub mod Removal

@@ -13,6 +13,7 @@ mod keys;
 mod places;
 mod reading;
 pub mod region;
+mod removal;
 mod rows;
 #[cfg(test)]
 mod tests;
