@@ -1,4 +1,4 @@
-use Rattle.std.proofs.Common.{◌≡◌, ◌≢◌, ◌<◌, ◌-◌, ◌∙◌, ap, sym, arith, length, not, Some, slice_get, true, false}
+use Rattle.std.proofs.Common.{◌≡◌, ◌≢◌, ◌<◌, ◌-◌, ◌∙◌, ap, sym, refl, arith, length, Some, slice_get}
 use Rattle.ub_tree.specs.View.{TreeView, regions}
 use Rattle.ub_tree.proofs.GrowFacts.{some_at}
 use Rattle.ub_tree.proofs.TreeFacts.{region_get}
@@ -17,4 +17,7 @@ returns-clause-joined g c = λ honest.
     let rows_a = ap (λ (v : TreeView). v.schema.page_rows) (c.self.view_is ∙ c.in_ok-before.ensures.same) in
     let join = join_one a.schema.page_rows c.args.place c.args.rows.now c.if-fit.rows c.join-fit.result before.0.region (regions a) some (region_get a.placed (c.args.place - 1) before.0 before.1) (omega arith)
     (rw (← read, ← rows_a, ← c.page_rows.ensures.page_rows) c.join-fit.ensures.fit) in
-    ?
+    join (elim c.if-fit.branch [
+      | then-fit w ↦ rw (← read) (w.rows-is ∙ c.join-fit.ensures.rows ∙ rw w.if-fit refl)
+      | else-fit w ↦ rw w.if-fit w.rows-is
+    ])
