@@ -1,3 +1,4 @@
 pub mod Field
 pub mod Refusals
 pub mod LoadedTable
+pub mod LoadedTree

@@ -68,12 +68,8 @@ tree_entry_known schema entries chain next rows changed failed pager place e up 
 pub write_refused : {U : Type 0} (fault : StoreFault) (old new : TreeView) → (fault ≡ store.Device) ⊎ (fault ≡ store.NoPage)
     → (IsErrOf {T = U} (Err fault) store.Device → Failed old.store new.store) → (IsErrOf {T = U} (Err fault) store.NoPage → ¬ (IsSound old)) → HasGivenUp old new
     → IsChangeFault old new (Store fault)
-write_refused store.Device old new faults device missing given_up = (device refl, inl given_up)
-write_refused store.NoPage old new faults device missing failed = missing refl
-write_refused store.Memory old new (inl e) device missing failed = cc
-write_refused store.Memory old new (inr e) device missing failed = cc
-write_refused store.BadSize old new (inl e) device missing failed = cc
-write_refused store.BadSize old new (inr e) device missing failed = cc
+write_refused fault old new (inl e) device missing given_up = rw e (device (rw e refl), inl given_up)
+write_refused fault old new (inr e) device missing given_up = rw e (missing (rw e refl))
 
 pub page_refused_by : {T : Type 0} (r : Result T TreeFault) (e : TreeFault) (number : ℕ) (old new : TreeView) → IsErrAnd r (λ x. x ≡ e)
     → (of_page : PageFault) × (e ≡ Page number of_page) → ¬ (IsSound old) → IfErr r (IsReadFault old new)

@@ -1,20 +1,24 @@
 -- What a tree's pages are after a change.
 use Rattle.std.proofs.Common.{◌≡◌, ◌≢◌, ◌<◌, ◌≤◌, ◌+◌, ◌^◌, ◌⊎◌, inl, inr, ℕ, zero, suc, Bool, true, false, List, [], ◌∷◌, ◌++◌, Some, Err, length, map, drop, nat_eq, ◌∙◌, sym, ap, subst, refl, arith, slice_get}
 use Rattle.std.proofs.lemmas.Bool.{eq-eqb}
+use Rattle.std.proofs.lemmas.List.Edits.{length-insert, length-remove}
 use Rattle.std.proofs.lemmas.Map.Keys.{IsDistinct-head}
 use Rattle.std.proofs.lemmas.Option.{slice_get_within}
-use Rattle.std.specs.List.{AllByRecursion, IsDistinct, insert}
+use Rattle.std.specs.List.{AllByRecursion, IsDistinct, insert, remove}
 use Rattle.std.specs.Result.{IsErrOf}
+use Rattle.std.proofs.Common.{Ok, IfErr, Result}
 use Rattle.ub_page.specs.Region.{Region, IsRegion, region_on, region_page}
 use Rattle.ub_page.specs.declared.directory.Entry.{Entry}
 use Rattle.ub_page.specs.declared.row.Key.{Key}
 use Rattle.ub_page.specs.declared.row.Row.{Row}
 use Rattle.ub_page.specs.declared.schema.Schema.{Schema}
-use Rattle.ub_store.specs.Facts.{StoreFacts, IsHonest, Failed, Keeps, Appends, MayAppend}
+use Rattle.ub_tree.specs.declared.fault.TreeFault.{TreeFault}
+use Rattle.ub_tree.specs.declared.fault.TreeFault.TheVariants.{Full, Page, Store, Failed as HasFailed, Memory}
+use Rattle.ub_store.specs.Facts.{StoreFacts, IsHonest, Rose, Failed, Keeps, Appends, MayAppend}
 use Rattle.ub_store.specs.View.{PagerView}
 use Rattle.ub_store.specs.declared.fault.StoreFault.{StoreFault}
 use Rattle.ub_store.specs.declared.fault.StoreFault.TheVariants as store
-use Rattle.ub_tree.specs.Change.{IsStored, IsFresh, Leaves, IsChangeFault, Puts, PutsTwo, placed_with}
+use Rattle.ub_tree.specs.Change.{HasGivenUp, IsStored, IsFresh, Leaves, IsChangeFault, Puts, PutsTwo, placed_with}
 use Rattle.ub_tree.specs.Faults.{tree_fault}
 use Rattle.ub_tree.specs.Regions.{AreRegions, rows_of}
 use Rattle.ub_tree.specs.Tree.{known_pages, tree_view}
@@ -24,7 +28,7 @@ use Rattle.ub_tree.specs.View.{TreeView, IsSound}
 use Rattle.ub_tree.proofs.CallFacts.{known_is}
 use Rattle.ub_tree.proofs.KeyLists.{all_right}
 use Rattle.ub_tree.proofs.StoredFacts.{IsTold, numbers_of, rewritten_pages, split_pages, extended_pages, fresh_number}
-use Rattle.ub_tree.proofs.TreeFacts.{placed_at, placed_get}
+use Rattle.ub_tree.proofs.TreeFacts.{length-placed, placed_at, placed_get}
 
 pub stored_of : (t : TreeView) → IsSound t → IsStored t
 stored_of t sound = record { working = sound.working; honest = sound.honest; placed_are = sound.placed_are }
@@ -258,3 +262,51 @@ pub halves_missing : (t : TreeView) (count n page : ℕ) (found : List ℕ) → 
 halves_missing t count n page found sound is there at (inl none) = omega arith
 halves_missing t count n page found sound is there at (inr (inl past)) = omega arith
 halves_missing t count n page found sound is there at (inr (inr past)) = let lt = slice_get_within t.store.pages page found at in omega arith
+
+length-put_and_taken : {X : Type 0} (xs : List X) (i : ℕ) (x : X) → i < length xs → length (remove (insert xs (i + 1) x) (i + 1)) ≡ length xs
+length-put_and_taken xs i x lt =
+    let put = length-insert xs (i + 1) x (omega arith) in
+    let taken = length-remove (insert xs (i + 1) x) (i + 1) (omega arith) in
+    omega arith
+
+-- an entry that was put in was taken out again
+pub given_up_at : (schema : Schema) (entries later : List Entry) (chain : List ℕ) (next rows : ℕ) (changed now_changed failed : Bool) (old new : PagerView) (place : ℕ) (x : Entry) → place < length entries
+    → later ≡ remove (insert entries (place + 1) x) (place + 1)
+    → HasGivenUp (tree_view schema entries chain next rows changed failed old) (tree_view schema later chain next rows now_changed true new)
+given_up_at schema entries later chain next rows changed now_changed failed old new place x lt is = record {
+  failed = refl;
+  schema = refl;
+  regions = length-placed schema (known_pages new.store) later ∙ ap length is ∙ length-put_and_taken entries place x lt ∙ sym (length-placed schema (known_pages old.store) entries);
+  rows = refl;
+}
+
+kept_after : (a b c : TreeView) → Leaves a b → Leaves b c → Leaves a c
+kept_after a b c first second sound =
+    let one = first sound in
+    let two = second one.1 in
+    (record { schema = two.0.schema ∙ one.0.schema; placed = two.0.placed ∙ one.0.placed; rows = two.0.rows ∙ one.0.rows; next = two.0.next ∙ one.0.next }, two.1)
+
+rose_from : (x y z : ℕ) → x ≤ y → Rose y z → Rose x z
+rose_from x y z le (inl lt) = inl (omega arith)
+rose_from x y z le (inr most) = inr most
+
+change_past : (a b c : TreeView) (fault : TreeFault) → Leaves a b → b ≡ record a { placed = b.placed; store = b.store } → length b.placed ≡ length a.placed → a.store.failures ≤ b.store.failures
+    → IsChangeFault b c fault → (fault ≡ Store store.Device → HasGivenUp b c) → IsChangeFault a c fault
+change_past a b c Full leaves same count more h given = (sym (ap (λ (t : TreeView). t.next) same) ∙ h.0, kept_after a b c leaves h.1)
+change_past a b c HasFailed leaves same count more h given = (sym (ap (λ (t : TreeView). t.is_failed) same) ∙ h.0, kept_after a b c leaves h.1)
+change_past a b c Memory leaves same count more h given = kept_after a b c leaves h
+change_past a b c (Page page fault) leaves same count more h given = λ sound. h (leaves sound).1
+change_past a b c (Store store.Device) leaves same count more h given =
+    let up = given refl in (
+      rose_from a.store.failures b.store.failures c.store.failures more h.0,
+      inl (record { failed = up.failed; schema = up.schema ∙ ap (λ (t : TreeView). t.schema) same; regions = up.regions ∙ count; rows = up.rows ∙ ap (λ (t : TreeView). t.rows) same }),
+    )
+change_past a b c (Store store.NoPage) leaves same count more h given = λ sound. h (leaves sound).1
+change_past a b c (Store store.BadSize) leaves same count more h given = kept_after a b c leaves h
+change_past a b c (Store store.Memory) leaves same count more h given = h
+
+-- a fault of a change after a page was added
+pub change_after : {T : Type 0} (r : Result T TreeFault) (a b c : TreeView) → Leaves a b → b ≡ record a { placed = b.placed; store = b.store } → length b.placed ≡ length a.placed → a.store.failures ≤ b.store.failures
+    → IfErr r (IsChangeFault b c) → (IsErrOf r (Store store.Device) → HasGivenUp b c) → IfErr r (IsChangeFault a c)
+change_after (Ok x) a b c leaves same count more h given = tt
+change_after (Err e) a b c leaves same count more h given = change_past a b c e leaves same count more h (λ is. given (rw is refl))

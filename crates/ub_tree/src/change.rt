@@ -9,7 +9,7 @@ ghost use Rattle.ub_store.specs.Facts.{page_count, zero_page};
 ghost use Rattle.ub_store.specs.View.{SameTrace};
 ghost use Rattle.ub_tree.specs.Calls.{IsReadFault, Keeps};
 ghost use Rattle.ub_tree.specs.Change as spec;
-ghost use Rattle.ub_tree.specs.Change.{IsStored, Puts, IsElsewhereSame, placed_with, Leaves, IsChangeFault, IsInserted, IsFresh, IsSplitAt, PutsTwo, HasRoom, KeepsUnless, IsMarkedFirst, split_of, regions_with};
+ghost use Rattle.ub_tree.specs.Change.{HasGivenUp, IsStored, Puts, IsElsewhereSame, placed_with, Leaves, IsChangeFault, IsInserted, IsFresh, IsSplitAt, PutsTwo, HasRoom, KeepsUnless, IsMarkedFirst, split_of, regions_with};
 ghost use Rattle.ub_tree.specs.Keys.{is_before_next};
 ghost use Rattle.ub_tree.specs.Rows.{split};
 ghost use Rattle.ub_tree.specs.Spans.{ArePlaces, first_keys};
@@ -138,6 +138,7 @@ impl<S: PageStore> Tree<S> {
         ensures first { IsMarkedFirst self.old self.new }
         ensures trace { KeepsTrace self.old self.new }
         ensures refused { IfErr result (IsChangeFault self.old self.new) }
+        ensures given_up { IsErrOf result (TreeFault.Store StoreFault.Device) → HasGivenUp self.old self.new }
     {
         let mark = self.mark();
         let entry = self.places.entries[place];

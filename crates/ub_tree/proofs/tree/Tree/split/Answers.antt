@@ -5,6 +5,7 @@ use Rattle.ub_tree.specs.Tree.{known_pages}
 use Rattle.ub_tree.specs.Placed.{entry_of}
 use Rattle.ub_tree.specs.View.{TreeView}
 use Rattle.ub_tree.proofs.RoomFacts.{room_moved}
+use Rattle.ub_tree.proofs.WriteFacts.{change_after}
 use Rattle.ub_tree.proofs.TreeFacts.{entries_back}
 use Rattle.ub_tree.proofs.tree.Tree.split.Goals as goal
 
@@ -39,3 +40,8 @@ pub returns-clause-first : goal.returns-clause-first
 returns-clause-first g c = λ honest unmarked m not_first lt.
     let more = c.in_ok-number.ensures.more in
     c.write_halves.ensures.first (c.in_ok-number.ensures.honest ∙ honest) unmarked m not_first (omega arith) ∙ c.in_ok-number.ensures.kept honest refl m not_first lt
+
+pub returns-clause-refused : goal.returns-clause-refused
+returns-clause-refused g c = λ room.
+    change_after c.write_halves.result c.args.self.now c.extend.new.self c.write_halves.new.self c.in_ok-number.ensures.leaves c.in_ok-number.ensures.same c.in_ok-number.ensures.count c.in_ok-number.ensures.failures
+    c.write_halves.ensures.refused c.write_halves.ensures.given_up
