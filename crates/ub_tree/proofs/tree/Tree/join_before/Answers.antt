@@ -18,6 +18,6 @@ returns-clause-joined g c = λ honest.
     let join = join_one a.schema.page_rows c.args.place c.args.rows.now c.if-fit.rows c.join-fit.result before.0.region (regions a) some (region_get a.placed (c.args.place - 1) before.0 before.1) (omega arith)
     (rw (← read, ← rows_a, ← c.page_rows.ensures.page_rows) c.join-fit.ensures.fit) in
     join (elim c.if-fit.branch [
-      | then-fit w ↦ rw (← read) (w.rows-is ∙ c.join-fit.ensures.rows ∙ rw w.if-fit refl)
-      | else-fit w ↦ rw w.if-fit w.rows-is
+      | then-fit w ↦ rw (← read) (w.rows-is ∙ c.join-fit.ensures.rows ∙ rw w.if-fit.true refl)
+      | else-fit w ↦ rw w.if-fit.false w.rows-is
     ])

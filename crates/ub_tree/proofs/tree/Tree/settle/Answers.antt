@@ -16,4 +16,4 @@ returns-clause-written g c =
     let count : c.page_rows.result ≡ a.schema.page_rows = c.page_rows.ensures.page_rows ∙ ap (λ (v : TreeView). v.schema.page_rows) c.self.view_is in
     let few : nat_lt (length c.args.rows.now) (a.schema.page_rows / 2) ≡ true = rw (← count) (sym c.are_few.ensures ∙ c.if-not-are_few.false) in
     settled_alone a c.join_next.new.self c.join_before.new.self c.rewrite-2.new.self c.rewrite-2.result c.args.place c.args.rows.now c.join_next.new.rows c.join_before.new.rows c.requires.place few
-    c.in_ok-join_next.ensures.kept c.in_ok-join_before.ensures.kept ? ? (rw c.as_slice-2.ensures.rows at c.rewrite-2.ensures.written)
+    c.in_ok-join_next.ensures.kept c.in_ok-join_before.ensures.kept (rw c.if-branch.false at c.in_ok-join_next.ensures.joined) (rw c.if-branch-2.false at c.in_ok-join_before.ensures.joined) (rw c.as_slice-2.ensures.rows at c.rewrite-2.ensures.written)
