@@ -1,5 +1,5 @@
 -- A row taken out of a tree.
-use Rattle.std.proofs.Common.{◌≡◌, ◌≢◌, ◌<◌, ◌≤◌, ◌+◌, ◌-◌, ◌/◌, ◌^◌, ◌||◌, inl, inr, ℕ, zero, suc, Bool, true, false, List, [], ◌∷◌, ◌++◌, Some, None, Ok, Err, Result, OnOk, IfErr, length, map, take, drop, nat_le, nat_lt, nat_eq, ◌∙◌, sym, ap, subst, refl, arith, slice_get, if◌then◌else◌, append_assoc, add-one, not}
+use Rattle.std.proofs.Common.{◌≡◌, ◌≢◌, ◌<◌, ◌≤◌, ◌+◌, ◌-◌, ◌/◌, ◌^◌, ◌||◌, inl, inr, ℕ, zero, suc, Bool, true, false, List, [], ◌∷◌, ◌++◌, Some, None, Ok, Err, Result, OnOk, IfErr, length, map, take, drop, nat_le, nat_lt, nat_eq, ◌∙◌, sym, ap, subst, refl, arith, slice_get, if◌then◌else◌, append_assoc, add-one}
 use Rattle.std.proofs.lemmas.Bool.{cases_Bool}
 use Rattle.std.proofs.lemmas.List.{length-map, map-append, take-map, drop-map}
 use Rattle.std.proofs.lemmas.List.Elements.{All-append, All-take, All-drop}
@@ -14,8 +14,11 @@ use Rattle.std.proofs.lemmas.Map.Keys.{IsDistinct-IsPermutation, IsDistinct-tail
 use Rattle.std.specs.List.{IsDistinct}
 use Rattle.ub_page.specs.declared.directory.Entry.{Entry}
 use Rattle.ub_store.specs.Facts.{StoreFacts, IsHonest, Keeps}
+use Rattle.ub_store.specs.View.{PagerView}
 use Rattle.ub_tree.specs.Change.{IsStored, placed_with, regions_with}
 use Rattle.ub_tree.specs.Placed.{Placed, ArePlaced, placed_of, regions_in}
+use Rattle.ub_tree.specs.Spans.{first_keys}
+use Rattle.ub_tree.specs.Tree.{known_pages, tree_view}
 use Rattle.ub_tree.specs.View.{TreeView, IsSound, regions, tree_rows}
 use Rattle.ub_tree.specs.declared.fault.TreeFault.{TreeFault}
 use Rattle.ub_tree.proofs.GrowFacts.{keeps_sound, regions_placed, some_at}
@@ -24,7 +27,7 @@ use Rattle.ub_tree.proofs.KeyLists.{all_more}
 use Rattle.ub_tree.proofs.RemoveFacts.{all_from, other_key, remove_keeps, remove_none, remove_rows}
 use Rattle.ub_tree.proofs.RowFacts.{all_of_keys, has_append, has_none}
 use Rattle.ub_tree.proofs.StoredFacts.{IsSpelled, parted, numbers_of}
-use Rattle.ub_tree.proofs.TreeFacts.{region_get, placed_at}
+use Rattle.ub_tree.proofs.TreeFacts.{firsts_back, length-placed, region_get, placed_at}
 use Rattle.ub_tree.specs.Keys.{precedes, is_same}
 use Rattle.ub_tree.specs.Regions.{AreRegions, change_from, firsts_of, fits_next, is_small, join_before, join_first, place_of, remove, remove_first, rows_of, settle}
 use Rattle.ub_tree.specs.Removal.{IsRemoved, IsUntouched, put_first, put_rows, JoinsNext, JoinsBefore}
@@ -311,6 +314,15 @@ pub record IsHolder (a : TreeView) (key : Key) (place : ℕ) (rows : List Row) :
   pub within : place < length a.placed
   pub rows_are : IsHonest a.store → (p : Placed) → slice_get a.placed place ≡ Some p → rows ≡ p.region.rows
 
+pub holder : (schema : Schema) (entries : List Entry) (chain : List ℕ) (next count : ℕ) (changed failed : Bool) (pager : PagerView) (a : TreeView) (key : Key) (place : ℕ) (rows : List Row)
+    → tree_view schema entries chain next count changed failed pager ≡ a → place ≡ place_of key (first_keys entries) → place < length entries
+    → (IsHonest a.store → (p : Placed) → slice_get a.placed place ≡ Some p → rows ≡ p.region.rows) → IsHolder a key place rows
+holder schema entries chain next count changed failed pager a key place rows view is lt read = record {
+  is = subst (λ (v : TreeView). place ≡ place_of key (firsts_of (regions v))) view (is ∙ ap (place_of key) (sym (firsts_back schema (known_pages pager.store) entries)));
+  within = subst (λ (v : TreeView). place < length v.placed) view (let long = length-placed schema (known_pages pager.store) entries in omega arith);
+  rows_are = read;
+}
+
 module _ (a : TreeView) (key : Key) (place : ℕ) (rows : List Row) (h : IsHolder a key place rows) (sound : IsSound a) where
   pub found_is : has_key a.schema.dims key (tree_rows a) ≡ has_key a.schema.dims key rows
   found_is =
@@ -390,7 +402,3 @@ shrunk a b after d key place rows h same kept has changed few lowered written so
         closed = λ e. cc;
       };
     })
-
-pub unless_not : (b : Bool) → not b ≡ false → b ≡ true
-unless_not true h = refl
-unless_not false h = cc
