@@ -7,6 +7,7 @@ use Rattle.ub_page.specs.declared.header.Header.{Header}
 use Rattle.ub_page.specs.declared.schema.Schema.{Schema}
 use Rattle.ub_tree.specs.Regions.{AreRegions, rows_of}
 use Rattle.ub_tree.specs.Placed.{Placed, ArePlaced, entry_of, regions_in}
+
 -- the pages of this chain spell the entries, 170 on each but the last, each naming the next page
 abbrev pub IsChain : List (List ℕ) → List ℕ → List Entry → Type 0
 IsChain pages [] entries = ⊥

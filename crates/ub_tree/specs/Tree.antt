@@ -13,6 +13,7 @@ use Rattle.ub_tree.specs.Keys.{origin}
 use Rattle.ub_tree.specs.Regions.{place_of}
 use Rattle.ub_tree.specs.Placed.{placed_of}
 use Rattle.ub_tree.specs.View.{TreeView}
+
 -- the pages of an honest store; of another one nothing is known
 abbrev pub known_pages : StoreFacts → List (List ℕ)
 known_pages facts = if facts.honest then facts.pages else []

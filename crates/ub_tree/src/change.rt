@@ -15,6 +15,7 @@ ghost use Rattle.ub_tree.specs.Rows.{split};
 ghost use Rattle.ub_tree.specs.Spans.{ArePlaces, first_keys};
 ghost use Rattle.ub_tree.specs.Placed.{Placed, entry_of};
 ghost use Rattle.ub_tree.specs.View.{IsSound, KeepsTrace, regions};
+
 use crate::closing::{copy_of, shape_of};
 use crate::fault::TreeFault;
 use crate::keys::{is_before, row_key};

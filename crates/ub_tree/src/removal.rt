@@ -114,9 +114,9 @@ impl<S: PageStore> Tree<S> {
     /// that is left with fewer than half the rows of a page is joined with the next one, or else with the one before, where
     /// their rows fit on one page.
     ///
-    /// Failed comes where the tree has failed, Page where a page is refused or the header counts no rows, Memory where memory
-    /// was refused, and Store where the store failed in this call or has no such page. After Store with Device the tree may
-    /// have failed; after another fault it is as it was.
+    /// Failed comes where the tree has failed, Page where a page is refused or there is such a row though none is counted,
+    /// Memory where memory was refused, and Store where the store failed in this call or has no such page. After Store the
+    /// tree may have failed; after another fault it is as it was.
     pub fn remove(&mut self, key: &Key) -> Result<bool, TreeFault>
         ensures removed { IsSound self.old → IfOk result (λ found. IsRemoved key.now found self.old self.new) }
         ensures untouched { IfOk result (λ found. found ≡ false → IsUntouched self.old self.new) }

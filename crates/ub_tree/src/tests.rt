@@ -1,6 +1,6 @@
 use crate::{Region, Tree, TreeFault};
 use std::test::Fail;
-use ub_page::{Name, Schema};
+use ub_page::{Key, Name, Schema};
 use ub_store::{MemStore, PageStore};
 
 type MemTree = Tree<MemStore>;
@@ -70,5 +70,20 @@ fn notes_region_pages(rt: HostRuntime) -> Result<(), Fail> {
             Some(TreeFault::Store(_))
         )
     );
+    Ok(())
+}
+
+#[test]
+fn takes_rows_out(rt: HostRuntime) -> Result<(), Fail> {
+    let mut tree = table_s(&rt)?;
+    let last = u128::from(u64::MAX);
+    let second = Key { z: 13, number: 2 };
+    let fifth = Key { z: 13, number: 5 };
+    assert!(rt; tree.remove(&second)?);
+    assert!(rt; tree.remove(&fifth)?);
+    assert!(rt; !tree.remove(&second)?);
+    assert_eq!(rt; (tree.rows(), tree.regions()), (3, 2));
+    assert_eq!(rt; spans_to(&mut tree, 0)?, (0, 9, 1, 4));
+    assert_eq!(rt; spans_to(&mut tree, last)?, (10, last, 3, 3));
     Ok(())
 }

@@ -3,6 +3,7 @@ ghost use Rattle.std.specs.List.{Contains};
 ghost use Rattle.ub_tree.specs.Calls.{IsReadFault, Keeps, HasNoted, StandsAt};
 ghost use Rattle.ub_tree.specs.Spans.{IsLater, Meets, First};
 ghost use Rattle.ub_tree.specs.View.{IsSound, KeepsTrace, spans_of};
+
 use crate::fault::TreeFault;
 use crate::places::Places;
 use crate::reading::region_on;
