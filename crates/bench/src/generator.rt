@@ -18,7 +18,8 @@ impl Generator {
         c ^ (c >> 31)
     }
 
-    fn coordinate(&mut self) -> u32 {
+    /// A coordinate.
+    pub fn coordinate(&mut self) -> u32 {
         (self.number() >> 32) as u32
     }
 

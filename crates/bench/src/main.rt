@@ -1,11 +1,16 @@
-// Times `next_in_box`: calls it on boxes and addresses from a fixed generator, as many times for each number of
-// dimensions as its first argument says (for one number of dimensions alone, where the second says which), and prints a
-// checksum of the answers. bench/run.sh times long runs from outside, and bench/checksum.py says by another way what
-// must be printed.
+// What bench/run.sh times from outside.
+//
+// `bench N [D]` calls `next_in_box` on boxes and addresses from a fixed generator, N times for each number of dimensions
+// (or for D alone), and prints a checksum of the answers, which bench/checksum.py finds by another way.
+//
+// `bench tree N W` puts N rows into a UB-tree over a store in memory, walks its regions W times, and prints how many
+// regions there are and how many rows were read.
 #![tactic(auto)]
 
+mod fill;
 mod generator;
 
+use fill::fill_and_walk;
 use generator::Generator;
 use std::{env, io};
 use ub_bigmin::ZBox;
@@ -42,7 +47,19 @@ fn number(word: Option<String>) -> Option<u64> {
 fn main(rt: HostRuntime) -> io::Result<()> {
     let mut words = env::args(&rt)?;
     let _program = words.next();
-    let calls = number(words.next()).unwrap_or(1000);
+    let first = words.next();
+    if let Some(word) = &first
+        && word.as_str() == "tree"
+    {
+        let rows = number(words.next()).unwrap_or(1000);
+        let walks = number(words.next()).unwrap_or(0);
+        match fill_and_walk(rt.alloc(), rows, walks) {
+            Ok((regions, read)) => println!(rt; "{regions} regions, {read} rows read")?,
+            Err(fault) => println!(rt; "! {fault}")?,
+        }
+        return Ok(());
+    }
+    let calls = number(first).unwrap_or(1000);
     let only = number(words.next());
     for dims in 1..=4u32 {
         let is_asked = only.unwrap_or(u64::from(dims)) == u64::from(dims);

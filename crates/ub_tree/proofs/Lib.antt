@@ -16,6 +16,7 @@ pub mod RowFacts
 pub mod ChainFacts
 pub mod InsertFacts
 pub mod RemoveFacts
+pub mod ShrinkFacts
 pub mod CoverFacts
 pub mod TableFacts
 pub mod EntryFacts

@@ -137,7 +137,7 @@ settled schema place regions chain = elim (cases_Bool (is_small schema.page_rows
 ]
 
 -- no row of regions in order is before the first key
-all_from : (schema : Schema) (region : Region) (regions : List Region) → IsChain schema (region ∷ regions)
+pub all_from : (schema : Schema) (region : Region) (regions : List Region) → IsChain schema (region ∷ regions)
     → AllByRecursion (λ row. ¬ (IsBefore (key_of schema.dims row) region.first)) (rows_of (region ∷ regions))
 all_from schema region [] chain =
     all_append (λ row. ¬ (IsBefore (key_of schema.dims row) region.first)) region.rows [] (all_of_keys schema.dims (λ k. ¬ (IsBefore k region.first)) region.rows chain.0.within) tt
@@ -152,7 +152,7 @@ same_keys a b t = let both = and_parts (nat_eq a.z b.z) (nat_eq a.number b.numbe
     parts : (a b : Key) → a.z ≡ b.z → a.number ≡ b.number → a ≡ b
     parts a b e f = rw (e, f) refl
 
-other_key : (P : Key → Type 0) (a b : Key) → P a → ¬ (P b) → is_same a b ≡ false
+pub other_key : (P : Key → Type 0) (a b : Key) → P a → ¬ (P b) → is_same a b ≡ false
 other_key P a b holds never = elim (cases_Bool (is_same a b)) [
   | inl t ↦ absurd (never (subst P (same_keys a b t) holds))
   | inr f ↦ f

@@ -11,3 +11,4 @@ pub mod Tree
 pub mod Change
 pub mod Closing
 pub mod Opened
+pub mod Removal

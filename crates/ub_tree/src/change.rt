@@ -31,7 +31,7 @@ const NEXT_END: u32 = 16_777_216;
 
 impl<S: PageStore> Tree<S> {
     // The rows of the region at a place.
-    fn rows_at(&mut self, place: usize) -> Result<Rows, TreeFault>
+    pub(crate) fn rows_at(&mut self, place: usize) -> Result<Rows, TreeFault>
         requires { place < length self.old.placed }
         ensures few { IfOk result (λ rows. length rows ≤ self.old.schema.page_rows) }
         ensures rows { facts.IsHonest self.old.store → IfOk result (λ rows. (p : Placed) → slice_get self.old.placed place ≡ Some p → rows ≡ p.region.rows) }
@@ -66,12 +66,14 @@ impl<S: PageStore> Tree<S> {
     }
 
     // Puts these rows on the page of the region at a place. After a fault the tree has failed.
-    fn rewrite(&mut self, place: usize, rows: &[Row]) -> Result<(), TreeFault>
+    pub(crate) fn rewrite(&mut self, place: usize, rows: &[Row]) -> Result<(), TreeFault>
         requires place { place < length self.old.placed }
         requires few { length rows.now ≤ 64 }
         ensures same { OnOk result (IsElsewhereSame self.old self.new) }
         ensures written { IsStored self.old → (p : Placed) → slice_get self.old.placed place ≡ Some p → IsRegion self.old.schema (record { first = p.region.first; rows = rows.now })
             → OnOk result (IsStored self.new × (self.new.placed ≡ placed_with place (record { page = p.page; region = record { first = p.region.first; rows = rows.now } } ∷ []) self.old.placed)) }
+        ensures count { length self.new.placed ≡ length self.old.placed }
+        ensures faults { IfErr result (λ fault. (fault ≡ TreeFault.Store StoreFault.Device) ⊎ (fault ≡ TreeFault.Store StoreFault.NoPage)) }
         ensures schema { self.new.schema ≡ self.old.schema }
         ensures first { IsMarkedFirst self.old self.new }
         ensures trace { KeepsTrace self.old self.new }

@@ -1,8 +1,10 @@
 // The UB-tree (Bayer 1997): disjoint regions in the order of addresses, each on a page of a store, and each row in the region
 // that holds its key. The definitions stand in specs/: `Regions` (what regions are, insertion and removal as functions on their
-// list), `Spans` (the addresses that a region covers), `View` (what contracts see of a tree, and when it is sound). The code, from
-// the bottom: keys and the rows of one region (`keys`, `rows`), the directory in memory (`places`), and the tree over a store
-// (`tree` to search and read, `change` to put rows in, `creation` to begin, `closing` to write the directory and the header). Pages are spelled, and stores kept, in the crates below.
+// list), `Spans` (the addresses that a region covers), `View` (what contracts see of a tree, and when it is sound), `Stored` (the
+// pages of a closed table), `Opened` (which pages are opened). The code, from the bottom: keys and the rows of one region (`keys`,
+// `rows`), the directory in memory (`places`), and the tree over a store: `creation` and `opening` to begin, `tree` to search and
+// read, `change` to put rows in, `removal` to take them out, `closing` to write the directory and the header. Pages are spelled,
+// and stores kept, in the crates below.
 
 #![tactic(auto)]
 
@@ -15,8 +17,11 @@ mod opening;
 #[cfg(test)]
 mod opening_tests;
 mod places;
+#[cfg(test)]
+mod random;
 mod reading;
 pub mod region;
+mod removal;
 mod rows;
 #[cfg(test)]
 mod tests;

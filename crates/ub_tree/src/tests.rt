@@ -1,6 +1,6 @@
 use crate::{Region, Tree, TreeFault};
 use std::test::Fail;
-use ub_page::{Entry, Header, Name, PageFault, Schema, read_directory, read_header};
+use ub_page::{Entry, Header, Key, Name, PageFault, Schema, read_directory, read_header};
 use ub_store::{FaultyStore, MemStore, PageStore, StoreFault};
 
 pub type MemTree = Tree<MemStore>;
@@ -138,4 +138,19 @@ fn stays_unclean_where_closing_fails(rt: HostRuntime) -> Result<(), Fail> {
             Ok(())
         }
     }
+}
+
+#[test]
+fn takes_rows_out(rt: HostRuntime) -> Result<(), Fail> {
+    let mut tree = table_s(&rt)?;
+    let last = u128::from(u64::MAX);
+    let second = Key { z: 13, number: 2 };
+    let fifth = Key { z: 13, number: 5 };
+    assert!(rt; tree.remove(&second)?);
+    assert!(rt; tree.remove(&fifth)?);
+    assert!(rt; !tree.remove(&second)?);
+    assert_eq!(rt; (tree.rows(), tree.regions()), (3, 2));
+    assert_eq!(rt; spans_to(&mut tree, 0)?, (0, 9, 1, 4));
+    assert_eq!(rt; spans_to(&mut tree, last)?, (10, last, 3, 3));
+    Ok(())
 }
