@@ -80,63 +80,83 @@ fn closed(tree: MemTree) -> Result<MemStore, Fail> {
     }
 }
 
-fn header_in<S: PageStore>(store: &mut S) -> Result<Header, Fail> {
-    Ok(read_header(&store.read_page(0)?)?)
+// What the store's first page tells.
+fn header_in<S: PageStore>(store: &mut S) -> Result<Header, PageFault> {
+    match store.read_page(0) {
+        Ok(page) => read_header(&page),
+        Err(_) => Err(PageFault::WrongKind),
+    }
 }
 
-// Next, rows, regions, root and levels.
-fn counts(header: &Header) -> (u32, u32, u32, u32, u32) {
-    (
-        header.next,
-        header.rows,
-        header.regions,
-        header.root,
-        header.levels,
-    )
+// Whether the store is closed, with this next number, so many rows and regions, and a directory on page 2 alone.
+fn tells(store: &mut MemStore, next: u32, rows: u32, regions: u32) -> bool {
+    match header_in(store) {
+        Ok(header) => {
+            (header.next, header.rows, header.regions) == (next, rows, regions)
+                && (header.root, header.levels) == (2, 1)
+        }
+        Err(_) => false,
+    }
 }
 
-fn first_key(entry: &Entry) -> (u128, u32) {
-    (entry.first.z, entry.first.number)
+// Whether page 2 lists regions that begin at these addresses.
+fn lists(store: &mut MemStore, schema: &Schema, addresses: &[u128]) -> bool {
+    match store.read_page(2) {
+        Ok(page) => match read_directory(schema, &page) {
+            Ok(directory) => begin_at(directory.entries(), addresses),
+            Err(_) => false,
+        },
+        Err(_) => false,
+    }
+}
+
+fn begin_at(entries: &[Entry], addresses: &[u128]) -> bool {
+    for (entry, z) in entries.iter().zip(addresses) {
+        if entry.first != (Key { z: *z, number: 0 }) {
+            return false;
+        }
+    }
+    entries.len() == addresses.len()
+}
+
+// Whether closing fails, and the store that is handed back is marked unclean.
+fn stays_unclean(tree: Tree<FaultyStore<MemStore>>) -> bool {
+    match tree.close() {
+        Ok(_) => false,
+        Err(refused) => {
+            let mut store = refused.store;
+            refused.fault == TreeFault::Store(StoreFault::Device)
+                && header_in(&mut store).err() == Some(PageFault::Unclean)
+        }
+    }
 }
 
 #[test]
 fn closes_an_empty_table(rt: HostRuntime) -> Result<(), Fail> {
     let mut store = closed(empty(&rt)?)?;
-    let header = header_in(&mut store)?;
-    assert_eq!(rt; counts(&header), (1, 0, 1, 2, 1));
+    assert!(rt; tells(&mut store, 1, 0, 1));
+    assert!(rt; lists(&mut store, &plane()?, &[0]));
     Ok(())
 }
 
 #[test]
 fn closes_a_table(rt: HostRuntime) -> Result<(), Fail> {
     let mut store = closed(table_s(&rt)?)?;
-    let header = header_in(&mut store)?;
-    assert_eq!(rt; counts(&header), (6, 5, 3, 2, 1));
-    let directory = read_directory(&plane()?, &store.read_page(header.root)?)?;
-    let keys = [(0, 0), (10, 0), (13, 0)];
-    assert_eq!(rt; directory.entries().len(), keys.len());
-    for (entry, key) in directory.entries().iter().zip(&keys) {
-        assert_eq!(rt; first_key(entry), *key);
-    }
+    assert!(rt; tells(&mut store, 6, 5, 3));
+    assert!(rt; lists(&mut store, &plane()?, &[0, 10, 13]));
     Ok(())
 }
 
 // Creation makes five calls of its store, so the sixth is the first of the closing.
 #[test]
-fn stays_unclean_where_closing_fails(rt: HostRuntime) -> Result<(), Fail> {
+fn closing_that_fails(rt: HostRuntime) -> Result<(), Fail> {
     let store = FaultyStore::new(MemStore::new(rt.alloc()), 6);
-    let tree = match Tree::create(rt.alloc(), store, &plane()?) {
-        Ok(tree) => tree,
-        Err(refused) => return Err(refused.fault.into()),
-    };
-    match tree.close() {
-        Ok(_) => Err("closed".into()),
-        Err(refused) => {
-            let mut store = refused.store;
-            assert!(rt; refused.fault == TreeFault::Store(StoreFault::Device));
-            assert!(rt; read_header(&store.read_page(0)?).err() == Some(PageFault::Unclean));
+    match Tree::create(rt.alloc(), store, &plane()?) {
+        Ok(tree) => {
+            assert!(rt; stays_unclean(tree));
             Ok(())
         }
+        Err(refused) => Err(refused.fault.into()),
     }
 }
 
