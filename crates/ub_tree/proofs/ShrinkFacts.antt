@@ -1,9 +1,9 @@
 -- A row taken out of a tree.
-use Rattle.std.proofs.Common.{◌≡◌, ◌≢◌, ◌<◌, ◌≤◌, ◌+◌, ◌-◌, ◌/◌, ◌^◌, ◌||◌, inl, inr, ℕ, zero, suc, Bool, true, false, List, [], ◌∷◌, ◌++◌, Some, None, Ok, Err, Result, OnOk, IfErr, length, map, take, drop, nat_le, nat_lt, nat_eq, ◌∙◌, sym, ap, subst, refl, arith, slice_get, if◌then◌else◌, append_assoc, add-one}
+use Rattle.std.proofs.Common.{◌≡◌, ◌≢◌, ◌<◌, ◌+◌, ◌-◌, ◌/◌, ◌^◌, ◌||◌, inl, inr, ℕ, zero, suc, Bool, true, false, List, [], ◌∷◌, ◌++◌, Some, Ok, Err, Result, OnOk, length, map, take, drop, nat_le, nat_lt, nat_eq, ◌∙◌, sym, ap, subst, refl, arith, slice_get, if◌then◌else◌, append_assoc, add-one}
 use Rattle.std.proofs.lemmas.Bool.{cases_Bool}
 use Rattle.std.proofs.lemmas.List.{length-map, map-append, take-map, drop-map}
 use Rattle.std.proofs.lemmas.List.Elements.{All-append, All-take, All-drop}
-use Rattle.std.specs.List.{All, AllByRecursion, remove as remove_at_place}
+use Rattle.std.specs.List.{AllByRecursion, remove as remove_at_place}
 use Rattle.ub_page.specs.Keys.{IsBefore}
 use Rattle.ub_page.specs.Region.{Region, IsRegion, key_of}
 use Rattle.ub_page.specs.declared.row.Key.{Key}
@@ -30,7 +30,7 @@ use Rattle.ub_tree.proofs.StoredFacts.{IsSpelled, parted, numbers_of}
 use Rattle.ub_tree.proofs.TreeFacts.{firsts_back, length-placed, region_get, placed_at}
 use Rattle.ub_tree.specs.Keys.{precedes, is_same}
 use Rattle.ub_tree.specs.Regions.{AreRegions, change_from, firsts_of, fits_next, is_small, join_before, join_first, place_of, remove, remove_first, rows_of, settle}
-use Rattle.ub_tree.specs.Removal.{IsRemoved, IsUntouched, put_first, put_rows, JoinsNext, JoinsBefore}
+use Rattle.ub_tree.specs.Removal.{IsRemoved, IsUntouched, put_rows, JoinsNext, JoinsBefore}
 use Rattle.ub_tree.specs.Rows.{has_key, remove_row}
 use Rattle.ub_tree.proofs.ChainFacts.{IsChain, chain_of}
 use Rattle.ub_tree.proofs.KeyFacts.{before_of, precedes_of}

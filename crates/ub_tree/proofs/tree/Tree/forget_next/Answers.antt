@@ -1,6 +1,6 @@
-use Rattle.std.proofs.Common.{◌≡◌, ◌<◌, ◌+◌, refl, arith, length}
-use Rattle.ub_tree.specs.Tree.{tree_view, known_pages}
-use Rattle.ub_tree.specs.Placed.{Placed, placed_of}
+use Rattle.std.proofs.Common.{◌<◌, ◌+◌, refl, length}
+use Rattle.ub_tree.specs.Tree.{known_pages}
+use Rattle.ub_tree.specs.Placed.{placed_of}
 use Rattle.ub_tree.proofs.ShrinkFacts.{placed_removed, removed_placed}
 use Rattle.ub_tree.proofs.tree.Tree.forget_next.Goals as goal
 

@@ -1,4 +1,4 @@
-use Rattle.std.proofs.Common.{◌≡◌, ◌≢◌, ◌<◌, ◌-◌, ◌∙◌, ap, sym, refl, arith, length, Some, slice_get}
+use Rattle.std.proofs.Common.{◌-◌, ◌∙◌, ap, refl, arith}
 use Rattle.ub_tree.specs.View.{TreeView, regions}
 use Rattle.ub_tree.proofs.GrowFacts.{some_at}
 use Rattle.ub_tree.proofs.TreeFacts.{region_get}

@@ -1,5 +1,4 @@
-use Rattle.std.proofs.Common.{◌≡◌, ◌<◌, ◌+◌, ◌∙◌, ap, sym, subst, refl, arith, length, Some, slice_get, suc, ℕ}
-use Rattle.ub_tree.specs.Placed.{placed_of}
+use Rattle.std.proofs.Common.{◌≡◌, ◌+◌, ◌∙◌, ap, subst, arith, length, Some, slice_get, suc, ℕ}
 use Rattle.ub_tree.specs.Tree.{known_pages}
 use Rattle.ub_tree.specs.View.{TreeView, regions}
 use Rattle.ub_tree.proofs.GrowFacts.{some_at}

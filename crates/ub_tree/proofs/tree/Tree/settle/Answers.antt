@@ -1,4 +1,4 @@
-use Rattle.std.proofs.Common.{◌≡◌, ◌<◌, ◌/◌, ◌∙◌, ap, sym, length, nat_lt, true, false}
+use Rattle.std.proofs.Common.{◌≡◌, ◌/◌, ◌∙◌, ap, sym, length, nat_lt, true, false}
 use Rattle.ub_tree.specs.View.{TreeView}
 use Rattle.ub_tree.proofs.ShrinkFacts.{settled_large, settled_alone}
 use Rattle.ub_tree.proofs.tree.Tree.settle.Goals as goal
