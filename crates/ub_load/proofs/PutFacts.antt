@@ -1,8 +1,11 @@
 -- A record that is accepted makes a row, and none of a text's refusals is one of the store.
 use Rattle.std.proofs.Common.{◌≡◌, ◌≢◌, ◌+◌, ◌-◌, ◌<◌, ◌≤◌, ◌⊎◌, ◌==◌, ◌^◌, ℕ, zero, suc, Bool, true, false, List, [], ◌∷◌, ◌++◌, length, take, drop, map, replicate, Option, Some, None, Result, Ok, Err, IfErr, refl, sym, ap, subst, ◌∙◌, arith, inl, inr}
-use Rattle.std.specs.Prelude.{ℤ, pos, FitsSigned, IfSome, nat_lt, nat_le, if◌then◌else◌}
+use Rattle.std.specs.Prelude.{ℤ, pos, FitsSigned, IfSome, nat_lt, nat_le, ◌&&◌, ◌||◌, not, if◌then◌else◌}
 use Rattle.std.specs.Int.{w64}
-use Rattle.std.specs.List.{AllByRecursion, enumerate_from, flat_map}
+use Rattle.std.specs.List.{AllByRecursion, enumerate_from, list_any}
+use Rattle.std.specs.Str.{bytes_eq}
+use Rattle.csv.specs.declared.error.ErrorKind.{ErrorKind}
+use Rattle.csv.specs.declared.error.ErrorKind.TheVariants as kind
 use Rattle.std.proofs.lemmas.Bool.{cases_Bool, eqb-true, leb-true, lt-ltb, le-ltb}
 use Rattle.std.proofs.lemmas.List.{length-map}
 use Rattle.std.proofs.lemmas.List.Elements.{All-from_recursion}
@@ -16,7 +19,7 @@ use Rattle.ub_tree.proofs.GrowFacts.{new_row}
 use Rattle.ub_tree.proofs.KeyLists.{all_append}
 use Rattle.ub_load.specs.Field.{trimmed, is_number, number_of, fits_column}
 use Rattle.ub_load.specs.LoadedTable.{row_of}
-use Rattle.ub_load.specs.Refusals.{fault_of_tree, field_refusal, first_of, header_refusals, name_refusal, record_refusals}
+use Rattle.ub_load.specs.Refusals.{fault_of, fault_of_tree, field_refusal, first_of, header_refusals, name_refusal, record_refusals}
 use Rattle.ub_load.specs.declared.fault.LoadFault.{LoadFault}
 use Rattle.ub_load.specs.declared.fault.LoadFault.TheVariants.{Csv, Tree, Memory, BadName, BadNumber, OutOfRange, ColumnCount}
 use Rattle.ub_load.proofs.FieldFacts.{dimension_is, fits_to}
@@ -70,6 +73,49 @@ record_is_full_only dims width r f e =
       | inl t ↦ rw t tt
       | inr n ↦ rw n (λ fault e. cc)
     ]
+
+-- none of a header's refusals is one of the tree
+name_is_full_only : (names : List (List ℕ)) (c : ℕ × List ℕ) → IfSome (name_refusal names c) IsFullOnly
+name_is_full_only names c = elim (cases_Bool (is_name c.1 && not (list_any (bytes_eq c.1) (take c.0 names)))) [
+  | inl t ↦ rw t tt
+  | inr n ↦ rw n (λ fault e. cc)
+]
+
+pub header_is_full_only : (dims : ℕ) (name : List ℕ) (names : List (List ℕ)) (f : LoadFault) → first_of (header_refusals dims name names) ≡ Some f → IsFullOnly f
+unfolding header_refusals
+header_is_full_only dims name names f e =
+    first-has IsFullOnly ((if nat_lt (length names) dims || nat_lt (dims + 4) (length names) then Some ColumnCount else None)
+    ∷ (if is_name name then None else Some (BadName 0)) ∷ map (name_refusal names) (enumerate_from 0 names)) f (count, (table, all_found (name_refusal names) IsFullOnly (name_is_full_only names) (enumerate_from 0 names))) e
+  where
+    count : IfSome (if nat_lt (length names) dims || nat_lt (dims + 4) (length names) then Some ColumnCount else None) IsFullOnly
+    count = elim (cases_Bool (nat_lt (length names) dims || nat_lt (dims + 4) (length names))) [
+      | inl t ↦ rw t (λ fault e. cc)
+      | inr n ↦ rw n tt
+    ]
+    table : IfSome (if is_name name then None else Some (BadName 0)) IsFullOnly
+    table = elim (cases_Bool (is_name name)) [
+      | inl t ↦ rw t tt
+      | inr n ↦ rw n (λ fault e. cc)
+    ]
+
+-- what a result tells of its refusal is true of the tree's fault in it
+pub told : {T : Type 0} (r : Result T LoadFault) (f : LoadFault) → r ≡ Err f → IsHonestFault f → (fault : TreeFault) → r ≡ Err (Tree fault)
+    → (fault ≡ tree.Full) ⊎ (fault ≡ tree.Store store.Device) ⊎ (fault ≡ tree.Store store.BadSize)
+told r f e h fault is = let same : f ≡ Tree fault = (let both : Err f ≡ Err (Tree fault) = sym e ∙ is in cc) in h fault same
+
+-- nor one of `csv`'s
+pub csv_honest : (k : ErrorKind) → IsHonestFault (fault_of k)
+csv_honest kind.OutOfMemory fault e = cc
+csv_honest (kind.Io x) fault e = cc
+csv_honest (kind.UnequalLengths place expected len) fault e = cc
+csv_honest (kind.Utf8 place why) fault e = cc
+csv_honest (kind.Serialize why) fault e = cc
+csv_honest (kind.Deserialize place why) fault e = cc
+
+-- a new tree's
+pub new_honest : (f : LoadFault) → (f ≡ Memory) ⊎ (f ≡ Tree (tree.Store store.Device)) → IsHonestFault f
+new_honest f (inl e) fault is = cc
+new_honest f (inr e) fault is = let same : Tree (tree.Store store.Device) ≡ Tree fault = sym e ∙ is in let here : tree.Store store.Device ≡ fault = cc in inr (inl (sym here))
 
 none_head : (o : Option LoadFault) (rest : List (Option LoadFault)) → first_of (o ∷ rest) ≡ None → (o ≡ None) × (first_of rest ≡ None)
 none_head None rest h = (refl, h)
