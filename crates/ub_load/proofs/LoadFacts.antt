@@ -22,7 +22,7 @@ use Rattle.ub_tree.specs.Regions.{AreTableRows, insert}
 use Rattle.ub_tree.specs.View.{TreeView, IsSound, KeepsTrace, regions}
 use Rattle.ub_tree.proofs.TableFacts.{insert_table}
 use Rattle.ub_load.specs.Field.{trimmed}
-use Rattle.ub_load.specs.LoadedTable.{IsLoaded, records_of, row_of, rows_of}
+use Rattle.ub_load.specs.LoadedTable.{records_of, row_of, rows_of}
 use Rattle.ub_load.specs.LoadedTree.{IsLoadedTree, insert_all, loaded_regions}
 use Rattle.ub_load.specs.Refusals.{first_of, first_refusal, fault_of, header_refusals, record_refusals, refusals}
 use Rattle.ub_load.specs.declared.fault.LoadFault.{LoadFault}

@@ -1,12 +1,12 @@
 -- A record that is accepted makes a row, and none of a text's refusals is one of the store.
-use Rattle.std.proofs.Common.{◌≡◌, ◌≢◌, ◌+◌, ◌-◌, ◌<◌, ◌≤◌, ◌⊎◌, ◌==◌, ◌^◌, ℕ, zero, suc, Bool, true, false, List, [], ◌∷◌, ◌++◌, length, take, drop, map, replicate, Option, Some, None, Result, Ok, Err, IfErr, refl, sym, ap, subst, ◌∙◌, arith, inl, inr}
-use Rattle.std.specs.Prelude.{ℤ, pos, FitsSigned, IfSome, nat_lt, nat_le, ◌&&◌, ◌||◌, not, if◌then◌else◌}
+use Rattle.std.proofs.Common.{◌≡◌, ◌+◌, ◌-◌, ◌<◌, ◌≤◌, ◌⊎◌, ◌==◌, ◌^◌, ℕ, zero, suc, true, false, List, [], ◌∷◌, ◌++◌, length, take, drop, map, Option, Some, None, Result, Err, refl, sym, ap, subst, ◌∙◌, arith, inl, inr}
+use Rattle.std.specs.Prelude.{FitsSigned, IfSome, nat_lt, nat_le, ◌&&◌, ◌||◌, not, if◌then◌else◌}
 use Rattle.std.specs.Int.{w64}
 use Rattle.std.specs.List.{AllByRecursion, enumerate_from, list_any}
 use Rattle.std.specs.Str.{bytes_eq}
 use Rattle.csv.specs.declared.error.ErrorKind.{ErrorKind}
 use Rattle.csv.specs.declared.error.ErrorKind.TheVariants as kind
-use Rattle.std.proofs.lemmas.Bool.{cases_Bool, eqb-true, leb-true, lt-ltb, le-ltb}
+use Rattle.std.proofs.lemmas.Bool.{cases_Bool, eqb-true, lt-ltb, le-ltb}
 use Rattle.std.proofs.lemmas.List.{length-map}
 use Rattle.std.proofs.lemmas.List.Elements.{All-from_recursion}
 use Rattle.ub_page.specs.Name.{is_name}
@@ -23,7 +23,6 @@ use Rattle.ub_load.specs.Refusals.{fault_of, fault_of_tree, field_refusal, first
 use Rattle.ub_load.specs.declared.fault.LoadFault.{LoadFault}
 use Rattle.ub_load.specs.declared.fault.LoadFault.TheVariants.{Csv, Tree, Memory, BadName, BadNumber, OutOfRange, ColumnCount}
 use Rattle.ub_load.proofs.FieldFacts.{dimension_is, fits_to}
-use Rattle.ub_load.proofs.RefusalFacts.{first-skip}
 use Rattle.ub_load.proofs.RowFacts.{coordinate, measure}
 
 -- of the tree's faults it can be Full alone
@@ -59,15 +58,18 @@ field_is_full_only dims row f = elim (cases_Bool (is_number (trimmed f.1))) [
 pub record_is_full_only : (dims width : ℕ) (r : ℕ × List (List ℕ)) (f : LoadFault) → first_of (record_refusals dims width r) ≡ Some f → IsFullOnly f
 unfolding record_refusals
 record_is_full_only dims width r f e =
-    first-has IsFullOnly ((if length r.1 == width then None else Some Csv) ∷ (map (field_refusal dims r.0) (enumerate_from 0 r.1) ++ (if nat_le r.0 16777215 then None else Some (Tree tree.Full)) ∷ [])) f
-    (other_length, all_append (λ (o : Option LoadFault). IfSome o IsFullOnly) (map (field_refusal dims r.0) (enumerate_from 0 r.1)) ((if nat_le r.0 16777215 then None else Some (Tree tree.Full)) ∷ [])
-      (all_found (field_refusal dims r.0) IsFullOnly (field_is_full_only dims r.0) (enumerate_from 0 r.1)) (past_last, tt)) e
+    first-has IsFullOnly ((if length r.1 == width then None else Some Csv) ∷ (map (field_refusal dims r.0) (enumerate_from 0 r.1) ++ (if nat_le r.0 16777215 then None else Some (Tree tree.Full)) ∷ [])) f (
+      other_length,
+      all_append (λ (o : Option LoadFault). IfSome o IsFullOnly) (map (field_refusal dims r.0) (enumerate_from 0 r.1)) ((if nat_le r.0 16777215 then None else Some (Tree tree.Full)) ∷ [])
+          (all_found (field_refusal dims r.0) IsFullOnly (field_is_full_only dims r.0) (enumerate_from 0 r.1)) (past_last, tt),
+    ) e
   where
     other_length : IfSome (if length r.1 == width then None else Some Csv) IsFullOnly
     other_length = elim (cases_Bool (length r.1 == width)) [
       | inl t ↦ rw t tt
       | inr n ↦ rw n (λ fault e. cc)
     ]
+
     past_last : IfSome (if nat_le r.0 16777215 then None else Some (Tree tree.Full)) IsFullOnly
     past_last = elim (cases_Bool (nat_le r.0 16777215)) [
       | inl t ↦ rw t tt
@@ -92,6 +94,7 @@ header_is_full_only dims name names f e =
       | inl t ↦ rw t (λ fault e. cc)
       | inr n ↦ rw n tt
     ]
+
     table : IfSome (if is_name name then None else Some (BadName 0)) IsFullOnly
     table = elim (cases_Bool (is_name name)) [
       | inl t ↦ rw t tt
@@ -165,6 +168,7 @@ accepted_parts dims width number fields h =
       | inl t ↦ eqb-true (length fields) width t
       | inr n ↦ let bad : Some Csv ≡ None = rw n at e in cc
     ]
+
     front : (xs ys : List (Option LoadFault)) → first_of (xs ++ ys) ≡ None → first_of xs ≡ None
     front [] ys e = refl
     front (None ∷ xs) ys e = front xs ys e

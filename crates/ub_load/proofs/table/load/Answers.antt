@@ -1,10 +1,10 @@
-use Rattle.std.proofs.Common.{◌≡◌, ◌+◌, ◌≤◌, map, Some, None, [], ◌∷◌, length, sym, subst}
+use Rattle.std.proofs.Common.{◌≡◌, map, Some}
 use Rattle.std.proofs.lemmas.Result.{err_from_is_err_and}
-use Rattle.csv.specs.Records.{Row as Fields, fields_of, row_of}
+use Rattle.csv.specs.Records.{fields_of}
 use Rattle.csv.specs.Reading.{error_kind}
 use Rattle.ub_load.specs.Field.{trimmed}
 use Rattle.ub_load.specs.Refusals.{first_of, header_refusals}
-use Rattle.ub_load.proofs.LoadFacts.{IsAt, at_start, at_next, refused_empty, refused_header, refused_here, loading_none, loading_more, number_next, all_loaded, of_csv}
+use Rattle.ub_load.proofs.LoadFacts.{at_start, at_next, refused_empty, refused_header, refused_here, loading_none, loading_more, number_next, all_loaded, of_csv}
 use Rattle.ub_load.proofs.PutFacts.{header_is_full_only, honest_full, told}
 use Rattle.ub_load.proofs.table.load.Goals as goal
 

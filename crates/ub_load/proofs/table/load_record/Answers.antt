@@ -1,4 +1,4 @@
-use Rattle.std.proofs.Common.{ℕ, subst, ◌≡◌, ◌≤◌, ◌+◌, None, length, sym, ap, refl, ◌∙◌, arith}
+use Rattle.std.proofs.Common.{ℕ, subst, ◌≡◌, None, length, ap, ◌∙◌}
 use Rattle.std.proofs.lemmas.Result.{err_from_is_err_and}
 use Rattle.csv.specs.Records.{fields_of}
 use Rattle.ub_page.specs.declared.row.Row.{Row}
