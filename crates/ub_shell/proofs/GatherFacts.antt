@@ -1,10 +1,11 @@
 -- Reading all regions of a tree: which one comes next, and what has been read.
-use Rattle.std.proofs.Common.{◌≡◌, ◌<◌, ◌≤◌, ◌+◌, inl, inr, ℕ, zero, suc, List, [], ◌∷◌, ◌++◌, true, Option, Some, None, IfSome, length, map, take, get_or, ◌∙◌, sym, ap, refl, arith, subst, slice_get, append_assoc}
+use Rattle.std.proofs.Common.{◌≡◌, ◌<◌, ◌≤◌, ◌+◌, inl, inr, ℕ, zero, suc, List, [], ◌∷◌, ◌++◌, true, false, Option, Some, None, IfSome, length, map, take, get_or, ◌∙◌, sym, ap, refl, arith, subst, slice_get, append_assoc}
 use Rattle.std.proofs.lemmas.Bool.{cases_lt, cases_eq}
 use Rattle.std.proofs.lemmas.List.{map-append, append-nil}
 use Rattle.std.proofs.lemmas.Option.{slice_get_read, slice_get_within, get_or_from_slice_get, slice_get_cases}
 use Rattle.std.proofs.Math.Seq.{take-suc, take-length}
 use Rattle.std.specs.List.{Contains}
+use Rattle.std.specs.Option.{is_some}
 use Rattle.ub_zaddr.specs.Address.{last_address}
 use Rattle.ub_page.specs.Keys.{IsBefore}
 use Rattle.ub_page.specs.Region.{Region}
@@ -132,6 +133,19 @@ same_spans : (old new : TreeView) → Keeps old new → spans_of new ≡ spans_o
 same_spans old new kept =
     ap (λ (schema : Schema). spans_in schema new.placed) kept.regions.schema ∙ ap (spans_in old.schema) kept.regions.placed
 
+pub Keeps-trans : (a b c : TreeView) → Keeps a b → Keeps b c → Keeps a c
+Keeps-trans a b c h more = record {
+  regions = record {
+    schema = more.regions.schema ∙ h.regions.schema;
+    placed = more.regions.placed ∙ h.regions.placed;
+    rows = more.regions.rows ∙ h.regions.rows;
+    next = more.regions.next ∙ h.regions.next;
+  };
+  failures = (let first = h.failures in let second = more.failures in omega arith);
+  failed = more.failed ∙ h.failed;
+  sound = λ sound. more.sound (h.sound sound);
+}
+
 -- one turn: the region at a place is found, once those before it are read
 module _ (t : TreeView) (sound : IsSound t) (k : ℕ) (p : Placed) (at : slice_get t.placed k ≡ Some p) (after : Option Span) (is : after ≡ before k (spans_of t)) where
   found_is : (found : Option Span) (span : Span) → slice_get (spans_of t) k ≡ Some span → First (λ s. IsLater after s × (0 ≤ s.to)) (spans_of t) found → found ≡ Some span
@@ -230,11 +244,13 @@ module _ (start : TreeView) (sound : IsSound start) (k n : ℕ) (below : k < len
       })
 
   -- there is no end before all regions are read
-  pub not_ended : found ≡ None → ⊥
+  pub not_ended : is_some found ≡ false → ⊥
   not_ended none =
       let (p, at) = there_is in
       let (is, read) = turned p at in
-      let span = span_at (last_address start.schema.dims) start.placed k p at in cc
+      let span = span_at (last_address start.schema.dims) start.placed k p at in
+      let some : is_some (Some span.0) ≡ false = subst (λ (o : Option Span). is_some o ≡ false) (is ∙ span.1) none in
+      cc
 
 -- all regions have been read
 pub record HasGatheredAll (start now : TreeView) (rows : List Row) : Type 0 where
