@@ -146,6 +146,25 @@ Keeps-trans a b c h more = record {
   sound = λ sound. more.sound (h.sound sound);
 }
 
+-- where the trace begins anew
+pub Keeps-begun : (old new : TreeView) → new ≡ record old { trace = [] } → Keeps old new
+Keeps-begun old new is = subst (λ (t : TreeView). Keeps old t) (sym is) (record {
+  regions = record { schema = refl; placed = refl; rows = refl; next = refl };
+  failures = omega arith;
+  failed = refl;
+  sound = λ h. record {
+    working = h.working;
+    honest = h.honest;
+    regions_are = h.regions_are;
+    placed_are = h.placed_are;
+    rows_are = h.rows_are;
+    some_next = h.some_next;
+    last_next = h.last_next;
+    few = h.few;
+    closed = h.closed;
+  };
+})
+
 -- one turn: the region at a place is found, once those before it are read
 module _ (t : TreeView) (sound : IsSound t) (k : ℕ) (p : Placed) (at : slice_get t.placed k ≡ Some p) (after : Option Span) (is : after ≡ before k (spans_of t)) where
   found_is : (found : Option Span) (span : Span) → slice_get (spans_of t) k ≡ Some span → First (λ s. IsLater after s × (0 ≤ s.to)) (spans_of t) found → found ≡ Some span

@@ -5,3 +5,4 @@ pub mod QueryFacts
 pub mod RunFacts
 pub mod StatusFacts
 pub mod GatherFacts
+pub mod SortFacts
