@@ -1,9 +1,9 @@
 -- Reading all regions of a tree: which one comes next, and what has been read.
-use Rattle.std.proofs.Common.{◌≡◌, ◌<◌, ◌≤◌, ◌+◌, inl, inr, ℕ, zero, suc, List, [], ◌∷◌, ◌++◌, true, false, Option, Some, None, IfSome, length, map, take, get_or, ◌∙◌, sym, ap, refl, arith, subst, slice_get, append_assoc}
+use Rattle.std.proofs.Common.{◌≡◌, ◌<◌, ◌≤◌, inl, inr, ℕ, zero, suc, List, [], ◌∷◌, ◌++◌, true, false, Option, Some, None, IfSome, length, map, take, ◌∙◌, sym, ap, refl, arith, subst, slice_get, append_assoc}
 use Rattle.std.proofs.lemmas.Bool.{cases_lt, cases_eq}
 use Rattle.std.proofs.lemmas.List.{map-append, append-nil}
 use Rattle.std.proofs.lemmas.Option.{slice_get_read, slice_get_within, get_or_from_slice_get, slice_get_cases}
-use Rattle.std.proofs.Math.Seq.{take-suc, take-length}
+use Rattle.std.proofs.Math.Seq.{take-suc}
 use Rattle.std.specs.List.{Contains}
 use Rattle.std.specs.Option.{is_some}
 use Rattle.ub_zaddr.specs.Address.{last_address}
@@ -15,11 +15,11 @@ use Rattle.ub_page.specs.declared.row.Row.{Row}
 use Rattle.ub_page.specs.declared.schema.Schema.{Schema}
 use Rattle.ub_store.specs.Facts.{raised}
 use Rattle.ub_tree.specs.Calls.{Keeps, HasNoted, StandsAt}
-use Rattle.ub_tree.specs.Keys.{origin, are_ascending}
+use Rattle.ub_tree.specs.Keys.{are_ascending}
 use Rattle.ub_tree.specs.Placed.{Placed, regions_in, entry_of}
 use Rattle.ub_tree.specs.Regions.{firsts_of, rows_of}
 use Rattle.ub_tree.specs.Spans.{first_keys, regions_of, IsLater, First}
-use Rattle.ub_tree.specs.View.{TreeView, IsSound, KeepsTrace, regions, spans_in, spans_of, tree_rows}
+use Rattle.ub_tree.specs.View.{TreeView, IsSound, KeepsTrace, regions, spans_in, spans_of}
 use Rattle.ub_tree.specs.declared.region.Region.{Region as Span}
 use Rattle.ub_tree.proofs.KeyFacts.{before_of, not_both_before, not_before_self, ascending_get}
 use Rattle.ub_tree.proofs.KeyLists.{are_ascending_of}
@@ -270,22 +270,3 @@ module _ (start : TreeView) (sound : IsSound start) (k n : ℕ) (below : k < len
       let span = span_at (last_address start.schema.dims) start.placed k p at in
       let some : is_some (Some span.0) ≡ false = subst (λ (o : Option Span). is_some o ≡ false) (is ∙ span.1) none in
       cc
-
--- all regions have been read
-pub record HasGatheredAll (start now : TreeView) (rows : List Row) : Type 0 where
-  pub rows_are : rows ≡ tree_rows start
-  pub trace_is : now.trace ≡ start.trace ++ map (λ p. p.page) start.placed
-  pub fetches_are : now.fetches ≡ raised start.fetches (length start.placed)
-
-pub HasGathered-all : (start now : TreeView) (k : ℕ) (rows : List Row) (after : Option Span) → IsSound start → k ≡ length start.placed → HasGathered k start now rows after → HasGatheredAll start now rows
-HasGathered-all start now k rows after sound end h =
-    let all : take k start.placed ≡ start.placed = rw end (take-length start.placed) in
-    record {
-      rows_are = h.rows_are ∙ ap (λ (placed : List Placed). rows_of (regions_in placed)) all;
-      trace_is = h.trace_is ∙ ap (λ (placed : List Placed). start.trace ++ map (λ p. p.page) placed) all;
-      fetches_are = h.fetches_are ∙ ap (fetched start.fetches) end ∙ some start.placed sound.regions_are.begins;
-    }
-  where
-    some : (placed : List Placed) → slice_get (firsts_of (regions_in placed)) 0 ≡ Some origin → fetched start.fetches (length placed) ≡ raised start.fetches (length placed)
-    some [] begins = cc
-    some (p ∷ placed) begins = refl

@@ -14,7 +14,8 @@ use ub_tree::{Region, Tree, TreeFault};
 /// The rows of a tree's table in the order of their numbers. Every region is read, in key order, and noted in the trace,
 /// which begins anew.
 ///
-/// Memory where memory was refused; else the tree's fault, which on a sound tree is its store's failure in this call alone.
+/// Memory where memory was refused; Failed where the tree has failed; Store where the store failed in this call. Page, or
+/// that the store has no such page, only where the tree isn't sound.
 pub fn gather<S: PageStore>(alloc: Global, tree: &mut Tree<S>) -> Result<Vec<Row>, TreeFault>
     ensures rows { IsSound tree.old → IfOk result (λ rows. AreTableRows (regions tree.old) rows.items) }
     ensures trace { IsSound tree.old → OnOk result (tree.new.trace ≡ map (λ p. p.page) tree.old.placed) }
@@ -38,7 +39,7 @@ fn collect<S: PageStore>(alloc: Global, tree: &mut Tree<S>) -> Result<Vec<Row>, 
 {
     let mut rows = Vec::new(alloc);
     let mut after = None;
-    for _k in 0..tree.regions() {
+    for _place in 0..tree.regions() {
         after = read_next(tree, after.as_ref(), &mut rows)?;
         if after.is_none() {
             return Ok(rows);
@@ -48,7 +49,11 @@ fn collect<S: PageStore>(alloc: Global, tree: &mut Tree<S>) -> Result<Vec<Row>, 
 }
 
 // The region after the one given, or the first, and its rows put after those that there are; None where there is no more.
-fn read_next<S: PageStore>(tree: &mut Tree<S>, after: Option<&Region>, rows: &mut Vec<Row>) -> Result<Option<Region>, TreeFault>
+fn read_next<S: PageStore>(
+    tree: &mut Tree<S>,
+    after: Option<&Region>,
+    rows: &mut Vec<Row>,
+) -> Result<Option<Region>, TreeFault>
     ensures read { IsSound tree.old → (k : ℕ) (p : Placed) → slice_get tree.old.placed k ≡ Some p → option_copied after.entry ≡ before k (spans_of tree.old) → IfOk result (λ found. (found ≡ slice_get (spans_of tree.old) k) × HasRead p tree.old tree.new rows.old.items rows.new.items) }
     ensures kept { Keeps tree.old tree.new }
     ensures refused { IfErr result (IsReadFault tree.old tree.new) }

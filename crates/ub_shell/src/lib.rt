@@ -8,7 +8,7 @@
 
 pub mod command;
 pub mod fault;
-pub mod gather;
+mod gather;
 pub mod next;
 pub mod output;
 pub mod script;

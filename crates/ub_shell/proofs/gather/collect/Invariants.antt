@@ -3,8 +3,8 @@ use Rattle.ub_tree.specs.View.{IsSound}
 use Rattle.ub_shell.proofs.GatherFacts.{HasGathered}
 use Rattle.ub_shell.proofs.gather.collect.Given as goal
 
-abbrev pub invariant-loop-k : goal.invariant-loop-k
-invariant-loop-k g l = record {
+abbrev pub invariant-loop-place : goal.invariant-loop-place
+invariant-loop-place g l = record {
   kept : Keeps l.initial.tree l.tree;
-  gathered : IsSound l.initial.tree → HasGathered l._k l.initial.tree l.tree l.rows.items l.after;
+  gathered : IsSound l.initial.tree → HasGathered l._place l.initial.tree l.tree l.rows.items l.after;
 }

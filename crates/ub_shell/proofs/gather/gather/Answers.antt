@@ -1,4 +1,4 @@
-use Rattle.std.proofs.Common.{◌≡◌, ◌∙◌, ap, List, rules}
+use Rattle.std.proofs.Common.{◌∙◌, ap, List, rules}
 use Rattle.std.proofs.lemmas.List.Sorted.{IsNonDecreasingBy-from_sort_by_key}
 use Rattle.ub_shell.proofs.GatherFacts.{Keeps-begun, Keeps-trans}
 use Rattle.ub_shell.proofs.SortFacts.{sorted_table}

@@ -6,8 +6,7 @@ returns-in_default-clause-read g c sound k p at is = absurd (turn_none c.args.tr
 
 pub returns-clause-read : goal.returns-clause-read
 returns-clause-read g c sound k p at is =
-    let first = rw c.in-Some.is at c.in_ok-region.ensures.found in
-    (
+    let first = rw c.in-Some.is at c.in_ok-region.ensures.found in (
       turn_found c.args.tree.now sound k p at _ is _ first,
       turn_read c.args.tree.now sound k p at _ is c.seek.new.self _ c.in-Some.region c.in_ok-page.page.region _ _ _ first c.seek.ensures.kept c.seek.ensures.trace c.in_ok-page.ensures.stands c.in_ok-page.ensures.first c.in_ok-page.ensures.listed c.rows.ensures.rows c.in_ok-extend_from_slice.ensures.items,
     )
