@@ -4,3 +4,5 @@ pub mod NextFacts
 pub mod QueryFacts
 pub mod RunFacts
 pub mod StatusFacts
+pub mod GatherFacts
+pub mod SortFacts

@@ -8,6 +8,7 @@
 
 pub mod command;
 pub mod fault;
+mod gather;
 pub mod next;
 pub mod output;
 pub mod script;
