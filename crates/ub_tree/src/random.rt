@@ -229,6 +229,33 @@ fn is_like<S: PageStore>(tree: &mut Tree<S>, model: &Model) -> Result<bool, Tree
     Ok(first.is_none() && tree.rows() as usize == model.keys.len())
 }
 
+// Puts a row in, once more where memory was refused, if the tree is as it was then; else it answers Full.
+fn put_again<S: PageStore>(
+    tree: &mut Tree<S>,
+    model: &Model,
+    x: u32,
+    y: u32,
+) -> Result<u32, TreeFault> {
+    match put(tree, x, y) {
+        Err(TreeFault::Memory) if is_like(tree, model)? => put(tree, x, y),
+        Err(TreeFault::Memory) => Err(TreeFault::Full),
+        answer => answer,
+    }
+}
+
+// Takes a row out, once more where memory was refused, if the tree is as it was then; else it answers Full.
+fn remove_again<S: PageStore>(
+    tree: &mut Tree<S>,
+    model: &Model,
+    key: &Key,
+) -> Result<bool, TreeFault> {
+    match tree.remove(key) {
+        Err(TreeFault::Memory) if is_like(tree, model)? => tree.remove(key),
+        Err(TreeFault::Memory) => Err(TreeFault::Full),
+        answer => answer,
+    }
+}
+
 // Puts a row in at random, or takes one out, in the tree and in the model.
 fn change<S: PageStore>(
     alloc: Global,
@@ -239,7 +266,7 @@ fn change<S: PageStore>(
     if numbers.below(5) < 3 {
         let x = numbers.coordinate();
         let y = numbers.coordinate();
-        let number = put(tree, x, y)?;
+        let number = put_again(tree, model, x, y)?;
         model.insert(Key {
             z: address(x, y),
             number,
@@ -248,7 +275,8 @@ fn change<S: PageStore>(
     }
     let place = numbers.below(model.keys.len() as u64) as usize;
     let key = model.keys.get(place).copied().unwrap_or(ORIGIN);
-    Ok(tree.remove(&key)? == model.remove(alloc, &key)?)
+    let is_there = remove_again(tree, model, &key)?;
+    Ok(is_there == model.remove(alloc, &key)?)
 }
 
 // Whether so many changes leave a tree as the definition says.
@@ -284,6 +312,49 @@ fn three_rows_on_a_page(rt: HostRuntime) -> Result<(), Fail> {
 #[test]
 fn many_rows_on_a_page(rt: HostRuntime) -> Result<(), Fail> {
     assert!(rt; changes_agree(&rt, 64, 300)?);
+    Ok(())
+}
+
+// A tree with so many rows at points on a line, two on a page, closed and opened again: its first and last region.
+fn reopened(rt: &HostRuntime, rows: u32) -> Result<Tree<MemStore>, Fail> {
+    let alloc = rt.alloc();
+    let Ok(mut tree) = Tree::create(alloc, MemStore::new(alloc), &plane(2)?) else {
+        return Err("not created".into());
+    };
+    for x in 0..rows {
+        put(&mut tree, x, 0)?;
+    }
+    let store = match tree.close() {
+        Ok(store) => store,
+        Err(refused) => return Err(refused.fault.into()),
+    };
+    match Tree::open(alloc, store) {
+        Ok(tree) => Ok(tree),
+        Err(refused) => Err(refused.fault.into()),
+    }
+}
+
+// How many rows the tree's regions have.
+fn rows_read(tree: &mut Tree<MemStore>) -> Result<usize, Fail> {
+    let mut after: Option<Region> = None;
+    let mut read = 0usize;
+    for _ in 0..tree.regions() {
+        let region = tree.seek(0, after.as_ref())?.ok_or("no region")?;
+        read = read.wrapping_add(tree.read_region(&region)?.len());
+        after = Some(region);
+    }
+    Ok(read)
+}
+
+// Rows that come in order fill a page each time that one more comes: n rows make n / 2 regions.
+#[test]
+fn many_regions_closed_and_opened(rt: HostRuntime) -> Result<(), Fail> {
+    for (rows, regions) in [(2, 1), (340, 170), (342, 171), (680, 340), (682, 341)] {
+        let mut tree = reopened(&rt, rows)?;
+        assert_eq!(rt; (tree.rows(), tree.regions()), (rows, regions));
+        assert_eq!(rt; rows_read(&mut tree)?, rows as usize);
+        assert_eq!(rt; put(&mut tree, 1, 1)?, rows.wrapping_add(1));
+    }
     Ok(())
 }
 
