@@ -2,7 +2,8 @@
 // that holds its key. The definitions stand in specs/: `Regions` (what regions are, insertion and removal as functions on their
 // list), `Spans` (the addresses that a region covers), `View` (what contracts see of a tree, and when it is sound). The code, from
 // the bottom: keys and the rows of one region (`keys`, `rows`), the directory in memory (`places`), and the tree over a store
-// (`tree` to search and read, `change` to put rows in, `closing` to begin). Pages are spelled, and stores kept, in the crates below.
+// (`tree` to search and read, `change` to put rows in, `closing` to begin, `opening` to go on with a closed table). Pages are
+// spelled, and stores kept, in the crates below.
 
 #![tactic(auto)]
 
