@@ -154,59 +154,42 @@ fn refuses_a_header(rt: HostRuntime) -> Result<(), Fail> {
     Ok(())
 }
 
-// The number of regions that the header counts, the pages 2 and 3 of the directory, and which of them is refused.
+// Why a store isn't opened whose directory has these pages, numbered 2 and 3.
+fn directory_refusal(
+    rt: &HostRuntime,
+    regions: u32,
+    first: Page,
+    second: Page,
+) -> Result<Option<TreeFault>, Fail> {
+    refusal(rt, &[header_page(regions)?, [0; 4096], first, second])
+}
+
+// How many regions the header counts; how many entries page 2 has, and the page that it names; where page 3 begins, and how
+// many entries it has; which page is refused.
 #[test]
 fn refuses_a_directory(rt: HostRuntime) -> Result<(), Fail> {
-    for (regions, first, second, page, fault) in [
-        // It ends early; it goes on; a page is short; the last page has an entry too many.
-        (
-            171,
-            part(0, 170, 0),
-            part(170, 1, 0),
-            2,
-            PageFault::BadCount,
-        ),
-        (1, part(0, 1, 3), part(1, 1, 0), 2, PageFault::BadCount),
-        (
-            171,
-            part(0, 169, 3),
-            part(169, 2, 0),
-            2,
-            PageFault::BadCount,
-        ),
-        (
-            171,
-            part(0, 170, 3),
-            part(170, 2, 0),
-            3,
-            PageFault::BadCount,
-        ),
-        // The first key isn't the least; a page begins with the last key of the one before; a page names itself.
-        (1, part(1, 1, 0), part(1, 1, 0), 2, PageFault::BadOrder),
-        (
-            171,
-            part(0, 170, 3),
-            part(169, 1, 0),
-            3,
-            PageFault::BadOrder,
-        ),
-        (
-            510,
-            part(0, 170, 2),
-            part(170, 1, 0),
-            2,
-            PageFault::BadOrder,
-        ),
-        // A page of another kind.
-        (171, part(0, 170, 3), [0; 4096], 3, PageFault::WrongKind),
+    for (regions, count, next, from, rest, page, fault) in [
+        // It ends early; it goes on; page 2 has an entry too few; page 3 has one too many.
+        (171, 170, 0, 170, 1, 2, PageFault::BadCount),
+        (1, 1, 3, 1, 1, 2, PageFault::BadCount),
+        (171, 169, 3, 169, 2, 2, PageFault::BadCount),
+        (171, 170, 3, 170, 2, 3, PageFault::BadCount),
+        // Page 3 begins with the last key of page 2; page 2 names itself.
+        (171, 170, 3, 169, 1, 3, PageFault::BadOrder),
+        (510, 170, 2, 170, 1, 2, PageFault::BadOrder),
     ] {
-        let pages = [header_page(regions)?, [0; 4096], first, second];
-        assert_eq!(rt; refusal(&rt, &pages)?, page_fault(page, fault));
+        let found = directory_refusal(&rt, regions, part(0, count, next), part(from, rest, 0))?;
+        assert_eq!(rt; found, page_fault(page, fault));
     }
-    let pages = [header_page(171)?, [0; 4096], part(0, 170, 4)];
-    assert_eq!(rt;
-        refusal(&rt, &pages)?,
-        Some(TreeFault::Store(StoreFault::NoPage))
-    );
+    Ok(())
+}
+
+// The first key of the directory isn't the least; page 4 isn't there.
+#[test]
+fn refuses_a_page_of_directory(rt: HostRuntime) -> Result<(), Fail> {
+    let late = directory_refusal(&rt, 1, part(1, 1, 0), [0; 4096])?;
+    assert_eq!(rt; late, page_fault(2, PageFault::BadOrder));
+    let missing = directory_refusal(&rt, 171, part(0, 170, 4), [0; 4096])?;
+    assert_eq!(rt; missing, Some(TreeFault::Store(StoreFault::NoPage)));
     Ok(())
 }
