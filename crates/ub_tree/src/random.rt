@@ -279,6 +279,13 @@ fn change<S: PageStore>(
     Ok(is_there == model.remove(alloc, &key)?)
 }
 
+fn created(alloc: Global, page_rows: u32) -> Result<Tree<MemStore>, Fail> {
+    match Tree::create(alloc, MemStore::new(alloc), &plane(page_rows)?) {
+        Ok(tree) => Ok(tree),
+        Err(refused) => Err(refused.fault.into()),
+    }
+}
+
 // Whether so many changes leave a tree as the definition says.
 fn changes_agree(rt: &HostRuntime, page_rows: u32, count: u32) -> Result<bool, Fail> {
     let alloc = rt.alloc();
@@ -286,9 +293,7 @@ fn changes_agree(rt: &HostRuntime, page_rows: u32, count: u32) -> Result<bool, F
     let mut numbers = Numbers {
         state: u64::from(page_rows),
     };
-    let Ok(mut tree) = Tree::create(alloc, MemStore::new(alloc), &plane(page_rows)?) else {
-        return Err("not created".into());
-    };
+    let mut tree = created(alloc, page_rows)?;
     for _ in 0..count {
         if !change(alloc, &mut tree, &mut model, &mut numbers)? || !is_like(&mut tree, &model)? {
             return Ok(false);
@@ -318,9 +323,7 @@ fn many_rows_on_a_page(rt: HostRuntime) -> Result<(), Fail> {
 // A tree with so many rows at points on a line, two on a page, closed and opened again: its first and last region.
 fn reopened(rt: &HostRuntime, rows: u32) -> Result<Tree<MemStore>, Fail> {
     let alloc = rt.alloc();
-    let Ok(mut tree) = Tree::create(alloc, MemStore::new(alloc), &plane(2)?) else {
-        return Err("not created".into());
-    };
+    let mut tree = created(alloc, 2)?;
     for x in 0..rows {
         put(&mut tree, x, 0)?;
     }
