@@ -390,6 +390,7 @@ fn fails_well(rt: &HostRuntime, k: u64) -> Result<Option<bool>, Fail> {
         let regions = tree.regions();
         match change(alloc, &mut tree, &mut model, &mut numbers) {
             Ok(_) => {}
+            Err(TreeFault::Memory) => return Err(TreeFault::Memory.into()),
             Err(_) => return Ok(Some(is_left(&mut tree, &model, regions)?)),
         }
     }
