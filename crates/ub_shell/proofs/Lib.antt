@@ -1,3 +1,4 @@
+pub mod CommandFacts
 pub mod HeldFacts
 pub mod LineFacts
 pub mod NextFacts

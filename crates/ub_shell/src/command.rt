@@ -1,6 +1,7 @@
 ghost use Rattle.std.specs.Prelude.{◌≡◌, ◌≢◌, ◌≤◌, ◌⊎◌, ◌++◌, ℕ, List, codes, IfOk};
 ghost use Rattle.ub_shell.specs.Run.{HasRun};
 ghost use Rattle.ub_shell.specs.Status.{status_code, summary_status, Tells, HasNoTable, HasNoMemory, HasEnded};
+ghost use Rattle.ub_shell.specs.CommandLine.{IsCommandFor, next_app, try_app, ubq_app};
 ghost use Rattle.ub_shell.specs.Counts.{Rose};
 ghost use Rattle.ub_shell.specs.declared.script.Summary.{Summary};
 ghost use Rattle.ub_shell.specs.declared.status.Status.{Status};
@@ -16,19 +17,18 @@ use std::alloc::{AllocError, Global};
 use std::rt::Files;
 use std::{fs, io};
 
-// The command `next` as `clap` reads it. A corner that begins with `-` is read as a corner, and refused as a point.
-fn next_command<'a>(alloc: Global) -> Result<Command<'a>, AllocError> {
+// The command `next` as `clap` reads it.
+fn next_command<'a>(alloc: Global) -> Result<Command<'a>, AllocError>
+    ensures { IfOk result (IsCommandFor next_app) }
+{
     let low = Arg::new(alloc, "LO")
         .required(true)
-        .allow_hyphen_values(true)
         .help("The least coordinate in each dimension, joined by commas, as in 2,2");
     let high = Arg::new(alloc, "HI")
         .required(true)
-        .allow_hyphen_values(true)
         .help("The greatest coordinate in each dimension, joined by commas, as in 6,3");
     let address = Arg::new(alloc, "Z")
         .required(true)
-        .allow_hyphen_values(true)
         .help("The Z-address from which to look, as in 19");
     Command::new(alloc, "next")
         .about("Find the addresses of a box that are nearest to a Z-address, on either side")
@@ -38,7 +38,9 @@ fn next_command<'a>(alloc: Global) -> Result<Command<'a>, AllocError> {
 }
 
 // The command `try` as `clap` reads it.
-fn try_command<'a>(alloc: Global) -> Result<Command<'a>, AllocError> {
+fn try_command<'a>(alloc: Global) -> Result<Command<'a>, AllocError>
+    ensures { IfOk result (IsCommandFor try_app) }
+{
     let data = Arg::new(alloc, "DATA").required(true).help(
         "A CSV file with a header: the dimensions first, then the measures",
     );
@@ -61,7 +63,6 @@ fn try_command<'a>(alloc: Global) -> Result<Command<'a>, AllocError> {
         .long("name")
         .value_name("T")
         .default_value("t")
-        .allow_hyphen_values(true)
         .help("The name of the table in the statements");
     Command::new(alloc, "try")
         .about("Run a script of statements on the table of a CSV file, in memory")
@@ -73,7 +74,9 @@ fn try_command<'a>(alloc: Global) -> Result<Command<'a>, AllocError> {
 }
 
 // The whole command line.
-fn program<'a>(alloc: Global) -> Result<Command<'a>, AllocError> {
+fn program<'a>(alloc: Global) -> Result<Command<'a>, AllocError>
+    ensures { IfOk result (IsCommandFor ubq_app) }
+{
     Command::new(alloc, "ubq")
         .version("0.1.0")
         .about("Queries over points on the Z-curve")
