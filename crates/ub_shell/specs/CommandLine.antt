@@ -1,7 +1,8 @@
 -- What the program's command line asks for.
 use Rattle.std.specs.Prelude.{◌≡◌, ◌≢◌, ◌<◌, ◌≤◌, ◌⊎◌, ◌^◌, ℕ, true, false, List, [], ◌∷◌, Some, codes, pos}
 use Rattle.std.specs.Str.Parse.{IsNumeral, digits_value, without_leading_plus}
-use Rattle.clap.specs.Words.{App, IsAmong, Row, Rule, fault_of, first_of, new_app, new_rule, one_of, app_of, subcommand_of, with_rule, with_subcommand}
+use Rattle.clap.specs.Words.{App, IsAmong, Row, Rule, fault_of, first_of, new_app, new_rule, one_of, app_of, rule_of, subcommand_of, with_rule, with_subcommand}
+use Rattle.clap.specs.declared.builder.Arg.{Arg}
 use Rattle.clap.specs.declared.builder.command.Command.{Command}
 use Rattle.clap.specs.declared.builder.command.Command.TheViews.{out-Command as fields_of}
 use Rattle.clap.specs.declared.builder.value_parser.ValueParser.TheVariants as parser
@@ -48,6 +49,10 @@ bare_app = record (new_app (codes "ubq")) {
 -- the whole command line
 unfoldable pub ubq_app : App
 ubq_app = with_subcommand (with_subcommand bare_app next_app.top) try_app.top
+
+-- an argument that `clap` reads so, and that no subcommand shares
+abbrev pub IsArgFor : Rule → Arg → Type 0
+IsArgFor rule arg = (rule_of arg ≡ rule) × (arg.global ≡ false)
 
 -- a command that `clap` reads so, with no argument that its subcommands share
 abbrev pub IsCommandFor : App → Command → Type 0

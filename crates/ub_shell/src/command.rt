@@ -1,7 +1,7 @@
 ghost use Rattle.std.specs.Prelude.{◌≡◌, ◌≢◌, ◌≤◌, ◌⊎◌, ◌++◌, ℕ, List, codes, IfOk};
 ghost use Rattle.ub_shell.specs.Run.{HasRun};
 ghost use Rattle.ub_shell.specs.Status.{status_code, summary_status, Tells, HasNoTable, HasNoMemory, HasEnded};
-ghost use Rattle.ub_shell.specs.CommandLine.{IsCommandFor, next_app, try_app, ubq_app};
+ghost use Rattle.ub_shell.specs.CommandLine.{IsArgFor, IsCommandFor, dims_rule, next_app, option_rule, page_rows_rule, try_app, ubq_app, word_rule};
 ghost use Rattle.ub_shell.specs.Counts.{Rose};
 ghost use Rattle.ub_shell.specs.declared.script.Summary.{Summary};
 ghost use Rattle.ub_shell.specs.declared.status.Status.{Status};
@@ -17,60 +17,68 @@ use std::alloc::{AllocError, Global};
 use std::rt::Files;
 use std::{fs, io};
 
+// A word that is to be given at its place.
+fn word_arg<'a>(alloc: Global, id: &'a str, help: &'a str) -> Arg<'a>
+    ensures { IsArgFor (word_rule id.entry.now) result }
+{
+    Arg::new(alloc, id).required(true).help(help)
+}
+
+// An option with a value.
+fn option_arg<'a>(alloc: Global, id: &'a str, value: &'a str, help: &'a str) -> Arg<'a>
+    ensures { IsArgFor (option_rule id.entry.now) result }
+{
+    Arg::new(alloc, id).long(id).value_name(value).help(help)
+}
+
+// The option that says how many columns are dimensions.
+fn dims_arg<'a>(alloc: Global) -> Arg<'a>
+    ensures { IsArgFor dims_rule result }
+{
+    let help = "How many of the columns are dimensions, 1 to 4";
+    option_arg(alloc, "dims", "D", help)
+        .required(true)
+        .value_parser(value_parser!(u32).range(1..=4))
+}
+
+// The option that says how many rows a page holds.
+fn page_rows_arg<'a>(alloc: Global) -> Arg<'a>
+    ensures { IsArgFor page_rows_rule result }
+{
+    let help = "How many rows a page holds at most, 2 to 64";
+    option_arg(alloc, "page-rows", "C", help)
+        .default_value("64")
+        .value_parser(value_parser!(u32).range(2..=64))
+}
+
 // The command `next` as `clap` reads it.
 fn next_command<'a>(alloc: Global) -> Result<Command<'a>, AllocError>
     ensures { IfOk result (IsCommandFor next_app) }
 {
-    let low = Arg::new(alloc, "LO")
-        .required(true)
-        .help("The least coordinate in each dimension, joined by commas, as in 2,2");
-    let high = Arg::new(alloc, "HI")
-        .required(true)
-        .help("The greatest coordinate in each dimension, joined by commas, as in 6,3");
-    let address = Arg::new(alloc, "Z")
-        .required(true)
-        .help("The Z-address from which to look, as in 19");
+    let low = "The least coordinate in each dimension, joined by commas, as in 2,2";
+    let high = "The greatest coordinate in each dimension, joined by commas, as in 6,3";
+    let address = "The Z-address from which to look, as in 19";
     Command::new(alloc, "next")
         .about("Find the addresses of a box that are nearest to a Z-address, on either side")
-        .arg(low)?
-        .arg(high)?
-        .arg(address)
+        .arg(word_arg(alloc, "LO", low))?
+        .arg(word_arg(alloc, "HI", high))?
+        .arg(word_arg(alloc, "Z", address))
 }
 
 // The command `try` as `clap` reads it.
 fn try_command<'a>(alloc: Global) -> Result<Command<'a>, AllocError>
     ensures { IfOk result (IsCommandFor try_app) }
 {
-    let data = Arg::new(alloc, "DATA").required(true).help(
-        "A CSV file with a header: the dimensions first, then the measures",
-    );
-    let script = Arg::new(alloc, "SCRIPT")
-        .required(true)
-        .help("A file of statements, each ended by a semicolon");
-    let dims = Arg::new(alloc, "dims")
-        .long("dims")
-        .value_name("D")
-        .required(true)
-        .value_parser(value_parser!(u32).range(1..=4))
-        .help("How many of the columns are dimensions, 1 to 4");
-    let page_rows = Arg::new(alloc, "page-rows")
-        .long("page-rows")
-        .value_name("C")
-        .default_value("64")
-        .value_parser(value_parser!(u32).range(2..=64))
-        .help("How many rows a page holds at most, 2 to 64");
-    let name = Arg::new(alloc, "name")
-        .long("name")
-        .value_name("T")
-        .default_value("t")
-        .help("The name of the table in the statements");
+    let data = "A CSV file with a header: the dimensions first, then the measures";
+    let script = "A file of statements, each ended by a semicolon";
+    let name = "The name of the table in the statements";
     Command::new(alloc, "try")
         .about("Run a script of statements on the table of a CSV file, in memory")
-        .arg(data)?
-        .arg(script)?
-        .arg(dims)?
-        .arg(page_rows)?
-        .arg(name)
+        .arg(word_arg(alloc, "DATA", data))?
+        .arg(word_arg(alloc, "SCRIPT", script))?
+        .arg(dims_arg(alloc))?
+        .arg(page_rows_arg(alloc))?
+        .arg(option_arg(alloc, "name", "T", name).default_value("t"))
 }
 
 // The whole command line.
