@@ -1,4 +1,5 @@
 pub mod CommandFacts
+pub mod GivenFacts
 pub mod HeldFacts
 pub mod LineFacts
 pub mod NextFacts

@@ -1,5 +1,5 @@
 -- What the program's command line asks for.
-use Rattle.std.specs.Prelude.{◌≡◌, ◌≢◌, ◌<◌, ◌≤◌, ◌⊎◌, ◌^◌, ℕ, true, false, List, [], ◌∷◌, Some, codes, pos}
+use Rattle.std.specs.Prelude.{◌≡◌, ◌≢◌, ◌<◌, ◌≤◌, ◌⊎◌, ◌^◌, ℕ, true, false, List, [], ◌∷◌, Option, Some, codes, pos}
 use Rattle.std.specs.Str.Parse.{IsNumeral, digits_value, without_leading_plus}
 use Rattle.clap.specs.Words.{App, IsAmong, Row, Rule, fault_of, first_of, new_app, new_rule, one_of, app_of, rule_of, subcommand_of, with_rule, with_subcommand}
 use Rattle.clap.specs.declared.builder.Arg.{Arg}
@@ -57,3 +57,57 @@ IsArgFor rule arg = (rule_of arg ≡ rule) × (arg.global ≡ false)
 -- a command that `clap` reads so, with no argument that its subcommands share
 abbrev pub IsCommandFor : App → Command → Type 0
 IsCommandFor app command = (app_of command ≡ app) × ((fields_of command).has_globals ≡ false)
+
+-- ---- what words ask for
+
+-- `clap` takes the words, and this is what it finds: the command that they name, and what was given for each of its arguments
+abbrev pub IsTaken : List (List ℕ) → Option (List ℕ × List Row) → Type 0
+IsTaken words found = (fault_of ubq_app words ≡ []) × (subcommand_of ubq_app words ≡ found)
+
+-- the number that was given for an option, in digits before which a plus may stand, and within these bounds
+pub record IsNumberGiven (rows : List Row) (id : List ℕ) (least most number : ℕ) : Type 0 where
+  pub text : List ℕ
+  pub given : one_of id rows ≡ Some text
+  pub digits : IsNumeral 10 (without_leading_plus text)
+  pub value : number ≡ digits_value 10 (without_leading_plus text)
+  pub at_least : least ≤ number
+  pub at_most : number ≤ most
+
+-- what was given for the command `try`
+pub record IsTryGiven (rows : List Row) (table script name : List ℕ) (dims page_rows : ℕ) : Type 0 where
+  pub table_is : first_of (codes "DATA") rows ≡ Some table
+  pub script_is : first_of (codes "SCRIPT") rows ≡ Some script
+  pub name_is : first_of (codes "name") rows ≡ Some name
+  pub dims_are : IsNumberGiven rows (codes "dims") 1 4 dims
+  pub page_rows_are : IsNumberGiven rows (codes "page-rows") 2 64 page_rows
+
+-- what was given for the command `next`
+pub record IsNextGiven (rows : List Row) (lo hi z : List ℕ) : Type 0 where
+  pub lo_is : first_of (codes "LO") rows ≡ Some lo
+  pub hi_is : first_of (codes "HI") rows ≡ Some hi
+  pub z_is : first_of (codes "Z") rows ≡ Some z
+
+-- the words are a program's name, `next` and these three
+abbrev pub AreNextWords : List (List ℕ) → List ℕ → List ℕ → List ℕ → Type 0
+AreNextWords words lo hi z = (program : List ℕ) × (words ≡ program ∷ codes "next" ∷ lo ∷ hi ∷ z ∷ [])
+
+-- the words ask for a run of the script of this file on the table of this file
+abbrev pub AsksTry : List (List ℕ) → List ℕ → List ℕ → List ℕ → ℕ → ℕ → Type 0
+AsksTry words table script name dims page_rows =
+    (rows : List Row) × IsTaken words (Some (codes "try", rows)) × IsTryGiven rows table script name dims page_rows
+
+-- the words ask for the neighbours of an address in a box; three words after `next` do so also where `clap` refuses them,
+-- since one of them begins as an option does
+abbrev pub AsksNext : List (List ℕ) → List ℕ → List ℕ → List ℕ → Type 0
+AsksNext words lo hi z =
+    ((rows : List Row) × IsTaken words (Some (codes "next", rows)) × IsNextGiven rows lo hi z)
+    ⊎ ((fault_of ubq_app words ≢ []) × AreNextWords words lo hi z)
+
+-- the words ask for the help or the version
+abbrev pub AsksHelp : List (List ℕ) → Type 0
+AsksHelp words = IsAmong kind.DisplayHelp (fault_of ubq_app words) ⊎ IsAmong kind.DisplayVersion (fault_of ubq_app words)
+
+-- the words ask for neither command
+pub record AsksNothing (words : List (List ℕ)) : Type 0 where
+  pub no_try : (table script name : List ℕ) (dims page_rows : ℕ) → ¬ (AsksTry words table script name dims page_rows)
+  pub no_next : (lo hi z : List ℕ) → ¬ (AsksNext words lo hi z)
