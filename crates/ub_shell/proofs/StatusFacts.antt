@@ -6,6 +6,8 @@ use Rattle.ub_shell.specs.Counts.{Rose}
 use Rattle.ub_shell.specs.Next.{IsNextAnswer, answer_text, answer_status}
 use Rattle.ub_shell.specs.Run.{HasRun}
 use Rattle.ub_shell.specs.Status.{HasEnded, HasNoMemory, HasNoTable, Tells, TellsIfMemory, summary_status}
+use Rattle.ub_shell.specs.declared.command.ReadFault.{ReadFault}
+use Rattle.ub_shell.specs.declared.command.ReadFault.TheVariants as read
 use Rattle.ub_shell.specs.declared.next.Neighbours.{Neighbours}
 use Rattle.ub_shell.specs.declared.next.NextFault.{NextFault}
 use Rattle.ub_shell.specs.declared.next.NextFault.TheVariants.{BadPoint, EmptyBox, TooLarge, Memory}
@@ -80,3 +82,11 @@ try_ends words old new f g table path name text script dims page_rows Data asks 
 try_ends words old new f g table path name text script dims page_rows Device asks run no_table no_memory device parsed = inl (device refl)
 try_ends words old new f g table path name text script dims page_rows ended.Memory asks run no_table no_memory device parsed =
     inr (table, path, name, text, script, dims, page_rows, asks, no_memory refl)
+
+-- a file of a script's run was not read, for want of memory or by the device
+pub fault_ends : (words : List (List ℕ)) (old new : Option (List ℕ)) (f g : ℕ) (table path name : List ℕ) (dims page_rows : ℕ) (fault : ReadFault) (status : Status)
+    → AsksTry words table path name dims page_rows → (fault ≡ read.Memory → Tells old new f g (codes "! Memory\n") ended.Memory status)
+    → (fault ≡ read.Device → Tells old new f g (codes "! Device\n") Device status) → HasEnded words old new f g status
+fault_ends words old new f g table path name dims page_rows read.Memory status asks memory device = memory_ends words old new f g status (memory refl)
+fault_ends words old new f g table path name dims page_rows read.Device status asks memory device =
+    unread_ends words old new f g table path name dims page_rows status asks (device refl)

@@ -292,14 +292,30 @@ fn run_next<W: Out>(alloc: Global, found: &ArgMatches<'_>, out: &mut W) -> Statu
     }
 }
 
+// The command that `clap` found, and what was given for it.
+fn command_found<'m, 'a>(matches: &'m ArgMatches<'a>) -> Option<(&'a str, &'m ArgMatches<'a>)>
+    ensures { option_map (λ p. (p.0.now, rows_of (found_of p.1.now))) result ≡ subcommand_rows_of matches.now }
+{
+    matches.subcommand()
+}
+
 // Runs the command that `clap` found.
-fn run_matches<R: Files + AllocGlobal, W: Out>(rt: &R, matches: &ArgMatches<'_>, out: &mut W) -> Status
+fn run_matches<R: Files + AllocGlobal, W: Out>(
+    rt: &R,
+    matches: &ArgMatches<'_>,
+    out: &mut W,
+) -> Status
     ensures ended { (words : List (List ℕ)) → IsTaken words (subcommand_rows_of matches.now) → HasEnded words (W.told out.old) (W.told out.new) (W.failures out.old) (W.failures out.new) result }
 {
-    match matches.subcommand() {
-        Some(("next", found)) => run_next(rt.alloc(), found, out),
-        Some(("try", found)) => run_try(rt, found, out),
-        _ => tell_no_command(out),
+    let Some((name, found)) = command_found(matches) else {
+        return tell_no_command(out);
+    };
+    if name == "next" {
+        run_next(rt.alloc(), found, out)
+    } else if name == "try" {
+        run_try(rt, found, out)
+    } else {
+        tell_no_command(out)
     }
 }
 
