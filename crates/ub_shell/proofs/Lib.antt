@@ -1,3 +1,6 @@
+pub mod AskFacts
+pub mod CommandFacts
+pub mod GivenFacts
 pub mod HeldFacts
 pub mod LineFacts
 pub mod NextFacts

@@ -6,3 +6,4 @@ pub mod Run
 pub mod Next
 pub mod Status
 pub mod Gather
+pub mod CommandLine

@@ -9,6 +9,7 @@ use Rattle.ub_load.specs.declared.fault.LoadFault.TheVariants as load
 use Rattle.ub_shell.specs.declared.script.Summary.{Summary}
 use Rattle.ub_shell.specs.declared.status.Status.{Status}
 use Rattle.ub_shell.specs.declared.status.Status.TheVariants.{Done, Refused, CommandLine, Data, Device, Memory}
+use Rattle.ub_shell.specs.CommandLine.{AsksHelp, AsksNext, AsksNothing, AsksTry}
 use Rattle.ub_shell.specs.Counts.{Rose}
 use Rattle.ub_shell.specs.Run.{HasBegun, HasRun}
 use Rattle.ub_shell.specs.Next.{IsNextAnswer, answer_text, answer_status}
@@ -77,30 +78,48 @@ pub record HasNoTable (text : List ℕ) (dims : ℕ) (name : List ℕ) (old new 
 abbrev pub TellsLines : Option (List ℕ) → Option (List ℕ) → Type 0
 TellsLines old new = (lines : List ℕ) × Appends old new (lines ++ codes "\n")
 
--- a script was run to its end on the table of a CSV text, and the status says whether a statement of it was refused
-abbrev pub RanScript : Option (List ℕ) → Option (List ℕ) → Status → Type 0
-RanScript old new status =
-    (text name script : List ℕ) × (dims page_rows : ℕ) × (summary : Summary)
+-- a script was run to its end on the table of a CSV text, as the words ask, and the status says whether a statement of it
+-- was refused
+abbrev pub RanScript : List (List ℕ) → Option (List ℕ) → Option (List ℕ) → Status → Type 0
+RanScript words old new status =
+    (table path name text script : List ℕ) × (dims page_rows : ℕ) × (summary : Summary)
+    × AsksTry words table path name dims page_rows
     × HasRun text dims page_rows name script old new summary × (status ≡ summary_status summary)
 
--- what three words are told that ask for an address's neighbours was written, and the status goes with it
-abbrev pub AnsweredNext : Option (List ℕ) → Option (List ℕ) → Status → Type 0
-AnsweredNext old new status =
-    (lo hi z : List ℕ) × (answer : Result Neighbours NextFault)
+-- what the three words are told by which an address's neighbours are asked for was written, and the status goes with it
+abbrev pub AnsweredNext : List (List ℕ) → Option (List ℕ) → Option (List ℕ) → Status → Type 0
+AnsweredNext words old new status =
+    (lo hi z : List ℕ) × (answer : Result Neighbours NextFault) × AsksNext words lo hi z
     × IsNextAnswer lo hi z answer × Appends old new (answer_text answer) × (status ≡ answer_status answer)
 
--- nothing or the texts of a script's first statements were written, and then the line that says that memory was refused
-abbrev pub EndedWithoutMemory : Option (List ℕ) → Option (List ℕ) → Type 0
-EndedWithoutMemory old new =
-    Appends old new (codes "! Memory\n")
-    ⊎ ((text name script : List ℕ) × (dims page_rows : ℕ) × HasNoMemory text dims page_rows name script old new)
+-- the words ask for a script on the table of a text that was refused, and that was told
+abbrev pub RefusedTable : List (List ℕ) → Option (List ℕ) → Option (List ℕ) → Type 0
+RefusedTable words old new =
+    (table path name text : List ℕ) × (dims page_rows : ℕ)
+    × AsksTry words table path name dims page_rows × HasNoTable text dims name old new
 
--- what a command of the program has done and written that ends with this status: told is what its output held before and
--- after, failures how often that failed
-abbrev pub HasEnded : Option (List ℕ) → Option (List ℕ) → ℕ → ℕ → Status → Type 0
-HasEnded old new failures failures_now Done = RanScript old new Done ⊎ (AnsweredNext old new Done ⊎ TellsLines old new)
-HasEnded old new failures failures_now Refused = RanScript old new Refused
-HasEnded old new failures failures_now CommandLine = AnsweredNext old new CommandLine ⊎ TellsLines old new
-HasEnded old new failures failures_now Data = (text name : List ℕ) × (dims : ℕ) × HasNoTable text dims name old new
-HasEnded old new failures failures_now Device = Rose failures failures_now ⊎ Appends old new (codes "! Device\n")
-HasEnded old new failures failures_now Memory = EndedWithoutMemory old new
+-- the words ask for a script on a table, and it was told that a file could not be read
+abbrev pub ReadNoFile : List (List ℕ) → Option (List ℕ) → Option (List ℕ) → Type 0
+ReadNoFile words old new =
+    (table path name : List ℕ) × (dims page_rows : ℕ)
+    × AsksTry words table path name dims page_rows × Appends old new (codes "! Device\n")
+
+-- nothing was written, or the texts of the first statements of a script that the words ask for, and then the line that
+-- says that memory was refused
+abbrev pub EndedWithoutMemory : List (List ℕ) → Option (List ℕ) → Option (List ℕ) → Type 0
+EndedWithoutMemory words old new =
+    Appends old new (codes "! Memory\n")
+    ⊎ ((table path name text script : List ℕ) × (dims page_rows : ℕ)
+    × AsksTry words table path name dims page_rows × HasNoMemory text dims page_rows name script old new)
+
+-- what a command of the program has done and written that was given these words and ends with this status: told is what
+-- its output held before and after, failures how often that failed
+abbrev pub HasEnded : List (List ℕ) → Option (List ℕ) → Option (List ℕ) → ℕ → ℕ → Status → Type 0
+HasEnded words old new failures failures_now Done =
+    RanScript words old new Done ⊎ (AnsweredNext words old new Done ⊎ (AsksHelp words × TellsLines old new))
+HasEnded words old new failures failures_now Refused = RanScript words old new Refused
+HasEnded words old new failures failures_now CommandLine =
+    AnsweredNext words old new CommandLine ⊎ (AsksNothing words × TellsLines old new)
+HasEnded words old new failures failures_now Data = RefusedTable words old new
+HasEnded words old new failures failures_now Device = Rose failures failures_now ⊎ ReadNoFile words old new
+HasEnded words old new failures failures_now Memory = EndedWithoutMemory words old new
