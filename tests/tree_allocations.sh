@@ -12,7 +12,7 @@ bad=0
 for ((n = first; n <= last; n++)); do
     text=$(rt try --test --fail-alloc "$n" 2>&1)
     failed=$(grep -c '^test random::.*FAILED' <<< "$text")
-    memory=$(grep -A1 '^test random::.*FAILED' <<< "$text" | grep -c 'error: Memory')
+    memory=$(grep -A1 '^test random::.*FAILED' <<< "$text" | grep -c 'error: Memory\|error: AllocError')
     if [ "$failed" -ne "$memory" ]; then
         echo "allocation $n: $failed tests failed, $memory of them for want of memory"
         bad=$((bad + 1))
