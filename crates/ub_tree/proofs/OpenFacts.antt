@@ -1,15 +1,13 @@
 -- Reading a directory page by page.
-use Rattle.std.proofs.Common.{◌≡◌, ◌≢◌, ◌<◌, ◌≤◌, ◌+◌, ◌-◌, ◌*◌, ◌/◌, ◌⊎◌, ◌↔◌, ◌&&◌, ◌++◌, inl, inr, ℕ, zero, suc, min, get_or, Bool, true, false, List, [], ◌∷◌, Some, None, Result, Ok, Err, IfErr, length, take, drop, ◌∙◌, sym, ap, subst, refl, arith, slice_get, slice_index_or}
+use Rattle.std.proofs.Common.{◌≡◌, ◌<◌, ◌≤◌, ◌+◌, ◌-◌, ◌*◌, ◌↔◌, ◌&&◌, ◌++◌, inl, inr, ℕ, zero, suc, get_or, Bool, true, false, List, [], ◌∷◌, Some, Result, Ok, Err, IfErr, length, take, drop, ◌∙◌, sym, ap, subst, refl, arith, slice_get, slice_index_or}
 use Rattle.std.proofs.lemmas.Bool.{and_parts, cases_eq}
-use Rattle.std.proofs.lemmas.List.{length-append, length-take, length-drop, take-append-le, drop-append-le, take-append-drop}
+use Rattle.std.proofs.lemmas.List.{length-append, length-take, length-drop, take-append-le, drop-append-le}
 use Rattle.std.proofs.lemmas.List.Elements.{All-from_recursion}
-use Rattle.std.specs.List.{All, AllByRecursion}
+use Rattle.std.specs.List.{AllByRecursion}
 use Rattle.std.specs.Result.{IsErrAnd, IsErrOf}
 use Rattle.ub_zaddr.specs.Address.{last_address}
 use Rattle.ub_page.specs.Directory.{Listing, AreAscending, IsEntry, IsListing, directory_page}
-use Rattle.ub_page.specs.Header.{IsHeader, header_page}
 use Rattle.ub_page.specs.declared.directory.Entry.{Entry}
-use Rattle.ub_page.specs.declared.fault.PageFault.{PageFault}
 use Rattle.ub_page.specs.declared.header.Header.{Header}
 use Rattle.ub_store.specs.Facts as facts
 use Rattle.ub_store.specs.Facts.{StoreFacts, IsHonest, IsPage, Failed, page_count}
@@ -17,7 +15,7 @@ use Rattle.ub_store.specs.declared.fault.StoreFault.{StoreFault}
 use Rattle.ub_store.specs.declared.fault.StoreFault.TheVariants as store
 use Rattle.ub_tree.specs.Faults.{tree_fault}
 use Rattle.ub_tree.specs.Keys.{origin, precedes, is_same, are_ascending}
-use Rattle.ub_tree.specs.Opened.{IsDirectory, Spells, AreFull, AreBegun, HasPart, IsPartFault, IsReadUpTo, IsReadWhole, IsAskedFor, IsRefused, IsOpenFault}
+use Rattle.ub_tree.specs.Opened.{Spells, AreFull, AreBegun, HasPart, IsReadUpTo, IsReadWhole, IsAskedFor, IsRefused, IsOpenFault}
 use Rattle.ub_tree.specs.Spans.{ArePlaces, first_keys}
 use Rattle.ub_tree.specs.Stored.{IsChain}
 use Rattle.ub_tree.specs.declared.fault.TreeFault.{TreeFault}

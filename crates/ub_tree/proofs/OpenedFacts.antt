@@ -1,19 +1,19 @@
 -- A table's pages tell of one directory alone, and opening finds it.
-use Rattle.std.proofs.Common.{◌≡◌, ◌<◌, ◌≤◌, ◌+◌, ◌-◌, ◌^◌, ◌⊎◌, ◌↔◌, ◌++◌, inl, inr, ℕ, zero, suc, min, true, false, List, [], ◌∷◌, Option, Some, length, map, take, drop, nat_eq, ◌∙◌, sym, ap, subst, refl, arith, slice_get, slice_index_or, append_assoc}
+use Rattle.std.proofs.Common.{◌≡◌, ◌<◌, ◌≤◌, ◌+◌, ◌-◌, ◌^◌, ◌⊎◌, ◌++◌, inl, inr, ℕ, zero, suc, true, false, List, [], ◌∷◌, Option, Some, length, map, take, drop, nat_eq, ◌∙◌, sym, ap, subst, refl, arith, slice_get, slice_index_or, append_assoc}
 use Rattle.std.proofs.Math.Seq.{take-append-add}
 use Rattle.std.proofs.lemmas.Bool.{and_parts, and_from}
 use Rattle.std.proofs.lemmas.List.{length-append, length-take, length-drop, length-map, take-append-drop}
 use Rattle.std.proofs.lemmas.List.Elements.{All-from_recursion, recursion_from_All}
 use Rattle.std.proofs.lemmas.Map.Keys.{IsDistinct-head}
 use Rattle.std.proofs.lemmas.Option.{slice_get_within}
-use Rattle.std.specs.List.{AllByRecursion, IsDistinct}
+use Rattle.std.specs.List.{AllByRecursion}
 use Rattle.ub_zaddr.specs.Address.{last_address}
 use Rattle.ub_page.proofs.DirectoryFacts as directory
 use Rattle.ub_page.proofs.HeaderFacts as headers
 use Rattle.ub_page.proofs.RegionFacts as region_pages
-use Rattle.ub_page.specs.Directory.{Listing, AreAscending, IsEntry, IsListing, directory_page, listing_on}
-use Rattle.ub_page.specs.Header.{IsHeader, AreSame, header_page, IsHeaderFault}
-use Rattle.ub_page.specs.Region.{Region, IsRegion, region_on, region_page}
+use Rattle.ub_page.specs.Directory.{Listing, AreAscending, IsEntry, IsListing, directory_page}
+use Rattle.ub_page.specs.Header.{IsHeader, AreSame, header_page}
+use Rattle.ub_page.specs.Region.{IsRegion, region_page}
 use Rattle.ub_page.specs.declared.directory.Entry.{Entry}
 use Rattle.ub_page.specs.declared.fault.PageFault.{PageFault}
 use Rattle.ub_page.specs.declared.fault.PageFault.TheVariants.{WrongKind, Unclean, BadCount, BadName, BadRow, BadOrder, OutOfRegion, BadPadding}
@@ -27,7 +27,7 @@ use Rattle.ub_store.specs.declared.fault.StoreFault.TheVariants as store
 use Rattle.ub_tree.specs.Keys.{origin, are_ascending}
 use Rattle.ub_tree.specs.Opened.{IsDirectory, IsOpened, Spells, AreFull, AreBegun, HasPart, IsMisfit, IsPartFault, IsReadUpTo, IsReadWhole, IsOpenFault}
 use Rattle.ub_tree.specs.Placed.{Placed, ArePlaced, placed_of, regions_in, entry_of}
-use Rattle.ub_tree.specs.Regions.{firsts_of, rows_of}
+use Rattle.ub_tree.specs.Regions.{firsts_of}
 use Rattle.ub_tree.specs.Spans.{ArePlaces, first_keys}
 use Rattle.ub_tree.specs.Stored.{IsChain, AreSoundPages}
 use Rattle.ub_tree.specs.Tree.{known_pages, tree_view}

@@ -1,5 +1,5 @@
 -- Opening a store: which pages tell of a table, what is made of them, and why others are refused.
-use Rattle.std.specs.Prelude.{◌≡◌, ◌≤◌, ◌<◌, ◌+◌, ◌-◌, ◌^◌, ◌↔◌, ◌⊎◌, ◌++◌, ℕ, min, false, IsTrue, List, [], ◌∷◌, Some, All, length, map, take, drop, slice_get, slice_index_or}
+use Rattle.std.specs.Prelude.{◌≡◌, ◌≤◌, ◌<◌, ◌-◌, ◌^◌, ◌↔◌, ◌⊎◌, ◌++◌, ℕ, min, false, IsTrue, List, [], ◌∷◌, Some, length, map, take, drop, slice_get, slice_index_or}
 use Rattle.std.specs.List.{AllByRecursion}
 use Rattle.ub_zaddr.specs.Address.{last_address}
 use Rattle.ub_page.specs.Directory.{Listing, IsEntry, IsListing, directory_page, IsDirectoryFault}

@@ -224,6 +224,7 @@ impl<S: PageStore> Tree<S> {
         requires measures { length measures.now ≡ measures_of self.old.schema }
         ensures inserted { IsSound self.old → IfOk result (λ n. IsInserted (spec.row_of n dims.now measures.now) self.old self.new) }
         ensures number { IfOk result (λ n. n ≡ self.old.next) }
+        ensures counted { OnOk result ((self.new.next ≡ self.old.next + 1) × (self.new.rows ≡ self.old.rows + 1) × (self.new.is_failed ≡ false)) }
         ensures schema { self.new.schema ≡ self.old.schema }
         ensures first { IsMarkedFirst self.old self.new }
         ensures trace { KeepsTrace self.old self.new }
