@@ -4,3 +4,4 @@ pub mod RowFacts
 pub mod CsvFacts
 pub mod HeaderFacts
 pub mod LoadFacts
+pub mod PutFacts

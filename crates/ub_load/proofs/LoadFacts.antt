@@ -1,5 +1,5 @@
--- What has been read of a text: the records so far, and the rows of those after the header.
-use Rattle.std.proofs.Common.{Bor, ◌≡◌, ◌≢◌, ◌≤◌, ◌<◌, ◌+◌, ℕ, false, List, [], ◌∷◌, ◌++◌, length, map, Option, Some, None, Ok, refl, sym, ap, ◌∙◌, arith, append_assoc, length-append, inl, inr}
+-- What has been read of a text: the records so far, and the tree that holds the rows of those after the header.
+use Rattle.std.proofs.Common.{Bor, ◌≡◌, ◌≢◌, ◌≤◌, ◌<◌, ◌+◌, ℕ, false, List, [], ◌∷◌, ◌++◌, length, map, Option, Some, None, Ok, refl, sym, ap, subst, ◌∙◌, arith, append_assoc, length-append, inl, inr}
 use Rattle.std.proofs.lemmas.List.{map-append, length-map}
 use Rattle.std.proofs.lemmas.List.FromFn.{length-enumerate_from}
 use Rattle.std.specs.List.{enumerate_from, flat_map}
@@ -11,10 +11,19 @@ use Rattle.csv.specs.declared.iter.ByteRecordsIntoIter.{ByteRecordsIntoIter}
 use Rattle.csv.specs.declared.parser.State.TheVariants as st
 use Rattle.csv.specs.declared.reader.Reader.{Reader}
 use Rattle.csv.specs.declared.reader.Trim.TheVariants as trim
+use Rattle.ub_page.specs.Region.{Region, IsRow, measures_of}
 use Rattle.ub_page.specs.declared.row.Row.{Row}
 use Rattle.ub_page.specs.declared.schema.Schema.{Schema}
+use Rattle.ub_store.specs.Facts.{StoreFacts, IsHonest}
+use Rattle.ub_tree.specs.Calls.{IsCreated}
+use Rattle.ub_tree.specs.Change.{IsInserted}
+use Rattle.ub_tree.specs.Keys.{origin}
+use Rattle.ub_tree.specs.Regions.{AreTableRows, insert}
+use Rattle.ub_tree.specs.View.{TreeView, IsSound, KeepsTrace, regions}
+use Rattle.ub_tree.proofs.TableFacts.{insert_table}
 use Rattle.ub_load.specs.Field.{trimmed}
-use Rattle.ub_load.specs.LoadedTable.{IsLoaded, records_of, row_of, rows_of}
+use Rattle.ub_load.specs.LoadedTable.{records_of, row_of, rows_of}
+use Rattle.ub_load.specs.LoadedTree.{IsLoadedTree, insert_all, loaded_regions}
 use Rattle.ub_load.specs.Refusals.{first_of, first_refusal, fault_of, header_refusals, record_refusals, refusals}
 use Rattle.ub_load.specs.declared.fault.LoadFault.{LoadFault}
 use Rattle.ub_load.specs.declared.fault.LoadFault.TheVariants.{Csv, Memory, NoHeader}
@@ -62,15 +71,7 @@ at_end {text} {taken} {a} is b m s =
 pub at_front : {text : List ℕ} {taken : List (List (List ℕ))} {a : Reader Source} {n : ℕ} → IsAt text taken a n → (rest : List (List (List ℕ))) × (taken ++ rest ≡ records_of text)
 at_front {text} {taken} {a} is = Reached-front default_config (strip_bom text) is.rest a.state taken is.reached
 
--- the header and some rows have been read, with nothing wrong in the rows
-pub record HasRead (text : List ℕ) (dims : ℕ) (header : List (List ℕ)) (rows : List Row) (rdr : Reader Source) (left : ℕ) : Type 0 where
-  pub taken : List (List (List ℕ))
-  pub at : IsAt text (header ∷ taken) rdr left
-  pub rows_are : rows ≡ rows_of dims taken
-  pub accepted : first_of (flat_map (record_refusals dims (length header)) (enumerate_from 1 taken)) ≡ None
-  pub few : length rows ≤ 16777215
-
-pub length-rows_of : (dims : ℕ) (taken : List (List (List ℕ))) → length (rows_of dims taken) ≡ length taken
+length-rows_of : (dims : ℕ) (taken : List (List (List ℕ))) → length (rows_of dims taken) ≡ length taken
 unfolding rows_of
 length-rows_of dims taken = length-map (enumerate_from 1 taken) (row_of dims) ∙ length-enumerate_from 1 taken
 
@@ -78,40 +79,144 @@ rows_of-more : (dims : ℕ) (taken : List (List (List ℕ))) (r : List (List ℕ
 unfolding rows_of
 rows_of-more dims taken r = rw (enumerate_from-append 1 taken (r ∷ []), map-append (row_of dims) (enumerate_from 1 taken) (enumerate_from (1 + length taken) (r ∷ []))) refl
 
-pub read_none : {text : List ℕ} {header : List (List ℕ)} {a : Reader Source} {n : ℕ} (dims : ℕ) → IsAt text (header ∷ []) a n → HasRead text dims header [] a n
+rows_of-none : (dims : ℕ) → rows_of dims [] ≡ []
 unfolding rows_of
-read_none dims is = record { taken = []; at = is; rows_are = refl; accepted = refl; few = omega arith }
+rows_of-none dims = refl
 
-count_of : (dims number : ℕ) (rows : List Row) (taken : List (List (List ℕ))) → rows ≡ rows_of dims taken → number ≡ length rows + 1 → number ≡ 1 + length taken
-count_of dims number rows taken e is = let same = ap length e in omega (arith, length-rows_of dims taken)
+insert_all-more : (dims c : ℕ) (rows : List Row) (row : Row) (regions : List Region) → insert_all dims c (rows ++ row ∷ []) regions ≡ insert dims c row (insert_all dims c rows regions)
+insert_all-more dims c [] row regions = refl
+insert_all-more dims c (first ∷ rows) row regions = insert_all-more dims c rows row (insert dims c first regions)
 
--- one more row
-pub read_more : {text : List ℕ} {dims : ℕ} {header : List (List ℕ)} {rows : List Row} {a : Reader Source} {n : ℕ} → HasRead text dims header rows a n
-    → (b : Reader Source) (m : ℕ) (r : Fields) → RowStep bytes_of a b m (Some (Ok r)) → (number : ℕ) (row : Row) → number ≡ length rows + 1 → row ≡ row_of dims (number, fields_of r)
-    → first_of (record_refusals dims (length header) (number, fields_of r)) ≡ None → number ≤ 16777215 → HasRead text dims header (rows ++ row ∷ []) b m
-read_more {text} {dims} {header} {rows} {a} {n} is b m r s number row counts row_is fine few =
-    let place = count_of dims number rows is.taken is.rows_are counts in
+-- the tree is sound, and its table has these rows, which were put in one after the other
+pub record HoldsRows (dims c : ℕ) (rows : List Row) (t : TreeView) : Type 0 where
+  pub sound : IsSound t
+  pub regions_are : regions t ≡ loaded_regions dims c rows
+  pub table : AreTableRows (regions t) rows
+  pub next : t.next ≡ length rows + 1
+
+-- a new tree holds no rows
+holds_none : (dims c : ℕ) (t : TreeView) → IsSound t → regions t ≡ record { first = origin; rows = [] } ∷ [] → t.next ≡ 1 → HoldsRows dims c [] t
+holds_none dims c t sound are next = record {
+  sound = sound;
+  regions_are = are;
+  table = rw are (record { ascending = λ k lt. absurd (omega arith); same = λ row. (λ c. c, λ c. c) });
+  next = next;
+}
+
+-- one more row, which is put in
+holds_more : (dims c : ℕ) (rows : List Row) (row : Row) (t u : TreeView) → HoldsRows dims c rows t → t.schema.dims ≡ dims → t.schema.page_rows ≡ c → IsRow t.schema.dims (measures_of t.schema) row
+    → IsInserted row t u → HoldsRows dims c (rows ++ row ∷ []) u
+holds_more dims c rows row t u h dims_are page_rows_are good put =
+    let are : regions u ≡ insert t.schema.dims t.schema.page_rows row (regions t) = put.regions_are in
     record {
-      taken = is.taken ++ fields_of r ∷ [];
-      at = at_next is.at b m r s;
-      rows_are = rw (is.rows_are, row_is, place) (sym (rows_of-more dims is.taken (fields_of r)));
-      accepted = flat-more (record_refusals dims (length header)) 1 number is.taken (fields_of r) place is.accepted fine;
-      few = omega (arith, length-append rows (row ∷ []));
+      sound = put.sound;
+      regions_are = are ∙ rw (dims_are, page_rows_are, h.regions_are) (sym (insert_all-more dims c rows row (record { first = origin; rows = [] } ∷ [])));
+      table = rw are (insert_table t.schema t.next row (regions t) rows h.sound.regions_are h.table good put.number);
+      next = put.next ∙ (let old = h.next in let long = length-append rows (row ∷ []) in omega arith);
     }
 
--- a row that is refused is the first thing wrong in the text
-pub refused_here : {text : List ℕ} {dims : ℕ} {header : List (List ℕ)} {rows : List Row} {a : Reader Source} {n : ℕ} → HasRead text dims header rows a n
-    → (b : Reader Source) (m : ℕ) (r : Fields) → RowStep bytes_of a b m (Some (Ok r)) → (number : ℕ) (name : List ℕ) (f : LoadFault) → number ≡ length rows + 1
-    → first_of (header_refusals dims name (map trimmed header)) ≡ None
-    → first_of (record_refusals dims (length header) (number, fields_of r)) ≡ Some f → first_refusal dims name (records_of text) ≡ Some f
+-- the header and the records before the row of this number have been read, with nothing wrong in them; the tree works, and
+-- where its store is honest it holds their rows
+pub record IsLoading (text : List ℕ) (dims page_rows : ℕ) (name : List ℕ) (store : StoreFacts) (number : ℕ) (t : TreeView) (rdr : Reader Source) (left : ℕ) : Type 0 where
+  pub header : List (List ℕ)
+  pub taken : List (List (List ℕ))
+  pub at : IsAt text (header ∷ taken) rdr left
+  pub number_is : number ≡ 1 + length taken
+  pub few : number ≤ 16777216
+  pub fine : first_of (header_refusals dims name (map trimmed header)) ≡ None
+  pub accepted : first_of (flat_map (record_refusals dims (length header)) (enumerate_from 1 taken)) ≡ None
+  pub name_is : t.schema.name ≡ name
+  pub columns_are : t.schema.columns ≡ map trimmed header
+  pub dims_are : t.schema.dims ≡ dims
+  pub page_rows_are : t.schema.page_rows ≡ page_rows
+  pub working : t.is_failed ≡ false
+  pub trace_is : t.trace ≡ []
+  pub fetches_are : t.fetches ≡ 0
+  pub holds : IsHonest store → HoldsRows dims page_rows (rows_of dims taken) t
+
+-- before the first record
+pub loading_none : {text : List ℕ} {header : List (List ℕ)} {a : Reader Source} {n : ℕ} → IsAt text (header ∷ []) a n
+    → (dims page_rows : ℕ) (name : List ℕ) (store : StoreFacts) (schema : Schema) (t : TreeView) → first_of (header_refusals dims name (map trimmed header)) ≡ None
+    → (schema.name ≡ name) × (schema.columns ≡ map trimmed header) × (schema.dims ≡ dims) × (schema.page_rows ≡ page_rows) → IsCreated store schema t
+    → IsLoading text dims page_rows name store 1 t a n
+loading_none {text} {header} is dims page_rows name store schema t fine parts made =
+    let same : t.schema ≡ schema = made.schema_is in
+    record {
+      header = header;
+      taken = [];
+      at = is;
+      number_is = refl;
+      few = omega arith;
+      fine = fine;
+      accepted = refl;
+      name_is = ap (λ (s : Schema). s.name) same ∙ parts.0;
+      columns_are = ap (λ (s : Schema). s.columns) same ∙ parts.1;
+      dims_are = ap (λ (s : Schema). s.dims) same ∙ parts.2;
+      page_rows_are = ap (λ (s : Schema). s.page_rows) same ∙ parts.3;
+      working = made.working;
+      trace_is = made.trace_is;
+      fetches_are = made.fetches_are;
+      holds = λ honest. rw (rows_of-none dims) (holds_none dims page_rows t (made.sound honest) (made.regions_are honest) made.next_is);
+    }
+
+-- what the tree's schema tells of a record's refusals is what the header tells
+width_is : (t : TreeView) (header : List (List ℕ)) → t.schema.columns ≡ map trimmed header → length t.schema.columns ≡ length header
+width_is t header e = ap length e ∙ length-map header trimmed
+
+-- where the store is honest, the row's number is next
+pub number_next : {text : List ℕ} {dims page_rows : ℕ} {name : List ℕ} {store : StoreFacts} {number : ℕ} {t : TreeView} {a : Reader Source} {n : ℕ}
+    → IsLoading text dims page_rows name store number t a n → IsHonest store → IsSound t × (t.next ≡ number)
+number_next {dims = dims} is honest =
+    let h = is.holds honest in
+    let next = h.next in
+    let long = length-rows_of dims is.taken in
+    let count = is.number_is in
+    (h.sound, omega arith)
+
+-- one more record
+pub loading_more : {text : List ℕ} {dims page_rows : ℕ} {name : List ℕ} {store : StoreFacts} {number : ℕ} {t : TreeView} {a : Reader Source} {n : ℕ}
+    → IsLoading text dims page_rows name store number t a n → (u : TreeView) (b : Reader Source) (m : ℕ) (r : Fields) → RowStep bytes_of a b m (Some (Ok r)) → number ≤ 16777215
+    → first_of (record_refusals t.schema.dims (length t.schema.columns) (number, fields_of r)) ≡ None → IsRow t.schema.dims (measures_of t.schema) (row_of t.schema.dims (number, fields_of r))
+    → (IsSound t → t.next ≡ number → IsInserted (row_of t.schema.dims (number, fields_of r)) t u) → u.is_failed ≡ false → u.schema ≡ t.schema → KeepsTrace t u
+    → IsLoading text dims page_rows name store (number + 1) u b m
+loading_more {text} {dims} {page_rows} {name} {store} {number} {t} is u b m r s few fine good put working schema trace =
+    let wide = width_is t is.header is.columns_are in
+    let next = number_next is in
+    record {
+      header = is.header;
+      taken = is.taken ++ fields_of r ∷ [];
+      at = at_next is.at b m r s;
+      number_is = (let count = is.number_is in let long = length-append is.taken (fields_of r ∷ []) in omega arith);
+      few = omega arith;
+      fine = is.fine;
+      accepted = flat-more (record_refusals dims (length is.header)) 1 number is.taken (fields_of r) is.number_is is.accepted (rw (is.dims_are, wide) at fine);
+      name_is = ap (λ (s : Schema). s.name) schema ∙ is.name_is;
+      columns_are = ap (λ (s : Schema). s.columns) schema ∙ is.columns_are;
+      dims_are = ap (λ (s : Schema). s.dims) schema ∙ is.dims_are;
+      page_rows_are = ap (λ (s : Schema). s.page_rows) schema ∙ is.page_rows_are;
+      working = working;
+      trace_is = trace.0 ∙ is.trace_is;
+      fetches_are = trace.1 ∙ is.fetches_are;
+      holds = λ honest.
+          let row = row_of t.schema.dims (number, fields_of r) in
+          let more = holds_more dims page_rows (rows_of dims is.taken) row t u (is.holds honest) is.dims_are is.page_rows_are good (put (next honest).0 (next honest).1) in
+          let same : rows_of dims is.taken ++ row ∷ [] ≡ rows_of dims (is.taken ++ fields_of r ∷ []) =
+          rw (is.dims_are, is.number_is) (sym (rows_of-more dims is.taken (fields_of r))) in
+          subst (λ (rows : List Row). HoldsRows dims page_rows rows u) same more;
+    }
+
+-- a record that is refused is the first thing wrong in the text
+pub refused_here : {text : List ℕ} {dims page_rows : ℕ} {name : List ℕ} {store : StoreFacts} {number : ℕ} {t : TreeView} {a : Reader Source} {n : ℕ}
+    → IsLoading text dims page_rows name store number t a n → (b : Reader Source) (m : ℕ) (r : Fields) → RowStep bytes_of a b m (Some (Ok r)) → (f : LoadFault)
+    → first_of (record_refusals t.schema.dims (length t.schema.columns) (number, fields_of r)) ≡ Some f → first_refusal dims name (records_of text) ≡ Some f
 unfolding refusals
-refused_here {text} {dims} {header} {rows} is b m r s number name f counts fine bad =
-    let place = count_of dims number rows is.taken is.rows_are counts in
+refused_here {text} {dims} {page_rows} {name} {store} {number} {t} is b m r s f bad =
+    let wide = width_is t is.header is.columns_are in
     let front = at_front (at_next is.at b m r s) in
-    let whole : header ∷ (is.taken ++ fields_of r ∷ front.0) ≡ records_of text = ap (λ rs. header ∷ rs) (sym (append_assoc is.taken (fields_of r ∷ []) front.0)) ∙ front.1 in
+    let whole : is.header ∷ (is.taken ++ fields_of r ∷ front.0) ≡ records_of text = ap (λ rs. is.header ∷ rs) (sym (append_assoc is.taken (fields_of r ∷ []) front.0)) ∙ front.1 in
     ap (first_refusal dims name) (sym whole)
-    ∙ first-skip (header_refusals dims name (map trimmed header)) _ fine
-    ∙ flat-refused (record_refusals dims (length header)) 1 number is.taken front.0 (fields_of r) f place is.accepted bad
+    ∙ first-skip (header_refusals dims name (map trimmed is.header)) _ is.fine
+    ∙ flat-refused (record_refusals dims (length is.header)) 1 number is.taken front.0 (fields_of r) f is.number_is is.accepted (rw (is.dims_are, wide) at bad)
 
 -- a header that is refused is the first thing wrong
 pub refused_header : {text : List ℕ} {header : List (List ℕ)} {a : Reader Source} {n : ℕ} → IsAt text (header ∷ []) a n → (dims : ℕ) (name : List ℕ) (f : LoadFault)
@@ -127,23 +232,30 @@ pub refused_empty : {text : List ℕ} {a : Reader Source} {n : ℕ} → IsAt tex
 unfolding refusals
 refused_empty is b m s dims name = ap (first_refusal dims name) (sym (at_end is b m s)) ∙ refl
 
--- at the end nothing is wrong
-pub all_loaded : {text : List ℕ} {dims : ℕ} {header : List (List ℕ)} {rows : List Row} {a : Reader Source} {n : ℕ} → HasRead text dims header rows a n
-    → (b : Reader Source) (m : ℕ) → RowStep bytes_of a b m None → (page_rows : ℕ) (name : List ℕ) (s : Schema)
-    → first_of (header_refusals dims name (map trimmed header)) ≡ None → (s.name ≡ name) × (s.columns ≡ map trimmed header) × (s.dims ≡ dims) × (s.page_rows ≡ page_rows)
-    → IsLoaded text dims page_rows name s rows
+-- at the end nothing is wrong, and all rows are in the tree
+pub all_loaded : {text : List ℕ} {dims page_rows : ℕ} {name : List ℕ} {store : StoreFacts} {number : ℕ} {t : TreeView} {a : Reader Source} {n : ℕ}
+    → IsLoading text dims page_rows name store number t a n → (b : Reader Source) (m : ℕ) → RowStep bytes_of a b m None → IsHonest store → IsLoadedTree text dims page_rows name t
 unfolding refusals
-all_loaded {text} {dims} {header} {rows} is b m s page_rows name schema fine parts = record {
-  header = header;
-  rest = is.taken;
-  records = sym (at_end is.at b m s);
-  accepted = first-skip (header_refusals dims name (map trimmed header)) _ fine ∙ is.accepted;
-  name_is = parts.0;
-  columns_are = parts.1;
-  dims_are = parts.2;
-  page_rows_are = parts.3;
-  rows_are = is.rows_are;
-}
+all_loaded {text} {dims} {page_rows} {name} is b m s honest =
+    let h = is.holds honest in
+    record {
+      rows = rows_of dims is.taken;
+      loaded = record {
+        header = is.header;
+        rest = is.taken;
+        records = sym (at_end is.at b m s);
+        accepted = first-skip (header_refusals dims name (map trimmed is.header)) _ is.fine ∙ is.accepted;
+        name_is = is.name_is;
+        columns_are = is.columns_are;
+        dims_are = is.dims_are;
+        page_rows_are = is.page_rows_are;
+        rows_are = refl;
+      };
+      sound = h.sound;
+      regions_are = h.regions_are;
+      table = h.table;
+      next = h.next;
+    }
 
 -- what `csv` refuses is told by `Csv` or `Memory`
 pub of_csv : (k : ErrorKind) (f : LoadFault) (P : Type 0) → f ≡ fault_of k → f ≢ Csv → f ≢ Memory → P

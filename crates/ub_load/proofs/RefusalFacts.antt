@@ -7,8 +7,9 @@ use Rattle.std.proofs.lemmas.Grind.{flat_map-append}
 use Rattle.std.proofs.lemmas.Bool.{eq-eqb, ne_eqb, le-leb, lt-leb}
 use Rattle.std.specs.Prelude.{◌==◌, nat_le, if◌then◌else◌}
 use Rattle.ub_load.specs.Refusals.{field_refusal, first_of, record_refusals}
-use Rattle.ub_load.specs.declared.fault.LoadFault.TheVariants.{Csv, Full}
+use Rattle.ub_load.specs.declared.fault.LoadFault.TheVariants.{Csv, Tree}
 use Rattle.ub_load.specs.declared.fault.LoadFault.{LoadFault}
+use Rattle.ub_tree.specs.declared.fault.TreeFault.TheVariants as tree
 
 nothing_found : (found : List LoadFault) → slice_get found 0 ≡ None → found ≡ []
 nothing_found [] h = refl
@@ -101,15 +102,15 @@ pub record_with_bad_field : (dims width number : ℕ) (fields : List (List ℕ))
 unfolding record_refusals
 record_with_bad_field dims width number fields f long h =
     let t : (length fields == width) ≡ true = eq-eqb (length fields) width long in
-    rw t (first-here (map (field_refusal dims number) (enumerate_from 0 fields)) ((if nat_le number 16777215 then None else Some Full) ∷ []) f h)
+    rw t (first-here (map (field_refusal dims number) (enumerate_from 0 fields)) ((if nat_le number 16777215 then None else Some (Tree tree.Full)) ∷ []) f h)
 
 pub record_past_last : (dims width number : ℕ) (fields : List (List ℕ)) → length fields ≡ width → 16777215 < number
-    → first_of (map (field_refusal dims number) (enumerate_from 0 fields)) ≡ None → first_of (record_refusals dims width (number, fields)) ≡ Some Full
+    → first_of (map (field_refusal dims number) (enumerate_from 0 fields)) ≡ None → first_of (record_refusals dims width (number, fields)) ≡ Some (Tree tree.Full)
 unfolding record_refusals
 record_past_last dims width number fields long past h =
     let t : (length fields == width) ≡ true = eq-eqb (length fields) width long in
     let u : nat_le number 16777215 ≡ false = lt-leb number 16777215 past in
-    rw (t, u) (first-skip (map (field_refusal dims number) (enumerate_from 0 fields)) (Some Full ∷ []) h)
+    rw (t, u) (first-skip (map (field_refusal dims number) (enumerate_from 0 fields)) (Some (Tree tree.Full) ∷ []) h)
 
 pub record_is_fine : (dims width number : ℕ) (fields : List (List ℕ)) → length fields ≡ width → number ≤ 16777215
     → first_of (map (field_refusal dims number) (enumerate_from 0 fields)) ≡ None → first_of (record_refusals dims width (number, fields)) ≡ None

@@ -5,7 +5,9 @@ use Rattle.std.specs.Str.{bytes_eq}
 use Rattle.ub_page.specs.Name.{is_name}
 use Rattle.ub_load.specs.Field.{trimmed, is_number, number_of, fits_column}
 use Rattle.ub_load.specs.declared.fault.LoadFault.{LoadFault}
-use Rattle.ub_load.specs.declared.fault.LoadFault.TheVariants.{NoHeader, BadName, ColumnCount, BadNumber, OutOfRange, Csv, Full, Memory}
+use Rattle.ub_load.specs.declared.fault.LoadFault.TheVariants.{NoHeader, BadName, ColumnCount, BadNumber, OutOfRange, Csv, Tree, Memory}
+use Rattle.ub_tree.specs.declared.fault.TreeFault.{TreeFault}
+use Rattle.ub_tree.specs.declared.fault.TreeFault.TheVariants as tree
 use Rattle.csv.specs.declared.error.ErrorKind.{ErrorKind}
 use Rattle.csv.specs.declared.error.ErrorKind.TheVariants as kind
 
@@ -31,7 +33,7 @@ field_refusal dims row f =
 unfoldable pub record_refusals : ℕ → ℕ → ℕ × List (List ℕ) → List (Option LoadFault)
 record_refusals dims width r =
     (if length r.1 == width then None else Some Csv)
-    ∷ (map (field_refusal dims r.0) (enumerate_from 0 r.1) ++ (if nat_le r.0 16777215 then None else Some Full) ∷ [])
+    ∷ (map (field_refusal dims r.0) (enumerate_from 0 r.1) ++ (if nat_le r.0 16777215 then None else Some (Tree tree.Full)) ∷ [])
 
 -- all that can be wrong with the records of a text, in order
 unfoldable pub refusals : ℕ → List ℕ → List (List (List ℕ)) → List (Option LoadFault)
@@ -55,3 +57,8 @@ fault_of (kind.UnequalLengths pos expected len) = Csv
 fault_of (kind.Utf8 pos why) = Csv
 fault_of (kind.Serialize why) = Csv
 fault_of (kind.Deserialize pos why) = Csv
+
+-- what a refusal of the tree is to the loader
+abbrev pub fault_of_tree : TreeFault → LoadFault
+fault_of_tree tree.Memory = Memory
+fault_of_tree fault = Tree fault

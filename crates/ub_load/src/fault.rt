@@ -1,6 +1,6 @@
 use csv::ErrorKind;
-use std::alloc::AllocFailed;
 use thiserror::Error;
+use ub_tree::TreeFault;
 
 /// Why a CSV text is no table. Rows and columns count from 1, the header not among the rows.
 #[derive(Clone, Copy, PartialEq, Eq, Debug, Error)]
@@ -23,10 +23,10 @@ pub enum LoadFault {
     /// `csv` refused a record: it is of another length than the header, or reading failed, which a text in memory does not.
     #[error("Csv")]
     Csv,
-    /// There are more rows than row numbers: 16777215.
-    #[error("Full")]
-    Full,
-    /// The memory for a record or for the rows was refused.
+    /// The tree refused: `Full` where there are more rows than row numbers (16777215), or its store failed. Never `Memory`.
+    #[error("{0}")]
+    Tree(TreeFault),
+    /// The memory for a record or for the tree was refused.
     #[error("Memory")]
     Memory,
 }
@@ -46,13 +46,16 @@ impl From<csv::Error> for LoadFault {
     }
 }
 
-impl<T: Drop> From<AllocFailed<T>> for LoadFault {
+impl From<TreeFault> for LoadFault {
     ghost use Rattle.std.specs.Prelude.{◌≡◌};
-    ghost use Rattle.ub_load.specs.declared.fault.LoadFault.TheVariants.{Memory};
+    ghost use Rattle.ub_load.specs.Refusals as spec;
 
-    ghost from_gives = { λ _ fault. fault ≡ Memory };
+    ghost from_gives = { λ fault e. e ≡ spec.fault_of_tree fault };
 
-    fn from(_failed: AllocFailed<T>) -> LoadFault {
-        LoadFault::Memory
+    fn from(fault: TreeFault) -> LoadFault {
+        match fault {
+            TreeFault::Memory => LoadFault::Memory,
+            fault => LoadFault::Tree(fault),
+        }
     }
 }

@@ -1,5 +1,6 @@
 // From the text of a CSV file to the rows of a table: what a field says (field), the header as a schema (header), a record
-// as a row (row), and the whole text (table). Reading a file, storing rows and answering queries belong elsewhere.
+// as a row (row), and the whole text, whose rows are put into a UB-tree (table). Reading a file, keeping pages and answering
+// queries belong elsewhere.
 #![tactic(auto)]
 
 pub mod fault;
@@ -9,7 +10,7 @@ mod row;
 pub mod table;
 
 pub use fault::LoadFault;
-pub use table::LoadedTable;
+pub use table::load;
 
 #[cfg(test)]
 mod tests;

@@ -11,12 +11,13 @@ use crate::fault::LoadFault;
 use crate::field::read_field;
 use csv::ByteRecord;
 use ub_page::Row;
+use ub_tree::TreeFault;
 
 /// The most rows that a table has, since a row's number is less than 2^24.
 pub const MOST_ROWS: u32 = 16777215;
 
 /// The row of this number that a record holds, for a table with so many dimensions and columns (the width), or the first
-/// thing that is wrong with the record: `Csv` for another length, a field's refusal, `Full` past the last row number.
+/// thing that is wrong with the record: `Csv` for another length, a field's refusal, the tree's `Full` past the last row number.
 pub fn read_row(fields: &ByteRecord, dims: u32, width: usize, number: u32) -> Result<Row, LoadFault>
     requires few_dims { dims ≤ 4 }
     requires few_columns { width ≤ dims + 4 }
@@ -30,7 +31,7 @@ pub fn read_row(fields: &ByteRecord, dims: u32, width: usize, number: u32) -> Re
     }
     let row = read_values(fields, dims, number)?;
     if number > MOST_ROWS {
-        return Err(LoadFault::Full);
+        return Err(LoadFault::Tree(TreeFault::Full));
     }
     Ok(row)
 }

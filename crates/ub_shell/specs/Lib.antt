@@ -5,3 +5,4 @@ pub mod Script
 pub mod Run
 pub mod Next
 pub mod Status
+pub mod Gather
