@@ -107,39 +107,50 @@ record IsPut (x : Row) (ys zs : List Row) : Type 0 where
 put : (x : Row) (ys : List Row) → Ascends ys → ((r : Row) → Contains ys r → ¬ (x.number ≡ r.number)) → (zs : List Row) × IsPut x ys zs
 put x [] up apart = (x ∷ [], record { up = (λ r c. absurd (none r c), tt); same = λ r. (λ c. c, λ c. c) })
 put x (y ∷ ys) up apart = elim (cases_lt x.number y.number) [
-  | inl lt ↦ (x ∷ y ∷ ys, record {
-      up = (λ r c. elim (contains_cases y ys r c) [
-        | inl same ↦ subst (λ (z : Row). x.number < z.number) same lt
-        | inr later ↦ let more = up.0 r later in omega arith
-      ], up);
+  | inl lt ↦ (
+    x ∷ y ∷ ys,
+    record {
+      up = (
+        λ r c. elim (contains_cases y ys r c) [
+          | inl same ↦ subst (λ (z : Row). x.number < z.number) same lt
+          | inr later ↦ let more = up.0 r later in omega arith
+        ],
+        up,
+      );
       same = λ r. (λ c. c, λ c. c);
-    })
+    },
+  )
   | inr ge ↦
       let rest = put x ys up.1 (λ r c. apart r (there y ys r c)) in
       let differ = apart y (here y ys) in
-      let below : y.number < x.number = lt_of ge differ in
-      (y ∷ rest.0, record {
-        up = (λ r c. elim (contains_cases x ys r ((rest.1.same r).0 c)) [
-          | inl same ↦ subst (λ (z : Row). y.number < z.number) same below
-          | inr later ↦ up.0 r later
-        ], rest.1.up);
-        same = λ r. (
-          λ c. elim (contains_cases y rest.0 r c) [
-            | inl same ↦ there x (y ∷ ys) r (subst (λ (z : Row). Contains (y ∷ ys) z) same (here y ys))
-            | inr later ↦ elim (contains_cases x ys r ((rest.1.same r).0 later)) [
-              | inl same ↦ subst (λ (z : Row). Contains (x ∷ y ∷ ys) z) same (here x (y ∷ ys))
-              | inr old ↦ there x (y ∷ ys) r (there y ys r old)
-            ]
-          ],
-          λ c. elim (contains_cases x (y ∷ ys) r c) [
-            | inl same ↦ there y rest.0 r ((rest.1.same r).1 (subst (λ (z : Row). Contains (x ∷ ys) z) same (here x ys)))
-            | inr old ↦ elim (contains_cases y ys r old) [
-              | inl same ↦ subst (λ (z : Row). Contains (y ∷ rest.0) z) same (here y rest.0)
-              | inr later ↦ there y rest.0 r ((rest.1.same r).1 (there x ys r later))
-            ]
-          ],
-        );
-      })
+      let below : y.number < x.number = lt_of ge differ in (
+        y ∷ rest.0,
+        record {
+          up = (
+            λ r c. elim (contains_cases x ys r ((rest.1.same r).0 c)) [
+              | inl same ↦ subst (λ (z : Row). y.number < z.number) same below
+              | inr later ↦ up.0 r later
+            ],
+            rest.1.up,
+          );
+          same = λ r. (
+            λ c. elim (contains_cases y rest.0 r c) [
+              | inl same ↦ there x (y ∷ ys) r (subst (λ (z : Row). Contains (y ∷ ys) z) same (here y ys))
+              | inr later ↦ elim (contains_cases x ys r ((rest.1.same r).0 later)) [
+                | inl same ↦ subst (λ (z : Row). Contains (x ∷ y ∷ ys) z) same (here x (y ∷ ys))
+                | inr old ↦ there x (y ∷ ys) r (there y ys r old)
+              ]
+            ],
+            λ c. elim (contains_cases x (y ∷ ys) r c) [
+              | inl same ↦ there y rest.0 r ((rest.1.same r).1 (subst (λ (z : Row). Contains (x ∷ ys) z) same (here x ys)))
+              | inr old ↦ elim (contains_cases y ys r old) [
+                | inl same ↦ subst (λ (z : Row). Contains (y ∷ rest.0) z) same (here y rest.0)
+                | inr later ↦ there y rest.0 r ((rest.1.same r).1 (there x ys r later))
+              ]
+            ],
+          );
+        },
+      )
 ]
   where
     lt_of : {a b : ℕ} → b ≤ a → ¬ (a ≡ b) → b < a
@@ -159,17 +170,20 @@ in_order [] h = ([], tt, λ r. (λ c. c, λ c. c))
 in_order (x ∷ xs) h =
     let rest = in_order xs (IsDistinct-tail nat_eq x.number (map (λ (r : Row). r.number) xs) h) in
     let apart = apart_from x xs (IsDistinct-head nat_eq x.number (map (λ (r : Row). r.number) xs) h) in
-    let new = put x rest.0 rest.1 (λ r c. apart r ((rest.2 r).0 c)) in
-    (new.0, new.1.up, λ r. (
-      λ c. elim (contains_cases x rest.0 r ((new.1.same r).0 c)) [
-        | inl same ↦ subst (λ (z : Row). Contains (x ∷ xs) z) same (here x xs)
-        | inr old ↦ there x xs r ((rest.2 r).0 old)
-      ],
-      λ c. (new.1.same r).1 (elim (contains_cases x xs r c) [
-        | inl same ↦ subst (λ (z : Row). Contains (x ∷ rest.0) z) same (here x rest.0)
-        | inr old ↦ there x rest.0 r ((rest.2 r).1 old)
-      ]),
-    ))
+    let new = put x rest.0 rest.1 (λ r c. apart r ((rest.2 r).0 c)) in (
+      new.0,
+      new.1.up,
+      λ r. (
+        λ c. elim (contains_cases x rest.0 r ((new.1.same r).0 c)) [
+          | inl same ↦ subst (λ (z : Row). Contains (x ∷ xs) z) same (here x xs)
+          | inr old ↦ there x xs r ((rest.2 r).0 old)
+        ],
+        λ c. (new.1.same r).1 (elim (contains_cases x xs r c) [
+          | inl same ↦ subst (λ (z : Row). Contains (x ∷ rest.0) z) same (here x rest.0)
+          | inr old ↦ there x rest.0 r ((rest.2 r).1 old)
+        ]),
+      ),
+    )
 
 -- there is a table
 pub table_there : (t : TreeView) → IsSound t → (table : Table) × IsTableOf t table
