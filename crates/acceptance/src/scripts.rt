@@ -44,7 +44,10 @@ fn counts_the_regions_that_it_reads(rt: HostRuntime) -> Result<(), Fail> {
         "x,y\n7,7\n7,7\n7,7\n",
         "SELECT x FROM t WHERE x BETWEEN 7 AND 7;",
     );
-    assert_eq!(rt; str::from_utf8(bytes.as_slice())?, "x\n7\n7\n7\n-- rows 3, pages 2\n");
+    assert_eq!(rt;
+        str::from_utf8(bytes.as_slice())?,
+        "x\n7\n7\n7\n-- rows 3, pages 2\n"
+    );
     end?;
     Ok(())
 }

@@ -1,7 +1,7 @@
 -- What a tree keeps over several calls that read it.
-use Rattle.std.proofs.Common.{◌≡◌, ◌≢◌, ◌<◌, ◌≤◌, ◌+◌, ◌⊎◌, ◌∙◌, inl, inr, ℕ, Bool, List, length, subst, sym, ap, refl, arith}
+use Rattle.std.proofs.Common.{◌≡◌, ◌≢◌, ◌<◌, ◌≤◌, ◌+◌, ◌⊎◌, ◌∙◌, inl, inr, ℕ, suc, ◌-◌, cond, Bool, true, false, List, length, subst, sym, ap, refl, arith}
 use Rattle.ub_page.specs.Table.{Table}
-use Rattle.ub_store.specs.Facts.{StoreFacts, Failed}
+use Rattle.ub_store.specs.Facts.{StoreFacts, Failed, raised}
 use Rattle.ub_store.specs.declared.fault.StoreFault.TheVariants as store
 use Rattle.ub_tree.specs.Calls.{IsReadFault, Keeps}
 use Rattle.ub_tree.specs.Placed.{Placed, regions_in}
@@ -11,7 +11,7 @@ use Rattle.ub_tree.specs.declared.fault.TreeFault.{TreeFault}
 use Rattle.ub_tree.specs.declared.fault.TreeFault.TheVariants.{Full, Page, Store, Failed as HasFailed, Memory}
 use Rattle.ub_shell.specs.Faults.{IsGiven}
 use Rattle.ub_lexer.specs.declared.token.Token.{Token}
-use Rattle.ub_shell.specs.Run.{IsTableOf, IsAnswer}
+use Rattle.ub_shell.specs.Run.{IsTableOf, IsAnswer, fetches_after, fetches_then}
 use Rattle.ub_shell.specs.declared.fault.RunFault.{RunFault}
 use Rattle.ub_shell.specs.declared.fault.RunFault.TheVariants as run
 
@@ -77,3 +77,14 @@ sound_fault old new (Store store.Device) sound is differs = refl
 sound_fault old new (Store store.NoPage) sound is differs = absurd (is sound)
 sound_fault old new (Store store.Memory) sound is differs = absurd is
 sound_fault old new (Store store.BadSize) sound is differs = absurd is
+
+-- the pages asked for after one more statement
+pub fetched_next : (a b : TreeView) (i refused next fetches : ℕ) (is_refused : Bool) → Keeps a b → refused ≤ i → next ≡ refused + cond is_refused 1 0
+    → b.fetches ≡ fetches_after (length a.placed) a.fetches (i - refused) → fetches ≡ fetches_then (length b.placed) b.fetches is_refused
+    → fetches ≡ fetches_after (length a.placed) a.fetches (i + 1 - next)
+fetched_next a b i refused next fetches true kept few is so_far then =
+    let same : i + 1 - next ≡ i - refused = omega (arith, is, few) in
+    rw same (then ∙ so_far)
+fetched_next a b i refused next fetches false kept few is so_far then =
+    let more : i + 1 - next ≡ suc (i - refused) = omega (arith, is, few) in
+    rw more (then ∙ ap (λ (n : ℕ). raised n (length b.placed)) so_far ∙ ap (λ (placed : List Placed). raised (fetches_after (length a.placed) a.fetches (i - refused)) (length placed)) kept.regions.placed)

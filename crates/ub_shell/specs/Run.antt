@@ -1,5 +1,5 @@
 -- What is written while a script runs: the texts of its statements, all of them or the first ones.
-use Rattle.std.specs.Prelude.{◌≡◌, ◌<◌, ◌≤◌, ℕ, Bool, List, length, take, is_err, Option, Result}
+use Rattle.std.specs.Prelude.{◌≡◌, ◌<◌, ◌≤◌, ℕ, zero, suc, if◌then◌else◌, Bool, List, length, take, is_err, Option, Result}
 use Rattle.std.specs.Io.KnownBytes.{Appends}
 use Rattle.ub_page.specs.Table.{Table}
 use Rattle.ub_page.specs.declared.row.Row.{Row}
@@ -11,6 +11,7 @@ use Rattle.ub_load.specs.LoadedTable.{IsLoaded}
 use Rattle.ub_load.specs.LoadedTree.{loaded_regions}
 use Rattle.ub_parser.specs.Meaning.{RowQuery}
 use Rattle.ub_parser.specs.declared.fault.SqlFault.{SqlFault}
+use Rattle.ub_store.specs.Facts.{raised}
 use Rattle.ub_tree.specs.Regions.{AreTableRows}
 use Rattle.ub_tree.specs.View.{TreeView, IsSound, regions}
 use Rattle.ub_shell.specs.Script.{IsOutcome, AreOutcomesAt, AreOutcomes, refused_count}
@@ -31,6 +32,15 @@ IsRange tokens range = (range.0 < range.1) × (range.1 ≤ length tokens)
 pub record IsTextOf (table : Table) (pages : ℕ) (outcome : Result RowQuery SqlFault) (text : List ℕ) (is_refused : Bool) : Type 0 where
   pub text_is : text ≡ statement_text table pages outcome
   pub refused_is : is_refused ≡ is_err outcome
+
+-- how many region pages were ever asked for after one more statement, for which so many are if it is answered
+abbrev pub fetches_then : ℕ → ℕ → Bool → ℕ
+fetches_then pages fetches is_refused = if is_refused then fetches else raised fetches pages
+
+-- and after so many statements that were answered
+abbrev pub fetches_after : ℕ → ℕ → ℕ → ℕ
+fetches_after pages fetches zero = fetches
+fetches_after pages fetches (suc n) = raised (fetches_after pages fetches n) pages
 
 -- a statement's text, and whether it is refused, as its outcome says
 pub record IsAnswer (table : Table) (pages : ℕ) (source : List ℕ) (tokens : List Token) (text : List ℕ) (is_refused : Bool) : Type 0 where

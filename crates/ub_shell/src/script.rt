@@ -1,4 +1,4 @@
-ghost use Rattle.std.specs.Prelude.{◌≡◌, ◌≢◌, ◌<◌, ◌≤◌, ◌⊎◌, ℕ, Bool, true, List, length, take, Ok, Err, All, slice_range, IfOk, IfErr, IsErrOf};
+ghost use Rattle.std.specs.Prelude.{◌≡◌, ◌≢◌, ◌<◌, ◌≤◌, ◌⊎◌, ◌-◌, ℕ, Bool, true, List, length, take, Ok, Err, All, slice_range, IfOk, IfErr, IsErrOf};
 ghost use Rattle.std.specs.Option.{ok_or};
 ghost use Rattle.std.specs.Io.KnownBytes.{Appends, Keeps as KeepsBytes};
 ghost use Rattle.ub_lexer.specs.Tokens.{AreSpelled};
@@ -14,7 +14,7 @@ ghost use Rattle.ub_tree.specs.Calls.{IsReadFault, Keeps};
 ghost use Rattle.ub_tree.specs.View.{IsSound};
 ghost use Rattle.ub_tree.specs.declared.fault.TreeFault.{TreeFault};
 ghost use Rattle.ub_shell.specs.Counts.{Rose};
-ghost use Rattle.ub_shell.specs.Run.{IsTableOf, IsTextOf, IsAnswer, IsRange, HaveRun, HaveBroken, HasRunOn, HasBegunOn, HasBrokenOn, HasRun, HasBegun, HasBroken};
+ghost use Rattle.ub_shell.specs.Run.{fetches_after, fetches_then, IsTableOf, IsTextOf, IsAnswer, IsRange, HaveRun, HaveBroken, HasRunOn, HasBegunOn, HasBrokenOn, HasRun, HasBegun, HasBroken};
 ghost use Rattle.ub_shell.specs.Faults.{IsGiven};
 ghost use Rattle.ub_shell.specs.Text.{held, refused_text, IsRowsOver};
 
@@ -100,6 +100,9 @@ pub fn run<S: PageStore, W: Out>(
     // Nothing is written, or the texts of the first statements and no more.
     ensures memory { IsSound tree.old → IfErr result (λ fault. fault ≢ RunFault.Write → KeepsBytes (W.told out.old) (W.told out.new) ⊎ HasBegunOn tree.old script.now (W.told out.old) (W.told out.new)) }
     ensures kept { Keeps tree.old tree.new }
+
+    // Every region is fetched once for each statement that is answered.
+    ensures fetches { IsSound tree.old → IfOk result (λ summary. tree.new.fetches ≡ fetches_after (length tree.old.placed) tree.old.fetches (summary.statements - summary.refused)) }
     ensures counts { W.failures out.old ≤ W.failures out.new }
 {
     let tokens = lex(alloc, script)?;
@@ -124,6 +127,7 @@ fn run_statements<S: PageStore, W: Out>(
     ensures failed { IsErrOf result RunFault.Write → Rose (W.failures out.old) (W.failures out.new) }
     ensures faults { IfErr result (IsGiven tree.old tree.new) }
     ensures kept { Keeps tree.old tree.new }
+    ensures fetches { IsSound tree.old → IfOk result (λ summary. tree.new.fetches ≡ fetches_after (length tree.old.placed) tree.old.fetches (summary.statements - summary.refused)) }
     ensures counts { W.failures out.old ≤ W.failures out.new }
 {
     let mut refused = 0u64;
@@ -155,6 +159,7 @@ fn run_statement<S: PageStore, W: Out>(
     ensures failed { IsErrOf result RunFault.Write → Rose (W.failures out.old) (W.failures out.new) }
     ensures faults { IfErr result (IsGiven tree.old tree.new) }
     ensures kept { Keeps tree.old tree.new }
+    ensures fetches { IsSound tree.old → IfOk result (λ is_refused. tree.new.fetches ≡ fetches_then (length tree.old.placed) tree.old.fetches is_refused) }
     ensures counts { W.failures out.old ≤ W.failures out.new }
 {
     let (from, to) = range;
@@ -182,6 +187,7 @@ fn answer_to<S: PageStore>(
     ensures answer { (table : Table) → IsTableOf tree.old table → IfOk result (λ a. IsAnswer table (length tree.old.placed) source.now tokens.now a.text.items a.is_refused) }
     ensures refused { IfErr result (IsReadFault tree.old tree.new) }
     ensures kept { Keeps tree.old tree.new }
+    ensures fetches { IsSound tree.old → IfOk result (λ a. tree.new.fetches ≡ fetches_then (length tree.old.placed) tree.old.fetches a.is_refused) }
 {
     match parse(alloc, source, tokens, tree.schema()) {
         Ok(statement) => answer_accepted(alloc, tree, &statement, tokens[0].from),
@@ -201,6 +207,7 @@ fn answer_accepted<S: PageStore>(
     ensures answer { (table : Table) → IsTableOf tree.old table → IfOk result (λ a. IsTextOf table (length tree.old.placed) (ok_or (sql.row_query (told statement.now)) (SqlFault.Syntax at)) a.text.items a.is_refused) }
     ensures refused { IfErr result (IsReadFault tree.old tree.new) }
     ensures kept { Keeps tree.old tree.new }
+    ensures fetches { IsSound tree.old → IfOk result (λ a. tree.new.fetches ≡ fetches_then (length tree.old.placed) tree.old.fetches a.is_refused) }
 {
     match row_query(alloc, statement)? {
         Some(query) => answer_query(alloc, tree, &query),
@@ -218,6 +225,7 @@ fn answer_query<S: PageStore>(
     ensures answer { (table : Table) → IsTableOf tree.old table → IfOk result (λ a. IsTextOf table (length tree.old.placed) (Ok (held query.now)) a.text.items a.is_refused) }
     ensures refused { IfErr result (IsReadFault tree.old tree.new) }
     ensures kept { Keeps tree.old tree.new }
+    ensures fetches { IsSound tree.old → IfOk result (λ a. tree.new.fetches ≡ fetches_then (length tree.old.placed) tree.old.fetches a.is_refused) }
 {
     let rows = gather(alloc, tree)?;
     let pages = tree.trace().len();

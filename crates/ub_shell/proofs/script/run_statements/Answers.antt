@@ -1,6 +1,6 @@
-use Rattle.std.proofs.Common.{◌≡◌, ◌≤◌, ◌+◌, cond, arith, refl, rules}
+use Rattle.std.proofs.Common.{◌≡◌, ◌≤◌, ◌+◌, cond, length, arith, refl, rules}
 use Rattle.std.proofs.lemmas.List.{take_all}
-use Rattle.ub_shell.proofs.KeptFacts.{Keeps-more, answer_kept, table_kept}
+use Rattle.ub_shell.proofs.KeptFacts.{Keeps-more, fetched_next, answer_kept, table_kept}
 use Rattle.ub_shell.proofs.RunFacts.{HaveRun-more, HaveRun-broken, HaveRun-kept, other_err}
 use Rattle.ub_shell.proofs.script.run_statements.Goals as goal
 use Rattle.ub_shell.proofs.script.run_statements.Goals.{then-branch, else-branch}
@@ -26,6 +26,9 @@ loop-range-preserved g c =
           (inv.run table is) c.loop-range-test.true (answer_kept _ _ table _ _ _ _ inv.kept answer.1) answer.2 next;
       few = few;
       kept = Keeps-more _ _ _ inv.kept c.in_ok-run_statement.ensures.kept;
+      fetches = λ sound.
+          fetched_next c.args.tree.now c.loop-range.tree c.loop-range.range-index c.loop-range.refused _ _ c.in_ok-run_statement.field-0 inv.kept inv.few next
+          (inv.fetches sound) (c.in_ok-run_statement.ensures.fetches (inv.kept.sound sound));
       counts = omega (arith, inv.counts, c.in_ok-run_statement.ensures.counts);
     }
 
@@ -47,3 +50,8 @@ returns-in_err-run_statement-clause-write g c table is same =
 pub returns-clause-done : goal.returns-clause-done
 returns-clause-done g c table is =
     (refl, rw (take_all c.loop-range.range-index c.args.ranges.now (omega (arith, c.loop-range-test.false))) at (c.loop-range.invariant.run table is))
+
+pub returns-clause-fetches : goal.returns-clause-fetches
+returns-clause-fetches g c sound =
+    let all : c.loop-range.range-index ≡ length c.args.ranges.now = omega (arith, c.loop-range-test.false, c.loop-range.auto.range-index-end) in
+    rw all at (c.loop-range.invariant.fetches sound)
