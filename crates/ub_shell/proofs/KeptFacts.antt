@@ -1,12 +1,12 @@
 -- What a tree keeps over several calls that read it.
-use Rattle.std.proofs.Common.{◌≡◌, ◌≢◌, ◌<◌, ◌≤◌, ◌+◌, ◌⊎◌, ◌∙◌, inl, inr, ℕ, suc, ◌-◌, cond, Bool, true, false, List, length, subst, sym, ap, refl, arith}
+use Rattle.std.proofs.Common.{◌≡◌, ◌≢◌, ◌≤◌, ◌+◌, ◌∙◌, inl, inr, ℕ, suc, ◌-◌, cond, Bool, true, false, List, length, subst, sym, ap, refl, arith}
 use Rattle.ub_page.specs.Table.{Table}
-use Rattle.ub_store.specs.Facts.{StoreFacts, Failed, raised}
+use Rattle.ub_store.specs.Facts.{raised}
 use Rattle.ub_store.specs.declared.fault.StoreFault.TheVariants as store
 use Rattle.ub_tree.specs.Calls.{IsReadFault, Keeps}
 use Rattle.ub_tree.specs.Placed.{Placed, regions_in}
 use Rattle.ub_tree.specs.Regions.{AreTableRows}
-use Rattle.ub_tree.specs.View.{TreeView, IsSound, regions}
+use Rattle.ub_tree.specs.View.{TreeView, IsSound}
 use Rattle.ub_tree.specs.declared.fault.TreeFault.{TreeFault}
 use Rattle.ub_tree.specs.declared.fault.TreeFault.TheVariants.{Full, Page, Store, Failed as HasFailed, Memory}
 use Rattle.ub_shell.specs.Faults.{IsGiven}

@@ -1,5 +1,5 @@
 -- A sound tree has a table, and no other.
-use Rattle.std.proofs.Common.{◌≡◌, ◌≢◌, Option, Result, Err, IfErr, ◌<◌, ◌≤◌, ◌+◌, ◌⊎◌, ◌↔◌, inl, inr, ℕ, zero, suc, List, [], ◌∷◌, Bool, true, false, Ok, length, map, get_or, nat_eq, ◌∙◌, sym, ap, refl, arith, subst, add-one}
+use Rattle.std.proofs.Common.{◌≡◌, ◌≢◌, Option, Result, Err, IfErr, ◌<◌, ◌≤◌, ◌⊎◌, ◌↔◌, inl, inr, ℕ, zero, suc, List, [], ◌∷◌, true, false, Ok, length, map, nat_eq, ◌∙◌, sym, ap, refl, arith, subst, add-one}
 use Rattle.std.proofs.lemmas.Bool.{cases_lt, eq-eqb}
 use Rattle.std.proofs.lemmas.Map.Keys.{IsDistinct-head, IsDistinct-tail}
 use Rattle.std.specs.List.{AllByRecursion, Contains, IsDistinct}

@@ -2,8 +2,6 @@
 use Rattle.std.specs.Prelude.{◌≡◌, ◌<◌, ◌≤◌, ℕ, zero, suc, if◌then◌else◌, Bool, List, length, take, is_err, Option, Result}
 use Rattle.std.specs.Io.KnownBytes.{Appends}
 use Rattle.ub_page.specs.Table.{Table}
-use Rattle.ub_page.specs.declared.row.Row.{Row}
-use Rattle.ub_page.specs.declared.schema.Schema.{Schema}
 use Rattle.ub_lexer.specs.Tokens.{AreTokens}
 use Rattle.ub_lexer.specs.Statements.{AreStatements}
 use Rattle.ub_lexer.specs.declared.token.Token.{Token}

@@ -1,7 +1,6 @@
-use Rattle.std.proofs.Common.{◌≡◌, refl, rules}
-use Rattle.ub_load.specs.LoadedTree.{IsLoadedTree}
+use Rattle.std.proofs.Common.{refl}
 use Rattle.ub_shell.proofs.KeptFacts.{sound_fault}
-use Rattle.ub_shell.proofs.RowsFacts.{loaded_run, loaded_begun, loaded_broken, loaded_stopped}
+use Rattle.ub_shell.proofs.RowsFacts.{loaded_run, loaded_broken, loaded_stopped}
 use Rattle.ub_shell.proofs.RunFacts.{if_ok}
 use Rattle.ub_shell.proofs.script.try_text.Goals as goal
 
