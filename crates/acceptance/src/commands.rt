@@ -109,9 +109,11 @@ fn try_files(
 #[test]
 fn tries_a_script_on_a_file(rt: HostRuntime) -> Result<(), Fail> {
     let worked = "SELECT * FROM t WHERE x BETWEEN 2 AND 3;";
-    let lines = "x,y,m\n2,3,20\n3,0,5\n2,3,1\n-- rows 3, pages 0\n";
+    let lines = "x,y,m\n2,3,20\n3,0,5\n2,3,1\n-- rows 3, pages 3\n";
+    let one_page = "x,y,m\n2,3,20\n3,0,5\n2,3,1\n-- rows 3, pages 1\n";
     let cases = [
         (SMALL_TABLE, worked, "2", lines, 0),
+        (SMALL_TABLE, worked, "64", one_page, 0),
         (
             SMALL_TABLE,
             "SELECT m FROM u;",

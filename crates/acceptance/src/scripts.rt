@@ -28,7 +28,7 @@ fn answers_the_worked_row(rt: HostRuntime) -> Result<(), Fail> {
     );
     assert_eq!(rt;
         str::from_utf8(bytes.as_slice())?,
-        "x,y,m\n2,3,20\n3,0,5\n2,3,1\n-- rows 3, pages 0\n"
+        "x,y,m\n2,3,20\n3,0,5\n2,3,1\n-- rows 3, pages 3\n"
     );
     let summary = end?;
     assert_eq!(rt; summary.statements, 1);
@@ -37,22 +37,53 @@ fn answers_the_worked_row(rt: HostRuntime) -> Result<(), Fail> {
 }
 
 #[test]
+fn counts_the_regions_that_it_reads(rt: HostRuntime) -> Result<(), Fail> {
+    // Two rows fit on a page, so the third at the same point makes a second region.
+    let (bytes, end) = run(
+        rt.alloc(),
+        "x,y\n7,7\n7,7\n7,7\n",
+        "SELECT x FROM t WHERE x BETWEEN 7 AND 7;",
+    );
+    assert_eq!(rt;
+        str::from_utf8(bytes.as_slice())?,
+        "x\n7\n7\n7\n-- rows 3, pages 2\n"
+    );
+    end?;
+    Ok(())
+}
+
+#[test]
+fn drops_spaces_of_the_header(rt: HostRuntime) -> Result<(), Fail> {
+    let (bytes, end) = run(
+        rt.alloc(),
+        "x, y,m\n1,1,10\n2,3,20\n3,0,5\n0,2,7\n2,3,1\n",
+        "SELECT * FROM t WHERE x BETWEEN 2 AND 3;",
+    );
+    assert_eq!(rt;
+        str::from_utf8(bytes.as_slice())?,
+        "x,y,m\n2,3,20\n3,0,5\n2,3,1\n-- rows 3, pages 3\n"
+    );
+    end?;
+    Ok(())
+}
+
+#[test]
 fn answers_each_statement(rt: HostRuntime) -> Result<(), Fail> {
-    let none = "x,y,m\n-- rows 0, pages 0\n";
-    let all = "x,y,m\n1,1,10\n2,3,20\n3,0,5\n0,2,7\n2,3,1\n-- rows 5, pages 0\n";
+    let none = "x,y,m\n-- rows 0, pages 3\n";
+    let all = "x,y,m\n1,1,10\n2,3,20\n3,0,5\n0,2,7\n2,3,1\n-- rows 5, pages 3\n";
     let cases = [
         ("", ""),
         (";; -- nothing", ""),
         ("-- one\n-- two", ""),
         (
             "select * from t where x between 3 and 3",
-            "x,y,m\n3,0,5\n-- rows 1, pages 0\n",
+            "x,y,m\n3,0,5\n-- rows 1, pages 3\n",
         ),
         ("SELECT * FROM t WHERE x BETWEEN 3 AND 2;", none),
         ("SELECT * FROM t WHERE y BETWEEN -1 AND 99999999999;", all),
         (
             "SELECT * FROM t WHERE m BETWEEN 1 AND 2;",
-            "x,y,m\n2,3,1\n-- rows 1, pages 0\n",
+            "x,y,m\n2,3,1\n-- rows 1, pages 3\n",
         ),
         (
             "SELECT * FROM T WHERE x BETWEEN 1 AND 2;",
@@ -78,7 +109,7 @@ fn goes_on_after_a_refused_statement(rt: HostRuntime) -> Result<(), Fail> {
     let (bytes, end) = run(rt.alloc(), SMALL_TABLE, script);
     assert_eq!(rt;
         str::from_utf8(bytes.as_slice())?,
-        "! UnknownTable at 14\nx,y,m\n0,2,7\n-- rows 1, pages 0\n"
+        "! UnknownTable at 14\nx,y,m\n0,2,7\n-- rows 1, pages 3\n"
     );
     let summary = end?;
     assert_eq!(rt; summary.statements, 2);

@@ -55,47 +55,47 @@ const REFUSED: [(&str, &str); 24] = [
 const ANSWERED: [(&str, &str); 11] = [
     (
         "SELECT * FROM t",
-        "x,y,m\n1,1,10\n2,3,20\n3,0,5\n0,2,7\n2,3,1\n-- rows 5, pages 0\n",
+        "x,y,m\n1,1,10\n2,3,20\n3,0,5\n0,2,7\n2,3,1\n-- rows 5, pages 3\n",
     ),
     (
         "SELECT m, x, m FROM t WHERE y = 3;",
-        "m,x,m\n20,2,20\n1,2,1\n-- rows 2, pages 0\n",
+        "m,x,m\n20,2,20\n1,2,1\n-- rows 2, pages 3\n",
     ),
     (
         "SELECT m FROM t WHERE x = 1 OR x = 2 AND y = 9;",
-        "m\n10\n-- rows 1, pages 0\n",
+        "m\n10\n-- rows 1, pages 3\n",
     ),
     (
         "SELECT m FROM t WHERE (x = 1 OR x = 2) AND y = 3;",
-        "m\n20\n1\n-- rows 2, pages 0\n",
+        "m\n20\n1\n-- rows 2, pages 3\n",
     ),
     (
         "SELECT m FROM t WHERE NOT x = 1 AND y = 1;",
-        "m\n-- rows 0, pages 0\n",
+        "m\n-- rows 0, pages 3\n",
     ),
     (
         "SELECT m FROM t WHERE x > -1;",
-        "m\n10\n20\n5\n7\n1\n-- rows 5, pages 0\n",
+        "m\n10\n20\n5\n7\n1\n-- rows 5, pages 3\n",
     ),
     (
         "SELECT x FROM t WHERE x != 2 AND x <> 3;",
-        "x\n1\n0\n-- rows 2, pages 0\n",
+        "x\n1\n0\n-- rows 2, pages 3\n",
     ),
     (
         "SELECT x FROM t WHERE x > -18446744073709551615 AND x BETWEEN 1 AND 1;",
-        "x\n1\n-- rows 1, pages 0\n",
+        "x\n1\n-- rows 1, pages 3\n",
     ),
     (
         "SELECT x FROM t WHERE x = 1AND y = 1",
-        "x\n1\n-- rows 1, pages 0\n",
+        "x\n1\n-- rows 1, pages 3\n",
     ),
     (
         "SELECT x--y\n, y FROM t WHERE x <= 0",
-        "x,y\n0,2\n-- rows 1, pages 0\n",
+        "x,y\n0,2\n-- rows 1, pages 3\n",
     ),
     (
         "SELECT x FROM t WHERE m >= 20 OR m < 5;",
-        "x\n2\n2\n-- rows 2, pages 0\n",
+        "x\n2\n2\n-- rows 2, pages 3\n",
     ),
 ];
 
@@ -143,7 +143,7 @@ fn answers_queries_of_rows(rt: HostRuntime) -> Result<(), Fail> {
 fn limits_depth_and_comparisons(rt: HostRuntime) -> Result<(), Fail> {
     let front = "SELECT x FROM t WHERE ";
     let nine = "SELECT x,x,x,x,x,x,x,x,x FROM t WHERE ";
-    let one = "x\n1\n-- rows 1, pages 0\n";
+    let one = "x\n1\n-- rows 1, pages 3\n";
     let cases = [
         (front, "(", 64, "x = 1", ")", one),
         (front, "(", 65, "x = 1", ")", "! TooDeep at 86\n"),

@@ -58,13 +58,13 @@ fn reads_signs_spaces_quotes_and_line_ends(rt: HostRuntime) -> Result<(), Fail> 
     let cases: [(&[u8], &str); 3] = [
         (
             b"x, y ,m\r\n 1,\"2\",-9223372036854775808\r\n",
-            "x,y,m\n1,2,-9223372036854775808\n-- rows 1, pages 0\n",
+            "x,y,m\n1,2,-9223372036854775808\n-- rows 1, pages 1\n",
         ),
         (
             b"\xEF\xBB\xBFx,y\n+0007, 8 \n\n",
-            "x,y\n7,8\n-- rows 1, pages 0\n",
+            "x,y\n7,8\n-- rows 1, pages 1\n",
         ),
-        (b"x,y,m\n", "x,y,m\n-- rows 0, pages 0\n"),
+        (b"x,y,m\n", "x,y,m\n-- rows 0, pages 1\n"),
     ];
     for (csv, want) in cases {
         let (bytes, end) = run(rt.alloc(), csv);

@@ -53,7 +53,7 @@ fn writes_byte_by_byte(rt: HostRuntime) -> Result<(), Fail> {
         &mut out,
     );
     assert_eq!(rt; end?.statements, 2);
-    let want = "x,y,m\n0,2,7\n-- rows 1, pages 0\nx,y,m\n-- rows 0, pages 0\n";
+    let want = "x,y,m\n0,2,7\n-- rows 1, pages 3\nx,y,m\n-- rows 0, pages 3\n";
     assert_eq!(rt; str::from_utf8(out.taken.as_slice())?, want);
     Ok(())
 }

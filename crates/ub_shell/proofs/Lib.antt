@@ -5,6 +5,10 @@ pub mod HeldFacts
 pub mod LineFacts
 pub mod NextFacts
 pub mod QueryFacts
+pub mod GatherFacts
+pub mod SortFacts
+pub mod KeptFacts
+pub mod RowsFacts
 pub mod RunFacts
 pub mod StatusFacts
 pub mod GatherFacts

@@ -5,7 +5,7 @@ use Rattle.ub_shell.specs.CommandLine.{AsksHelp, AsksNext, AsksNothing, AsksTry}
 use Rattle.ub_shell.specs.Counts.{Rose}
 use Rattle.ub_shell.specs.Next.{IsNextAnswer, answer_text, answer_status}
 use Rattle.ub_shell.specs.Run.{HasRun}
-use Rattle.ub_shell.specs.Status.{HasEnded, HasNoMemory, HasNoTable, Tells, TellsIfMemory, summary_status}
+use Rattle.ub_shell.specs.Status.{HasEnded, HasNoDevice, HasNoMemory, HasNoTable, Tells, TellsIfMemory, summary_status}
 use Rattle.ub_shell.specs.declared.command.ReadFault.{ReadFault}
 use Rattle.ub_shell.specs.declared.command.ReadFault.TheVariants as read
 use Rattle.ub_shell.specs.declared.next.Neighbours.{Neighbours}
@@ -63,7 +63,13 @@ answer_ends words old new f g lo hi z (Err TooLarge) status asks is told =
 pub unread_ends : (words : List (List ℕ)) (old new : Option (List ℕ)) (f g : ℕ) (table path name : List ℕ) (dims page_rows : ℕ) (status : Status)
     → AsksTry words table path name dims page_rows → Tells old new f g (codes "! Device\n") Device status → HasEnded words old new f g status
 unread_ends words old new f g table path name dims page_rows status asks told =
-    told_ends words old new f g _ Device status told (λ appends. inr (table, path, name, dims, page_rows, asks, appends))
+    told_ends words old new f g _ Device status told (λ appends. inr (inl (table, path, name, dims, page_rows, asks, appends)))
+
+-- a run of a script was ended by a write that failed, or by its store
+device_ends : (words : List (List ℕ)) (old new : Option (List ℕ)) (f g : ℕ) (table path name text script : List ℕ) (dims page_rows : ℕ)
+    → AsksTry words table path name dims page_rows → Rose f g ⊎ HasNoDevice text dims page_rows name script old new → HasEnded words old new f g Device
+device_ends words old new f g table path name text script dims page_rows asks (inl rose) = inl rose
+device_ends words old new f g table path name text script dims page_rows asks (inr ended) = inr (inr (table, path, name, text, script, dims, page_rows, asks, ended))
 
 -- a script was run on the table of a text, or what kept it from that was told
 pub try_ends : (words : List (List ℕ)) (old new : Option (List ℕ)) (f g : ℕ) (table path name text script : List ℕ) (dims page_rows : ℕ) (result : Status)
@@ -71,7 +77,7 @@ pub try_ends : (words : List (List ℕ)) (old new : Option (List ℕ)) (f g : �
     → ((result ≡ Done) ⊎ (result ≡ Refused) → (summary : Summary) × (result ≡ summary_status summary) × HasRun text dims page_rows name script old new summary)
     → (result ≡ Data → HasNoTable text dims name old new)
     → (result ≡ ended.Memory → HasNoMemory text dims page_rows name script old new)
-    → (result ≡ Device → Rose f g) → (result ≢ CommandLine) → HasEnded words old new f g result
+    → (result ≡ Device → Rose f g ⊎ HasNoDevice text dims page_rows name script old new) → (result ≢ CommandLine) → HasEnded words old new f g result
 try_ends words old new f g table path name text script dims page_rows Done asks run no_table no_memory device parsed =
     let ran = run (inl refl) in inl (table, path, name, text, script, dims, page_rows, ran.0, asks, ran.2, ran.1)
 try_ends words old new f g table path name text script dims page_rows Refused asks run no_table no_memory device parsed =
@@ -79,7 +85,8 @@ try_ends words old new f g table path name text script dims page_rows Refused as
 try_ends words old new f g table path name text script dims page_rows CommandLine asks run no_table no_memory device parsed = absurd (parsed refl)
 try_ends words old new f g table path name text script dims page_rows Data asks run no_table no_memory device parsed =
     (table, path, name, text, dims, page_rows, asks, no_table refl)
-try_ends words old new f g table path name text script dims page_rows Device asks run no_table no_memory device parsed = inl (device refl)
+try_ends words old new f g table path name text script dims page_rows Device asks run no_table no_memory device parsed =
+    device_ends words old new f g table path name text script dims page_rows asks (device refl)
 try_ends words old new f g table path name text script dims page_rows ended.Memory asks run no_table no_memory device parsed =
     inr (table, path, name, text, script, dims, page_rows, asks, no_memory refl)
 

@@ -54,11 +54,11 @@ refused_text (NotGrouped at) = refusal_text (codes "NotGrouped") at
 refused_text (NotSelected at) = refusal_text (codes "NotSelected") at
 refused_text Memory = []
 
--- what a statement writes; the rows stand in a plain list so far, so no page is fetched
-abbrev pub statement_text : Table → Result RowQuery SqlFault → List ℕ
-statement_text table (Ok q) = query_text table 0 q
-statement_text table (Err fault) = refused_text fault
+-- what a statement writes for which so many region pages are fetched if it is answered
+abbrev pub statement_text : Table → ℕ → Result RowQuery SqlFault → List ℕ
+statement_text table pages (Ok q) = query_text table pages q
+statement_text table pages (Err fault) = refused_text fault
 
 -- what the statements of a script write, one after the other
-abbrev pub script_text : Table → List (Result RowQuery SqlFault) → List ℕ
-script_text table outcomes = flat_map (statement_text table) outcomes
+abbrev pub script_text : Table → ℕ → List (Result RowQuery SqlFault) → List ℕ
+script_text table pages outcomes = flat_map (statement_text table pages) outcomes

@@ -1,11 +1,12 @@
 ghost use Rattle.std.specs.Prelude.{◌≡◌};
 ghost use Rattle.ub_shell.specs.declared.fault.RunFault.TheVariants.{Memory, Write};
-ghost use Rattle.ub_shell.specs.Faults.{fault_of_load};
+ghost use Rattle.ub_shell.specs.Faults.{fault_of_load, fault_of_tree};
 
 use crate::output::OutFault;
 use std::alloc::AllocError;
 use thiserror::Error;
 use ub_load::LoadFault;
+use ub_tree::TreeFault;
 
 /// Why a script was not run to its end.
 #[derive(Clone, Copy, PartialEq, Eq, Debug, Error)]
@@ -19,6 +20,9 @@ pub enum RunFault {
     /// The text is no table; never `LoadFault::Memory`, which is `Memory` here.
     #[error("{0}")]
     Load(LoadFault),
+    /// The tree refused; never `TreeFault::Memory`, which is `Memory` here.
+    #[error("{0}")]
+    Tree(TreeFault),
 }
 
 impl From<AllocError> for RunFault {
@@ -36,6 +40,17 @@ impl From<LoadFault> for RunFault {
         match fault {
             LoadFault::Memory => RunFault::Memory,
             fault => RunFault::Load(fault),
+        }
+    }
+}
+
+impl From<TreeFault> for RunFault {
+    ghost from_gives = { λ tree fault. fault ≡ fault_of_tree tree };
+
+    fn from(fault: TreeFault) -> RunFault {
+        match fault {
+            TreeFault::Memory => RunFault::Memory,
+            fault => RunFault::Tree(fault),
         }
     }
 }

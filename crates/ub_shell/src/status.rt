@@ -1,11 +1,14 @@
 ghost use Rattle.std.specs.Prelude.{◌≡◌, ◌≤◌, IfOk, codes};
 ghost use Rattle.std.specs.String.{string_bytes};
-ghost use Rattle.ub_shell.specs.Status.{status_code, summary_status, load_fault_status, load_fault_text, Tells, TellsIfMemory};
+ghost use Rattle.ub_shell.specs.Status.{status_code, summary_status, load_fault_status, load_fault_text, page_fault_word, tree_fault_status, tree_fault_text, Tells, TellsIfMemory};
 
 use crate::output::{Out, put_all};
 use crate::script::Summary;
 use std::alloc::{AllocError, Global};
 use ub_load::LoadFault;
+use ub_page::PageFault;
+use ub_store::StoreFault;
+use ub_tree::TreeFault;
 
 /// How a command of the program ends.
 #[derive(Clone, Copy, PartialEq, Eq, Debug)]
@@ -51,13 +54,60 @@ pub fn summary_status(summary: Summary) -> Status
     }
 }
 
-/// How a run ends whose table was refused: by the data, but for want of memory.
+/// How a run ends whose tree refused: by the data, unless its store failed or memory was refused.
+pub fn tree_fault_status(fault: TreeFault) -> Status
+    ensures { result ≡ tree_fault_status fault }
+{
+    match fault {
+        TreeFault::Memory | TreeFault::Store(StoreFault::Memory) => Status::Memory,
+        TreeFault::Failed | TreeFault::Store(StoreFault::Device) => Status::Device,
+        _ => Status::Data,
+    }
+}
+
+/// How a run ends whose table was refused: by the data, but for want of memory or a store that failed.
 pub fn load_fault_status(fault: LoadFault) -> Status
     ensures { result ≡ load_fault_status fault }
 {
     match fault {
         LoadFault::Memory => Status::Memory,
+        LoadFault::Tree(fault) => tree_fault_status(fault),
         _ => Status::Data,
+    }
+}
+
+// The word for what is wrong with a page.
+fn page_fault_word(fault: PageFault) -> &'static str
+    ensures { result.now ≡ page_fault_word fault }
+{
+    match fault {
+        PageFault::WrongKind => "WrongKind",
+        PageFault::Unclean => "Unclean",
+        PageFault::BadCount => "BadCount",
+        PageFault::BadName => "BadName",
+        PageFault::BadRow => "BadRow",
+        PageFault::BadOrder => "BadOrder",
+        PageFault::OutOfRegion => "OutOfRegion",
+        PageFault::BadPadding => "BadPadding",
+    }
+}
+
+/// The line for what a tree refused.
+pub fn tree_fault_line(alloc: Global, fault: TreeFault) -> Result<String, AllocError>
+    ensures { IfOk result (λ line. string_bytes line ≡ tree_fault_text fault) }
+{
+    match fault {
+        TreeFault::Page { page, fault } => {
+            let word = page_fault_word(fault);
+            format!(in alloc; "! {word} page {page}\n")
+        }
+        TreeFault::Full => String::from_str(alloc, "! Full\n"),
+        TreeFault::Store(StoreFault::NoPage) => String::from_str(alloc, "! NoPage\n"),
+        TreeFault::Store(StoreFault::BadSize) => String::from_str(alloc, "! BadSize\n"),
+        TreeFault::Store(StoreFault::Device) => String::from_str(alloc, "! Device\n"),
+        TreeFault::Store(StoreFault::Memory) => String::from_str(alloc, "! Memory\n"),
+        TreeFault::Failed => String::from_str(alloc, "! Device\n"),
+        TreeFault::Memory => String::from_str(alloc, "! Memory\n"),
     }
 }
 
@@ -77,7 +127,7 @@ pub fn load_fault_line(alloc: Global, fault: LoadFault) -> Result<String, AllocE
         LoadFault::NoHeader => String::from_str(alloc, "! NoHeader\n"),
         LoadFault::ColumnCount => String::from_str(alloc, "! ColumnCount\n"),
         LoadFault::Csv => String::from_str(alloc, "! Csv\n"),
-        LoadFault::Full => String::from_str(alloc, "! Full\n"),
+        LoadFault::Tree(fault) => tree_fault_line(alloc, fault),
         LoadFault::Memory => String::from_str(alloc, "! Memory\n"),
     }
 }
@@ -105,6 +155,16 @@ pub fn tell_load_fault<W: Out>(alloc: Global, fault: LoadFault, out: &mut W) -> 
 {
     match load_fault_line(alloc, fault) {
         Ok(line) => tell(out, line.as_bytes(), load_fault_status(fault)),
+        Err(_) => tell_memory(out),
+    }
+}
+
+/// Writes the line for what a tree refused.
+pub fn tell_tree_fault<W: Out>(alloc: Global, fault: TreeFault, out: &mut W) -> Status
+    ensures { TellsIfMemory (W.told out.old) (W.told out.new) (W.failures out.old) (W.failures out.new) (tree_fault_text fault) (tree_fault_status fault) result }
+{
+    match tree_fault_line(alloc, fault) {
+        Ok(line) => tell(out, line.as_bytes(), tree_fault_status(fault)),
         Err(_) => tell_memory(out),
     }
 }

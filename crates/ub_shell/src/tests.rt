@@ -8,7 +8,7 @@ const TABLE: &[u8] = b"x,y,m\n1,1,10\n2,3,20\n3,0,5\n0,2,7\n2,3,1\n";
 
 const SCRIPT: &[u8] = b"SELECT * FROM t WHERE x BETWEEN 2 AND 3;";
 
-const ANSWER: &[u8] = b"x,y,m\n2,3,20\n3,0,5\n2,3,1\n-- rows 3, pages 0\n";
+const ANSWER: &[u8] = b"x,y,m\n2,3,20\n3,0,5\n2,3,1\n-- rows 3, pages 3\n";
 
 // Takes a byte at a time, and no more than there is room for.
 #[derive(Drop)]
@@ -71,7 +71,7 @@ fn goes_on_after_a_refused_statement(rt: HostRuntime) -> Result<(), Fail> {
     );
     assert_eq!(rt;
         out.held.as_slice(),
-        b"! Syntax at 10\nm,y\n10,1\n7,2\n-- rows 2, pages 0\n".as_slice()
+        b"! Syntax at 10\nm,y\n10,1\n7,2\n-- rows 2, pages 3\n".as_slice()
     );
     Ok(())
 }

@@ -85,22 +85,23 @@ pub fn refused_text(alloc: Global, fault: &SqlFault) -> Result<Vec<u8>, AllocErr
     }
 }
 
-/// The text of a query's result on a table of this schema and these rows, which no page holds: a line of the columns'
-/// names, a line for each selected row, and a line of counts. `AllocError` only where memory is refused.
+/// The text of a query's result on a table of this schema and these rows, for which so many region pages were fetched: a
+/// line of the columns' names, a line for each selected row, and a line of counts. `AllocError` only where memory is refused.
 #[tactic(auto, unfolding(crate::specs::Text::query_text))]
 pub fn query_text(
     alloc: Global,
     schema: &Schema,
     rows: &[Row],
+    pages: usize,
     query: &RowQuery,
 ) -> Result<Vec<u8>, AllocError>
     requires { IsRowsOver (length schema.now.columns) (held query.now) }
-    ensures { IfOk result (λ text. text.items ≡ spec.query_text (record { schema = schema.now; rows = rows.now }) 0 (held query.now)) }
+    ensures { IfOk result (λ text. text.items ≡ spec.query_text (record { schema = schema.now; rows = rows.now }) pages (held query.now)) }
 {
     let mut text = Vec::new(alloc);
     push_titles(&mut text, schema, &query.columns)?;
     let count = push_selected(&mut text, schema, rows, query)?;
-    push_counts(&mut text, count, 0)?;
+    push_counts(&mut text, count, pages)?;
     Ok(text)
 }
 

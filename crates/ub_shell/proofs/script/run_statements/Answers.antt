@@ -1,5 +1,7 @@
-use Rattle.std.proofs.Common.{◌≡◌, ◌≤◌, ◌+◌, cond, arith, rules}
-use Rattle.ub_shell.proofs.RunFacts.{HaveRun-more, HaveRun-broken}
+use Rattle.std.proofs.Common.{◌≡◌, ◌≤◌, ◌+◌, cond, length, arith, refl, rules}
+use Rattle.std.proofs.lemmas.List.{take_all}
+use Rattle.ub_shell.proofs.KeptFacts.{Keeps-more, fetched_next, answer_kept, table_kept}
+use Rattle.ub_shell.proofs.RunFacts.{HaveRun-more, HaveRun-broken, HaveRun-kept, other_err}
 use Rattle.ub_shell.proofs.script.run_statements.Goals as goal
 use Rattle.ub_shell.proofs.script.run_statements.Goals.{then-branch, else-branch}
 
@@ -18,17 +20,38 @@ loop-range-preserved g c =
       | else-branch w ↦ omega (arith, w.refused-is, inv.few)
     ] in
     record {
-      run = HaveRun-more _ c.args.source.now c.args.tokens.now c.args.ranges.now c.loop-range.range-index (0, 0) _ _ _ c.loop-range.refused _ done.0 c.in_ok-run_statement.field-0
-          inv.run c.loop-range-test.true done.1 done.2 next;
+      run = λ table is.
+          let answer = done table (table_kept _ _ table inv.kept is) in
+          HaveRun-more table _ c.args.source.now c.args.tokens.now c.args.ranges.now c.loop-range.range-index (0, 0) _ _ _ c.loop-range.refused _ answer.0 c.in_ok-run_statement.field-0
+          (inv.run table is) c.loop-range-test.true (answer_kept _ _ table _ _ _ _ inv.kept answer.1) answer.2 next;
       few = few;
+      kept = Keeps-more _ _ _ inv.kept c.in_ok-run_statement.ensures.kept;
+      fetches = λ sound.
+          fetched_next c.args.tree.now c.loop-range.tree c.loop-range.range-index c.loop-range.refused _ _ c.in_ok-run_statement.field-0 inv.kept inv.few next
+          (inv.fetches sound) (c.in_ok-run_statement.ensures.fetches (inv.kept.sound sound));
       counts = omega (arith, inv.counts, c.in_ok-run_statement.ensures.counts);
     }
 
-pub returns-in_err-run_statement-clause-write : goal.returns-in_err-run_statement-clause-write
-returns-in_err-run_statement-clause-write g c is =
+pub returns-in_err-run_statement-clause-begun : goal.returns-in_err-run_statement-clause-begun
+returns-in_err-run_statement-clause-begun g c table is =
     let inv = c.loop-range.invariant in
-    let write = c.in_err-run_statement.ensures.write (search rules) in (
+    other_err _ _ _ c.from_residual.ensures.1
+    (λ differs. (c.loop-range.range-index, c.loop-range.refused, HaveRun-kept table _ _ _ _ _ _ _ _ (inv.run table is) (c.in_err-run_statement.ensures.begun differs)))
+
+pub returns-in_err-run_statement-clause-write : goal.returns-in_err-run_statement-clause-write
+returns-in_err-run_statement-clause-write g c table is same =
+    let inv = c.loop-range.invariant in
+    let write = c.in_err-run_statement.ensures.write table (table_kept _ _ table inv.kept is) (search rules) in (
       c.loop-range.range-index + 1,
-      HaveRun-broken _ c.args.source.now c.args.tokens.now c.args.ranges.now c.loop-range.range-index (0, 0) _ _ _ c.loop-range.refused
-          write.0 write.1 write.2 inv.run c.loop-range-test.true write.3 write.4,
+      HaveRun-broken table _ c.args.source.now c.args.tokens.now c.args.ranges.now c.loop-range.range-index (0, 0) _ _ _ c.loop-range.refused
+          write.0 write.1 write.2 (inv.run table is) c.loop-range-test.true (answer_kept _ _ table _ _ _ _ inv.kept write.3) write.4,
     )
+
+pub returns-clause-done : goal.returns-clause-done
+returns-clause-done g c table is =
+    (refl, rw (take_all c.loop-range.range-index c.args.ranges.now (omega (arith, c.loop-range-test.false))) at (c.loop-range.invariant.run table is))
+
+pub returns-clause-fetches : goal.returns-clause-fetches
+returns-clause-fetches g c sound =
+    let all : c.loop-range.range-index ≡ length c.args.ranges.now = omega (arith, c.loop-range-test.false, c.loop-range.auto.range-index-end) in
+    rw all at (c.loop-range.invariant.fetches sound)

@@ -1,30 +1,26 @@
-use Rattle.std.proofs.Common.{◌∙◌, sym, inr}
-use Rattle.ub_lexer.specs.Statements.{AreStatements}
-use Rattle.ub_lexer.specs.Tokens.{AreTokens}
-use Rattle.ub_shell.proofs.RunFacts.{All-ranges, run_whole, run_begun, run_broken, if_ok, same_statements}
+use Rattle.std.proofs.Common.{refl}
+use Rattle.ub_shell.proofs.KeptFacts.{sound_fault}
+use Rattle.ub_shell.proofs.RowsFacts.{loaded_run, loaded_broken, loaded_stopped}
+use Rattle.ub_shell.proofs.RunFacts.{if_ok}
 use Rattle.ub_shell.proofs.script.try_text.Goals as goal
-
-pub run_statements-requires-clause-ranges : goal.run_statements-requires-clause-ranges
-run_statements-requires-clause-ranges g c =
-    let ranges : AreStatements c.deref-2.result.now c.deref-3.result.now = same_statements _ _ _ _ (c.deref-2.ensures.value ∙ sym c.deref.ensures.value) c.deref-3.ensures.value c.in_ok-ranges.ensures.statements in
-    All-ranges _ _ ranges
 
 pub returns-clause-done : goal.returns-clause-done
 returns-clause-done g c =
-    let tokens : AreTokens c.args.script.now c.deref-2.result.now = rw c.deref-2.ensures.value c.in_ok-tokens.ensures.tokens in
-    let ranges : AreStatements c.deref-2.result.now c.deref-3.result.now = same_statements _ _ _ _ (c.deref-2.ensures.value ∙ sym c.deref.ensures.value) c.deref-3.ensures.value c.in_ok-ranges.ensures.statements in
-    if_ok c.run_statements.result _ _
-    (λ s h. run_whole _ _ _ _ _ _ _ _ _ _ _ c.in_ok-table.ensures.loaded tokens ranges s h)
-    c.run_statements.ensures.done
-
-pub returns-clause-memory : goal.returns-clause-memory
-returns-clause-memory g c is =
-    let tokens : AreTokens c.args.script.now c.deref-2.result.now = rw c.deref-2.ensures.value c.in_ok-tokens.ensures.tokens in
-    let ranges : AreStatements c.deref-2.result.now c.deref-3.result.now = same_statements _ _ _ _ (c.deref-2.ensures.value ∙ sym c.deref.ensures.value) c.deref-3.ensures.value c.in_ok-ranges.ensures.statements in
-    inr (run_begun _ _ _ _ _ _ _ _ _ _ _ c.in_ok-table.ensures.loaded tokens ranges (c.run_statements.ensures.memory is))
+    let loaded = c.in_ok-tree.ensures.loaded refl in
+    if_ok c.run.result _ _ (λ s h. loaded_run _ _ _ _ _ loaded _ _ _ s h) (c.run.ensures.done loaded.sound)
 
 pub returns-clause-write : goal.returns-clause-write
 returns-clause-write g c is =
-    let tokens : AreTokens c.args.script.now c.deref-2.result.now = rw c.deref-2.ensures.value c.in_ok-tokens.ensures.tokens in
-    let ranges : AreStatements c.deref-2.result.now c.deref-3.result.now = same_statements _ _ _ _ (c.deref-2.ensures.value ∙ sym c.deref.ensures.value) c.deref-3.ensures.value c.in_ok-ranges.ensures.statements in
-    run_broken _ _ _ _ _ _ _ _ _ _ _ c.in_ok-table.ensures.loaded tokens ranges (c.run_statements.ensures.write is)
+    let loaded = c.in_ok-tree.ensures.loaded refl in
+    loaded_broken _ _ _ _ _ loaded _ _ _ (c.run.ensures.write loaded.sound is)
+
+pub returns-clause-memory : goal.returns-clause-memory
+returns-clause-memory g c is =
+    let loaded = c.in_ok-tree.ensures.loaded refl in
+    loaded_stopped _ _ _ _ _ loaded _ _ _ c.run.result _ is (λ e. cc) (c.run.ensures.memory loaded.sound)
+
+pub returns-clause-tree : goal.returns-clause-tree
+returns-clause-tree g c fault is =
+    let loaded = c.in_ok-tree.ensures.loaded refl in
+    let why = c.run.ensures.tree fault is in
+    (sound_fault _ c.run.new.tree fault loaded.sound why.0 why.1, loaded_stopped _ _ _ _ _ loaded _ _ _ c.run.result _ is (λ e. cc) (c.run.ensures.memory loaded.sound))
