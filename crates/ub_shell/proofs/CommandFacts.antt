@@ -1,5 +1,5 @@
 -- What the builders of the command line make of it.
-use Rattle.std.proofs.Common.{◌≡◌, ◌∙◌, ◌||◌, Bool, ap, ap₂}
+use Rattle.std.proofs.Common.{◌∙◌, ◌||◌, Bool, ap, ap₂}
 use Rattle.clap.specs.Words.{AddsArg, AddsSubcommand, App, Rule, with_rule, with_subcommand}
 use Rattle.clap.specs.declared.builder.Arg.{Arg}
 use Rattle.clap.specs.declared.builder.Command.{Command}

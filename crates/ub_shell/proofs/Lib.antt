@@ -11,5 +11,3 @@ pub mod KeptFacts
 pub mod RowsFacts
 pub mod RunFacts
 pub mod StatusFacts
-pub mod GatherFacts
-pub mod SortFacts

@@ -1,4 +1,4 @@
-use Rattle.std.proofs.Common.{◌≡◌, ◌∙◌, sym, codes, ap, rules, List, ℕ}
+use Rattle.std.proofs.Common.{◌≡◌, sym, codes, rules}
 use Rattle.std.specs.Prelude.{string_bytes}
 use Rattle.ub_shell.proofs.GivenFacts.{five}
 use Rattle.ub_shell.proofs.command.three_after_next.Goals as goal
