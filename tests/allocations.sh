@@ -8,7 +8,7 @@ top=$(cd "$(dirname "$0")/.." && pwd)
 cd "$top/crates/ubq"
 first=${1:-1}
 last=${2:-100000}
-whole=$'x,y,m\n2,3,20\n3,0,5\n2,3,1\n-- rows 3, pages 0'
+whole=$'x,y,m\n2,3,20\n3,0,5\n2,3,1\n-- rows 3, pages 3'
 bad=0
 well=0
 for ((n = first; n <= last && well < 10; n++)); do
