@@ -169,12 +169,13 @@ fn directory_refusal(
 #[test]
 fn refuses_a_directory(rt: HostRuntime) -> Result<(), Fail> {
     for (regions, count, next, from, rest, page, fault) in [
-        // It ends early; it goes on; page 2 has an entry too few; page 3 has one too many.
+        // It ends early; page 2 names itself; it goes on; page 2 has an entry too few; page 3 has one too many.
         (171, 170, 0, 170, 1, 2, PageFault::BadCount),
+        (171, 170, 2, 170, 1, 2, PageFault::BadCount),
         (1, 1, 3, 1, 1, 2, PageFault::BadCount),
         (171, 169, 3, 169, 2, 2, PageFault::BadCount),
         (171, 170, 3, 170, 2, 3, PageFault::BadCount),
-        // Page 3 begins with the last key of page 2; page 2 names itself.
+        // Page 3 begins with the last key of page 2; page 2 names itself where another full page is due.
         (171, 170, 3, 169, 1, 3, PageFault::BadOrder),
         (510, 170, 2, 170, 1, 2, PageFault::BadOrder),
     ] {

@@ -249,8 +249,8 @@ fn remove_again<S: PageStore>(
     model: &Model,
     key: &Key,
 ) -> Result<bool, TreeFault> {
-    match tree.remove(key) {
-        Err(TreeFault::Memory) if is_like(tree, model)? => tree.remove(key),
+    match tree.remove(*key) {
+        Err(TreeFault::Memory) if is_like(tree, model)? => tree.remove(*key),
         Err(TreeFault::Memory) => Err(TreeFault::Full),
         answer => answer,
     }

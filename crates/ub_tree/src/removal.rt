@@ -117,8 +117,8 @@ impl<S: PageStore> Tree<S> {
     /// Failed comes where the tree has failed, Page where a page is refused or there is such a row though none is counted,
     /// Memory where memory was refused, and Store where the store failed in this call or has no such page. After Store the
     /// tree may have failed; after another fault it is as it was.
-    pub fn remove(&mut self, key: &Key) -> Result<bool, TreeFault>
-        ensures removed { IsSound self.old → IfOk result (λ found. IsRemoved key.now found self.old self.new) }
+    pub fn remove(&mut self, key: Key) -> Result<bool, TreeFault>
+        ensures removed { IsSound self.old → IfOk result (λ found. IsRemoved key found self.old self.new) }
         ensures untouched { IfOk result (λ found. found ≡ false → IsUntouched self.old self.new) }
         ensures schema { self.new.schema ≡ self.old.schema }
         ensures first { IsMarkedFirst self.old self.new }
@@ -130,9 +130,9 @@ impl<S: PageStore> Tree<S> {
         if self.is_failed {
             return Err(TreeFault::Failed);
         }
-        let place = self.places.place_of(key);
+        let place = self.places.place_of(&key);
         let mut rows = self.rows_at(place)?;
-        if !rows.remove(shape_of(&self.schema), key) {
+        if !rows.remove(shape_of(&self.schema), &key) {
             return Ok(false);
         }
         if self.rows == 0 {

@@ -1,4 +1,5 @@
 use crate::{Region, Tree, TreeFault};
+use std::alloc::Global;
 use std::test::Fail;
 use ub_page::{Entry, Header, Key, Name, PageFault, Schema, read_directory, read_header};
 use ub_store::{FaultyStore, MemStore, PageStore, StoreFault};
@@ -119,15 +120,25 @@ fn begin_at(entries: &[Entry], addresses: &[u128]) -> bool {
     entries.len() == addresses.len()
 }
 
-// Whether closing fails, and the store that is handed back is marked unclean.
-fn stays_unclean(tree: Tree<FaultyStore<MemStore>>) -> bool {
+// Whether closing fails, and the store that is handed back is refused as unclean.
+fn stays_unclean(alloc: Global, tree: Tree<FaultyStore<MemStore>>) -> bool {
     match tree.close() {
         Ok(_) => false,
         Err(refused) => {
-            let mut store = refused.store;
             refused.fault == TreeFault::Store(StoreFault::Device)
-                && header_in(&mut store).err() == Some(PageFault::Unclean)
+                && is_unclean(alloc, refused.store)
         }
+    }
+}
+
+fn is_unclean(alloc: Global, store: FaultyStore<MemStore>) -> bool {
+    let unclean = TreeFault::Page {
+        page: 0,
+        fault: PageFault::Unclean,
+    };
+    match Tree::open(alloc, store) {
+        Ok(_) => false,
+        Err(refused) => refused.fault == unclean,
     }
 }
 
@@ -153,7 +164,7 @@ fn closing_that_fails(rt: HostRuntime) -> Result<(), Fail> {
     let store = FaultyStore::new(MemStore::new(rt.alloc()), 6);
     match Tree::create(rt.alloc(), store, &plane()?) {
         Ok(tree) => {
-            assert!(rt; stays_unclean(tree));
+            assert!(rt; stays_unclean(rt.alloc(), tree));
             Ok(())
         }
         Err(refused) => Err(refused.fault.into()),
@@ -166,9 +177,9 @@ fn takes_rows_out(rt: HostRuntime) -> Result<(), Fail> {
     let last = u128::from(u64::MAX);
     let second = Key { z: 13, number: 2 };
     let fifth = Key { z: 13, number: 5 };
-    assert!(rt; tree.remove(&second)?);
-    assert!(rt; tree.remove(&fifth)?);
-    assert!(rt; !tree.remove(&second)?);
+    assert!(rt; tree.remove(second)?);
+    assert!(rt; tree.remove(fifth)?);
+    assert!(rt; !tree.remove(second)?);
     assert_eq!(rt; (tree.rows(), tree.regions()), (3, 2));
     assert_eq!(rt; spans_to(&mut tree, 0)?, (0, 9, 1, 4));
     assert_eq!(rt; spans_to(&mut tree, last)?, (10, last, 3, 3));

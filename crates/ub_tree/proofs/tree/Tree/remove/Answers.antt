@@ -12,7 +12,7 @@ returns-then-not-remove-clause-removed g c =
     let t = c.self.inside in
     let a = c.args.self.now in
     let b = c.rows_at.new.self in
-    let key = c.args.key.now in
+    let key = c.args.key in
     let rows = c.in_ok-rows.rows in
     let same = c.in_ok-rows.ensures.same in
     let held = holder t.schema t.places.entries.items t.chain.items t.next t.rows t.is_changed t.is_failed t.pager a key c.place_of-place.result rows c.self.view_is
@@ -25,7 +25,7 @@ pub returns-then-self-eq0-clause-refused : goal.returns-then-self-eq0-clause-ref
 returns-then-self-eq0-clause-refused g c =
     let t = c.self.inside in
     let a = c.args.self.now in
-    let key = c.args.key.now in
+    let key = c.args.key in
     let rows = c.in_ok-rows.rows in
     let same = c.in_ok-rows.ensures.same in
     let held = holder t.schema t.places.entries.items t.chain.items t.next t.rows t.is_changed t.is_failed t.pager a key c.place_of-place.result rows c.self.view_is
@@ -37,7 +37,7 @@ returns-then-self-eq0-clause-refused g c =
 
 pub settle-requires-clause-few : goal.settle-requires-clause-few
 settle-requires-clause-few g c =
-    let less = length-remove_row c.shape_of.result c.args.key.now c.in_ok-rows.rows in
+    let less = length-remove_row c.shape_of.result c.args.key c.in_ok-rows.rows in
     let same = ap (λ (v : TreeView). v.schema.page_rows) c.in_ok-rows.ensures.same in
     let few = c.in_ok-rows.ensures.few in
     rw c.remove.ensures.rows (omega arith)
@@ -47,7 +47,7 @@ returns-clause-removed g c =
     let t = c.self.inside in
     let a = c.args.self.now in
     let b = c.rows_at.new.self in
-    let key = c.args.key.now in
+    let key = c.args.key in
     let rows = c.in_ok-rows.rows in
     let same = c.in_ok-rows.ensures.same in
     let held = holder t.schema t.places.entries.items t.chain.items t.next t.rows t.is_changed t.is_failed t.pager a key c.place_of-place.result rows c.self.view_is
