@@ -308,7 +308,7 @@ change_later a c s (Store store.Device) kept (rose, inr read) = (
   }),
 )
 change_later a c s (Store store.NoPage) kept h = λ sound. h (keeps_sound a s kept sound)
-change_later a c s (Store store.BadSize) kept h = λ sound. let after = h (keeps_sound a s kept sound) in (record { schema = after.0.schema; placed = after.0.placed; rows = after.0.rows; next = after.0.next }, after.1)
+change_later a c s (Store store.BadSize) kept h = (h.0, λ sound. let after = h.1 (keeps_sound a s kept sound) in (record { schema = after.0.schema; placed = after.0.placed; rows = after.0.rows; next = after.0.next }, after.1))
 change_later a c s (Store store.Memory) kept h = h
 
 pub insert_refused : {T : Type 0} (r : Result T TreeFault) (a b c : TreeView) (fault : TreeFault) → IsErrAnd r (λ e. e ≡ fault) → b ≡ record a { store = b.store } → Keeps a.store b.store

@@ -14,7 +14,7 @@ use Rattle.ub_page.specs.declared.row.Row.{Row}
 use Rattle.ub_page.specs.declared.schema.Schema.{Schema}
 use Rattle.ub_tree.specs.declared.fault.TreeFault.{TreeFault}
 use Rattle.ub_tree.specs.declared.fault.TreeFault.TheVariants.{Full, Page, Store, Failed as HasFailed, Memory}
-use Rattle.ub_store.specs.Facts.{StoreFacts, IsHonest, Rose, Failed, Keeps, Appends, MayAppend}
+use Rattle.ub_store.specs.Facts.{StoreFacts, IsHonest, Rose, Failed, Keeps, Appends, MayAppend, page_count}
 use Rattle.ub_store.specs.View.{PagerView}
 use Rattle.ub_store.specs.declared.fault.StoreFault.{StoreFault}
 use Rattle.ub_store.specs.declared.fault.StoreFault.TheVariants as store
@@ -180,12 +180,12 @@ module _ (schema : Schema) (entries : List Entry) (chain : List ℕ) (next rows 
       fresh_of : (pages : List (List ℕ)) → pages ≡ old.store.pages → ArePlaced schema (placed_of schema pages entries) (0 ∷ chain) old.store.pages → IsDistinct nat_eq (n ∷ ((0 ∷ chain) ++ numbers_of (placed_of schema pages entries)))
       fresh_of pages is_old placed_are = rw is_old (fresh_number schema entries chain old.store.pages n (rw is_old at placed_are) (omega arith))
 
-pub extend_refused : {U : Type 0} (fault : StoreFault) (old new : TreeView) → (IsErrOf {T = U} (Err fault) store.Device → Failed old.store new.store) → (¬ (IsErrOf {T = U} (Err fault) store.NoPage)) → (¬ (IsErrOf {T = U} (Err fault) store.Device)) → Leaves old new
+pub extend_refused : {U : Type 0} (fault : StoreFault) (old new : TreeView) → (IsErrOf {T = U} (Err fault) store.Device → Failed old.store new.store) → (¬ (IsErrOf {T = U} (Err fault) store.NoPage)) → (¬ (IsErrOf {T = U} (Err fault) store.Device)) → (IsErrOf {T = U} (Err fault) store.BadSize → 4294967295 ≤ page_count new.store) → Leaves old new
     → IsChangeFault old new (tree_fault fault)
-extend_refused store.Device old new device no_page no_device leaves = absurd (no_device refl)
-extend_refused store.NoPage old new device no_page no_device leaves = absurd (no_page refl)
-extend_refused store.Memory old new device no_page no_device leaves = leaves
-extend_refused store.BadSize old new device no_page no_device leaves = leaves
+extend_refused store.Device old new device no_page no_device full leaves = absurd (no_device refl)
+extend_refused store.NoPage old new device no_page no_device full leaves = absurd (no_page refl)
+extend_refused store.Memory old new device no_page no_device full leaves = leaves
+extend_refused store.BadSize old new device no_page no_device full leaves = (inl (full refl), leaves)
 
 -- the rows of the region at a place, put on its page and on another one
 module _ (schema : Schema) (entries : List Entry) (chain : List ℕ) (next rows : ℕ) (changed failed : Bool) (old new : PagerView) (place : ℕ) (e x : Entry) (left right : List Row) (page other : List ℕ)
@@ -302,7 +302,7 @@ change_past a b c (Store store.Device) leaves same count more h given =
       inl (record { failed = up.failed; schema = up.schema ∙ ap (λ (t : TreeView). t.schema) same; regions = up.regions ∙ count; rows = up.rows ∙ ap (λ (t : TreeView). t.rows) same }),
     )
 change_past a b c (Store store.NoPage) leaves same count more h given = λ sound. h (leaves sound).1
-change_past a b c (Store store.BadSize) leaves same count more h given = kept_after a b c leaves h
+change_past a b c (Store store.BadSize) leaves same count more h given = (h.0, kept_after a b c leaves h.1)
 change_past a b c (Store store.Memory) leaves same count more h given = h
 
 -- a fault of a change after a page was added

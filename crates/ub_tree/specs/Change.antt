@@ -1,5 +1,5 @@
 -- What a change of one region does to a tree.
-use Rattle.std.specs.Prelude.{◌≡◌, ◌≢◌, ◌<◌, ◌+◌, ◌-◌, ◌⊎◌, ◌++◌, ℕ, ℤ, pos, suc, true, false, List, [], ◌∷◌, Some, IsTrue, Bool, length, map, take, drop, replicate, slice_get}
+use Rattle.std.specs.Prelude.{◌≡◌, ◌≢◌, ◌<◌, ◌≤◌, ◌+◌, ◌-◌, ◌⊎◌, ◌++◌, ℕ, ℤ, pos, suc, true, false, List, [], ◌∷◌, Some, IsTrue, Bool, length, map, take, drop, replicate, slice_get}
 use Rattle.std.specs.Bool.{nat_eq}
 use Rattle.std.specs.List.{IsDistinct}
 use Rattle.std.specs.List.{insert as insert_at}
@@ -69,6 +69,10 @@ pub record HasOnlyRead (old new : TreeView) : Type 0 where
   pub pages : facts.Keeps old.store new.store
   pub leaves : Leaves old new
 
+-- there are as many pages as a store can have, or as many regions
+abbrev pub IsFull : TreeView → Type 0
+IsFull t = (4294967295 ≤ page_count t.store) ⊎ (length t.placed ≡ 4294967295)
+
 -- what a call can answer that changes the tree
 abbrev pub IsChangeFault : TreeView → TreeView → TreeFault → Type 0
 IsChangeFault old new Full = (old.next ≡ 16777216) × Leaves old new
@@ -77,7 +81,7 @@ IsChangeFault old new Memory = Leaves old new
 IsChangeFault old new (Page page fault) = ¬ (IsSound old)
 IsChangeFault old new (Store store.Device) = Failed old.store new.store × (HasGivenUp old new ⊎ HasOnlyRead old new)
 IsChangeFault old new (Store store.NoPage) = ¬ (IsSound old)
-IsChangeFault old new (Store store.BadSize) = Leaves old new
+IsChangeFault old new (Store store.BadSize) = IsFull new × Leaves old new
 IsChangeFault old new (Store store.Memory) = ⊥
 
 -- a row was put into a sound tree, with the number that was next

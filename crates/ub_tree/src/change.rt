@@ -217,8 +217,8 @@ impl<S: PageStore> Tree<S> {
     /// Puts a row in, with these coordinates and measures, and gives its number: one more than the last row got.
     ///
     /// Full comes exactly where the last number is given. Failed comes where the tree has failed, Page where a page is
-    /// refused, Memory where memory was refused, and Store where the store failed in this call, has no such page, or has
-    /// room for no more. After Store with Device the tree may have failed; after another fault it is as it was.
+    /// refused, Memory where memory was refused, and Store where the store failed in this call, has no such page, or can
+    /// have no more of them (BadSize). After Store with Device the tree may have failed; after another fault it is as it was.
     pub fn insert(&mut self, dims: &[u32], measures: &[i64]) -> Result<u32, TreeFault>
         requires dims { length dims.now ≡ self.old.schema.dims }
         requires measures { length measures.now ≡ measures_of self.old.schema }

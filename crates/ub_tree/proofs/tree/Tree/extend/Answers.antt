@@ -1,4 +1,4 @@
-use Rattle.std.proofs.Common.{subst, ◌∙◌, sym, rules}
+use Rattle.std.proofs.Common.{subst, ◌∙◌, sym, rules, arith}
 use Rattle.ub_store.specs.Facts.{zero_page}
 use Rattle.ub_tree.specs.Change.{IsChangeFault}
 use Rattle.ub_tree.specs.Faults.{tree_fault}
@@ -31,7 +31,7 @@ returns-in-Err-clause-refused g c =
     let more : IsExtended t.pager.store c.extend.new.self.store = extended_may t.pager.store c.extend.new.self.store c.in-Err.ensures.failed in
     subst (λ (f : TreeFault). IsChangeFault c.args.self.now new f) (sym c.from.ensures)
     (subst (λ (v : TreeView). IsChangeFault v new (tree_fault c.in-Err.fault)) c.self.view_is
-    (extend_refused c.in-Err.fault old new c.in-Err.ensures.device c.in-Err.ensures.no_page (search rules)
+    (extend_refused c.in-Err.fault old new c.in-Err.ensures.device c.in-Err.ensures.no_page (search rules) (λ is. let last = c.in-Err.ensures.full is in let grown = more.more in omega arith)
     (extended_leaves t.schema t.places.entries.items t.chain.items t.next t.rows t.is_changed t.is_failed t.pager c.extend.new.self more)))
 
 pub returns-in-Ok-clause-entries : goal.returns-in-Ok-clause-entries
