@@ -1,5 +1,5 @@
 -- A record that is accepted makes a row, and none of a text's refusals is one of the store.
-use Rattle.std.proofs.Common.{◌≡◌, ◌+◌, ◌-◌, ◌<◌, ◌≤◌, ◌⊎◌, ◌==◌, ◌^◌, ℕ, zero, suc, true, false, List, [], ◌∷◌, ◌++◌, length, take, drop, map, Option, Some, None, Result, Err, refl, sym, ap, subst, ◌∙◌, arith, inl, inr}
+use Rattle.std.proofs.Common.{◌≡◌, ◌+◌, ◌-◌, ◌<◌, ◌≤◌, ◌⊎◌, ◌==◌, ◌^◌, ℕ, zero, suc, true, false, List, [], ◌∷◌, ◌++◌, length, take, drop, map, Option, Some, None, Result, Err, refl, sym, ap, subst, ◌∙◌, arith, inl, inr, IsErrOf}
 use Rattle.std.specs.Prelude.{FitsSigned, IfSome, nat_lt, nat_le, ◌&&◌, ◌||◌, not, if◌then◌else◌}
 use Rattle.std.specs.Int.{w64}
 use Rattle.std.specs.List.{AllByRecursion, enumerate_from, list_any}
@@ -35,6 +35,10 @@ IsHonestFault f = (fault : TreeFault) → f ≡ Tree fault → (fault ≡ tree.F
 
 pub honest_full : (f : LoadFault) → IsFullOnly f → IsHonestFault f
 honest_full f h fault e = inl (h fault e)
+
+-- where the text is refused, the device is not
+pub no_device : {T : Type 0} (f : LoadFault) → IsFullOnly f → ¬ (IsErrOf {T = T} (Err f) (Tree (tree.Store store.Device)))
+no_device f h is = let same : f ≡ Tree (tree.Store store.Device) = cc in let bad = h (tree.Store store.Device) same in cc
 
 -- what is true of each refusal of a list is true of the first
 first-has : (P : LoadFault → Type 0) (xs : List (Option LoadFault)) (f : LoadFault) → AllByRecursion (λ o. IfSome o P) xs → first_of xs ≡ Some f → P f

@@ -1,6 +1,6 @@
 //! A whole CSV text as a table in a UB-tree.
 
-ghost use Rattle.std.specs.Prelude.{◌≡◌, ◌≢◌, ◌≤◌, ◌⊎◌, [], true, false, length, Some, Err, IfOk, IfErr};
+ghost use Rattle.std.specs.Prelude.{◌≡◌, ◌≢◌, ◌≤◌, ◌⊎◌, [], true, false, length, Some, Err, IfOk, IfErr, IsErrOf, IsTrue};
 ghost use Rattle.std.specs.Result.{OnOk};
 ghost use Rattle.csv.specs.Records.{fields_of};
 ghost use Rattle.ub_page.specs.Region.{IsRow, measures_of};
@@ -29,8 +29,8 @@ use ub_tree::{Tree, TreeFault};
 /// The error is the first thing that is wrong, in the order of the text: `NoHeader`, `ColumnCount`, `BadName`, and then for
 /// each row `Csv` for a length other than the header's, `BadNumber` or `OutOfRange`, and `Tree` with `Full`. `Csv` comes only
 /// where `csv` refused a record, which is also where reading failed, `Memory` only where memory was refused, and `Tree` with
-/// another fault only from the store: over an honest one `Device` where it failed, and `BadSize` where it has room for no
-/// more pages. With each refusal the store is dropped, and the rows in it.
+/// another fault only from the store: over an honest one `Device` where it failed (never over one that can't fail), and
+/// `BadSize` where it has room for no more pages. With each refusal the store is dropped, and the rows in it.
 pub fn load<S: PageStore>(
     alloc: Global,
     text: &[u8],
@@ -51,6 +51,7 @@ pub fn load<S: PageStore>(
         → first_refusal dims name.now (records_of text.now) ≡ Some f) }
     ensures store_faults { (fault : TreeFault) → result ≡ Err (LoadFault.Tree fault) → IsHonest (S.facts store)
         → (fault ≡ TreeFault.Full) ⊎ (fault ≡ TreeFault.Store StoreFault.Device) ⊎ (fault ≡ TreeFault.Store StoreFault.BadSize) }
+    ensures reliable { IsErrOf result (LoadFault.Tree (TreeFault.Store StoreFault.Device)) → IsTrue S.can_fail }
 {
     let mut records = ReaderBuilder::new()
         .has_headers(false)
@@ -76,6 +77,7 @@ fn new_tree<S: PageStore>(alloc: Global, store: S, schema: &Schema) -> Result<Tr
     requires { page_count (S.facts store) ≡ 0 }
     ensures made { IfOk result (λ t. IsCreated (S.facts store) schema.now t) }
     ensures refused { IfErr result (λ f. (f ≡ LoadFault.Memory) ⊎ (f ≡ LoadFault.Tree (TreeFault.Store StoreFault.Device))) }
+    ensures reliable { IsErrOf result (LoadFault.Tree (TreeFault.Store StoreFault.Device)) → IsTrue S.can_fail }
 {
     match Tree::create(alloc, store, schema) {
         Ok(tree) => Ok(tree),
@@ -101,6 +103,7 @@ fn load_record<S: PageStore>(
         → first_of (record_refusals tree.old.schema.dims (length tree.old.schema.columns) (number, fields_of fields.now)) ≡ Some f) }
     ensures store_faults { IsSound tree.old → tree.old.next ≡ number → IfErr result (λ f. (fault : TreeFault) → f ≡ LoadFault.Tree fault
         → (fault ≡ TreeFault.Full) ⊎ (fault ≡ TreeFault.Store StoreFault.Device) ⊎ (fault ≡ TreeFault.Store StoreFault.BadSize)) }
+    ensures reliable { IsErrOf result (LoadFault.Tree (TreeFault.Store StoreFault.Device)) → IsTrue S.can_fail }
 {
     let dims = tree.schema().dims();
     let width = tree.schema().columns().len();
@@ -120,6 +123,7 @@ fn put_row<S: PageStore>(tree: &mut Tree<S>, row: &Row) -> Result<(), TreeFault>
     ensures refused { IfErr result (λ f. f ≢ TreeFault.Full) }
     ensures faults { IsSound tree.old → tree.old.next ≡ row.now.number
         → IfErr result (λ f. (f ≡ TreeFault.Memory) ⊎ (f ≡ TreeFault.Store StoreFault.Device) ⊎ (f ≡ TreeFault.Store StoreFault.BadSize)) }
+    ensures reliable { IsErrOf result (TreeFault.Store StoreFault.Device) → IsTrue S.can_fail }
 {
     let dims = tree.schema().dims() as usize;
     let measures = tree.schema().measures() as usize;

@@ -96,25 +96,17 @@ TellsIfMemory told told_now failures failures_now bytes wanted status =
     Tells told told_now failures failures_now bytes wanted status
     ⊎ Tells told told_now failures failures_now (codes "! Memory\n") Memory status
 
--- a run of a script wrote nothing or the texts of its first statements, and then this line
-pub record HasStopped (text : List ℕ) (dims page_rows : ℕ) (name script line : List ℕ) (old new : Option (List ℕ)) : Type 0 where
+-- a run of a script wrote nothing or the texts of its first statements, and then the line that says that memory was refused
+pub record HasNoMemory (text : List ℕ) (dims page_rows : ℕ) (name script : List ℕ) (old new : Option (List ℕ)) : Type 0 where
   pub before : Option (List ℕ)
   pub begun : Keeps old before ⊎ HasBegun text dims page_rows name script old before
-  pub told : Appends before new line
-
--- the line says that memory was refused
-abbrev pub HasNoMemory : List ℕ → ℕ → ℕ → List ℕ → List ℕ → Option (List ℕ) → Option (List ℕ) → Type 0
-HasNoMemory text dims page_rows name script old new = HasStopped text dims page_rows name script (codes "! Memory\n") old new
-
--- the line says that the store failed
-abbrev pub HasNoDevice : List ℕ → ℕ → ℕ → List ℕ → List ℕ → Option (List ℕ) → Option (List ℕ) → Type 0
-HasNoDevice text dims page_rows name script old new = HasStopped text dims page_rows name script (codes "! Device\n") old new
+  pub told : Appends before new (codes "! Memory\n")
 
 -- the table was refused: the line of the first thing that is wrong with the text was written, unless `csv` refused a record
--- or the tree's store refused
+-- or there is no room for another page
 pub record HasNoTable (text : List ℕ) (dims : ℕ) (name : List ℕ) (old new : Option (List ℕ)) : Type 0 where
   pub fault : LoadFault
-  pub first : fault ≢ Csv → ((of_tree : TreeFault) → fault ≡ Tree of_tree → of_tree ≡ tree.Full) → first_refusal dims name (records_of text) ≡ Some fault
+  pub first : fault ≢ Csv → fault ≢ Tree (tree.Store store.BadSize) → first_refusal dims name (records_of text) ≡ Some fault
   pub told : Appends old new (load_fault_text fault)
 
 -- whole lines were written, one at least
@@ -155,13 +147,6 @@ EndedWithoutMemory words old new =
     ⊎ ((table path name text script : List ℕ) × (dims page_rows : ℕ)
     × AsksTry words table path name dims page_rows × HasNoMemory text dims page_rows name script old new)
 
--- nothing was written, or the texts of the first statements of a script that the words ask for, and then the line that
--- says that the store failed
-abbrev pub EndedWithoutDevice : List (List ℕ) → Option (List ℕ) → Option (List ℕ) → Type 0
-EndedWithoutDevice words old new =
-    (table path name text script : List ℕ) × (dims page_rows : ℕ)
-    × AsksTry words table path name dims page_rows × HasNoDevice text dims page_rows name script old new
-
 -- what a command of the program has done and written that was given these words and ends with this status: told is what
 -- its output held before and after, failures how often that failed
 abbrev pub HasEnded : List (List ℕ) → Option (List ℕ) → Option (List ℕ) → ℕ → ℕ → Status → Type 0
@@ -171,6 +156,5 @@ HasEnded words old new failures failures_now Refused = RanScript words old new R
 HasEnded words old new failures failures_now CommandLine =
     AnsweredNext words old new CommandLine ⊎ (AsksNothing words × TellsLines old new)
 HasEnded words old new failures failures_now Data = RefusedTable words old new
-HasEnded words old new failures failures_now Device =
-    Rose failures failures_now ⊎ (ReadNoFile words old new ⊎ EndedWithoutDevice words old new)
+HasEnded words old new failures failures_now Device = Rose failures failures_now ⊎ ReadNoFile words old new
 HasEnded words old new failures failures_now Memory = EndedWithoutMemory words old new

@@ -1,7 +1,7 @@
 ghost use Rattle.std.specs.Prelude.{◌≡◌, ◌≢◌, ◌≤◌, ◌⊎◌, ◌++◌, ℕ, List, MatchOption, Some, codes, map, option_map, string_bytes, IfOk};
 ghost use Rattle.clap.specs.Words.{HasKind, fault_of, first_of, found_of, rows_of, subcommand_rows_of};
 ghost use Rattle.ub_shell.specs.Run.{HasRun};
-ghost use Rattle.ub_shell.specs.Status.{status_code, summary_status, Tells, TellsIfMemory, HasNoTable, HasNoMemory, HasNoDevice, HasEnded};
+ghost use Rattle.ub_shell.specs.Status.{status_code, summary_status, Tells, TellsIfMemory, HasNoTable, HasNoMemory, HasEnded};
 ghost use Rattle.ub_shell.specs.CommandLine.{AreNextWords, AsksNothing, AsksTry, IsArgFor, IsCommandFor, IsNextGiven, IsNumberGiven, IsTaken, IsTryGiven, dims_rule, next_app, option_rule, page_rows_rule, try_app, ubq_app, word_rule};
 ghost use Rattle.ub_shell.specs.Counts.{Rose};
 ghost use Rattle.ub_shell.specs.declared.script.Summary.{Summary};
@@ -209,7 +209,7 @@ fn tell_unread<W: Out>(fault: ReadFault, out: &mut W) -> Status
 
 /// Runs a script on the table of a CSV text, and ends with what came of it: `Done` or `Refused` with the script's text
 /// written, by whether a statement was refused; `Data` where the text is no table and `Memory` where memory is refused,
-/// each with a last line that says so; `Device` where a write fails, or the store does, which a last line tells.
+/// each with a last line that says so; `Device` where a write fails.
 pub fn tell_try<W: Out>(
     alloc: Global,
     text: &[u8],
@@ -226,7 +226,7 @@ pub fn tell_try<W: Out>(
     ensures run { (result ≡ Status.Done) ⊎ (result ≡ Status.Refused) → (summary : Summary) × (result ≡ summary_status summary) × HasRun text.now dims page_rows name.now script.now (W.told out.old) (W.told out.new) summary }
     ensures no_table { result ≡ Status.Data → HasNoTable text.now dims name.now (W.told out.old) (W.told out.new) }
     ensures no_memory { result ≡ Status.Memory → HasNoMemory text.now dims page_rows name.now script.now (W.told out.old) (W.told out.new) }
-    ensures device { result ≡ Status.Device → Rose (W.failures out.old) (W.failures out.new) ⊎ HasNoDevice text.now dims page_rows name.now script.now (W.told out.old) (W.told out.new) }
+    ensures device { result ≡ Status.Device → Rose (W.failures out.old) (W.failures out.new) }
     ensures parsed { result ≢ Status.CommandLine }
 {
     match try_text(alloc, text, dims, page_rows, name, script, out) {

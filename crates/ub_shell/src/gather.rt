@@ -1,4 +1,4 @@
-ghost use Rattle.std.specs.Prelude.{◌≡◌, ◌++◌, ℕ, Some, length, map, slice_get, option_copied, IfOk, IfErr, OnOk};
+ghost use Rattle.std.specs.Prelude.{◌≡◌, ◌++◌, ℕ, Some, length, map, slice_get, option_copied, IfOk, IfErr, OnOk, IsErrOf, IsTrue};
 ghost use Rattle.ub_shell.specs.Gather.{before, HasRead};
 ghost use Rattle.ub_store.specs.Facts.{raised};
 ghost use Rattle.ub_tree.specs.Calls.{IsReadFault, Keeps};
@@ -8,7 +8,7 @@ ghost use Rattle.ub_tree.specs.View.{IsSound, regions, spans_of, tree_rows};
 
 use std::alloc::Global;
 use ub_page::Row;
-use ub_store::PageStore;
+use ub_store::{PageStore, StoreFault};
 use ub_tree::{Region, Tree, TreeFault};
 
 /// The rows of a tree's table in the order of their numbers. Every region is read, in key order, and noted in the trace,
@@ -22,6 +22,7 @@ pub fn gather<S: PageStore>(alloc: Global, tree: &mut Tree<S>) -> Result<Vec<Row
     ensures fetches { IsSound tree.old → OnOk result (tree.new.fetches ≡ raised tree.old.fetches (length tree.old.placed)) }
     ensures kept { Keeps tree.old tree.new }
     ensures refused { IfErr result (IsReadFault tree.old tree.new) }
+    ensures reliable { IsErrOf result (TreeFault.Store StoreFault.Device) → IsTrue S.can_fail }
 {
     tree.begin();
     let mut rows = collect(alloc, tree)?;
@@ -36,6 +37,7 @@ fn collect<S: PageStore>(alloc: Global, tree: &mut Tree<S>) -> Result<Vec<Row>, 
     ensures fetches { IsSound tree.old → OnOk result (tree.new.fetches ≡ raised tree.old.fetches (length tree.old.placed)) }
     ensures kept { Keeps tree.old tree.new }
     ensures refused { IfErr result (IsReadFault tree.old tree.new) }
+    ensures reliable { IsErrOf result (TreeFault.Store StoreFault.Device) → IsTrue S.can_fail }
 {
     let mut rows = Vec::new(alloc);
     let mut after = None;
@@ -57,6 +59,7 @@ fn read_next<S: PageStore>(
     ensures read { IsSound tree.old → (k : ℕ) (p : Placed) → slice_get tree.old.placed k ≡ Some p → option_copied after.entry ≡ before k (spans_of tree.old) → IfOk result (λ found. (found ≡ slice_get (spans_of tree.old) k) × HasRead p tree.old tree.new rows.old.items rows.new.items) }
     ensures kept { Keeps tree.old tree.new }
     ensures refused { IfErr result (IsReadFault tree.old tree.new) }
+    ensures reliable { IsErrOf result (TreeFault.Store StoreFault.Device) → IsTrue S.can_fail }
 {
     let Some(region) = tree.seek(0, after)? else {
         return Ok(None);

@@ -2,9 +2,9 @@
 // command line.
 //
 // `output` is what bytes are written to, `text` makes the text of one statement's result from the rows that `gather` reads
-// from the tree, and `script` runs the statements of a script one after the other. `command` reads the program's command line and runs what it asks for: `next` is the
-// command for the addresses of a box, and `status` is how a command ends. The grammar and the meaning of a statement
-// belong to the crates below.
+// from the tree, and `script` runs the statements of a script one after the other. `command` reads the program's command
+// line and runs what it asks for: `next` is the command for the addresses of a box, and `status` is how a command ends. The
+// grammar and the meaning of a statement belong to the crates below.
 #![tactic(auto)]
 
 pub mod command;

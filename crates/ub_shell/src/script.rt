@@ -1,4 +1,4 @@
-ghost use Rattle.std.specs.Prelude.{◌≡◌, ◌≢◌, ◌<◌, ◌≤◌, ◌⊎◌, ◌-◌, ℕ, Bool, true, List, length, take, Ok, Err, All, slice_range, IfOk, IfErr, IsErrOf};
+ghost use Rattle.std.specs.Prelude.{◌≡◌, ◌≢◌, ◌<◌, ◌≤◌, ◌⊎◌, ◌-◌, ℕ, Bool, true, List, length, take, Ok, Err, All, slice_range, IfOk, IfErr, IsErrOf, IsTrue};
 ghost use Rattle.std.specs.Option.{ok_or};
 ghost use Rattle.std.specs.Io.KnownBytes.{Appends, Keeps as KeepsBytes};
 ghost use Rattle.ub_lexer.specs.Tokens.{AreSpelled};
@@ -40,8 +40,8 @@ pub struct Summary {
 /// one after the other, and counts the statements.
 ///
 /// `Load` where the text is no table, and then nothing is written. `Write` where the output fails. `Memory` where memory
-/// is refused, and then nothing is written of the statement that needed it. `Tree` would be a failure of the store, which
-/// memory has none of.
+/// is refused, and then nothing is written of the statement that needed it. `Tree` never, since a store in memory doesn't
+/// fail.
 pub fn try_text<W: Out>(
     alloc: Global,
     text: &[u8],
@@ -57,10 +57,10 @@ pub fn try_text<W: Out>(
     requires few_rows { page_rows ≤ 64 }
     ensures done { IfOk result (λ summary. HasRun text.now dims page_rows name.now script.now (W.told out.old) (W.told out.new) summary) }
 
-    // Nothing is written, and the fault is the first thing that is wrong with the text, unless `csv` refused a record or the
-    // tree's store failed.
+    // Nothing is written, and the fault is the first thing that is wrong with the text, unless `csv` refused a record or there
+    // is no room for another page.
     ensures load { (fault : LoadFault) → result ≡ Err (RunFault.Load fault) → KeepsBytes (W.told out.old) (W.told out.new)
-        × (fault ≢ LoadFault.Csv → ((tree : TreeFault) → fault ≡ LoadFault.Tree tree → tree ≡ TreeFault.Full) → first_refusal dims name.now (records_of text.now) ≡ Some fault) }
+        × (fault ≢ LoadFault.Csv → fault ≢ LoadFault.Tree (TreeFault.Store StoreFault.BadSize) → first_refusal dims name.now (records_of text.now) ≡ Some fault) }
     ensures failed { IsErrOf result RunFault.Write → Rose (W.failures out.old) (W.failures out.new) }
 
     // A front of the texts of the first statements is written, and nothing after the write that failed.
@@ -68,8 +68,8 @@ pub fn try_text<W: Out>(
 
     // Nothing is written, or the texts of the first statements and no more.
     ensures memory { IsErrOf result RunFault.Memory → KeepsBytes (W.told out.old) (W.told out.new) ⊎ HasBegun text.now dims page_rows name.now script.now (W.told out.old) (W.told out.new) }
-    ensures tree { (fault : TreeFault) → result ≡ Err (RunFault.Tree fault) → (fault ≡ TreeFault.Store StoreFault.Device)
-        × (KeepsBytes (W.told out.old) (W.told out.new) ⊎ HasBegun text.now dims page_rows name.now script.now (W.told out.old) (W.told out.new)) }
+    ensures of_tree { (fault : TreeFault) → result ≡ Err (RunFault.Load (LoadFault.Tree fault)) → (fault ≡ TreeFault.Full) ⊎ (fault ≡ TreeFault.Store StoreFault.BadSize) }
+    ensures tree { (fault : TreeFault) → ¬ (result ≡ Err (RunFault.Tree fault)) }
     ensures counts { W.failures out.old ≤ W.failures out.new }
 {
     let mut tree = load(alloc, text, dims, page_rows, name, MemStore::new(alloc))?;
@@ -89,8 +89,9 @@ pub fn run<S: PageStore, W: Out>(
 ) -> Result<Summary, RunFault>
     ensures done { IsSound tree.old → IfOk result (λ summary. HasRunOn tree.old script.now (W.told out.old) (W.told out.new) summary) }
 
-    // On a sound tree, the store failed in this call.
+    // On a sound tree, the store failed in this call; never over a store that can't fail.
     ensures tree { (fault : TreeFault) → result ≡ Err (RunFault.Tree fault) → IsReadFault tree.old tree.new fault × (fault ≢ TreeFault.Memory) }
+    ensures reliable { IsErrOf result (RunFault.Tree (TreeFault.Store StoreFault.Device)) → IsTrue S.can_fail }
     ensures load { (fault : LoadFault) → ¬ (result ≡ Err (RunFault.Load fault)) }
     ensures failed { IsErrOf result RunFault.Write → Rose (W.failures out.old) (W.failures out.new) }
 
@@ -126,6 +127,7 @@ fn run_statements<S: PageStore, W: Out>(
     ensures write { (table : Table) → IsTableOf tree.old table → IsErrOf result RunFault.Write → (n : ℕ) × HaveBroken table (length tree.old.placed) source.now tokens.now (take n ranges.now) (W.told out.old) (W.told out.new) }
     ensures failed { IsErrOf result RunFault.Write → Rose (W.failures out.old) (W.failures out.new) }
     ensures faults { IfErr result (IsGiven tree.old tree.new) }
+    ensures reliable { IsErrOf result (RunFault.Tree (TreeFault.Store StoreFault.Device)) → IsTrue S.can_fail }
     ensures kept { Keeps tree.old tree.new }
     ensures fetches { IsSound tree.old → IfOk result (λ summary. tree.new.fetches ≡ fetches_after (length tree.old.placed) tree.old.fetches (summary.statements - summary.refused)) }
     ensures counts { W.failures out.old ≤ W.failures out.new }
@@ -158,6 +160,7 @@ fn run_statement<S: PageStore, W: Out>(
     ensures write { (table : Table) → IsTableOf tree.old table → IsErrOf result RunFault.Write → (text : List ℕ) × (is_refused : Bool) × (n : ℕ) × IsAnswer table (length tree.old.placed) source.now (slice_range tokens.now range.0 range.1) text is_refused × Appends (W.told out.old) (W.told out.new) (take n text) }
     ensures failed { IsErrOf result RunFault.Write → Rose (W.failures out.old) (W.failures out.new) }
     ensures faults { IfErr result (IsGiven tree.old tree.new) }
+    ensures reliable { IsErrOf result (RunFault.Tree (TreeFault.Store StoreFault.Device)) → IsTrue S.can_fail }
     ensures kept { Keeps tree.old tree.new }
     ensures fetches { IsSound tree.old → IfOk result (λ is_refused. tree.new.fetches ≡ fetches_then (length tree.old.placed) tree.old.fetches is_refused) }
     ensures counts { W.failures out.old ≤ W.failures out.new }
@@ -186,6 +189,7 @@ fn answer_to<S: PageStore>(
     requires spelled { AreSpelled source.now tokens.now }
     ensures answer { (table : Table) → IsTableOf tree.old table → IfOk result (λ a. IsAnswer table (length tree.old.placed) source.now tokens.now a.text.items a.is_refused) }
     ensures refused { IfErr result (IsReadFault tree.old tree.new) }
+    ensures reliable { IsErrOf result (TreeFault.Store StoreFault.Device) → IsTrue S.can_fail }
     ensures kept { Keeps tree.old tree.new }
     ensures fetches { IsSound tree.old → IfOk result (λ a. tree.new.fetches ≡ fetches_then (length tree.old.placed) tree.old.fetches a.is_refused) }
 {
@@ -206,6 +210,7 @@ fn answer_accepted<S: PageStore>(
     requires { IsAskedOver (length tree.old.schema.columns) (told statement.now).asked }
     ensures answer { (table : Table) → IsTableOf tree.old table → IfOk result (λ a. IsTextOf table (length tree.old.placed) (ok_or (sql.row_query (told statement.now)) (SqlFault.Syntax at)) a.text.items a.is_refused) }
     ensures refused { IfErr result (IsReadFault tree.old tree.new) }
+    ensures reliable { IsErrOf result (TreeFault.Store StoreFault.Device) → IsTrue S.can_fail }
     ensures kept { Keeps tree.old tree.new }
     ensures fetches { IsSound tree.old → IfOk result (λ a. tree.new.fetches ≡ fetches_then (length tree.old.placed) tree.old.fetches a.is_refused) }
 {
@@ -224,6 +229,7 @@ fn answer_query<S: PageStore>(
     requires { IsRowsOver (length tree.old.schema.columns) (held query.now) }
     ensures answer { (table : Table) → IsTableOf tree.old table → IfOk result (λ a. IsTextOf table (length tree.old.placed) (Ok (held query.now)) a.text.items a.is_refused) }
     ensures refused { IfErr result (IsReadFault tree.old tree.new) }
+    ensures reliable { IsErrOf result (TreeFault.Store StoreFault.Device) → IsTrue S.can_fail }
     ensures kept { Keeps tree.old tree.new }
     ensures fetches { IsSound tree.old → IfOk result (λ a. tree.new.fetches ≡ fetches_then (length tree.old.placed) tree.old.fetches a.is_refused) }
 {

@@ -56,11 +56,14 @@ impl<S: PageStore> FaultyStore<S> {
 }
 
 impl<S: PageStore> PageStore for FaultyStore<S> {
+    ghost use Rattle.std.specs.Prelude.{true};
     ghost use Rattle.ub_store.specs.Faulty.{faulty_facts};
 
     ghost facts = { faulty_facts S.facts };
 
     ghost reads_need_memory = { S.reads_need_memory };
+
+    ghost can_fail = { true };
 
     fn pages(&self) -> u32 {
         self.inner.pages()

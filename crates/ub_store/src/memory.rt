@@ -44,6 +44,8 @@ impl PageStore for MemStore {
 
     ghost reads_need_memory = { false };
 
+    ghost can_fail = { false };
+
     fn pages(&self) -> u32
         ensures { result ≡ length self.now }
     {

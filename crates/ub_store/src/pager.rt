@@ -1,4 +1,4 @@
-ghost use Rattle.std.specs.Prelude.{◌≡◌, ◌<◌, ◌≤◌, ◌⊎◌, ◌++◌, ◌∷◌, [], Err, IfOk, IfErr, OnOk, OnErr, IsErrOf};
+ghost use Rattle.std.specs.Prelude.{◌≡◌, ◌<◌, ◌≤◌, ◌⊎◌, ◌++◌, ◌∷◌, [], Err, IfOk, IfErr, IsTrue, OnOk, OnErr, IsErrOf};
 ghost use Rattle.ub_store.specs.Facts.{page_count, raised, zero_page, IsPage, Failed, Unfailed, Keeps, Writes, Spoils, Appends, MayAppend};
 ghost use Rattle.ub_store.specs.View.{pager_view, SameTrace};
 
@@ -80,6 +80,7 @@ impl<S: PageStore> Pager<S> {
         ensures there { OnOk result (n < page_count self.old.store) }
         ensures missing { IsErrOf result StoreFault.NoPage → page_count self.old.store ≤ n }
         ensures device { IsErrOf result StoreFault.Device → Failed self.old.store self.new.store }
+        ensures reliable { IsErrOf result StoreFault.Device → IsTrue S.can_fail }
         ensures no_size { ¬ (IsErrOf result StoreFault.BadSize) }
         ensures kept { Keeps self.old.store self.new.store }
     {
@@ -98,6 +99,7 @@ impl<S: PageStore> Pager<S> {
         ensures there { OnOk result (n < page_count self.old.store) }
         ensures missing { IsErrOf result StoreFault.NoPage → page_count self.old.store ≤ n }
         ensures device { IsErrOf result StoreFault.Device → Failed self.old.store self.new.store }
+        ensures reliable { IsErrOf result StoreFault.Device → IsTrue S.can_fail }
         ensures no_size { ¬ (IsErrOf result StoreFault.BadSize) }
         ensures kept { Keeps self.old.store self.new.store }
     {
@@ -118,6 +120,7 @@ impl<S: PageStore> Pager<S> {
         ensures there { OnOk result (n < page_count self.old.store) }
         ensures missing { IsErrOf result StoreFault.NoPage → page_count self.old.store ≤ n }
         ensures device { IsErrOf result StoreFault.Device → Failed self.old.store self.new.store }
+        ensures reliable { IsErrOf result StoreFault.Device → IsTrue S.can_fail }
         ensures faults { IfErr result (λ fault. (fault ≡ StoreFault.Device) ⊎ (fault ≡ StoreFault.NoPage)) }
         ensures written { OnOk result (Writes n page.now self.old.store self.new.store) }
         ensures spoiled { OnErr result (Spoils n self.old.store self.new.store) }
@@ -147,6 +150,7 @@ impl<S: PageStore> Pager<S> {
         ensures room { OnOk result (page_count self.old.store < MAX_PAGES) }
         ensures full { IsErrOf result StoreFault.BadSize → page_count self.old.store ≡ MAX_PAGES }
         ensures device { IsErrOf result StoreFault.Device → Failed self.old.store self.new.store }
+        ensures reliable { IsErrOf result StoreFault.Device → IsTrue S.can_fail }
         ensures no_page { ¬ (IsErrOf result StoreFault.NoPage) }
         ensures added { OnOk result (Appends zero_page self.old.store self.new.store) }
         ensures failed { OnErr result (MayAppend self.old.store self.new.store) }
@@ -158,6 +162,7 @@ impl<S: PageStore> Pager<S> {
     pub fn sync(&mut self) -> Result<(), StoreFault>
         ensures trace { SameTrace self.old self.new }
         ensures device { IsErrOf result StoreFault.Device → Failed self.old.store self.new.store }
+        ensures reliable { IsErrOf result StoreFault.Device → IsTrue S.can_fail }
         ensures faults { IfErr result (λ fault. fault ≡ StoreFault.Device) }
         ensures done { OnOk result (Unfailed self.old.store self.new.store) }
         ensures kept { Keeps self.old.store self.new.store }

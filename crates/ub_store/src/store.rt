@@ -17,6 +17,9 @@ pub trait PageStore: Drop {
     // Whether a read may be refused for want of memory.
     ghost reads_need_memory: { Bool };
 
+    // Whether a call may answer Device.
+    ghost can_fail: { Bool };
+
     /// How many pages there are.
     fn pages(&self) -> u32
         ensures { result ≡ page_count (facts self.now) };
@@ -28,6 +31,7 @@ pub trait PageStore: Drop {
         ensures there { OnOk result (n < page_count (facts self.old)) }
         ensures missing { IsErrOf result StoreFault.NoPage → page_count (facts self.old) ≤ n }
         ensures device { IsErrOf result StoreFault.Device → Failed (facts self.old) (facts self.new) }
+        ensures reliable { IsErrOf result StoreFault.Device → IsTrue can_fail }
         ensures memory { IsErrOf result StoreFault.Memory → IsTrue reads_need_memory }
         ensures no_size { ¬ (IsErrOf result StoreFault.BadSize) }
         ensures kept { Keeps (facts self.old) (facts self.new) };
@@ -38,6 +42,7 @@ pub trait PageStore: Drop {
         ensures there { OnOk result (n < page_count (facts self.old)) }
         ensures missing { IsErrOf result StoreFault.NoPage → page_count (facts self.old) ≤ n }
         ensures device { IsErrOf result StoreFault.Device → Failed (facts self.old) (facts self.new) }
+        ensures reliable { IsErrOf result StoreFault.Device → IsTrue can_fail }
         ensures faults { IfErr result (λ fault. (fault ≡ StoreFault.Device) ⊎ (fault ≡ StoreFault.NoPage)) }
         ensures written { OnOk result (Writes n page.now (facts self.old) (facts self.new)) }
         ensures spoiled { OnErr result (Spoils n (facts self.old) (facts self.new)) };
@@ -50,6 +55,7 @@ pub trait PageStore: Drop {
         ensures room { OnOk result (page_count (facts self.old) < MAX_PAGES) }
         ensures full { IsErrOf result StoreFault.BadSize → page_count (facts self.old) ≡ MAX_PAGES }
         ensures device { IsErrOf result StoreFault.Device → Failed (facts self.old) (facts self.new) }
+        ensures reliable { IsErrOf result StoreFault.Device → IsTrue can_fail }
         ensures no_page { ¬ (IsErrOf result StoreFault.NoPage) }
         ensures added { OnOk result (Appends zero_page (facts self.old) (facts self.new)) }
         ensures failed { OnErr result (MayAppend (facts self.old) (facts self.new)) };
@@ -57,6 +63,7 @@ pub trait PageStore: Drop {
     /// Makes what was written last. Device comes where the store failed in this call, whatever the cause.
     fn sync(&mut self) -> Result<(), StoreFault>
         ensures device { IsErrOf result StoreFault.Device → Failed (facts self.old) (facts self.new) }
+        ensures reliable { IsErrOf result StoreFault.Device → IsTrue can_fail }
         ensures faults { IfErr result (λ fault. fault ≡ StoreFault.Device) }
         ensures done { OnOk result (Unfailed (facts self.old) (facts self.new)) }
         ensures kept { Keeps (facts self.old) (facts self.new) };

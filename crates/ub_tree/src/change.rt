@@ -38,6 +38,7 @@ impl<S: PageStore> Tree<S> {
         ensures same { self.new ≡ record self.old { store = self.new.store } }
         ensures kept { facts.Keeps self.old.store self.new.store }
         ensures refused { IfErr result (IsReadFault self.old self.new) }
+        ensures reliable { IsErrOf result (TreeFault.Store StoreFault.Device) → IsTrue S.can_fail }
     {
         let entry = self.places.entries[place];
         let page = self.pager.fetch(entry.page)?;
@@ -78,6 +79,7 @@ impl<S: PageStore> Tree<S> {
         ensures first { IsMarkedFirst self.old self.new }
         ensures trace { KeepsTrace self.old self.new }
         ensures refused { IfErr result (IsChangeFault self.old self.new) }
+        ensures reliable { IsErrOf result (TreeFault.Store StoreFault.Device) → IsTrue S.can_fail }
     {
         let mark = self.mark();
         let entry = self.places.entries[place];
@@ -112,6 +114,7 @@ impl<S: PageStore> Tree<S> {
         ensures more { page_count self.old.store ≤ page_count self.new.store }
         ensures trace { KeepsTrace self.old self.new }
         ensures refused { IfErr result (IsChangeFault self.old self.new) }
+        ensures reliable { IsErrOf result (TreeFault.Store StoreFault.Device) → IsTrue S.can_fail }
     {
         match self.pager.extend() {
             Ok(n) => Ok(n),
@@ -139,6 +142,7 @@ impl<S: PageStore> Tree<S> {
         ensures first { IsMarkedFirst self.old self.new }
         ensures trace { KeepsTrace self.old self.new }
         ensures refused { IfErr result (IsChangeFault self.old self.new) }
+        ensures reliable { IsErrOf result (TreeFault.Store StoreFault.Device) → IsTrue S.can_fail }
         ensures given_up { IsErrOf result (TreeFault.Store StoreFault.Device) → HasGivenUp self.old self.new }
     {
         let mark = self.mark();
@@ -178,6 +182,7 @@ impl<S: PageStore> Tree<S> {
         ensures first { IsMarkedFirst self.old self.new }
         ensures trace { KeepsTrace self.old self.new }
         ensures refused { HasRoom place halves.now.first self.old → IfErr result (IsChangeFault self.old self.new) }
+        ensures reliable { IsErrOf result (TreeFault.Store StoreFault.Device) → IsTrue S.can_fail }
     {
         if !has_room(&self.places, place, &halves.first) {
             return Err(TreeFault::Page {
@@ -204,6 +209,7 @@ impl<S: PageStore> Tree<S> {
         ensures first { IsMarkedFirst self.old self.new }
         ensures trace { KeepsTrace self.old self.new }
         ensures refused { (self.old.schema.page_rows < length rows.now → HasRoom place (split self.old.schema.dims self.old.schema.page_rows rows.now).first self.old) → IfErr result (IsChangeFault self.old self.new) }
+        ensures reliable { IsErrOf result (TreeFault.Store StoreFault.Device) → IsTrue S.can_fail }
     {
         let page_rows = self.schema.page_rows();
         let slice = rows.as_slice();
@@ -231,6 +237,7 @@ impl<S: PageStore> Tree<S> {
         ensures failed { IsTrue self.old.is_failed → result ≡ Err TreeFault.Failed }
         ensures full { self.old.is_failed ≡ false → self.old.next ≡ 16777216 → result ≡ Err TreeFault.Full }
         ensures refused { IfErr result (IsChangeFault self.old self.new) }
+        ensures reliable { IsErrOf result (TreeFault.Store StoreFault.Device) → IsTrue S.can_fail }
     {
         if self.is_failed {
             return Err(TreeFault::Failed);
@@ -266,6 +273,7 @@ fn write_pages<S: PageStore>(
     ensures failures { pager.old.store.failures ≤ pager.new.store.failures }
     ensures trace { SameTrace pager.old pager.new }
     ensures device { IsErrOf result StoreFault.Device → facts.Failed pager.old.store pager.new.store }
+    ensures reliable { IsErrOf result StoreFault.Device → IsTrue S.can_fail }
     ensures missing { IsErrOf result StoreFault.NoPage → (page_count pager.old.store ≡ 0) ⊎ (page_count pager.old.store ≤ first.entry.0) ⊎ (page_count pager.old.store ≤ second.entry.0) }
     ensures faults { IfErr result (λ fault. (fault ≡ StoreFault.Device) ⊎ (fault ≡ StoreFault.NoPage)) }
 {
@@ -292,6 +300,7 @@ fn write_page<S: PageStore>(
     ensures count { page_count pager.new.store ≡ page_count pager.old.store }
     ensures trace { SameTrace pager.old pager.new }
     ensures device { IsErrOf result StoreFault.Device → facts.Failed pager.old.store pager.new.store }
+    ensures reliable { IsErrOf result StoreFault.Device → IsTrue S.can_fail }
     ensures missing { IsErrOf result StoreFault.NoPage → (page_count pager.old.store ≡ 0) ⊎ (page_count pager.old.store ≤ n) }
     ensures faults { IfErr result (λ fault. (fault ≡ StoreFault.Device) ⊎ (fault ≡ StoreFault.NoPage)) }
 {

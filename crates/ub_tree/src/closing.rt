@@ -30,6 +30,7 @@ impl<S: PageStore> Tree<S> {
         ensures honest { IfOk result (λ s. (S.facts s).honest ≡ self.store.honest) × IfErr result (λ r. (S.facts r.store).honest ≡ self.store.honest) }
         ensures pages { IsTrue self.is_changed → IfOk result (λ s. page_count (S.facts s) ≡ page_count self.store + (levels_for (length self.placed) + 1 - length self.reserved)) }
         ensures refused { IfErr result (λ r. IsCloseFault self (S.facts r.store) r.fault) }
+        ensures reliable { IfErr result (λ refused. refused.fault ≡ TreeFault.Store StoreFault.Device → IsTrue S.can_fail) }
     {
         if self.is_failed {
             return Err(Rejected {
@@ -77,6 +78,7 @@ fn write_table<S: PageStore>(
     ensures pages { OnOk result (page_count pager.new.store ≡ page_count pager.old.store + (levels_for (length entries.now) - length chain.items)) }
     ensures honest { pager.new.store.honest ≡ pager.old.store.honest }
     ensures refused { IfErr result (IsSaveFault chain.items pager.old.store pager.new.store) }
+    ensures reliable { IsErrOf result (TreeFault.Store StoreFault.Device) → IsTrue S.can_fail }
 {
     tell_names(schema.columns());
     tell_name(schema.name());
@@ -111,6 +113,7 @@ fn write_places<S: PageStore>(
     ensures honest { pager.new.store.honest ≡ pager.old.store.honest }
     ensures failures { pager.old.store.failures ≤ pager.new.store.failures }
     ensures refused { IfErr result (IsSaveFault chain.items pager.old.store pager.new.store) }
+    ensures reliable { IsErrOf result (TreeFault.Store StoreFault.Device) → IsTrue S.can_fail }
 {
     grow_chain(pager, &mut chain, levels_of(entries.len()))?;
     write_chain(pager, &chain, entries)?;
@@ -137,6 +140,7 @@ fn grow_chain<S: PageStore>(
     ensures pages { OnOk result (page_count pager.new.store ≡ page_count pager.old.store + (levels - length chain.old.items)) }
     ensures grows { Grows pager.old.store pager.new.store }
     ensures refused { IfErr result (IsSaveFault chain.old.items pager.old.store pager.new.store) }
+    ensures reliable { IsErrOf result (TreeFault.Store StoreFault.Device) → IsTrue S.can_fail }
 {
     chain.truncate(levels);
     while chain.len() < levels {
@@ -160,6 +164,7 @@ fn write_chain<S: PageStore>(
     ensures chain { (numbers : List ℕ) → IsHonest pager.old.store → AreOwn (page_count pager.old.store) chain.now numbers → OnOk result (IsChain pager.new.store.pages chain.now entries.now) }
     ensures kept { KeepsBut chain.now pager.old.store pager.new.store }
     ensures device { IsErrOf result StoreFault.Device → Failed pager.old.store pager.new.store }
+    ensures reliable { IsErrOf result StoreFault.Device → IsTrue S.can_fail }
     ensures missing { IsErrOf result StoreFault.NoPage → (numbers : List ℕ) → ¬ (AreOwn (page_count pager.old.store) chain.now numbers) }
     ensures faults { IfErr result (λ fault. (fault ≡ StoreFault.Device) ⊎ (fault ≡ StoreFault.NoPage)) }
 {
@@ -189,6 +194,7 @@ fn write_clean<S: PageStore>(pager: &mut Pager<S>, header: &Header) -> Result<()
     ensures written { IsHonest pager.old.store → OnOk result (slice_get pager.new.store.pages 0 ≡ Some (header_page header.now)) }
     ensures kept { KeepsBut (0 ∷ []) pager.old.store pager.new.store }
     ensures device { IsErrOf result StoreFault.Device → Failed pager.old.store pager.new.store }
+    ensures reliable { IsErrOf result StoreFault.Device → IsTrue S.can_fail }
     ensures missing { IsErrOf result StoreFault.NoPage → page_count pager.old.store ≡ 0 }
     ensures faults { IfErr result (λ fault. (fault ≡ StoreFault.Device) ⊎ (fault ≡ StoreFault.NoPage)) }
 {

@@ -1,4 +1,4 @@
-ghost use Rattle.std.specs.Prelude.{◌≡◌, ◌+◌, ◌/◌, ◌<◌, ◌^◌, [], ◌∷◌, IfOk, IfErr, OnOk};
+ghost use Rattle.std.specs.Prelude.{◌≡◌, ◌+◌, ◌/◌, ◌<◌, ◌^◌, [], ◌∷◌, IfOk, IfErr, OnOk, IsErrOf, IsTrue};
 ghost use Rattle.ub_zaddr.specs.Address.{last_address};
 ghost use Rattle.ub_store.specs.Facts.{page_count, IsHonest};
 ghost use Rattle.ub_store.specs.View.{pager_view, SameTrace};
@@ -12,7 +12,7 @@ use crate::tree::Tree;
 use std::alloc::{AllocError, Global};
 use std::num::NonZeroUsize;
 use ub_page::{Entry, Header, Key, Schema, write_header, write_region};
-use ub_store::{PageStore, Pager, Rejected};
+use ub_store::{PageStore, Pager, Rejected, StoreFault};
 use ub_zaddr::{Shape, last};
 
 // How many pages the cache of a tree holds.
@@ -35,6 +35,7 @@ impl<S: PageStore> Tree<S> {
         requires { page_count (S.facts store) ≡ 0 }
         ensures made { IfOk result (λ t. IsCreated (S.facts store) schema.now t) }
         ensures refused { IfErr result (λ refused. IsCreateFault (S.facts store) (S.facts refused.store) refused.fault) }
+        ensures reliable { IfErr result (λ refused. refused.fault ≡ TreeFault.Store StoreFault.Device → IsTrue S.can_fail) }
     {
         let mut pager = match pager_over(alloc, store) {
             Ok(pager) => pager,
@@ -86,6 +87,7 @@ fn lay_out<S: PageStore>(
     ensures honest { pager.new.store.honest ≡ pager.old.store.honest }
     ensures trace { SameTrace pager.old pager.new }
     ensures refused { IfErr result (IsCreateFault pager.old.store pager.new.store) }
+    ensures reliable { IsErrOf result (TreeFault.Store StoreFault.Device) → IsTrue S.can_fail }
 {
     let places = first_places(alloc, schema)?;
     let mut chain = Vec::new(alloc);
@@ -117,6 +119,7 @@ fn write_first_pages<S: PageStore>(pager: &mut Pager<S>, schema: &Schema) -> Res
     ensures honest { pager.new.store.honest ≡ pager.old.store.honest }
     ensures trace { SameTrace pager.old pager.new }
     ensures refused { IfErr result (IsCreateFault pager.old.store pager.new.store) }
+    ensures reliable { IsErrOf result (TreeFault.Store StoreFault.Device) → IsTrue S.can_fail }
 {
     pager.extend()?;
     pager.extend()?;

@@ -1,4 +1,4 @@
-ghost use Rattle.std.specs.Prelude.{◌≡◌, ◌<◌, ◌≤◌, ◌+◌, ◌-◌, ◌↔◌, ◌⊎◌, ◌++◌, ℕ, List, false, length, IsTrue, IfOk, IfErr, OnOk, OnErr};
+ghost use Rattle.std.specs.Prelude.{◌≡◌, ◌<◌, ◌≤◌, ◌+◌, ◌-◌, ◌↔◌, ◌⊎◌, ◌++◌, ℕ, List, false, length, IsTrue, IfOk, IfErr, OnOk, OnErr, IsErrOf};
 ghost use Rattle.ub_zaddr.specs.Address.{last_address};
 ghost use Rattle.ub_page.specs.Directory.{AreAscending, IsListing, directory_page};
 ghost use Rattle.ub_page.specs.Header.{IsHeader, header_page};
@@ -46,6 +46,7 @@ impl<S: PageStore> Tree<S> {
             → IfOk result (λ t. IsSound t × (t.schema ≡ schema) × (t.placed ≡ placed) × (t.next ≡ next)) }
         ensures kept { IfErr result (λ refused. facts.Keeps (S.facts store) (S.facts refused.store)) }
         ensures refused { IfErr result (λ refused. IsOpenFault (S.facts store) (S.facts refused.store) refused.fault) }
+        ensures reliable { IfErr result (λ refused. refused.fault ≡ TreeFault.Store StoreFault.Device → IsTrue S.can_fail) }
     {
         // Its contract tells the proof how many pages there can be.
         let _pages = store.pages();
@@ -91,6 +92,7 @@ fn read_table<S: PageStore>(
     ensures kept { facts.Keeps pager.old.store pager.new.store }
     ensures trace { SameTrace pager.old pager.new }
     ensures refused { IfErr result (IsOpenFault pager.old.store pager.new.store) }
+    ensures reliable { IsErrOf result (TreeFault.Store StoreFault.Device) → IsTrue S.can_fail }
 {
     let header = header_of(pager)?;
     let listed = read_chain(alloc, pager, &header)?;
@@ -107,6 +109,7 @@ fn header_of<S: PageStore>(pager: &mut Pager<S>) -> Result<Header, TreeFault>
     ensures kept { facts.Keeps pager.old.store pager.new.store }
     ensures trace { SameTrace pager.old pager.new }
     ensures refused { IfErr result (IsOpenFault pager.old.store pager.new.store) }
+    ensures reliable { IsErrOf result (TreeFault.Store StoreFault.Device) → IsTrue S.can_fail }
 {
     let page = pager.fetch(0)?;
     let header = read_header(&page).map_err(|fault| TreeFault::Page { page: 0, fault })?;
@@ -125,6 +128,7 @@ fn read_chain<S: PageStore>(
     ensures kept { facts.Keeps pager.old.store pager.new.store }
     ensures trace { SameTrace pager.old pager.new }
     ensures refused { IfErr result (IsOpenFault pager.old.store pager.new.store) }
+    ensures reliable { IsErrOf result (TreeFault.Store StoreFault.Device) → IsTrue S.can_fail }
 {
     let mut listed = Listed {
         entries: Vec::new(alloc),
@@ -151,6 +155,7 @@ fn read_part<S: PageStore>(
     ensures kept { facts.Keeps pager.old.store pager.new.store }
     ensures trace { SameTrace pager.old pager.new }
     ensures refused { IfErr result (IsOpenFault pager.old.store pager.new.store) }
+    ensures reliable { IsErrOf result (TreeFault.Store StoreFault.Device) → IsTrue S.can_fail }
 {
     let number = listed.next;
     let page = pager.fetch(number)?;

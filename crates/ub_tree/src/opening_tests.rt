@@ -1,11 +1,11 @@
 // Tables that are opened, from pages written by hand.
-use crate::tests::{MemTree, plane, put, spans_to};
-use crate::{Tree, TreeFault};
+use crate::tests::{MemTree, plane, put, rectangle, spans_to};
+use crate::{Region, Tree, TreeFault};
 use std::test::Fail;
 use ub_page::{
     Entry, Header, Key, Page, PageFault, Row, write_directory, write_header, write_region,
 };
-use ub_store::{MemStore, PageStore, StoreFault};
+use ub_store::{FaultyStore, MemStore, PageStore, StoreFault};
 
 // The header of a table in the plane whose directory begins on page 2.
 fn header(next: u32, rows: u32, regions: u32) -> Result<Header, Fail> {
@@ -151,6 +151,44 @@ fn refuses_a_header(rt: HostRuntime) -> Result<(), Fail> {
         refusal(&rt, &pages[1..])?,
         page_fault(0, PageFault::WrongKind)
     );
+    Ok(())
+}
+
+// Opens a table of 171 regions, which a header and two pages of directory tell of, over a store that fails at its k-th call.
+fn open_until(
+    rt: &HostRuntime,
+    k: u64,
+) -> Result<Result<Tree<FaultyStore<MemStore>>, TreeFault>, Fail> {
+    let pages = [
+        header_page(171)?,
+        [0; 4096],
+        part(0, 170, 3),
+        part(170, 1, 0),
+    ];
+    match Tree::open(rt.alloc(), FaultyStore::new(stored(rt, &pages)?, k)) {
+        Ok(tree) => Ok(Ok(tree)),
+        Err(refused) => Ok(Err(refused.fault)),
+    }
+}
+
+// Opening calls the store three times, to read the header and the two pages. Nor does a search call it, from each region
+// to the next: the fourth call is the reading of a region.
+#[test]
+fn reads_the_header_and_the_directory_alone(rt: HostRuntime) -> Result<(), Fail> {
+    let device = Some(TreeFault::Store(StoreFault::Device));
+    assert_eq!(rt; open_until(&rt, 3)?.err(), device);
+    let mut tree = open_until(&rt, 4)??;
+    let plane = [rectangle([0, 0], [u32::MAX, u32::MAX])?];
+    let mut after: Option<Region> = None;
+    for _ in 0..171 {
+        let region = tree.seek(0, after.as_ref())?.ok_or("no region")?;
+        assert_eq!(rt; tree.next_meeting(&plane, after.as_ref())?, Some(region));
+        after = Some(region);
+    }
+    assert_eq!(rt; tree.seek(0, after.as_ref())?, None);
+    let last = after.ok_or("no region")?;
+    assert_eq!(rt; (last.from, tree.trace().len()), (170, 0));
+    assert_eq!(rt; tree.read_region(&last).err(), device);
     Ok(())
 }
 

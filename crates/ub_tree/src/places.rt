@@ -190,8 +190,8 @@ fn end_before(key: &Key) -> u128
 #[cfg(test)]
 mod tests {
     use super::*;
+    use crate::tests::rectangle;
     use std::test::Fail;
-    use ub_zaddr::{Point, Shape};
 
     // Regions of two dimensions from these first keys on, kept on the pages 1, 2 and so on.
     fn places(rt: &HostRuntime, firsts: &[(u128, u32)]) -> Result<Places, Fail> {
@@ -207,13 +207,6 @@ mod tests {
         }
         let all = Places::new(entries, u128::from(u64::MAX)).ok_or("not in order")?;
         Ok(all)
-    }
-
-    // The box of two dimensions between two corners.
-    fn rectangle(lo: [u32; 2], hi: [u32; 2]) -> Result<ZBox, Fail> {
-        let shape = Shape::new(2)?;
-        let zbox = ZBox::new(shape, &Point::new(shape, &lo)?, &Point::new(shape, &hi)?);
-        Ok(zbox.ok_or("an empty box")?)
     }
 
     fn span(region: Option<Region>) -> Option<(u128, u128)> {

@@ -1,4 +1,4 @@
-ghost use Rattle.std.specs.Prelude.{◌≡◌, ◌+◌, ◌-◌, ◌<◌, ◌≤◌, false, true, IsTrue, Err, Some, length, slice_get, IfOk, IfErr, OnOk};
+ghost use Rattle.std.specs.Prelude.{◌≡◌, ◌+◌, ◌-◌, ◌<◌, ◌≤◌, false, true, IsTrue, Err, Some, length, slice_get, IfOk, IfErr, OnOk, IsErrOf};
 ghost use Rattle.std.specs.List.{remove, AllByRecursion};
 ghost use Rattle.ub_page.specs.Region.{Region, IsRegion};
 ghost use Rattle.ub_store.specs.Facts as facts;
@@ -13,7 +13,7 @@ use crate::fault::TreeFault;
 use crate::rows::Rows;
 use crate::tree::Tree;
 use ub_page::{Key, PageFault, Row};
-use ub_store::PageStore;
+use ub_store::{PageStore, StoreFault};
 
 impl<S: PageStore> Tree<S> {
     // Takes the region after that at a place out of the directory. Its page stays in the store.
@@ -37,6 +37,7 @@ impl<S: PageStore> Tree<S> {
         ensures first { IsMarkedFirst self.old self.new }
         ensures trace { KeepsTrace self.old self.new }
         ensures refused { IfErr result (IsChangeFault self.old self.new) }
+        ensures reliable { IsErrOf result (TreeFault.Store StoreFault.Device) → IsTrue S.can_fail }
         ensures not_full { IfErr result IsNotFull }
     {
         self.rewrite(place, rows)?;
@@ -54,6 +55,7 @@ impl<S: PageStore> Tree<S> {
         ensures joined { facts.IsHonest self.old.store → IfOk result (λ fit. JoinsNext self.old.schema.page_rows place rows.old rows.new fit (regions self.old)) }
         ensures kept { IsUntouched self.old self.new }
         ensures refused { IfErr result (IsReadFault self.old self.new) }
+        ensures reliable { IsErrOf result (TreeFault.Store StoreFault.Device) → IsTrue S.can_fail }
     {
         if self.places.entries.len() == place + 1 {
             return Ok(false);
@@ -72,6 +74,7 @@ impl<S: PageStore> Tree<S> {
         ensures joined { facts.IsHonest self.old.store → IfOk result (λ fit. JoinsBefore self.old.schema.page_rows place rows.old rows.new fit (regions self.old)) }
         ensures kept { IsUntouched self.old self.new }
         ensures refused { IfErr result (IsReadFault self.old self.new) }
+        ensures reliable { IsErrOf result (TreeFault.Store StoreFault.Device) → IsTrue S.can_fail }
     {
         if place == 0 {
             return Ok(false);
@@ -96,6 +99,7 @@ impl<S: PageStore> Tree<S> {
         ensures first { IsMarkedFirst self.old self.new }
         ensures trace { KeepsTrace self.old self.new }
         ensures refused { IfErr result (IsChangeFault self.old self.new) }
+        ensures reliable { IsErrOf result (TreeFault.Store StoreFault.Device) → IsTrue S.can_fail }
         ensures not_full { IfErr result IsNotFull }
     {
         if !rows.are_few(self.schema.page_rows()) {
@@ -125,6 +129,7 @@ impl<S: PageStore> Tree<S> {
         ensures trace { KeepsTrace self.old self.new }
         ensures failed { IsTrue self.old.is_failed → result ≡ Err TreeFault.Failed }
         ensures refused { IfErr result (IsChangeFault self.old self.new) }
+        ensures reliable { IsErrOf result (TreeFault.Store StoreFault.Device) → IsTrue S.can_fail }
         ensures not_full { IfErr result IsNotFull }
     {
         if self.is_failed {

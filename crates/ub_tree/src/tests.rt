@@ -1,8 +1,10 @@
 use crate::{Region, Tree, TreeFault};
 use std::alloc::Global;
 use std::test::Fail;
+use ub_bigmin::ZBox;
 use ub_page::{Entry, Header, Key, Name, PageFault, Schema, read_directory, read_header};
 use ub_store::{FaultyStore, MemStore, PageStore, StoreFault};
+use ub_zaddr::{Point, Shape};
 
 pub type MemTree = Tree<MemStore>;
 
@@ -10,6 +12,13 @@ pub type MemTree = Tree<MemStore>;
 pub fn plane() -> Result<Schema, Fail> {
     let columns = [Name::new(b"x")?, Name::new(b"y")?, Name::new(b"m")?];
     Ok(Schema::new(Name::new(b"t")?, &columns, 2, 2)?)
+}
+
+// The box of two dimensions between two corners.
+pub fn rectangle(lo: [u32; 2], hi: [u32; 2]) -> Result<ZBox, Fail> {
+    let shape = Shape::new(2)?;
+    let zbox = ZBox::new(shape, &Point::new(shape, &lo)?, &Point::new(shape, &hi)?);
+    Ok(zbox.ok_or("an empty box")?)
 }
 
 fn empty(rt: &HostRuntime) -> Result<MemTree, Fail> {

@@ -1,4 +1,4 @@
-ghost use Rattle.std.specs.Prelude.{◌⊎◌, ◌≡◌, ◌<◌, ◌≤◌, [], IsTrue, Ok, Err, length, IfOk, IfErr, OnOk, option_copied};
+ghost use Rattle.std.specs.Prelude.{◌⊎◌, ◌≡◌, ◌<◌, ◌≤◌, [], IsTrue, Ok, Err, length, IfOk, IfErr, OnOk, option_copied, IsErrOf};
 ghost use Rattle.std.specs.List.{Contains};
 ghost use Rattle.ub_tree.specs.Calls.{IsReadFault, Keeps, HasNoted, StandsAt};
 ghost use Rattle.ub_tree.specs.Spans.{IsLater, Meets, First};
@@ -11,7 +11,7 @@ use crate::region::Region;
 use std::marker::Model;
 use ub_bigmin::ZBox;
 use ub_page::{RegionPage, Schema};
-use ub_store::{PageStore, Pager};
+use ub_store::{PageStore, Pager, StoreFault};
 
 /// A UB-tree (Bayer 1997) over a store of pages: the rows of a table in regions, each on a page, in the order of their
 /// addresses.
@@ -94,6 +94,7 @@ impl<S: PageStore> Tree<S> {
         ensures found { IfOk result (λ found. First (λ r. IsLater (option_copied after.entry) r × (z ≤ r.to)) (spans_of self.old) found) }
         ensures failed { IsTrue self.old.is_failed → result ≡ Err TreeFault.Failed }
         ensures refused { IfErr result (IsReadFault self.old self.new) }
+        ensures reliable { IsErrOf result (TreeFault.Store StoreFault.Device) → IsTrue S.can_fail }
         ensures kept { Keeps self.old self.new }
         ensures trace { KeepsTrace self.old self.new }
     {
@@ -113,6 +114,7 @@ impl<S: PageStore> Tree<S> {
         ensures found { IfOk result (λ found. First (λ r. IsLater (option_copied after.entry) r × Meets boxes.now r) (spans_of self.old) found) }
         ensures failed { IsTrue self.old.is_failed → result ≡ Err TreeFault.Failed }
         ensures refused { IfErr result (IsReadFault self.old self.new) }
+        ensures reliable { IsErrOf result (TreeFault.Store StoreFault.Device) → IsTrue S.can_fail }
         ensures kept { Keeps self.old self.new }
         ensures trace { KeepsTrace self.old self.new }
     {
@@ -134,6 +136,7 @@ impl<S: PageStore> Tree<S> {
         ensures listed { OnOk result (HasNoted region.now.page self.old self.new) }
         ensures failed { IsTrue self.old.is_failed → result ≡ Err TreeFault.Failed }
         ensures refused { Contains (spans_of self.old) region.now → IfErr result (IsReadFault self.old self.new) }
+        ensures reliable { IsErrOf result (TreeFault.Store StoreFault.Device) → IsTrue S.can_fail }
         ensures kept { Keeps self.old self.new }
     {
         if self.has_failed() {

@@ -5,7 +5,7 @@ use Rattle.csv.specs.Reading.{error_kind}
 use Rattle.ub_load.specs.Field.{trimmed}
 use Rattle.ub_load.specs.Refusals.{first_of, header_refusals}
 use Rattle.ub_load.proofs.LoadFacts.{at_start, at_next, refused_empty, refused_header, refused_here, loading_none, loading_more, number_next, all_loaded, of_csv}
-use Rattle.ub_load.proofs.PutFacts.{header_is_full_only, honest_full, told}
+use Rattle.ub_load.proofs.PutFacts.{header_is_full_only, honest_full, no_device, told}
 use Rattle.ub_load.proofs.table.load.Goals as goal
 
 pub returns-in_default-clause-refused : goal.returns-in_default-clause-refused
@@ -80,3 +80,9 @@ returns-clause-loaded g c honest =
     let inv = c.loop-fields.invariant in
     let s = rw c.in-None.is at ((c.next-in-loop-fields.ensures.steps inv.at.turns inv.at.trim).0 inv.at.ready) in
     all_loaded inv c.next-in-loop-fields.new.self.rdr c.next-in-loop-fields.new.self.left s honest
+
+pub returns-in_err-schema-clause-reliable : goal.returns-in_err-schema-clause-reliable
+returns-in_err-schema-clause-reliable g c =
+    let p = err_from_is_err_and c.from_residual-in_err-schema.result c.from_residual-in_err-schema.ensures.1 in
+    let bad : first_of (header_refusals c.args.dims c.args.name.now (map trimmed (fields_of c.in_ok-header.header))) ≡ Some c.in_err-schema.field-0.0 = c.in_err-schema.ensures.refused in
+    rw (p.1, p.2) (λ is. absurd (no_device c.in_err-schema.field-0.0 (header_is_full_only c.args.dims c.args.name.now (map trimmed (fields_of c.in_ok-header.header)) c.in_err-schema.field-0.0 bad) is))

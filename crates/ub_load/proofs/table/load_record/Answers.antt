@@ -6,7 +6,7 @@ use Rattle.ub_tree.specs.Change.{IsInserted}
 use Rattle.ub_page.specs.declared.schema.Schema.{Schema}
 use Rattle.ub_load.specs.LoadedTable.{row_of}
 use Rattle.ub_load.specs.Refusals.{first_of, record_refusals}
-use Rattle.ub_load.proofs.PutFacts.{accepted_row, honest_full, number_is, put_honest, record_is_full_only}
+use Rattle.ub_load.proofs.PutFacts.{accepted_row, honest_full, number_is, put_honest, record_is_full_only, no_device}
 use Rattle.ub_load.proofs.table.load_record.Goals as goal
 
 pub returns-in_err-row-clause-store_faults : goal.returns-in_err-row-clause-store_faults
@@ -48,3 +48,10 @@ returns-clause-inserted g c sound next =
     let is : c.in_ok-row.row ≡ row_of s.dims (c.args.number, fields_of c.args.fields.now) = row ∙ ap (λ (d : ℕ). row_of d (c.args.number, fields_of c.args.fields.now)) dims in
     subst (λ (r : Row). IsInserted r c.args.tree.now c.put_row.new.tree) is
     (c.in_ok-put_row.ensures.inserted sound (next ∙ number_is c.dims-dims.result c.args.number (fields_of c.args.fields.now) c.in_ok-row.row row))
+
+pub returns-in_err-row-clause-reliable : goal.returns-in_err-row-clause-reliable
+returns-in_err-row-clause-reliable g c =
+    let p = err_from_is_err_and c.from_residual.result c.from_residual.ensures.1 in
+    rw (p.1, p.2)
+    (λ is. absurd (no_device c.in_err-row.field-0.0
+    (record_is_full_only c.dims-dims.result (length c.columns-width.result.now) (c.args.number, fields_of c.args.fields.now) c.in_err-row.field-0.0 c.in_err-row.ensures.refused) is))

@@ -23,4 +23,6 @@ pub returns-clause-tree : goal.returns-clause-tree
 returns-clause-tree g c fault is =
     let loaded = c.in_ok-tree.ensures.loaded refl in
     let why = c.run.ensures.tree fault is in
-    (sound_fault _ c.run.new.tree fault loaded.sound why.0 why.1, loaded_stopped _ _ _ _ _ loaded _ _ _ c.run.result _ is (λ e. cc) (c.run.ensures.memory loaded.sound))
+    let device = sound_fault _ c.run.new.tree fault loaded.sound why.0 why.1 in
+    let fails = c.run.ensures.reliable (rw device at is) in
+    cc
