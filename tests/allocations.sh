@@ -1,7 +1,7 @@
 #!/usr/bin/env bash
 # Makes each allocation of one run of the program fail in turn: each run must either write `! Memory` and nothing else,
 # with status 5, or the whole text with status 0 (an allocation that the program can do without). It stops when ten runs
-# after one another end well, which met no failing allocation any more: the run of the example makes about 110.
+# after one another end well, which met no failing allocation any more: the run of the example makes about 130.
 # It builds the program anew for each run, some 15 seconds: run it by hand or by night. usage: tests/allocations.sh [FIRST [LAST]]
 set -uo pipefail
 top=$(cd "$(dirname "$0")/.." && pwd)
