@@ -1,11 +1,15 @@
--- The halving of a box's range in one dimension.
-use Rattle.std.proofs.Common.{◌≡◌, ◌≤◌, ◌<◌, ◌+◌, ◌-◌, ℕ, zero, suc, List, [], ◌∷◌, length, slice_index, slice_set, Some, None, false, ◌↔◌, refl, sym, subst, arith, inl, inr, get_or-set_same, length-set}
-use Rattle.std.specs.Prelude.{IsTrue, Contains}
+-- The least and the greatest coordinate in a span of addresses, from those in its two halves.
+use Rattle.std.proofs.Common.{◌≡◌, ◌≤◌, ◌<◌, ◌/◌, ◌^◌, ℕ, zero, suc, [], ◌∷◌, Option, Some, None, refl, sym, subst, arith, ◌⊎◌, inl, inr, min, max}
+use Rattle.std.specs.Prelude.{Contains}
+use Rattle.std.proofs.Math.Nat.{min-le_left, min-le_right, le-min, min-eq_left, min-eq_right, le-max_left, le-max_right, max-eq_left, max-eq_right}
+use Rattle.std.proofs.Math.Pow.{shr_mono}
 use Rattle.std.proofs.lemmas.Bool.{cases_lt}
-use Rattle.ub_zaddr.specs.Address.{address, IsAtMost}
-use Rattle.ub_bigmin.specs.Box.{Corners, IsInside, Holds, IsValueInSpan, MeetsSpan}
-use Rattle.ub_bigmin.specs.Extremes.{LeastFrom, Least, Greatest}
-use Rattle.ub_bigmin.proofs.PointFacts.{IsAtMost-refl, IsAtMost-trans, IsAtMost-set_left, IsAtMost-set_right}
+use Rattle.ub_zaddr.specs.Address.{address, last_address}
+use Rattle.ub_bigmin.specs.Box.{Corners, IsBox, IsInside, IsValueInSpan}
+use Rattle.ub_bigmin.specs.Extremes.{Least, Greatest}
+use Rattle.ub_bigmin.specs.Halves.{IsHalvedAt, IsHalfFrom, IsHalfUpTo, IsValueOf}
+use Rattle.ub_bigmin.proofs.PointFacts.{IsPoint-below}
+use Rattle.ub_bigmin.proofs.AddressOrder.{address-below}
 
 pub one_contains : {X : Type 0} (x y : X) → Contains (x ∷ []) y → x ≡ y
 one_contains x y (zero, lt, e) = e
@@ -14,185 +18,174 @@ one_contains x y (suc k, lt, e) = absurd (omega arith)
 pub contains_one : {X : Type 0} (x : X) → Contains (x ∷ []) x
 contains_one x = (0, omega arith, refl)
 
--- a test that is false says that its fact fails
-pub refuted : (P : Type 0) → (IsTrue false ↔ P) → P → ⊥
-refuted P h p = let t = h.1 p in cc
+-- ---- the numbers of a span
 
--- ---- whether a box meets a span
+below_shr : (a z k : ℕ) → a / 2 ^ k < z / 2 ^ k → a < z
+below_shr a z k h = elim (cases_lt a z) [
+  | inl lt ↦ lt
+  | inr le ↦ let m : z / 2 ^ k ≤ a / 2 ^ k = shr_mono k le in absurd (omega arith)
+]
 
-pub next_within : (b : Corners) (from to n : ℕ) → LeastFrom (Holds b) from (Some n) → (n ≤ to) ↔ MeetsSpan b from to
-next_within b from to n h = (λ le. (n, h.0, h.1, le), λ m. let least = h.2 m.0 m.1 m.2 in let end = m.3 in omega arith)
+module _ (from to k : ℕ) (h : IsHalvedAt from to k) where
+  -- the ends are neighbours from place k up, or no place is left below
+  ends : (from / 2 ^ k < to / 2 ^ k) ⊎ (k ≡ 0)
+  ends = elim (cases_lt (from / 2 ^ k) (to / 2 ^ k)) [
+    | inl lt ↦ inl lt
+    | inr le ↦ inr (let m : from / 2 ^ k ≤ to / 2 ^ k = shr_mono k h.ordered in h.one (omega arith))
+  ]
 
-pub next_nowhere : (b : Corners) (from to : ℕ) → LeastFrom (Holds b) from None → MeetsSpan b from to → ⊥
-next_nowhere b from to h m = let below = h m.0 m.1 in let start = m.2 in omega arith
+  whole : (a c : ℕ) → k ≡ 0 → a / 2 ^ k ≡ c / 2 ^ k → a ≡ c
+  whole a c none e = let same : a / 2 ^ 0 ≡ c / 2 ^ 0 = rw none at e in omega arith
 
-module _ (b : Corners) (from to dim : ℕ) where
+  half_from : (a : ℕ) → IsHalfFrom k from a → a ≤ to
+  half_from a (agrees, le) = elim ends [
+    | inl lt ↦ let less : a < to = below_shr a to k (omega arith) in omega arith
+    | inr none ↦ let one : a ≡ from = whole a from none agrees in let ordered = h.ordered in omega arith
+  ]
+
+  half_up_to : (a : ℕ) → IsHalfUpTo k to a → from ≤ a
+  half_up_to a (agrees, le) = elim ends [
+    | inl lt ↦ let less : from < a = below_shr from a k (omega arith) in omega arith
+    | inr none ↦ let one : a ≡ to = whole a to none agrees in let ordered = h.ordered in omega arith
+  ]
+
+  in_half : (a : ℕ) → from ≤ a → a ≤ to → IsHalfFrom k from a ⊎ IsHalfUpTo k to a
+  in_half a start end =
+      let low : from / 2 ^ k ≤ a / 2 ^ k = shr_mono k start in
+      let high : a / 2 ^ k ≤ to / 2 ^ k = shr_mono k end in
+      let near = h.near in
+      elim (cases_lt (from / 2 ^ k) (a / 2 ^ k)) [
+        | inl lt ↦ inr (omega arith, end)
+        | inr le ↦ inl (omega arith, start)
+      ]
+
+-- ---- the values
+
+module _ (b : Corners) (dim from to : ℕ) where
   -- a value is that of a point of the box whose address lies in the span
-  value_at : (u : ℕ) → IsValueInSpan (b ∷ []) from to dim u → (p : List ℕ) × IsInside b p × (from ≤ address p) × (address p ≤ to) × (slice_index p dim ≡ u)
-  value_at u (c, p, in_list, inside, start, end, is) = (p, subst (λ (x : Corners). IsInside x p) (sym (one_contains b c in_list)) inside, start, end, is)
+  value_at : (u : ℕ) → IsValueInSpan (b ∷ []) from to dim u → IsValueOf b (λ a. (from ≤ a) × (a ≤ to)) dim u
+  value_at u (c, p, in_list, inside, start, end, is) = (p, subst (λ (x : Corners). IsInside x p) (sym (one_contains b c in_list)) inside, (start, end), is)
 
-  at_value : (p : List ℕ) → IsInside b p → from ≤ address p → address p ≤ to → IsValueInSpan (b ∷ []) from to dim (slice_index p dim)
-  at_value p inside start end = (b, p, contains_one b, inside, start, end, refl)
+  at_value : (u : ℕ) → IsValueOf b (λ a. (from ≤ a) × (a ≤ to)) dim u → IsValueInSpan (b ∷ []) from to dim u
+  at_value u (p, inside, (start, end), is) = (b, p, contains_one b, inside, start, end, is)
 
-  pub no_value : (MeetsSpan b from to → ⊥) → (u : ℕ) → IsValueInSpan (b ∷ []) from to dim u → ⊥
-  no_value h u v = let (p, inside, start, end, is) = value_at u v in h (address p, (p, inside, refl), start, end)
+  module _ (k : ℕ) (h : IsHalvedAt from to k) where
+    low_value : (u : ℕ) → IsValueOf b (IsHalfFrom k from) dim u → IsValueInSpan (b ∷ []) from to dim u
+    low_value u (p, inside, half, is) = at_value u (p, inside, (half.1, half_from from to k h (address p) half), is)
 
-  meets_value : MeetsSpan b from to → (u : ℕ) × IsValueInSpan (b ∷ []) from to dim u
-  meets_value m = let (z, (p, inside, is), start, end) = m in (slice_index p dim, at_value p inside (omega arith) (omega arith))
+    high_value : (u : ℕ) → IsValueOf b (IsHalfUpTo k to) dim u → IsValueInSpan (b ∷ []) from to dim u
+    high_value u (p, inside, half, is) = at_value u (p, inside, (half_up_to from to k h (address p) half, half.1), is)
 
-  value_above : dim < length b.lo → (u : ℕ) → IsValueInSpan (b ∷ []) from to dim u → slice_index b.lo dim ≤ u
-  value_above room u v = let (p, inside, start, end, is) = value_at u v in let low = inside.0.1 dim room in omega arith
+    value_half : (u : ℕ) → IsValueInSpan (b ∷ []) from to dim u → IsValueOf b (IsHalfFrom k from) dim u ⊎ IsValueOf b (IsHalfUpTo k to) dim u
+    value_half u v =
+        let (p, inside, span, is) = value_at u v in
+        elim (in_half from to k h (address p) span.0 span.1) [
+          | inl half ↦ inl (p, inside, half, is)
+          | inr half ↦ inr (p, inside, half, is)
+        ]
 
-  value_below : dim < length b.lo → (u : ℕ) → IsValueInSpan (b ∷ []) from to dim u → u ≤ slice_index b.hi dim
-  value_below room u v = let (p, inside, start, end, is) = value_at u v in let long = inside.0.0 in let high = inside.1.1 dim (omega arith) in omega arith
+    pub least_both : (m n : ℕ) → Least (IsValueOf b (IsHalfFrom k from) dim) (Some m) → Least (IsValueOf b (IsHalfUpTo k to) dim) (Some n)
+        → Least (IsValueInSpan (b ∷ []) from to dim) (Some (min m n))
+    least_both m n low high =
+        let left = min-le_left m n in let right = min-le_right m n in (
+          elim (cases_lt n m) [
+            | inl lt ↦ let e : min m n ≡ n = min-eq_right (omega arith) in rw e (high_value n high.0)
+            | inr le ↦ let e : min m n ≡ m = min-eq_left le in rw e (low_value m low.0)
+          ],
+          λ u v. elim (value_half u v) [
+            | inl w ↦ let le = low.1 u w in omega arith
+            | inr w ↦ let le = high.1 u w in omega arith
+          ],
+        )
 
-  -- the box cut down to values up to v has the values up to v
-  module _ (v : ℕ) (cut : Corners) (lo_is : cut.lo ≡ b.lo) (hi_is : cut.hi ≡ slice_set b.hi dim v) (room : dim < length b.hi) (own : v ≤ slice_index b.hi dim) where
-    down_value : MeetsSpan cut from to → (u : ℕ) × (u ≤ v) × IsValueInSpan (b ∷ []) from to dim u
-    down_value m =
-        let (z, (p, inside, is), start, end) = m in
-        let up : IsAtMost p (slice_set b.hi dim v) = rw (← hi_is) inside.1 in
-        let long : dim < length p = let e = up.0 in let f = length-set b.hi dim v in omega arith in
-        let here : slice_index p dim ≤ slice_index (slice_set b.hi dim v) dim = up.1 dim long in
-        let is_v : slice_index (slice_set b.hi dim v) dim ≡ v = get_or-set_same b.hi dim v 0 room in
-        let inside_b : IsInside b p = (rw (← lo_is) inside.0, IsAtMost-trans p _ b.hi up (IsAtMost-set_left b.hi b.hi dim v (IsAtMost-refl b.hi) room own)) in
-        (slice_index p dim, omega arith, at_value p inside_b (omega arith) (omega arith))
+    pub least_low : (m : ℕ) → Least (IsValueOf b (IsHalfFrom k from) dim) (Some m) → Least (IsValueOf b (IsHalfUpTo k to) dim) None
+        → Least (IsValueInSpan (b ∷ []) from to dim) (Some m)
+    least_low m low high = (
+      low_value m low.0,
+      λ u v. elim (value_half u v) [
+        | inl w ↦ low.1 u w
+        | inr w ↦ absurd (high u w)
+      ],
+    )
 
-    value_down : (u : ℕ) → u ≤ v → IsValueInSpan (b ∷ []) from to dim u → MeetsSpan cut from to
-    value_down u le val =
-        let (p, inside, start, end, is) = value_at u val in
-        (address p, (p, (rw lo_is inside.0, rw hi_is (IsAtMost-set_right p b.hi dim v inside.1 room (omega arith))), refl), start, end)
+    pub least_high : (o : Option ℕ) → Least (IsValueOf b (IsHalfFrom k from) dim) None → Least (IsValueOf b (IsHalfUpTo k to) dim) o
+        → Least (IsValueInSpan (b ∷ []) from to dim) o
+    least_high None low high = λ u v. elim (value_half u v) [
+      | inl w ↦ low u w
+      | inr w ↦ high u w
+    ]
+    least_high (Some n) low high = (
+      high_value n high.0,
+      λ u v. elim (value_half u v) [
+        | inl w ↦ absurd (low u w)
+        | inr w ↦ high.1 u w
+      ],
+    )
 
-  -- the box cut up to values from v has the values from v
-  module _ (v : ℕ) (cut : Corners) (lo_is : cut.lo ≡ slice_set b.lo dim v) (hi_is : cut.hi ≡ b.hi) (room : dim < length b.lo) (own : slice_index b.lo dim ≤ v) where
-    up_value : MeetsSpan cut from to → (u : ℕ) × (v ≤ u) × IsValueInSpan (b ∷ []) from to dim u
-    up_value m =
-        let (z, (p, inside, is), start, end) = m in
-        let down : IsAtMost (slice_set b.lo dim v) p = rw (← lo_is) inside.0 in
-        let long : dim < length (slice_set b.lo dim v) = let f = length-set b.lo dim v in omega arith in
-        let here : slice_index (slice_set b.lo dim v) dim ≤ slice_index p dim = down.1 dim long in
-        let is_v : slice_index (slice_set b.lo dim v) dim ≡ v = get_or-set_same b.lo dim v 0 room in
-        let inside_b : IsInside b p = (IsAtMost-trans b.lo _ p (IsAtMost-set_right b.lo b.lo dim v (IsAtMost-refl b.lo) room own) down, rw (← hi_is) inside.1) in
-        (slice_index p dim, omega arith, at_value p inside_b (omega arith) (omega arith))
+    pub greatest_both : (m n : ℕ) → Greatest (IsValueOf b (IsHalfFrom k from) dim) (Some m) → Greatest (IsValueOf b (IsHalfUpTo k to) dim) (Some n)
+        → Greatest (IsValueInSpan (b ∷ []) from to dim) (Some (max m n))
+    greatest_both m n low high =
+        let left = le-max_left m n in let right = le-max_right m n in (
+          elim (cases_lt m n) [
+            | inl lt ↦ let e : max m n ≡ n = max-eq_right (omega arith) in rw e (high_value n high.0)
+            | inr le ↦ let e : max m n ≡ m = max-eq_left le in rw e (low_value m low.0)
+          ],
+          λ u v. elim (value_half u v) [
+            | inl w ↦ let le = low.1 u w in omega arith
+            | inr w ↦ let le = high.1 u w in omega arith
+          ],
+        )
 
-    value_up : (u : ℕ) → v ≤ u → IsValueInSpan (b ∷ []) from to dim u → MeetsSpan cut from to
-    value_up u le val =
-        let (p, inside, start, end, is) = value_at u val in
-        (address p, (p, (rw lo_is (IsAtMost-set_left b.lo p dim v inside.0 room (omega arith)), rw hi_is inside.1), refl), start, end)
+    pub greatest_low : (m : ℕ) → Greatest (IsValueOf b (IsHalfFrom k from) dim) (Some m) → Greatest (IsValueOf b (IsHalfUpTo k to) dim) None
+        → Greatest (IsValueInSpan (b ∷ []) from to dim) (Some m)
+    greatest_low m low high = (
+      low_value m low.0,
+      λ u v. elim (value_half u v) [
+        | inl w ↦ low.1 u w
+        | inr w ↦ absurd (high u w)
+      ],
+    )
 
--- ---- the least value by halving
+    pub greatest_high : (o : Option ℕ) → Greatest (IsValueOf b (IsHalfFrom k from) dim) None → Greatest (IsValueOf b (IsHalfUpTo k to) dim) o
+        → Greatest (IsValueInSpan (b ∷ []) from to dim) o
+    greatest_high None low high = λ u v. elim (value_half u v) [
+      | inl w ↦ low u w
+      | inr w ↦ high u w
+    ]
+    greatest_high (Some n) low high = (
+      high_value n high.0,
+      λ u v. elim (value_half u v) [
+        | inl w ↦ absurd (low u w)
+        | inr w ↦ high.1 u w
+      ],
+    )
 
--- the least value lies between low and high
-pub record IsLeastWithin (b : Corners) (from to dim low high : ℕ) : Type 0 where
-  pub floor : slice_index b.lo dim ≤ low
-  pub ordered : low ≤ high
-  pub ceiling : high ≤ slice_index b.hi dim
-  pub reached : (u : ℕ) × (u ≤ high) × IsValueInSpan (b ∷ []) from to dim u
-  pub none_below : (u : ℕ) → IsValueInSpan (b ∷ []) from to dim u → low ≤ u
+-- ---- a span that ends above the last address
 
-pub least_start : (b : Corners) (from to dim : ℕ) → dim < length b.lo → IsAtMost b.lo b.hi → MeetsSpan b from to
-    → IsLeastWithin b from to dim (slice_index b.lo dim) (slice_index b.hi dim)
-least_start b from to dim room le m =
-    let (u, v) = meets_value b from to dim m in
-    record {
-      floor = omega arith;
-      ordered = le.1 dim room;
-      ceiling = omega arith;
-      reached = (u, value_below b from to dim room u v, v);
-      none_below = value_above b from to dim room;
-    }
+module _ (d : ℕ) (b : Corners) (is : IsBox d b) (dim from to end : ℕ) (end_is : end ≡ min to (last_address d)) where
+  clamped : (u : ℕ) → IsValueInSpan (b ∷ []) from to dim u → IsValueInSpan (b ∷ []) from end dim u
+  clamped u v =
+      let (p, inside, span, at) = value_at b dim from to u v in
+      let below = address-below d p (IsPoint-below d p b.hi inside.1 is.hi) in
+      at_value b dim from end u (p, inside, (span.0, (let le = le-min {k = address p} {a = to} {b = last_address d} span.1 (omega arith) in omega arith)), at)
 
-pub least_lower : (b : Corners) (from to dim low high v : ℕ) (cut : Corners) → IsLeastWithin b from to dim low high → low ≤ v → v < high
-    → cut.lo ≡ b.lo → cut.hi ≡ slice_set b.hi dim v → dim < length b.hi → MeetsSpan cut from to → IsLeastWithin b from to dim low v
-least_lower b from to dim low high v cut h above below lo_is hi_is room m =
-    let ceiling = h.ceiling in
-    record {
-      floor = h.floor;
-      ordered = above;
-      ceiling = omega arith;
-      reached = down_value b from to dim v cut lo_is hi_is room (omega arith) m;
-      none_below = h.none_below;
-    }
+  unclamped : (u : ℕ) → IsValueInSpan (b ∷ []) from end dim u → IsValueInSpan (b ∷ []) from to dim u
+  unclamped u v =
+      let (p, inside, span, at) = value_at b dim from end u v in
+      let le = min-le_left to (last_address d) in
+      at_value b dim from to u (p, inside, (span.0, (let high = span.1 in omega arith)), at)
 
-pub least_upper : (b : Corners) (from to dim low high v : ℕ) (cut : Corners) → IsLeastWithin b from to dim low high → low ≤ v → v < high
-    → cut.lo ≡ b.lo → cut.hi ≡ slice_set b.hi dim v → dim < length b.hi → (MeetsSpan cut from to → ⊥) → IsLeastWithin b from to dim (v + 1) high
-least_upper b from to dim low high v cut h above below lo_is hi_is room none =
-    let ceiling = h.ceiling in let floor = h.floor in
-    record {
-      floor = omega arith;
-      ordered = omega arith;
-      ceiling = ceiling;
-      reached = h.reached;
-      none_below = λ u val. elim (cases_lt v u) [
-        | inl lt ↦ omega arith
-        | inr le ↦ absurd (none (value_down b from to dim v cut lo_is hi_is room (omega arith) u le val))
-      ];
-    }
+  -- a span that ends before it starts has no value
+  pub no_span : end < from → (u : ℕ) → IsValueInSpan (b ∷ []) from to dim u → ⊥
+  no_span lt u v =
+      let (p, inside, span, at) = value_at b dim from end u (clamped u v) in
+      let low = span.0 in let high = span.1 in
+      omega arith
 
-pub least_end : (b : Corners) (from to dim low high : ℕ) → IsLeastWithin b from to dim low high → high ≤ low
-    → Least (IsValueInSpan (b ∷ []) from to dim) (Some high)
-least_end b from to dim low high h le =
-    let ordered = h.ordered in
-    let same : low ≡ high = omega arith in
-    let (u, up, v) = h.reached in
-    let down = h.none_below u v in
-    let is : u ≡ high = omega arith in
-    (subst (λ (n : ℕ). IsValueInSpan (b ∷ []) from to dim n) is v, rw same at h.none_below)
+  pub least_clamped : (o : Option ℕ) → Least (IsValueInSpan (b ∷ []) from end dim) o → Least (IsValueInSpan (b ∷ []) from to dim) o
+  least_clamped None h = λ u v. h u (clamped u v)
+  least_clamped (Some n) h = (unclamped n h.0, λ u v. h.1 u (clamped u v))
 
--- ---- the greatest value by halving
-
-pub record IsGreatestWithin (b : Corners) (from to dim low high : ℕ) : Type 0 where
-  pub floor : slice_index b.lo dim ≤ low
-  pub ordered : low ≤ high
-  pub ceiling : high ≤ slice_index b.hi dim
-  pub reached : (u : ℕ) × (low ≤ u) × IsValueInSpan (b ∷ []) from to dim u
-  pub none_above : (u : ℕ) → IsValueInSpan (b ∷ []) from to dim u → u ≤ high
-
-pub greatest_start : (b : Corners) (from to dim : ℕ) → dim < length b.lo → IsAtMost b.lo b.hi → MeetsSpan b from to
-    → IsGreatestWithin b from to dim (slice_index b.lo dim) (slice_index b.hi dim)
-greatest_start b from to dim room le m =
-    let (u, v) = meets_value b from to dim m in
-    record {
-      floor = omega arith;
-      ordered = le.1 dim room;
-      ceiling = omega arith;
-      reached = (u, value_above b from to dim room u v, v);
-      none_above = value_below b from to dim room;
-    }
-
-pub greatest_upper : (b : Corners) (from to dim low high v : ℕ) (cut : Corners) → IsGreatestWithin b from to dim low high → low < v → v ≤ high
-    → cut.lo ≡ slice_set b.lo dim v → cut.hi ≡ b.hi → dim < length b.lo → MeetsSpan cut from to → IsGreatestWithin b from to dim v high
-greatest_upper b from to dim low high v cut h above below lo_is hi_is room m =
-    let floor = h.floor in
-    record {
-      floor = omega arith;
-      ordered = below;
-      ceiling = h.ceiling;
-      reached = up_value b from to dim v cut lo_is hi_is room (omega arith) m;
-      none_above = h.none_above;
-    }
-
-pub greatest_lower : (b : Corners) (from to dim low high v : ℕ) (cut : Corners) → IsGreatestWithin b from to dim low high → low < v → v ≤ high
-    → cut.lo ≡ slice_set b.lo dim v → cut.hi ≡ b.hi → dim < length b.lo → (MeetsSpan cut from to → ⊥) → IsGreatestWithin b from to dim low (v - 1)
-greatest_lower b from to dim low high v cut h above below lo_is hi_is room none =
-    let ceiling = h.ceiling in let floor = h.floor in
-    record {
-      floor = floor;
-      ordered = omega arith;
-      ceiling = omega arith;
-      reached = h.reached;
-      none_above = λ u val. elim (cases_lt u v) [
-        | inl lt ↦ omega arith
-        | inr le ↦ absurd (none (value_up b from to dim v cut lo_is hi_is room (omega arith) u le val))
-      ];
-    }
-
-pub greatest_end : (b : Corners) (from to dim low high : ℕ) → IsGreatestWithin b from to dim low high → high ≤ low
-    → Greatest (IsValueInSpan (b ∷ []) from to dim) (Some low)
-greatest_end b from to dim low high h le =
-    let ordered = h.ordered in
-    let same : high ≡ low = omega arith in
-    let (u, up, v) = h.reached in
-    let down = h.none_above u v in
-    let is : u ≡ low = omega arith in
-    (subst (λ (n : ℕ). IsValueInSpan (b ∷ []) from to dim n) is v, rw same at h.none_above)
+  pub greatest_clamped : (o : Option ℕ) → Greatest (IsValueInSpan (b ∷ []) from end dim) o → Greatest (IsValueInSpan (b ∷ []) from to dim) o
+  greatest_clamped None h = λ u v. h u (clamped u v)
+  greatest_clamped (Some n) h = (unclamped n h.0, λ u v. h.1 u (clamped u v))

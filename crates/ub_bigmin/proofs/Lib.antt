@@ -3,5 +3,13 @@ pub mod PointFacts
 pub mod AddressOrder
 pub mod AroundFacts
 pub mod StepFacts
+pub mod HalfFacts
+pub mod PartFacts
+pub mod EdgeFacts
 pub mod EventFacts
 pub mod SeveralFacts
+pub mod CellFacts
+pub mod WordFacts
+pub mod JumpFacts
+pub mod NeedFacts
+pub mod NextFacts

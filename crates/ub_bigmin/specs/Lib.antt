@@ -1,6 +1,10 @@
 pub mod Extremes
 pub mod Box
 pub mod BoxBack
+pub mod Halves
 pub mod Middle
 pub mod Around
 pub mod Step
+pub mod Cells
+pub mod Jumps
+pub mod Lower

@@ -5,8 +5,10 @@
 #![tactic(auto)]
 
 mod event;
+pub mod laws;
 mod search;
 mod several;
+mod words;
 mod zbox;
 
 pub use several::{greatest_value, least_value, next_in_any};

@@ -3,7 +3,7 @@ ghost use Rattle.ub_zaddr.specs.Address.{IsAtMost};
 ghost use Rattle.ub_bigmin.specs.Box.{Holds, IsBox};
 ghost use Rattle.ub_bigmin.specs.Extremes.{LeastFrom, GreatestUpTo};
 
-use crate::search::find_neighbours;
+use crate::laws::{next_by_words, prev_by_words};
 use std::marker::Model;
 use ub_zaddr::{Point, Shape, spread};
 
@@ -93,7 +93,8 @@ impl ZBox {
     pub fn next_in_box(&self, z: u128) -> Option<u128>
         ensures { LeastFrom (Holds self.now) z result }
     {
-        find_neighbours(self, z).above
+        let mut turns = 0;
+        next_by_words(self, z, &mut turns)
     }
 
     /// The greatest address of the box that is not above z. `None` exactly where there is none (LITMAX, but z is its
@@ -101,7 +102,8 @@ impl ZBox {
     pub fn prev_in_box(&self, z: u128) -> Option<u128>
         ensures { GreatestUpTo (Holds self.now) z result }
     {
-        find_neighbours(self, z).below
+        let mut turns = 0;
+        prev_by_words(self, z, &mut turns)
     }
 }
 

@@ -1,16 +1,19 @@
 -- Facts about addresses: the digits, the bits, the order and the inverse.
-use Rattle.std.proofs.Common.{◌≡◌, ◌≤◌, ◌<◌, ◌+◌, ◌-◌, ◌*◌, ◌/◌, ◌%◌, ◌^◌, ℕ, zero, suc, List, [], ◌∷◌, length, refl, sym, ap, arith, ◌∙◌, add-one, inl, inr, slice_index, All, below_more}
+use Rattle.std.proofs.Common.{◌≡◌, ◌≤◌, ◌<◌, ◌+◌, ◌-◌, ◌*◌, ◌/◌, ◌%◌, ◌^◌, ℕ, zero, suc, List, [], ◌∷◌, length, refl, sym, ap, arith, ◌∙◌, add-one, inl, inr, slice_index}
 use Rattle.std.proofs.Math.Nat.{mul-le-mul_right, add-mul, mul_assoc, add_comm, add-mul-mod_self_right, mod-eq_of_lt}
-use Rattle.std.proofs.Math.Pow.{pow_mono}
 use Rattle.std.proofs.lemmas.Bool.Decides.{leb_tells}
 use Rattle.std.proofs.lemmas.Grind.{same_number_lists}
-use Rattle.std.proofs.lemmas.List.Elements.{All-get_or, All-from_get_or}
-use Rattle.std.proofs.lemmas.Nat.{pow-add, shl_whole, mul-le, mod-pow-add, same_from_place, mod_below, pow_pos, div-mul-add, shr-shr, shr_split, div_below, div-add-mod'}
+use Rattle.std.proofs.lemmas.List.Elements.{All-get_or}
+use Rattle.std.proofs.lemmas.Nat.{pow-add, mod-pow-add, same_from_place, mod_below, pow_pos, div-mul-add, div_below, div-add-mod'}
 use Rattle.std.proofs.lemmas.Nat.Bits.{bit_at-lt, bit_at_cat_low, bit_at_cat_high, bit_at_lowest, same_from_bits_below}
 use Rattle.std.specs.Int.{bit_at}
 use Rattle.ub_zaddr.specs.Address.{sum_below, IsPoint, place, address, last_address, IsAtMost}
-use Rattle.ub_zaddr.specs.Digit.{digit_at}
-use Rattle.ub_zaddr.proofs.BitFacts.{with_bit-lt, with_bit-low, with_bit-top}
+use Rattle.ub_zaddr.proofs.BitFacts.{bit_of_shift, bit_of_low}
+
+-- the digits of an address: it has one of d bits at each place, bit b of each coordinate, that of the first dimension highest
+abbrev pub digit_at : ℕ → List ℕ → ℕ
+digit_at b [] = 0
+digit_at b (x ∷ xs) = bit_at x b * 2 ^ length xs + digit_at b xs
 
 -- the sum of the n lowest digits, each at its place
 unfoldable pub address_below : List ℕ → ℕ → ℕ
@@ -68,27 +71,6 @@ above z v b d hz hv =
     let whole : 2 ^ ((b + 1) * d) ≡ 2 ^ d * 2 ^ (b * d) = ap (λ (n : ℕ). 2 ^ n) width ∙ pow-add 2 d (b * d) in
     omega arith
 
-pub within : (b d : ℕ) → b < 32 → d ≤ 4 → (b + 1) * d ≤ 128
-within b d hb hd = mul-le (b + 1) d 32 4 (omega arith) hd
-
--- what the shift gives
-pub shifted : (v b d : ℕ) → b < 32 → d ≤ 4 → v < 2 ^ d → v * 2 ^ (b * d) % 2 ^ 128 ≡ v * 2 ^ (b * d)
-shifted v b d hb hd hv = let w = within b d hb hd in shl_whole v d (b * d) 128 hv (omega arith)
-
-pub fits : (z v b d : ℕ) → b < 32 → d ≤ 4 → z < 2 ^ (b * d) → v < 2 ^ d → z + v * 2 ^ (b * d) < 2 ^ 128
-fits z v b d hb hd hz hv =
-    let a = above z v b d hz hv in
-    let p : 2 ^ ((b + 1) * d) ≤ 2 ^ 128 = pow_mono {i = (b + 1) * d} {j = 128} (within b d hb hd) in
-    omega arith
-
-pub address_below-next : (p : List ℕ) (b : ℕ) → address_below p (b + 1) ≡ address_below p b + digit_at b p * 2 ^ (b * length p)
-unfolding address_below
-address_below-next p b = rw add-one refl
-
-pub address_below-none : (p : List ℕ) → 0 ≡ address_below p 0
-unfolding address_below
-address_below-none p = refl
-
 -- the d bits at a place of a number do not read what stands above them
 pub digit_below : (a v k d m : ℕ) → k + d ≤ m → (a + v * 2 ^ m) / 2 ^ k % 2 ^ d ≡ a / 2 ^ k % 2 ^ d
 digit_below a v k d m h =
@@ -137,13 +119,6 @@ address-le d p e = let lt = address-lt p in let same : 2 ^ (32 * length p) ≡ 2
 -- the d bits of an address at bit b are bit b of the coordinates
 pub address-digit : (p : List ℕ) (b : ℕ) → b < 32 → address p / 2 ^ (b * length p) % 2 ^ length p ≡ digit_at b p
 address-digit p b h = rw (address-digits p) (address_below-digit p 32 b h)
-
--- the bits of a number that is shifted, and of its low bits
-bit_of_shift : (n k j : ℕ) → bit_at (n / 2 ^ k) j ≡ bit_at n (k + j)
-bit_of_shift n k j = ap (λ (m : ℕ). m % 2) (shr-shr n k j)
-
-bit_of_low : (n w j : ℕ) → j < w → bit_at (n % 2 ^ w) j ≡ bit_at n j
-bit_of_low n w j h = sym (bit_at_cat_low (n / 2 ^ w) w (n % 2 ^ w) j h) ∙ ap (λ (m : ℕ). bit_at m j) (shr_split n w)
 
 -- a bit of a digit is the coordinate's bit
 pub digit-bit : (p : List ℕ) (b i : ℕ) → i < length p → bit_at (digit_at b p) (length p - 1 - i) ≡ bit_at (slice_index p i) b
@@ -271,56 +246,3 @@ address-order d p q hp hq h =
     let c : slice_index p i ≤ slice_index q i = h.1 i lt in
     rw (a, b) c) in
     rw (address-digits p, address-digits q) le
-
--- the address of one more bit, as the code computes it
-pub address_below-step : (z v d b : ℕ) (p : List ℕ) → b < 32 → d ≡ length p → length p ≤ 4 → v ≡ digit_at b p → z ≡ address_below p b
-    → (z + v * 2 ^ (b * d) % 2 ^ 128 ≡ address_below p (b + 1)) × (z + v * 2 ^ (b * d) % 2 ^ 128 < 2 ^ ((b + 1) * length p)) × (z + v * 2 ^ (b * d) % 2 ^ 128 < 2 ^ 128)
-address_below-step z v d b p hb ed long ev ez =
-    let whole : v * 2 ^ (b * d) % 2 ^ 128 ≡ digit_at b p * 2 ^ (b * length p) = rw (ed, ev) (shifted (digit_at b p) b (length p) hb long (digit-lt b p)) in
-    let sum : z + v * 2 ^ (b * d) % 2 ^ 128 ≡ address_below p (b + 1) =
-    ap (λ (m : ℕ). z + m) whole ∙ ap (λ (m : ℕ). m + digit_at b p * 2 ^ (b * length p)) ez ∙ sym (address_below-next p b) in
-    let lt : address_below p (b + 1) < 2 ^ ((b + 1) * length p) = address_below-lt p (b + 1) in
-    let room : 2 ^ ((b + 1) * length p) ≤ 2 ^ 128 = pow_mono {i = (b + 1) * length p} {j = 128} (within b (length p) hb long) in
-    (sum, rw sum lt, rw sum (omega arith))
-
--- ---- every number up to the last address is the address of a point
-
--- f 0, f 1, .., f (n - 1)
-table : (ℕ → ℕ) → ℕ → List ℕ
-table f zero = []
-table f (suc n) = f 0 ∷ table (λ i. f (suc i)) n
-
-length-table : (f : ℕ → ℕ) (n : ℕ) → length (table f n) ≡ n
-unfolding table
-length-table f zero = refl
-length-table f (suc n) = ap (λ (k : ℕ). suc k) (length-table (λ i. f (suc i)) n)
-
-table-at : (f : ℕ → ℕ) (n i : ℕ) → i < n → slice_index (table f n) i ≡ f i
-unfolding table
-table-at f zero i h = absurd (omega arith)
-table-at f (suc n) zero h = refl
-table-at f (suc n) (suc i) h = table-at (λ i. f (suc i)) n i (omega arith)
-
--- a number with given bits
-with_bits : (f : ℕ → ℕ) (n : ℕ) → ((b : ℕ) → f b < 2) → (x : ℕ) × (x < 2 ^ n) × ((b : ℕ) → b < n → bit_at x b ≡ f b)
-with_bits f zero h = (0, omega arith, λ b lt. absurd (omega arith))
-with_bits f (suc n) h =
-    let low = with_bits f n h in (
-      low.0 + f n * 2 ^ n,
-      rw add-one at (with_bit-lt low.0 (f n) n low.1 (h n)),
-      λ b lt. (rw add-one at (below_more (λ k. bit_at (low.0 + f n * 2 ^ n) k ≡ f k) n (λ k less. with_bit-low low.0 (f n) n k less ∙ low.2 k less) (with_bit-top low.0 (f n) n low.1 (h n)) b)) lt,
-    )
-
-pub address-onto : (d z : ℕ) → z ≤ last_address d → (p : List ℕ) × IsPoint d p × (address p ≡ z)
-address-onto d z le =
-    let x : ℕ → ℕ = λ i. (with_bits (λ b. bit_at z (place d i b)) 32 (λ b. bit_at-lt z (place d i b))).0 in
-    let long : length (table x d) ≡ d = length-table x d in
-    let words : All (λ v. v < 2 ^ 32) (table x d) = All-from_get_or (λ (v : ℕ). v < 2 ^ 32) (table x d) 0 (λ i lt.
-    let here : slice_index (table x d) i ≡ x i = table-at x d i (omega arith) in
-    rw here ((with_bits (λ b. bit_at z (place d i b)) 32 (λ b. bit_at-lt z (place d i b))).1)) in
-    let small : z < 2 ^ (32 * length (table x d)) = rw long (omega (arith, pow_pos (32 * d))) in
-    let bits : (i b : ℕ) → i < length (table x d) → b < 32 → bit_at (slice_index (table x d) i) b ≡ bit_at z (place (length (table x d)) i b) =
-    λ i b lt hb. ap (λ (v : ℕ). bit_at v b) (table-at x d i (omega arith))
-    ∙ (with_bits (λ b. bit_at z (place d i b)) 32 (λ b. bit_at-lt z (place d i b))).2 b hb
-    ∙ ap (λ (n : ℕ). bit_at z (place n i b)) (sym long) in
-    (table x d, (long, words), address-of_bits (table x d) z small bits)

@@ -1,4 +1,6 @@
 pub mod AddressFacts
 pub mod BitFacts
-mod PlacesFacts
+mod Linear
+mod MovedFacts
 mod SpreadFacts
+mod TurnFacts

@@ -1,47 +1,50 @@
 -- Places that get the bits of a number.
-use Rattle.std.proofs.Common.{◌≡◌, ◌≤◌, ◌<◌, ◌+◌, ◌*◌, ◌^◌, ℕ, List, length, take, set, get_or, slice_index, All, Result, Ok, Err, IsOk, IfOk, sym, ap, arith, ◌∙◌, below_more, rules, get_or-set_same, get_or-set_other}
-use Rattle.std.proofs.lemmas.List.{length-set, length-take-le, get_or-take}
-use Rattle.std.proofs.lemmas.List.Elements.{All-from_get_or}
+use Rattle.std.proofs.Common.{◌≡◌, ◌≤◌, ◌<◌, ◌+◌, ◌*◌, ◌/◌, ◌^◌, ℕ, zero, suc, List, [], ◌∷◌, length, take, slice_index, All, refl, arith, ap, sym, ◌∙◌}
+use Rattle.std.proofs.lemmas.List.{length-take-le, get_or-take}
+use Rattle.std.proofs.lemmas.List.Elements.{All-take}
 use Rattle.std.proofs.lemmas.Nat.{pow_pos}
 use Rattle.std.specs.Int.{bit_at}
 use Rattle.ub_zaddr.specs.Address.{place, address, last_address, IsPoint}
+use Rattle.ub_zaddr.specs.Moved.{gathered}
 use Rattle.ub_zaddr.proofs.AddressFacts.{address-of_bits}
+use Rattle.ub_zaddr.proofs.MovedFacts.{gathered-at}
 
--- the first i of four places hold the bits of their dimensions
-pub record IsSpread (dims z : ℕ) (places : List ℕ) (i : ℕ) : Type 0 where
-  pub four : length places ≡ 4
-  pub words : (k : ℕ) → k < i → get_or places k 0 < 2 ^ 32
-  pub bits : (k : ℕ) → k < i → (b : ℕ) → b < 32 → bit_at (get_or places k 0) b ≡ bit_at z (place dims k b)
+-- the places hold the bits of their dimensions
+abbrev pub HoldBits : ℕ → ℕ → List ℕ → Type 0
+HoldBits d z places = (i b : ℕ) → i < d → b < 32 → bit_at (slice_index places i) b ≡ bit_at z (place d i b)
 
-pub IsSpread-next : (dims z : ℕ) (places : List ℕ) (i x : ℕ) → i < 4 → x < 2 ^ 32 → ((b : ℕ) → b < 32 → bit_at x b ≡ bit_at z (place dims i b))
-    → IsSpread dims z places i → IsSpread dims z (set places i x) (i + 1)
-IsSpread-next dims z places i x small word bits h =
-    let four = h.four in
-    let here : get_or (set places i x) i 0 ≡ x = get_or-set_same places i x 0 (omega arith) in
-    let there : (k : ℕ) → k < i → get_or (set places i x) k 0 ≡ get_or places k 0 = λ k lt. get_or-set_other places i k x 0 (λ e. omega arith) in
-    record {
-      four = length-set places i x ∙ four;
-      words = below_more (λ k. get_or (set places i x) k 0 < 2 ^ 32) i (λ k lt. rw (there k lt) (h.words k lt)) (rw here word);
-      bits = below_more (λ k. (b : ℕ) → b < 32 → bit_at (get_or (set places i x) k 0) b ≡ bit_at z (place dims k b)) i
-          (λ k lt b hb. ap (λ (m : ℕ). bit_at m b) (there k lt) ∙ h.bits k lt b hb)
-          (λ b hb. ap (λ (m : ℕ). bit_at m b) here ∙ bits b hb);
-    }
+-- one coordinate and its bit in the address
+one_bit : (d n z x i k b : ℕ) → d ≡ n → x ≡ gathered n 32 (z / 2 ^ k) → place n i b ≡ b * n + k → b < 32 → bit_at x b ≡ bit_at z (place d i b)
+one_bit d n z x i k b ed ex at hb = ap (λ (m : ℕ). bit_at m b) ex ∙ gathered-at n k z b hb ∙ ap (λ (j : ℕ). bit_at z j) (sym at) ∙ ap (λ (m : ℕ). bit_at z (place m i b)) (sym ed)
 
--- where the places of all dimensions are filled, they are the point of the address
-pub IsSpread-point : (dims z i : ℕ) (places : List ℕ) → 1 ≤ dims → dims ≤ 4 → dims ≤ i → z ≤ last_address dims → IsSpread dims z places i
-    → IsPoint dims (take dims places) × (address (take dims places) ≡ z)
-IsSpread-point dims z i places some within all le h =
-    let four = h.four in
-    let long : length (take dims places) ≡ dims = length-take-le dims places (omega arith) in
-    let at : (k : ℕ) → k < dims → get_or (take dims places) k 0 ≡ get_or places k 0 = λ k lt. get_or-take dims places k 0 lt in
-    let words : All (λ x. x < 2 ^ 32) (take dims places) = All-from_get_or (λ (x : ℕ). x < 2 ^ 32) (take dims places) 0 (λ k lt.
-    let lt' : k < dims = omega arith in rw (at k lt') (h.words k (omega arith))) in
-    let small : z < 2 ^ (32 * length (take dims places)) = rw long (omega (arith, pow_pos (32 * dims))) in
-    let bits : (k b : ℕ) → k < length (take dims places) → b < 32 → bit_at (slice_index (take dims places) k) b ≡ bit_at z (place (length (take dims places)) k b) =
-    λ k b lt hb. let lt' : k < dims = omega arith in
-    ap (λ (m : ℕ). bit_at m b) (at k lt') ∙ h.bits k (omega arith) b hb ∙ ap (λ (d : ℕ). bit_at z (place d k b)) (sym long) in
-    ((long, words), address-of_bits (take dims places) z small bits)
+pub two_bits : (d z x y : ℕ) → d ≡ 2 → x ≡ gathered 2 32 (z / 2 ^ 1) → y ≡ gathered 2 32 (z / 2 ^ 0)
+    → HoldBits d z (x ∷ y ∷ 0 ∷ 0 ∷ [])
+two_bits d z x y e ex ey zero b hi hb = one_bit d 2 z x 0 1 b e ex refl hb
+two_bits d z x y e ex ey (suc zero) b hi hb = one_bit d 2 z y 1 0 b e ey refl hb
+two_bits d z x y e ex ey (suc (suc i)) b hi hb = absurd (omega arith)
 
-pub ok_is : {T E : Type 0} (r : Result T E) (v w : T) → IsOk r → IfOk r (λ x. x ≡ v) → v ≡ w → r ≡ Ok w
-ok_is (Ok x) v w i h e = ap Ok (h ∙ e)
-ok_is (Err d) v w i h e = absurd (search (rules, i))
+pub three_bits : (d z x y v : ℕ) → d ≡ 3 → x ≡ gathered 3 32 (z / 2 ^ 2) → y ≡ gathered 3 32 (z / 2 ^ 1) → v ≡ gathered 3 32 (z / 2 ^ 0)
+    → HoldBits d z (x ∷ y ∷ v ∷ 0 ∷ [])
+three_bits d z x y v e ex ey ev zero b hi hb = one_bit d 3 z x 0 2 b e ex refl hb
+three_bits d z x y v e ex ey ev (suc zero) b hi hb = one_bit d 3 z y 1 1 b e ey refl hb
+three_bits d z x y v e ex ey ev (suc (suc zero)) b hi hb = one_bit d 3 z v 2 0 b e ev refl hb
+three_bits d z x y v e ex ey ev (suc (suc (suc i))) b hi hb = absurd (omega arith)
+
+pub four_bits : (d z x y v w : ℕ) → d ≡ 4 → x ≡ gathered 4 32 (z / 2 ^ 3) → y ≡ gathered 4 32 (z / 2 ^ 2) → v ≡ gathered 4 32 (z / 2 ^ 1) → w ≡ gathered 4 32 (z / 2 ^ 0)
+    → HoldBits d z (x ∷ y ∷ v ∷ w ∷ [])
+four_bits d z x y v w e ex ey ev ew zero b hi hb = one_bit d 4 z x 0 3 b e ex refl hb
+four_bits d z x y v w e ex ey ev ew (suc zero) b hi hb = one_bit d 4 z y 1 2 b e ey refl hb
+four_bits d z x y v w e ex ey ev ew (suc (suc zero)) b hi hb = one_bit d 4 z v 2 1 b e ev refl hb
+four_bits d z x y v w e ex ey ev ew (suc (suc (suc zero))) b hi hb = one_bit d 4 z w 3 0 b e ew refl hb
+four_bits d z x y v w e ex ey ev ew (suc (suc (suc (suc i)))) b hi hb = absurd (omega arith)
+
+-- such places are the point of the address
+pub spread_point : (d z : ℕ) (places : List ℕ) → length places ≡ 4 → d ≤ 4 → z ≤ last_address d → All (λ x. x < 2 ^ 32) places → HoldBits d z places
+    → IsPoint d (take d places) × (address (take d places) ≡ z)
+spread_point d z places four within le words bits =
+    let long : length (take d places) ≡ d = length-take-le d places (omega arith) in
+    let small : z < 2 ^ (32 * length (take d places)) = rw long (omega (arith, pow_pos (32 * d))) in
+    let same : (i b : ℕ) → i < length (take d places) → b < 32 → bit_at (slice_index (take d places) i) b ≡ bit_at z (place (length (take d places)) i b) =
+    λ i b lt hb. let lt' : i < d = omega arith in
+    ap (λ (m : ℕ). bit_at m b) (get_or-take d places i 0 lt') ∙ bits i b lt' hb ∙ ap (λ (n : ℕ). bit_at z (place n i b)) (sym long) in
+    ((long, All-take (λ (x : ℕ). x < 2 ^ 32) d places words), address-of_bits (take d places) z small same)

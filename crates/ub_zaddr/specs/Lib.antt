@@ -1,4 +1,5 @@
 pub mod Address
-pub mod Digit
+pub mod Moved
 pub mod Padded
 pub mod Places
+pub mod Steps

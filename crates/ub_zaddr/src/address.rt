@@ -1,11 +1,12 @@
-ghost use Rattle.std.specs.Prelude.{◌≡◌, ℕ, ◌+◌, ◌-◌, ◌*◌, ◌^◌, ◌<◌, ◌≤◌, ◌↔◌, List, length, IsErr, IfOk, IfErr};
+ghost use Rattle.std.specs.Prelude.{◌≡◌, ℕ, ◌-◌, ◌^◌, ◌<◌, ◌≤◌, ◌↔◌, List, length, drop, replicate, slice_index, All, IsErr, IfOk, IfErr};
 ghost use Rattle.std.specs.Int.{bit_at};
 ghost use Rattle.ub_zaddr.specs.Address.{address, last_address, place, IsPoint, IsAtMost};
-ghost use Rattle.ub_zaddr.specs.Digit.{digit_at};
 
 use crate::fault::ZFault;
+use crate::gathering::{every_fourth, every_third, gathered_by_two};
 use crate::point::Point;
 use crate::shape::Shape;
+use crate::spacing::{four_in_turn, three_in_turn, two_in_turn};
 
 /// The greatest address of a space, 32 one bits for each dimension.
 pub fn last(shape: Shape) -> u128
@@ -21,17 +22,12 @@ pub fn interleave(shape: Shape, point: &Point) -> u128
     ensures address { result ≡ address point.now }
     ensures within { result ≤ last_address shape }
     // a point that is at least this one in each coordinate has no smaller address
-    ensures order { (other : List ℕ) → IsPoint shape other → IsAtMost point.now other → result ≤ address other }
+    ensures order { (other : List ℕ) → IsPoint shape other → IsAtMost point.now other
+        → result ≤ address other }
     // no other point of the shape has this address
     ensures one_to_one { (other : List ℕ) → IsPoint shape other → address other ≡ result → other ≡ point.now }
 {
-    let dims = shape.dims();
-    let values = point.values();
-    let mut z = 0u128;
-    for b in 0..32u32 {
-        z += u128::from(digit(values, b)) << (b * dims);
-    }
-    z
+    interleaved(point.values())
 }
 
 /// The point of this shape that has the address z, by taking the bits apart. `TooLarge` above the last address.
@@ -41,51 +37,51 @@ pub fn spread(shape: Shape, z: u128) -> Result<Point, ZFault>
     ensures refused { IsErr result ↔ (last_address shape < z) }
     ensures refusal { IfErr result (λ e. e ≡ ZFault.TooLarge) }
 {
-    let greatest = last(shape);
-    if greatest < z {
+    if last(shape) < z {
         return Err(ZFault::TooLarge);
     }
-    let dims = shape.dims();
-    let mut places = [0u32; 4];
-    for i in 0..dims {
-        places[i as usize] = coordinate(dims, i, z);
-    }
-    Point::new(shape, &places[..dims as usize])
+    Ok(Point::of_places(shape, coordinates(shape.dims(), z)))
 }
 
-// Bit b of a word.
-fn bit(x: u32, b: u32) -> u32
-    requires { b < 32 }
-    ensures { result ≡ bit_at x b }
+// The bits of one to four words in turn, that of the first highest.
+fn interleaved(values: &[u32]) -> u128
+    requires some { 1 ≤ length values.now }
+    requires within { length values.now ≤ 4 }
+    ensures { result ≡ address values.now }
 {
-    (x >> b) & 1
-}
-
-// Bit b of each coordinate, as one digit, that of the first dimension highest.
-fn digit(values: &[u32], b: u32) -> u32
-    requires dims { length values.now ≤ 4 }
-    requires place { b < 32 }
-    ensures value { result ≡ digit_at b values.now }
-    ensures small { result < 2 ^ length values.now }
-{
-    let mut v = 0u32;
-    for x in values {
-        v = v * 2 + bit(*x, b);
+    match values {
+        [x] => u128::from(*x),
+        [x, y] => u128::from(two_in_turn(*x, *y)),
+        [x, y, z] => three_in_turn(*x, *y, *z),
+        [x, y, z, w] => four_in_turn(*x, *y, *z, *w),
+        _ => unreachable!(),
     }
-    v
 }
 
-// The coordinate of dimension i that the bits of z hold.
-fn coordinate(dims: u32, i: u32, z: u128) -> u32
-    requires below { i < dims }
+// The coordinates that the bits of z hold, and 0 in the places after them.
+fn coordinates(dims: u32, z: u128) -> [u32; 4]
+    requires some { 1 ≤ dims }
     requires dims { dims ≤ 4 }
-    ensures bits { (b : ℕ) → b < 32 → bit_at result b ≡ bit_at z (place dims i b) }
-    ensures word { result < 2 ^ 32 }
+    requires within { z ≤ last_address dims }
+    ensures bits { (i b : ℕ) → i < dims → b < 32
+        → bit_at (slice_index result i) b ≡ bit_at z (place dims i b) }
+    ensures words { All (λ x. x < 2 ^ 32) result }
+    ensures rest { drop dims result ≡ replicate (4 - dims) 0 }
 {
-    let mut x = 0u32;
-    for b in 0..32u32 {
-        let bit = (z >> (b * dims + (dims - 1 - i))) & 1;
-        x += (bit as u32) << b;
+    match dims {
+        1 => [z as u32, 0, 0, 0],
+        2 => [
+            gathered_by_two((z >> 1) as u64),
+            gathered_by_two(z as u64),
+            0,
+            0,
+        ],
+        3 => [every_third(z >> 2), every_third(z >> 1), every_third(z), 0],
+        _ => [
+            every_fourth(z >> 3),
+            every_fourth(z >> 2),
+            every_fourth(z >> 1),
+            every_fourth(z),
+        ],
     }
-    x
 }

@@ -5,8 +5,12 @@
 
 mod address;
 mod fault;
+mod gathering;
+mod masks;
 mod point;
 mod shape;
+mod spacing;
+mod tables;
 #[cfg(test)]
 mod tests;
 

@@ -1,4 +1,4 @@
-ghost use Rattle.std.specs.Prelude.{◌≡◌, ℕ, ◌^◌, ◌<◌, ◌≤◌, ◌↔◌, List, length, All, IsOk, IfOk, IfErr};
+ghost use Rattle.std.specs.Prelude.{◌≡◌, ℕ, ◌-◌, ◌^◌, ◌<◌, ◌≤◌, ◌↔◌, List, length, take, drop, replicate, All, IsOk, IfOk, IfErr};
 
 use crate::fault::ZFault;
 use crate::shape::Shape;
@@ -34,15 +34,28 @@ impl Point {
         ensures point { IfOk result (λ p. p ≡ values.now) }
         ensures refusal { IfErr result (λ e. e ≡ ZFault.WrongCount) }
     {
-        let count = values.len();
-        if count != shape.dims() as usize {
+        if values.len() != shape.dims() as usize {
             return Err(ZFault::WrongCount);
         }
-        let mut places = [0u32; 4];
-        for (i, value) in values.iter().enumerate() {
-            places[i] = *value;
+        let places = match values {
+            [x] => [*x, 0, 0, 0],
+            [x, y] => [*x, *y, 0, 0],
+            [x, y, z] => [*x, *y, *z, 0],
+            [x, y, z, w] => [*x, *y, *z, *w],
+            _ => unreachable!(),
+        };
+        Ok(Point::of_places(shape, places))
+    }
+
+    /// The point that has its coordinates in the first places, and 0 in those after them.
+    pub(crate) fn of_places(shape: Shape, places: [u32; 4]) -> Point
+        requires { drop shape places ≡ replicate (4 - shape) 0 }
+        ensures { result ≡ take shape places }
+    {
+        Point {
+            places,
+            count: shape.dims() as usize,
         }
-        Ok(Point { places, count })
     }
 
     /// The coordinates, one for each dimension.

@@ -4,11 +4,17 @@ use crate::point::Point;
 use crate::shape::Shape;
 use std::test::Fail;
 
-// The address of a point of two dimensions.
-fn address_of(x: u32, y: u32) -> Result<u128, ZFault> {
-    let plane = Shape::new(2)?;
-    let point = Point::new(plane, &[x, y])?;
-    Ok(interleave(plane, &point))
+// The address of a point.
+fn address_of(dims: u32, values: &[u32]) -> Result<u128, ZFault> {
+    let shape = Shape::new(dims)?;
+    let point = Point::new(shape, values)?;
+    Ok(interleave(shape, &point))
+}
+
+// Whether the point of these coordinates has this address.
+fn is_at(dims: u32, values: &[u32], z: u128) -> Result<bool, ZFault> {
+    let shape = Shape::new(dims)?;
+    Ok(spread(shape, z)? == Point::new(shape, values)?)
 }
 
 // The point of two dimensions that has this address.
@@ -23,10 +29,10 @@ fn point_of(z: u128) -> Result<(u32, u32), ZFault> {
 
 #[test]
 fn bits_are_interleaved(rt: HostRuntime) -> Result<(), Fail> {
-    assert_eq!(rt; address_of(1, 0)?, 2);
-    assert_eq!(rt; address_of(0, 1)?, 1);
-    assert_eq!(rt; address_of(2, 3)?, 13);
-    assert_eq!(rt; address_of(3, 5)?, 27);
+    assert_eq!(rt; address_of(2, &[1, 0])?, 2);
+    assert_eq!(rt; address_of(2, &[0, 1])?, 1);
+    assert_eq!(rt; address_of(2, &[2, 3])?, 13);
+    assert_eq!(rt; address_of(2, &[3, 5])?, 27);
     Ok(())
 }
 
@@ -36,6 +42,33 @@ fn bits_are_taken_apart(rt: HostRuntime) -> Result<(), Fail> {
     assert_eq!(rt; point_of(1)?, (0, 1));
     assert_eq!(rt; point_of(13)?, (2, 3));
     assert_eq!(rt; point_of(27)?, (3, 5));
+    Ok(())
+}
+
+#[test]
+fn words_are_joined_from_halves(rt: HostRuntime) -> Result<(), Fail> {
+    assert_eq!(rt; address_of(3, &[1, 2, 3])?, 29);
+    assert_eq!(rt; address_of(3, &[0, 0, 65536])?, 281474976710656);
+    assert_eq!(rt; address_of(4, &[1, 2, 3, 4])?, 362);
+    assert_eq!(rt;
+        address_of(4, &[2147483648, 0, 0, 0])?,
+        170141183460469231731687303715884105728
+    );
+    Ok(())
+}
+
+#[test]
+fn halves_are_put_together(rt: HostRuntime) -> Result<(), Fail> {
+    assert!(rt; is_at(3, &[1, 2, 3], 29)?);
+    assert!(rt; is_at(3, &[0, 0, 65536], 281474976710656)?);
+    assert!(rt; is_at(4, &[1, 2, 3, 4], 362)?);
+    assert!(rt;
+        is_at(
+            4,
+            &[2147483648, 0, 0, 0],
+            170141183460469231731687303715884105728
+        )?
+    );
     Ok(())
 }
 

@@ -1,22 +1,28 @@
--- The range is halved until one value is left.
-use Rattle.std.proofs.Common.{refl, arith}
-use Rattle.ub_bigmin.proofs.EventFacts.{refuted, no_value, greatest_start, greatest_upper, greatest_lower, greatest_end}
+-- The greatest of the two halves is the greatest of the span.
+use Rattle.std.proofs.Common.{◌∙◌, ℕ, ap, min, Some}
+use Rattle.ub_bigmin.proofs.EventFacts.{no_span, greatest_clamped, greatest_both, greatest_low, greatest_high}
 use Rattle.ub_bigmin.proofs.event.greatest_in_box.Goals as goal
 
-pub returns-then-not-meets : goal.returns-then-not-meets
-returns-then-not-meets c = no_value c.args.zbox.now c.args.from c.args.to c.args.dim (refuted _ c.if-not-meets.ensures)
+pub returns-then-to-from : goal.returns-then-to-from
+returns-then-to-from c =
+    no_span c.shape.result c.args.zbox.now c.shape.ensures.corners c.args.dim c.args.from c.args.to c.min-to.result (c.min-to.ensures ∙ ap (λ (n : ℕ). min c.args.to n) c.last.ensures) c.if-to-from.true
 
-pub loop-low-init : goal.loop-low-init
-loop-low-init c = rw (c.values.ensures.values, c.lo.ensures.lo, c.values-2.ensures.values, c.hi.ensures.hi) (greatest_start c.args.zbox.now c.args.from c.args.to c.args.dim c.requires c.lo.ensures.corners.ordered (c.if-not-meets.ensures.0 refl))
+pub returns-in-Some-Some : goal.returns-in-Some-Some
+returns-in-Some-Some c =
+    let low = rw c.in-Some-Some.is-0 at c.greatest_from-low.ensures in
+    let high = rw c.in-Some-Some.is-1 at c.greatest_up_to-high.ensures in
+    greatest_clamped c.shape.result c.args.zbox.now c.shape.ensures.corners c.args.dim c.args.from c.args.to c.min-to.result (c.min-to.ensures ∙ ap (λ (n : ℕ). min c.args.to n) c.last.ensures) (Some _)
+    (rw c.max.ensures (greatest_both c.args.zbox.now c.args.dim c.args.from c.min-to.result c.free_places-free.result c.free_places-free.ensures.halved c.in-Some-Some.a c.in-Some-Some.b low high))
 
-pub cut_up-requires-clause-inside : goal.cut_up-requires-clause-inside
-cut_up-requires-clause-inside c = let floor = c.loop-low.invariant.floor in let ceiling = c.loop-low.invariant.ceiling in omega arith
+pub returns-in-Some-None : goal.returns-in-Some-None
+returns-in-Some-None c =
+    let low = rw c.in-Some-None.is-0 at c.greatest_from-low.ensures in
+    let high = rw c.in-Some-None.is-1 at c.greatest_up_to-high.ensures in
+    greatest_clamped c.shape.result c.args.zbox.now c.shape.ensures.corners c.args.dim c.args.from c.args.to c.min-to.result (c.min-to.ensures ∙ ap (λ (n : ℕ). min c.args.to n) c.last.ensures) (Some _)
+    (greatest_low c.args.zbox.now c.args.dim c.args.from c.min-to.result c.free_places-free.result c.free_places-free.ensures.halved c.in-Some-None.a low high)
 
-pub loop-low-preserved-then-meets : goal.loop-low-preserved-then-meets
-loop-low-preserved-then-meets c = greatest_upper _ _ _ _ _ _ _ _ c.loop-low.invariant (omega arith) (omega arith) c.cut_up.ensures.lo c.cut_up.ensures.hi c.requires (c.if-meets.ensures.0 refl)
-
-pub loop-low-preserved : goal.loop-low-preserved
-loop-low-preserved c = greatest_lower _ _ _ _ _ _ _ _ c.loop-low.invariant (omega arith) (omega arith) c.cut_up.ensures.lo c.cut_up.ensures.hi c.requires (refuted _ c.if-meets.ensures)
-
-pub returns : goal.returns
-returns c = greatest_end _ _ _ _ _ _ c.loop-low.invariant c.loop-low-test.false
+pub returns-in-None-default : goal.returns-in-None-default
+returns-in-None-default c =
+    let low = rw c.in-None-default.is-0 at c.greatest_from-low.ensures in
+    greatest_clamped c.shape.result c.args.zbox.now c.shape.ensures.corners c.args.dim c.args.from c.args.to c.min-to.result (c.min-to.ensures ∙ ap (λ (n : ℕ). min c.args.to n) c.last.ensures) _
+    (greatest_high c.args.zbox.now c.args.dim c.args.from c.min-to.result c.free_places-free.result c.free_places-free.ensures.halved _ low c.greatest_up_to-high.ensures)

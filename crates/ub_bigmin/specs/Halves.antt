@@ -1,0 +1,34 @@
+-- A span of addresses in two halves: its numbers agree with its start from some place up, or with its end.
+use Rattle.std.specs.Prelude.{◌≡◌, ℕ, ◌+◌, ◌/◌, ◌^◌, ◌≤◌, ◌↔◌, List, Option, MatchOption, length, slice_index}
+use Rattle.ub_zaddr.specs.Address.{address, IsAtMost}
+use Rattle.ub_bigmin.specs.Box.{Corners, IsInside}
+
+-- from place k up the two ends of the span are neighbours, or they are one and no place is left below
+pub record IsHalvedAt (from to k : ℕ) : Type 0 where
+  pub ordered : from ≤ to
+  pub near : to / 2 ^ k ≤ from / 2 ^ k + 1
+  pub one : from / 2 ^ k ≡ to / 2 ^ k → k ≡ 0
+
+-- the numbers from z on that agree with z from place k up, and those up to z
+abbrev pub IsHalfFrom : ℕ → ℕ → ℕ → Type 0
+IsHalfFrom k z a = (a / 2 ^ k ≡ z / 2 ^ k) × (z ≤ a)
+
+abbrev pub IsHalfUpTo : ℕ → ℕ → ℕ → Type 0
+IsHalfUpTo k z a = (a / 2 ^ k ≡ z / 2 ^ k) × (a ≤ z)
+
+-- v is a coordinate in a dimension of some point of the box whose address is in a set
+abbrev pub IsValueOf : Corners → (ℕ → Type 0) → ℕ → ℕ → Type 0
+IsValueOf b P dim v = (p : List ℕ) × IsInside b p × P (address p) × (slice_index p dim ≡ v)
+
+-- the part of a box whose addresses agree with z from place k up is again a box, or empty
+abbrev pub IsPart : Corners → ℕ → ℕ → Option Corners → Type 0
+IsPart b z k part = MatchOption part
+    ((p : List ℕ) → IsInside b p → ¬ (address p / 2 ^ k ≡ z / 2 ^ k))
+    (λ c. (length c.lo ≡ length b.lo) × ((p : List ℕ) → IsInside c p ↔ (IsInside b p × (address p / 2 ^ k ≡ z / 2 ^ k))))
+
+-- a point is at least each of two exactly where it is at least their join, and at most each where at most their meet
+abbrev pub IsJoin : List ℕ → List ℕ → List ℕ → Type 0
+IsJoin p q join = (r : List ℕ) → IsAtMost join r ↔ (IsAtMost p r × IsAtMost q r)
+
+abbrev pub IsMeet : List ℕ → List ℕ → List ℕ → Type 0
+IsMeet p q meet = (r : List ℕ) → IsAtMost r meet ↔ (IsAtMost r p × IsAtMost r q)
