@@ -1,14 +1,15 @@
 -- What a page of the directory reads as.
-use Rattle.std.proofs.Common.{◌≡◌, ◌≢◌, ◌≤◌, ◌<◌, ◌+◌, ◌-◌, ◌*◌, ◌^◌, ℕ, zero, suc, List, [], ◌∷◌, ◌++◌, length, replicate, refl, sym, ap, arith, ◌∙◌, append_assoc}
+use Rattle.std.proofs.Common.{◌≡◌, ◌≢◌, ◌≤◌, ◌<◌, ◌+◌, ◌-◌, ◌*◌, ◌^◌, ℕ, zero, suc, List, [], ◌∷◌, ◌++◌, length, drop, get_or, replicate, ◌↔◌, refl, sym, ap, arith, ◌∙◌, append_assoc}
 use Rattle.std.proofs.lemmas.List.{length-append}
 use Rattle.std.specs.List.{flat_map, AllByRecursion}
 use Rattle.ub_zaddr.specs.Address.{last_address}
 use Rattle.ub_page.specs.Bytes.{number_bytes, number_at, layout, padded}
 use Rattle.ub_page.specs.Directory.{Listing, AreAscending, IsEntry, IsListing, entry_fields, entry_bytes, head_fields, directory_page, entry_on, entries_on, listing_on, IsDirectoryKind, HasCount, HasEntries, IsDirectoryFault}
 use Rattle.ub_page.specs.declared.directory.Entry.{Entry}
-use Rattle.ub_page.specs.declared.fault.PageFault.{PageFault}
-use Rattle.ub_page.specs.declared.fault.PageFault.TheVariants.{WrongKind, Unclean, BadCount, BadName, BadRow, BadOrder, OutOfRegion, BadPadding}
 use Rattle.ub_page.proofs.BytesFacts.{layout_read, length-layout, AllFit}
+use Rattle.ub_table.specs.Keys.{IsBefore}
+use Rattle.ub_table.specs.declared.fault.PageFault.TheVariants.{WrongKind, Unclean, BadCount, BadName, BadRow, BadOrder, OutOfRegion, BadPadding}
+use Rattle.ub_table.specs.declared.fault.PageFault.{PageFault}
 
 -- an address of a space of at most four dimensions takes 16 bytes
 pub small_address : (d z : ℕ) → d ≤ 4 → z ≤ last_address d → z < 256 ^ 16
@@ -106,6 +107,23 @@ pub short_ascending : (entries : List Entry) → length entries ≤ 1 → AreAsc
 short_ascending [] h = tt
 short_ascending (a ∷ []) h = tt
 short_ascending (a ∷ b ∷ entries) h = absurd (omega arith)
+
+ascending_from : (entries : List Entry) (i : ℕ) (d : Entry) → suc i < length entries → IsBefore (get_or entries i d).first (get_or entries (suc i) d).first
+    → AreAscending (drop i entries) ↔ AreAscending (drop (suc i) entries)
+ascending_from [] i d lt before = absurd (omega arith)
+ascending_from (a ∷ []) i d lt before = absurd (omega arith)
+ascending_from (a ∷ b ∷ entries) zero d lt before = (λ up. up.1, λ up. (before, up))
+ascending_from (a ∷ b ∷ entries) (suc i) d lt before = ascending_from (b ∷ entries) i d (omega arith) before
+
+-- one entry more is known to be before the next
+pub ascending_step : (entries : List Entry) (i : ℕ) (d : Entry) → 1 ≤ i → i < length entries → IsBefore (get_or entries (i - 1) d).first (get_or entries i d).first
+    → AreAscending (drop (i - 1) entries) ↔ AreAscending (drop (i + 1 - 1) entries)
+ascending_step entries zero d some lt before = absurd (omega arith)
+ascending_step entries (suc i) d some lt before =
+    let here : suc i - 1 ≡ i = omega arith in
+    let next : suc i + 1 - 1 ≡ suc i = omega arith in
+    let first : IsBefore (get_or entries i d).first (get_or entries (suc i) d).first = rw here at before in
+    rw (here, next) (ascending_from entries i d lt first)
 
 regrouped : (a b c d e f : List ℕ) → padded (((((a ++ b) ++ c) ++ d) ++ e) ++ f) ≡ padded ((a ++ (b ++ (c ++ (d ++ (e ++ []))))) ++ f)
 regrouped a b c d e f =

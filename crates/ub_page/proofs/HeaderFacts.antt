@@ -3,18 +3,18 @@ use Rattle.std.proofs.Common.{◌≡◌, ◌≢◌, ◌≤◌, ◌<◌, ◌+◌,
 use Rattle.std.specs.Prelude.{IsErrOf}
 use Rattle.std.proofs.lemmas.List.{length-append, length-replicate, length-drop}
 use Rattle.std.specs.List.{flat_map, AllByRecursion}
-use Rattle.ub_page.specs.Block.{IsNameBlock}
 use Rattle.ub_page.specs.Bytes.{number_bytes, number_at, layout, padded}
 use Rattle.ub_page.specs.Header.{numbers_of, names_of, number_fields, name_bytes, page_of, header_page, IsHeader, AreInRange, AreSame, IsHeaderKind, IsHeaderFault, HasNames, columns_on, numbers_on, name_on, names_on, IsNameOn, AreNamesOn}
-use Rattle.ub_page.specs.Name.{IsName}
-use Rattle.ub_page.specs.declared.fault.PageFault.{PageFault}
-use Rattle.ub_page.specs.declared.fault.PageFault.TheVariants.{WrongKind, Unclean, BadCount, BadName, BadRow, BadOrder, OutOfRegion, BadPadding}
 use Rattle.ub_page.specs.declared.header.Header.{Header}
 use Rattle.ub_page.specs.declared.header.Numbers.{Numbers}
-use Rattle.ub_page.specs.declared.schema.Schema.{Schema}
 use Rattle.ub_page.proofs.BytesFacts.{length-number_bytes, read_at, layout_read, length-layout, AllFit}
 use Rattle.ub_page.proofs.DraftFacts.{of_front}
-use Rattle.ub_page.proofs.NameFacts.{name_block, length-name}
+use Rattle.ub_table.proofs.NameFacts.{name_block, length-name}
+use Rattle.ub_table.specs.Block.{IsNameBlock}
+use Rattle.ub_table.specs.Name.{IsName}
+use Rattle.ub_table.specs.declared.fault.PageFault.TheVariants.{WrongKind, Unclean, BadCount, BadName, BadRow, BadOrder, OutOfRegion, BadPadding}
+use Rattle.ub_table.specs.declared.fault.PageFault.{PageFault}
+use Rattle.ub_table.specs.declared.schema.Schema.{Schema}
 
 -- the name that stands after some bytes of a page
 pub name_read : (name page front rest : List ℕ) (place : ℕ) → place ≡ length front → IsName name → page ≡ front ++ (name_bytes name ++ rest)

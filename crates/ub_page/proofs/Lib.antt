@@ -1,10 +1,7 @@
 pub mod BytesFacts
 pub mod DirectoryFacts
-pub mod DistinctFacts
 pub mod DraftFacts
 pub mod HeaderFacts
-pub mod KeyFacts
 pub mod MaskFacts
-pub mod NameFacts
 pub mod PlacesFacts
 pub mod RegionFacts

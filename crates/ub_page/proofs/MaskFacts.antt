@@ -7,7 +7,7 @@ use Rattle.std.specs.List.{slice_get}
 use Rattle.std.proofs.lemmas.Nat.Bits.{bit_at-zero, bit_at_set_same, bit_at_set_other}
 use Rattle.ub_bigmin.specs.Box.{Corners, IsInside}
 use Rattle.ub_page.specs.Region.{RegionView, IsRowInside}
-use Rattle.ub_page.specs.declared.row.Row.{Row}
+use Rattle.ub_table.specs.declared.row.Row.{Row}
 
 -- the bits below n are those of the first n rows, and there are no others
 abbrev pub IsMaskTo : RegionView → Corners → ℕ → ℕ → Type 0

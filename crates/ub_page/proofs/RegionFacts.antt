@@ -6,20 +6,21 @@ use Rattle.std.proofs.Math.Facts.{Fits-lt-pow, Fits-of_lt, Fits-of_z, sfits_lit,
 use Rattle.std.proofs.Math.Seq.{drop-append_seam}
 use Rattle.std.proofs.lemmas.List.Elements.{All-append, All-replicate}
 use Rattle.std.proofs.lemmas.List.FromFn.{length-map-range_with_len, get_or-map-range_with_len}
-use Rattle.ub_page.specs.Keys.{AreKeysAscending}
-use Rattle.ub_page.specs.declared.fault.PageFault.{PageFault}
-use Rattle.ub_page.specs.declared.fault.PageFault.TheVariants.{WrongKind, Unclean, BadCount, BadName, BadRow, BadOrder, OutOfRegion, BadPadding}
 use Rattle.std.proofs.Common.{◌≡◌, ◌≢◌, ◌≤◌, ◌<◌, ◌+◌, ◌-◌, ◌*◌, ◌^◌, ℕ, zero, suc, List, [], ◌∷◌, ◌++◌, length, map, take, drop, replicate, get_or, subst, refl, sym, ap, arith, ◌∙◌, append_assoc, Some}
 use Rattle.std.specs.List.{All, AllByRecursion, flat_map, range_with_len, slice_get}
 use Rattle.std.proofs.lemmas.Grind.{flat_map-append}
 use Rattle.std.proofs.lemmas.List.{length-append, append-nil, take-append-drop, get_or-drop, length-replicate}
 use Rattle.ub_page.specs.Bytes.{number_bytes, number_at, layout, padded}
-use Rattle.ub_page.specs.Region.{Region, RegionView, column, columns, dim_of, measure_of, measures_of, HasRest, head_fields, region_page, places, IsRow, IsRegion, row_on, region_on, IsRegionKind, IsNumbered, IsFirst, AreFrom, keys_of, HasCounts, HasRows, HasOrder, HasFirst, IsRegionFault}
-use Rattle.ub_page.specs.declared.row.Key.{Key}
-use Rattle.ub_page.specs.declared.row.Row.{Row}
-use Rattle.ub_page.specs.declared.schema.Schema.{Schema}
+use Rattle.ub_page.specs.Region.{RegionView, column, columns, dim_of, measure_of, head_fields, region_page, places, row_on, region_on, IsRegionKind, HasCounts, HasRows, HasOrder, HasFirst, IsRegionFault}
 use Rattle.ub_page.proofs.DirectoryFacts.{small_address}
 use Rattle.ub_page.proofs.BytesFacts.{length-number_bytes, read_at, layout_read, length-layout, AllFit}
+use Rattle.ub_table.specs.Keys.{AreKeysAscending}
+use Rattle.ub_table.specs.Region.{Region, measures_of, HasRest, IsRow, IsRegion, IsNumbered, IsFirst, AreFrom, keys_of}
+use Rattle.ub_table.specs.declared.fault.PageFault.TheVariants.{WrongKind, Unclean, BadCount, BadName, BadRow, BadOrder, OutOfRegion, BadPadding}
+use Rattle.ub_table.specs.declared.fault.PageFault.{PageFault}
+use Rattle.ub_table.specs.declared.row.Key.{Key}
+use Rattle.ub_table.specs.declared.row.Row.{Row}
+use Rattle.ub_table.specs.declared.schema.Schema.{Schema}
 
 -- the numbers from a on, and one more
 range_more : (a n b : ℕ) → a + n ≡ b → range_with_len a (suc n) ≡ range_with_len a n ++ b ∷ []

@@ -3,10 +3,12 @@ use Rattle.std.specs.Prelude.{◌≡◌, ◌≢◌, ◌≤◌, ◌<◌, ◌+◌,
 use Rattle.std.specs.List.{flat_map, AllByRecursion}
 use Rattle.ub_zaddr.specs.Address.{last_address}
 use Rattle.ub_page.specs.Bytes.{number_at, layout, padded}
-use Rattle.ub_page.specs.Keys.{IsBefore}
 use Rattle.ub_page.specs.declared.directory.Entry.{Entry}
-use Rattle.ub_page.specs.declared.fault.PageFault.{PageFault}
-use Rattle.ub_page.specs.declared.fault.PageFault.TheVariants.{WrongKind, BadCount, BadRow, BadOrder, BadPadding}
+use Rattle.ub_page.specs.declared.directory.TheConstants.{MAX_ENTRIES}
+use Rattle.ub_table.specs.Keys.{IsBefore}
+use Rattle.ub_table.specs.declared.fault.PageFault.TheVariants.{WrongKind, BadCount, BadRow, BadOrder, BadPadding}
+use Rattle.ub_table.specs.declared.fault.PageFault.{PageFault}
+use Rattle.ub_table.specs.declared.row.TheConstants.{MAX_ROW_NUMBER}
 
 -- what a page of the directory tells: the entries, and the next page of the directory, 0 for none
 pub record Listing : Type 0 where
@@ -22,14 +24,14 @@ AreAscending (a ∷ b ∷ entries) = IsBefore a.first b.first × AreAscending (b
 -- the address is in the space, the number is a row's or 0, and the page is not the first
 pub record IsEntry (last : ℕ) (entry : Entry) : Type 0 where
   pub z : entry.first.z ≤ last
-  pub number : entry.first.number ≤ 16777215
+  pub number : entry.first.number ≤ MAX_ROW_NUMBER
   pub some_page : 1 ≤ entry.page
   pub page : entry.page < 2 ^ 32
 
 -- what a page of the directory can hold, in a space of so many dimensions
 pub record IsListing (dims : ℕ) (listing : Listing) : Type 0 where
   pub some : 1 ≤ length listing.entries
-  pub few : length listing.entries ≤ 170
+  pub few : length listing.entries ≤ MAX_ENTRIES
   pub entries : AllByRecursion (IsEntry (last_address dims)) listing.entries
   pub ascending : AreAscending listing.entries
   pub next : listing.next < 2 ^ 32
@@ -72,7 +74,7 @@ IsDirectoryKind page = number_at 1 0 page ≡ 0x44
 
 -- it tells of 1 to 170 entries
 abbrev pub HasCount : List ℕ → Type 0
-HasCount page = (1 ≤ number_at 2 2 page) × (number_at 2 2 page ≤ 170)
+HasCount page = (1 ≤ number_at 2 2 page) × (number_at 2 2 page ≤ MAX_ENTRIES)
 
 abbrev pub HasEntries : ℕ → List ℕ → Type 0
 HasEntries dims page = AllByRecursion (IsEntry (last_address dims)) (listing_on page).entries

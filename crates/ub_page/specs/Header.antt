@@ -1,14 +1,15 @@
 -- The header page of a table, format 1.
 use Rattle.std.specs.Prelude.{◌≡◌, ◌≢◌, ◌≤◌, ◌<◌, ◌+◌, ◌-◌, ◌/◌, ◌^◌, ◌++◌, ℕ, zero, suc, List, [], ◌∷◌, length, take, drop, replicate, if◌then◌else◌}
 use Rattle.std.specs.List.{flat_map, AllByRecursion}
-use Rattle.ub_page.specs.Block.{IsNameBlock}
 use Rattle.ub_page.specs.Bytes.{number_bytes, number_at, layout, padded}
-use Rattle.ub_page.specs.Name.{IsName}
-use Rattle.ub_page.specs.Schema.{AreCounts, AreDistinct}
-use Rattle.ub_page.specs.declared.fault.PageFault.{PageFault}
-use Rattle.ub_page.specs.declared.fault.PageFault.TheVariants.{WrongKind, Unclean, BadCount, BadName, BadPadding}
 use Rattle.ub_page.specs.declared.header.Header.{Header}
 use Rattle.ub_page.specs.declared.header.Numbers.{Numbers}
+use Rattle.ub_table.specs.Block.{IsNameBlock}
+use Rattle.ub_table.specs.Name.{IsName}
+use Rattle.ub_table.specs.Schema.{AreCounts, AreDistinct}
+use Rattle.ub_table.specs.declared.fault.PageFault.TheVariants.{WrongKind, Unclean, BadCount, BadName, BadPadding}
+use Rattle.ub_table.specs.declared.fault.PageFault.{PageFault}
+use Rattle.ub_table.specs.declared.row.TheConstants.{MAX_ROW_NUMBER}
 
 -- the numbers of a header, as its page holds them
 abbrev pub numbers_of : Header → Numbers
@@ -29,7 +30,7 @@ pub record AreInRange (n : Numbers) : Type 0 where
   pub state : n.state ≤ 1
   pub counts : AreCounts (n.dims + n.measures) n.dims n.page_rows
   pub some_next : 1 ≤ n.next
-  pub last_next : n.next ≤ 16777216
+  pub last_next : n.next ≤ MAX_ROW_NUMBER + 1
   pub rows : n.rows < n.next
   pub regions : 1 ≤ n.regions
   pub root : 1 ≤ n.root

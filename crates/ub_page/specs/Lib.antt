@@ -1,11 +1,6 @@
-pub mod Block
 pub mod Bytes
 pub mod Directory
 pub mod Draft
 pub mod Header
-pub mod Keys
-pub mod Name
 pub mod Region
 pub mod RowBlock
-pub mod Schema
-pub mod Table

@@ -3,7 +3,7 @@ use Rattle.std.specs.Prelude.{◌≡◌, ◌≤◌, ◌-◌, ◌++◌, ℕ, pos,
 use Rattle.std.proofs.Common.{arith, refl, sym, length-take-le}
 use Rattle.ub_page.specs.Region.{RegionView}
 use Rattle.ub_page.specs.declared.region.RegionPage.TheInside.{Inside}
-use Rattle.ub_page.specs.declared.row.Row.{Row}
+use Rattle.ub_table.specs.declared.row.Row.{Row}
 
 abbrev pub blank_row : Row
 blank_row = record { number = 0; dims = 0 ∷ 0 ∷ 0 ∷ 0 ∷ []; measures = pos 0 ∷ pos 0 ∷ pos 0 ∷ pos 0 ∷ [] }

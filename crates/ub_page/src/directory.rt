@@ -5,11 +5,9 @@ ghost use Rattle.ub_page.specs.Bytes.{number_at};
 ghost use Rattle.ub_page.specs.Directory.{Listing, AreAscending, IsEntry, IsListing, entry_bytes, directory_page, entry_on, entries_on, listing_on, IsDirectoryKind, HasCount, HasEntries, IsDirectoryFault};
 
 use crate::draft::Draft;
-use crate::fault::PageFault;
 use crate::page::{Page, is_same, u8_at, u16_at, u32_at, u128_at};
-use crate::row::{Key, is_before};
-use crate::schema::Schema;
 use std::marker::Model;
+use ub_table::{Key, MAX_ROW_NUMBER, PageFault, Schema};
 use ub_zaddr::last;
 
 /// The most entries that a page of the directory has.
@@ -38,17 +36,18 @@ pub struct Directory {
 impl Model for Directory {
     ghost use Rattle.std.specs.Prelude.{◌≤◌, take};
     ghost use Rattle.ub_page.specs.Directory.{Listing};
+    ghost use Rattle.ub_page.specs.declared.directory.TheConstants.{MAX_ENTRIES};
 
     ghost Value = { Listing };
 
     ghost view = { λ d. record { entries = take d.len d.entries; next = d.next } };
 
-    ghost invariant = { λ d. d.len ≤ 170 };
+    ghost invariant = { λ d. d.len ≤ MAX_ENTRIES };
 }
 
 impl Directory {
-    /// A page with no entry, and the next page of the directory.
-    pub fn new(next: u32) -> Directory
+    // A page with no entry, and the next page of the directory.
+    fn new(next: u32) -> Directory
         ensures entries { result.entries ≡ [] }
         ensures next { result.next ≡ next }
     {
@@ -63,9 +62,9 @@ impl Directory {
         }
     }
 
-    /// Puts an entry after the others, of which there are fewer than 170.
-    pub fn push(&mut self, entry: Entry)
-        requires { length self.old.entries < 170 }
+    // Puts an entry after the others, of which there are fewer than 170.
+    fn push(&mut self, entry: Entry)
+        requires { length self.old.entries < MAX_ENTRIES }
         ensures entries { self.new.entries ≡ self.old.entries ++ entry ∷ [] }
         ensures next { self.new.next ≡ self.old.next }
     {
@@ -76,7 +75,7 @@ impl Directory {
     /// The entries in order: at most 170.
     pub fn entries(&self) -> &[Entry]
         ensures entries { result.now ≡ self.now.entries }
-        ensures few { length result.now ≤ 170 }
+        ensures few { length result.now ≤ MAX_ENTRIES }
     {
         &self.entries[..self.len]
     }
@@ -91,7 +90,7 @@ impl Directory {
 
 /// The page of these entries, at most 170, with the next page of the directory, 0 for none.
 pub fn write_directory(entries: &[Entry], next: u32) -> Page
-    requires { length entries.now ≤ 170 }
+    requires { length entries.now ≤ MAX_ENTRIES }
     ensures { result ≡ directory_page (record { entries = entries.now; next = next }) }
 {
     let mut draft = Draft::new();
@@ -128,7 +127,8 @@ fn put_entry(draft: &mut Draft, entry: &Entry)
 /// 16777215, or page 0), `BadOrder` (the first keys do not ascend), `BadPadding` (a byte that no field uses is not zero).
 pub fn read_directory(schema: &Schema, page: &Page) -> Result<Directory, PageFault>
     ensures found { IfOk result (λ d. IsListing schema.now.dims d × (page.now ≡ directory_page d)) }
-    ensures exact { (listing : Listing) → IsListing schema.now.dims listing → page.now ≡ directory_page listing → result ≡ Ok listing }
+    ensures exact { (listing : Listing) → IsListing schema.now.dims listing
+        → page.now ≡ directory_page listing → result ≡ Ok listing }
     ensures refused { IfErr result (IsDirectoryFault schema.now.dims page.now) }
 {
     let directory = listing_of(schema, page)?;
@@ -143,8 +143,10 @@ pub fn read_directory(schema: &Schema, page: &Page) -> Result<Directory, PageFau
 
 // What stands on the page, where that is in range and in order.
 fn listing_of(schema: &Schema, page: &Page) -> Result<Directory, PageFault>
-    ensures listing { IfOk result (λ d. (d ≡ listing_on page.now) × IsDirectoryKind page.now × HasCount page.now) }
-    ensures entries { IfOk result (λ d. HasEntries schema.now.dims page.now × AreAscending (listing_on page.now).entries) }
+    ensures listing { IfOk result
+        (λ d. (d ≡ listing_on page.now) × IsDirectoryKind page.now × HasCount page.now) }
+    ensures entries { IfOk result
+        (λ d. HasEntries schema.now.dims page.now × AreAscending (listing_on page.now).entries) }
     ensures refused { IfErr result (IsDirectoryFault schema.now.dims page.now) }
 {
     if u8_at(page, 0) != KIND {
@@ -172,7 +174,7 @@ fn last_of(schema: &Schema) -> u128
 }
 
 fn read_entries(page: &Page, count: usize, next: u32) -> Directory
-    requires { count ≤ 170 }
+    requires { count ≤ MAX_ENTRIES }
     ensures entries { result.entries ≡ entries_on 16 count page.now }
     ensures next { result.next ≡ next }
 {
@@ -211,14 +213,14 @@ fn are_in_range(entries: &[Entry], last: u128) -> bool
 fn is_in_range(entry: &Entry, last: u128) -> bool
     ensures { IsTrue result ↔ IsEntry last entry.now }
 {
-    entry.first.z <= last && entry.first.number <= 16_777_215 && entry.page >= 1
+    entry.first.z <= last && entry.first.number <= MAX_ROW_NUMBER && entry.page >= 1
 }
 
 fn are_ascending(entries: &[Entry]) -> bool
     ensures { IsTrue result ↔ AreAscending entries.now }
 {
     for i in 1..entries.len() {
-        if !is_before(&entries[i - 1].first, &entries[i].first) {
+        if !entries[i - 1].first.is_before(&entries[i].first) {
             return false;
         }
     }
@@ -228,8 +230,8 @@ fn are_ascending(entries: &[Entry]) -> bool
 #[cfg(test)]
 mod tests {
     use super::*;
-    use crate::name::Name;
     use std::test::Fail;
+    use ub_table::Name;
 
     fn plane() -> Result<Schema, PageFault> {
         let columns = [Name::new(b"x")?, Name::new(b"y")?, Name::new(b"m")?];

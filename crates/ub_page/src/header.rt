@@ -2,14 +2,12 @@ ghost use Rattle.std.specs.Prelude.{◌≡◌, ◌≢◌, ◌+◌, ◌-◌, ◌*
 ghost use Rattle.std.specs.List.{flat_map};
 ghost use Rattle.ub_page.specs.Bytes.{number_bytes};
 ghost use Rattle.ub_page.specs.Header.{numbers_of, names_of, numbers_on, columns_on, name_bytes, name_on, names_on, header_page, AreInRange, IsHeader, AreSame, IsHeaderKind, IsHeaderFault, IsNameOn, AreNamesOn, HasNames};
-ghost use Rattle.ub_page.specs.Schema.{AreCounts};
+ghost use Rattle.ub_table.specs.Schema.{AreCounts};
 
-use crate::columns::Columns;
 use crate::draft::Draft;
-use crate::fault::PageFault;
-use crate::name::{MAX_NAME_LEN, Name};
 use crate::page::{Page, are_equal, is_same, u8_at, u32_at};
-use crate::schema::Schema;
+use ub_table::name::MAX_NAME_LEN;
+use ub_table::{Columns, MAX_ROW_NUMBER, Name, PageFault, Schema};
 
 // 'UBTR', with which each header begins.
 const KIND: u32 = 0x5542_5452;
@@ -115,7 +113,8 @@ fn block_of(name: &Name) -> [u8; MAX_NAME_LEN]
 /// byte is not zero).
 pub fn read_header(page: &Page) -> Result<Header, PageFault>
     ensures found { IfOk result (λ h. IsHeader h × (h.unclean ≡ false) × (page.now ≡ header_page h)) }
-    ensures exact { (h : Header) → IsHeader h → h.unclean ≡ false → page.now ≡ header_page h → IsOk result × IfOk result (λ read. AreSame read h) }
+    ensures exact { (h : Header) → IsHeader h → h.unclean ≡ false → page.now ≡ header_page h
+        → IsOk result × IfOk result (λ read. AreSame read h) }
     ensures refused { IfErr result (IsHeaderFault page.now) }
 {
     let header = parts_on(page)?;
@@ -127,9 +126,12 @@ pub fn read_header(page: &Page) -> Result<Header, PageFault>
 
 // The header whose parts stand on the page.
 fn parts_on(page: &Page) -> Result<Header, PageFault>
-    ensures numbers { IfOk result (λ h. (numbers_of h ≡ numbers_on page.now) × AreInRange (numbers_on page.now)) }
-    ensures names { IfOk result (λ h. (h.schema.name ≡ name_on 32 page.now) × (h.schema.columns ≡ names_on 65 (columns_on page.now) page.now)) }
-    ensures clean { IfOk result (λ h. IsHeaderKind page.now × (h.unclean ≡ false) × HasNames (columns_on page.now) page.now) }
+    ensures numbers { IfOk result
+        (λ h. (numbers_of h ≡ numbers_on page.now) × AreInRange (numbers_on page.now)) }
+    ensures names { IfOk result (λ h. (h.schema.name ≡ name_on 32 page.now)
+        × (h.schema.columns ≡ names_on 65 (columns_on page.now) page.now)) }
+    ensures clean { IfOk result
+        (λ h. IsHeaderKind page.now × (h.unclean ≡ false) × HasNames (columns_on page.now) page.now) }
     ensures small { IfOk result (λ h. (h.regions < 2 ^ 32) × (h.root < 2 ^ 32)) }
     ensures refused { IfErr result (IsHeaderFault page.now) }
     ensures early { IfErr result (λ e. e ≢ PageFault.BadPadding) }
@@ -178,7 +180,7 @@ fn are_in_range(numbers: &Numbers) -> bool
     let counts = (1..=4).contains(&numbers.dims)
         && numbers.measures <= 4
         && (2..=64).contains(&numbers.page_rows);
-    let rows = (1..=16_777_216).contains(&numbers.next) && numbers.rows < numbers.next;
+    let rows = (1..=MAX_ROW_NUMBER + 1).contains(&numbers.next) && numbers.rows < numbers.next;
     let pages = numbers.regions >= 1
         && numbers.root >= 1
         && u64::from(numbers.levels) == (u64::from(numbers.regions) + 169) / 170;
@@ -188,10 +190,12 @@ fn are_in_range(numbers: &Numbers) -> bool
 // The schema that the names on the page make with these numbers, or `BadName`.
 fn read_schema(page: &Page, numbers: &Numbers) -> Result<Schema, PageFault>
     requires { AreCounts (numbers.now.dims + numbers.now.measures) numbers.now.dims numbers.now.page_rows }
-    ensures names { IfOk result (λ s. (s.name ≡ name_on 32 page.now) × (s.columns ≡ names_on 65 (numbers.now.dims + numbers.now.measures) page.now)) }
+    ensures names { IfOk result (λ s. (s.name ≡ name_on 32 page.now)
+        × (s.columns ≡ names_on 65 (numbers.now.dims + numbers.now.measures) page.now)) }
     ensures numbers { IfOk result (λ s. (s.dims ≡ numbers.now.dims) × (s.page_rows ≡ numbers.now.page_rows)) }
     ensures valid { IfOk result (λ _. HasNames (numbers.now.dims + numbers.now.measures) page.now) }
-    ensures refused { IfErr result (λ e. (e ≡ PageFault.BadName) × (¬ (HasNames (numbers.now.dims + numbers.now.measures) page.now))) }
+    ensures refused { IfErr result (λ e. (e ≡ PageFault.BadName)
+        × (¬ (HasNames (numbers.now.dims + numbers.now.measures) page.now))) }
 {
     let name = read_name(page, 32)?;
     let columns = read_columns(page, usize::from(numbers.dims + numbers.measures))?;
@@ -207,7 +211,8 @@ fn read_schema(page: &Page, numbers: &Numbers) -> Result<Schema, PageFault>
 fn read_columns(page: &Page, count: usize) -> Result<Columns, PageFault>
     requires some { 1 ≤ count }
     requires few { count ≤ 8 }
-    ensures names { IfOk result (λ columns. (columns ≡ names_on 65 count page.now) × AreNamesOn 65 count page.now) }
+    ensures names { IfOk result
+        (λ columns. (columns ≡ names_on 65 count page.now) × AreNamesOn 65 count page.now) }
     ensures refused { IfErr result (λ e. (e ≡ PageFault.BadName) × (¬ (AreNamesOn 65 count page.now))) }
 {
     let mut columns = Columns::new(read_name(page, 65)?);

@@ -3,23 +3,18 @@ ghost use Rattle.std.specs.Int.{bit_at, w64, cast_signed};
 ghost use Rattle.std.specs.List.{AllByRecursion, range_with_len};
 ghost use Rattle.ub_bigmin.specs.Box.{IsInside};
 ghost use Rattle.ub_page.specs.Bytes.{number_at};
-ghost use Rattle.ub_page.specs.Keys.{AreKeysAscending};
-ghost use Rattle.ub_page.specs.Region as spec;
-ghost use Rattle.ub_page.specs.Region.{Region, column, columns, dim_of, measure_of, measures_of, places, keys_of, region_page, row_on, region_on, IsNumbered, IsFirst, AreFrom, IsRegion, IsRegionKind, HasCounts, HasRows, HasOrder, HasFirst, IsRegionFault, IsRowInside};
+ghost use Rattle.ub_page.specs.Region.{column, columns, dim_of, measure_of, places, region_page, row_on, region_on, IsRegionKind, HasCounts, HasRows, HasOrder, HasFirst, IsRegionFault, IsRowInside};
 ghost use Rattle.ub_page.specs.RowBlock.{blank_row};
+ghost use Rattle.ub_table.specs.Keys.{AreKeysAscending};
+ghost use Rattle.ub_table.specs.Region.{Region, measures_of, keys_of, IsNumbered, IsFirst, AreFrom, IsRegion};
 ghost use Rattle.ub_zaddr.specs.Address.{IsAtMost};
 
 use crate::draft::Draft;
-use crate::fault::PageFault;
 use crate::page::{Page, i64_at, is_same, u8_at, u32_at, u128_at};
-use crate::row::{Key, Row, is_before};
-use crate::schema::Schema;
 use std::marker::Model;
 use ub_bigmin::ZBox;
-use ub_zaddr::{Point, Shape, interleave, last};
-
-/// The most rows that a region's page has.
-pub const MAX_ROWS: usize = 64;
+use ub_table::{Key, MAX_ROW_NUMBER, MAX_ROWS, PageFault, Row, Schema};
+use ub_zaddr::{Shape, last};
 
 // 'R', with which each page of a region begins.
 const KIND: u8 = 0x52;
@@ -58,8 +53,11 @@ impl RegionPage {
     pub fn read(schema: &Schema, page: &Page) -> Result<RegionPage, PageFault>
         ensures dims { IfOk result (λ r. r.dims ≡ schema.now.dims) }
         ensures on { IfOk result (λ r. r.region ≡ region_on schema.now page.now) }
-        ensures found { IfOk result (λ r. IsRegion schema.now r.region × (page.now ≡ region_page schema.now r.region)) }
-        ensures exact { (region : Region) → IsRegion schema.now region → page.now ≡ region_page schema.now region → result ≡ Ok (record { dims = schema.now.dims; region = region }) }
+        ensures found { IfOk result
+            (λ r. IsRegion schema.now r.region × (page.now ≡ region_page schema.now r.region)) }
+        ensures exact { (region : Region) → IsRegion schema.now region
+            → page.now ≡ region_page schema.now region
+            → result ≡ Ok (record { dims = schema.now.dims; region = region }) }
         ensures refused { IfErr result (IsRegionFault schema.now page.now) }
     {
         let region = region_of(schema, page)?;
@@ -79,7 +77,7 @@ impl RegionPage {
     /// How many rows there are: at most 64.
     pub fn len(&self) -> usize
         ensures len { result ≡ length self.now.region.rows }
-        ensures few { result ≤ 64 }
+        ensures few { result ≤ MAX_ROWS }
     {
         self.rows().len()
     }
@@ -87,7 +85,7 @@ impl RegionPage {
     /// The rows in the order of their keys: at most 64.
     pub fn rows(&self) -> &[Row]
         ensures rows { result.now ≡ self.now.region.rows }
-        ensures few { length result.now ≤ 64 }
+        ensures few { length result.now ≤ MAX_ROWS }
     {
         &self.rows[..self.len]
     }
@@ -105,7 +103,7 @@ impl RegionPage {
         requires { i < length self.now.region.rows }
         ensures { slice_get (keys_of self.now.dims self.now.region.rows) i ≡ Some result }
     {
-        key_of(self.shape, &self.row(i))
+        self.row(i).key(self.shape)
     }
 
     /// Which rows lie in a box of the region's shape: bit i is 1 exactly where there is a row at place i, from 0, and it
@@ -141,26 +139,14 @@ fn is_at_most(values: &[u32], others: &[u32]) -> bool
     values.iter().zip(others).all(|(a, b)| *a <= *b)
 }
 
-// The key of a row: the address of its coordinates, and its number.
-fn key_of(shape: Shape, row: &Row) -> Key
-    ensures { result ≡ spec.key_of shape row.now }
-{
-    match Point::new(shape, &row.dims[..shape.dims() as usize]) {
-        Ok(point) => Key {
-            z: interleave(shape, &point),
-            number: row.number,
-        },
-        Err(_) => unreachable!(),
-    }
-}
-
 /// The page of a region: its first key and its rows, at most 64. Of each row it holds the number, and what the schema's
 /// columns hold. Takes no memory.
 pub fn write_region(schema: &Schema, first: Key, rows: &[Row]) -> Page
-    requires { length rows.now ≤ 64 }
+    requires { length rows.now ≤ MAX_ROWS }
     ensures page { result ≡ region_page schema.now (record { first = first; rows = rows.now }) }
     // what a page can hold stands on it
-    ensures reads_back { IsRegion schema.now (record { first = first; rows = rows.now }) → region_on schema.now result ≡ record { first = first; rows = rows.now } }
+    ensures reads_back { IsRegion schema.now (record { first = first; rows = rows.now })
+        → region_on schema.now result ≡ record { first = first; rows = rows.now } }
 {
     let mut draft = Draft::new();
     draft.put_u8(KIND);
@@ -235,8 +221,10 @@ fn put_measure(draft: &mut Draft, rows: &[Row], measure: usize)
 
 // What stands on the page, where that is in range and in order.
 fn region_of(schema: &Schema, page: &Page) -> Result<RegionPage, PageFault>
-    ensures region { IfOk result (λ r. (r.dims ≡ schema.now.dims) × (r.region ≡ region_on schema.now page.now)) }
-    ensures range { IfOk result (λ _. IsRegionKind page.now × HasCounts schema.now page.now × HasRows schema.now page.now) }
+    ensures region { IfOk result
+        (λ r. (r.dims ≡ schema.now.dims) × (r.region ≡ region_on schema.now page.now)) }
+    ensures range { IfOk result
+        (λ _. IsRegionKind page.now × HasCounts schema.now page.now × HasRows schema.now page.now) }
     ensures order { IfOk result (λ _. HasOrder schema.now page.now × HasFirst schema.now page.now) }
     ensures refused { IfErr result (IsRegionFault schema.now page.now) }
 {
@@ -270,7 +258,7 @@ fn has_counts(schema: &Schema, page: &Page) -> bool
 
 // The first key and the rows that stand on the page.
 fn read_region(schema: &Schema, page: &Page) -> RegionPage
-    requires { number_at 1 3 page.now ≤ 64 }
+    requires { number_at 1 3 page.now ≤ MAX_ROWS }
     ensures dims { result.dims ≡ schema.now.dims }
     ensures region { result.region ≡ region_on schema.now page.now }
 {
@@ -289,8 +277,10 @@ fn read_region(schema: &Schema, page: &Page) -> RegionPage
 
 // The rows of a page that tells of so many, and blank ones after them.
 fn read_rows(schema: &Schema, page: &Page, count: usize) -> [Row; MAX_ROWS]
-    requires { count ≤ 64 }
-    ensures { result ≡ map (row_on schema.now.dims (measures_of schema.now) count page.now) (range_with_len 0 count) ++ replicate (64 - count) blank_row }
+    requires { count ≤ MAX_ROWS }
+    ensures { result
+        ≡ map (row_on schema.now.dims (measures_of schema.now) count page.now) (range_with_len 0 count)
+        ++ replicate (MAX_ROWS - count) blank_row }
 {
     let blank = Row {
         number: 0,
@@ -307,7 +297,7 @@ fn read_rows(schema: &Schema, page: &Page, count: usize) -> [Row; MAX_ROWS]
 // The row at a place, of so many rows.
 #[tactic(auto, unfolding(crate::specs::Region::row_on))]
 fn read_row(schema: &Schema, page: &Page, count: usize, i: usize) -> Row
-    requires count { count ≤ 64 }
+    requires count { count ≤ MAX_ROWS }
     requires row { i < count }
     ensures { result ≡ row_on schema.now.dims (measures_of schema.now) count page.now i }
 {
@@ -330,7 +320,7 @@ fn read_row(schema: &Schema, page: &Page, count: usize, i: usize) -> Row
 fn read_dims(page: &Page, dims: usize, place: usize, count: usize, i: usize) -> [u32; 4]
     requires dims { dims ≤ 4 }
     requires place { place ≤ 280 }
-    requires count { count ≤ 64 }
+    requires count { count ≤ MAX_ROWS }
     requires row { i < count }
     ensures { result ≡ places 0 (λ d. number_at 4 (place + 4 * (count * d + i)) page.now) dims }
 {
@@ -345,9 +335,10 @@ fn read_dims(page: &Page, dims: usize, place: usize, count: usize, i: usize) -> 
 fn read_measures(page: &Page, measures: usize, place: usize, count: usize, i: usize) -> [i64; 4]
     requires measures { measures ≤ 4 }
     requires place { place ≤ 1304 }
-    requires count { count ≤ 64 }
+    requires count { count ≤ MAX_ROWS }
     requires row { i < count }
-    ensures { result ≡ places (pos 0) (λ m. cast_signed w64 (number_at 8 (place + 8 * (count * m + i)) page.now)) measures }
+    ensures { result ≡ places (pos 0)
+        (λ m. cast_signed w64 (number_at 8 (place + 8 * (count * m + i)) page.now)) measures }
 {
     let mut values = [0; 4];
     for measure in 0..measures {
@@ -358,10 +349,11 @@ fn read_measures(page: &Page, measures: usize, place: usize, count: usize, i: us
 
 // Whether the first key and the rows' numbers are in range.
 fn has_rows(shape: Shape, region: &RegionPage) -> bool
-    ensures { IsTrue result ↔ (IsFirst shape region.now.region.first × AllByRecursion IsNumbered region.now.region.rows) }
+    ensures { IsTrue result
+        ↔ (IsFirst shape region.now.region.first × AllByRecursion IsNumbered region.now.region.rows) }
 {
     region.first.z <= last(shape)
-        && region.first.number <= 16_777_215
+        && region.first.number <= MAX_ROW_NUMBER
         && are_numbered(region.rows())
 }
 
@@ -369,7 +361,7 @@ fn are_numbered(rows: &[Row]) -> bool
     ensures { IsTrue result ↔ AllByRecursion IsNumbered rows.now }
 {
     for row in rows {
-        if row.number == 0 || row.number > 16_777_215 {
+        if row.number == 0 || row.number > MAX_ROW_NUMBER {
             return false;
         }
     }
@@ -383,10 +375,10 @@ fn are_ascending(shape: Shape, rows: &[Row]) -> bool
     if rows.is_empty() {
         return true;
     }
-    let mut before = key_of(shape, &rows[0]);
+    let mut before = rows[0].key(shape);
     for i in 1..rows.len() {
-        let key = key_of(shape, &rows[i]);
-        if !is_before(&before, &key) {
+        let key = rows[i].key(shape);
+        if !before.is_before(&key) {
             return false;
         }
         before = key;
@@ -399,14 +391,15 @@ fn are_from(shape: Shape, first: &Key, rows: &[Row]) -> bool
     requires { AreKeysAscending (keys_of shape rows.now) }
     ensures { IsTrue result ↔ AreFrom first.now (keys_of shape rows.now) }
 {
-    rows.is_empty() || !is_before(&key_of(shape, &rows[0]), first)
+    rows.is_empty() || !rows[0].key(shape).is_before(first)
 }
 
 #[cfg(test)]
 mod tests {
     use super::*;
-    use crate::name::Name;
     use std::test::Fail;
+    use ub_table::Name;
+    use ub_zaddr::Point;
 
     fn plane() -> Result<Schema, PageFault> {
         let columns = [Name::new(b"x")?, Name::new(b"y")?, Name::new(b"m")?];

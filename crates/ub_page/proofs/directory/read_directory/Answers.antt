@@ -1,8 +1,8 @@
 use Rattle.std.proofs.Common.{◌≡◌, ◌∙◌, ap, true, Ok, Result}
 use Rattle.ub_page.specs.Directory.{Listing, directory_page}
-use Rattle.ub_page.specs.declared.fault.PageFault.{PageFault}
 use Rattle.ub_page.proofs.DirectoryFacts.{parts, not_refused, padding_fault}
 use Rattle.ub_page.proofs.directory.read_directory.Goals as goal
+use Rattle.ub_table.specs.declared.fault.PageFault.{PageFault}
 
 pub returns-in_err-directory-clause-exact : goal.returns-in_err-directory-clause-exact
 returns-in_err-directory-clause-exact c = λ listing is e. absurd (not_refused listing c.args.page.now c.args.schema.now.dims c.args.schema.now.counts.few_dims is e _ c.in_err-directory.ensures.refused)

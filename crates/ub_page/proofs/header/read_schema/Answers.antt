@@ -1,8 +1,8 @@
 use Rattle.std.proofs.Common.{◌∙◌, ap, length}
 use Rattle.std.proofs.lemmas.Result.{IfErr-weaker}
-use Rattle.ub_page.specs.Schema.{AreCounts}
 use Rattle.ub_page.proofs.HeaderFacts.{refused_schema, length-names_on}
 use Rattle.ub_page.proofs.header.read_schema.Goals as goal
+use Rattle.ub_table.specs.Schema.{AreCounts}
 
 pub returns-clause-refused : goal.returns-clause-refused
 returns-clause-refused c =

@@ -1,8 +1,9 @@
 use Rattle.std.proofs.Common.{arith}
-use Rattle.ub_page.specs.Region.{measures_of, row_on}
+use Rattle.ub_page.specs.Region.{row_on}
 use Rattle.ub_page.specs.RowBlock.{blank_row}
 use Rattle.ub_page.proofs.PlacesFacts.{block_more}
 use Rattle.ub_page.proofs.region.read_rows.Goals as goal
+use Rattle.ub_table.specs.Region.{measures_of}
 
 pub loop-i-preserved : goal.loop-i-preserved
 loop-i-preserved c =

@@ -1,8 +1,9 @@
 use Rattle.std.proofs.Common.{◌≡◌, ◌∙◌, sym, ap, true, Ok, Result}
-use Rattle.ub_page.specs.Region.{RegionView, IsRegion, region_page, region_on}
-use Rattle.ub_page.specs.declared.fault.PageFault.{PageFault}
+use Rattle.ub_page.specs.Region.{RegionView, region_page, region_on}
 use Rattle.ub_page.proofs.RegionFacts.{parts, is_region, not_refused, padding_fault, same_view}
 use Rattle.ub_page.proofs.region.RegionPage.read.Goals as goal
+use Rattle.ub_table.specs.Region.{IsRegion}
+use Rattle.ub_table.specs.declared.fault.PageFault.{PageFault}
 
 pub returns-in_err-region-clause-exact : goal.returns-in_err-region-clause-exact
 returns-in_err-region-clause-exact c = λ region is e. absurd (not_refused c.args.schema.now region c.args.page.now is e _ c.in_err-region.ensures.refused)

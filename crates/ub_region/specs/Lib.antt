@@ -1,0 +1,4 @@
+pub mod Joins
+pub mod Regions
+pub mod Rows
+pub mod Spans

@@ -1,0 +1,111 @@
+-- The regions of a UB-tree (Bayer 1997): disjoint, in the order of keys, each on one page.
+use Rattle.std.specs.Prelude.{◌≡◌, ◌<◌, ◌↔◌, ℕ, zero, suc, ◌+◌, ◌/◌, nat_lt, nat_le, Bool, false, not, ◌==◌, if◌then◌else◌, List, [], ◌∷◌, ◌++◌, Some, length, map, take, drop, slice_get}
+use Rattle.std.specs.List.{AllByRecursion, Contains, IsDistinct, filter, flat_map}
+use Rattle.std.specs.Bool.{nat_eq}
+use Rattle.ub_table.specs.Keys.{IsBefore, AreKeysAscending, origin, is_before_next}
+use Rattle.ub_table.specs.Region.{Region, IsRegion, key_of, keys_of}
+use Rattle.ub_table.specs.Table.{IsInOrder}
+use Rattle.ub_table.specs.declared.row.Key.{Key}
+use Rattle.ub_table.specs.declared.row.Row.{Row}
+use Rattle.ub_table.specs.declared.schema.Schema.{Schema}
+use Rattle.ub_region.specs.Rows.{Halves, insert_row, has_key, remove_row, split}
+
+abbrev pub firsts_of : List Region → List Key
+firsts_of regions = map (λ region. region.first) regions
+
+-- the rows of all regions, one region after the other
+abbrev pub rows_of : List Region → List Row
+rows_of regions = flat_map (λ region. region.rows) regions
+
+-- each row's key is before the first key of the next region
+abbrev pub AreApart : ℕ → List Region → Type 0
+AreApart dims [] = Unit {0}
+AreApart dims (a ∷ []) = Unit {0}
+AreApart dims (a ∷ b ∷ regions) = AllByRecursion (λ key. IsBefore key b.first) (keys_of dims a.rows) × AreApart dims (b ∷ regions)
+
+-- the regions of a table whose next row has this number
+pub record AreRegions (schema : Schema) (next : ℕ) (regions : List Region) : Type 0 where
+  pub begins : slice_get (firsts_of regions) 0 ≡ Some origin
+  pub ascending : AreKeysAscending (firsts_of regions)
+  pub each : AllByRecursion (IsRegion schema) regions
+  pub apart : AreApart schema.dims regions
+  pub distinct : IsDistinct nat_eq (map (λ row. row.number) (rows_of regions))
+  pub numbered : AllByRecursion (λ row. row.number < next) (rows_of regions)
+
+-- the table's rows: those of the regions, in ascending order of number
+pub record AreTableRows (regions : List Region) (rows : List Row) : Type 0 where
+  pub ascending : IsInOrder rows
+  pub same : (row : Row) → Contains rows row ↔ Contains (rows_of regions) row
+
+-- a table's rows without the one of a number
+abbrev pub without_number : ℕ → List Row → List Row
+without_number number rows = filter (λ row. not (row.number == number)) rows
+
+-- the place of the region that holds a key, of regions with these first keys: the last one that does not begin after it
+abbrev pub place_of : Key → List Key → ℕ
+place_of key [] = 0
+place_of key (first ∷ firsts) = if is_before_next key firsts then 0 else suc (place_of key firsts)
+
+-- the regions, with a change made to those from a place on
+abbrev pub change_from : ℕ → (List Region → List Region) → List Region → List Region
+change_from place change regions = take place regions ++ change (drop place regions)
+
+-- a region of a row more than the c that a page holds becomes two
+abbrev pub two_regions : Key → Halves → List Region
+two_regions first halves = record { first = first; rows = halves.left } ∷ record { first = halves.first; rows = halves.right } ∷ []
+
+abbrev pub split_region : ℕ → ℕ → Region → List Region
+split_region dims c region =
+    if nat_le (length region.rows) c then region ∷ [] else two_regions region.first (split dims c region.rows)
+
+-- the row put into the first region
+abbrev pub insert_first : ℕ → ℕ → Row → List Region → List Region
+insert_first dims c row [] = []
+insert_first dims c row (region ∷ regions) =
+    split_region dims c (record { first = region.first; rows = insert_row dims row region.rows }) ++ regions
+
+-- insertion, where a page holds c rows: the row is put into the region that holds its key
+abbrev pub insert : ℕ → ℕ → Row → List Region → List Region
+insert dims c row regions = change_from (place_of (key_of dims row) (firsts_of regions)) (insert_first dims c row) regions
+
+-- the row of the key taken from the first region
+abbrev pub remove_first : ℕ → Key → List Region → List Region
+remove_first dims key [] = []
+remove_first dims key (region ∷ regions) = record { first = region.first; rows = remove_row dims key region.rows } ∷ regions
+
+-- whether the first region has fewer rows than half a page
+abbrev pub is_small : ℕ → List Region → Bool
+is_small c [] = false
+is_small c (region ∷ regions) = nat_lt (length region.rows) (c / 2)
+
+-- whether the rows of the first two regions fit on one page
+abbrev pub fits_next : ℕ → List Region → Bool
+fits_next c [] = false
+fits_next c (a ∷ []) = false
+fits_next c (a ∷ b ∷ regions) = nat_le (length a.rows + length b.rows) c
+
+-- the first two regions joined
+abbrev pub join_first : List Region → List Region
+join_first [] = []
+join_first (a ∷ []) = a ∷ []
+join_first (a ∷ b ∷ regions) = record { first = a.first; rows = a.rows ++ b.rows } ∷ regions
+
+-- the region at a place joined with the one before it, where there is one and the rows fit on one page
+abbrev pub join_before : ℕ → ℕ → List Region → List Region
+join_before c zero regions = regions
+join_before c (suc place) regions = if fits_next c (drop place regions) then change_from place join_first regions else regions
+
+-- a region with few rows is joined with the one after it, or else with the one before it, where the rows fit on one page
+abbrev pub settle : ℕ → ℕ → List Region → List Region
+settle c place regions =
+    if is_small c (drop place regions)
+    then (if fits_next c (drop place regions) then change_from place join_first regions else join_before c place regions)
+    else regions
+
+-- removal of the row of a key: it is taken from the region that holds the key, which may then have too few rows
+abbrev pub remove_at : ℕ → ℕ → Key → ℕ → List Region → List Region
+remove_at dims c key place regions = settle c place (change_from place (remove_first dims key) regions)
+
+abbrev pub remove : ℕ → ℕ → Key → List Region → List Region
+remove dims c key regions =
+    if has_key dims key (rows_of regions) then remove_at dims c key (place_of key (firsts_of regions)) regions else regions

@@ -1,0 +1,13 @@
+// The regions of a UB-tree (Bayer 1997), without a store: which keys a region holds, where a row goes in, how a region is split
+// and joined (the definitions stand in specs/: `Regions`, `Rows`, `Joins`, `Spans`), and the rows of one region in memory.
+//
+// What belongs here is what is true of regions as lists. Where a region's page is, and how it is read and written, stands
+// above; what names, rows and keys are, below. Nothing in this crate takes memory.
+
+#![tactic(auto)]
+
+pub mod keys;
+pub mod rows;
+
+pub use keys::{first_between, is_equal};
+pub use rows::{Halves, Rows};

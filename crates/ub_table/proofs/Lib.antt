@@ -1,0 +1,4 @@
+pub mod DistinctFacts
+pub mod KeyFacts
+pub mod NameFacts
+pub mod SchemaFacts

@@ -1,0 +1,6 @@
+pub mod Block
+pub mod Keys
+pub mod Name
+pub mod Region
+pub mod Schema
+pub mod Table

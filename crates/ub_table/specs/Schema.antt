@@ -1,0 +1,16 @@
+-- What the columns, dimensions and page rows of a table may be.
+use Rattle.std.specs.Prelude.{◌≢◌, ℕ, ◌+◌, ◌<◌, ◌≤◌, List, length, slice_get}
+use Rattle.ub_table.specs.declared.schema.TheConstants.{MAX_ROWS}
+
+-- the numbers are in range: 1 to 4 dimensions, 0 to 4 measures, 2 to 64 rows on a page
+pub record AreCounts (columns dims page_rows : ℕ) : Type 0 where
+  pub some_dims : 1 ≤ dims
+  pub few_dims : dims ≤ 4
+  pub covers_dims : dims ≤ columns
+  pub few_measures : columns ≤ dims + 4
+  pub some_rows : 2 ≤ page_rows
+  pub few_rows : page_rows ≤ MAX_ROWS
+
+-- no two columns have one name
+abbrev pub AreDistinct : List (List ℕ) → Type 0
+AreDistinct columns = (i j : ℕ) → i < j → j < length columns → slice_get columns i ≢ slice_get columns j

@@ -1,0 +1,96 @@
+ghost use Rattle.std.specs.Prelude.{◌≡◌, ◌+◌, ◌<◌};
+ghost use Rattle.ub_table.specs.Keys.{precedes};
+
+use ub_zaddr::{Point, Shape, interleave};
+
+/// The greatest number that a row can have.
+pub const MAX_ROW_NUMBER: u32 = 16_777_215;
+
+/// One row of a table: its number, from 1 in the order of insertion, its coordinates, and its measures.
+///
+/// Places that the schema does not use are 0.
+#[derive(Clone, Copy, PartialEq, Eq, Debug)]
+pub struct Row {
+    /// The row number, from 1 to `MAX_ROW_NUMBER`.
+    pub number: u32,
+    /// The coordinates, in the order of the columns.
+    pub dims: [u32; 4],
+    /// The values of the measures, in the order of the columns.
+    pub measures: [i64; 4],
+}
+
+/// Where a row stands in the order of the tree: by address, then by row number.
+#[derive(Clone, Copy, PartialEq, Eq, Debug)]
+pub struct Key {
+    /// The row's address.
+    pub z: u128,
+    /// The row number.
+    pub number: u32,
+}
+
+impl Row {
+    ghost use Rattle.std.specs.Prelude.{◌≡◌, ◌+◌, ◌<◌};
+    ghost use Rattle.ub_table.specs.Region.{key_of};
+    ghost use Rattle.ub_table.specs.Table as spec;
+
+    /// The key of this row in a space of this shape: the address of its coordinates, and its number.
+    pub fn key(&self, shape: Shape) -> Key
+        ensures { result ≡ key_of shape self.now }
+    {
+        match Point::new(shape, &self.dims[..shape.dims() as usize]) {
+            Ok(point) => Key {
+                z: interleave(shape, &point),
+                number: self.number,
+            },
+            Err(_) => unreachable!(),
+        }
+    }
+
+    /// The value in a column, from 0, of a table with so many dimensions: coordinates first, then measures.
+    pub fn column_value(&self, dims: u32, column: usize) -> i128
+        requires dims { dims < 5 }
+        requires column { column < dims + 4 }
+        ensures { result ≡ spec.column_value dims self.now column }
+    {
+        let dims = dims as usize;
+        if column < dims {
+            i128::from(self.dims[column])
+        } else {
+            i128::from(self.measures[column - dims])
+        }
+    }
+}
+
+impl Key {
+    /// Whether this key is before the other: by address, then by row number.
+    pub fn is_before(&self, other: &Key) -> bool
+        ensures { result ≡ precedes self.now other.now }
+    {
+        self.z < other.z || (self.z == other.z && self.number < other.number)
+    }
+}
+
+#[cfg(test)]
+mod tests {
+    use super::*;
+
+    #[test]
+    fn orders_keys_and_reads_columns(rt: HostRuntime) {
+        let low = Key { z: 1, number: 9 };
+        let high = Key {
+            z: 1 << 100,
+            number: 1,
+        };
+        assert!(rt; low.is_before(&high) && !high.is_before(&low));
+        assert!(rt; Key { z: 1, number: 8 }.is_before(&low) && !low.is_before(&low));
+        let row = Row {
+            number: 1,
+            dims: [3, 4, 0, 0],
+            measures: [-5, 6, 0, 0],
+        };
+        assert_eq!(rt; row.column_value(2, 0), 3);
+        assert_eq!(rt; row.column_value(2, 1), 4);
+        assert_eq!(rt; row.column_value(2, 2), -5);
+        assert_eq!(rt; row.column_value(2, 3), 6);
+    }
+}
