@@ -1,1 +1,1 @@
-pub mod CacheFacts
+pub mod Lookups

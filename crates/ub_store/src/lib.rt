@@ -6,6 +6,7 @@
 
 #![tactic(auto)]
 
+mod cache;
 pub mod fault;
 pub mod faulty;
 pub mod memory;
@@ -19,3 +20,6 @@ pub use faulty::FaultyStore;
 pub use memory::MemStore;
 pub use pager::Pager;
 pub use store::{MAX_PAGES, PageStore};
+
+/// The bytes of a page.
+pub type Page = [u8; 4096];

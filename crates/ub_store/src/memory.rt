@@ -2,11 +2,11 @@ ghost use Rattle.std.specs.Prelude.{◌≡◌, ◌<◌, ◌≤◌, ◌++◌, ◌
 ghost use Rattle.std.specs.Option.{ok_or};
 ghost use Rattle.ub_store.specs.Facts.{memory_facts, zero_page};
 
+use crate::Page;
 use crate::fault::StoreFault;
 use crate::store::{MAX_PAGES, PageStore};
 use std::alloc::Global;
 use std::marker::Model;
-use ub_page::Page;
 
 /// A store whose pages lie in memory. It is honest and never fails.
 #[derive(Drop)]
@@ -43,8 +43,6 @@ impl PageStore for MemStore {
     ghost facts = { memory_facts };
 
     ghost reads_need_memory = { false };
-
-    ghost can_fail = { false };
 
     fn pages(&self) -> u32
         ensures { result ≡ length self.now }
@@ -84,7 +82,8 @@ impl PageStore for MemStore {
         ensures number { IfOk result (λ n. n ≡ length self.old) }
         ensures room { OnOk result (length self.old < MAX_PAGES) }
         ensures full { IsErrOf result StoreFault.BadSize ↔ (length self.old ≡ MAX_PAGES) }
-        ensures faults { IfErr result (λ fault. (fault ≡ StoreFault.Memory) ⊎ (fault ≡ StoreFault.BadSize)) }
+        ensures faults { IfErr result (λ fault.
+            (fault ≡ StoreFault.Memory) ⊎ (fault ≡ StoreFault.BadSize)) }
         ensures added { OnOk result (self.new ≡ self.old ++ zero_page ∷ []) }
         ensures failed { OnErr result (self.new ≡ self.old) }
     {

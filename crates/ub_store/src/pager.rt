@@ -1,49 +1,51 @@
-ghost use Rattle.std.specs.Prelude.{◌≡◌, ◌<◌, ◌≤◌, ◌⊎◌, ◌++◌, ◌∷◌, [], Err, IfOk, IfErr, IsTrue, OnOk, OnErr, IsErrOf};
-ghost use Rattle.ub_store.specs.Facts.{page_count, raised, zero_page, IsPage, Failed, Unfailed, Keeps, Writes, Spoils, Appends, MayAppend};
-ghost use Rattle.ub_store.specs.View.{pager_view, SameTrace};
+ghost use Rattle.std.specs.Prelude.{◌≡◌, ◌<◌, ◌≤◌, ◌⊎◌, [], Err, None, IfOk, IfErr, IsOk, OnOk, OnErr, IsErrOf, option_map};
+ghost use Rattle.ub_store.specs.Facts.{page_count, IsPage, Reads, WritesAt, Extends, Syncs};
+ghost use Rattle.ub_store.specs.Cache.{page_at, NoneMoreBut, SameBut};
+ghost use Rattle.ub_store.specs.View.{pager_view, Holds, IsCached, Notes, SameTrace};
 
+use crate::Page;
+use crate::cache::Cache;
 use crate::fault::{Rejected, StoreFault};
 use crate::store::{MAX_PAGES, PageStore};
-use lru::LruCache;
 use std::alloc::Global;
 use std::marker::Model;
 use std::num::NonZeroUsize;
-use ub_page::Page;
 
 /// A store behind a cache of the pages last used, with a trace of the region pages that were asked for.
 ///
-/// Which pages the cache holds doesn't show: a fetch gives the same page, cached or not.
+/// A page is brought into the cache, and then lent from there.
 #[derive(Drop)]
 pub struct Pager<S: PageStore> {
     store: S,
-    cache: LruCache<u32, Page>,
+    cache: Cache,
     trace: Vec<u32>,
     fetches: u64,
 }
 
 impl<S: PageStore> Model for Pager<S> {
-    ghost use Rattle.ub_store.specs.View.{PagerView, pager_view};
     ghost use Rattle.ub_store.specs.Cache.{IsCacheOf};
+    ghost use Rattle.ub_store.specs.View.{PagerView, pager_view, holding};
 
     ghost Value = { PagerView };
 
-    ghost view = { λ p. pager_view (S.facts p.store) p.trace.items p.fetches };
+    ghost view = { λ p. holding (pager_view (S.facts p.store) p.trace.items p.fetches) p.cache };
 
-    ghost invariant = { λ p. IsCacheOf (S.facts p.store) p.cache.entries };
+    ghost invariant = { λ p. IsCacheOf (S.facts p.store) p.cache };
 }
 
 impl<S: PageStore> Pager<S> {
-    /// A pager over this store with an empty trace, whose cache holds so many pages. Memory comes where memory was refused; the
-    /// store is then handed back.
+    /// A pager over this store with an empty trace, whose cache holds so many pages, and none yet. Memory comes where memory
+    /// was refused; the store is then handed back.
     pub fn new(
         alloc: Global,
         store: S,
         cache: NonZeroUsize,
     ) -> Result<Pager<S>, Rejected<S, StoreFault>>
         ensures made { IfOk result (λ pager. pager ≡ pager_view (S.facts store) [] 0) }
-        ensures refused { IfErr result (λ refused. (refused.store ≡ store) × (refused.fault ≡ StoreFault.Memory)) }
+        ensures refused { IfErr result (λ refused.
+            (refused.store ≡ store) × (refused.fault ≡ StoreFault.Memory)) }
     {
-        match LruCache::new(alloc, cache) {
+        match Cache::new(alloc, cache) {
             Ok(cache) => Ok(Pager {
                 store,
                 cache,
@@ -71,24 +73,72 @@ impl<S: PageStore> Pager<S> {
         self.trace.as_slice()
     }
 
-    /// The page of this number, noted in the trace first, whether it is cached or not. NoPage comes where there is no such
-    /// page, Device where the store failed in this call, Memory where memory was refused: for the note, and then nothing has
-    /// changed, or for the page.
-    pub fn fetch_region(&mut self, n: u32) -> Result<Page, StoreFault>
-        ensures noted { ((result ≡ Err StoreFault.Memory) × (self.new ≡ self.old)) ⊎ ((self.new.trace ≡ self.old.trace ++ n ∷ []) × (self.new.fetches ≡ raised self.old.fetches 1)) }
-        ensures page { IfOk result (λ page. IsPage self.old.store n page) }
+    /// Brings the page of this number into the cache, noted in the trace first, whether it is cached or not. The faults are
+    /// those of `bring`. Memory comes also where it was refused for the note, and then nothing has changed.
+    pub fn bring_region(&mut self, n: u32) -> Result<(), StoreFault>
+        ensures noted { ((result ≡ Err StoreFault.Memory) × (self.new ≡ self.old))
+            ⊎ Notes n self.old self.new }
+        ensures cached { OnOk result (IsCached self.new n) }
+        ensures hit { IsCached self.old n → OnErr result (self.new ≡ self.old) }
         ensures there { OnOk result (n < page_count self.old.store) }
         ensures missing { IsErrOf result StoreFault.NoPage → page_count self.old.store ≤ n }
-        ensures device { IsErrOf result StoreFault.Device → Failed self.old.store self.new.store }
-        ensures reliable { IsErrOf result StoreFault.Device → IsTrue S.can_fail }
         ensures no_size { ¬ (IsErrOf result StoreFault.BadSize) }
-        ensures kept { Keeps self.old.store self.new.store }
+        ensures effect { Reads self.old.store self.new.store result }
+        ensures others { NoneMoreBut n self.old.cached self.new.cached }
     {
         if self.trace.push(n).is_err() {
             return Err(StoreFault::Memory);
         }
         self.fetches = self.fetches.saturating_add(1);
-        self.fetch(n)
+        self.bring(n)
+    }
+
+    /// Brings the page of this number into the cache. One that is cached is not read again. NoPage comes where there is none,
+    /// Device where the store failed in this call, Memory where memory was refused, for the cache too.
+    pub fn bring(&mut self, n: u32) -> Result<(), StoreFault>
+        ensures trace { SameTrace self.old self.new }
+        ensures cached { OnOk result (IsCached self.new n) }
+        ensures hit { IsCached self.old n → IsOk result }
+        ensures there { OnOk result (n < page_count self.old.store) }
+        ensures missing { IsErrOf result StoreFault.NoPage → page_count self.old.store ≤ n }
+        ensures no_size { ¬ (IsErrOf result StoreFault.BadSize) }
+        ensures effect { Reads self.old.store self.new.store result }
+        ensures others { NoneMoreBut n self.old.cached self.new.cached }
+    {
+        if self.cache.touch(n) {
+            return Ok(());
+        }
+        let page = self.store.read_page(n)?;
+        match self.cache.hold(n, page) {
+            Ok(()) => Ok(()),
+            Err(_) => Err(StoreFault::Memory),
+        }
+    }
+
+    /// The page of this number, which the cache holds.
+    pub fn cached(&self, n: u32) -> &Page
+        requires { IsCached self.now n }
+        ensures held { Holds self.now n result.now }
+        ensures page { IsPage self.now.store n result.now }
+        ensures there { n < page_count self.now.store }
+    {
+        self.cache.get(n).unwrap()
+    }
+
+    /// The page of this number, noted in the trace first, whether it is cached or not. NoPage comes where there is no such
+    /// page, Device where the store failed in this call, Memory where memory was refused: for the note, and then nothing has
+    /// changed, or for the page.
+    pub fn fetch_region(&mut self, n: u32) -> Result<Page, StoreFault>
+        ensures noted { ((result ≡ Err StoreFault.Memory) × (self.new ≡ self.old))
+            ⊎ Notes n self.old self.new }
+        ensures page { IfOk result (λ page. IsPage self.old.store n page) }
+        ensures there { OnOk result (n < page_count self.old.store) }
+        ensures missing { IsErrOf result StoreFault.NoPage → page_count self.old.store ≤ n }
+        ensures no_size { ¬ (IsErrOf result StoreFault.BadSize) }
+        ensures effect { Reads self.old.store self.new.store result }
+    {
+        self.bring_region(n)?;
+        Ok(*self.cached(n))
     }
 
     /// The page of this number. NoPage comes where there is none, Device where the store failed in this call, Memory where
@@ -98,19 +148,11 @@ impl<S: PageStore> Pager<S> {
         ensures page { IfOk result (λ page. IsPage self.old.store n page) }
         ensures there { OnOk result (n < page_count self.old.store) }
         ensures missing { IsErrOf result StoreFault.NoPage → page_count self.old.store ≤ n }
-        ensures device { IsErrOf result StoreFault.Device → Failed self.old.store self.new.store }
-        ensures reliable { IsErrOf result StoreFault.Device → IsTrue S.can_fail }
         ensures no_size { ¬ (IsErrOf result StoreFault.BadSize) }
-        ensures kept { Keeps self.old.store self.new.store }
+        ensures effect { Reads self.old.store self.new.store result }
     {
-        if let Some(page) = self.cache.get(&n) {
-            return Ok(*page);
-        }
-        let page = self.store.read_page(n)?;
-        match self.cache.put(n, page) {
-            Ok(_) => Ok(page),
-            Err(_) => Err(StoreFault::Memory),
-        }
+        self.bring(n)?;
+        Ok(*self.cached(n))
     }
 
     /// Puts a page in the place of that of this number, in the store and in the cache. NoPage comes where there is none, Device
@@ -119,23 +161,21 @@ impl<S: PageStore> Pager<S> {
         ensures trace { SameTrace self.old self.new }
         ensures there { OnOk result (n < page_count self.old.store) }
         ensures missing { IsErrOf result StoreFault.NoPage → page_count self.old.store ≤ n }
-        ensures device { IsErrOf result StoreFault.Device → Failed self.old.store self.new.store }
-        ensures reliable { IsErrOf result StoreFault.Device → IsTrue S.can_fail }
-        ensures faults { IfErr result (λ fault. (fault ≡ StoreFault.Device) ⊎ (fault ≡ StoreFault.NoPage)) }
-        ensures written { OnOk result (Writes n page.now self.old.store self.new.store) }
-        ensures spoiled { OnErr result (Spoils n self.old.store self.new.store) }
+        ensures faults { IfErr result (λ fault.
+            (fault ≡ StoreFault.Device) ⊎ (fault ≡ StoreFault.NoPage)) }
+        ensures effect { WritesAt n page.now self.old.store self.new.store result }
+        ensures renewed { OnOk result (page_at self.new.cached n
+            ≡ option_map (λ _. page.now) (page_at self.old.cached n)) }
+        ensures forgotten { OnErr result (page_at self.new.cached n ≡ None) }
+        ensures others { SameBut n self.old.cached self.new.cached }
     {
         match self.store.write_page(n, page) {
             Ok(()) => {
-                if self.cache.contains(&n) {
-                    let _ = self.cache.put(n, *page);
-                }
+                self.cache.renew(n, page);
                 Ok(())
             }
             Err(fault) => {
-                // Its contract tells the proof that no key stands twice in the cache.
-                let _len = self.cache.len();
-                let _ = self.cache.pop(&n);
+                self.cache.forget(n);
                 Err(fault)
             }
         }
@@ -146,14 +186,12 @@ impl<S: PageStore> Pager<S> {
     /// more or none.
     pub fn extend(&mut self) -> Result<u32, StoreFault>
         ensures trace { SameTrace self.old self.new }
+        ensures cached { self.new.cached ≡ self.old.cached }
         ensures number { IfOk result (λ n. n ≡ page_count self.old.store) }
         ensures room { OnOk result (page_count self.old.store < MAX_PAGES) }
         ensures full { IsErrOf result StoreFault.BadSize → page_count self.old.store ≡ MAX_PAGES }
-        ensures device { IsErrOf result StoreFault.Device → Failed self.old.store self.new.store }
-        ensures reliable { IsErrOf result StoreFault.Device → IsTrue S.can_fail }
         ensures no_page { ¬ (IsErrOf result StoreFault.NoPage) }
-        ensures added { OnOk result (Appends zero_page self.old.store self.new.store) }
-        ensures failed { OnErr result (MayAppend self.old.store self.new.store) }
+        ensures effect { Extends self.old.store self.new.store result }
     {
         self.store.extend()
     }
@@ -161,11 +199,9 @@ impl<S: PageStore> Pager<S> {
     /// Makes what was put last. Device comes where the store failed in this call.
     pub fn sync(&mut self) -> Result<(), StoreFault>
         ensures trace { SameTrace self.old self.new }
-        ensures device { IsErrOf result StoreFault.Device → Failed self.old.store self.new.store }
-        ensures reliable { IsErrOf result StoreFault.Device → IsTrue S.can_fail }
+        ensures cached { self.new.cached ≡ self.old.cached }
         ensures faults { IfErr result (λ fault. fault ≡ StoreFault.Device) }
-        ensures done { OnOk result (Unfailed self.old.store self.new.store) }
-        ensures kept { Keeps self.old.store self.new.store }
+        ensures effect { Syncs self.old.store self.new.store result }
     {
         self.store.sync()
     }

@@ -2,9 +2,10 @@
 // that is told to.
 
 ghost use Rattle.std.specs.Prelude.{◌≡◌, ◌≢◌, ◌<◌, [], Err, Some, length, slice_get, slice_set, IfOk, IsOk, IsOkAnd};
-ghost use Rattle.ub_store.specs.Facts.{IsHonest};
-ghost use Rattle.ub_store.specs.Faulty.{faulty_view};
+ghost use Rattle.ub_store.specs.Facts.{memory_facts, IsHonest};
+ghost use Rattle.ub_store.specs.Faulty.{faulty_facts, faulty_view};
 
+use crate::Page;
 use crate::fault::StoreFault;
 use crate::faulty::FaultyStore;
 use crate::memory::MemStore;
@@ -13,7 +14,6 @@ use crate::store::PageStore;
 use std::alloc::Global;
 use std::num::NonZeroUsize;
 use std::test::Fail;
-use ub_page::Page;
 
 // Over memory a page that is there is read, unless the failure is due.
 fn read_in_memory(store: &mut FaultyStore<MemStore>, n: u32) -> Result<Page, StoreFault>
@@ -55,9 +55,28 @@ fn sync_in_memory(store: &mut FaultyStore<MemStore>) -> Result<(), StoreFault>
 
 // A store in memory with no pages, which fails at its k-th call.
 fn store_failing_at(alloc: Global, k: u64) -> FaultyStore<MemStore>
-    ensures { result ≡ faulty_view [] k 0 }
+    ensures { result ≡ faulty_view [] k 0 0 }
 {
     FaultyStore::new(MemStore::new(alloc), k)
+}
+
+// A store that never fails, over one that fails at its k-th call.
+fn store_over_one_failing_at(alloc: Global, k: u64) -> FaultyStore<FaultyStore<MemStore>>
+    ensures { result ≡ faulty_view (faulty_view [] k 0 0) 0 0 0 }
+{
+    FaultyStore::new(store_failing_at(alloc, k), 0)
+}
+
+// A sync that is due to fail, and then one that isn't, are one failure of a call that isn't a read.
+fn fail_once(store: &mut FaultyStore<MemStore>)
+    requires due { store.old.due ≡ 1 }
+    requires fresh { store.old.writes ≡ 0 }
+    ensures failed { (faulty_facts memory_facts store.new).failed_writes ≡ 1 }
+    ensures reads { store.new.reads ≡ store.old.reads }
+    ensures kept { store.new.inner ≡ store.old.inner }
+{
+    let _ = store.sync();
+    let _ = store.sync();
 }
 
 #[test]
@@ -79,6 +98,35 @@ fn never_fails_at_zero(rt: HostRuntime) -> Result<(), Fail> {
     assert!(rt; store.read_page(0) == Ok([7; 4096]));
     assert!(rt; store.read_page(1) == Err(StoreFault::NoPage));
     assert_eq!(rt; store.sync(), Ok(()));
+    Ok(())
+}
+
+#[test]
+fn passes_each_extension_and_sync_once(rt: HostRuntime) -> Result<(), Fail> {
+    let mut store = store_over_one_failing_at(rt.alloc(), 2);
+    assert_eq!(rt; store.extend(), Ok(0));
+    assert_eq!(rt; store.extend(), Err(StoreFault::Device));
+    assert_eq!(rt; store.extend(), Ok(1));
+    let mut store = store_over_one_failing_at(rt.alloc(), 2);
+    assert_eq!(rt; store.sync(), Ok(()));
+    assert_eq!(rt; store.sync(), Err(StoreFault::Device));
+    assert_eq!(rt; store.sync(), Ok(()));
+    fail_once(&mut store_failing_at(rt.alloc(), 1));
+    Ok(())
+}
+
+#[test]
+fn passes_each_read_and_write_once(rt: HostRuntime) -> Result<(), Fail> {
+    let mut store = store_over_one_failing_at(rt.alloc(), 3);
+    assert_eq!(rt; store.extend(), Ok(0));
+    assert!(rt; store.read_page(0) == Ok([0; 4096]));
+    assert!(rt; store.read_page(0) == Err(StoreFault::Device));
+    assert!(rt; store.read_page(0) == Ok([0; 4096]));
+    let mut store = store_over_one_failing_at(rt.alloc(), 3);
+    assert_eq!(rt; store.extend(), Ok(0));
+    assert_eq!(rt; store.write_page(0, &[7; 4096]), Ok(()));
+    assert_eq!(rt; store.write_page(0, &[8; 4096]), Err(StoreFault::Device));
+    assert!(rt; store.read_page(0) == Ok([7; 4096]));
     Ok(())
 }
 
@@ -136,5 +184,35 @@ fn notes_region_pages_in_order(rt: HostRuntime) -> Result<(), Fail> {
     assert!(rt; pager.trace() == [1, 2, 1].as_slice());
     pager.begin();
     assert!(rt; pager.trace().is_empty());
+    Ok(())
+}
+
+#[test]
+fn brings_a_cached_page_without_a_read(rt: HostRuntime) -> Result<(), Fail> {
+    // Three extensions and one read: the sync is the fifth call.
+    let mut pager = three_pages(rt.alloc(), store_failing_at(rt.alloc(), 5))?;
+    pager.bring(1)?;
+    pager.bring_region(1)?;
+    assert_eq!(rt; pager.sync(), Err(StoreFault::Device));
+    assert!(rt; *pager.cached(1) == [0; 4096]);
+    assert!(rt; pager.trace() == [1].as_slice());
+    Ok(())
+}
+
+// The trace has room from the call before, so what memory is refused for is the page. `tests/store_allocations.sh` makes each
+// allocation of this test fail in turn.
+#[test]
+fn notes_a_page_that_memory_is_refused_for(rt: HostRuntime) -> Result<(), Fail> {
+    let mut pager = three_pages(rt.alloc(), MemStore::new(rt.alloc()))?;
+    pager.bring_region(0)?;
+    pager.begin();
+    let brought = pager.bring_region(1);
+    assert!(rt; pager.trace() == [1].as_slice());
+    if brought.is_err() {
+        assert_eq!(rt; brought, Err(StoreFault::Memory));
+        assert_eq!(rt; pager.bring_region(1), Ok(()));
+        assert!(rt; pager.trace() == [1, 1].as_slice());
+    }
+    assert!(rt; pager.fetch(1)? == [0; 4096]);
     Ok(())
 }

@@ -1,0 +1,23 @@
+-- What is not known of a file of the system.
+use Rattle.std.specs.Prelude.{ℕ, ◌/◌, Bool, false, true, List, [], replicate}
+use Rattle.ub_store.specs.Facts.{StoreFacts}
+
+-- whether a file gives back what was written to it. That it does is a premise: nothing in the language can show it of a file. What
+-- stands here is opened by the proof that a file meets the contract of a medium, and by no other
+unfoldable pub is_honest_file : {F : Type 0} → F → Bool
+is_honest_file file = false
+
+-- so many pages, of which nothing but their number is known
+unfoldable pub unknown_pages : ℕ → List (List ℕ)
+unknown_pages count = replicate count []
+
+-- the facts of a file of so many bytes, and of so many failed reads and other calls
+abbrev pub host_facts : {F : Type 0} → F → ℕ → ℕ → ℕ → StoreFacts
+host_facts file length reads writes = record {
+  honest = is_honest_file file;
+  can_fail = true;
+  pages = unknown_pages (length / 4096);
+  synced = unknown_pages (length / 4096);
+  failed_reads = reads;
+  failed_writes = writes;
+}

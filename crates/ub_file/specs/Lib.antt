@@ -1,0 +1,3 @@
+pub mod Host
+pub mod Medium
+pub mod Memory

@@ -1,0 +1,20 @@
+// Pages of a store in a file.
+//
+// Below the store stands a medium: a length in bytes, and whole pages that are read and written by their place. The store
+// on it is proved over any medium. One medium lies in memory and fails when a test wants it to; the other is a file of the
+// system, and that it gives back what was written to it is a premise.
+
+#![tactic(auto)]
+
+pub mod host;
+pub mod medium;
+pub mod memory;
+pub mod store;
+#[cfg(test)]
+mod tests;
+
+pub use host::HostFile;
+pub use medium::{Medium, PAGE_BYTES};
+pub use memory::MemMedium;
+pub use store::FileStore;
+pub use ub_store::{MAX_PAGES, Page, PageStore, Rejected, StoreFault};
