@@ -1,27 +1,28 @@
 -- What the calls of a tree find on a sound one, and why they are refused.
-use Rattle.std.proofs.Common.{◌⊎◌, inl, inr, ◌≡◌, ℕ, Bool, true, List, ◌∷◌, Some, Result, Ok, Err, IfErr, IsOk, sym, subst, refl, slice_get}
+use Rattle.std.proofs.Common.{◌⊎◌, inl, inr, ◌≡◌, ℕ, Bool, true, IsTrue, List, ◌∷◌, Some, Result, Ok, Err, IfErr, IsOk, sym, subst, refl, slice_get, length, map, ◌≤◌, ◌<◌, arith}
+use Rattle.std.proofs.lemmas.Option.{slice_get_read}
 use Rattle.std.specs.Result.{IsErrAnd, IsErrOf}
 use Rattle.std.specs.List.{Contains}
 use Rattle.ub_zaddr.specs.Address.{last_address}
 use Rattle.ub_page.specs.declared.directory.Entry.{Entry}
-use Rattle.ub_page.specs.declared.fault.PageFault.{PageFault}
-use Rattle.ub_page.specs.declared.schema.Schema.{Schema}
-use Rattle.ub_store.specs.Facts.{StoreFacts, IsHonest, Failed}
-use Rattle.ub_store.specs.View.{PagerView}
+use Rattle.ub_store.specs.Facts.{StoreFacts, IsHonest, IsPage, page_count, counted as counted_there}
+use Rattle.ub_store.specs.View.{PagerView, SameTrace}
 use Rattle.ub_store.specs.declared.fault.StoreFault.{StoreFault}
 use Rattle.ub_store.specs.declared.fault.StoreFault.TheVariants as store
-use Rattle.ub_tree.specs.Calls.{IsReadFault}
-use Rattle.ub_tree.specs.Change.{HasGivenUp, IsChangeFault}
+use Rattle.ub_table.specs.Keys.{are_ascending}
+use Rattle.ub_table.specs.declared.fault.PageFault.{PageFault}
+use Rattle.ub_table.specs.declared.schema.Schema.{Schema}
+use Rattle.ub_tree.specs.Change.{IsWriteFault}
+use Rattle.ub_tree.specs.Effects.{read_store, IsReadFault, IsRegionRefused, IsPageRefused, IsPageMissing, IsSpanFault, HasEnded}
 use Rattle.ub_tree.specs.Faults.{tree_fault}
-use Rattle.ub_tree.specs.Keys.{are_ascending}
-use Rattle.ub_tree.specs.Spans.{first_keys}
+use Rattle.ub_tree.specs.Spans.{first_keys, regions_of}
 use Rattle.ub_tree.specs.Tree.{known_pages, tree_view}
-use Rattle.ub_tree.specs.Placed.{Placed, ArePlaced, placed_of}
+use Rattle.ub_tree.specs.Placed.{Placed, ArePlaced, placed_of, entry_of}
 use Rattle.ub_tree.specs.View.{TreeView, IsSound, spans_of}
 use Rattle.ub_tree.specs.declared.fault.TreeFault.{TreeFault}
 use Rattle.ub_tree.specs.declared.fault.TreeFault.TheVariants.{Page, Store}
 use Rattle.ub_tree.specs.declared.region.Region.{Region as Span}
-use Rattle.ub_tree.proofs.TreeFacts.{IsKnownAt, entry_known, IsKnown, span_known, spans_are}
+use Rattle.ub_tree.proofs.TreeFacts.{IsKnownAt, entry_known, IsKnown, span_known, spans_are, entries_back, span_entry, contained_at}
 
 pub known_is : (facts : StoreFacts) → IsHonest facts → known_pages facts ≡ facts.pages
 known_is facts honest = rw honest refl
@@ -37,24 +38,104 @@ tree_known schema entries chain next rows changed failed pager last span is up s
     let spans = spans_are schema (known_pages pager.store) entries last is in
     span_known schema entries (known_pages pager.store) next last (0 ∷ chain) span up sound.regions_are placed (rw (← spans) at there)
 
-pub page_refused : {T : Type 0} (r : Result T TreeFault) (number : ℕ) (old new : TreeView) → IfErr r (λ fault. (of_page : PageFault) × (fault ≡ Page number of_page))
-    → (IsSound old → IsOk r) → IfErr r (IsReadFault old new)
-page_refused (Ok x) number old new is good = tt
-page_refused (Err e) number old new is good = rw is.1 (λ sound. let bad = good sound in cc)
+-- what a tree's directory tells of a page that was refused, or isn't there
+pub refused_there : (schema : Schema) (entries : List Entry) (chain : List ℕ) (next rows : ℕ) (changed failed : Bool) (pager : PagerView) (e : Entry) (number : ℕ) (page : List ℕ) (fault : PageFault)
+    → Contains entries e → e.page ≡ number → IsPage pager.store number page → IsRegionRefused schema (first_keys entries) e.first page fault
+    → IsPageRefused (tree_view schema entries chain next rows changed failed pager) number fault
+refused_there schema entries chain next rows changed failed pager e number page fault there is at refused =
+    let back = sym (entries_back schema (known_pages pager.store) entries) in
+    (e, subst (λ (es : List Entry). Contains es e) back there, is, page, at, subst (λ (es : List Entry). IsRegionRefused schema (first_keys es) e.first page fault) back refused)
 
-module _ {U : Type 0} (old new : TreeView) where
-  fault_refused : (fault : StoreFault) → (IsErrOf {T = U} (Err fault) store.Device → Failed old.store new.store) → (IsErrOf {T = U} (Err fault) store.NoPage → ¬ (IsSound old))
-      → (¬ (IsErrOf {T = U} (Err fault) store.BadSize)) → IsReadFault old new (tree_fault fault)
+pub missing_there : (schema : Schema) (entries : List Entry) (chain : List ℕ) (next rows : ℕ) (changed failed : Bool) (pager : PagerView) (e : Entry)
+    → Contains entries e → length pager.store.pages ≤ e.page → IsPageMissing (tree_view schema entries chain next rows changed failed pager)
+missing_there schema entries chain next rows changed failed pager e there past =
+    (e, subst (λ (es : List Entry). Contains es e) (sym (entries_back schema (known_pages pager.store) entries)) there, past)
+
+pub listed_there : (schema : Schema) (pages : List (List ℕ)) (entries : List Entry) (place : ℕ) (e : Entry) → slice_get entries place ≡ Some e
+    → (entry : Entry) × Contains (map entry_of (placed_of schema pages entries)) entry × (entry.page ≡ e.page)
+listed_there schema pages entries place e at =
+    (e, subst (λ (es : List Entry). Contains es e) (sym (entries_back schema pages entries)) (contained_at (λ (_ : Entry). Unit {0}) entries place e at), refl)
+
+-- the entry of a region of the tree
+pub span_listed : (schema : Schema) (entries : List Entry) (chain : List ℕ) (next rows : ℕ) (changed failed : Bool) (pager : PagerView) (last : ℕ) (span : Span)
+    → last ≡ last_address schema.dims → Contains (spans_of (tree_view schema entries chain next rows changed failed pager)) span
+    → (e : Entry) × Contains entries e × (e.first ≡ span.first) × (e.page ≡ span.page)
+span_listed schema entries chain next rows changed failed pager last span is there =
+    let found = rw (← spans_are schema (known_pages pager.store) entries last is) at there in
+    let at : slice_get (regions_of last entries) found.0 ≡ Some span = slice_get_read (regions_of last entries) (length (regions_of last entries)) found.0 span refl found.1 (sym found.2) in
+    let entry = span_entry last entries found.0 span at in
+    (entry.0, contained_at (λ (_ : Entry). Unit {0}) entries found.0 entry.0 entry.1, entry.2, entry.3)
+
+-- a fault of a page of this number, of which this is known
+abbrev pub IsTold : ℕ → (PageFault → Type 0) → TreeFault → Type 0
+IsTold number Q fault = (of_page : PageFault) × (fault ≡ Page number of_page) × Q of_page
+
+pub page_refused : {T : Type 0} (Q : PageFault → Type 0) (r : Result T TreeFault) (number : ℕ) (old : TreeView) → IfErr r (IsTold number Q)
+    → (IsSound old → IsOk r) → ((f : PageFault) → Q f → IsPageRefused old number f) → IfErr r (IsReadFault old)
+page_refused Q (Ok x) number old is good told = tt
+page_refused Q (Err e) number old is good told = rw is.1 ((λ sound. let bad = good sound in cc), told is.0 is.2)
+
+pub span_refused : {T : Type 0} (Q : PageFault → Type 0) (r : Result T TreeFault) (span : Span) (old : TreeView) → IfErr r (IsTold span.page Q)
+    → ((f : PageFault) → Q f → IsSpanFault span old (Page span.page f)) → IfErr r (IsSpanFault span old)
+span_refused Q (Ok x) span old is told = tt
+span_refused Q (Err e) span old is told = rw is.1 (told is.0 is.2)
+
+pub span_unread : {T : Type 0} (U : Type 0) (r : Result T TreeFault) (fault : StoreFault) (span : Span) (old : TreeView) → IsErrAnd r (λ e. e ≡ tree_fault fault)
+    → (IsErrOf {T = U} (Err fault) store.Device → IsTrue old.store.can_fail) → (IsErrOf {T = U} (Err fault) store.NoPage → page_count old.store ≤ span.page)
+    → (¬ (IsErrOf {T = U} (Err fault) store.BadSize)) → IfErr r (IsSpanFault span old)
+span_unread U (Ok x) fault span old is device missing size = tt
+span_unread U (Err e) fault span old is device missing size = rw is (by_fault fault device missing size)
+  where
+    by_fault : (fault : StoreFault) → (IsErrOf {T = U} (Err fault) store.Device → IsTrue old.store.can_fail) → (IsErrOf {T = U} (Err fault) store.NoPage → page_count old.store ≤ span.page)
+        → (¬ (IsErrOf {T = U} (Err fault) store.BadSize)) → IsSpanFault span old (tree_fault fault)
+    by_fault store.Device device missing size = device refl
+    by_fault store.NoPage device missing size = missing refl
+    by_fault store.Memory device missing size = tt
+    by_fault store.BadSize device missing size = size refl
+
+module _ {U : Type 0} (old : TreeView) where
+  fault_refused : (fault : StoreFault) → (IsErrOf {T = U} (Err fault) store.Device → IsTrue old.store.can_fail) → (IsErrOf {T = U} (Err fault) store.NoPage → (¬ (IsSound old)) × IsPageMissing old)
+      → (¬ (IsErrOf {T = U} (Err fault) store.BadSize)) → IsReadFault old (tree_fault fault)
   fault_refused store.Device device missing size = device refl
   fault_refused store.NoPage device missing size = missing refl
   fault_refused store.Memory device missing size = tt
   fault_refused store.BadSize device missing size = size refl
 
   pub store_refused : {T : Type 0} (r : Result T TreeFault) (fault : StoreFault) → IsErrAnd r (λ e. e ≡ tree_fault fault)
-      → (IsErrOf {T = U} (Err fault) store.Device → Failed old.store new.store) → (IsErrOf {T = U} (Err fault) store.NoPage → ¬ (IsSound old))
-      → (¬ (IsErrOf {T = U} (Err fault) store.BadSize)) → IfErr r (IsReadFault old new)
+      → (IsErrOf {T = U} (Err fault) store.Device → IsTrue old.store.can_fail) → (IsErrOf {T = U} (Err fault) store.NoPage → (¬ (IsSound old)) × IsPageMissing old)
+      → (¬ (IsErrOf {T = U} (Err fault) store.BadSize)) → IfErr r (IsReadFault old)
   store_refused (Ok x) fault is device missing size = tt
   store_refused (Err e) fault is device missing size = rw is (fault_refused fault device missing size)
+
+-- a store that a call read, by the fault of the store and by that of the tree
+pub read_there : {T : Type 0} (r : Result T TreeFault) (U : Type 0) (fault : StoreFault) (old new : StoreFacts) → IsErrAnd r (λ e. e ≡ tree_fault fault)
+    → new ≡ record old { failed_reads = counted_there {A = U} (Err fault) old.failed_reads } → new ≡ read_store r old
+read_there (Ok x) U fault old new is same = absurd is
+read_there (Err e) U store.Device old new is same = rw is same
+read_there (Err e) U store.NoPage old new is same = rw is same
+read_there (Err e) U store.Memory old new is same = rw is same
+read_there (Err e) U store.BadSize old new is same = rw is same
+
+-- nor was one that was read and then refused its page
+pub read_page : {T : Type 0} (Q : PageFault → Type 0) (r : Result T TreeFault) (number : ℕ) (old new : StoreFacts) → IfErr r (IsTold number Q) → new ≡ old → new ≡ read_store r old
+read_page Q (Ok x) number old new is same = same
+read_page Q (Err e) number old new is same = rw is.1 same
+
+pub read_page_by : {T : Type 0} (Q : PageFault → Type 0) (r : Result T TreeFault) (e : TreeFault) (number : ℕ) (old new : StoreFacts) → IsErrAnd r (λ x. x ≡ e) → IsTold number Q e → new ≡ old
+    → new ≡ read_store r old
+read_page_by Q (Ok x) e number old new is by same = same
+read_page_by Q (Err f) e number old new is by same = rw (is, by.1) same
+
+-- a tree whose store was read alone
+pub read_tree : {T : Type 0} (r : Result T TreeFault) (schema : Schema) (entries : List Entry) (chain : List ℕ) (next rows : ℕ) (changed failed : Bool) (old new : PagerView) → new.store ≡ read_store r old.store
+    → tree_view schema entries chain next rows changed failed new
+    ≡ record (tree_view schema entries chain next rows changed failed old) { store = read_store r old.store; trace = new.trace; fetches = new.fetches }
+read_tree r schema entries chain next rows changed failed old new same = rw same refl
+
+pub searched_tree : {T : Type 0} (r : Result T TreeFault) (schema : Schema) (entries : List Entry) (chain : List ℕ) (next rows : ℕ) (changed failed : Bool) (old new : PagerView) → new.store ≡ read_store r old.store
+    → SameTrace old new
+    → tree_view schema entries chain next rows changed failed new ≡ record (tree_view schema entries chain next rows changed failed old) { store = read_store r old.store }
+searched_tree r schema entries chain next rows changed failed old new same trace = rw (same, trace.0, trace.1) refl
 
 pub tree_entry_known : (schema : Schema) (entries : List Entry) (chain : List ℕ) (next rows : ℕ) (changed failed : Bool) (pager : PagerView) (place : ℕ) (e : Entry)
     → are_ascending (first_keys entries) ≡ true → IsSound (tree_view schema entries chain next rows changed failed pager) → slice_get entries place ≡ Some e
@@ -66,12 +147,24 @@ tree_entry_known schema entries chain next rows changed failed pager place e up 
     entry_known schema entries (known_pages pager.store) next (0 ∷ chain) place e up sound.regions_are placed at
 
 pub write_refused : {U : Type 0} (fault : StoreFault) (old new : TreeView) → (fault ≡ store.Device) ⊎ (fault ≡ store.NoPage)
-    → (IsErrOf {T = U} (Err fault) store.Device → Failed old.store new.store) → (IsErrOf {T = U} (Err fault) store.NoPage → ¬ (IsSound old)) → HasGivenUp old new
-    → IsChangeFault old new (Store fault)
-write_refused fault old new (inl e) device missing given_up = rw e (device (rw e refl), inl given_up)
-write_refused fault old new (inr e) device missing given_up = rw e (missing (rw e refl))
+    → (IsErrOf {T = U} (Err fault) store.Device → IsTrue old.store.can_fail) → (IsErrOf {T = U} (Err fault) store.NoPage → (¬ (IsSound old)) × IsPageMissing old) → HasEnded (Store fault) old new
+    → IsWriteFault old new (Store fault)
+write_refused fault old new (inl e) device missing ended = subst (λ (f : StoreFault). IsWriteFault old new (Store f)) (sym e) (device (rw e refl), subst (λ (f : StoreFault). HasEnded (Store f) old new) e ended)
+write_refused fault old new (inr e) device missing ended =
+    let gone = missing (rw e refl) in
+    subst (λ (f : StoreFault). IsWriteFault old new (Store f)) (sym e) (gone.0, gone.1, subst (λ (f : StoreFault). HasEnded (Store f) old new) e ended)
 
-pub page_refused_by : {T : Type 0} (r : Result T TreeFault) (e : TreeFault) (number : ℕ) (old new : TreeView) → IsErrAnd r (λ x. x ≡ e)
-    → (of_page : PageFault) × (e ≡ Page number of_page) → ¬ (IsSound old) → IfErr r (IsReadFault old new)
-page_refused_by (Ok x) e number old new is by never = tt
-page_refused_by (Err f) e number old new is by never = rw (is, by.1) never
+pub page_refused_by : {T : Type 0} (Q : PageFault → Type 0) (r : Result T TreeFault) (e : TreeFault) (number : ℕ) (old : TreeView) → IsErrAnd r (λ x. x ≡ e)
+    → IsTold number Q e → ¬ (IsSound old) → ((f : PageFault) → Q f → IsPageRefused old number f) → IfErr r (IsReadFault old)
+page_refused_by Q (Ok x) e number old is by never told = tt
+page_refused_by Q (Err f) e number old is by never told = rw (is, by.1) (never, told by.0 by.2)
+
+-- a write that found no page found none where it wrote
+pub past_page : (count page : ℕ) → (count ≡ 0) ⊎ (count ≤ page) → count ≤ page
+past_page count page (inl none) = omega arith
+past_page count page (inr past) = past
+
+pub past_pages : (count number page : ℕ) → number < count → (count ≡ 0) ⊎ (count ≤ number) ⊎ (count ≤ page) → count ≤ page
+past_pages count number page there (inl none) = omega arith
+past_pages count number page there (inr (inl past)) = absurd (omega arith)
+past_pages count number page there (inr (inr past)) = past

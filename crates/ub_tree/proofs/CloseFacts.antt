@@ -1,31 +1,35 @@
 -- What closing a tree writes, page by page.
-use Rattle.std.proofs.Common.{Result, Ok, Err, OnErr, ◌≡◌, ◌≢◌, ◌<◌, ◌≤◌, ◌+◌, ◌-◌, ◌*◌, ◌^◌, inl, inr, ℕ, zero, suc, Bool, false, List, [], ◌∷◌, ◌++◌, Some, length, map, take, drop, nat_eq, ◌∙◌, sym, ap, subst, refl, arith, slice_get, slice_set, slice_index_or, append_assoc}
+use Rattle.std.proofs.Common.{Result, Ok, Err, OnErr, ◌⊎◌, ◌≡◌, ◌≢◌, ◌<◌, ◌≤◌, ◌+◌, ◌-◌, ◌*◌, ◌^◌, inl, inr, ℕ, zero, suc, Bool, true, false, if◌then◌else◌, List, [], ◌∷◌, ◌++◌, Some, length, map, take, drop, nat_eq, ◌∙◌, sym, ap, subst, refl, arith, slice_get, slice_set, slice_index_or, append_assoc}
 use Rattle.std.proofs.lemmas.Bool.{eq-eqb, ne_eqb}
 use Rattle.std.proofs.lemmas.List.{length-map, drop-drop, get_or-drop, length-drop, length-take-le, take_all}
 use Rattle.std.proofs.lemmas.List.Elements.{All-from_recursion, recursion_from_All}
 use Rattle.std.proofs.lemmas.Option.{get_or_from_slice_get, slice_get-get_or, slice_get_within}
 use Rattle.std.proofs.Math.Seq.{drop-cons}
 use Rattle.std.specs.List.{AllByRecursion, IsDistinct}
+use Rattle.std.specs.Result.{IsErrAnd}
 use Rattle.ub_page.specs.Directory.{directory_page}
 use Rattle.ub_page.specs.Header.{IsHeader, header_page}
-use Rattle.ub_page.specs.Name.{IsName}
 use Rattle.ub_page.specs.Region.{region_page}
-use Rattle.ub_page.specs.Schema.{AreCounts}
 use Rattle.ub_page.specs.declared.directory.Entry.{Entry}
 use Rattle.ub_page.specs.declared.header.Header.{Header}
-use Rattle.ub_page.specs.declared.schema.Schema.{Schema}
-use Rattle.ub_store.specs.Facts.{StoreFacts, IsHonest, Keeps, Writes, Appends, MayAppend, page_count}
+use Rattle.ub_region.proofs.KeyLists.{all_more, all_both, all_append, all_left, all_right}
+use Rattle.ub_region.specs.Regions.{AreRegions, rows_of}
+use Rattle.ub_store.specs.Facts.{StoreFacts, IsHonest, MayFlush, WritesAt, Syncs, Appends, page_count}
+use Rattle.ub_store.specs.declared.fault.StoreFault.{StoreFault}
 use Rattle.ub_store.specs.View.{PagerView}
 use Rattle.ub_store.specs.declared.fault.StoreFault.TheVariants as store
-use Rattle.ub_tree.specs.Closing.{levels_for, AreOwn, Grows, KeepsBut, IsOther, AreKept, HasDirectory, IsClosed, IsUnclosed, IsSaveFault, IsCloseFault}
+use Rattle.ub_table.specs.Name.{IsName}
+use Rattle.ub_table.specs.Schema.{AreCounts}
+use Rattle.ub_table.specs.declared.schema.Schema.{Schema}
+use Rattle.ub_tree.specs.Closing.{levels_for, AreOwn, Grows, SameBut, KeepsBut, KeepsFirst, IsUntouched, IsOther, AreKept, HasDirectory, IsClosed, IsUnclosed, IsSaveFault, IsCloseFault}
+use Rattle.ub_tree.specs.Effects.{put_store, written_store}
+use Rattle.ub_tree.specs.Faults.{tree_fault}
 use Rattle.ub_tree.specs.Placed.{Placed, ArePlaced, regions_in, entry_of}
-use Rattle.ub_tree.specs.Regions.{AreRegions, rows_of}
 use Rattle.ub_tree.specs.Stored.{IsChain, AreSoundPages}
 use Rattle.ub_tree.specs.Tree.{tree_view, known_pages}
 use Rattle.ub_tree.specs.View.{TreeView, IsSound}
 use Rattle.ub_tree.specs.declared.fault.TreeFault.{TreeFault}
 use Rattle.ub_tree.specs.declared.fault.TreeFault.TheVariants.{Full, Page, Store, Failed as HasFailed, Memory}
-use Rattle.ub_tree.proofs.KeyLists.{all_more, all_both, all_append, all_left, all_right}
 use Rattle.ub_tree.proofs.TreeFacts.{entries_back}
 
 pub on_err : {T E : Type 0} (r : Result T E) (P : Type 0) → P → OnErr r P
@@ -148,36 +152,67 @@ other_at [] m i n at h = cc
 other_at (x ∷ chain) m zero n at h = let same : x ≡ n = cc in λ e. h.0 (same ∙ sym e)
 other_at (x ∷ chain) m (suc i) n at h = other_at chain m i n at h.1
 
-kept_put : (chain : List ℕ) (a b d : StoreFacts) (i n : ℕ) (page : List ℕ) → KeepsBut chain a b → slice_get chain i ≡ Some n → Writes n page b d → KeepsBut chain a d
-kept_put chain a b d i n page k at w = record {
-  honesty = w.honesty ∙ k.honesty;
-  failures = (let first = k.failures in let second = w.failures in omega arith);
+same_but_trans : (chain : List ℕ) (a b d : List (List ℕ)) → SameBut chain a b → SameBut chain b d → SameBut chain a d
+same_but_trans chain a b d h k = record { count = k.count ∙ h.count; others = λ m other. k.others m other ∙ h.others m other }
+
+-- what lasts after a call that may have synced, where what lasted before is known
+flushed_but : (chain : List ℕ) (a b d : StoreFacts) → MayFlush b d → (b.synced ≡ a.synced) ⊎ SameBut chain a.pages b.synced → SameBut chain a.pages d.pages → (d.synced ≡ a.synced) ⊎ SameBut chain a.pages d.synced
+flushed_but chain a b d (inl same) (inl e) now = inl (same ∙ e)
+flushed_but chain a b d (inl same) (inr k) now = inr (subst (λ (ps : List (List ℕ)). SameBut chain a.pages ps) (sym same) k)
+flushed_but chain a b d (inr same) was now = inr (subst (λ (ps : List (List ℕ)). SameBut chain a.pages ps) (sym same) now)
+
+-- a write of one of these pages more
+pub kept_put : {A : Type 0} (r : Result A StoreFault) (chain : List ℕ) (a b d : StoreFacts) (i n : ℕ) (page : List ℕ) → b.honest ≡ a.honest → KeepsBut chain a b → slice_get chain i ≡ Some n → WritesAt n page b d r
+    → KeepsBut chain a d
+kept_put r chain a b d i n page honesty k at w = record {
   count = w.count ∙ k.count;
-  others = λ honest m other.
-      ap (λ (pages : List (List ℕ)). slice_get pages m) (w.pages (k.honesty ∙ honest)) ∙ put_other b.pages n m page (other_at chain m i n at other) ∙ k.others honest m other;
+  others = others;
+  lasting = λ honest. flushed_but chain a b d w.flushed (k.lasting honest) (record { count = w.count ∙ k.count; others = others honest });
 }
+  where
+    others : IsHonest a → (m : ℕ) → IsOther m chain → slice_get d.pages m ≡ slice_get a.pages m
+    others honest m other = w.others (honesty ∙ honest) m (other_at chain m i n at other) ∙ k.others honest m other
+
+pub kept_same : (chain : List ℕ) (a : StoreFacts) → KeepsBut chain a a
+kept_same chain a = record { count = refl; others = λ honest m other. refl; lasting = λ honest. inl refl }
+
+-- and a sync
+pub kept_sync : {A : Type 0} (r : Result A StoreFault) (chain : List ℕ) (a b d : StoreFacts) → KeepsBut chain a b → Syncs b d r → KeepsBut chain a d
+kept_sync r chain a b d k s =
+    let pages : d.pages ≡ b.pages = ap (λ (f : StoreFacts). f.pages) s.frame in
+    let count : page_count d ≡ page_count a = ap length pages ∙ k.count in
+    record {
+      count = count;
+      others = λ honest m other. ap (λ (ps : List (List ℕ)). slice_get ps m) pages ∙ k.others honest m other;
+      lasting = λ honest. flushed_but chain a b d s.flushed (k.lasting honest) (record {
+        count = count;
+        others = λ m other. ap (λ (ps : List (List ℕ)). slice_get ps m) pages ∙ k.others honest m other;
+      });
+    }
 
 -- what the loop over the pages of a chain keeps
 pub record IsWrittenFrom (chain : List ℕ) (entries : List Entry) (i next : ℕ) (a b : StoreFacts) : Type 0 where
   pub within : i ≤ length chain
+  pub same : b ≡ record a { pages = b.pages; synced = b.synced }
   pub kept : KeepsBut chain a b
   pub next_is : next ≡ slice_index_or (drop i chain) 0 0
   pub directory : (numbers : List ℕ) → IsHonest a → AreOwn (page_count a) chain numbers → i < length chain → IsChain b.pages (drop i chain) (drop (170 * i) entries)
 
 pub written_next : (chain : List ℕ) (entries : List Entry) (i next : ℕ) (a b d : StoreFacts) (part : List Entry) (page : List ℕ) → IsWrittenFrom chain entries i next a b → 0 < i
     → length chain ≡ levels_for (length entries) → 1 ≤ length entries → part ≡ take 170 (drop (170 * (i - 1)) entries) → page ≡ directory_page (record { entries = part; next = next })
-    → slice_index_or chain (i - 1) 0 < page_count b → Writes (slice_index_or chain (i - 1) 0) page b d → IsWrittenFrom chain entries (i - 1) (slice_index_or chain (i - 1) 0) a d
+    → slice_index_or chain (i - 1) 0 < page_count b → WritesAt {A = Unit {0}} (slice_index_or chain (i - 1) 0) page b d (Ok tt) → IsWrittenFrom chain entries (i - 1) (slice_index_or chain (i - 1) 0) a d
 written_next chain entries i next a b d part page h some levels many is spells there w =
     let within = h.within in
     let n = slice_index_or chain (i - 1) 0 in
     let at : slice_get chain (i - 1) ≡ Some n = slice_get-get_or chain (i - 1) 0 (omega arith) in
     record {
       within = omega arith;
-      kept = kept_put chain a b d (i - 1) n page h.kept at w;
+      same = w.frame ∙ ap (λ (s : StoreFacts). record s { pages = d.pages; synced = d.synced }) h.same;
+      kept = kept_put {A = Unit {0}} (Ok tt) chain a b d (i - 1) n page (ap (λ (s : StoreFacts). s.honest) h.same) h.kept at w;
       next_is = sym (get_or-drop (i - 1) chain 0 0 ∙ ap (λ (k : ℕ). slice_index_or chain k 0) (let e : i - 1 + 0 ≡ i - 1 = omega arith in e));
       directory = λ numbers honest own lt.
-          let now : IsHonest b = h.kept.honesty ∙ honest in
-          let pages = w.pages now in
+          let now : IsHonest b = ap (λ (s : StoreFacts). s.honest) h.same ∙ honest in
+          let pages = w.written now in
           chain_step b.pages d.pages chain entries i n next some within levels many at h.next_is
           (ap (λ (ps : List (List ℕ)). slice_get ps n) pages ∙ put_get b.pages n page there ∙ ap (λ (p : List ℕ). Some p) (spells ∙ ap (λ (es : List Entry). directory_page (record { entries = es; next = next })) is))
           (λ m ne. ap (λ (ps : List (List ℕ)). slice_get ps m) pages ∙ put_other b.pages n m page ne)
@@ -185,35 +220,65 @@ written_next chain entries i next a b d part page h some levels many is spells t
     }
 
 pub grows_same : (a : StoreFacts) → Grows a a
-grows_same a = record { honesty = refl; failures = omega arith; more = omega arith; kept = λ honest m lt. refl }
+grows_same a = record { more = omega arith; kept = λ honest m lt. refl; lasting = λ honest. inl refl }
 
 appended_get : (pages : List (List ℕ)) (page : List ℕ) (m : ℕ) → m < length pages → slice_get (pages ++ page ∷ []) m ≡ slice_get pages m
 appended_get [] page m lt = absurd (omega arith)
 appended_get (q ∷ pages) page zero lt = refl
 appended_get (q ∷ pages) page (suc m) lt = appended_get pages page m (omega arith)
 
-pub grows_by : (page : List ℕ) (a b d : StoreFacts) → Grows a b → Appends page b d → Grows a d
-grows_by page a b d g p =
+-- what lasts after pages were added
+flushed_grown : (a b d : StoreFacts) → MayFlush b d → (b.synced ≡ a.synced) ⊎ ((m : ℕ) → m < page_count a → slice_get b.synced m ≡ slice_get a.pages m)
+    → ((m : ℕ) → m < page_count a → slice_get d.pages m ≡ slice_get a.pages m) → (d.synced ≡ a.synced) ⊎ ((m : ℕ) → m < page_count a → slice_get d.synced m ≡ slice_get a.pages m)
+flushed_grown a b d (inl same) (inl e) now = inl (same ∙ e)
+flushed_grown a b d (inl same) (inr k) now = inr (λ m lt. ap (λ (ps : List (List ℕ)). slice_get ps m) same ∙ k m lt)
+flushed_grown a b d (inr same) was now = inr (λ m lt. ap (λ (ps : List (List ℕ)). slice_get ps m) same ∙ now m lt)
+
+pub grows_by : (page : List ℕ) (a b d : StoreFacts) → b.honest ≡ a.honest → Grows a b → MayFlush b d → Appends page b d → Grows a d
+grows_by page a b d honesty g flushed p =
     let more = g.more in
-    let count = p.count in
+    let count = p.0 in
     record {
-      honesty = p.honesty ∙ g.honesty;
-      failures = (let first = g.failures in let second = p.failures in omega arith);
       more = omega arith;
-      kept = λ honest m lt. ap (λ (pages : List (List ℕ)). slice_get pages m) (p.pages (g.honesty ∙ honest)) ∙ appended_get b.pages page m (omega arith) ∙ g.kept honest m lt;
+      kept = kept;
+      lasting = λ honest. flushed_grown a b d flushed (g.lasting honest) (kept honest);
     }
+  where
+    kept : IsHonest a → (m : ℕ) → m < page_count a → slice_get d.pages m ≡ slice_get a.pages m
+    kept honest m lt =
+        let more = g.more in
+        ap (λ (pages : List (List ℕ)). slice_get pages m) (p.1 (honesty ∙ honest)) ∙ appended_get b.pages page m (omega arith) ∙ g.kept honest m lt
 
-grows_keeps : (a b d : StoreFacts) → Grows a b → Keeps b d → Grows a d
-grows_keeps a b d g k = record {
-  honesty = k.honesty ∙ g.honesty;
-  failures = (let first = g.failures in let second = k.failures in omega arith);
-  more = (let more = g.more in let count = k.count in omega arith);
-  kept = λ honest m lt. ap (λ (pages : List (List ℕ)). slice_get pages m) (k.pages (g.honesty ∙ honest)) ∙ g.kept honest m lt;
+pub grows_may : (a b d : StoreFacts) → b.honest ≡ a.honest → Grows a b → MayFlush b d → (d.pages ≡ b.pages) ⊎ ((page : List ℕ) × Appends page b d) → Grows a d
+grows_may a b d honesty g flushed (inl same) = record {
+  more = (let more = g.more in let count = ap length same in omega arith);
+  kept = kept;
+  lasting = λ honest. flushed_grown a b d flushed (g.lasting honest) (kept honest);
 }
+  where
+    kept : IsHonest a → (m : ℕ) → m < page_count a → slice_get d.pages m ≡ slice_get a.pages m
+    kept honest m lt = ap (λ (pages : List (List ℕ)). slice_get pages m) same ∙ g.kept honest m lt
+grows_may a b d honesty g flushed (inr p) = grows_by p.0 a b d honesty g flushed p.1
 
-pub grows_may : (a b d : StoreFacts) → Grows a b → MayAppend b d → Grows a d
-grows_may a b d g (inl k) = grows_keeps a b d g k
-grows_may a b d g (inr p) = grows_by p.0 a b d g p.1
+-- calls that only write, one after the other
+pub then_put : {T : Type 0} (r : Result T TreeFault) (U : Type 0) (fault : StoreFault) (a b d : StoreFacts) → IsErrAnd r (λ e. e ≡ tree_fault fault) → b ≡ record a { pages = b.pages; synced = b.synced }
+    → d ≡ put_store {A = U} (Err fault) b d → d ≡ written_store r a d
+then_put (Ok x) U fault a b d is same put = absurd is
+then_put (Err e) U fault a b d is same put = rw is (put ∙ ap (λ (s : StoreFacts). put_store {A = U} (Err fault) s d) same ∙ by_fault fault)
+  where
+    by_fault : (fault : StoreFault) → put_store {A = U} (Err fault) a d ≡ written_store {A = U} (Err (tree_fault fault)) a d
+    by_fault store.Device = refl
+    by_fault store.NoPage = refl
+    by_fault store.Memory = refl
+    by_fault store.BadSize = refl
+
+pub then_wrote : {T : Type 0} (r : Result T TreeFault) (U : Type 0) (e : TreeFault) (a b d : StoreFacts) → IsErrAnd r (λ x. x ≡ e) → b ≡ record a { pages = b.pages; synced = b.synced }
+    → d ≡ written_store {A = U} (Err e) b d → d ≡ written_store r a d
+then_wrote (Ok x) U e a b d is same wrote = absurd is
+then_wrote (Err f) U e a b d is same wrote = rw is (wrote ∙ ap (λ (s : StoreFacts). written_store {A = U} (Err e) s d) same)
+
+pub then_done : (a b d : StoreFacts) → b ≡ record a { pages = b.pages; synced = b.synced } → d ≡ record b { pages = d.pages; synced = d.synced } → d ≡ record a { pages = d.pages; synced = d.synced }
+then_done a b d same more = more ∙ ap (λ (s : StoreFacts). record s { pages = d.pages; synced = d.synced }) same
 
 -- the pages that are kept: the first and those of the regions
 kept_within : (count : ℕ) (chain numbers : List ℕ) → AreOwn count chain numbers → AllByRecursion (λ m. m < count) (0 ∷ numbers)
@@ -247,14 +312,9 @@ pub kept_but : (chain numbers : List ℕ) (a b : StoreFacts) → KeepsBut chain 
 kept_but chain numbers a b k honest own =
     all_more (λ m. IsOther m chain) (λ m. slice_get b.pages m ≡ slice_get a.pages m) (λ m other. k.others honest m other) (0 ∷ numbers) (kept_apart (page_count a) chain numbers own)
 
-pub kept_all : (numbers : List ℕ) (a b : StoreFacts) → Keeps a b → IsHonest a → AreKept numbers a b
-kept_all [] a b k honest = tt
-kept_all (n ∷ numbers) a b k honest = (ap (λ (pages : List (List ℕ)). slice_get pages n) (k.pages honest), kept_all numbers a b k honest)
-
--- a chain that was grown and then written
-pub kept_written : (chain grown numbers : List ℕ) (a b d : StoreFacts) → Grows a b → KeepsBut grown b d → IsHonest a → AreOwn (page_count a) chain numbers → AreOwn (page_count b) grown numbers → AreKept (0 ∷ numbers) a d
-kept_written chain grown numbers a b d g k honest own now =
-    kept_after (0 ∷ numbers) a b d (kept_grown chain numbers a b g honest own) (kept_but grown numbers b d k (g.honesty ∙ honest) now)
+pub kept_all : (numbers : List ℕ) (a b : StoreFacts) → b.pages ≡ a.pages → AreKept numbers a b
+kept_all [] a b same = tt
+kept_all (n ∷ numbers) a b same = (ap (λ (pages : List (List ℕ)). slice_get pages n) same, kept_all numbers a b same)
 
 -- the first page is none of the directory's and the regions'
 not_first : (count : ℕ) (chain numbers : List ℕ) → AreOwn count chain numbers → AllByRecursion (λ m. IsOther m (0 ∷ [])) (chain ++ numbers)
@@ -265,40 +325,107 @@ not_first count chain numbers own =
 others_kept : (a b : StoreFacts) (ns : List ℕ) → KeepsBut (0 ∷ []) a b → IsHonest a → AllByRecursion (λ m. IsOther m (0 ∷ [])) ns → AreKept ns a b
 others_kept a b ns k honest other = all_more (λ m. IsOther m (0 ∷ [])) (λ m. slice_get b.pages m ≡ slice_get a.pages m) (λ m o. k.others honest m o) ns other
 
--- a write of the first page leaves the directory
-pub directory_kept : (numbers : List ℕ) (entries : List Entry) (root : ℕ) (a b : StoreFacts) → HasDirectory numbers entries root a → KeepsBut (0 ∷ []) a b → IsHonest a → HasDirectory numbers entries root b
-directory_kept numbers entries root a b h k honest = record {
+-- another first page leaves the directory
+pub directory_kept : (numbers : List ℕ) (entries : List Entry) (root : ℕ) (a b : List (List ℕ)) → HasDirectory numbers entries root a → SameBut (0 ∷ []) a b → HasDirectory numbers entries root b
+directory_kept numbers entries root a b h k = record {
   chain = h.chain;
   own = subst (λ (n : ℕ). AreOwn n h.chain numbers) (sym k.count) h.own;
   root_is = h.root_is;
   levels_are = h.levels_are;
-  directory = chain_kept a.pages b.pages h.chain entries
-      (others_kept a b h.chain k honest (all_left (λ m. IsOther m (0 ∷ [])) h.chain numbers (not_first (page_count a) h.chain numbers h.own))) h.directory;
+  directory = chain_kept a b h.chain entries
+      (all_more (λ m. IsOther m (0 ∷ [])) (λ m. slice_get b m ≡ slice_get a m) (λ m o. k.others m o) h.chain
+      (all_left (λ m. IsOther m (0 ∷ [])) h.chain numbers (not_first (length a) h.chain numbers h.own))) h.directory;
 }
 
-pub regions_kept : (numbers : List ℕ) (entries : List Entry) (root : ℕ) (a b d : StoreFacts) → AreKept (0 ∷ numbers) a b → HasDirectory numbers entries root b → KeepsBut (0 ∷ []) b d → IsHonest b → AreKept numbers a d
+pub regions_kept : (numbers : List ℕ) (entries : List Entry) (root : ℕ) (a b d : StoreFacts) → AreKept (0 ∷ numbers) a b → HasDirectory numbers entries root b.pages → KeepsBut (0 ∷ []) b d → IsHonest b → AreKept numbers a d
 regions_kept numbers entries root a b d kept h k honest =
     kept_after numbers a b d kept.1
     (others_kept b d numbers k honest (all_right (λ m. IsOther m (0 ∷ [])) h.chain numbers (not_first (page_count b) h.chain numbers h.own)))
 
-pub unclosed_of : (numbers : List ℕ) (entries : List Entry) (root : ℕ) (a b d : StoreFacts) → AreKept (0 ∷ numbers) a b → HasDirectory numbers entries root b → KeepsBut (0 ∷ []) b d → IsHonest b
-    → IsUnclosed numbers entries a d
-unclosed_of numbers entries root a b d kept h k honest =
-    record { kept = regions_kept numbers entries root a b d kept h k honest; header = inr (root, directory_kept numbers entries root b d h k honest) }
+pages_but : (chain : List ℕ) (a b : StoreFacts) → KeepsBut chain a b → IsHonest a → SameBut chain a.pages b.pages
+pages_but chain a b k honest = record { count = k.count; others = k.others honest }
+
+-- where all that was written lasted, it lasts but for the first page
+synced_but : (a b : StoreFacts) → a.synced ≡ a.pages → (b.synced ≡ a.synced) ⊎ SameBut (0 ∷ []) a.pages b.synced → SameBut (0 ∷ []) a.pages b.synced
+synced_but a b synced (inl e) = subst (λ (ps : List (List ℕ)). SameBut (0 ∷ []) a.pages ps) (sym (e ∙ synced)) (record { count = refl; others = λ m other. refl })
+synced_but a b synced (inr k) = k
+
+pub unclosed_of : (numbers : List ℕ) (entries : List Entry) (root : ℕ) (a b d : StoreFacts) → AreKept (0 ∷ numbers) a b → HasDirectory numbers entries root b.pages → b.synced ≡ b.pages → KeepsBut (0 ∷ []) b d
+    → IsHonest b → IsUnclosed numbers entries a d
+unclosed_of numbers entries root a b d kept h synced k honest = record {
+  kept = regions_kept numbers entries root a b d kept h k honest;
+  header = inr (
+    root,
+    directory_kept numbers entries root b.pages d.pages h (pages_but (0 ∷ []) b d k honest),
+    directory_kept numbers entries root b.pages d.synced h (synced_but b d synced (k.lasting honest)),
+  );
+}
+
+pub unclosed_before : (numbers : List ℕ) (entries : List Entry) (a d : StoreFacts) → IsUntouched numbers a d → IsUnclosed numbers entries a d
+unclosed_before numbers entries a d h = record { kept = h.kept.1; header = inl (h.kept.0, h.first) }
+
+-- the first page that lasts, after calls that leave the first page
+pub first_grown : (a b : StoreFacts) → 0 < page_count a → Grows a b → IsHonest a → KeepsFirst a b
+first_grown a b some g honest = by_lasting (g.lasting honest)
+  where
+    by_lasting : (b.synced ≡ a.synced) ⊎ ((m : ℕ) → m < page_count a → slice_get b.synced m ≡ slice_get a.pages m) → KeepsFirst a b
+    by_lasting (inl e) = inl (ap (λ (ps : List (List ℕ)). slice_get ps 0) e)
+    by_lasting (inr k) = inr (k 0 some)
+
+pub first_kept : (chain : List ℕ) (a b : StoreFacts) → IsOther 0 chain → KeepsBut chain a b → IsHonest a → KeepsFirst a b
+first_kept chain a b other k honest = by_lasting (k.lasting honest)
+  where
+    by_lasting : (b.synced ≡ a.synced) ⊎ SameBut chain a.pages b.synced → KeepsFirst a b
+    by_lasting (inl e) = inl (ap (λ (ps : List (List ℕ)). slice_get ps 0) e)
+    by_lasting (inr h) = inr (h.others 0 other)
+
+first_after : (a b d : StoreFacts) → slice_get b.pages 0 ≡ slice_get a.pages 0 → KeepsFirst a b → KeepsFirst b d → KeepsFirst a d
+first_after a b d same (inl e) (inl f) = inl (f ∙ e)
+first_after a b d same (inr e) (inl f) = inr (f ∙ e)
+first_after a b d same was (inr f) = inr (f ∙ same)
+
+first_synced : (a b : StoreFacts) → MayFlush a b → b.pages ≡ a.pages → KeepsFirst a b
+first_synced a b (inl e) pages = inl (ap (λ (ps : List (List ℕ)). slice_get ps 0) e)
+first_synced a b (inr e) pages = inr (ap (λ (ps : List (List ℕ)). slice_get ps 0) (e ∙ pages))
+
+pub untouched_after : (numbers : List ℕ) (a b d : StoreFacts) → IsUntouched numbers a b → IsUntouched numbers b d → IsUntouched numbers a d
+untouched_after numbers a b d h k = record { kept = kept_after (0 ∷ numbers) a b d h.kept k.kept; first = first_after a b d h.kept.0 h.first k.first }
+
+pub untouched_grown : (chain numbers : List ℕ) (a b : StoreFacts) → Grows a b → IsHonest a → AreOwn (page_count a) chain numbers → IsUntouched numbers a b
+untouched_grown chain numbers a b g honest own = record { kept = kept_grown chain numbers a b g honest own; first = first_grown a b own.within.0 g honest }
+
+-- a chain that was grown and then written
+pub untouched_written : (chain grown numbers : List ℕ) (a b d : StoreFacts) → b.honest ≡ a.honest → Grows a b → KeepsBut grown b d → IsHonest a → AreOwn (page_count a) chain numbers → AreOwn (page_count b) grown numbers
+    → IsUntouched numbers a d
+untouched_written chain grown numbers a b d honesty g k honest own now =
+    untouched_after numbers a b d (untouched_grown chain numbers a b g honest own) (record {
+      kept = kept_but grown numbers b d k (honesty ∙ honest) now;
+      first = first_kept grown b d (kept_apart (page_count b) grown numbers now).0 k (honesty ∙ honest);
+    })
+
+-- and a sync
+pub untouched_synced : {A : Type 0} (r : Result A StoreFault) (numbers : List ℕ) (a b d : StoreFacts) → IsUntouched numbers a b → Syncs b d r → IsUntouched numbers a d
+untouched_synced r numbers a b d h s =
+    let pages = ap (λ (f : StoreFacts). f.pages) s.frame in
+    untouched_after numbers a b d h (record { kept = kept_all (0 ∷ numbers) b d pages; first = first_synced b d s.flushed pages })
 
 root_some : (chain numbers : List ℕ) (root : ℕ) → AllByRecursion (λ m. IsOther m (0 ∷ [])) (chain ++ numbers) → slice_get chain 0 ≡ Some root → 1 ≤ root
 root_some [] numbers root other at = cc
 root_some (x ∷ chain) numbers zero other at = let same : x ≡ 0 = cc in absurd (other.0.0 (sym same))
 root_some (x ∷ chain) numbers (suc root) other at = omega arith
 
-header_in_range : (h : Header) → h.unclean ≡ false → h.rows < h.next → h.next ≤ 16777216 → 1 ≤ h.regions → h.regions < 2 ^ 32 → 1 ≤ h.root → h.root < 2 ^ 32
+flag_small : (b : Bool) → (if b then 1 else 0) ≤ 1
+flag_small true = omega arith
+flag_small false = omega arith
+
+pub header_in_range : (h : Header) → h.rows < h.next → h.next ≤ 16777216 → 1 ≤ h.regions → h.regions < 2 ^ 32 → 1 ≤ h.root → h.root < 2 ^ 32
     → h.levels ≡ levels_for h.regions → IsName h.schema.name → AllByRecursion IsName h.schema.columns → IsHeader h
-header_in_range h clean fewer last some few some_root root levels name columns =
+header_in_range h fewer last some few some_root root levels name columns =
     let counts = h.schema.counts in
     let covers = counts.covers_dims in
     record {
       numbers = record {
-        state = rw clean (omega arith);
+        state = flag_small h.unclean;
         counts = subst (λ (n : ℕ). AreCounts n h.schema.dims h.schema.page_rows)
             (let e : length h.schema.columns ≡ h.schema.dims + (length h.schema.columns - h.schema.dims) = omega arith in e) counts;
         some_next = omega arith;
@@ -313,19 +440,19 @@ header_in_range h clean fewer last some few some_root root levels name columns =
       names = (name, columns);
     }
 
-pub closed_of : (numbers : List ℕ) (entries : List Entry) (a b d : StoreFacts) (h : Header) → AreKept (0 ∷ numbers) a b → HasDirectory numbers entries h.root b → KeepsBut (0 ∷ []) b d → IsHonest b
+pub closed_of : (numbers : List ℕ) (entries : List Entry) (a b d : StoreFacts) (h : Header) → AreKept (0 ∷ numbers) a b → HasDirectory numbers entries h.root b.pages → KeepsBut (0 ∷ []) b d → IsHonest b
     → slice_get d.pages 0 ≡ Some (header_page h) → h.unclean ≡ false → h.regions ≡ length entries → 1 ≤ length entries → length entries < 2 ^ 32 → h.rows < h.next → h.next ≤ 16777216 → h.root < 2 ^ 32
     → h.levels ≡ levels_for h.regions → IsName h.schema.name → AllByRecursion IsName h.schema.columns → IsClosed h.schema h.next h.rows numbers entries a d
 closed_of numbers entries a b d h kept directory k honest spelled clean regions some few fewer last root levels name columns = record {
   header = h;
   spelled = spelled;
-  in_range = header_in_range h clean fewer last (omega arith) (omega arith) (root_some directory.chain numbers h.root (not_first (page_count b) directory.chain numbers directory.own) directory.root_is) root levels name columns;
+  in_range = header_in_range h fewer last (omega arith) (omega arith) (root_some directory.chain numbers h.root (not_first (page_count b) directory.chain numbers directory.own) directory.root_is) root levels name columns;
   clean = clean;
   schema_is = refl;
   next_is = refl;
   rows_are = refl;
   regions_are = regions;
-  directory = directory_kept numbers entries h.root b d directory k honest;
+  directory = directory_kept numbers entries h.root b.pages d.pages directory (pages_but (0 ∷ []) b d k honest);
   kept = regions_kept numbers entries h.root a b d kept directory k honest;
 }
 

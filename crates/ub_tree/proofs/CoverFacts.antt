@@ -1,29 +1,29 @@
 -- The spans of a tree's regions cover all addresses, and each row's address lies in its region's span.
-use Rattle.std.proofs.Common.{◌≡◌, ◌<◌, ◌≤◌, ◌+◌, inl, inr, ℕ, zero, suc, List, [], ◌∷◌, true, Some, length, drop, get_or, ◌∙◌, ap, refl, arith, slice_get, subst}
+use Rattle.std.proofs.Common.{◌≡◌, ◌<◌, ◌≤◌, ◌+◌, ◌⊎◌, inl, inr, ℕ, zero, suc, List, [], ◌∷◌, true, Some, length, drop, get_or, ◌∙◌, ap, refl, arith, slice_get, subst}
 use Rattle.std.proofs.lemmas.Bool.{cases_Bool, cases_lt, and_parts}
 use Rattle.std.proofs.lemmas.Option.{slice_get-get_or, get_or_from_slice_get}
 use Rattle.std.specs.List.{All, AllByRecursion, Contains}
 use Rattle.ub_zaddr.specs.Address.{last_address}
-use Rattle.ub_page.specs.Keys.{IsBefore}
-use Rattle.ub_page.specs.Region.{Region, IsRegion, IsRow, key_of, measures_of}
 use Rattle.ub_page.specs.declared.directory.Entry.{Entry}
-use Rattle.ub_page.specs.declared.row.Key.{Key}
-use Rattle.ub_page.specs.declared.schema.Schema.{Schema}
-use Rattle.ub_tree.specs.Keys.{origin, precedes, are_ascending}
-use Rattle.ub_tree.specs.Regions.{firsts_of, AreRegions, place_of}
-use Rattle.ub_tree.specs.Spans.{address_before, span_end, first_keys, regions_of, ArePlaces}
+use Rattle.ub_region.proofs.ChainFacts.{IsBelow, IsChain, row_first}
+use Rattle.ub_region.proofs.KeyLists.{are_ascending_of, all_both, all_more}
+use Rattle.ub_region.proofs.RowFacts.{all_of_keys}
+use Rattle.ub_region.specs.Regions.{firsts_of, AreRegions, place_of}
+use Rattle.ub_region.specs.Spans.{address_before, span_end}
+use Rattle.ub_table.proofs.KeyFacts.{before_of, before_from, before_parts}
+use Rattle.ub_table.specs.Keys.{IsBefore, origin, precedes, are_ascending}
+use Rattle.ub_table.specs.Region.{Region, IsRegion, IsRow, key_of, measures_of}
+use Rattle.ub_table.specs.declared.row.Key.{Key}
+use Rattle.ub_table.specs.declared.schema.Schema.{Schema}
+use Rattle.ub_tree.specs.Spans.{first_keys, regions_of, ArePlaces}
 use Rattle.ub_tree.specs.declared.region.Region.{Region as Place}
-use Rattle.ub_tree.proofs.KeyFacts.{before_of}
-use Rattle.ub_tree.proofs.KeyLists.{are_ascending_of, all_both, all_more}
-use Rattle.ub_tree.proofs.RowFacts.{all_of_keys}
-use Rattle.ub_tree.proofs.ChainFacts.{IsBelow, IsChain, row_first}
 use Rattle.ub_tree.proofs.SeekFacts.{region_first, region_entry, reaches, begins_by}
 
 -- a key that is before another has an address of the span before it
 pub before_address : (key next : Key) → IsBefore key next → key.z ≤ address_before next.z next.number
-before_address key next before = by_number next.z next.number before
+before_address key next before = by_number next.z next.number (before_parts key next before)
   where
-    by_number : (y n : ℕ) → IsBefore key (record { z = y; number = n }) → key.z ≤ address_before y n
+    by_number : (y n : ℕ) → (key.z < y) ⊎ ((key.z ≡ y) × (key.number < n)) → key.z ≤ address_before y n
     by_number y zero (inl lt) = omega arith
     by_number y zero (inr both) = let none = both.1 in absurd (omega arith)
     by_number y (suc n) (inl lt) = omega arith
@@ -95,27 +95,6 @@ spans_cover last (e ∷ entries) h z le =
     length-first_keys [] = refl
     length-first_keys (x ∷ es) = ap (λ (n : ℕ). suc n) (length-first_keys es)
 
--- the directory of a table's regions
-pub places_of_regions : (schema : Schema) (next : ℕ) (regions : List Region) (entries : List Entry) → AreRegions schema next regions → first_keys entries ≡ firsts_of regions
-    → ArePlaces (last_address schema.dims) entries
-places_of_regions schema next regions entries h same = (
-  ap (λ (keys : List Key). slice_get keys 0) same ∙ h.begins,
-  within (last_address schema.dims) entries regions same h.each,
-  ap are_ascending same ∙ are_ascending_of (firsts_of regions) h.ascending,
-)
-  where
-    within : (last : ℕ) (es : List Entry) (rs : List Region) → first_keys es ≡ firsts_of rs → AllByRecursion (IsRegion schema) rs → All (λ entry. entry.first.z ≤ last_address schema.dims) es
-    within last [] rs e each k d lt = absurd (omega arith)
-    within last (x ∷ es) [] e each k d lt = cc
-    within last (x ∷ es) (r ∷ rs) e each zero d lt =
-        let first : x.first ≡ r.first = cc in
-        let z : x.first.z ≡ r.first.z = ap (λ (key : Key). key.z) first in
-        let most = each.0.first.0 in
-        omega arith
-    within last (x ∷ es) (r ∷ rs) e each (suc k) d lt =
-        let rest : first_keys es ≡ firsts_of rs = cc in
-        within last es rs rest each.1 k d (omega arith)
-
 -- each row's address lies in the span of its region
 pub rows_in_span : (schema : Schema) (last : ℕ) (regions : List Region) (i : ℕ) (region : Region) → IsChain schema regions → last ≡ last_address schema.dims → slice_get regions i ≡ Some region
     → AllByRecursion (λ row. (region.first.z ≤ (key_of schema.dims row).z) × ((key_of schema.dims row).z ≤ span_end last (firsts_of (drop (suc i) regions)))) region.rows
@@ -129,7 +108,7 @@ rows_in_span schema last (r ∷ regions) zero region chain is at =
   where
     from_address : (a b : Key) → ¬ (IsBefore a b) → b.z ≤ a.z
     from_address a b h = elim (cases_lt a.z b.z) [
-      | inl lt ↦ absurd (h (inl lt))
+      | inl lt ↦ absurd (h (before_from a b (inl lt)))
       | inr ge ↦ ge
     ]
 

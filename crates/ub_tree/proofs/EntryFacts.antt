@@ -4,9 +4,9 @@ use Rattle.std.proofs.lemmas.Bool.{and_parts, and_from}
 use Rattle.std.proofs.lemmas.List.Elements.{All-append, All-take, All-drop}
 use Rattle.std.specs.List.{remove}
 use Rattle.ub_page.specs.declared.directory.Entry.{Entry}
-use Rattle.ub_tree.specs.Keys.{origin, precedes, are_ascending}
+use Rattle.ub_table.proofs.KeyFacts.{precedes_trans}
+use Rattle.ub_table.specs.Keys.{origin, precedes, are_ascending}
 use Rattle.ub_tree.specs.Spans.{first_keys, ArePlaces}
-use Rattle.ub_tree.proofs.KeyFacts.{precedes_trans}
 
 -- from one entry on, the first is before the second, and the others are in order
 order_at : (entries : List Entry) (i : ℕ) (d : Entry) → suc i < length entries

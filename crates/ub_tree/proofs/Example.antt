@@ -2,12 +2,12 @@
 use Rattle.std.proofs.Common.{◌≡◌, ℕ, List, [], ◌∷◌, refl, replicate}
 use Rattle.std.specs.Prelude.{pos}
 use Rattle.ub_zaddr.specs.Address.{address, last_address}
-use Rattle.ub_page.specs.Region.{Region}
 use Rattle.ub_page.specs.declared.directory.Entry.{Entry}
-use Rattle.ub_page.specs.declared.row.Key.{Key}
-use Rattle.ub_page.specs.declared.row.Row.{Row}
-use Rattle.ub_tree.specs.Keys.{origin}
-use Rattle.ub_tree.specs.Regions.{insert, remove}
+use Rattle.ub_region.specs.Regions.{insert, remove}
+use Rattle.ub_table.specs.Keys.{origin}
+use Rattle.ub_table.specs.Region.{Region}
+use Rattle.ub_table.specs.declared.row.Key.{Key}
+use Rattle.ub_table.specs.declared.row.Row.{Row}
 use Rattle.ub_tree.specs.Spans.{regions_of}
 use Rattle.ub_tree.specs.declared.region.Region.{Region as Place}
 

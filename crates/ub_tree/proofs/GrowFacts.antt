@@ -1,6 +1,5 @@
 -- A row put into a tree.
-use Rattle.std.proofs.Common.{◌≡◌, ◌≢◌, ◌<◌, ◌≤◌, ◌+◌, ◌-◌, ◌^◌, inl, inr, ℕ, ℤ, pos, zero, suc, Bool, true, false, List, [], ◌∷◌, ◌++◌, Some, Ok, Err, Result, OnOk, length, map, take, drop, replicate, nat_le, ◌∙◌, sym, ap, subst, refl, arith, slice_get, append_assoc, add-one, length-append}
-use Rattle.std.proofs.lemmas.Bool.{lt-leb}
+use Rattle.std.proofs.Common.{◌≡◌, ◌≢◌, ◌<◌, ◌≤◌, ◌+◌, ◌-◌, ◌^◌, ℕ, ℤ, pos, zero, suc, Bool, true, false, List, [], ◌∷◌, ◌++◌, Some, Ok, Err, Result, OnOk, length, map, take, drop, replicate, nat_le, ◌∙◌, sym, ap, subst, refl, arith, slice_get, append_assoc, length-append}
 use Rattle.std.proofs.lemmas.List.{map-append, take-map, drop-map}
 use Rattle.std.proofs.lemmas.List.Elements.{All-append, All-from_recursion}
 use Rattle.std.proofs.Common.{rules}
@@ -10,34 +9,33 @@ use Rattle.std.proofs.lemmas.List.{length-replicate}
 use Rattle.std.proofs.lemmas.List.Sorted.{length_permutation}
 use Rattle.std.specs.Prelude.{FitsSigned}
 use Rattle.std.specs.Int.{w64}
-use Rattle.std.specs.List.{All, AllByRecursion, insert as insert_at}
+use Rattle.std.specs.List.{All, AllByRecursion}
 use Rattle.std.specs.List.Sorted.{IsPermutation}
 use Rattle.ub_zaddr.specs.Address.{last_address}
-use Rattle.ub_page.specs.Region.{Region, IsRegion, IsRow, HasRest, key_of, measures_of}
 use Rattle.ub_page.specs.declared.directory.Entry.{Entry}
-use Rattle.ub_page.specs.declared.row.Key.{Key}
-use Rattle.ub_page.specs.declared.row.Row.{Row}
-use Rattle.ub_page.specs.declared.schema.Schema.{Schema}
-use Rattle.ub_store.specs.Facts.{StoreFacts, IsHonest, Keeps, Rose}
+use Rattle.ub_store.specs.Facts.{IsHonest}
 use Rattle.ub_store.specs.View.{PagerView}
-use Rattle.ub_store.specs.declared.fault.StoreFault.TheVariants as store
-use Rattle.ub_tree.specs.Change.{HasRoom, IsChangeFault, IsStored, IsSplitAt, IsInserted, placed_with, regions_with, row_of, split_of}
-use Rattle.ub_tree.specs.Regions.{AreRegions, firsts_of, insert, place_of, rows_of, split_region}
-use Rattle.ub_tree.specs.Rows.{Halves, insert_row, split}
+use Rattle.ub_tree.specs.Change.{AreRowsAt, HasRoom, IsStored, IsSplitAt, IsInserted, placed_with, regions_with, row_of, split_of}
 use Rattle.ub_tree.specs.Spans.{ArePlaces, first_keys}
 use Rattle.ub_tree.specs.Tree.{known_pages, tree_view}
 use Rattle.ub_tree.specs.Placed.{placed_of, Placed, entry_of, regions_in}
+use Rattle.ub_tree.specs.Stored.{HasMark}
 use Rattle.ub_tree.specs.View.{TreeView, IsSound, regions}
 use Rattle.ub_tree.specs.declared.fault.TreeFault.{TreeFault}
-use Rattle.ub_tree.proofs.CoverFacts.{places_of_regions}
-use Rattle.ub_tree.proofs.InsertFacts.{insert_keeps}
 use Rattle.ub_tree.proofs.TreeFacts.{firsts_back, length-placed}
+use Rattle.ub_tree.proofs.RoomFacts.{room_for}
 use Rattle.ub_tree.proofs.WriteFacts.{stored_of}
-use Rattle.ub_tree.specs.declared.fault.TreeFault.TheVariants.{Full, Page, Store, Failed as HasFailed, Memory}
-use Rattle.std.proofs.Common.{Fits, IfErr, get_or, w32}
+use Rattle.std.proofs.Common.{Fits, get_or, w32}
 use Rattle.std.proofs.lemmas.Grind.{get_or_default_zero}
-use Rattle.std.specs.Result.{IsErrAnd}
-use Rattle.ub_tree.proofs.KeyLists.{all_left, all_right}
+use Rattle.ub_region.proofs.InsertFacts.{insert_keeps}
+use Rattle.ub_region.proofs.KeyLists.{all_left, all_right}
+use Rattle.ub_region.proofs.TableFacts.{insert_table}
+use Rattle.ub_region.specs.Regions.{AreRegions, firsts_of, insert, place_of, rows_of, split_region}
+use Rattle.ub_region.specs.Rows.{Halves, has_key, insert_row, split}
+use Rattle.ub_table.specs.Region.{Region, IsRegion, IsRow, HasRest, key_of, measures_of}
+use Rattle.ub_table.specs.declared.row.Key.{Key}
+use Rattle.ub_table.specs.declared.row.Row.{Row}
+use Rattle.ub_table.specs.declared.schema.Schema.{Schema}
 
 map_with : {X Y : Type 0} (f : X → Y) (n : ℕ) (news xs : List X) → map f (take n xs ++ news ++ drop (suc n) xs) ≡ take n (map f xs) ++ map f news ++ drop (suc n) (map f xs)
 map_with f n news xs =
@@ -136,43 +134,15 @@ module _ (t : TreeView) (row : Row) (place : ℕ) (p : Placed) (sound : IsSound 
       let each : AllByRecursion (IsRegion t.schema) (take place (regions t) ++ news ++ drop (suc place) (regions t)) = subst (AllByRecursion (IsRegion t.schema)) insert_is kept.0.each in
       all_right (IsRegion t.schema) (take place (regions t)) news (all_left (IsRegion t.schema) (take place (regions t) ++ news) (drop (suc place) (regions t)) each)
 
-  -- where the rows are more than a page holds, there is room for the other half
-  pub has_room : c < length rows → (page : ℕ) → ArePlaces (last_address dims) (insert_at (map entry_of t.placed) (place + 1) (record { first = (split dims c rows).first; page = page }))
-  has_room over page =
-      places_of_regions t.schema (t.next + 1) (insert dims c row (regions t)) (insert_at (map entry_of t.placed) (place + 1) x) kept.0 firsts
-    where
-      x : Entry
-      x = record { first = (split dims c rows).first; page = page }
-
-      es : List Entry
-      es = map entry_of t.placed
-
-      twos : List Region
-      twos = record { first = p.region.first; rows = (split dims c rows).left } ∷ record { first = (split dims c rows).first; rows = (split dims c rows).right } ∷ []
-
-      two : news ≡ record { first = p.region.first; rows = (split dims c rows).left } ∷ record { first = (split dims c rows).first; rows = (split dims c rows).right } ∷ []
-      two = rw (lt-leb (length rows) c over) refl
-
-      parts : insert_at (map entry_of t.placed) (place + 1) (record { first = (split dims c rows).first; page = page })
-          ≡ take place (map entry_of t.placed) ++ (entry_of p ∷ record { first = (split dims c rows).first; page = page } ∷ []) ++ drop (suc place) (map entry_of t.placed)
-      parts = rw add-one (inserted_parts (map entry_of t.placed) place (entry_of p) (record { first = (split dims c rows).first; page = page }) (entry_at t.placed place p at))
-
-      firsts : first_keys (insert_at (map entry_of t.placed) (place + 1) (record { first = (split dims c rows).first; page = page })) ≡ firsts_of (insert dims c row (regions t))
-      firsts =
-          ap first_keys parts
-          ∙ map_with (λ (e : Entry). e.first) place (entry_of p ∷ record { first = (split dims c rows).first; page = page } ∷ []) (map entry_of t.placed)
-          ∙ ap (λ (ks : List Key). take place ks ++ (p.region.first ∷ (split dims c rows).first ∷ []) ++ drop (suc place) ks) (firsts_placed t.placed)
-          ∙ sym (map_with (λ (r : Region). r.first) place (record { first = p.region.first; rows = (split dims c rows).left } ∷ record { first = (split dims c rows).first; rows = (split dims c rows).right } ∷ []) (regions t))
-          ∙ ap firsts_of (sym (insert_is ∙ ap (λ (rs : List Region). regions_with place rs (regions t)) two))
-
 -- a row was put into a sound tree
 pub inserted_sound : (a b d : TreeView) (row : Row) → b.schema ≡ a.schema → b.next ≡ a.next → b.rows ≡ a.rows → d ≡ record b { next = b.next + 1; rows = b.rows + 1 }
     → IsSound a → IsRow a.schema.dims (measures_of a.schema) row → row.number ≡ a.next → a.next ≢ 16777216 → IsStored b → regions b ≡ insert a.schema.dims a.schema.page_rows row (regions a) → length b.placed < 2 ^ 32
-    → b.is_changed ≡ true → IsInserted row a d
-inserted_sound a b d row schema next rows changed sound good number more stored are few marked = subst (IsInserted row a) (sym changed) (record {
+    → b.is_changed ≡ true → HasMark b.schema b.store.pages → IsInserted row a d
+inserted_sound a b d row schema next rows changed sound good number more stored are few marked mark = subst (IsInserted row a) (sym changed) (record {
   number = number;
   schema = schema;
   regions_are = are;
+  table = λ old is. rw are (insert_table a.schema a.next row (regions a) old sound.regions_are is good number);
   next = ap (λ (n : ℕ). n + 1) next;
   rows = ap (λ (n : ℕ). n + 1) rows;
   sound = record {
@@ -185,6 +155,7 @@ inserted_sound a b d row schema next rows changed sound good number more stored 
     last_next = (let most = sound.last_next in omega arith);
     few = few;
     closed = λ e. cc;
+    marked = λ _. mark;
   };
 })
   where
@@ -229,7 +200,7 @@ place_moved place key other firsts others same_key same_firsts is = rw (← same
 pub words_of : (xs : List ℕ) → ((i : ℕ) → Fits w32 (get_or xs i 0)) → All (λ x. x < 2 ^ 32) xs
 words_of xs fits k d lt = let fit = fits k in rw (get_or_default_zero xs k d lt) (Fits-lt-pow fit)
 
--- a tree whose store may have changed its cache alone, a new row for it, its place, and the rows that the region there is to have
+-- a tree, a new row for it, its place, and the rows that the region there is to have
 pub record IsReady (b : TreeView) (row : Row) (place : ℕ) (rows : List Row) : Type 0 where
   pub good : IsRow b.schema.dims (measures_of b.schema) row
   pub number : row.number ≡ b.next
@@ -237,13 +208,13 @@ pub record IsReady (b : TreeView) (row : Row) (place : ℕ) (rows : List Row) : 
   pub within : place < length b.placed
   pub rows_are : IsHonest b.store → (p : Placed) → slice_get b.placed place ≡ Some p → rows ≡ insert_row b.schema.dims row p.region.rows
 
-pub ready : (schema : Schema) (entries : List Entry) (chain : List ℕ) (next count : ℕ) (changed failed : Bool) (pager : PagerView) (s : StoreFacts)
+pub ready : (schema : Schema) (entries : List Entry) (chain : List ℕ) (next count : ℕ) (changed failed : Bool) (pager : PagerView)
     (shape place : ℕ) (key : Key) (row : Row) (ds : List ℕ) (ms : List ℤ) (read rows : List Row)
-    → s.honest ≡ pager.store.honest → row ≡ row_of next ds ms → length ds ≡ schema.dims → length ms ≡ measures_of schema → All (λ x. x < 2 ^ 32) ds → AllByRecursion (λ x. FitsSigned w64 x) ms
+    → row ≡ row_of next ds ms → length ds ≡ schema.dims → length ms ≡ measures_of schema → All (λ x. x < 2 ^ 32) ds → AllByRecursion (λ x. FitsSigned w64 x) ms
     → count < next → next ≤ 16777216 → next ≢ 16777216 → key ≡ key_of shape row → shape ≡ schema.dims → place ≡ place_of key (first_keys entries) → place < length entries
     → (IsHonest pager.store → (p : Placed) → slice_get (placed_of schema (known_pages pager.store) entries) place ≡ Some p → read ≡ p.region.rows) → rows ≡ insert_row shape row read
-    → IsReady (record (tree_view schema entries chain next count changed failed pager) { store = s }) row place rows
-ready schema entries chain next count changed failed pager s shape place key row ds ms read rows honest is_row long_dims long_measures words signed fewer most not_last is_key is_shape at_place lt is_read is_rows =
+    → IsReady (tree_view schema entries chain next count changed failed pager) row place rows
+ready schema entries chain next count changed failed pager shape place key row ds ms read rows is_row long_dims long_measures words signed fewer most not_last is_key is_shape at_place lt is_read is_rows =
     let few_dims = schema.counts.few_dims in
     let few = schema.counts.few_measures in
     let covers = schema.counts.covers_dims in
@@ -253,76 +224,26 @@ ready schema entries chain next count changed failed pager s shape place key row
       is = place_moved place key (key_of schema.dims row) (first_keys entries) (firsts_of (regions_in (placed_of schema (known_pages pager.store) entries)))
           (is_key ∙ ap (λ (d : ℕ). key_of d row) is_shape) (sym (firsts_back schema (known_pages pager.store) entries)) at_place;
       within = (let long = length-placed schema (known_pages pager.store) entries in omega arith);
-      rows_are = λ now p there. is_rows ∙ ap (λ (d : ℕ). insert_row d row read) is_shape ∙ ap (insert_row schema.dims row) (is_read (sym honest ∙ now) p there);
+      rows_are = λ now p there. is_rows ∙ ap (λ (d : ℕ). insert_row d row read) is_shape ∙ ap (insert_row schema.dims row) (is_read now p there);
     }
 
-pub room_of : (b : TreeView) (row : Row) (place : ℕ) (rows : List Row) → IsReady b row place rows → b.schema.page_rows < length rows → HasRoom place (split b.schema.dims b.schema.page_rows rows).first b
-room_of b row place rows h over sound page =
+-- a new row's region leaves room for its other half
+pub room_ready : (b : TreeView) (row : Row) (place : ℕ) (read rows : List Row) → IsReady b row place rows → ArePlaces (last_address b.schema.dims) (map entry_of b.placed)
+    → AreRowsAt b.schema (map entry_of b.placed) place read → has_key b.schema.dims (key_of b.schema.dims row) read ≡ false → rows ≡ insert_row b.schema.dims row read → b.schema.page_rows < length rows
+    → HasRoom place (split b.schema.dims b.schema.page_rows rows).first b
+room_ready b row place read rows h places are none made over = λ page.
     let some = some_at b.placed place h.within in
-    let are = h.rows_are sound.honest some.0 some.1 in
-    let here : b.schema.page_rows < length (insert_row b.schema.dims row some.0.region.rows) = subst (λ (rs : List Row). b.schema.page_rows < length rs) are over in
-    rw are (has_room b row place some.0 sound h.good h.number h.is some.1 here page)
-
--- a sound tree's store may be read
-pub keeps_sound : (a : TreeView) (s : StoreFacts) → Keeps a.store s → IsSound a → IsSound (record a { store = s })
-keeps_sound a s kept sound = record {
-  working = sound.working;
-  honest = kept.honesty ∙ sound.honest;
-  regions_are = sound.regions_are;
-  placed_are = rw (kept.pages sound.honest) sound.placed_are;
-  rows_are = sound.rows_are;
-  some_next = sound.some_next;
-  last_next = sound.last_next;
-  few = sound.few;
-  closed = λ e. rw (kept.pages sound.honest) (sound.closed e);
-}
-
-rose_later : (x y z : ℕ) → x ≤ y → Rose y z → Rose x z
-rose_later x y z le (inl lt) = inl (omega arith)
-rose_later x y z le (inr most) = inr most
-
-keeps_trans : (x y z : StoreFacts) → Keeps x y → Keeps y z → Keeps x z
-keeps_trans x y z a b = record {
-  honesty = b.honesty ∙ a.honesty;
-  failures = (let one = a.failures in let two = b.failures in omega arith);
-  count = b.count ∙ a.count;
-  pages = λ honest. b.pages (a.honesty ∙ honest) ∙ a.pages honest;
-}
-
--- a fault of a change that came after a read
-change_later : (a c : TreeView) (s : StoreFacts) (fault : TreeFault) → Keeps a.store s → IsChangeFault (record a { store = s }) c fault → IsChangeFault a c fault
-change_later a c s Full kept h = (h.0, λ sound. let after = h.1 (keeps_sound a s kept sound) in (record { schema = after.0.schema; placed = after.0.placed; rows = after.0.rows; next = after.0.next }, after.1))
-change_later a c s HasFailed kept h = (h.0, λ sound. let after = h.1 (keeps_sound a s kept sound) in (record { schema = after.0.schema; placed = after.0.placed; rows = after.0.rows; next = after.0.next }, after.1))
-change_later a c s Memory kept h = λ sound. let after = h (keeps_sound a s kept sound) in (record { schema = after.0.schema; placed = after.0.placed; rows = after.0.rows; next = after.0.next }, after.1)
-change_later a c s (Page page fault) kept h = λ sound. h (keeps_sound a s kept sound)
-change_later a c s (Store store.Device) kept (rose, inl failed) = (
-  rose_later a.store.failures s.failures c.store.failures kept.failures rose,
-  inl (record { failed = failed.failed; schema = failed.schema; regions = failed.regions; rows = failed.rows }),
-)
-change_later a c s (Store store.Device) kept (rose, inr read) = (
-  rose_later a.store.failures s.failures c.store.failures kept.failures rose,
-  inr (record {
-    same = read.same;
-    pages = keeps_trans a.store s c.store kept read.pages;
-    leaves = λ sound. let after = read.leaves (keeps_sound a s kept sound) in (record { schema = after.0.schema; placed = after.0.placed; rows = after.0.rows; next = after.0.next }, after.1);
-  }),
-)
-change_later a c s (Store store.NoPage) kept h = λ sound. h (keeps_sound a s kept sound)
-change_later a c s (Store store.BadSize) kept h = (h.0, λ sound. let after = h.1 (keeps_sound a s kept sound) in (record { schema = after.0.schema; placed = after.0.placed; rows = after.0.rows; next = after.0.next }, after.1))
-change_later a c s (Store store.Memory) kept h = h
-
-pub insert_refused : {T : Type 0} (r : Result T TreeFault) (a b c : TreeView) (fault : TreeFault) → IsErrAnd r (λ e. e ≡ fault) → b ≡ record a { store = b.store } → Keeps a.store b.store
-    → IsChangeFault b c fault → IfErr r (IsChangeFault a c)
-insert_refused (Ok x) a b c fault is same kept h = tt
-insert_refused (Err e) a b c fault is same kept h = rw is (change_later a c b.store fault kept (subst (λ (t : TreeView). IsChangeFault t c fault) same h))
+    room_for b.schema (map entry_of b.placed) place (entry_of some.0) row read rows are places (entry_at b.placed place some.0 some.1) h.good
+    (h.is ∙ ap (place_of (key_of b.schema.dims row)) (sym (firsts_placed b.placed))) none made over page
 
 -- what an insertion makes of a sound tree
-pub grown : (a b after d : TreeView) (row : Row) (place : ℕ) (rows : List Row) → b ≡ record a { store = b.store } → Keeps a.store b.store → IsReady b row place rows → a.next ≢ 16777216
+pub grown : (a b after d : TreeView) (row : Row) (place : ℕ) (rows : List Row) → b ≡ a → IsReady b row place rows → a.next ≢ 16777216
     → (IsStored b → (p : Placed) → slice_get b.placed place ≡ Some p → AllByRecursion (IsRegion b.schema) (split_of b.schema p.region.first rows)
     → IsStored after × (regions after ≡ regions_with place (split_of b.schema p.region.first rows) (regions b)))
-    → after.schema ≡ b.schema → after.next ≡ b.next → after.rows ≡ b.rows → length after.placed < 2 ^ 32 → after.is_changed ≡ true → d ≡ record after { next = after.next + 1; rows = after.rows + 1 } → IsSound a → IsInserted row a d
-grown a b after d row place rows same kept h not_last written schema next count few marked changed sound_a =
-    let sound : IsSound b = subst IsSound (sym same) (keeps_sound a b.store kept sound_a) in
+    → after.schema ≡ b.schema → after.next ≡ b.next → after.rows ≡ b.rows → length after.placed < 2 ^ 32 → after.is_changed ≡ true
+    → (IsSound b → after.is_changed ≡ true → HasMark b.schema after.store.pages) → d ≡ record after { next = after.next + 1; rows = after.rows + 1 } → IsSound a → IsInserted row a d
+grown a b after d row place rows same h not_last written schema next count few marked marks changed sound_a =
+    let sound : IsSound b = subst IsSound (sym same) sound_a in
     let some = some_at b.placed place h.within in
     let are = h.rows_are sound.honest some.0 some.1 in
     let news = news_are b row place some.0 sound h.good h.number h.is some.1 in
@@ -336,3 +257,4 @@ grown a b after d row place rows same kept h not_last written schema next count 
     ∙ ap (λ (t : TreeView). insert t.schema.dims t.schema.page_rows row (regions t)) same in
     inserted_sound a after d row (schema ∙ schema_b) (next ∙ next_b) (count ∙ rows_b) changed sound_a
     (subst (λ (s : Schema). IsRow s.dims (measures_of s) row) schema_b h.good) (h.number ∙ next_b) not_last both.0 is few marked
+    (subst (λ (s : Schema). HasMark s after.store.pages) (sym schema) (marks sound marked))

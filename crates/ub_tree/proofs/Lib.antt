@@ -1,4 +1,3 @@
-pub mod KeyFacts
 pub mod PlaceFacts
 pub mod SpanFacts
 pub mod SeekFacts
@@ -9,16 +8,9 @@ pub mod RoomFacts
 pub mod WriteFacts
 pub mod GrowFacts
 pub mod StoredFacts
-pub mod SchemaFacts
 pub mod Example
-pub mod KeyLists
-pub mod RowFacts
-pub mod ChainFacts
-pub mod InsertFacts
-pub mod RemoveFacts
 pub mod ShrinkFacts
 pub mod CoverFacts
-pub mod TableFacts
 pub mod EntryFacts
 pub mod CloseFacts
 pub mod OpenFacts

@@ -6,14 +6,15 @@ use Rattle.std.proofs.lemmas.Map.Made.{IsDistinct-from_count}
 use Rattle.std.specs.Bool.{nat_eq}
 use Rattle.std.specs.Cmp.{nat_eq_equiv}
 use Rattle.std.specs.List.{All, IsDistinct}
-use Rattle.ub_page.specs.Region.{Region, IsRegion, region_on, region_page}
-use Rattle.ub_page.specs.declared.row.Row.{Row}
-use Rattle.ub_page.specs.declared.schema.Schema.{Schema}
+use Rattle.ub_page.specs.Region.{region_on, region_page}
+use Rattle.ub_region.specs.Regions.{AreRegions, rows_of}
 use Rattle.ub_store.specs.Facts.{StoreFacts, IsHonest}
 use Rattle.ub_store.specs.View.{PagerView}
+use Rattle.ub_table.specs.Keys.{origin}
+use Rattle.ub_table.specs.Region.{Region, IsRegion}
+use Rattle.ub_table.specs.declared.row.Row.{Row}
+use Rattle.ub_table.specs.declared.schema.Schema.{Schema}
 use Rattle.ub_tree.specs.Calls.{IsCreated}
-use Rattle.ub_tree.specs.Keys.{origin}
-use Rattle.ub_tree.specs.Regions.{AreRegions, rows_of}
 use Rattle.ub_tree.specs.Tree.{known_pages, tree_view, empty_region, IsLaidOut}
 use Rattle.ub_tree.specs.Placed.{Placed, ArePlaced, regions_in, placed_of}
 use Rattle.ub_tree.proofs.CallFacts.{known_is}
@@ -37,14 +38,14 @@ rows_there schema pages n region at back =
 placed_with : ℕ → List Row → List Placed
 placed_with page rows = record { page = page; region = record { first = origin; rows = rows } } ∷ []
 
-pub created : (facts : StoreFacts) (schema : Schema) (pager : PagerView) → pager.store.honest ≡ facts.honest → pager.trace ≡ [] → pager.fetches ≡ 0
+pub created : (facts : StoreFacts) (schema : Schema) (pager : PagerView) → pager.store ≡ record facts { pages = pager.store.pages; synced = pager.store.synced } → pager.trace ≡ [] → pager.fetches ≡ 0
     → (IsHonest facts → IsLaidOut schema pager.store.pages) → IsCreated facts schema (tree_view schema (record { first = origin; page = 1 } ∷ []) (2 ∷ []) 1 0 true false pager)
 unfolding placed_with
-created facts schema pager honest trace fetches laid = record {
+created facts schema pager same trace fetches laid = record {
   schema_is = refl;
   regions_are = λ is. regions is;
   sound = λ is.
-      let now : IsHonest pager.store = honest ∙ is in
+      let now : IsHonest pager.store = ap (λ (s : StoreFacts). s.honest) same ∙ is in
       record {
         working = refl;
         honest = now;
@@ -59,8 +60,9 @@ created facts schema pager honest trace fetches laid = record {
         last_next = omega arith;
         few = omega arith;
         closed = λ e. cc;
+        marked = λ _. (laid is).marked;
       };
-  honest = honest;
+  store_is = same;
   working = refl;
   rows_are = refl;
   next_is = refl;
@@ -68,6 +70,9 @@ created facts schema pager honest trace fetches laid = record {
   fetches_are = fetches;
 }
   where
+    honest : pager.store.honest ≡ facts.honest
+    honest = ap (λ (s : StoreFacts). s.honest) same
+
     rows : IsHonest facts → (region_on schema (slice_index_or (known_pages pager.store) 1 [])).rows ≡ []
     rows is = rw (known_is pager.store (honest ∙ is)) (rows_there schema pager.store.pages 1 empty_region (laid is).spelled (laid is).reads_back)
 

@@ -1,5 +1,5 @@
 -- Reading a directory page by page.
-use Rattle.std.proofs.Common.{◌≡◌, ◌<◌, ◌≤◌, ◌+◌, ◌-◌, ◌*◌, ◌↔◌, ◌&&◌, ◌++◌, inl, inr, ℕ, zero, suc, get_or, Bool, true, false, List, [], ◌∷◌, Some, Result, Ok, Err, IfErr, length, take, drop, ◌∙◌, sym, ap, subst, refl, arith, slice_get, slice_index_or}
+use Rattle.std.proofs.Common.{◌≡◌, ◌<◌, ◌≤◌, ◌+◌, ◌-◌, ◌*◌, ◌↔◌, ◌&&◌, ◌++◌, inl, inr, ℕ, zero, suc, get_or, Bool, true, false, IsTrue, List, [], ◌∷◌, Some, Result, Ok, Err, IfErr, length, take, drop, ◌∙◌, sym, ap, subst, refl, arith, slice_get, slice_index_or}
 use Rattle.std.proofs.lemmas.Bool.{and_parts, cases_eq}
 use Rattle.std.proofs.lemmas.List.{length-append, length-take, length-drop, take-append-le, drop-append-le}
 use Rattle.std.proofs.lemmas.List.Elements.{All-from_recursion}
@@ -9,19 +9,20 @@ use Rattle.ub_zaddr.specs.Address.{last_address}
 use Rattle.ub_page.specs.Directory.{Listing, AreAscending, IsEntry, IsListing, directory_page}
 use Rattle.ub_page.specs.declared.directory.Entry.{Entry}
 use Rattle.ub_page.specs.declared.header.Header.{Header}
-use Rattle.ub_store.specs.Facts as facts
-use Rattle.ub_store.specs.Facts.{StoreFacts, IsHonest, IsPage, Failed, page_count}
+use Rattle.ub_region.proofs.KeyLists.{all_more, all_append}
+use Rattle.ub_store.specs.Facts.{StoreFacts, IsHonest, IsPage, counted, page_count}
+use Rattle.ub_store.specs.View.{PagerView, SameTrace}
 use Rattle.ub_store.specs.declared.fault.StoreFault.{StoreFault}
 use Rattle.ub_store.specs.declared.fault.StoreFault.TheVariants as store
+use Rattle.ub_table.proofs.KeyFacts.{precedes_of}
+use Rattle.ub_table.specs.Keys.{origin, precedes, is_same, are_ascending}
+use Rattle.ub_tree.specs.Effects.{read_store}
 use Rattle.ub_tree.specs.Faults.{tree_fault}
-use Rattle.ub_tree.specs.Keys.{origin, precedes, is_same, are_ascending}
-use Rattle.ub_tree.specs.Opened.{Spells, AreFull, AreBegun, HasPart, IsReadUpTo, IsReadWhole, IsAskedFor, IsRefused, IsOpenFault}
+use Rattle.ub_tree.specs.Opened.{Spells, AreFull, AreBegun, HasPart, IsReadUpTo, IsReadWhole, IsAskedFor, IsOpenFault, IsSamePager, Opens}
 use Rattle.ub_tree.specs.Spans.{ArePlaces, first_keys}
 use Rattle.ub_tree.specs.Stored.{IsChain}
 use Rattle.ub_tree.specs.declared.fault.TreeFault.{TreeFault}
-use Rattle.ub_tree.specs.declared.fault.TreeFault.TheVariants.{Full, Page, Store, Failed as HasFailed, Memory}
-use Rattle.ub_tree.proofs.KeyFacts.{precedes_of}
-use Rattle.ub_tree.proofs.KeyLists.{all_more, all_append}
+use Rattle.ub_tree.proofs.CallFacts.{read_there}
 use Rattle.ub_tree.proofs.TreeFacts.{same_key}
 
 and_true : (b : Bool) → (b && true) ≡ b
@@ -67,54 +68,31 @@ begun_first [] [] d b short up some tells = absurd (omega arith)
 begun_first [] (y ∷ entries) d b short up some tells =
     (λ t. (same_key y.first origin (sym tells ∙ t), ascends (y ∷ entries) up), λ h. tells ∙ rw h.0 refl)
 
--- a page of the directory is as it was in another store's pages
-pub up_to_moved : (a b : StoreFacts) (header : Header) (chain : List ℕ) (entries : List Entry) (n : ℕ) → b.honest ≡ a.honest → (IsHonest a → b.pages ≡ a.pages)
-    → IsReadUpTo a header chain entries n → IsReadUpTo b header chain entries n
-up_to_moved a b header chain entries n honest pages h = record {
-  spelled = λ is. let was : IsHonest a = sym honest ∙ is in ap (λ (ps : List (List ℕ)). slice_get ps 0) (pages was) ∙ h.spelled was;
-  in_range = h.in_range;
-  clean = h.clean;
-  root_is = h.root_is;
-  some_page = h.some_page;
-  small = h.small;
-  full = λ is. let was : IsHonest a = sym honest ∙ is in subst (λ (ps : List (List ℕ)). AreFull header.schema.dims ps chain entries n) (sym (pages was)) (h.full was);
-  each = h.each;
-  begun = h.begun;
-  more = h.more;
+-- a pager whose store was read alone, and the pages that it holds
+pub pager_read : (old new : PagerView) (now : StoreFacts) → new.store ≡ now → SameTrace old new → new ≡ record old { store = now; cached = new.cached }
+pager_read old new now is trace =
+    ap (λ (s : StoreFacts). record new { store = s }) is ∙ ap (λ (ns : List ℕ). record old { store = now; trace = ns; fetches = new.fetches; cached = new.cached }) trace.0
+    ∙ ap (λ (n : ℕ). record old { store = now; fetches = n; cached = new.cached }) trace.1
+
+-- the same effect seen from before a call that changed nothing but the pages held
+opens_from : (T : Type 0) (e : TreeFault) (a b c : PagerView) → IsSamePager a b → Opens {A = T} b c (Err e) → Opens {A = T} a c (Err e)
+opens_from T e a b c same h = record {
+  same = h.same ∙ ap (λ (v : PagerView). record v { store = read_store {A = T} (Err e) v.store; cached = c.cached }) same;
+  faults = subst (λ (s : StoreFacts). IsOpenFault s e) (ap (λ (v : PagerView). v.store) same) h.faults;
 }
 
-module _ (a b : StoreFacts) (kept : facts.Keeps a b) where
-  back : (header : Header) (chain : List ℕ) (entries : List Entry) (n : ℕ) → IsReadUpTo b header chain entries n → IsReadUpTo a header chain entries n
-  back header chain entries n h = up_to_moved b a header chain entries n (sym kept.honesty) (λ is. let was : IsHonest a = sym kept.honesty ∙ is in sym (kept.pages was)) h
+-- the same refusal of another call, and one after calls that changed nothing but the pages held
+pub opens_by : {T U : Type 0} (r : Result T TreeFault) (e : TreeFault) (a b c : PagerView) → IsErrAnd r (λ x. x ≡ e) → IsSamePager a b → Opens {A = U} b c (Err e) → Opens a c r
+opens_by (Ok x) e a b c is same h = absurd is
+opens_by {T = T} (Err f) e a b c is same h = rw is (opens_from T e a b c same (record { same = h.same; faults = h.faults }))
 
-  -- a refusal after calls that changed nothing
-  pub fault_kept : (new : StoreFacts) (fault : TreeFault) → IsOpenFault b new fault → IsOpenFault a new fault
-  fault_kept new Full h = h
-  fault_kept new HasFailed h = h
-  fault_kept new Memory h = h
-  fault_kept new (Store store.Memory) h = h
-  fault_kept new (Store store.BadSize) h = h
-  fault_kept new (Store store.Device) (inl lt) = let more = kept.failures in inl (omega arith)
-  fault_kept new (Store store.Device) (inr e) = inr e
-  fault_kept new (Store store.NoPage) h = let count = kept.count in (h.0, asked h.1, omega (arith, h.2))
-    where
-      asked : IsAskedFor b h.0 → IsAskedFor a h.0
-      asked (inl e) = inl e
-      asked (inr r) = inr (r.0, r.1, r.2, back r.0 r.1 r.2 h.0 r.3)
-  fault_kept new (Page n fault) h =
-      (h.0, λ is. (let now : IsHonest b = kept.honesty ∙ is in ap (λ (ps : List (List ℕ)). slice_get ps n) (sym (kept.pages is)) ∙ h.1 now), refused h.2)
-    where
-      refused : IsRefused b n h.0 fault → IsRefused a n h.0 fault
-      refused (inl e) = inl e
-      refused (inr r) = inr (r.0, r.1, r.2, back r.0 r.1 r.2 n r.3, r.4)
+-- two calls that changed nothing but the pages held
+pub same_pagers : (a b c : PagerView) → IsSamePager a b → IsSamePager b c → IsSamePager a c
+same_pagers a b c one two = two ∙ ap (λ (v : PagerView). record v { cached = c.cached }) one
 
-  pub if_fault_kept : {T : Type 0} (r : Result T TreeFault) (e : TreeFault) (new : StoreFacts) → IsErrAnd r (λ x. x ≡ e) → IsOpenFault b new e → IfErr r (IsOpenFault a new)
-  if_fault_kept (Ok x) e new is h = tt
-  if_fault_kept (Err f) e new is h = rw is (fault_kept new e h)
-
-module _ {U : Type 0} (old new : StoreFacts) (n : ℕ) where
-  fault_refused : (fault : StoreFault) → (IsErrOf {T = U} (Err fault) store.Device → Failed old new) → (IsErrOf {T = U} (Err fault) store.NoPage → page_count old ≤ n)
-      → (¬ (IsErrOf {T = U} (Err fault) store.BadSize)) → IsAskedFor old n → IsOpenFault old new (tree_fault fault)
+module _ {U : Type 0} (old new : PagerView) (n : ℕ) where
+  fault_refused : (fault : StoreFault) → (IsErrOf {T = U} (Err fault) store.Device → IsTrue old.store.can_fail) → (IsErrOf {T = U} (Err fault) store.NoPage → page_count old.store ≤ n)
+      → (¬ (IsErrOf {T = U} (Err fault) store.BadSize)) → IsAskedFor old.store n → IsOpenFault old.store (tree_fault fault)
   fault_refused store.Device device missing size asked = device refl
   fault_refused store.NoPage device missing size asked = (n, asked, missing refl)
   fault_refused store.Memory device missing size asked = tt
@@ -122,10 +100,17 @@ module _ {U : Type 0} (old new : StoreFacts) (n : ℕ) where
 
   -- a page could not be fetched
   pub fetch_refused : {T : Type 0} (r : Result T TreeFault) (fault : StoreFault) → IsErrAnd r (λ e. e ≡ tree_fault fault)
-      → (IsErrOf {T = U} (Err fault) store.Device → Failed old new) → (IsErrOf {T = U} (Err fault) store.NoPage → page_count old ≤ n)
-      → (¬ (IsErrOf {T = U} (Err fault) store.BadSize)) → IsAskedFor old n → IfErr r (IsOpenFault old new)
-  fetch_refused (Ok x) fault is device missing size asked = tt
-  fetch_refused (Err e) fault is device missing size asked = rw is (fault_refused fault device missing size asked)
+      → new.store ≡ record old.store { failed_reads = counted {A = U} (Err fault) old.store.failed_reads } → SameTrace old new
+      → (IsErrOf {T = U} (Err fault) store.Device → IsTrue old.store.can_fail) → (IsErrOf {T = U} (Err fault) store.NoPage → page_count old.store ≤ n)
+      → (¬ (IsErrOf {T = U} (Err fault) store.BadSize)) → IsAskedFor old.store n → Opens old new r
+  fetch_refused r fault is same trace device missing size asked = record {
+    same = pager_read old new (read_store r old.store) (read_there r U fault old.store new.store is same) trace;
+    faults = refused r is;
+  }
+    where
+      refused : {T : Type 0} (r : Result T TreeFault) → IsErrAnd r (λ e. e ≡ tree_fault fault) → IfErr r (IsOpenFault old.store)
+      refused (Ok x) is = tt
+      refused (Err e) is = rw is (fault_refused fault device missing size asked)
 
 -- a list of no more than so many
 take_all : {X : Type 0} (k : ℕ) (xs : List X) → length xs ≤ k → take k xs ≡ xs
@@ -241,6 +226,7 @@ module _ (old : StoreFacts) (header : Header) (chain : List ℕ) (entries : List
       record {
         places = places;
         regions_are = omega arith;
+        root_is = h.root_is;
         some_chain = omega arith;
         directory = λ is. (
             let levels = h.in_range.numbers.levels in
@@ -261,11 +247,11 @@ module _ (old : StoreFacts) (header : Header) (chain : List ℕ) (entries : List
       }
 
   module _ (chain_now : List ℕ) (entries_now : List Entry) (next : ℕ) (chain_is : chain_now ≡ chain ++ n ∷ []) (entries_are : entries_now ≡ entries ++ part.entries) where
-    pub part_read : (new : StoreFacts) → facts.Keeps old new → next ≡ part.next → length entries + 170 < header.regions
+    pub part_read : (new : StoreFacts) → new ≡ old → next ≡ part.next → length entries + 170 < header.regions
         → IsReadUpTo new header chain_now entries_now next × (length entries_now ≡ length entries + 170)
-    part_read new kept next_is more =
+    part_read new same next_is more =
         let done = part_full more in
-        rw (chain_is, entries_are, next_is) (up_to_moved old new header (chain ++ n ∷ []) (entries ++ part.entries) part.next kept.honesty kept.pages done.0, done.1)
+        rw (chain_is, entries_are, next_is) (subst (λ (s : StoreFacts). IsReadUpTo s header (chain ++ n ∷ []) (entries ++ part.entries) part.next) (sym same) done.0, done.1)
 
     pub part_read_last : header.regions ≤ length entries + 170 → IsReadWhole old header chain_now entries_now
     part_read_last last = rw (chain_is, entries_are) (part_whole last)

@@ -12,39 +12,40 @@ use Rattle.ub_page.proofs.DirectoryFacts as directory
 use Rattle.ub_page.proofs.HeaderFacts as headers
 use Rattle.ub_page.proofs.RegionFacts as region_pages
 use Rattle.ub_page.specs.Directory.{Listing, AreAscending, IsEntry, IsListing, directory_page}
-use Rattle.ub_page.specs.Header.{IsHeader, AreSame, header_page}
-use Rattle.ub_page.specs.Region.{IsRegion, region_page}
+use Rattle.ub_page.specs.Header.{IsHeader, AreSame, IsHeaderFault, header_page}
+use Rattle.ub_page.specs.Region.{region_page}
 use Rattle.ub_page.specs.declared.directory.Entry.{Entry}
-use Rattle.ub_page.specs.declared.fault.PageFault.{PageFault}
-use Rattle.ub_page.specs.declared.fault.PageFault.TheVariants.{WrongKind, Unclean, BadCount, BadName, BadRow, BadOrder, OutOfRegion, BadPadding}
 use Rattle.ub_page.specs.declared.header.Header.{Header}
-use Rattle.ub_page.specs.declared.row.Key.{Key}
-use Rattle.ub_page.specs.declared.schema.Schema.{Schema}
-use Rattle.ub_store.specs.Facts as facts
+use Rattle.ub_page.specs.Bytes.{number_at}
+use Rattle.ub_region.proofs.KeyLists.{all_more, all_left, all_right, all_take, all_drop, are_ascending_of}
+use Rattle.ub_region.specs.Regions.{firsts_of}
 use Rattle.ub_store.specs.Facts.{StoreFacts, IsHonest, page_count}
-use Rattle.ub_store.specs.View.{PagerView, pager_view, SameTrace}
+use Rattle.ub_store.specs.View.{PagerView, pager_view}
 use Rattle.ub_store.specs.declared.fault.StoreFault.TheVariants as store
-use Rattle.ub_tree.specs.Keys.{origin, are_ascending}
-use Rattle.ub_tree.specs.Opened.{IsDirectory, IsOpened, Spells, AreFull, AreBegun, HasPart, IsMisfit, IsPartFault, IsReadUpTo, IsReadWhole, IsOpenFault}
+use Rattle.ub_table.proofs.KeyFacts.{before_of}
+use Rattle.ub_table.proofs.SchemaFacts.{same_schema}
+use Rattle.ub_table.specs.Keys.{origin, are_ascending}
+use Rattle.ub_table.specs.Region.{IsRegion}
+use Rattle.ub_table.specs.declared.fault.PageFault.TheVariants.{WrongKind, Unclean, BadCount, BadName, BadRow, BadOrder, OutOfRegion, BadPadding}
+use Rattle.ub_table.specs.declared.fault.PageFault.{PageFault}
+use Rattle.ub_table.specs.declared.row.Key.{Key}
+use Rattle.ub_table.specs.declared.schema.Schema.{Schema}
+use Rattle.ub_tree.specs.Opened.{IsDirectory, IsOpened, Spells, AreFull, AreBegun, HasPart, IsMisfit, IsPartFault, IsReadUpTo, IsReadWhole, IsOpenFault, IsMarkFault, IsPassing, IsSamePager}
 use Rattle.ub_tree.specs.Placed.{Placed, ArePlaced, placed_of, regions_in, entry_of}
-use Rattle.ub_tree.specs.Regions.{firsts_of}
 use Rattle.ub_tree.specs.Spans.{ArePlaces, first_keys}
-use Rattle.ub_tree.specs.Stored.{IsChain, AreSoundPages}
+use Rattle.ub_tree.specs.Stored.{IsChain, AreSoundPages, HasMark}
 use Rattle.ub_tree.specs.Tree.{known_pages, tree_view}
 use Rattle.ub_tree.specs.View.{TreeView, IsSound}
 use Rattle.ub_tree.specs.declared.fault.TreeFault.{TreeFault}
 use Rattle.ub_tree.specs.declared.fault.TreeFault.TheVariants.{Full, Page, Store, Failed as HasFailed, Memory}
 use Rattle.ub_tree.proofs.CallFacts.{known_is}
-use Rattle.ub_tree.proofs.KeyFacts.{before_of}
-use Rattle.ub_tree.proofs.KeyLists.{all_more, all_left, all_right, all_take, all_drop, are_ascending_of}
-use Rattle.ub_tree.proofs.SchemaFacts.{same_schema}
 use Rattle.ub_tree.proofs.StoredFacts.{IsTold, IsSpelled, placed_told}
 use Rattle.ub_tree.proofs.TreeFacts.{entries_back}
 
 -- what is made of a table that was read
 pub opened : (first : StoreFacts) (header : Header) (chain : List ℕ) (entries : List Entry) (pager now : PagerView) → pager ≡ pager_view first [] 0 → IsReadWhole pager.store header chain entries
-    → facts.Keeps pager.store now.store → SameTrace pager now → IsOpened first (tree_view header.schema entries chain header.next header.rows false false now)
-opened first header chain entries pager now made whole kept trace =
+    → IsSamePager pager now → IsOpened first (tree_view header.schema entries chain header.next header.rows false false now)
+opened first header chain entries pager now made whole kept =
     let store_is : pager.store ≡ first = ap (λ (p : PagerView). p.store) made in
     let found = subst (λ (s : StoreFacts). IsReadWhole s header chain entries) store_is whole in
     record {
@@ -59,9 +60,9 @@ opened first header chain entries pager now made whole kept trace =
       next_is = refl;
       unchanged = refl;
       working = refl;
-      pages = subst (λ (s : StoreFacts). facts.Keeps s now.store) store_is kept;
-      trace_is = trace.0 ∙ ap (λ (p : PagerView). p.trace) made;
-      fetches_are = trace.1 ∙ ap (λ (p : PagerView). p.fetches) made;
+      store_is = ap (λ (p : PagerView). p.store) kept ∙ store_is;
+      trace_is = ap (λ (p : PagerView). p.trace) kept ∙ ap (λ (p : PagerView). p.trace) made;
+      fetches_are = ap (λ (p : PagerView). p.fetches) kept ∙ ap (λ (p : PagerView). p.fetches) made;
     }
 
 some_same : {X : Type 0} (o : Option X) (x y : X) → o ≡ Some x → o ≡ Some y → x ≡ y
@@ -293,7 +294,7 @@ module _ (pages : List (List ℕ)) (small : length pages < 2 ^ 32) (a b : Header
       let there = subst (λ (d : ℕ). (few : d ≤ 4) → AreListed d few pages full all) (sym one_header.dims) (λ few. here) a.schema.counts.few_dims in
       listed_same a.schema.dims a.schema.counts.few_dims pages chain full entries all (directory_listed pages small a chain entries h) there (h.root_is ∙ ap (λ (n : ℕ). Some n) one_header.root ∙ sym k.root_is)
 
-module _ (old new : StoreFacts) (honest : IsHonest old) (small : page_count old < 2 ^ 32) (b : Header) (full : List ℕ) (all : List Entry) (k : IsDirectory old.pages b full all) where
+module _ (old : StoreFacts) (honest : IsHonest old) (small : page_count old < 2 ^ 32) (b : Header) (full : List ℕ) (all : List Entry) (k : IsDirectory old.pages b full all) where
   module _ (a : Header) (done : List ℕ) (entries : List Entry) (n : ℕ) (h : IsReadUpTo old a done entries n) where
     same : AreSame a b
     same = headers_same old.pages a b (h.spelled honest) h.in_range h.clean k.spelled k.in_range k.clean
@@ -323,7 +324,7 @@ module _ (old new : StoreFacts) (honest : IsHonest old) (small : page_count old 
         part_not_refused a.schema.dims a.schema.counts.few_dims old.pages entries (a.regions - length entries) n page fault fits_there at bad.0 bad.1 bad.2 bad.3
 
   -- a store with a directory is not refused but for want of memory, or where the device failed
-  pub not_refused : (fault : TreeFault) → IsOpenFault old new fault → (fault ≡ Memory) ⊎ (fault ≡ Store store.Device)
+  pub not_refused : (fault : TreeFault) → IsOpenFault old fault → (fault ≡ Memory) ⊎ (fault ≡ Store store.Device)
   not_refused Full h = absurd h
   not_refused HasFailed h = absurd h
   not_refused Memory h = inl refl
@@ -339,6 +340,45 @@ module _ (old new : StoreFacts) (honest : IsHonest old) (small : page_count old 
       let first : slice_get old.pages 0 ≡ Some page = ap (slice_get old.pages) (sym e.0) ∙ at honest in
       absurd (headers.not_refused b page k.in_range k.clean (some_same (slice_get old.pages 0) page (header_page b) first k.spelled) fault e.1)
   not_refused (Page n fault) (page, at, inr r) = absurd (never_part r.0 r.1 r.2 n r.3 page fault (at honest) r.4)
+
+-- the first page of a table that is marked as changed is refused
+module _ (old : StoreFacts) (honest : IsHonest old) (schema : Schema) (mark : HasMark schema old.pages) where
+  mark_parts : headers.HasParts mark.1.0 mark.0
+  mark_parts = headers.parts mark.1.0 mark.0 mark.1.1.in_range mark.1.2
+
+  mark_state : number_at 1 5 mark.0 ≡ 1
+  mark_state = ap (λ n. n.state) mark_parts.numbers ∙ rw mark.1.1.unclean refl
+
+  pub never_clean : (h : Header) → slice_get old.pages 0 ≡ Some (header_page h) → IsHeader h → h.unclean ≡ false → ⊥
+  never_clean h at is clean =
+      let page = some_same (slice_get old.pages 0) mark.0 (header_page h) mark.2 at in
+      let state : number_at 1 5 mark.0 ≡ 0 = ap (λ n. n.state) (headers.parts h mark.0 is page).numbers ∙ rw clean refl in
+      let on = mark_state in
+      absurd (omega arith)
+
+  mark_fault : (fault : PageFault) → IsHeaderFault mark.0 fault → fault ≡ Unclean
+  mark_fault WrongKind h = absurd (h mark_parts.kind)
+  mark_fault Unclean h = refl
+  mark_fault BadCount h = absurd (h.1 mark_state)
+  mark_fault BadName h = absurd (h.1 mark_state)
+  mark_fault BadPadding h = absurd (h.1 mark_state)
+  mark_fault BadRow h = absurd h
+  mark_fault BadOrder h = absurd h
+  mark_fault OutOfRegion h = absurd h
+
+  pub mark_refused : (fault : TreeFault) → IsOpenFault old fault → IsMarkFault fault
+  mark_refused Full h = absurd h
+  mark_refused HasFailed h = absurd h
+  mark_refused Memory h = tt
+  mark_refused (Store store.Memory) h = absurd h
+  mark_refused (Store store.BadSize) h = absurd h
+  mark_refused (Store store.Device) h = tt
+  mark_refused (Store store.NoPage) (n, inl e, past) = let some = slice_get_within old.pages 0 mark.0 mark.2 in absurd (omega arith)
+  mark_refused (Store store.NoPage) (n, inr r, past) = absurd (never_clean r.0 (r.3.spelled honest) r.3.in_range r.3.clean)
+  mark_refused (Page n fault) (page, at, inl e) =
+      let first : slice_get old.pages 0 ≡ Some page = ap (slice_get old.pages) (sym e.0) ∙ at honest in
+      (e.0, mark_fault fault (subst (λ (p : List ℕ). IsHeaderFault p fault) (some_same (slice_get old.pages 0) page mark.0 first mark.2) e.1))
+  mark_refused (Page n fault) (page, at, inr r) = absurd (never_clean r.0 (r.3.spelled honest) r.3.in_range r.3.clean)
 
 -- the pages of a closed table tell of a directory
 module _ (pages : List (List ℕ)) (small : length pages < 2 ^ 32) (schema : Schema) (placed : List Placed) (next : ℕ) (s : AreSoundPages pages schema placed next) where
@@ -411,10 +451,10 @@ view_with schema placed chain next rows pager = record {
 
 -- opening a closed table gives a sound tree of its regions
 module _ (first : StoreFacts) (honest : IsHonest first) (small : page_count first < 2 ^ 32) (header : Header) (chain : List ℕ) (entries : List Entry) (h : IsDirectory first.pages header chain entries) (now : PagerView)
-    (kept : facts.Keeps first now.store) (schema : Schema) (placed : List Placed) (next : ℕ) (s : AreSoundPages first.pages schema placed next) where
+    (kept : now.store ≡ first) (schema : Schema) (placed : List Placed) (next : ℕ) (s : AreSoundPages first.pages schema placed next) where
   sound_view : IsSound (view_with schema placed s.chain next s.header.rows now)
   sound_view =
-      let pages : now.store.pages ≡ first.pages = kept.pages honest in
+      let pages : now.store.pages ≡ first.pages = ap (λ (s : StoreFacts). s.pages) kept in
       let next_is = s.next_is in
       let some = s.in_range.numbers.some_next in
       let most = s.in_range.numbers.last_next in
@@ -422,7 +462,7 @@ module _ (first : StoreFacts) (honest : IsHonest first) (small : page_count firs
       let count = s.regions_are in
       record {
         working = refl;
-        honest = kept.honesty ∙ honest;
+        honest = ap (λ (s : StoreFacts). s.honest) kept ∙ honest;
         regions_are = s.well_formed;
         placed_are = subst (λ (ps : List (List ℕ)). ArePlaced schema placed (0 ∷ s.chain) ps) (sym pages) s.placed_are;
         rows_are = s.rows_are;
@@ -430,6 +470,7 @@ module _ (first : StoreFacts) (honest : IsHonest first) (small : page_count firs
         last_next = omega arith;
         few = omega arith;
         closed = λ _. subst (λ (ps : List (List ℕ)). AreSoundPages ps schema placed next) (sym pages) s;
+        marked = λ e. cc;
       }
 
   pub opened_sound : IsSound (tree_view header.schema entries chain header.next header.rows false false now) × (header.schema ≡ schema)
@@ -439,7 +480,7 @@ module _ (first : StoreFacts) (honest : IsHonest first) (small : page_count firs
       let same = one_header first.pages small header s.header chain s.chain entries (map entry_of placed) h there in
       let one = one_directory first.pages small header s.header chain s.chain entries (map entry_of placed) h there in
       let schema_is : header.schema ≡ schema = same_schema header.schema s.header.schema same.name same.columns same.dims same.page_rows ∙ s.schema_is in
-      let known : known_pages now.store ≡ first.pages = known_is now.store (kept.honesty ∙ honest) ∙ kept.pages honest in
+      let known : known_pages now.store ≡ first.pages = known_is now.store (ap (λ (s : StoreFacts). s.honest) kept ∙ honest) ∙ ap (λ (s : StoreFacts). s.pages) kept in
       let placed_is : placed_of header.schema (known_pages now.store) entries ≡ placed =
       ap (λ (x : Schema). placed_of x (known_pages now.store) entries) schema_is ∙ ap (λ (ps : List (List ℕ)). placed_of schema ps entries) known
       ∙ ap (placed_of schema first.pages) one.1 ∙ placed_back first.pages small schema placed next s in
@@ -457,16 +498,27 @@ module _ (first : StoreFacts) (small : page_count first < 2 ^ 32) (pager : Pager
   store_is : pager.store ≡ first
   store_is = ap (λ (p : PagerView). p.store) made
 
-  pub sound_by : (header : Header) (chain : List ℕ) (entries : List Entry) (now : PagerView) → IsReadWhole pager.store header chain entries → facts.Keeps pager.store now.store
+  pub sound_by : (header : Header) (chain : List ℕ) (entries : List Entry) (now : PagerView) → IsReadWhole pager.store header chain entries → IsSamePager pager now
       → (schema : Schema) (placed : List Placed) (next : ℕ) → IsHonest first → AreSoundPages first.pages schema placed next
       → IsSound (tree_view header.schema entries chain header.next header.rows false false now) × (header.schema ≡ schema)
       × (placed_of header.schema (known_pages now.store) entries ≡ placed) × (header.next ≡ next)
   sound_by header chain entries now whole kept schema placed next honest s =
       let found = subst (λ (s : StoreFacts). IsReadWhole s header chain entries) store_is whole in
-      let keeps = subst (λ (s : StoreFacts). facts.Keeps s now.store) store_is kept in
-      opened_sound first honest small header chain entries (found.directory honest) now keeps schema placed next s
+      opened_sound first honest small header chain entries (found.directory honest) now (ap (λ (p : PagerView). p.store) kept ∙ store_is) schema placed next s
 
-  pub exact_by : (new : StoreFacts) (fault : TreeFault) → IsOpenFault pager.store new fault → (header : Header) (chain : List ℕ) (entries : List Entry) → IsHonest first
+  pub exact_by : (fault : TreeFault) → IsOpenFault pager.store fault → (header : Header) (chain : List ℕ) (entries : List Entry) → IsHonest first
       → IsDirectory first.pages header chain entries → (fault ≡ Memory) ⊎ (fault ≡ Store store.Device)
-  exact_by new fault h header chain entries honest k =
-      not_refused first new honest small header chain entries k fault (subst (λ (s : StoreFacts). IsOpenFault s new fault) store_is h)
+  exact_by fault h header chain entries honest k =
+      not_refused first honest small header chain entries k fault (subst (λ (s : StoreFacts). IsOpenFault s fault) store_is h)
+
+  pub sound_refused : (fault : TreeFault) → IsOpenFault pager.store fault → (schema : Schema) (placed : List Placed) (next : ℕ) → IsHonest first → AreSoundPages first.pages schema placed next → IsPassing fault
+  sound_refused fault h schema placed next honest s =
+      exact_by fault h s.header s.chain (map entry_of placed) honest (directory_of first.pages small schema placed next s)
+
+  pub unclean_by : (fault : TreeFault) → IsOpenFault pager.store fault → (schema : Schema) → IsHonest first → HasMark schema first.pages → IsMarkFault fault
+  unclean_by fault h schema honest mark = mark_refused first honest schema mark fault (subst (λ (s : StoreFacts). IsOpenFault s fault) store_is h)
+
+  pub never_whole : (header : Header) (chain : List ℕ) (entries : List Entry) → IsReadWhole pager.store header chain entries → (schema : Schema) → IsHonest first → HasMark schema first.pages → ⊥
+  never_whole header chain entries whole schema honest mark =
+      let found = (subst (λ (s : StoreFacts). IsReadWhole s header chain entries) store_is whole).directory honest in
+      never_clean first honest schema mark header found.spelled found.in_range found.clean

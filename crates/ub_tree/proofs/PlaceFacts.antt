@@ -2,15 +2,14 @@
 use Rattle.std.proofs.Common.{◌≡◌, ◌<◌, ◌≤◌, ◌+◌, ℕ, zero, suc, List, [], ◌∷◌, true, false, Some, length, ◌∙◌, sym, ap, refl, arith, slice_get, inl, inr, ◌↔◌, get_or, subst}
 use Rattle.std.proofs.lemmas.List.{length-map}
 use Rattle.std.proofs.lemmas.Bool.{cases_Bool, cases_eq, cases_lt}
-use Rattle.ub_page.specs.declared.row.Key.{Key}
-use Rattle.ub_tree.specs.Keys.{precedes, are_ascending}
 use Rattle.std.proofs.lemmas.Option.{slice_get-map, slice_get_read}
 use Rattle.std.specs.Option.{option_map}
-use Rattle.ub_page.specs.Keys.{IsBefore}
 use Rattle.ub_page.specs.declared.directory.Entry.{Entry}
-use Rattle.ub_tree.specs.Regions.{place_of}
+use Rattle.ub_region.specs.Regions.{place_of}
+use Rattle.ub_table.proofs.KeyFacts.{ascending_get, before_of, precedes_of, precedes_trans}
+use Rattle.ub_table.specs.Keys.{IsBefore, precedes, are_ascending}
+use Rattle.ub_table.specs.declared.row.Key.{Key}
 use Rattle.ub_tree.specs.Spans.{first_keys}
-use Rattle.ub_tree.proofs.KeyFacts.{ascending_get, before_of, precedes_of, precedes_trans}
 
 -- a key is before none of the first keys up to a place, and before all those from there on
 pub record IsParted (key : Key) (firsts : List Key) (low high : ℕ) : Type 0 where

@@ -1,13 +1,31 @@
--- Where a region can stand among the others.
-use Rattle.std.proofs.Common.{◌≡◌, ◌<◌, ◌≤◌, ◌+◌, ◌↔◌, ℕ, zero, suc, true, false, List, [], ◌∷◌, ◌++◌, Some, take, drop, ◌∙◌, sym, ap, refl, arith, slice_get, add-one}
-use Rattle.std.proofs.lemmas.Bool.{and_parts, and_from}
+-- Where a region can stand among the others, and what a new row leaves room for.
+use Rattle.std.proofs.Common.{◌≡◌, ◌<◌, ◌≤◌, ◌+◌, ◌-◌, ◌/◌, inl, inr, ℕ, zero, suc, true, false, List, [], ◌∷◌, ◌++◌, Option, Some, None, IfSome, length, take, drop, ◌∙◌, sym, ap, subst, refl, arith, slice_get, add-one}
+use Rattle.std.proofs.lemmas.Bool.{cases_Bool, and_parts, and_from, eq-eqb}
+use Rattle.std.proofs.lemmas.List.{length-drop}
 use Rattle.std.proofs.lemmas.List.Elements.{All-append, All-take, All-drop, All-cons}
-use Rattle.std.specs.List.{All, insert}
+use Rattle.std.specs.List.{AllByRecursion, insert}
 use Rattle.ub_zaddr.specs.Address.{last_address}
 use Rattle.ub_page.specs.declared.directory.Entry.{Entry}
-use Rattle.ub_page.specs.declared.row.Key.{Key}
-use Rattle.ub_tree.specs.Keys.{origin, precedes, is_before_next, are_ascending}
+use Rattle.ub_region.proofs.InsertFacts.{IsFilled, two_chain}
+use Rattle.ub_region.proofs.KeyLists.{all_drop, all_left, all_right, before_or_same, upto_before, IsBeforeNext, up_head, up_tail, up_cons}
+use Rattle.ub_region.proofs.RowFacts.{all_keys, all_of_keys, all_insert, length-insert_row}
+use Rattle.ub_region.specs.Regions.{place_of, rows_of}
+use Rattle.ub_region.specs.Rows.{has_key, insert_row, cut, split}
+use Rattle.ub_store.specs.Facts.{IsHonest}
+use Rattle.ub_table.proofs.KeyFacts.{before_of, precedes_of, not_before_origin}
+use Rattle.ub_table.specs.Keys.{IsBefore, AreKeysAscending, origin, precedes, is_same, is_before_next, are_ascending}
+use Rattle.ub_table.specs.Region.{Region, IsRegion, IsRow, AreFrom, key_of, keys_of, measures_of}
+use Rattle.ub_table.specs.declared.row.Key.{Key}
+use Rattle.ub_table.specs.declared.row.Row.{Row}
+use Rattle.ub_table.specs.declared.schema.Schema.{Schema}
+use Rattle.ub_tree.specs.Change.{AreRowsAt}
+use Rattle.ub_tree.specs.Effects.{IsNumberTaken}
+use Rattle.ub_tree.specs.Placed.{Placed}
 use Rattle.ub_tree.specs.Spans.{first_keys, ArePlaces}
+use Rattle.ub_tree.specs.Tree.{IsHeldBy}
+use Rattle.ub_tree.specs.View.{TreeView, IsSound, regions}
+use Rattle.ub_tree.proofs.PlaceFacts.{first_at}
+use Rattle.ub_tree.proofs.TreeFacts.{contained_at, place_at, region_get, same_key}
 
 abbrev inserted_at : List Entry → ℕ → Entry → List Entry
 inserted_at es place x = take (suc place) es ++ x ∷ drop (suc place) es
@@ -23,54 +41,204 @@ up_room (y ∷ []) (suc place) a x at up left right = cc
 up_room (y ∷ z ∷ es) (suc place) a x at up left right =
     and_from _ _ (and_parts _ _ up).0 (up_room (z ∷ es) place a x at (and_parts _ _ up).1 left right)
 
-room_up : (es : List Entry) (place : ℕ) (a x : Entry) → slice_get es place ≡ Some a → are_ascending (first_keys (inserted_at es place x)) ≡ true
-    → (precedes a.first x.first ≡ true) × (is_before_next x.first (drop (suc place) (first_keys es)) ≡ true)
-room_up [] place a x at up = cc
-room_up (y ∷ es) zero a x at up =
-    let same : y ≡ a = cc in
-    (ap (λ (e : Entry). precedes e.first x.first) (sym same) ∙ (and_parts _ _ up).0, (and_parts _ _ (and_parts _ _ up).1).0)
-room_up (y ∷ []) (suc place) a x at up = cc
-room_up (y ∷ z ∷ es) (suc place) a x at up = room_up (z ∷ es) place a x at (and_parts _ _ up).1
-
 begins_room : (es : List Entry) (place : ℕ) (a x : Entry) → slice_get es place ≡ Some a → slice_get (first_keys es) 0 ≡ Some origin → slice_get (first_keys (inserted_at es place x)) 0 ≡ Some origin
 begins_room [] place a x at begins = cc
 begins_room (y ∷ es) place a x at begins = begins
 
-within_middle : (last : ℕ) (xs ys : List Entry) (x : Entry) → All (λ entry. entry.first.z ≤ last) (xs ++ x ∷ ys) → x.first.z ≤ last
-within_middle last [] ys x within = within 0 x (omega arith)
-within_middle last (y ∷ xs) ys x within = within_middle last xs ys x (λ k d lt. within (suc k) d (omega arith))
-
--- what a test of the room for a region tells
-pub room_tells : (last : ℕ) (es : List Entry) (place : ℕ) (a x : Entry) → ArePlaces last es → slice_get es place ≡ Some a
-    → ((x.first.z ≤ last) × (precedes a.first x.first ≡ true) × (is_before_next x.first (drop (suc place) (first_keys es)) ≡ true)) ↔ ArePlaces last (insert es (place + 1) x)
-room_tells last es place a x places at = (to, from)
-  where
-    to : (x.first.z ≤ last) × (precedes a.first x.first ≡ true) × (is_before_next x.first (drop (suc place) (first_keys es)) ≡ true) → ArePlaces last (insert es (place + 1) x)
-    to h = rw add-one (
-      begins_room es place a x at places.0,
-      All-append (λ (e : Entry). e.first.z ≤ last) (take (suc place) es) (x ∷ drop (suc place) es) (All-take (λ (e : Entry). e.first.z ≤ last) (suc place) es places.1)
-          (All-cons (λ (e : Entry). e.first.z ≤ last) x (drop (suc place) es) h.0 (All-drop (λ (e : Entry). e.first.z ≤ last) (suc place) es places.1)),
-      up_room es place a x at places.2 h.1 h.2,
-    )
-
-    from : ArePlaces last (insert es (place + 1) x) → (x.first.z ≤ last) × (precedes a.first x.first ≡ true) × (is_before_next x.first (drop (suc place) (first_keys es)) ≡ true)
-    from h =
-        let there : ArePlaces last (inserted_at es place x) = rw add-one at h in
-        let sides = room_up es place a x at there.2 in
-        (within_middle last (take (suc place) es) (drop (suc place) es) x there.1, sides.0, sides.1)
-
-pub next_at : (es : List Entry) (place : ℕ) (next : Entry) (key : Key) → slice_get es (suc place) ≡ Some next → is_before_next key (drop (suc place) (first_keys es)) ≡ precedes key next.first
-next_at [] place next key at = cc
-next_at (x ∷ []) place next key at = cc
-next_at (x ∷ y ∷ es) zero next key at = let same : y ≡ next = cc in ap (λ (e : Entry). precedes key e.first) same
-next_at (x ∷ y ∷ es) (suc place) next key at = next_at (y ∷ es) place next key at
-
-pub no_room : (last : ℕ) (es : List Entry) (place : ℕ) (x : Entry) → last < x.first.z → (false ≡ true) ↔ ArePlaces last (insert es (place + 1) x)
-no_room last es place x past = (λ t. cc, λ h. let near = within_middle last (take (place + 1) es) (drop (place + 1) es) x h.1 in absurd (omega arith))
-
-pub no_room_here : (last : ℕ) (es : List Entry) (place : ℕ) (a x : Entry) → ArePlaces last es → slice_get es place ≡ Some a → precedes a.first x.first ≡ false
-    → (false ≡ true) ↔ ArePlaces last (insert es (place + 1) x)
-no_room_here last es place a x places at not_before = (λ t. cc, λ h. let before = ((room_tells last es place a x places at).1 h).1 in cc)
+-- a region has room after that at a place, where it begins after that and before the next
+pub room_of : (last : ℕ) (es : List Entry) (place : ℕ) (a x : Entry) → ArePlaces last es → slice_get es place ≡ Some a
+    → (x.first.z ≤ last) × (precedes a.first x.first ≡ true) × (is_before_next x.first (drop (suc place) (first_keys es)) ≡ true) → ArePlaces last (insert es (place + 1) x)
+room_of last es place a x places at h = rw add-one (
+  begins_room es place a x at places.0,
+  All-append (λ (e : Entry). e.first.z ≤ last) (take (suc place) es) (x ∷ drop (suc place) es) (All-take (λ (e : Entry). e.first.z ≤ last) (suc place) es places.1)
+      (All-cons (λ (e : Entry). e.first.z ≤ last) x (drop (suc place) es) h.0 (All-drop (λ (e : Entry). e.first.z ≤ last) (suc place) es places.1)),
+  up_room es place a x at places.2 h.1 h.2,
+)
 
 pub room_moved : (dims last place : ℕ) (es items : List Entry) (x : Entry) → last ≡ last_address dims → es ≡ items → ArePlaces last (insert items (place + 1) x) → ArePlaces (last_address dims) (insert es (place + 1) x)
 room_moved dims last place es items x is same h = rw (same, ← is) h
+
+-- a key stands before the key of a place, if there is one
+abbrev IsBeforeAt : Key → List Key → ℕ → Type 0
+IsBeforeAt key firsts i = IfSome (slice_get firsts i) (λ next. IsBefore key next)
+
+before_at : (key : Key) (firsts : List Key) (i : ℕ) → IsBeforeAt key firsts i → is_before_next key (drop i firsts) ≡ true
+before_at key [] zero h = refl
+before_at key [] (suc i) h = refl
+before_at key (f ∷ firsts) zero h = precedes_of key f h
+before_at key (f ∷ firsts) (suc i) h = before_at key firsts i h
+
+-- the key of the place before is not after a key, and that of the next place is
+next_after : (key : Key) (firsts : List Key) (place : ℕ) → place_of key firsts ≡ place → IsBeforeAt key firsts (suc place)
+next_after key [] place is = tt
+next_after key (f ∷ []) zero is = tt
+next_after key (f ∷ []) (suc place) is = cc
+next_after key (f ∷ g ∷ firsts) place is = elim (cases_Bool (precedes key g)) [
+  | inl t ↦ let here : 0 ≡ place = rw t at is in subst (λ (i : ℕ). IsBeforeAt key (f ∷ g ∷ firsts) (suc i)) here (before_of key g t)
+  | inr n ↦
+      let later : suc (place_of key (g ∷ firsts)) ≡ place = rw n at is in
+      subst (λ (i : ℕ). IsBeforeAt key (f ∷ g ∷ firsts) (suc i)) later (next_after key (g ∷ firsts) (place_of key (g ∷ firsts)) refl)
+]
+
+not_before : (key first : Key) → precedes key first ≡ false → ¬ (IsBefore key first)
+not_before key first f h = let t = precedes_of key first h in cc
+
+first_upto : (key : Key) (firsts : List Key) (place : ℕ) (first : Key) → IfSome (slice_get firsts 0) (λ f. ¬ (IsBefore key f)) → place_of key firsts ≡ place → slice_get firsts place ≡ Some first → ¬ (IsBefore key first)
+first_upto key [] place first head is at = cc
+first_upto key (f ∷ []) zero first head is at = let same : f ≡ first = cc in subst (λ (k : Key). ¬ (IsBefore key k)) same head
+first_upto key (f ∷ []) (suc place) first head is at = cc
+first_upto key (f ∷ g ∷ firsts) place first head is at = elim (cases_Bool (precedes key g)) [
+  | inl t ↦
+      let here : 0 ≡ place = rw t at is in
+      let there : slice_get (f ∷ g ∷ firsts) 0 ≡ Some first = ap (slice_get (f ∷ g ∷ firsts)) here ∙ at in
+      let same : f ≡ first = cc in
+      subst (λ (k : Key). ¬ (IsBefore key k)) same head
+  | inr n ↦
+      let later : suc (place_of key (g ∷ firsts)) ≡ place = rw n at is in
+      let there : slice_get (f ∷ g ∷ firsts) (suc (place_of key (g ∷ firsts))) ≡ Some first = ap (slice_get (f ∷ g ∷ firsts)) later ∙ at in
+      first_upto key (g ∷ firsts) (place_of key (g ∷ firsts)) first (not_before key g n) refl there
+]
+
+-- rows with one more, whose key none of them has
+next_new : (dims : ℕ) (row : Row) (key : Key) (rows : List Row) → IsBefore key (key_of dims row) → IsBeforeNext key (keys_of dims rows) → IsBeforeNext key (keys_of dims (insert_row dims row rows))
+next_new dims row key [] before next = before
+next_new dims row key (other ∷ rows) before next = elim (cases_Bool (precedes (key_of dims row) (key_of dims other))) [
+  | inl t ↦ rw t before
+  | inr f ↦ rw f next
+]
+
+same_self : (a b : Key) → a ≡ b → is_same a b ≡ true
+same_self a b e = rw e (and_from _ _ (eq-eqb b.z b.z refl) (eq-eqb b.number b.number refl))
+
+up_new : (dims : ℕ) (row : Row) (rows : List Row) → AreKeysAscending (keys_of dims rows) → has_key dims (key_of dims row) rows ≡ false → AreKeysAscending (keys_of dims (insert_row dims row rows))
+up_new dims row [] up none = tt
+up_new dims row (other ∷ rows) up none = elim (cases_Bool (precedes (key_of dims row) (key_of dims other))) [
+  | inl t ↦ rw t (before_of (key_of dims row) (key_of dims other) t, up)
+  | inr f ↦ elim (cases_Bool (is_same (key_of dims row) (key_of dims other))) [
+    | inl same ↦ let bad : true ≡ false = rw same at none in cc
+    | inr differs ↦
+        let rest : has_key dims (key_of dims row) rows ≡ false = rw differs at none in
+        let before : IsBefore (key_of dims other) (key_of dims row) = elim (before_or_same (key_of dims other) (key_of dims row) (not_before (key_of dims row) (key_of dims other) f)) [
+          | inl b ↦ b
+          | inr e ↦ let t = same_self (key_of dims row) (key_of dims other) (sym e) in absurd (let bad : true ≡ false = sym t ∙ differs in cc)
+        ] in
+        rw f (up_cons (key_of dims other) (keys_of dims (insert_row dims row rows)) (next_new dims row (key_of dims other) rows before (up_head (key_of dims other) (keys_of dims rows) up))
+        (up_new dims row rows (up_tail (key_of dims other) (keys_of dims rows) up) rest))
+  ]
+]
+
+-- where a cut of rows in order begins the second half
+record IsBetween (dims : ℕ) (first sep : Key) (rows : List Row) : Type 0 where
+  range : sep.z ≤ last_address dims
+  after : IsBefore first sep
+  before : (next : Key) → AllByRecursion (λ key. IsBefore key next) (keys_of dims rows) → IsBefore sep next
+
+some_before : (dims : ℕ) (sep next : Key) (rows : List Row) → 1 ≤ length rows → AreFrom sep (keys_of dims rows) → AllByRecursion (λ key. IsBefore key next) (keys_of dims rows) → IsBefore sep next
+some_before dims sep next [] some from before = absurd (omega arith)
+some_before dims sep next (row ∷ rows) some from before = upto_before sep (key_of dims row) next from.0 before.0
+
+between : (schema : Schema) (region : Region) (n : ℕ) → IsFilled schema region → 1 ≤ n → n < length region.rows → n ≤ schema.page_rows → length region.rows ≤ schema.page_rows + n
+    → IsBetween schema.dims region.first (cut schema.dims n region.rows).first region.rows
+between schema region zero filled some lt left right = absurd (omega arith)
+between schema region (suc n) filled some lt left right =
+    let same : suc n - 1 ≡ n = omega arith in
+    let two = two_chain schema region filled n lt left right [] tt tt in
+    rw same (record {
+      range = two.2.0.first.0;
+      after = two.1.0;
+      before = λ next all. some_before schema.dims _ next (drop (suc n) region.rows) (let long = length-drop (suc n) region.rows in omega arith) two.2.0.within
+          (all_keys schema.dims (λ k. IsBefore k next) (drop (suc n) region.rows)
+          (all_drop (λ row. IsBefore (key_of schema.dims row) next) (suc n) region.rows (all_of_keys schema.dims (λ k. IsBefore k next) region.rows all)));
+    })
+
+if_some_more : {X : Type 0} (P Q : X → Type 0) (o : Option X) → ((x : X) → P x → Q x) → IfSome o P → IfSome o Q
+if_some_more P Q None f h = tt
+if_some_more P Q (Some x) f h = f x h
+
+if_some_both : {X : Type 0} (P Q R : X → Type 0) (o : Option X) → ((x : X) → P x → Q x → R x) → IfSome o P → IfSome o Q → IfSome o R
+if_some_both P Q R None f h k = tt
+if_some_both P Q R (Some x) f h k = f x h k
+
+-- the rows of the region that holds a new row's key leave room for the other half
+pub room_for : (schema : Schema) (entries : List Entry) (place : ℕ) (e : Entry) (row : Row) (rows new : List Row) → AreRowsAt schema entries place rows → ArePlaces (last_address schema.dims) entries
+    → slice_get entries place ≡ Some e → IsRow schema.dims (measures_of schema) row → place ≡ place_of (key_of schema.dims row) (first_keys entries) → has_key schema.dims (key_of schema.dims row) rows ≡ false
+    → new ≡ insert_row schema.dims row rows → schema.page_rows < length new
+    → (page : ℕ) → ArePlaces (last_address schema.dims) (insert entries (place + 1) (record { first = (split schema.dims schema.page_rows new).first; page = page }))
+room_for schema entries place e row rows new are places at good is none made over page =
+    let here = are e at in
+    let dims = schema.dims in
+    let key : Key = key_of dims row in
+    let few = here.0.few in
+    let long = length-insert_row dims row rows in
+    let over_here : schema.page_rows < length (insert_row dims row rows) = subst (λ (rs : List Row). schema.page_rows < length rs) made over in
+    let some = schema.counts.some_rows in
+    let head : IfSome (slice_get (first_keys entries) 0) (λ f. ¬ (IsBefore key f)) = rw places.0 (not_before_origin key) in
+    let upto : ¬ (IsBefore key e.first) = first_upto key (first_keys entries) place e.first head (sym is) (first_at entries place e at) in
+    let whole : Region = record { first = e.first; rows = insert_row dims row rows } in
+    let filled : IsFilled schema whole = record {
+      most = omega arith;
+      first = here.0.first;
+      rows = all_insert dims row (IsRow dims (measures_of schema)) rows here.0.rows good;
+      ascending = up_new dims row rows here.0.ascending none;
+      within = all_keys dims (λ k. ¬ (IsBefore k e.first)) (insert_row dims row rows)
+          (all_insert dims row (λ other. ¬ (IsBefore (key_of dims other) e.first)) rows (all_of_keys dims (λ k. ¬ (IsBefore k e.first)) rows here.0.within) upto);
+    } in
+    let sep = between schema whole ((schema.page_rows + 2) / 2) filled (omega arith) (omega arith) (omega arith) (omega arith) in
+    let below : IfSome (slice_get (first_keys entries) (suc place)) (λ next. AllByRecursion (λ k. IsBefore k next) (keys_of dims (insert_row dims row rows))) =
+    if_some_both (λ next. AllByRecursion (λ k. IsBefore k next) (keys_of dims rows)) (λ next. IsBefore key next) (λ next. AllByRecursion (λ k. IsBefore k next) (keys_of dims (insert_row dims row rows)))
+    (slice_get (first_keys entries) (suc place))
+    (λ next all before. all_keys dims (λ k. IsBefore k next) (insert_row dims row rows) (all_insert dims row (λ other. IsBefore (key_of dims other) next) rows (all_of_keys dims (λ k. IsBefore k next) rows all) before))
+    here.1 (next_after key (first_keys entries) place (sym is)) in
+    rw made (room_of (last_address dims) entries place e (record { first = (split dims schema.page_rows (insert_row dims row rows)).first; page = page }) places at (
+      sep.range,
+      precedes_of e.first _ sep.after,
+      before_at _ (first_keys entries) (suc place) (if_some_more (λ next. AllByRecursion (λ k. IsBefore k next) (keys_of dims (insert_row dims row rows))) (λ next. IsBefore _ next)
+          (slice_get (first_keys entries) (suc place)) sep.before below),
+    ))
+
+-- the rows of a page that was read
+pub rows_at_place : (schema : Schema) (entries : List Entry) (place : ℕ) (e : Entry) (region : Region) (rows : List Row) → are_ascending (first_keys entries) ≡ true → slice_get entries place ≡ Some e
+    → IsRegion schema region → region.first ≡ e.first → IsHeldBy schema.dims (first_keys entries) region → rows ≡ region.rows → AreRowsAt schema entries place rows
+rows_at_place schema entries place e region rows up at is first held same = λ f at_f.
+    let one : f ≡ e = cc in
+    let place_is : place_of region.first (first_keys entries) ≡ place = place_at (first_keys entries) up place region.first (first_at entries place e at ∙ ap (λ (k : Key). Some k) (sym first)) in
+    let begins : f.first ≡ region.first = ap (λ (x : Entry). x.first) one ∙ sym first in
+    rw (same, begins) (is, subst (λ (i : ℕ). IfSome (slice_get (first_keys entries) (suc i)) (λ next. AllByRecursion (λ key. IsBefore key next) (keys_of schema.dims region.rows))) place_is held.1)
+
+-- no row of a sound tree has the number that is next
+number_free : (dims : ℕ) (key : Key) (rows : List Row) → AllByRecursion (λ row. row.number < key.number) rows → has_key dims key rows ≡ true → ⊥
+number_free dims key [] less has = cc
+number_free dims key (row ∷ rows) less has = elim (cases_Bool (is_same key (key_of dims row))) [
+  | inl t ↦ let number : key.number ≡ row.number = ap (λ (k : Key). k.number) (same_key key (key_of dims row) t) in let lt = less.0 in absurd (omega arith)
+  | inr f ↦ number_free dims key rows less.1 (rw f at has)
+]
+
+-- the row of a key
+found_row : (dims : ℕ) (key : Key) (rows : List Row) → has_key dims key rows ≡ true → (row : Row) × (i : ℕ) × (slice_get rows i ≡ Some row) × (row.number ≡ key.number)
+found_row dims key [] has = cc
+found_row dims key (row ∷ rows) has = elim (cases_Bool (is_same key (key_of dims row))) [
+  | inl t ↦ (row, 0, refl, sym (ap (λ (k : Key). k.number) (same_key key (key_of dims row) t)))
+  | inr f ↦ let found = found_row dims key rows (rw f at has) in (found.0, suc found.1, found.2, found.3)
+]
+
+rows_each : (P : Row → Type 0) (regions : List Region) (place : ℕ) (r : Region) → slice_get regions place ≡ Some r → AllByRecursion P (rows_of regions) → AllByRecursion P r.rows
+rows_each P [] place r at all = cc
+rows_each P (x ∷ regions) zero r at all = let same : x ≡ r = cc in subst (λ (y : Region). AllByRecursion P y.rows) same (all_left P x.rows (rows_of regions) all)
+rows_each P (x ∷ regions) (suc place) r at all = rows_each P regions place r at (all_right P x.rows (rows_of regions) all)
+
+-- the key of a new row stands in the region at a place already
+pub key_there : (t : TreeView) (place : ℕ) (p : Placed) (key : Key) (rows : List Row) → slice_get t.placed place ≡ Some p → key.number ≡ t.next → has_key t.schema.dims key rows ≡ true
+    → (IsHonest t.store → rows ≡ p.region.rows) → (¬ (IsSound t)) × IsNumberTaken t p.page
+key_there t place p key rows at number has same = (
+  λ sound.
+      let less = rows_each (λ row. row.number < t.next) (regions t) place p.region (region_get t.placed place p at) sound.regions_are.numbered in
+      number_free t.schema.dims key p.region.rows (subst (λ (n : ℕ). AllByRecursion (λ row. row.number < n) p.region.rows) (sym number) less) (rw (same sound.honest) at has),
+  (
+    p,
+    contained_at (λ (_ : Placed). Unit {0}) t.placed place p at,
+    refl,
+    λ honest.
+        let found = found_row t.schema.dims key p.region.rows (rw (same honest) at has) in
+        (found.0, contained_at (λ (_ : Row). Unit {0}) p.region.rows found.1 found.0 found.2, found.3 ∙ number),
+  ),
+)

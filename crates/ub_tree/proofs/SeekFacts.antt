@@ -5,14 +5,14 @@ use Rattle.std.proofs.lemmas.Option.{slice_get_read, slice_get_within, get_or_fr
 use Rattle.std.specs.List.{All, Contains}
 use Rattle.ub_bigmin.specs.Box.{Corners, HoldsAny}
 use Rattle.ub_bigmin.specs.Extremes.{LeastFrom}
-use Rattle.ub_page.specs.Keys.{IsBefore}
 use Rattle.ub_page.specs.declared.directory.Entry.{Entry}
-use Rattle.ub_page.specs.declared.row.Key.{Key}
-use Rattle.ub_tree.specs.Keys.{origin, precedes, are_ascending}
-use Rattle.ub_tree.specs.Regions.{place_of}
-use Rattle.ub_tree.specs.Spans.{address_before, span_end, first_keys, regions_of, Meets, IsLater, First}
+use Rattle.ub_region.specs.Regions.{place_of}
+use Rattle.ub_region.specs.Spans.{address_before, span_end}
+use Rattle.ub_table.proofs.KeyFacts.{before_from, before_parts, before_of, precedes_trans, not_before_self, not_both_before, ascending_get}
+use Rattle.ub_table.specs.Keys.{IsBefore, origin, precedes, are_ascending}
+use Rattle.ub_table.specs.declared.row.Key.{Key}
+use Rattle.ub_tree.specs.Spans.{first_keys, regions_of, Meets, IsLater, First}
 use Rattle.ub_tree.specs.declared.region.Region.{Region}
-use Rattle.ub_tree.proofs.KeyFacts.{before_of, precedes_of, precedes_trans, not_before_self, not_both_before, ascending_get}
 use Rattle.ub_tree.proofs.PlaceFacts.{first_at}
 use Rattle.ub_tree.proofs.SpanFacts.{region_with}
 
@@ -49,32 +49,38 @@ ends_from z first next up = by_number next.z next.number (before_of first next u
     by_number y zero before = (to, from)
       where
         positive : IsBefore first (record { z = y; number = 0 }) → 0 < y
-        positive (inl lt) = omega arith
-        positive (inr both) = let no = both.1 in absurd (omega arith)
+        positive h = elim (before_parts first (record { z = y; number = 0 }) h) [
+          | inl lt ↦ omega arith
+          | inr both ↦ let no = both.1 in absurd (omega arith)
+        ]
 
         to : z ≤ y - 1 → precedes (record { z = z; number = 0 }) (record { z = y; number = 0 }) ≡ true
-        to le = let some = positive before in precedes_of (record { z = z; number = 0 }) (record { z = y; number = 0 }) (inl (omega arith))
+        to le = let some = positive before in before_from (record { z = z; number = 0 }) (record { z = y; number = 0 }) (inl (omega arith))
 
         back : IsBefore (record { z = z; number = 0 }) (record { z = y; number = 0 }) → z ≤ y - 1
-        back (inl lt) = omega arith
-        back (inr both) = let no = both.1 in absurd (omega arith)
+        back h = elim (before_parts (record { z = z; number = 0 }) (record { z = y; number = 0 }) h) [
+          | inl lt ↦ omega arith
+          | inr both ↦ let no = both.1 in absurd (omega arith)
+        ]
 
         from : precedes (record { z = z; number = 0 }) (record { z = y; number = 0 }) ≡ true → z ≤ y - 1
-        from t = back (before_of _ _ t)
+        from t = back t
     by_number y (suc n) before = (to, from)
       where
         to : z ≤ y → precedes (record { z = z; number = 0 }) (record { z = y; number = suc n }) ≡ true
         to le = elim (cases_lt z y) [
-          | inl lt ↦ precedes_of (record { z = z; number = 0 }) (record { z = y; number = suc n }) (inl lt)
-          | inr ge ↦ let same : z ≡ y = omega arith in precedes_of (record { z = z; number = 0 }) (record { z = y; number = suc n }) (inr (same, omega arith))
+          | inl lt ↦ before_from (record { z = z; number = 0 }) (record { z = y; number = suc n }) (inl lt)
+          | inr ge ↦ let same : z ≡ y = omega arith in before_from (record { z = z; number = 0 }) (record { z = y; number = suc n }) (inr (same, omega arith))
         ]
 
         back : IsBefore (record { z = z; number = 0 }) (record { z = y; number = suc n }) → z ≤ y
-        back (inl lt) = omega arith
-        back (inr both) = let same = both.0 in omega arith
+        back h = elim (before_parts (record { z = z; number = 0 }) (record { z = y; number = suc n }) h) [
+          | inl lt ↦ omega arith
+          | inr both ↦ let same = both.0 in omega arith
+        ]
 
         from : precedes (record { z = z; number = 0 }) (record { z = y; number = suc n }) ≡ true → z ≤ y
-        from t = back (before_of _ _ t)
+        from t = back t
 
 place_zero : (key first : Key) (firsts : List Key) → are_ascending (first ∷ firsts) ≡ true → precedes key first ≡ true → place_of key (first ∷ firsts) ≡ 0
 place_zero key first [] up t = refl
@@ -126,7 +132,7 @@ begins_by z first (next ∷ firsts) (suc i) found le is at = elim (cases_Bool (p
   where
     below : precedes (record { z = z; number = 0 }) next ≡ false → next.z ≤ z
     below f = elim (cases_lt z next.z) [
-      | inl lt ↦ let t = precedes_of (record { z = z; number = 0 }) next (inl lt) in cc
+      | inl lt ↦ let t = before_from (record { z = z; number = 0 }) next (inl lt) in cc
       | inr ge ↦ ge
     ]
 
@@ -228,8 +234,10 @@ module _ (last : ℕ) (entries : List Entry) (up : are_ascending (first_keys ent
           ]
         where
           address_le : (a b : Key) → IsBefore a b → a.z ≤ b.z
-          address_le a b (inl lt) = omega arith
-          address_le a b (inr both) = let e = both.0 in omega arith
+          address_le a b h = elim (before_parts a b h) [
+            | inl lt ↦ omega arith
+            | inr both ↦ let e = both.0 in omega arith
+          ]
 
       pub no_address : LeastFrom (HoldsAny boxes) entry.first.z None → First (λ r. IsLater after r × Meets boxes r) (regions_of last entries) None
       no_address none = none_of (λ r. IsLater after r × Meets boxes r) (λ i r at p.

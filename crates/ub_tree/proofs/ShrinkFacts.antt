@@ -4,36 +4,38 @@ use Rattle.std.proofs.lemmas.Bool.{cases_Bool}
 use Rattle.std.proofs.lemmas.List.{length-map, map-append, take-map, drop-map}
 use Rattle.std.proofs.lemmas.List.Elements.{All-append, All-take, All-drop}
 use Rattle.std.specs.List.{AllByRecursion, remove as remove_at_place}
-use Rattle.ub_page.specs.Keys.{IsBefore}
-use Rattle.ub_page.specs.Region.{Region, IsRegion, key_of}
-use Rattle.ub_page.specs.declared.row.Key.{Key}
-use Rattle.ub_page.specs.declared.row.Row.{Row}
-use Rattle.ub_page.specs.declared.schema.Schema.{Schema}
 use Rattle.std.proofs.lemmas.List.Sorted.{IsPermutation-middle, length_permutation}
 use Rattle.std.proofs.lemmas.Map.Keys.{IsDistinct-IsPermutation, IsDistinct-tail}
 use Rattle.std.specs.List.{IsDistinct}
 use Rattle.ub_page.specs.declared.directory.Entry.{Entry}
-use Rattle.ub_store.specs.Facts.{StoreFacts, IsHonest, Keeps}
+use Rattle.ub_region.proofs.ChainFacts.{IsChain, chain_of}
+use Rattle.ub_region.proofs.InsertFacts.{nat_eq_flips}
+use Rattle.ub_region.proofs.KeyLists.{all_more}
+use Rattle.ub_region.proofs.RemoveFacts.{all_from, other_key, remove_keeps, remove_none, remove_rows}
+use Rattle.ub_region.proofs.TableFacts.{remove_table}
+use Rattle.ub_region.proofs.RowFacts.{all_of_keys, has_append, has_none}
+use Rattle.ub_region.specs.Joins.{put_rows, JoinsNext, JoinsBefore}
+use Rattle.ub_region.specs.Regions.{AreRegions, change_from, firsts_of, fits_next, is_small, join_before, join_first, place_of, remove, remove_first, rows_of, settle}
+use Rattle.ub_region.specs.Rows.{has_key, remove_row}
+use Rattle.ub_store.specs.Facts.{IsHonest}
 use Rattle.ub_store.specs.View.{PagerView}
+use Rattle.ub_table.proofs.KeyFacts.{before_of, precedes_of}
+use Rattle.ub_table.specs.Keys.{IsBefore, precedes, is_same}
+use Rattle.ub_table.specs.Region.{Region, IsRegion, key_of}
+use Rattle.ub_table.specs.declared.row.Key.{Key}
+use Rattle.ub_table.specs.declared.row.Row.{Row}
+use Rattle.ub_table.specs.declared.schema.Schema.{Schema}
 use Rattle.ub_tree.specs.Change.{IsStored, placed_with, regions_with}
 use Rattle.ub_tree.specs.Placed.{Placed, ArePlaced, placed_of, regions_in}
 use Rattle.ub_tree.specs.Spans.{first_keys}
 use Rattle.ub_tree.specs.Tree.{known_pages, tree_view}
+use Rattle.ub_tree.specs.Stored.{HasMark}
 use Rattle.ub_tree.specs.View.{TreeView, IsSound, regions, tree_rows}
 use Rattle.ub_tree.specs.declared.fault.TreeFault.{TreeFault}
-use Rattle.ub_tree.proofs.GrowFacts.{keeps_sound, regions_placed, some_at}
-use Rattle.ub_tree.proofs.InsertFacts.{nat_eq_flips}
-use Rattle.ub_tree.proofs.KeyLists.{all_more}
-use Rattle.ub_tree.proofs.RemoveFacts.{all_from, other_key, remove_keeps, remove_none, remove_rows}
-use Rattle.ub_tree.proofs.RowFacts.{all_of_keys, has_append, has_none}
+use Rattle.ub_tree.proofs.GrowFacts.{regions_placed, some_at}
 use Rattle.ub_tree.proofs.StoredFacts.{IsSpelled, parted, numbers_of}
 use Rattle.ub_tree.proofs.TreeFacts.{firsts_back, length-placed, region_get, placed_at}
-use Rattle.ub_tree.specs.Keys.{precedes, is_same}
-use Rattle.ub_tree.specs.Regions.{AreRegions, change_from, firsts_of, fits_next, is_small, join_before, join_first, place_of, remove, remove_first, rows_of, settle}
-use Rattle.ub_tree.specs.Removal.{IsRemoved, IsUntouched, put_rows, JoinsNext, JoinsBefore}
-use Rattle.ub_tree.specs.Rows.{has_key, remove_row}
-use Rattle.ub_tree.proofs.ChainFacts.{IsChain, chain_of}
-use Rattle.ub_tree.proofs.KeyFacts.{before_of, precedes_of}
+use Rattle.ub_tree.specs.Removal.{IsRemoved}
 
 -- the row of a key taken from the region at a place
 pub removed_put : (dims : ℕ) (key : Key) (place : ℕ) (r : Region) (rs : List Region) → slice_get rs place ≡ Some r
@@ -220,24 +222,6 @@ settle_before c place old left new fit rs lt few over joins =
     let fits : fits_next c (drop place (put_rows place false old rs)) ≡ false = sym over.fits in
     rw (is, fits) (joins ∙ ap (join_before c place) over.rows)
 
-untouched_twice : (a b d : TreeView) → IsUntouched a b → IsUntouched b d → IsUntouched a d
-untouched_twice a b d one two = record {
-  same = two.same ∙ ap (λ (v : TreeView). record v { store = d.store }) one.same;
-  pages = record {
-    honesty = two.pages.honesty ∙ one.pages.honesty;
-    failures = (let first = one.pages.failures in let second = two.pages.failures in omega arith);
-    count = two.pages.count ∙ one.pages.count;
-    pages = λ honest. two.pages.pages (one.pages.honesty ∙ honest) ∙ one.pages.pages honest;
-  };
-}
-
-stored_kept : (a : TreeView) (s : StoreFacts) → Keeps a.store s → IsStored a → IsStored (record a { store = s })
-stored_kept a s kept stored = record {
-  working = stored.working;
-  honest = kept.honesty ∙ stored.honest;
-  placed_are = rw (kept.pages stored.honest) stored.placed_are;
-}
-
 -- of regions the same by another name
 as_same : (schema : Schema) (d : TreeView) (r : Result (Unit {0}) TreeFault) (xs ys : List Region) → xs ≡ ys → (AllByRecursion (IsRegion schema) xs → OnOk r (IsStored d × (regions d ≡ xs)))
     → AllByRecursion (IsRegion schema) ys → OnOk r (IsStored d × (regions d ≡ ys))
@@ -256,7 +240,7 @@ settled_large a d r place rows lt large written =
 
 -- few rows that fit on no page with others stay alone
 pub settled_alone : (a m b d : TreeView) (r : Result (Unit {0}) TreeFault) (place : ℕ) (rows left new : List Row) → place < length a.placed → nat_lt (length rows) (a.schema.page_rows / 2) ≡ true
-    → IsUntouched a m → IsUntouched m b
+    → m ≡ a → b ≡ m
     → (IsHonest a.store → JoinsNext a.schema.page_rows place rows left false (regions a)) → (IsHonest m.store → JoinsBefore m.schema.page_rows place left new false (regions m))
     → (IsStored b → (p : Placed) → slice_get b.placed place ≡ Some p → IsRegion b.schema (record { first = p.region.first; rows = new })
     → OnOk r (IsStored d × (d.placed ≡ placed_with place (record { page = p.page; region = record { first = p.region.first; rows = new } } ∷ []) b.placed)))
@@ -264,14 +248,29 @@ pub settled_alone : (a m b d : TreeView) (r : Result (Unit {0}) TreeFault) (plac
     → OnOk r (IsStored d × (regions d ≡ settle a.schema.page_rows place (put_rows place false rows (regions a))))
 settled_alone a m b d r place rows left new lt few one two next before written stored =
     let long = length-regions a.placed in
-    let both = untouched_twice a m b one two in
     let at_b = subst (λ (v : TreeView). IsStored v → (p : Placed) → slice_get v.placed place ≡ Some p → IsRegion v.schema (record { first = p.region.first; rows = new })
-    → OnOk r (IsStored d × (d.placed ≡ placed_with place (record { page = p.page; region = record { first = p.region.first; rows = new } } ∷ []) v.placed))) both.same written in
+    → OnOk r (IsStored d × (d.placed ≡ placed_with place (record { page = p.page; region = record { first = p.region.first; rows = new } } ∷ []) v.placed))) (two ∙ one) written in
     let at_m : JoinsBefore a.schema.page_rows place left new false (regions a) =
-    subst (λ (v : TreeView). JoinsBefore v.schema.page_rows place left new false (regions v)) one.same (before (one.pages.honesty ∙ stored.honest)) in
+    subst (λ (v : TreeView). JoinsBefore v.schema.page_rows place left new false (regions v)) one (before (subst (λ (v : TreeView). IsHonest v.store) (sym one) stored.honest)) in
     as_same a.schema d r (put_rows place false new (regions a)) (settle a.schema.page_rows place (put_rows place false rows (regions a)))
     (settle_before a.schema.page_rows place rows left new false (regions a) (omega arith) few (next stored.honest) at_m)
-    (rewritten_alone (record a { store = b.store }) d place new lt r (at_b (stored_kept a b.store both.pages stored)))
+    (rewritten_alone a d place new lt r (at_b stored))
+
+-- few rows that fit on the page of the region before
+pub settled_before : (a m b d : TreeView) (r : Result (Unit {0}) TreeFault) (place : ℕ) (rows left new : List Row) → place < length a.placed → nat_lt (length rows) (a.schema.page_rows / 2) ≡ true
+    → m ≡ a → b ≡ m
+    → (IsHonest a.store → JoinsNext a.schema.page_rows place rows left false (regions a)) → (IsHonest m.store → JoinsBefore m.schema.page_rows place left new true (regions m))
+    → (IsStored b → AllByRecursion (IsRegion b.schema) (put_rows (place - 1) true new (regions b)) → OnOk r (IsStored d × (regions d ≡ put_rows (place - 1) true new (regions b))))
+    → IsStored a → AllByRecursion (IsRegion a.schema) (settle a.schema.page_rows place (put_rows place false rows (regions a)))
+    → OnOk r (IsStored d × (regions d ≡ settle a.schema.page_rows place (put_rows place false rows (regions a))))
+settled_before a m b d r place rows left new lt few one two next before written stored =
+    let long = length-regions a.placed in
+    let at_b = subst (λ (v : TreeView). IsStored v → AllByRecursion (IsRegion v.schema) (put_rows (place - 1) true new (regions v))
+    → OnOk r (IsStored d × (regions d ≡ put_rows (place - 1) true new (regions v)))) (two ∙ one) written in
+    let at_m : JoinsBefore a.schema.page_rows place left new true (regions a) =
+    subst (λ (v : TreeView). JoinsBefore v.schema.page_rows place left new true (regions v)) one (before (subst (λ (v : TreeView). IsHonest v.store) (sym one) stored.honest)) in
+    as_same a.schema d r (put_rows (place - 1) true new (regions a)) (settle a.schema.page_rows place (put_rows place false rows (regions a)))
+    (settle_before a.schema.page_rows place rows left new true (regions a) (omega arith) few (next stored.honest) at_m) (at_b stored)
 
 -- a row of the key stands in the region that holds the key, or nowhere
 or_false : (b : Bool) → (b || false) ≡ b
@@ -344,15 +343,16 @@ module _ (a : TreeView) (key : Key) (place : ℕ) (rows : List Row) (h : IsHolde
       sym (length_permutation (rows_of (regions a)) (taken.row ∷ rows_of (remove a.schema.dims a.schema.page_rows key (regions a))) taken.rows)
 
 -- no row has the key
-pub none_removed : (a b : TreeView) (key : Key) (place : ℕ) (rows : List Row) → IsHolder a key place rows → b ≡ record a { store = b.store } → Keeps a.store b.store
+pub none_removed : (a b : TreeView) (key : Key) (place : ℕ) (rows : List Row) → IsHolder a key place rows → b ≡ a
     → has_key a.schema.dims key rows ≡ false → IsSound a → IsRemoved key false a b
-none_removed a b key place rows h same kept has sound = subst (IsRemoved key false a) (sym same) (record {
+none_removed a b key place rows h same has sound = subst (IsRemoved key false a) (sym same) (record {
   found_is = sym (found_is a key place rows h sound ∙ has);
   schema = refl;
   regions_are = sym (remove_none a.schema.dims a.schema.page_rows key (regions a) (found_is a key place rows h sound ∙ has));
+  table = λ old is. is;
   next = refl;
   rows = omega arith;
-  sound = keeps_sound a b.store kept sound;
+  sound = sound;
 })
 
 -- a sound tree with a row counts one
@@ -363,12 +363,12 @@ some_counted a key place rows h has none sound =
     absurd (omega arith)
 
 -- a row was taken out of a sound tree
-pub shrunk : (a b after d : TreeView) (key : Key) (place : ℕ) (rows : List Row) → IsHolder a key place rows → b ≡ record a { store = b.store } → Keeps a.store b.store → has_key a.schema.dims key rows ≡ true
-    → after ≡ record b { placed = after.placed; store = after.store; is_changed = true } → length after.placed < 2 ^ 32 → d ≡ record after { rows = after.rows - 1 }
+pub shrunk : (a b after d : TreeView) (key : Key) (place : ℕ) (rows : List Row) → IsHolder a key place rows → b ≡ a → has_key a.schema.dims key rows ≡ true
+    → after ≡ record b { placed = after.placed; store = after.store; is_changed = true } → (IsSound b → after.is_changed ≡ true → HasMark b.schema after.store.pages) → length after.placed < 2 ^ 32 → d ≡ record after { rows = after.rows - 1 }
     → (IsStored b → AllByRecursion (IsRegion b.schema) (settle b.schema.page_rows place (put_rows place false (remove_row b.schema.dims key rows) (regions b)))
     → IsStored after × (regions after ≡ settle b.schema.page_rows place (put_rows place false (remove_row b.schema.dims key rows) (regions b))))
     → IsSound a → IsRemoved key true a d
-shrunk a b after d key place rows h same kept has changed few lowered written sound =
+shrunk a b after d key place rows h same has changed marks few lowered written sound =
     let whole : after ≡ record a { placed = after.placed; store = after.store; is_changed = true } =
     changed ∙ ap (λ (v : TreeView). record v { placed = after.placed; store = after.store; is_changed = true }) same in
     let is = removed_is a key place rows h sound has in
@@ -378,9 +378,11 @@ shrunk a b after d key place rows h same kept has changed few lowered written so
     let stored_a : IsStored a = record { working = sound.working; honest = sound.honest; placed_are = sound.placed_are } in
     let at_a = subst (λ (v : TreeView). IsStored v → AllByRecursion (IsRegion v.schema) (settle v.schema.page_rows place (put_rows place false (remove_row v.schema.dims key rows) (regions v)))
     → IsStored after × (regions after ≡ settle v.schema.page_rows place (put_rows place false (remove_row v.schema.dims key rows) (regions v)))) same written in
-    let both = at_a (stored_kept a b.store kept stored_a) each in
+    let both = at_a stored_a each in
     let stored : IsStored (record a { placed = after.placed; store = after.store; is_changed = true }) = subst IsStored whole both.0 in
     let are : regions_in after.placed ≡ new = both.1 ∙ sym is in
+    let mark : HasMark a.schema after.store.pages =
+    subst (λ (v : TreeView). HasMark v.schema after.store.pages) same (marks (subst IsSound (sym same) sound) (ap (λ (v : TreeView). v.is_changed) whole)) in
     let less = one_less a key place rows h sound has in
     let counted = sound.rows_are in
     let long : length (rows_of (regions_in after.placed)) ≡ length (rows_of new) = ap (λ (rs : List Region). length (rows_of rs)) are in
@@ -388,6 +390,7 @@ shrunk a b after d key place rows h same kept has changed few lowered written so
       found_is = sym (found_is a key place rows h sound ∙ has);
       schema = refl;
       regions_are = are;
+      table = λ old is. rw are (remove_table a.schema a.next key (regions a) old sound.regions_are is (found_is a key place rows h sound ∙ has));
       next = refl;
       rows = omega arith;
       sound = record {
@@ -400,5 +403,6 @@ shrunk a b after d key place rows h same kept has changed few lowered written so
         last_next = sound.last_next;
         few = few;
         closed = λ e. cc;
+        marked = λ _. mark;
       };
     })

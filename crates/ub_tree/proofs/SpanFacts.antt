@@ -2,7 +2,8 @@
 use Rattle.std.proofs.Common.{◌≡◌, ◌<◌, ◌≤◌, ◌+◌, ℕ, zero, suc, List, [], ◌∷◌, Some, None, length, drop, get_or, ◌∙◌, sym, ap, refl, arith, slice_get, add-one}
 use Rattle.std.proofs.lemmas.Option.{slice_get_read}
 use Rattle.ub_page.specs.declared.directory.Entry.{Entry}
-use Rattle.ub_tree.specs.Spans.{address_before, span_end, first_keys, regions_of}
+use Rattle.ub_region.specs.Spans.{address_before, span_end}
+use Rattle.ub_tree.specs.Spans.{first_keys, regions_of}
 use Rattle.ub_tree.specs.declared.region.Region.{Region}
 
 -- the region of the entry at a place

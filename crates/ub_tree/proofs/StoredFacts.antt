@@ -3,19 +3,20 @@ use Rattle.std.proofs.Common.{◌≡◌, ◌≢◌, ◌<◌, ◌≤◌, ℕ, zer
 use Rattle.std.proofs.lemmas.Bool.{eq-eqb, ne_eqb}
 use Rattle.std.proofs.lemmas.List.{map-append, take-map, drop-map}
 use Rattle.std.proofs.lemmas.List.Sorted.{IsPermutation-sym, IsPermutation-middle}
-use Rattle.ub_tree.proofs.InsertFacts.{nat_eq_flips}
 use Rattle.std.proofs.lemmas.Option.{slice_get_within, get_or_from_slice_get, unwrap_or-slice_get}
 use Rattle.std.proofs.lemmas.List.Elements.{All-from_recursion, recursion_from_All}
 use Rattle.std.proofs.lemmas.Map.Keys.{IsDistinct-head, IsDistinct-tail, IsDistinct-cons, IsDistinct-IsPermutation}
 use Rattle.std.specs.List.{All, AllByRecursion, IsDistinct, insert}
 use Rattle.std.specs.Option.{unwrap_or}
-use Rattle.ub_page.specs.Region.{Region, region_on, region_page}
+use Rattle.ub_page.specs.Region.{region_on, region_page}
 use Rattle.ub_page.specs.declared.directory.Entry.{Entry}
-use Rattle.ub_page.specs.declared.row.Row.{Row}
-use Rattle.ub_page.specs.declared.schema.Schema.{Schema}
+use Rattle.ub_region.proofs.InsertFacts.{nat_eq_flips}
+use Rattle.ub_region.proofs.KeyLists.{all_more, all_append, all_left, all_right}
+use Rattle.ub_table.specs.Region.{Region}
+use Rattle.ub_table.specs.declared.row.Row.{Row}
+use Rattle.ub_table.specs.declared.schema.Schema.{Schema}
 use Rattle.ub_tree.specs.Change.{placed_with}
 use Rattle.ub_tree.specs.Placed.{Placed, ArePlaced, placed_of, entry_of}
-use Rattle.ub_tree.proofs.KeyLists.{all_more, all_append, all_left, all_right}
 use Rattle.ub_tree.proofs.TreeFacts.{placed_at}
 
 index_same : (xs ys : List (List ℕ)) (n : ℕ) → slice_get xs n ≡ slice_get ys n → slice_index_or xs n [] ≡ slice_index_or ys n []
@@ -81,7 +82,7 @@ spelled_changed schema pages new before after news kept_before kept_after told o
     (all_more (IsTold schema new) (IsSpelled schema new) (λ p h. h.0) news told))
     (spelled_kept schema pages new after kept_after old_after))
 
-differs : (a b : ℕ) → nat_eq a b ≡ false → b ≢ a
+pub differs : (a b : ℕ) → nat_eq a b ≡ false → b ≢ a
 differs a b f e = let t = eq-eqb a b (sym e) in cc
 
 -- the pages of the other regions are kept

@@ -5,20 +5,21 @@ use Rattle.std.proofs.lemmas.List.{length-map}
 use Rattle.std.proofs.lemmas.Option.{slice_get_past, slice_get_read, slice_get_within, get_or_from_slice_get}
 use Rattle.std.specs.List.{All, AllByRecursion, Contains}
 use Rattle.ub_zaddr.specs.Address.{last_address}
-use Rattle.ub_page.specs.Keys.{IsBefore, AreKeysAscending}
-use Rattle.ub_page.specs.Region.{Region, IsRegion, region_on, region_page, key_of, keys_of}
+use Rattle.ub_page.specs.Region.{region_on, region_page}
 use Rattle.ub_page.specs.declared.directory.Entry.{Entry}
-use Rattle.ub_page.specs.declared.row.Key.{Key}
-use Rattle.ub_page.specs.declared.row.Row.{Row}
-use Rattle.ub_page.specs.declared.schema.Schema.{Schema}
-use Rattle.ub_tree.specs.Keys.{precedes, is_same, are_ascending}
-use Rattle.ub_tree.specs.Regions.{AreRegions, AreApart, firsts_of, place_of}
-use Rattle.ub_tree.specs.Spans.{first_keys, span_end, regions_of}
+use Rattle.ub_region.specs.Regions.{AreRegions, AreApart, firsts_of, place_of}
+use Rattle.ub_region.specs.Spans.{span_end}
+use Rattle.ub_table.proofs.KeyFacts.{before_of, precedes_of, before_trans, not_both_before, not_before_self, ascending_get}
+use Rattle.ub_table.specs.Keys.{IsBefore, AreKeysAscending, precedes, is_same, are_ascending}
+use Rattle.ub_table.specs.Region.{Region, IsRegion, key_of, keys_of}
+use Rattle.ub_table.specs.declared.row.Key.{Key}
+use Rattle.ub_table.specs.declared.row.Row.{Row}
+use Rattle.ub_table.specs.declared.schema.Schema.{Schema}
+use Rattle.ub_tree.specs.Spans.{first_keys, regions_of}
 use Rattle.ub_tree.specs.Tree.{IsHeldBy}
 use Rattle.ub_tree.specs.Placed.{Placed, ArePlaced, placed_of, regions_in, entry_of}
 use Rattle.ub_tree.specs.View.{spans_in}
 use Rattle.ub_tree.specs.declared.region.Region.{Region as Span}
-use Rattle.ub_tree.proofs.KeyFacts.{before_of, precedes_of, before_trans, not_both_before, not_before_self, ascending_get}
 use Rattle.ub_tree.proofs.PlaceFacts.{place_is, first_at}
 use Rattle.ub_tree.proofs.SpanFacts.{region_with}
 
@@ -106,7 +107,7 @@ pub record IsKnown (schema : Schema) (entries : List Entry) (pages : List (List 
   pub region : IsRegion schema p.region
   pub held : IsHeldBy schema.dims (first_keys entries) p.region
 
-span_entry : (last : ℕ) (entries : List Entry) (i : ℕ) (r : Span) → slice_get (regions_of last entries) i ≡ Some r
+pub span_entry : (last : ℕ) (entries : List Entry) (i : ℕ) (r : Span) → slice_get (regions_of last entries) i ≡ Some r
     → (entry : Entry) × (slice_get entries i ≡ Some entry) × (entry.first ≡ r.first) × (entry.page ≡ r.page)
 span_entry last [] i r at = cc
 span_entry last (e ∷ entries) zero r at =

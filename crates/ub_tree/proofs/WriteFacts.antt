@@ -1,34 +1,36 @@
 -- What a tree's pages are after a change.
-use Rattle.std.proofs.Common.{◌≡◌, ◌≢◌, ◌<◌, ◌≤◌, ◌+◌, ◌^◌, ◌⊎◌, inl, inr, ℕ, zero, suc, Bool, true, false, List, [], ◌∷◌, ◌++◌, Some, Err, length, map, drop, nat_eq, ◌∙◌, sym, ap, subst, refl, arith, slice_get}
+use Rattle.std.proofs.Common.{◌≡◌, ◌≢◌, ◌<◌, ◌≤◌, ◌+◌, ◌^◌, ◌⊎◌, inl, inr, ℕ, zero, suc, Bool, true, false, List, [], ◌∷◌, ◌++◌, Option, None, Some, IsNone, IfSome, ◌↔◌, Err, length, map, drop, nat_eq, ◌∙◌, sym, ap, subst, refl, arith, slice_get}
 use Rattle.std.proofs.lemmas.Bool.{eq-eqb}
-use Rattle.std.proofs.lemmas.List.Edits.{length-insert, length-remove}
+use Rattle.std.proofs.lemmas.List.Elements.{recursion_from_All}
 use Rattle.std.proofs.lemmas.Map.Keys.{IsDistinct-head}
 use Rattle.std.proofs.lemmas.Option.{slice_get_within}
-use Rattle.std.specs.List.{AllByRecursion, IsDistinct, insert, remove}
-use Rattle.std.specs.Result.{IsErrOf}
-use Rattle.std.proofs.Common.{Ok, IfErr, Result}
-use Rattle.ub_page.specs.Region.{Region, IsRegion, region_on, region_page}
+use Rattle.std.specs.List.{AllByRecursion, Contains, IsDistinct, insert, remove}
+use Rattle.std.proofs.Common.{Ok, IfErr, IsTrue, OnOk, Result, IsErrOf}
+use Rattle.std.specs.Result.{IsErrAnd}
+use Rattle.ub_page.specs.Region.{region_on, region_page}
 use Rattle.ub_page.specs.declared.directory.Entry.{Entry}
-use Rattle.ub_page.specs.declared.row.Key.{Key}
-use Rattle.ub_page.specs.declared.row.Row.{Row}
-use Rattle.ub_page.specs.declared.schema.Schema.{Schema}
+use Rattle.ub_region.proofs.KeyLists.{all_right}
+use Rattle.ub_region.specs.Regions.{AreRegions, rows_of}
 use Rattle.ub_tree.specs.declared.fault.TreeFault.{TreeFault}
 use Rattle.ub_tree.specs.declared.fault.TreeFault.TheVariants.{Full, Page, Store, Failed as HasFailed, Memory}
-use Rattle.ub_store.specs.Facts.{StoreFacts, IsHonest, Rose, Failed, Keeps, Appends, MayAppend, page_count}
-use Rattle.ub_store.specs.View.{PagerView}
+use Rattle.ub_store.specs.Facts.{StoreFacts, IsHonest, Appends, page_count}
+use Rattle.ub_store.specs.View.{PagerView, SameTrace}
 use Rattle.ub_store.specs.declared.fault.StoreFault.{StoreFault}
 use Rattle.ub_store.specs.declared.fault.StoreFault.TheVariants as store
-use Rattle.ub_tree.specs.Change.{HasGivenUp, IsStored, IsFresh, Leaves, IsChangeFault, Puts, PutsTwo, placed_with}
+use Rattle.ub_table.specs.Region.{Region, IsRegion}
+use Rattle.ub_table.specs.declared.row.Key.{Key}
+use Rattle.ub_table.specs.declared.row.Row.{Row}
+use Rattle.ub_table.specs.declared.schema.Schema.{Schema}
+use Rattle.ub_tree.specs.Change.{IsStored, IsFresh, IsWriteFault, Writes, Puts, PutsTwo, Marks, PutsMark, placed_with}
+use Rattle.ub_tree.specs.Effects.{put_store, written_store, IsPageMissing, KeepsUnless, IsMarkedFirst, Leaves, HasEnded, IsLeft, Works, Changes, Searches}
 use Rattle.ub_tree.specs.Faults.{tree_fault}
-use Rattle.ub_tree.specs.Regions.{AreRegions, rows_of}
 use Rattle.ub_tree.specs.Tree.{known_pages, tree_view}
 use Rattle.ub_tree.specs.Placed.{Placed, ArePlaced, placed_of, regions_in, entry_of}
-use Rattle.ub_tree.specs.Stored.{IsChain, AreSoundPages}
+use Rattle.ub_tree.specs.Stored.{IsChain, AreSoundPages, IsMarkPage, HasMark}
 use Rattle.ub_tree.specs.View.{TreeView, IsSound}
 use Rattle.ub_tree.proofs.CallFacts.{known_is}
-use Rattle.ub_tree.proofs.KeyLists.{all_right}
-use Rattle.ub_tree.proofs.StoredFacts.{IsTold, numbers_of, rewritten_pages, split_pages, extended_pages, fresh_number}
-use Rattle.ub_tree.proofs.TreeFacts.{length-placed, placed_at, placed_get}
+use Rattle.ub_tree.proofs.StoredFacts.{IsTold, numbers_of, differs, rewritten_pages, split_pages, extended_pages, fresh_number}
+use Rattle.ub_tree.proofs.TreeFacts.{each_get, entries_back, placed_at, placed_get}
 
 pub stored_of : (t : TreeView) → IsSound t → IsStored t
 stored_of t sound = record { working = sound.working; honest = sound.honest; placed_are = sound.placed_are }
@@ -76,34 +78,54 @@ pub missing_page : (t : TreeView) (count page : ℕ) (found : List ℕ) → IsSo
 missing_page t count page found sound is at (inl none) = let lt = slice_get_within t.store.pages page found at in omega arith
 missing_page t count page found sound is at (inr past) = let lt = slice_get_within t.store.pages page found at in omega arith
 
+numbers_get : (schema : Schema) (pages : List (List ℕ)) (entries : List Entry) (i : ℕ) (e : Entry) → slice_get entries i ≡ Some e → slice_get (numbers_of (placed_of schema pages entries)) i ≡ Some e.page
+numbers_get schema pages [] i e at = cc
+numbers_get schema pages (f ∷ entries) zero e at = let same : f ≡ e = cc in ap (λ (x : Entry). Some x.page) same
+numbers_get schema pages (f ∷ entries) (suc i) e at = numbers_get schema pages entries i e at
+
+-- the page of a region isn't the first
+pub own_page : (schema : Schema) (entries : List Entry) (chain : List ℕ) (pages known : List (List ℕ)) (place : ℕ) (e : Entry) → ArePlaced schema (placed_of schema known entries) (0 ∷ chain) pages
+    → slice_get entries place ≡ Some e → e.page ≢ 0
+own_page schema entries chain pages known place e placed_are at =
+    let numbers = numbers_of (placed_of schema known entries) in
+    differs 0 e.page (each_get (λ m. nat_eq 0 m ≡ false) numbers place e.page
+    (all_right (λ m. nat_eq 0 m ≡ false) chain numbers (IsDistinct-head nat_eq 0 (chain ++ numbers) placed_are.own)) (numbers_get schema known entries place e at))
+
+-- a sound tree has a page after the first
+pub second_page : (t : TreeView) (chain : List ℕ) → t.reserved ≡ 0 ∷ chain → 1 ≤ length chain → IsSound t → 2 ≤ length t.store.pages
+second_page t [] is some sound = absurd (omega arith)
+second_page t (n ∷ chain) is some sound =
+    let own = subst (λ (ns : List ℕ). IsDistinct nat_eq (ns ++ numbers_of t.placed)) is sound.placed_are.own in
+    let within = subst (λ (ns : List ℕ). AllByRecursion (λ m. m < length t.store.pages) ns) is (recursion_from_All (λ m. m < length t.store.pages) t.reserved sound.placed_are.within) in
+    let apart = differs 0 n (IsDistinct-head nat_eq 0 ((n ∷ chain) ++ numbers_of t.placed) own).0 in
+    let lt = within.1.0 in
+    omega arith
+
 -- pages were added, perhaps
 pub record IsExtended (old new : StoreFacts) : Type 0 where
   pub honesty : new.honest ≡ old.honest
   pub kept : IsHonest old → (m : ℕ) → m < length old.pages → slice_get new.pages m ≡ slice_get old.pages m
   pub more : length old.pages ≤ length new.pages
 
-pub extended_keeps : (old new : StoreFacts) → Keeps old new → IsExtended old new
-extended_keeps old new k = record {
-  honesty = k.honesty;
-  kept = λ honest m lt. ap (λ (pages : List (List ℕ)). slice_get pages m) (k.pages honest);
-  more = (let count = k.count in omega arith);
-}
-
 appended_get : (pages : List (List ℕ)) (page : List ℕ) (m : ℕ) → m < length pages → slice_get (pages ++ page ∷ []) m ≡ slice_get pages m
 appended_get [] page m lt = absurd (omega arith)
 appended_get (q ∷ pages) page zero lt = refl
 appended_get (q ∷ pages) page (suc m) lt = appended_get pages page m (omega arith)
 
-pub extended_appends : (page : List ℕ) (old new : StoreFacts) → Appends page old new → IsExtended old new
-extended_appends page old new a = record {
-  honesty = a.honesty;
-  kept = λ honest m lt. ap (λ (pages : List (List ℕ)). slice_get pages m) (a.pages honest) ∙ appended_get old.pages page m lt;
-  more = (let count = a.count in omega arith);
+pub extended_appends : (page : List ℕ) (old new : StoreFacts) → new.honest ≡ old.honest → Appends page old new → IsExtended old new
+extended_appends page old new honesty a = record {
+  honesty = honesty;
+  kept = λ honest m lt. ap (λ (pages : List (List ℕ)). slice_get pages m) (a.1 honest) ∙ appended_get old.pages page m lt;
+  more = (let count = a.0 in omega arith);
 }
 
-pub extended_may : (old new : StoreFacts) → MayAppend old new → IsExtended old new
-extended_may old new (inl k) = extended_keeps old new k
-extended_may old new (inr a) = extended_appends a.0 old new a.1
+pub extended_may : (old new : StoreFacts) → new.honest ≡ old.honest → (new.pages ≡ old.pages) ⊎ ((page : List ℕ) × Appends page old new) → IsExtended old new
+extended_may old new honesty (inl same) = record {
+  honesty = honesty;
+  kept = λ honest m lt. ap (λ (pages : List (List ℕ)). slice_get pages m) same;
+  more = (let count = ap length same in omega arith);
+}
+extended_may old new honesty (inr a) = extended_appends a.0 old new honesty a.1
 
 chain_extended : (pages new : List (List ℕ)) (chain : List ℕ) (entries : List Entry) → ((m : ℕ) → m < length pages → slice_get new m ≡ slice_get pages m) → IsChain pages chain entries → IsChain new chain entries
 chain_extended pages new [] entries kept h = h
@@ -135,6 +157,10 @@ sound_pages_extended pages new schema placed next kept more h = record {
   };
 }
 
+-- and the mark
+mark_extended : (schema : Schema) (pages new : List (List ℕ)) → ((m : ℕ) → m < length pages → slice_get new m ≡ slice_get pages m) → HasMark schema pages → HasMark schema new
+mark_extended schema pages new kept h = (h.0, h.1, kept 0 (slice_get_within pages 0 h.0 h.2) ∙ h.2)
+
 module _ (schema : Schema) (entries : List Entry) (chain : List ℕ) (next rows : ℕ) (changed failed : Bool) (old new : PagerView) (extended : IsExtended old.store new.store) where
   abbrev before : TreeView
   before = tree_view schema entries chain next rows changed failed old
@@ -153,10 +179,10 @@ module _ (schema : Schema) (entries : List Entry) (chain : List ℕ) (next rows 
       let both = by_known (known_pages old.store) (known_pages new.store) (known_is old.store stored.honest) (known_is new.store now) stored.honest stored.placed_are in
       (record { working = stored.working; honest = now; placed_are = both.0 }, both.1)
 
-  pub extended_leaves : Leaves before after
-  extended_leaves sound =
+  extended_sound : IsSound before → (placed_of schema (known_pages new.store) entries ≡ placed_of schema (known_pages old.store) entries) × IsSound after
+  extended_sound sound =
       let both = extended_stored (stored_of before sound) in (
-        record { schema = refl; placed = both.1; rows = refl; next = refl },
+        both.1,
         record {
           working = sound.working;
           honest = both.0.honest;
@@ -168,8 +194,18 @@ module _ (schema : Schema) (entries : List Entry) (chain : List ℕ) (next rows 
           few = subst (λ (ps : List Placed). length ps < 2 ^ 32) (sym both.1) sound.few;
           closed = λ e. subst (λ (ps : List Placed). AreSoundPages new.store.pages schema ps next) (sym both.1)
               (sound_pages_extended old.store.pages new.store.pages schema (placed_of schema (known_pages old.store) entries) next (extended.kept sound.honest) extended.more (sound.closed e));
+          marked = λ e. mark_extended schema old.store.pages new.store.pages (extended.kept sound.honest) (sound.marked e);
         },
       )
+
+  pub extended_leaves : new.store ≡ record old.store { pages = new.store.pages; synced = new.store.synced } → SameTrace old new → Leaves before after
+  extended_leaves same trace = record {
+    same = rw (trace.0, trace.1) (ap (λ (s : StoreFacts). record after { store = s; trace = old.trace; fetches = old.fetches }) same);
+    entries = entries_back schema (known_pages new.store) entries ∙ sym (entries_back schema (known_pages old.store) entries);
+    more = extended.more;
+    pages = extended.kept;
+    sound = extended_sound;
+  }
 
   pub extended_fresh : (n : ℕ) → n ≡ length old.store.pages → IsStored before → IsFresh n after
   extended_fresh n is stored =
@@ -180,12 +216,88 @@ module _ (schema : Schema) (entries : List Entry) (chain : List ℕ) (next rows 
       fresh_of : (pages : List (List ℕ)) → pages ≡ old.store.pages → ArePlaced schema (placed_of schema pages entries) (0 ∷ chain) old.store.pages → IsDistinct nat_eq (n ∷ ((0 ∷ chain) ++ numbers_of (placed_of schema pages entries)))
       fresh_of pages is_old placed_are = rw is_old (fresh_number schema entries chain old.store.pages n (rw is_old at placed_are) (omega arith))
 
-pub extend_refused : {U : Type 0} (fault : StoreFault) (old new : TreeView) → (IsErrOf {T = U} (Err fault) store.Device → Failed old.store new.store) → (¬ (IsErrOf {T = U} (Err fault) store.NoPage)) → (¬ (IsErrOf {T = U} (Err fault) store.Device)) → (IsErrOf {T = U} (Err fault) store.BadSize → 4294967295 ≤ page_count new.store) → Leaves old new
-    → IsChangeFault old new (tree_fault fault)
-extend_refused store.Device old new device no_page no_device full leaves = absurd (no_device refl)
-extend_refused store.NoPage old new device no_page no_device full leaves = absurd (no_page refl)
-extend_refused store.Memory old new device no_page no_device full leaves = leaves
-extend_refused store.BadSize old new device no_page no_device full leaves = (inl (full refl), leaves)
+-- a store that was extended or written, by the fault of the store and by that of the tree
+pub put_is : (U V : Type 0) (fault : StoreFault) (old new : StoreFacts) → put_store {A = U} (Err fault) old new ≡ written_store {A = V} (Err (Store fault)) old new
+put_is U V store.Device old new = refl
+put_is U V store.NoPage old new = refl
+put_is U V store.Memory old new = refl
+put_is U V store.BadSize old new = refl
+
+-- a tree whose pages were written, with this directory now
+module _ (schema : Schema) (entries later : List Entry) (chain : List ℕ) (next rows : ℕ) (changed now_changed failed now_failed : Bool) (old new : PagerView) where
+  pub wrote_tree : {T : Type 0} (r : Result T TreeFault) → new.store ≡ written_store r old.store new.store → SameTrace old new
+      → tree_view schema later chain next rows now_changed now_failed new
+      ≡ record (tree_view schema entries chain next rows changed failed old) { placed = placed_of schema (known_pages new.store) later; is_changed = now_changed; is_failed = now_failed; store = written_store r old.store new.store }
+  wrote_tree r same trace =
+      rw (trace.0, trace.1) (ap (λ (s : StoreFacts). record (tree_view schema entries chain next rows now_changed now_failed old) { placed = placed_of schema (known_pages new.store) later; store = s }) same)
+
+  -- a write that failed
+  pub ended_by : (U : Type 0) (fault : StoreFault) → now_failed ≡ true → later ≡ entries → new.store ≡ put_store {A = U} (Err fault) old.store new.store → SameTrace old new
+      → HasEnded (Store fault) (tree_view schema entries chain next rows changed failed old) (tree_view schema later chain next rows now_changed now_failed new)
+  ended_by U fault ended back same trace = record {
+    same = wrote_tree {T = TreeFault} (Err (Store fault)) (same ∙ put_is U TreeFault fault old.store new.store) trace
+        ∙ ap (λ (b : Bool). record (tree_view schema entries chain next rows changed failed old) { placed = placed_of schema (known_pages new.store) later; is_changed = now_changed; is_failed = b; store = written_store {A = TreeFault} (Err (Store fault)) old.store new.store }) ended;
+    entries = entries_back schema (known_pages new.store) later ∙ back ∙ sym (entries_back schema (known_pages old.store) entries);
+  }
+
+  -- what a call did that marked the table, where it wasn't marked
+  pub marks_first : (mark : Option (List ℕ)) (numbers : List ℕ) → (IsNone mark ↔ (changed ≡ true)) → IfSome mark (IsMarkPage schema) → Marks mark numbers changed now_changed old.store new.store
+      → (IsSound (tree_view schema entries chain next rows changed failed old) → AllByRecursion (λ n. n ≢ 0) numbers)
+      → IsMarkedFirst (tree_view schema entries chain next rows changed failed old) (tree_view schema later chain next rows now_changed now_failed new)
+  marks_first mark numbers is page marks own = record { kept = marks.kept; marked = λ sound e. by_mark mark sound is.0 page (marks.first sound.honest (own sound) e) }
+    where
+      by_mark : (o : Option (List ℕ)) → IsSound (tree_view schema entries chain next rows changed failed old) → (IsNone o → changed ≡ true) → IfSome o (IsMarkPage schema) → PutsMark o old.store new.store
+          → HasMark schema new.store.pages
+      by_mark None sound is page puts = let had = sound.marked (is refl) in (had.0, had.1, puts ∙ had.2)
+      by_mark (Some p) sound is page puts = (p, page, puts)
+
+  -- what a call that wrote did
+  pub wrote : {T : Type 0} (r : Result T TreeFault) → new.store ≡ written_store r old.store new.store → SameTrace old new
+      → IsMarkedFirst (tree_view schema entries chain next rows changed failed old) (tree_view schema later chain next rows now_changed now_failed new) → OnOk r (now_failed ≡ failed)
+      → IfErr r (IsWriteFault (tree_view schema entries chain next rows changed failed old) (tree_view schema later chain next rows now_changed now_failed new))
+      → Writes (tree_view schema entries chain next rows changed failed old) (tree_view schema later chain next rows now_changed now_failed new) r
+  wrote r same trace marked done faults = record { frame = wrote_tree r same trace; marked = marked; done = done; faults = faults }
+
+-- an extension that failed
+module _ (schema : Schema) (entries : List Entry) (chain : List ℕ) (next rows : ℕ) (changed failed : Bool) (old new : PagerView) (extended : IsExtended old.store new.store) (U : Type 0) where
+  extension_marked : (now : Bool) → IsMarkedFirst (tree_view schema entries chain next rows changed failed old) (tree_view schema entries chain next rows changed now new)
+  extension_marked now = record {
+    kept = λ honest unmarked m not_first lt. extended.kept honest m lt;
+    marked = λ sound e. mark_extended schema old.store.pages new.store.pages (extended.kept sound.honest) (sound.marked e);
+  }
+
+  pub extension_ended : {T : Type 0} (fault : StoreFault) → fault ≡ store.Device → new.store ≡ put_store {A = U} (Err fault) old.store new.store → SameTrace old new → IsTrue old.store.can_fail
+      → Changes {A = T} (tree_view schema entries chain next rows changed failed old) (tree_view schema entries chain next rows changed true new) (Err (Store store.Device))
+  extension_ended fault is failing trace can =
+      let same : new.store ≡ put_store {A = U} (Err store.Device) old.store new.store = failing ∙ ap (λ (f : StoreFault). put_store {A = U} (Err f) old.store new.store) is in record {
+        frame = (let whole = (ended_by schema entries entries chain next rows changed changed failed true old new U store.Device refl refl same trace).same in
+            whole ∙ ap (λ (s : StoreFacts). record (tree_view schema entries chain next rows changed true old) { placed = placed_of schema (known_pages new.store) entries; store = s }) (sym same));
+        marked = extension_marked true;
+        done = tt;
+        left = (can, inr (ended_by schema entries entries chain next rows changed changed failed true old new U store.Device refl refl same trace));
+      }
+
+  leaves_changed : {T : Type 0} (e : TreeFault) → Leaves (tree_view schema entries chain next rows changed failed old) (tree_view schema entries chain next rows changed failed new)
+      → IsLeft (tree_view schema entries chain next rows changed failed old) (tree_view schema entries chain next rows changed failed new) e
+      → Changes {A = T} (tree_view schema entries chain next rows changed failed old) (tree_view schema entries chain next rows changed failed new) (Err e)
+  leaves_changed e leaves left = record {
+    frame = leaves.same ∙ ap (λ (s : StoreFacts). record (tree_view schema entries chain next rows changed failed old) { placed = placed_of schema (known_pages new.store) entries; store = s }) (ap (λ (v : TreeView). v.store) (sym leaves.same));
+    marked = extension_marked failed;
+    done = tt;
+    left = left;
+  }
+
+  pub extension_refused : {T : Type 0} (fault : StoreFault) (e : TreeFault) → e ≡ tree_fault fault → new.store ≡ put_store {A = U} (Err fault) old.store new.store → SameTrace old new
+      → (¬ (IsErrOf {T = U} (Err fault) store.NoPage)) → (¬ (fault ≡ store.Device)) → (IsErrOf {T = U} (Err fault) store.BadSize → page_count old.store ≡ 4294967295)
+      → Changes {A = T} (tree_view schema entries chain next rows changed failed old) (tree_view schema entries chain next rows changed failed new) (Err e)
+  extension_refused store.Device e is same trace no_page no_device full = absurd (no_device refl)
+  extension_refused store.NoPage e is same trace no_page no_device full = absurd (no_page refl)
+  extension_refused store.Memory e is same trace no_page no_device full =
+      let leaves = extended_leaves schema entries chain next rows changed failed old new extended same trace in
+      rw is (leaves_changed Memory leaves leaves)
+  extension_refused store.BadSize e is same trace no_page no_device full =
+      let leaves = extended_leaves schema entries chain next rows changed failed old new extended same trace in
+      rw is (leaves_changed (Store store.BadSize) leaves (inl (let most = full refl in omega arith), leaves))
 
 -- the rows of the region at a place, put on its page and on another one
 module _ (schema : Schema) (entries : List Entry) (chain : List ℕ) (next rows : ℕ) (changed failed : Bool) (old new : PagerView) (place : ℕ) (e x : Entry) (left right : List Row) (page other : List ℕ)
@@ -263,50 +375,141 @@ halves_missing t count n page found sound is there at (inl none) = omega arith
 halves_missing t count n page found sound is there at (inr (inl past)) = omega arith
 halves_missing t count n page found sound is there at (inr (inr past)) = let lt = slice_get_within t.store.pages page found at in omega arith
 
-length-put_and_taken : {X : Type 0} (xs : List X) (i : ℕ) (x : X) → i < length xs → length (remove (insert xs (i + 1) x) (i + 1)) ≡ length xs
-length-put_and_taken xs i x lt =
-    let put = length-insert xs (i + 1) x (omega arith) in
-    let taken = length-remove (insert xs (i + 1) x) (i + 1) (omega arith) in
-    omega arith
+-- what was put in and taken out again
+pub put_and_taken : {X : Type 0} (xs : List X) (i : ℕ) (x : X) → i ≤ length xs → remove (insert xs i x) i ≡ xs
+put_and_taken [] zero x le = refl
+put_and_taken [] (suc i) x le = absurd (omega arith)
+put_and_taken (y ∷ xs) zero x le = refl
+put_and_taken (y ∷ xs) (suc i) x le = ap (λ ys. y ∷ ys) (put_and_taken xs i x (omega arith))
 
--- an entry that was put in was taken out again
-pub given_up_at : (schema : Schema) (entries later : List Entry) (chain : List ℕ) (next rows : ℕ) (changed now_changed failed : Bool) (old new : PagerView) (place : ℕ) (x : Entry) → place < length entries
-    → later ≡ remove (insert entries (place + 1) x) (place + 1)
-    → HasGivenUp (tree_view schema entries chain next rows changed failed old) (tree_view schema later chain next rows now_changed true new)
-given_up_at schema entries later chain next rows changed now_changed failed old new place x lt is = record {
-  failed = refl;
-  schema = refl;
-  regions = length-placed schema (known_pages new.store) later ∙ ap length is ∙ length-put_and_taken entries place x lt ∙ sym (length-placed schema (known_pages old.store) entries);
-  rows = refl;
+-- a call that only writes, after pages were added
+module _ (a b c : TreeView) (grown : Leaves a b) where
+  more_unless : (changed : Bool) → b.store.honest ≡ a.store.honest → KeepsUnless changed b.store c.store → KeepsUnless changed a.store c.store
+  more_unless changed honest kept is unmarked m not_first lt =
+      let more = grown.more in
+      kept (honest ∙ is) unmarked m not_first (omega arith) ∙ grown.pages is m lt
+
+  honest_b : b.store.honest ≡ a.store.honest
+  honest_b = ap (λ (v : TreeView). v.store.honest) grown.same
+
+  more_leaves : Leaves b c → Leaves a c
+  more_leaves h = record {
+    same = h.same ∙ ap (λ (v : TreeView). record v { placed = c.placed; store = record v.store { pages = c.store.pages; synced = c.store.synced } }) grown.same;
+    entries = h.entries ∙ grown.entries;
+    more = (let first = grown.more in let second = h.more in omega arith);
+    pages = λ honest m lt. (let more = grown.more in h.pages (honest_b ∙ honest) m (omega arith) ∙ grown.pages honest m lt);
+    sound = λ sound. (let first = grown.sound sound in let second = h.sound first.1 in (second.0 ∙ first.0, second.1));
+  }
+
+  more_ended : (fault : TreeFault) → HasEnded fault b c → HasEnded fault a c
+  more_ended fault h = record {
+    same = h.same ∙ ap (λ (v : TreeView). record v { placed = c.placed; is_changed = c.is_changed; is_failed = true; store = written_store {A = TreeFault} (Err fault) v.store c.store }) grown.same;
+    entries = h.entries ∙ grown.entries;
+  }
+
+  more_missing : IsPageMissing b → IsPageMissing a
+  more_missing h = (h.0, subst (λ (es : List Entry). Contains es h.0) grown.entries h.1, (let more = grown.more in let past = h.2 in omega arith))
+
+  more_faults : (fault : TreeFault) → IsWriteFault b c fault → IsLeft a c fault
+  more_faults Full h = absurd h
+  more_faults HasFailed h = absurd h
+  more_faults Memory h = more_leaves h
+  more_faults (Page page fault) h = absurd h
+  more_faults (Store store.Device) h = (subst (λ (v : TreeView). IsTrue v.store.can_fail) grown.same h.0, inr (more_ended (Store store.Device) h.1))
+  more_faults (Store store.NoPage) h = ((λ sound. h.0 (grown.sound sound).1), more_missing h.1, inr (more_ended (Store store.NoPage) h.2))
+  more_faults (Store store.BadSize) h = absurd h
+  more_faults (Store store.Memory) h = absurd h
+
+  more_done : {T : Type 0} (r : Result T TreeFault) → OnOk r (c.is_failed ≡ b.is_failed) → c.store ≡ written_store r b.store c.store → OnOk r (Works a c)
+  more_done (Ok x) done same = (done ∙ ap (λ (v : TreeView). v.is_failed) grown.same, same ∙ ap (λ (v : TreeView). record v.store { pages = c.store.pages; synced = c.store.synced }) grown.same)
+  more_done (Err e) done same = tt
+
+  more_left : {T : Type 0} (r : Result T TreeFault) → IfErr r (IsWriteFault b c) → IfErr r (IsLeft a c)
+  more_left (Ok x) faults = tt
+  more_left (Err e) faults = more_faults e faults
+
+  -- the whole is a change
+  pub grown_then : {T : Type 0} (r : Result T TreeFault) → Writes b c r → Changes a c r
+  grown_then r w = record {
+    frame = (
+        let whole = w.frame ∙ ap (λ (v : TreeView). record v { placed = c.placed; is_changed = c.is_changed; is_failed = c.is_failed; store = written_store r b.store c.store }) grown.same in
+        whole ∙ ap (λ (v : TreeView). record a { placed = c.placed; rows = v.rows; next = v.next; is_changed = c.is_changed; is_failed = c.is_failed; store = v.store }) (sym whole));
+    marked = record {
+      kept = more_unless c.is_changed honest_b w.marked.kept;
+      marked = λ sound e. subst (λ (s : Schema). HasMark s c.store.pages) (ap (λ (v : TreeView). v.schema) grown.same) (w.marked.marked (grown.sound sound).1 e);
+    };
+    done = more_done r w.done (ap (λ (v : TreeView). v.store) w.frame);
+    left = more_left r w.faults;
+  }
+
+-- the mark of a tree that is as it was
+same_marked : (a : TreeView) → IsMarkedFirst a a
+same_marked a = record { kept = λ honest unmarked m not_first lt. refl; marked = λ sound e. sound.marked e }
+
+pub same_leaves : (a : TreeView) → Leaves a a
+same_leaves a = record { same = refl; entries = refl; more = omega arith; pages = λ honest m lt. refl; sound = λ sound. (refl, sound) }
+
+-- a call that only writes is a change
+pub changed_by : {T : Type 0} (r : Result T TreeFault) (a c : TreeView) → Writes a c r → Changes a c r
+changed_by r a c w = grown_then a a c (same_leaves a) r w
+
+-- a refusal after which all is as it was
+pub unchanged : {T : Type 0} (e : TreeFault) (a : TreeView) → IsLeft a a e → Changes {A = T} a a (Err e)
+unchanged e a left = record { frame = refl; marked = same_marked a; done = tt; left = left }
+
+-- memory was refused before anything was written
+pub no_memory : {T : Type 0} (r : Result T TreeFault) (a c : TreeView) → IsErrAnd r (λ e. e ≡ Memory) → c ≡ a → Writes a c r
+no_memory (Ok x) a c is same = absurd is
+no_memory {T} (Err e) a c is same =
+    rw is (subst (λ (v : TreeView). Writes {A = T} a v (Err Memory)) (sym same) (record { frame = refl; marked = same_marked a; done = tt; faults = same_leaves a }))
+
+-- the same refusal of another call
+pub left_by : {T U : Type 0} (r : Result T TreeFault) (e : TreeFault) (a c : TreeView) → IsErrAnd r (λ x. x ≡ e) → Changes {A = U} a c (Err e) → Changes a c r
+left_by (Ok x) e a c is h = absurd is
+left_by (Err f) e a c is h = rw is (record { frame = h.frame; marked = h.marked; done = tt; left = h.left })
+
+-- a search that was refused, as a change
+searched_left : (e : TreeFault) (a c : TreeView) → Searches {A = TreeFault} a c (Err e) → IsLeft a c e
+searched_left Full a c h = absurd h.faults
+searched_left HasFailed a c h = (h.faults, h.same)
+searched_left Memory a c h = subst (λ (v : TreeView). Leaves a v) (sym h.same) (same_leaves a)
+searched_left (Page page fault) a c h = (h.faults.0, inl h.faults.1, h.same)
+searched_left (Store store.Device) a c h = (h.faults, inl h.same)
+searched_left (Store store.NoPage) a c h = (h.faults.0, h.faults.1, inl h.same)
+searched_left (Store store.BadSize) a c h = absurd h.faults
+searched_left (Store store.Memory) a c h = absurd h.faults
+
+pub searched_by : {T U : Type 0} (r : Result T TreeFault) (e : TreeFault) (a c : TreeView) → IsErrAnd r (λ x. x ≡ e) → Searches {A = U} a c (Err e) → Changes a c r
+searched_by (Ok x) e a c is h = absurd is
+searched_by (Err f) e a c is h =
+    let frame : c ≡ record a { placed = c.placed; rows = c.rows; next = c.next; is_changed = c.is_changed; is_failed = c.is_failed; store = c.store } =
+    h.same ∙ ap (λ (v : TreeView). record a { placed = v.placed; rows = v.rows; next = v.next; is_changed = v.is_changed; is_failed = v.is_failed; store = v.store }) (sym h.same) in
+    rw is (record {
+      frame = frame;
+      marked = subst (λ (v : TreeView). IsMarkedFirst a v) (sym h.same) (record { kept = λ honest unmarked m not_first lt. refl; marked = λ sound e. sound.marked e });
+      done = tt;
+      left = searched_left e a c (record { same = h.same; faults = h.faults });
+    })
+
+pub changes_by : {T U : Type 0} (r : Result T TreeFault) (e : TreeFault) (a c : TreeView) → IsErrAnd r (λ x. x ≡ e) → Writes {A = U} a c (Err e) → Changes a c r
+changes_by r e a c is w = left_by r e a c is (changed_by {T = TreeFault} (Err e) a c (record { frame = w.frame; marked = w.marked; done = tt; faults = w.faults }))
+
+-- a change after which rows are counted, or a region is dropped
+pub counted_anew : {T U : Type 0} (x : T) (y : U) (a mid d : TreeView) (placed : List Placed) (rows next : ℕ) → d ≡ record mid { placed = placed; rows = rows; next = next }
+    → Changes {A = T} a mid (Ok x) → Changes {A = U} a d (Ok y)
+counted_anew x y a mid d placed rows next is h = record {
+  frame = is ∙ ap (λ (v : TreeView). record v { placed = placed; rows = rows; next = next }) h.frame
+      ∙ ap (λ (v : TreeView). record a { placed = v.placed; rows = v.rows; next = v.next; is_changed = v.is_changed; is_failed = v.is_failed; store = v.store }) (sym is);
+  marked = subst (λ (v : TreeView). IsMarkedFirst a v) (sym is) (record { kept = h.marked.kept; marked = h.marked.marked });
+  done = subst (λ (v : TreeView). Works a v) (sym is) h.done;
+  left = tt;
 }
 
-kept_after : (a b c : TreeView) → Leaves a b → Leaves b c → Leaves a c
-kept_after a b c first second sound =
-    let one = first sound in
-    let two = second one.1 in
-    (record { schema = two.0.schema ∙ one.0.schema; placed = two.0.placed ∙ one.0.placed; rows = two.0.rows ∙ one.0.rows; next = two.0.next ∙ one.0.next }, two.1)
+-- a change after a search
+pub then_changed : {T : Type 0} (r : Result T TreeFault) (a b c : TreeView) → b ≡ a → Changes b c r → Changes a c r
+then_changed r a b c same h = subst (λ (v : TreeView). Changes v c r) same h
 
-rose_from : (x y z : ℕ) → x ≤ y → Rose y z → Rose x z
-rose_from x y z le (inl lt) = inl (omega arith)
-rose_from x y z le (inr most) = inr most
-
-change_past : (a b c : TreeView) (fault : TreeFault) → Leaves a b → b ≡ record a { placed = b.placed; store = b.store } → length b.placed ≡ length a.placed → a.store.failures ≤ b.store.failures
-    → IsChangeFault b c fault → (fault ≡ Store store.Device → HasGivenUp b c) → IsChangeFault a c fault
-change_past a b c Full leaves same count more h given = (sym (ap (λ (t : TreeView). t.next) same) ∙ h.0, kept_after a b c leaves h.1)
-change_past a b c HasFailed leaves same count more h given = (sym (ap (λ (t : TreeView). t.is_failed) same) ∙ h.0, kept_after a b c leaves h.1)
-change_past a b c Memory leaves same count more h given = kept_after a b c leaves h
-change_past a b c (Page page fault) leaves same count more h given = λ sound. h (leaves sound).1
-change_past a b c (Store store.Device) leaves same count more h given =
-    let up = given refl in (
-      rose_from a.store.failures b.store.failures c.store.failures more h.0,
-      inl (record { failed = up.failed; schema = up.schema ∙ ap (λ (t : TreeView). t.schema) same; regions = up.regions ∙ count; rows = up.rows ∙ ap (λ (t : TreeView). t.rows) same }),
-    )
-change_past a b c (Store store.NoPage) leaves same count more h given = λ sound. h (leaves sound).1
-change_past a b c (Store store.BadSize) leaves same count more h given = (h.0, kept_after a b c leaves h.1)
-change_past a b c (Store store.Memory) leaves same count more h given = h
-
--- a fault of a change after a page was added
-pub change_after : {T : Type 0} (r : Result T TreeFault) (a b c : TreeView) → Leaves a b → b ≡ record a { placed = b.placed; store = b.store } → length b.placed ≡ length a.placed → a.store.failures ≤ b.store.failures
-    → IfErr r (IsChangeFault b c) → (IsErrOf r (Store store.Device) → HasGivenUp b c) → IfErr r (IsChangeFault a c)
-change_after (Ok x) a b c leaves same count more h given = tt
-change_after (Err e) a b c leaves same count more h given = change_past a b c e leaves same count more h (λ is. given (rw is refl))
+-- nothing was changed
+pub nothing_changed : {T : Type 0} (x : T) (a b : TreeView) → b ≡ a → Changes a b (Ok x)
+nothing_changed x a b same =
+    subst (λ (v : TreeView). Changes a v (Ok x)) (sym same) (record { frame = refl; marked = same_marked a; done = (refl, refl); left = tt })

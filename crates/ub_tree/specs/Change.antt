@@ -1,23 +1,25 @@
 -- What a change of one region does to a tree.
-use Rattle.std.specs.Prelude.{◌≡◌, ◌≢◌, ◌<◌, ◌≤◌, ◌+◌, ◌-◌, ◌⊎◌, ◌++◌, ℕ, ℤ, pos, suc, true, false, List, [], ◌∷◌, Some, IsTrue, Bool, length, map, take, drop, replicate, slice_get}
+use Rattle.std.specs.Prelude.{IfSome, ◌≡◌, ◌≢◌, ◌<◌, ◌+◌, ◌-◌, ◌++◌, ℕ, ℤ, pos, suc, Bool, true, false, List, [], ◌∷◌, Option, Some, MatchOption, IsTrue, Result, IfErr, OnOk, length, map, take, drop, replicate, slice_get}
 use Rattle.std.specs.Bool.{nat_eq}
-use Rattle.std.specs.List.{IsDistinct}
+use Rattle.std.specs.List.{AllByRecursion, IsDistinct}
 use Rattle.std.specs.List.{insert as insert_at}
+use Rattle.ub_region.specs.Regions.{AreTableRows, insert, split_region}
+use Rattle.ub_region.specs.Rows.{Halves}
 use Rattle.ub_zaddr.specs.Address.{last_address}
-use Rattle.ub_tree.specs.Spans.{ArePlaces}
-use Rattle.ub_page.specs.Region.{Region}
-use Rattle.ub_page.specs.declared.row.Row.{Row}
-use Rattle.ub_page.specs.declared.row.Key.{Key}
-use Rattle.ub_page.specs.declared.schema.Schema.{Schema}
-use Rattle.ub_store.specs.Facts as facts
-use Rattle.ub_store.specs.Facts.{StoreFacts, IsHonest, Failed, page_count}
+use Rattle.ub_tree.specs.Spans.{ArePlaces, first_keys}
+use Rattle.ub_store.specs.Facts.{StoreFacts, IsHonest, page_count}
 use Rattle.ub_store.specs.declared.fault.StoreFault.TheVariants as store
-use Rattle.ub_tree.specs.Regions.{insert, split_region}
-use Rattle.ub_tree.specs.Rows.{Halves}
+use Rattle.ub_page.specs.declared.directory.Entry.{Entry}
+use Rattle.ub_table.specs.Keys.{IsBefore}
+use Rattle.ub_table.specs.Region.{Region, IsRegion, keys_of}
+use Rattle.ub_table.specs.declared.row.Key.{Key}
+use Rattle.ub_table.specs.declared.row.Row.{Row}
+use Rattle.ub_table.specs.declared.schema.Schema.{Schema}
+use Rattle.ub_tree.specs.Effects.{written_store, IsPageMissing, KeepsUnless, IsMarkedFirst, Leaves, HasEnded}
 use Rattle.ub_tree.specs.Placed.{Placed, ArePlaced, entry_of}
-use Rattle.ub_tree.specs.View.{TreeView, IsSound, KeepsRegions, regions}
+use Rattle.ub_tree.specs.View.{TreeView, IsSound, regions}
 use Rattle.ub_tree.specs.declared.fault.TreeFault.{TreeFault}
-use Rattle.ub_tree.specs.declared.fault.TreeFault.TheVariants.{Full, Page, Store, Failed as HasFailed, Memory}
+use Rattle.ub_tree.specs.declared.fault.TreeFault.TheVariants.{Store, Memory}
 
 -- a row of this number with these coordinates and measures
 abbrev pub row_of : ℕ → List ℕ → List ℤ → Row
@@ -44,6 +46,18 @@ pub record PutsTwo (n : ℕ) (page : List ℕ) (m : ℕ) (other : List ℕ) (old
   pub written_other : IsHonest old → slice_get new.pages m ≡ Some other
   pub others : IsHonest old → (k : ℕ) → k ≢ 0 → k ≢ n → k ≢ m → slice_get new.pages k ≡ slice_get old.pages k
 
+-- where a mark is given it is the first page now, and else the first page is as it was
+abbrev pub PutsMark : Option (List ℕ) → StoreFacts → StoreFacts → Type 0
+PutsMark mark old new = MatchOption mark (slice_get new.pages 0 ≡ slice_get old.pages 0) (λ page. slice_get new.pages 0 ≡ Some page)
+
+-- what a write of the pages of these numbers does, before which the mark is put that is given: until the table is marked as
+-- changed no page but the first is written, and from then on that is the mark, unless another page stands there
+pub record Marks (mark : Option (List ℕ)) (numbers : List ℕ) (was now : Bool) (old new : StoreFacts) : Type 0 where
+  pub count : page_count new ≡ page_count old
+  pub stays : was ≡ true → now ≡ true
+  pub kept : KeepsUnless now old new
+  pub first : IsHonest old → AllByRecursion (λ n. n ≢ 0) numbers → now ≡ true → PutsMark mark old new
+
 -- the tree is as it was but for its pages, and is marked as changed
 abbrev pub IsElsewhereSame : TreeView → TreeView → Type 0
 IsElsewhereSame old new = new ≡ record old { placed = new.placed; store = new.store; is_changed = true }
@@ -52,43 +66,26 @@ IsElsewhereSame old new = new ≡ record old { placed = new.placed; store = new.
 abbrev pub placed_with : ℕ → List Placed → List Placed → List Placed
 placed_with place news placed = take place placed ++ news ++ drop (suc place) placed
 
--- a sound tree is one still, with the regions that it had
-abbrev pub Leaves : TreeView → TreeView → Type 0
-Leaves old new = IsSound old → KeepsRegions old new × IsSound new
+-- what a call within that only writes can answer, and what it leaves then
+abbrev pub IsWriteFault : TreeView → TreeView → TreeFault → Type 0
+IsWriteFault old new Memory = Leaves old new
+IsWriteFault old new (Store store.Device) = IsTrue old.store.can_fail × HasEnded (Store store.Device) old new
+IsWriteFault old new (Store store.NoPage) = (¬ (IsSound old)) × IsPageMissing old × HasEnded (Store store.NoPage) old new
+IsWriteFault old new _ = ⊥
 
--- a write, an extension or a sync failed: the tree does no more, and counts its regions and rows as before
-pub record HasGivenUp (old new : TreeView) : Type 0 where
-  pub failed : IsTrue new.is_failed
-  pub schema : new.schema ≡ old.schema
-  pub regions : length new.placed ≡ length old.placed
-  pub rows : new.rows ≡ old.rows
+-- a call within that only writes
+pub record Writes {A : Type 0} (old new : TreeView) (result : Result A TreeFault) : Type 0 where
+  pub frame : new ≡ record old { placed = new.placed; is_changed = new.is_changed; is_failed = new.is_failed; store = written_store result old.store new.store }
+  pub marked : IsMarkedFirst old new
+  pub done : OnOk result (new.is_failed ≡ old.is_failed)
+  pub faults : IfErr result (IsWriteFault old new)
 
--- a read failed: nothing but the count of the store's failures has changed
-pub record HasOnlyRead (old new : TreeView) : Type 0 where
-  pub same : new ≡ record old { store = new.store }
-  pub pages : facts.Keeps old.store new.store
-  pub leaves : Leaves old new
-
--- there are as many pages as a store can have, or as many regions
-abbrev pub IsFull : TreeView → Type 0
-IsFull t = (4294967295 ≤ page_count t.store) ⊎ (length t.placed ≡ 4294967295)
-
--- what a call can answer that changes the tree
-abbrev pub IsChangeFault : TreeView → TreeView → TreeFault → Type 0
-IsChangeFault old new Full = (old.next ≡ 16777216) × Leaves old new
-IsChangeFault old new HasFailed = IsTrue old.is_failed × Leaves old new
-IsChangeFault old new Memory = Leaves old new
-IsChangeFault old new (Page page fault) = ¬ (IsSound old)
-IsChangeFault old new (Store store.Device) = Failed old.store new.store × (HasGivenUp old new ⊎ HasOnlyRead old new)
-IsChangeFault old new (Store store.NoPage) = ¬ (IsSound old)
-IsChangeFault old new (Store store.BadSize) = IsFull new × Leaves old new
-IsChangeFault old new (Store store.Memory) = ⊥
-
--- a row was put into a sound tree, with the number that was next
+-- a row was put into a sound tree, with the number that was next; the table gains that row as its last
 pub record IsInserted (row : Row) (old new : TreeView) : Type 0 where
   pub number : row.number ≡ old.next
   pub schema : new.schema ≡ old.schema
   pub regions_are : regions new ≡ insert old.schema.dims old.schema.page_rows row (regions old)
+  pub table : (rows : List Row) → AreTableRows (regions old) rows → AreTableRows (regions new) (rows ++ row ∷ [])
   pub next : new.next ≡ old.next + 1
   pub rows : new.rows ≡ old.rows + 1
   pub sound : IsSound new
@@ -97,9 +94,15 @@ pub record IsInserted (row : Row) (old new : TreeView) : Type 0 where
 abbrev pub IsFresh : ℕ → TreeView → Type 0
 IsFresh n t = IsDistinct nat_eq (n ∷ (t.reserved ++ map (λ p. p.page) t.placed))
 
--- in a sound tree a region can begin with this key after that at a place
+-- the rows are those of a region which begins as that at a place does, and they stand before the next region
+abbrev pub AreRowsAt : Schema → List Entry → ℕ → List Row → Type 0
+AreRowsAt schema entries place rows =
+    (entry : Entry) → slice_get entries place ≡ Some entry → IsRegion schema (record { first = entry.first; rows = rows })
+    × IfSome (slice_get (first_keys entries) (suc place)) (λ next. AllByRecursion (λ key. IsBefore key next) (keys_of schema.dims rows))
+
+-- a region can begin with this key after that at a place
 abbrev pub HasRoom : ℕ → Key → TreeView → Type 0
-HasRoom place first t = IsSound t → (page : ℕ) → ArePlaces (last_address t.schema.dims) (insert_at (map entry_of t.placed) (place + 1) (record { first = first; page = page }))
+HasRoom place first t = (page : ℕ) → ArePlaces (last_address t.schema.dims) (insert_at (map entry_of t.placed) (place + 1) (record { first = first; page = page }))
 
 -- in place of the region at a place stand two, the second on a page of its own
 abbrev pub IsSplitAt : ℕ → Placed → Halves → TreeView → TreeView → Type 0
@@ -113,11 +116,3 @@ split_of schema first rows = split_region schema.dims schema.page_rows (record {
 -- in place of the region at a place these
 abbrev pub regions_with : ℕ → List Region → List Region → List Region
 regions_with place news regions = take place regions ++ news ++ drop (suc place) regions
-
--- unless the table is marked as changed, the pages but the first are as they were
-abbrev pub KeepsUnless : Bool → StoreFacts → StoreFacts → Type 0
-KeepsUnless is_changed old new = IsHonest old → is_changed ≡ false → (m : ℕ) → m ≢ 0 → m < page_count old → slice_get new.pages m ≡ slice_get old.pages m
-
--- until the table is marked as changed no page but the first is written
-abbrev pub IsMarkedFirst : TreeView → TreeView → Type 0
-IsMarkedFirst old new = KeepsUnless new.is_changed old.store new.store

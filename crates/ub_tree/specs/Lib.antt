@@ -1,10 +1,8 @@
-pub mod Keys
-pub mod Rows
-pub mod Regions
 pub mod Spans
 pub mod Placed
 pub mod View
 pub mod Stored
+pub mod Effects
 pub mod Calls
 pub mod Faults
 pub mod Tree

@@ -1,17 +1,20 @@
 -- Opening a store: which pages tell of a table, what is made of them, and why others are refused.
-use Rattle.std.specs.Prelude.{◌≡◌, ◌≤◌, ◌<◌, ◌-◌, ◌^◌, ◌↔◌, ◌⊎◌, ◌++◌, ℕ, min, false, IsTrue, List, [], ◌∷◌, Some, length, map, take, drop, slice_get, slice_index_or}
+use Rattle.std.specs.Prelude.{◌≡◌, ◌≤◌, ◌<◌, ◌-◌, ◌^◌, ◌↔◌, ◌⊎◌, ◌++◌, ℕ, min, false, IsTrue, List, [], ◌∷◌, Some, length, map, take, drop, slice_get, slice_index_or, Result, IfErr}
 use Rattle.std.specs.List.{AllByRecursion}
+use Rattle.ub_page.specs.declared.directory.TheConstants.{MAX_ENTRIES}
 use Rattle.ub_zaddr.specs.Address.{last_address}
 use Rattle.ub_page.specs.Directory.{Listing, IsEntry, IsListing, directory_page, IsDirectoryFault}
 use Rattle.ub_page.specs.Header.{IsHeader, header_page, IsHeaderFault}
 use Rattle.ub_page.specs.declared.directory.Entry.{Entry}
-use Rattle.ub_page.specs.declared.fault.PageFault.{PageFault}
-use Rattle.ub_page.specs.declared.fault.PageFault.TheVariants.{BadCount, BadOrder}
 use Rattle.ub_page.specs.declared.header.Header.{Header}
 use Rattle.ub_store.specs.Facts as facts
-use Rattle.ub_store.specs.Facts.{StoreFacts, IsHonest, Failed, page_count}
+use Rattle.ub_store.specs.Facts.{StoreFacts, IsHonest, page_count}
+use Rattle.ub_store.specs.View.{PagerView}
 use Rattle.ub_store.specs.declared.fault.StoreFault.TheVariants as store
-use Rattle.ub_tree.specs.Keys.{origin, are_ascending}
+use Rattle.ub_table.specs.Keys.{origin, are_ascending}
+use Rattle.ub_table.specs.declared.fault.PageFault.TheVariants.{Unclean, BadCount, BadOrder}
+use Rattle.ub_table.specs.declared.fault.PageFault.{PageFault}
+use Rattle.ub_tree.specs.Effects.{read_store}
 use Rattle.ub_tree.specs.Placed.{entry_of}
 use Rattle.ub_tree.specs.Spans.{ArePlaces, first_keys}
 use Rattle.ub_tree.specs.Stored.{IsChain}
@@ -45,7 +48,7 @@ pub record IsOpened (store : StoreFacts) (t : TreeView) : Type 0 where
   pub next_is : t.next ≡ header.next
   pub unchanged : t.is_changed ≡ false
   pub working : t.is_failed ≡ false
-  pub pages : facts.Keeps store t.store
+  pub store_is : t.store ≡ store
   pub trace_is : t.trace ≡ []
   pub fetches_are : t.fetches ≡ 0
 
@@ -59,8 +62,8 @@ pub record Spells (dims : ℕ) (pages : List (List ℕ)) (n : ℕ) (listing : Li
 abbrev pub AreFull : ℕ → List (List ℕ) → List ℕ → List Entry → ℕ → Type 0
 AreFull dims pages [] entries next = entries ≡ []
 AreFull dims pages (n ∷ chain) entries next =
-    Spells dims pages n (record { entries = take 170 entries; next = slice_index_or chain 0 next }) × (length (take 170 entries) ≡ 170)
-    × AreFull dims pages chain (drop 170 entries) next
+    Spells dims pages n (record { entries = take MAX_ENTRIES entries; next = slice_index_or chain 0 next }) × (length (take MAX_ENTRIES entries) ≡ MAX_ENTRIES)
+    × AreFull dims pages chain (drop MAX_ENTRIES entries) next
 
 -- the first entries of a directory: the first one begins with the least key of all, and each after the one before it
 abbrev pub AreBegun : List Entry → Type 0
@@ -82,7 +85,7 @@ pub record IsReadUpTo (store : StoreFacts) (header : Header) (chain : List ℕ) 
 
 -- a page of the directory tells what it must where so many regions are left: 170 of them and the next page, or all and none
 abbrev pub HasPart : ℕ → Listing → Type 0
-HasPart left listing = (length listing.entries ≡ min left 170) × ((listing.next ≡ 0) ↔ (left ≤ 170))
+HasPart left listing = (length listing.entries ≡ min left MAX_ENTRIES) × ((listing.next ≡ 0) ↔ (left ≤ MAX_ENTRIES))
 
 -- a page of the directory doesn't fit where so many regions are left after these entries
 abbrev pub IsMisfit : ℕ → List Entry → Listing → PageFault → Type 0
@@ -106,18 +109,39 @@ IsRefused store n page fault =
     ((n ≡ 0) × IsHeaderFault page fault)
     ⊎ ((header : Header) × (chain : List ℕ) × (entries : List Entry) × IsReadUpTo store header chain entries n × IsPartFault header entries page fault)
 
--- why opening is refused: for want of memory; the store failed in this call; it has no page of a number that was asked for; or a
--- page is refused
-abbrev pub IsOpenFault : StoreFacts → StoreFacts → TreeFault → Type 0
-IsOpenFault old new Memory = Unit {0}
-IsOpenFault old new (Store store.Device) = Failed old new
-IsOpenFault old new (Store store.NoPage) = (n : ℕ) × IsAskedFor old n × (page_count old ≤ n)
-IsOpenFault old new (Page n fault) = (page : List ℕ) × facts.IsPage old n page × IsRefused old n page fault
-IsOpenFault old new _ = ⊥
+-- why opening is refused: for want of memory; the store failed in this call, which it then can; it has no page of a number that
+-- was asked for; or a page is refused
+abbrev pub IsOpenFault : StoreFacts → TreeFault → Type 0
+IsOpenFault old Memory = Unit {0}
+IsOpenFault old (Store store.Device) = IsTrue old.can_fail
+IsOpenFault old (Store store.NoPage) = (n : ℕ) × IsAskedFor old n × (page_count old ≤ n)
+IsOpenFault old (Page n fault) = (page : List ℕ) × facts.IsPage old n page × IsRefused old n page fault
+IsOpenFault old _ = ⊥
+
+-- the pager is as it was, but for the pages that it holds
+abbrev pub IsSamePager : PagerView → PagerView → Type 0
+IsSamePager old new = new ≡ record old { cached = new.cached }
+
+-- a call that only reads a store behind a pager, of which no region is asked for
+pub record Opens {A : Type 0} (old new : PagerView) (result : Result A TreeFault) : Type 0 where
+  pub same : new ≡ record old { store = read_store result old.store; cached = new.cached }
+  pub faults : IfErr result (IsOpenFault old.store)
 
 -- a directory that was read whole
 pub record IsReadWhole (store : StoreFacts) (header : Header) (chain : List ℕ) (entries : List Entry) : Type 0 where
   pub places : ArePlaces (last_address header.schema.dims) entries
   pub regions_are : header.regions ≡ length entries
+  pub root_is : slice_get chain 0 ≡ Some header.root
   pub some_chain : 1 ≤ length chain
   pub directory : IsHonest store → IsDirectory store.pages header chain entries
+
+-- why a table isn't opened that is marked as changed: for its header, for want of memory, or as the store failed
+abbrev pub IsMarkFault : TreeFault → Type 0
+IsMarkFault Memory = Unit {0}
+IsMarkFault (Store store.Device) = Unit {0}
+IsMarkFault (Page n fault) = (n ≡ 0) × (fault ≡ Unclean)
+IsMarkFault _ = ⊥
+
+-- why a closed table isn't opened: for want of memory, or as the store failed
+abbrev pub IsPassing : TreeFault → Type 0
+IsPassing fault = (fault ≡ Memory) ⊎ (fault ≡ Store store.Device)

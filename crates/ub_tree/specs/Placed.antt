@@ -2,9 +2,10 @@
 use Rattle.std.specs.Prelude.{◌≡◌, ◌<◌, ℕ, List, [], ◌++◌, Some, length, map, slice_get, slice_index_or, All}
 use Rattle.std.specs.List.{IsDistinct}
 use Rattle.std.specs.Bool.{nat_eq}
-use Rattle.ub_page.specs.Region.{Region, region_on, region_page}
+use Rattle.ub_page.specs.Region.{region_on, region_page}
 use Rattle.ub_page.specs.declared.directory.Entry.{Entry}
-use Rattle.ub_page.specs.declared.schema.Schema.{Schema}
+use Rattle.ub_table.specs.Region.{Region}
+use Rattle.ub_table.specs.declared.schema.Schema.{Schema}
 
 -- a region, and the number of its page
 pub record Placed : Type 0 where

@@ -1,21 +1,11 @@
 -- The spans of a UB-tree's regions (Bayer 1997), and which regions a search asks for.
-use Rattle.std.specs.Prelude.{◌≡◌, ◌≤◌, ℕ, zero, suc, ◌-◌, List, [], ◌∷◌, map, Option, Some, MatchOption, IfSome, All, Contains, IsTrue, slice_get}
+use Rattle.std.specs.Prelude.{◌≡◌, ◌≤◌, ℕ, List, [], ◌∷◌, map, Option, Some, MatchOption, IfSome, All, Contains, IsTrue, slice_get}
 use Rattle.ub_bigmin.specs.Box.{Corners, HoldsAny}
-use Rattle.ub_page.specs.Keys.{IsBefore}
 use Rattle.ub_page.specs.declared.directory.Entry.{Entry}
-use Rattle.ub_page.specs.declared.row.Key.{Key}
-use Rattle.ub_tree.specs.Keys.{origin, are_ascending}
+use Rattle.ub_table.specs.Keys.{IsBefore, origin, are_ascending}
+use Rattle.ub_table.specs.declared.row.Key.{Key}
+use Rattle.ub_region.specs.Spans.{span_end}
 use Rattle.ub_tree.specs.declared.region.Region.{Region}
-
--- the greatest address that a key before this one, of an address and a number, can have
-abbrev pub address_before : ℕ → ℕ → ℕ
-address_before z zero = z - 1
-address_before z (suc n) = z
-
--- where a span ends before regions with these first keys: with the last address of all, if there are none
-abbrev pub span_end : ℕ → List Key → ℕ
-span_end last [] = last
-span_end last (next ∷ firsts) = address_before next.z next.number
 
 abbrev pub first_keys : List Entry → List Key
 first_keys entries = map (λ entry. entry.first) entries

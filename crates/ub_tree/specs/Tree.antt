@@ -1,17 +1,19 @@
 -- A tree's parts, as contracts see them together.
-use Rattle.std.specs.Prelude.{◌≡◌, ◌≤◌, ◌<◌, ◌^◌, ℕ, suc, length, slice_get, Bool, if◌then◌else◌, List, [], ◌∷◌, Some, IfSome}
+use Rattle.std.specs.Prelude.{◌+◌, ◌≡◌, ◌≤◌, ◌<◌, ◌^◌, ℕ, suc, length, slice_get, Bool, if◌then◌else◌, List, [], ◌∷◌, Some, IfSome}
 use Rattle.std.specs.List.{AllByRecursion}
+use Rattle.ub_table.specs.declared.row.TheConstants.{MAX_ROW_NUMBER}
 use Rattle.ub_zaddr.specs.Address.{last_address}
-use Rattle.ub_page.specs.Keys.{IsBefore}
-use Rattle.ub_page.specs.Region.{Region, region_on, region_page, keys_of}
+use Rattle.ub_page.specs.Region.{region_on, region_page}
 use Rattle.ub_page.specs.declared.directory.Entry.{Entry}
-use Rattle.ub_page.specs.declared.row.Key.{Key}
-use Rattle.ub_page.specs.declared.schema.Schema.{Schema}
+use Rattle.ub_region.specs.Regions.{place_of}
 use Rattle.ub_store.specs.Facts.{StoreFacts}
 use Rattle.ub_store.specs.View.{PagerView}
-use Rattle.ub_tree.specs.Keys.{origin}
-use Rattle.ub_tree.specs.Regions.{place_of}
+use Rattle.ub_table.specs.Keys.{IsBefore, origin}
+use Rattle.ub_table.specs.Region.{Region, keys_of}
+use Rattle.ub_table.specs.declared.row.Key.{Key}
+use Rattle.ub_table.specs.declared.schema.Schema.{Schema}
 use Rattle.ub_tree.specs.Placed.{placed_of}
+use Rattle.ub_tree.specs.Stored.{HasMark}
 use Rattle.ub_tree.specs.View.{TreeView}
 
 -- the pages of an honest store; of another one nothing is known
@@ -32,14 +34,15 @@ tree_view schema entries chain next rows is_changed is_failed pager = record {
   fetches = pager.fetches;
 }
 
--- what is true of a tree's parts: its places are those of its schema's space, and can be counted; the directory has a page;
--- there are fewer rows than the next number, which is at most one above the last
+-- what is true of a tree's parts: its places are those of its schema's space, and can be counted; the directory begins on a
+-- page that isn't the first; there are fewer rows than the next number, which is at most one above the last
 pub record IsTree (schema : Schema) (last : ℕ) (entries : List Entry) (chain : List ℕ) (next rows : ℕ) : Type 0 where
   pub last_is : last ≡ last_address schema.dims
   pub few : length entries < 2 ^ 32
+  pub root : IfSome (slice_get chain 0) (λ n. 1 ≤ n)
   pub some_chain : 1 ≤ length chain
   pub fewer : rows < next
-  pub last_next : next ≤ 16777216
+  pub last_next : next ≤ MAX_ROW_NUMBER + 1
 
 -- the last of the regions with these first keys that does not begin after the region's first key begins with it, and the
 -- region's rows are before the next one
@@ -53,8 +56,9 @@ IsHeldBy dims firsts region =
 abbrev pub empty_region : Region
 empty_region = record { first = origin; rows = [] }
 
--- three pages, of which the second spells an empty region, and tells of it
+-- three pages, of which the first marks the table as changed, and the second spells an empty region, and tells of it
 pub record IsLaidOut (schema : Schema) (pages : List (List ℕ)) : Type 0 where
   pub count : length pages ≡ 3
+  pub marked : HasMark schema pages
   pub spelled : slice_get pages 1 ≡ Some (region_page schema empty_region)
   pub reads_back : region_on schema (region_page schema empty_region) ≡ empty_region

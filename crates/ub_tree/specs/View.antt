@@ -1,14 +1,15 @@
 -- What contracts see of a tree: plain data, in which no type of a store stands.
-use Rattle.std.specs.Prelude.{◌≡◌, ◌≤◌, ◌<◌, ◌^◌, ℕ, Bool, false, List, length, map}
+use Rattle.std.specs.Prelude.{◌+◌, ◌≡◌, ◌≤◌, ◌<◌, ◌^◌, ℕ, Bool, true, false, List, length, map}
+use Rattle.ub_region.specs.Regions.{AreRegions, rows_of}
+use Rattle.ub_table.specs.declared.row.TheConstants.{MAX_ROW_NUMBER}
 use Rattle.ub_zaddr.specs.Address.{last_address}
-use Rattle.ub_page.specs.Region.{Region}
-use Rattle.ub_page.specs.declared.row.Row.{Row}
-use Rattle.ub_page.specs.declared.schema.Schema.{Schema}
 use Rattle.ub_store.specs.Facts.{StoreFacts, IsHonest}
+use Rattle.ub_table.specs.Region.{Region}
+use Rattle.ub_table.specs.declared.row.Row.{Row}
+use Rattle.ub_table.specs.declared.schema.Schema.{Schema}
 use Rattle.ub_tree.specs.Placed.{Placed, ArePlaced, regions_in, entry_of}
-use Rattle.ub_tree.specs.Regions.{AreRegions, rows_of}
 use Rattle.ub_tree.specs.Spans as spans
-use Rattle.ub_tree.specs.Stored.{AreSoundPages}
+use Rattle.ub_tree.specs.Stored.{AreSoundPages, HasMark}
 use Rattle.ub_tree.specs.declared.region.Region.{Region as Span}
 
 -- a tree: its schema; its regions in order; the pages that hold no region (the first, and others of its own); how many rows
@@ -41,7 +42,8 @@ abbrev pub spans_of : TreeView → List Span
 spans_of t = spans_in t.schema t.placed
 
 -- a tree is sound where it hasn't failed, its store is honest, each of its regions stands on a page of its own that spells it,
--- and its counts are those of its regions; until it is changed its pages are those of a closed table
+-- and its counts are those of its regions; until it is changed its pages are those of a closed table, and from then on the
+-- first page marks it as changed
 pub record IsSound (t : TreeView) : Type 0 where
   pub working : t.is_failed ≡ false
   pub honest : IsHonest t.store
@@ -49,9 +51,10 @@ pub record IsSound (t : TreeView) : Type 0 where
   pub placed_are : ArePlaced t.schema t.placed t.reserved t.store.pages
   pub rows_are : t.rows ≡ length (tree_rows t)
   pub some_next : 1 ≤ t.next
-  pub last_next : t.next ≤ 16777216
+  pub last_next : t.next ≤ MAX_ROW_NUMBER + 1
   pub few : length t.placed < 2 ^ 32
   pub closed : t.is_changed ≡ false → AreSoundPages t.store.pages t.schema t.placed t.next
+  pub marked : t.is_changed ≡ true → HasMark t.schema t.store.pages
 
 -- what a call that changes no region leaves: the regions with their pages, the rows and the next number
 pub record KeepsRegions (old new : TreeView) : Type 0 where

@@ -1,44 +1,45 @@
 ghost use Rattle.ub_zaddr.specs.Address.{last_address};
 ghost use Rattle.std.specs.Int.{w64};
-ghost use Rattle.std.specs.Prelude.{FitsSigned, map, ◌≡◌, ◌≢◌, ◌+◌, ◌-◌, ◌↔◌, pos, drop, replicate, ◌<◌, ◌≤◌, ◌⊎◌, ◌∷◌, ◌++◌, [], ℕ, suc, true, false, IsTrue, Some, Ok, Err, length, slice_get, IfOk, IfErr, IfSome, IsNone, OnOk, OnErr, IsErrOf};
+ghost use Rattle.std.specs.Prelude.{FitsSigned, map, ◌≡◌, ◌≢◌, ◌+◌, ◌-◌, ◌↔◌, pos, drop, replicate, ◌<◌, ◌≤◌, ◌⊎◌, ◌∷◌, ◌++◌, [], ℕ, suc, true, false, IsTrue, Some, Ok, Err, length, slice_get, IfOk, IfErr, IfSome, IsNone, OnOk, OnErr, IsErrOf, option_copied};
 ghost use Rattle.std.specs.List.{insert, AllByRecursion};
-ghost use Rattle.ub_page.specs.Header.{header_page};
-ghost use Rattle.ub_page.specs.Region.{Region, IsRegion, measures_of};
+ghost use Rattle.ub_region.specs.Rows.{has_key, split};
 ghost use Rattle.ub_store.specs.Facts as facts;
 ghost use Rattle.ub_store.specs.Facts.{page_count, zero_page};
 ghost use Rattle.ub_store.specs.View.{SameTrace};
-ghost use Rattle.ub_tree.specs.Calls.{IsReadFault, Keeps};
+ghost use Rattle.ub_table.specs.Keys.{is_before_next};
+ghost use Rattle.ub_table.specs.Region.{Region, IsRegion, measures_of};
 ghost use Rattle.ub_tree.specs.Change as spec;
-ghost use Rattle.ub_tree.specs.Change.{HasGivenUp, IsStored, Puts, IsElsewhereSame, placed_with, Leaves, IsChangeFault, IsInserted, IsFresh, IsSplitAt, PutsTwo, HasRoom, KeepsUnless, IsMarkedFirst, split_of, regions_with};
-ghost use Rattle.ub_tree.specs.Keys.{is_before_next};
-ghost use Rattle.ub_tree.specs.Rows.{split};
+ghost use Rattle.ub_tree.specs.Change.{AreRowsAt, IsStored, Puts, IsElsewhereSame, placed_with, IsInserted, IsFresh, IsSplitAt, PutsTwo, HasRoom, Writes, split_of, regions_with, Marks};
+ghost use Rattle.ub_tree.specs.Effects.{Searches, Changes, Leaves, WritesStore};
 ghost use Rattle.ub_tree.specs.Spans.{ArePlaces, first_keys};
 ghost use Rattle.ub_tree.specs.Placed.{Placed, entry_of};
+ghost use Rattle.ub_tree.specs.Stored.{IsMarkPage};
 ghost use Rattle.ub_tree.specs.View.{IsSound, KeepsTrace, regions};
 
-use crate::creation::{copy_of, shape_of};
 use crate::fault::TreeFault;
-use crate::keys::{is_before, row_key};
-use crate::places::Places;
+use crate::header::mark_page;
 use crate::reading::region_on;
-use crate::rows::{Halves, Rows};
 use crate::tree::Tree;
-use ub_page::{Entry, Header, Key, Page, PageFault, Row, write_header, write_region};
+use ub_page::{Entry, Page, write_region};
+use ub_region::{Halves, Rows, is_equal};
 use ub_store::{MAX_PAGES, PageStore, Pager, StoreFault};
+use ub_table::{Key, MAX_ROW_NUMBER, PageFault, Row};
+use ub_zaddr::Shape;
 
 // One above the last number that a row can have.
-const NEXT_END: u32 = 16_777_216;
+const NEXT_END: u32 = MAX_ROW_NUMBER + 1;
 
 impl<S: PageStore> Tree<S> {
     // The rows of the region at a place.
     pub(crate) fn rows_at(&mut self, place: usize) -> Result<Rows, TreeFault>
         requires { place < length self.old.placed }
         ensures few { IfOk result (λ rows. length rows ≤ self.old.schema.page_rows) }
-        ensures rows { facts.IsHonest self.old.store → IfOk result (λ rows. (p : Placed) → slice_get self.old.placed place ≡ Some p → rows ≡ p.region.rows) }
-        ensures same { self.new ≡ record self.old { store = self.new.store } }
-        ensures kept { facts.Keeps self.old.store self.new.store }
-        ensures refused { IfErr result (IsReadFault self.old self.new) }
-        ensures reliable { IsErrOf result (TreeFault.Store StoreFault.Device) → IsTrue S.can_fail }
+        ensures at { IfOk result (λ rows. AreRowsAt self.old.schema
+            (map entry_of self.old.placed) place rows) }
+        ensures rows { facts.IsHonest self.old.store
+            → IfOk result (λ rows. (p : Placed) → slice_get self.old.placed place ≡ Some p
+            → rows ≡ p.region.rows) }
+        ensures effect { Searches self.old self.new result }
     {
         let entry = self.places.entries[place];
         let page = self.pager.fetch(entry.page)?;
@@ -46,24 +47,21 @@ impl<S: PageStore> Tree<S> {
         Ok(Rows::from_slice(region.rows()))
     }
 
-    // A header that tells that the table was changed, unless the store has one.
+    // The page of a header that marks the table as changed, unless it is marked already.
     fn mark(&self) -> Option<Page>
-        ensures unclean { IfSome result (λ page. (h : Header) × (h.unclean ≡ true) × (page ≡ header_page h)) }
-        ensures changed { IsNone result → IsTrue self.now.is_changed }
+        ensures page { IfSome result (λ page. IsMarkPage self.now.schema page) }
+        ensures changed { IsNone result ↔ IsTrue self.now.is_changed }
     {
         if self.is_changed {
             return None;
         }
-        let regions = self.regions();
-        Some(write_header(&Header {
-            schema: copy_of(&self.schema),
-            next: self.next,
-            rows: self.rows,
-            regions,
-            root: self.chain[0],
-            levels: regions / 170,
-            unclean: true,
-        }))
+        Some(mark_page(
+            &self.schema,
+            self.next,
+            self.rows,
+            self.regions(),
+            self.chain[0],
+        ))
     }
 
     // Puts these rows on the page of the region at a place. After a fault the tree has failed.
@@ -71,15 +69,18 @@ impl<S: PageStore> Tree<S> {
         requires place { place < length self.old.placed }
         requires few { length rows.now ≤ 64 }
         ensures same { OnOk result (IsElsewhereSame self.old self.new) }
-        ensures written { IsStored self.old → (p : Placed) → slice_get self.old.placed place ≡ Some p → IsRegion self.old.schema (record { first = p.region.first; rows = rows.now })
-            → OnOk result (IsStored self.new × (self.new.placed ≡ placed_with place (record { page = p.page; region = record { first = p.region.first; rows = rows.now } } ∷ []) self.old.placed)) }
+        ensures written { IsStored self.old → (p : Placed)
+            → slice_get self.old.placed place ≡ Some p
+            → IsRegion self.old.schema (record { first = p.region.first; rows = rows.now })
+            → OnOk result (IsStored self.new
+            × (self.new.placed ≡ placed_with place (record {
+              page = p.page;
+              region = record { first = p.region.first; rows = rows.now };
+            } ∷ []) self.old.placed)) }
         ensures count { length self.new.placed ≡ length self.old.placed }
-        ensures faults { IfErr result (λ fault. (fault ≡ TreeFault.Store StoreFault.Device) ⊎ (fault ≡ TreeFault.Store StoreFault.NoPage)) }
-        ensures schema { self.new.schema ≡ self.old.schema }
-        ensures first { IsMarkedFirst self.old self.new }
-        ensures trace { KeepsTrace self.old self.new }
-        ensures refused { IfErr result (IsChangeFault self.old self.new) }
-        ensures reliable { IsErrOf result (TreeFault.Store StoreFault.Device) → IsTrue S.can_fail }
+        ensures faults { IfErr result (λ fault. (fault ≡ TreeFault.Store StoreFault.Device)
+            ⊎ (fault ≡ TreeFault.Store StoreFault.NoPage)) }
+        ensures effect { Writes self.old self.new result }
     {
         let mark = self.mark();
         let entry = self.places.entries[place];
@@ -101,20 +102,13 @@ impl<S: PageStore> Tree<S> {
 
     // Adds a page of zeros. After a failure of the device the tree has failed.
     fn extend(&mut self) -> Result<u32, TreeFault>
-        ensures number { IfOk result (λ n. n < page_count self.new.store) }
-        ensures same { OnOk result (self.new ≡ record self.old { placed = self.new.placed; store = self.new.store }) }
-        ensures grown { IsStored self.old → IfOk result (λ n. IsStored self.new × (self.new.placed ≡ self.old.placed) × IsFresh n self.new) }
+        ensures number { IfOk result (λ n. n + 1 ≡ page_count self.new.store) }
+        ensures later { IfOk result (λ n. IsSound self.new → 1 ≤ n) }
+        ensures grown { IsStored self.old
+            → IfOk result (λ n. IsStored self.new × (self.new.placed ≡ self.old.placed)
+            × IsFresh n self.new) }
         ensures leaves { OnOk result (Leaves self.old self.new) }
-        ensures entries { OnOk result (map entry_of self.new.placed ≡ map entry_of self.old.placed) }
-        ensures count { length self.new.placed ≡ length self.old.placed }
-        ensures failures { self.old.store.failures ≤ self.new.store.failures }
-        ensures schema { self.new.schema ≡ self.old.schema }
-        ensures kept { KeepsUnless false self.old.store self.new.store }
-        ensures honest { self.new.store.honest ≡ self.old.store.honest }
-        ensures more { page_count self.old.store ≤ page_count self.new.store }
-        ensures trace { KeepsTrace self.old self.new }
-        ensures refused { IfErr result (IsChangeFault self.old self.new) }
-        ensures reliable { IsErrOf result (TreeFault.Store StoreFault.Device) → IsTrue S.can_fail }
+        ensures effect { Changes self.old self.new result }
     {
         match self.pager.extend() {
             Ok(n) => Ok(n),
@@ -131,19 +125,26 @@ impl<S: PageStore> Tree<S> {
     fn write_halves(&mut self, place: usize, halves: &Halves, number: u32) -> Result<(), TreeFault>
         requires place { place < length self.old.placed }
         requires count { length self.old.placed < 4294967295 }
-        requires there { number < page_count self.old.store }
-        requires few_left { length halves.now.left ≤ 64 }
-        requires few_right { length halves.now.right ≤ 64 }
-        requires room { ArePlaces (last_address self.old.schema.dims) (insert (map entry_of self.old.placed) (place + 1) (record { first = halves.now.first; page = number })) }
+        requires page { (number < page_count self.old.store) × (IsSound self.old → 1 ≤ number) }
+        requires few { (length halves.now.left ≤ 64) × (length halves.now.right ≤ 64) }
+        requires room { ArePlaces (last_address self.old.schema.dims)
+            (insert (map entry_of self.old.placed) (place + 1) (record {
+              first = halves.now.first;
+              page = number;
+            })) }
         ensures same { OnOk result (IsElsewhereSame self.old self.new) }
-        ensures written { IsStored self.old → IsFresh number self.old → (p : Placed) → slice_get self.old.placed place ≡ Some p → IsRegion self.old.schema (record { first = p.region.first; rows = halves.now.left })
-            → IsRegion self.old.schema (record { first = halves.now.first; rows = halves.now.right }) → OnOk result (IsStored self.new × IsSplitAt place p (record { left = halves.now.left; first = halves.now.first; right = halves.now.right }) self.old self.new) }
-        ensures schema { self.new.schema ≡ self.old.schema }
-        ensures first { IsMarkedFirst self.old self.new }
-        ensures trace { KeepsTrace self.old self.new }
-        ensures refused { IfErr result (IsChangeFault self.old self.new) }
-        ensures reliable { IsErrOf result (TreeFault.Store StoreFault.Device) → IsTrue S.can_fail }
-        ensures given_up { IsErrOf result (TreeFault.Store StoreFault.Device) → HasGivenUp self.old self.new }
+        ensures written { IsStored self.old → IsFresh number self.old → (p : Placed)
+            → slice_get self.old.placed place ≡ Some p
+            → IsRegion self.old.schema (record { first = p.region.first; rows = halves.now.left })
+            → IsRegion self.old.schema
+            (record { first = halves.now.first; rows = halves.now.right })
+            → OnOk result (IsStored self.new
+            × IsSplitAt place p (record {
+              left = halves.now.left;
+              first = halves.now.first;
+              right = halves.now.right;
+            }) self.old self.new) }
+        ensures effect { Writes self.old self.new result }
     {
         let mark = self.mark();
         let entry = self.places.entries[place];
@@ -173,23 +174,22 @@ impl<S: PageStore> Tree<S> {
     // Puts these halves of the rows of the region at a place on its page and on a new one.
     fn split(&mut self, place: usize, halves: &Halves) -> Result<(), TreeFault>
         requires place { place < length self.old.placed }
-        requires few_left { length halves.now.left ≤ 64 }
-        requires few_right { length halves.now.right ≤ 64 }
+        requires room { HasRoom place halves.now.first self.old }
+        requires few { (length halves.now.left ≤ 64) × (length halves.now.right ≤ 64) }
         ensures same { OnOk result (IsElsewhereSame self.old self.new) }
-        ensures written { IsStored self.old → (p : Placed) → slice_get self.old.placed place ≡ Some p → IsRegion self.old.schema (record { first = p.region.first; rows = halves.now.left })
-            → IsRegion self.old.schema (record { first = halves.now.first; rows = halves.now.right }) → OnOk result (IsStored self.new × IsSplitAt place p (record { left = halves.now.left; first = halves.now.first; right = halves.now.right }) self.old self.new) }
-        ensures schema { self.new.schema ≡ self.old.schema }
-        ensures first { IsMarkedFirst self.old self.new }
-        ensures trace { KeepsTrace self.old self.new }
-        ensures refused { HasRoom place halves.now.first self.old → IfErr result (IsChangeFault self.old self.new) }
-        ensures reliable { IsErrOf result (TreeFault.Store StoreFault.Device) → IsTrue S.can_fail }
+        ensures written { IsStored self.old → (p : Placed)
+            → slice_get self.old.placed place ≡ Some p
+            → IsRegion self.old.schema (record { first = p.region.first; rows = halves.now.left })
+            → IsRegion self.old.schema
+            (record { first = halves.now.first; rows = halves.now.right })
+            → OnOk result (IsStored self.new
+            × IsSplitAt place p (record {
+              left = halves.now.left;
+              first = halves.now.first;
+              right = halves.now.right;
+            }) self.old self.new) }
+        ensures effect { Changes self.old self.new result }
     {
-        if !has_room(&self.places, place, &halves.first) {
-            return Err(TreeFault::Page {
-                page: self.places.entries[place].page,
-                fault: PageFault::OutOfRegion,
-            });
-        }
         if self.regions() == MAX_PAGES {
             return Err(TreeFault::Store(StoreFault::BadSize));
         }
@@ -202,42 +202,47 @@ impl<S: PageStore> Tree<S> {
     fn store_rows(&mut self, place: usize, rows: &Rows) -> Result<(), TreeFault>
         requires place { place < length self.old.placed }
         requires most { length rows.now ≤ self.old.schema.page_rows + 1 }
+        requires room { self.old.schema.page_rows < length rows.now
+            → HasRoom place (split self.old.schema.dims self.old.schema.page_rows rows.now).first
+            self.old }
         ensures same { OnOk result (IsElsewhereSame self.old self.new) }
-        ensures written { IsStored self.old → (p : Placed) → slice_get self.old.placed place ≡ Some p → AllByRecursion (IsRegion self.old.schema) (split_of self.old.schema p.region.first rows.now)
-            → OnOk result (IsStored self.new × (regions self.new ≡ regions_with place (split_of self.old.schema p.region.first rows.now) (regions self.old))) }
-        ensures schema { self.new.schema ≡ self.old.schema }
-        ensures first { IsMarkedFirst self.old self.new }
-        ensures trace { KeepsTrace self.old self.new }
-        ensures refused { (self.old.schema.page_rows < length rows.now → HasRoom place (split self.old.schema.dims self.old.schema.page_rows rows.now).first self.old) → IfErr result (IsChangeFault self.old self.new) }
-        ensures reliable { IsErrOf result (TreeFault.Store StoreFault.Device) → IsTrue S.can_fail }
+        ensures written { IsStored self.old → (p : Placed)
+            → slice_get self.old.placed place ≡ Some p
+            → AllByRecursion (IsRegion self.old.schema)
+            (split_of self.old.schema p.region.first rows.now)
+            → OnOk result (IsStored self.new
+            × (regions self.new ≡ regions_with place
+            (split_of self.old.schema p.region.first rows.now) (regions self.old))) }
+        ensures effect { Changes self.old self.new result }
     {
         let page_rows = self.schema.page_rows();
         let slice = rows.as_slice();
         if slice.len() <= page_rows as usize {
             return self.rewrite(place, slice);
         }
-        let halves = rows.split(shape_of(&self.schema), page_rows);
+        let halves = rows.split(self.schema.shape(), page_rows);
         self.split(place, &halves)
     }
 
     /// Puts a row in, with these coordinates and measures, and gives its number: one more than the last row got.
     ///
-    /// Full comes exactly where the last number is given. Failed comes where the tree has failed, Page where a page is
-    /// refused, Memory where memory was refused, and Store where the store failed in this call, has no such page, or can
-    /// have no more of them (BadSize). After Store with Device the tree may have failed; after another fault it is as it was.
+    /// Full comes exactly where the last number is given. Failed comes where the tree has failed; Page where a page is
+    /// refused, as BadOrder where the region on it has the new row's key already; Memory where memory was refused; Store where
+    /// the store failed in this call, has no such page, or can have no more of them (BadSize). After Store with Device the
+    /// tree may have failed; after another fault it is as it was.
     pub fn insert(&mut self, dims: &[u32], measures: &[i64]) -> Result<u32, TreeFault>
         requires dims { length dims.now ≡ self.old.schema.dims }
         requires measures { length measures.now ≡ measures_of self.old.schema }
-        ensures inserted { IsSound self.old → IfOk result (λ n. IsInserted (spec.row_of n dims.now measures.now) self.old self.new) }
+        ensures inserted { IsSound self.old
+            → IfOk result (λ n. IsInserted
+            (spec.row_of n dims.now measures.now) self.old self.new) }
         ensures number { IfOk result (λ n. n ≡ self.old.next) }
-        ensures counted { OnOk result ((self.new.next ≡ self.old.next + 1) × (self.new.rows ≡ self.old.rows + 1) × (self.new.is_failed ≡ false)) }
-        ensures schema { self.new.schema ≡ self.old.schema }
-        ensures first { IsMarkedFirst self.old self.new }
-        ensures trace { KeepsTrace self.old self.new }
+        ensures counted { OnOk result ((self.new.next ≡ self.old.next + 1)
+            × (self.new.rows ≡ self.old.rows + 1) × (self.new.is_failed ≡ false)) }
         ensures failed { IsTrue self.old.is_failed → result ≡ Err TreeFault.Failed }
-        ensures full { self.old.is_failed ≡ false → self.old.next ≡ 16777216 → result ≡ Err TreeFault.Full }
-        ensures refused { IfErr result (IsChangeFault self.old self.new) }
-        ensures reliable { IsErrOf result (TreeFault.Store StoreFault.Device) → IsTrue S.can_fail }
+        ensures full { self.old.is_failed ≡ false → self.old.next ≡ MAX_ROW_NUMBER + 1
+            → result ≡ Err TreeFault.Full }
+        ensures effect { Changes self.old self.new result }
     {
         if self.is_failed {
             return Err(TreeFault::Failed);
@@ -246,9 +251,16 @@ impl<S: PageStore> Tree<S> {
             return Err(TreeFault::Full);
         }
         let row = row_of(self.next, dims, measures);
-        let shape = shape_of(&self.schema);
-        let place = self.places.place_of(&row_key(shape, &row));
+        let shape = self.schema.shape();
+        let key = row.key(shape);
+        let place = self.places.place_of(&key);
         let mut rows = self.rows_at(place)?;
+        if has_key(rows.as_slice(), shape, &key) {
+            return Err(TreeFault::Page {
+                page: self.places.entries[place].page,
+                fault: PageFault::BadOrder,
+            });
+        }
         rows.insert(shape, row);
         self.store_rows(place, &rows)?;
         self.next += 1;
@@ -265,17 +277,20 @@ fn write_pages<S: PageStore>(
     first: (u32, &Page),
     second: (u32, &Page),
 ) -> Result<(), StoreFault>
-    requires { IsNone header → IsTrue is_changed.old }
-    ensures put { OnOk result (PutsTwo first.entry.0 first.entry.1.now second.entry.0 second.entry.1.now pager.old.store pager.new.store) }
-    ensures first { KeepsUnless is_changed.new pager.old.store pager.new.store }
+    requires { IsNone header ↔ IsTrue is_changed.old }
+    ensures put { OnOk result (PutsTwo first.entry.0 first.entry.1.now second.entry.0
+        second.entry.1.now pager.old.store pager.new.store) }
+    ensures marks { Marks (option_copied header.entry)
+        (first.entry.0 ∷ second.entry.0 ∷ []) is_changed.old is_changed.new pager.old.store
+        pager.new.store }
     ensures marked { OnOk result (IsTrue is_changed.new) }
-    ensures honest { pager.new.store.honest ≡ pager.old.store.honest }
-    ensures failures { pager.old.store.failures ≤ pager.new.store.failures }
     ensures trace { SameTrace pager.old pager.new }
-    ensures device { IsErrOf result StoreFault.Device → facts.Failed pager.old.store pager.new.store }
-    ensures reliable { IsErrOf result StoreFault.Device → IsTrue S.can_fail }
-    ensures missing { IsErrOf result StoreFault.NoPage → (page_count pager.old.store ≡ 0) ⊎ (page_count pager.old.store ≤ first.entry.0) ⊎ (page_count pager.old.store ≤ second.entry.0) }
-    ensures faults { IfErr result (λ fault. (fault ≡ StoreFault.Device) ⊎ (fault ≡ StoreFault.NoPage)) }
+    ensures effect { WritesStore pager.old.store pager.new.store result }
+    ensures missing { IsErrOf result StoreFault.NoPage → (page_count pager.old.store ≡ 0)
+        ⊎ (page_count pager.old.store ≤ first.entry.0)
+        ⊎ (page_count pager.old.store ≤ second.entry.0) }
+    ensures faults { IfErr result (λ fault. (fault ≡ StoreFault.Device)
+        ⊎ (fault ≡ StoreFault.NoPage)) }
 {
     write_page(pager, is_changed, header, first.0, first.1)?;
     write_page(pager, is_changed, None, second.0, second.1)
@@ -290,19 +305,17 @@ fn write_page<S: PageStore>(
     n: u32,
     page: &Page,
 ) -> Result<(), StoreFault>
-    requires { IsNone header → IsTrue is_changed.old }
+    requires { IsNone header ↔ IsTrue is_changed.old }
     ensures put { OnOk result (Puts n page.now pager.old.store pager.new.store) }
-    ensures first { KeepsUnless is_changed.new pager.old.store pager.new.store }
-    ensures changed { IsTrue is_changed.old → IsTrue is_changed.new }
+    ensures marks { Marks (option_copied header.entry)
+        (n ∷ []) is_changed.old is_changed.new pager.old.store pager.new.store }
     ensures marked { OnOk result (IsTrue is_changed.new) }
-    ensures honest { pager.new.store.honest ≡ pager.old.store.honest }
-    ensures failures { pager.old.store.failures ≤ pager.new.store.failures }
-    ensures count { page_count pager.new.store ≡ page_count pager.old.store }
     ensures trace { SameTrace pager.old pager.new }
-    ensures device { IsErrOf result StoreFault.Device → facts.Failed pager.old.store pager.new.store }
-    ensures reliable { IsErrOf result StoreFault.Device → IsTrue S.can_fail }
-    ensures missing { IsErrOf result StoreFault.NoPage → (page_count pager.old.store ≡ 0) ⊎ (page_count pager.old.store ≤ n) }
-    ensures faults { IfErr result (λ fault. (fault ≡ StoreFault.Device) ⊎ (fault ≡ StoreFault.NoPage)) }
+    ensures effect { WritesStore pager.old.store pager.new.store result }
+    ensures missing { IsErrOf result StoreFault.NoPage → (page_count pager.old.store ≡ 0)
+        ⊎ (page_count pager.old.store ≤ n) }
+    ensures faults { IfErr result (λ fault. (fault ≡ StoreFault.Device)
+        ⊎ (fault ≡ StoreFault.NoPage)) }
 {
     if let Some(header) = header {
         pager.put(0, header)?;
@@ -346,29 +359,11 @@ fn four_measures(measures: &[i64]) -> [i64; 4]
     all
 }
 
-// Whether a region that begins with this key can stand after that at a place.
-fn has_room(places: &Places, place: usize, first: &Key) -> bool
-    requires { place < length places.now.entries.items }
-    ensures { (page : ℕ) → IsTrue result ↔ ArePlaces places.now.last (insert places.now.entries.items (place + 1) (record { first = first.now; page = page })) }
+// Whether one of the rows has the key.
+fn has_key(rows: &[Row], shape: Shape, key: &Key) -> bool
+    ensures { result ≡ has_key shape key.now rows.now }
 {
-    if first.z > places.last {
-        return false;
-    }
-    if !is_before(&places.entries[place].first, first) {
-        return false;
-    }
-    ends_before(places, place, first)
-}
-
-// Whether the region after that at a place, if there is one, begins after this key.
-fn ends_before(places: &Places, place: usize, first: &Key) -> bool
-    requires { place < length places.now.entries.items }
-    ensures { result ≡ is_before_next first.now (drop (suc place) (first_keys places.now.entries.items)) }
-{
-    match places.entries.get(place + 1) {
-        Some(next) => is_before(first, &next.first),
-        None => true,
-    }
+    rows.iter().any(|row| is_equal(key, &row.key(shape)))
 }
 
 // Each measure is a number of 64 bits: it tells this to the proof alone.

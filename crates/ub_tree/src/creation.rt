@@ -1,19 +1,22 @@
-ghost use Rattle.std.specs.Prelude.{◌≡◌, ◌+◌, ◌/◌, ◌<◌, ◌^◌, [], ◌∷◌, IfOk, IfErr, OnOk, IsErrOf, IsTrue};
+ghost use Rattle.std.specs.Prelude.{◌≡◌, ◌+◌, ◌/◌, ◌<◌, ◌^◌, [], ◌∷◌, Err, IfOk, IfErr, OnOk, OnErr};
 ghost use Rattle.ub_zaddr.specs.Address.{last_address};
 ghost use Rattle.ub_store.specs.Facts.{page_count, IsHonest};
 ghost use Rattle.ub_store.specs.View.{pager_view, SameTrace};
-ghost use Rattle.ub_tree.specs.Calls.{IsCreated, IsCreateFault};
-ghost use Rattle.ub_tree.specs.Keys.{origin};
+ghost use Rattle.ub_table.specs.Keys.{origin};
+ghost use Rattle.ub_tree.specs.Calls.{IsCreated, IsUncreated, IsCreateFault};
+ghost use Rattle.ub_tree.specs.Effects.{written_store};
 ghost use Rattle.ub_tree.specs.Tree.{IsLaidOut};
 
 use crate::fault::TreeFault;
+use crate::header::mark_page;
 use crate::places::Places;
 use crate::tree::Tree;
 use std::alloc::{AllocError, Global};
 use std::num::NonZeroUsize;
-use ub_page::{Entry, Header, Key, Schema, write_header, write_region};
-use ub_store::{PageStore, Pager, Rejected, StoreFault};
-use ub_zaddr::{Shape, last};
+use ub_page::{Entry, write_region};
+use ub_store::{PageStore, Pager, Rejected};
+use ub_table::{Key, Schema};
+use ub_zaddr::last;
 
 // How many pages the cache of a tree holds.
 const CACHE_PAGES: usize = 64;
@@ -23,7 +26,8 @@ pub const ORIGIN: Key = Key { z: 0, number: 0 };
 
 impl<S: PageStore> Tree<S> {
     /// A tree of this schema with no rows, over a store that has no pages. It takes three: the header, marked unclean, the
-    /// page of the one region, and one for the directory, which is written when the tree is closed.
+    /// page of the one region, and one for the directory, which is written when the tree is closed. The header is written
+    /// before any other page is taken.
     ///
     /// Memory comes where memory was refused, Store with Device where the store failed in this call; the store is then
     /// handed back.
@@ -34,8 +38,11 @@ impl<S: PageStore> Tree<S> {
     ) -> Result<Tree<S>, Rejected<S, TreeFault>>
         requires { page_count (S.facts store) ≡ 0 }
         ensures made { IfOk result (λ t. IsCreated (S.facts store) schema.now t) }
-        ensures refused { IfErr result (λ refused. IsCreateFault (S.facts store) (S.facts refused.store) refused.fault) }
-        ensures reliable { IfErr result (λ refused. refused.fault ≡ TreeFault.Store StoreFault.Device → IsTrue S.can_fail) }
+        ensures first { IsHonest (S.facts store)
+            → IfErr result (λ refused. IsUncreated schema.now (S.facts refused.store)) }
+        ensures refused { IfErr result (λ refused. IsCreateFault (S.facts store) refused.fault) }
+        ensures left { IfErr result (λ r. S.facts r.store ≡ written_store {A = S} (Err r.fault)
+            (S.facts store) (S.facts r.store)) }
     {
         let mut pager = match pager_over(alloc, store) {
             Ok(pager) => pager,
@@ -43,7 +50,7 @@ impl<S: PageStore> Tree<S> {
         };
         match lay_out(alloc, &mut pager, schema) {
             Ok((places, chain)) => Ok(Tree {
-                schema: copy_of(schema),
+                schema: schema.copy(),
                 places,
                 chain,
                 next: 1,
@@ -63,7 +70,8 @@ impl<S: PageStore> Tree<S> {
 /// A pager over the store, with the cache of a tree.
 pub fn pager_over<S: PageStore>(alloc: Global, store: S) -> Result<Pager<S>, Rejected<S, TreeFault>>
     ensures made { IfOk result (λ pager. pager ≡ pager_view (S.facts store) [] 0) }
-    ensures refused { IfErr result (λ refused. (refused.store ≡ store) × (refused.fault ≡ TreeFault.Memory)) }
+    ensures refused { IfErr result (λ refused. (refused.store ≡ store)
+        × (refused.fault ≡ TreeFault.Memory)) }
 {
     let cache = NonZeroUsize::new(CACHE_PAGES).unwrap();
     match Pager::new(alloc, store, cache) {
@@ -82,12 +90,17 @@ fn lay_out<S: PageStore>(
     schema: &Schema,
 ) -> Result<(Places, Vec<u32>), TreeFault>
     requires { page_count pager.old.store ≡ 0 }
-    ensures places { IfOk result (λ made. (made.0.entries.items ≡ record { first = origin; page = 1 } ∷ []) × (made.0.last ≡ last_address schema.now.dims) × (made.1.items ≡ 2 ∷ [])) }
-    ensures pages { OnOk result (IsHonest pager.old.store → IsLaidOut schema.now pager.new.store.pages) }
-    ensures honest { pager.new.store.honest ≡ pager.old.store.honest }
+    ensures places { IfOk result (λ made. (made.0.entries.items ≡ record {
+      first = origin;
+      page = 1;
+    } ∷ []) × (made.0.last ≡ last_address schema.now.dims) × (made.1.items ≡ 2 ∷ [])) }
+    ensures pages { OnOk result (IsHonest pager.old.store
+        → IsLaidOut schema.now pager.new.store.pages) }
+    ensures first { OnErr result (IsHonest pager.old.store
+        → IsUncreated schema.now pager.new.store) }
     ensures trace { SameTrace pager.old pager.new }
-    ensures refused { IfErr result (IsCreateFault pager.old.store pager.new.store) }
-    ensures reliable { IsErrOf result (TreeFault.Store StoreFault.Device) → IsTrue S.can_fail }
+    ensures left { pager.new.store ≡ written_store result pager.old.store pager.new.store }
+    ensures refused { IfErr result (IsCreateFault pager.old.store) }
 {
     let places = first_places(alloc, schema)?;
     let mut chain = Vec::new(alloc);
@@ -98,7 +111,10 @@ fn lay_out<S: PageStore>(
 
 // The one region of a table with no rows, on page 1.
 fn first_places(alloc: Global, schema: &Schema) -> Result<Places, AllocError>
-    ensures entries { IfOk result (λ places. places.entries.items ≡ record { first = origin; page = 1 } ∷ []) }
+    ensures entries { IfOk result (λ places. places.entries.items ≡ record {
+      first = origin;
+      page = 1;
+    } ∷ []) }
     ensures last { IfOk result (λ places. places.last ≡ last_address schema.now.dims) }
 {
     let mut entries = Vec::new(alloc);
@@ -106,59 +122,27 @@ fn first_places(alloc: Global, schema: &Schema) -> Result<Places, AllocError>
         first: ORIGIN,
         page: 1,
     })?;
-    match Places::new(entries, last(shape_of(schema))) {
+    match Places::new(entries, last(schema.shape())) {
         Some(places) => Ok(places),
         None => unreachable!(),
     }
 }
 
-// Three pages: the header, marked unclean, the empty region, and one of zeros.
+// Three pages: first the header, marked unclean, and then the empty region, and one of zeros.
 fn write_first_pages<S: PageStore>(pager: &mut Pager<S>, schema: &Schema) -> Result<(), TreeFault>
     requires { page_count pager.old.store ≡ 0 }
-    ensures pages { OnOk result (IsHonest pager.old.store → IsLaidOut schema.now pager.new.store.pages) }
-    ensures honest { pager.new.store.honest ≡ pager.old.store.honest }
+    ensures pages { OnOk result (IsHonest pager.old.store
+        → IsLaidOut schema.now pager.new.store.pages) }
+    ensures first { OnErr result (IsHonest pager.old.store
+        → IsUncreated schema.now pager.new.store) }
     ensures trace { SameTrace pager.old pager.new }
-    ensures refused { IfErr result (IsCreateFault pager.old.store pager.new.store) }
-    ensures reliable { IsErrOf result (TreeFault.Store StoreFault.Device) → IsTrue S.can_fail }
+    ensures left { pager.new.store ≡ written_store result pager.old.store pager.new.store }
+    ensures refused { IfErr result (IsCreateFault pager.old.store) }
 {
     pager.extend()?;
+    pager.put(0, &mark_page(schema, 1, 0, 1, 2))?;
     pager.extend()?;
     pager.extend()?;
-    let header = Header {
-        schema: copy_of(schema),
-        next: 1,
-        rows: 0,
-        regions: 1,
-        root: 2,
-        levels: 1,
-        unclean: true,
-    };
-    pager.put(0, &write_header(&header))?;
     pager.put(1, &write_region(schema, ORIGIN, &[]))?;
     Ok(())
-}
-
-/// The same schema.
-pub fn copy_of(schema: &Schema) -> Schema
-    ensures { result ≡ schema.now }
-{
-    match Schema::new(
-        *schema.name(),
-        schema.columns(),
-        schema.dims(),
-        schema.page_rows(),
-    ) {
-        Ok(copy) => copy,
-        Err(_) => unreachable!(),
-    }
-}
-
-/// The dimensions of a schema, as the shape of a space.
-pub fn shape_of(schema: &Schema) -> Shape
-    ensures { result ≡ schema.now.dims }
-{
-    match Shape::new(schema.dims()) {
-        Ok(shape) => shape,
-        Err(_) => unreachable!(),
-    }
 }

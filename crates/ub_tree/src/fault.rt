@@ -1,7 +1,7 @@
 use std::alloc::AllocError;
 use thiserror::Error;
-use ub_page::PageFault;
 use ub_store::StoreFault;
+use ub_table::PageFault;
 
 /// Why a tree didn't do what it was asked.
 #[derive(Clone, Copy, PartialEq, Eq, Debug, Error)]

@@ -3,8 +3,8 @@
 // list), `Spans` (the addresses that a region covers), `View` (what contracts see of a tree, and when it is sound), `Stored` (the
 // pages of a closed table), `Opened` (which pages are opened). The code, from the bottom: keys and the rows of one region (`keys`,
 // `rows`), the directory in memory (`places`), and the tree over a store: `creation` and `opening` to begin, `tree` to search and
-// read, `change` to put rows in, `removal` to take them out, `closing` to write the directory and the header. Pages are spelled,
-// and stores kept, in the crates below.
+// read, `change` to put rows in, `removal` to take them out, `closing` to write the directory and the header; the header that
+// marks a table as changed stands in `header`. Pages are spelled, and stores kept, in the crates below.
 
 #![tactic(auto)]
 
@@ -12,19 +12,12 @@ mod change;
 mod closing;
 mod creation;
 pub mod fault;
-mod keys;
+mod header;
 mod opening;
-#[cfg(test)]
-mod opening_tests;
 mod places;
-#[cfg(test)]
-mod random;
 mod reading;
 pub mod region;
 mod removal;
-mod rows;
-#[cfg(test)]
-mod tests;
 pub mod tree;
 
 pub use fault::TreeFault;

@@ -1,24 +1,24 @@
-ghost use Rattle.std.specs.Prelude.{◌≡◌, ◌<◌, ◌≤◌, ◌+◌, ◌-◌, ◌↔◌, ◌⊎◌, ◌++◌, ℕ, List, false, length, IsTrue, IfOk, IfErr, OnOk, OnErr, IsErrOf};
+ghost use Rattle.std.specs.Prelude.{◌≡◌, ◌<◌, ◌≤◌, ◌+◌, ◌-◌, ◌↔◌, ◌⊎◌, ◌++◌, ℕ, List, false, length, IsTrue, Err, MatchResult, IsErrAnd, IfOk, IfErr, OnOk};
 ghost use Rattle.ub_zaddr.specs.Address.{last_address};
 ghost use Rattle.ub_page.specs.Directory.{AreAscending, IsListing, directory_page};
 ghost use Rattle.ub_page.specs.Header.{IsHeader, header_page};
-ghost use Rattle.ub_store.specs.Facts as facts;
 ghost use Rattle.ub_store.specs.Facts.{IsHonest, IsPage};
-ghost use Rattle.ub_store.specs.View.{SameTrace};
-ghost use Rattle.ub_tree.specs.Opened.{IsDirectory, IsOpened, AreBegun, HasPart, IsPartFault, IsReadUpTo, IsReadWhole, IsOpenFault};
+ghost use Rattle.ub_tree.specs.Opened.{IsDirectory, IsOpened, AreBegun, HasPart, IsPartFault, IsReadUpTo, IsReadWhole, IsOpenFault, IsMarkFault, IsPassing, Opens};
+ghost use Rattle.ub_tree.specs.Effects.{read_store};
 ghost use Rattle.ub_tree.specs.Placed.{Placed};
-ghost use Rattle.ub_tree.specs.Stored.{AreSoundPages};
+ghost use Rattle.ub_tree.specs.Stored.{AreSoundPages, HasMark};
 ghost use Rattle.ub_tree.specs.View.{IsSound};
 
-use crate::creation::{ORIGIN, pager_over, shape_of};
+use crate::creation::{ORIGIN, pager_over};
 use crate::fault::TreeFault;
-use crate::keys::{is_before, is_equal};
 use crate::places::Places;
 use crate::tree::Tree;
 use std::alloc::Global;
 use ub_page::directory::MAX_ENTRIES;
-use ub_page::{Directory, Entry, Header, Page, PageFault, Schema, read_directory, read_header};
+use ub_page::{Directory, Entry, Header, Page, read_directory, read_header};
+use ub_region::is_equal;
 use ub_store::{PageStore, Pager, Rejected, StoreFault};
+use ub_table::{PageFault, Schema};
 use ub_zaddr::last;
 
 // What was read of a directory: its regions, its pages, and the page that the last of these names.
@@ -40,13 +40,19 @@ impl<S: PageStore> Tree<S> {
     /// that the store does not have, Store with Device where the store failed in this call, Memory where memory was refused.
     pub fn open(alloc: Global, store: S) -> Result<Tree<S>, Rejected<S, TreeFault>>
         ensures opened { IfOk result (IsOpened (S.facts store)) }
-        ensures exact { (header : Header) (chain : List ℕ) (entries : List Entry) → IsHonest (S.facts store) → IsDirectory (S.facts store).pages header chain entries
-            → IfErr result (λ refused. (refused.fault ≡ TreeFault.Memory) ⊎ (refused.fault ≡ TreeFault.Store StoreFault.Device)) }
-        ensures sound { (schema : Schema) (placed : List Placed) (next : ℕ) → IsHonest (S.facts store) → AreSoundPages (S.facts store).pages schema placed next
-            → IfOk result (λ t. IsSound t × (t.schema ≡ schema) × (t.placed ≡ placed) × (t.next ≡ next)) }
-        ensures kept { IfErr result (λ refused. facts.Keeps (S.facts store) (S.facts refused.store)) }
-        ensures refused { IfErr result (λ refused. IsOpenFault (S.facts store) (S.facts refused.store) refused.fault) }
-        ensures reliable { IfErr result (λ refused. refused.fault ≡ TreeFault.Store StoreFault.Device → IsTrue S.can_fail) }
+        ensures exact { (header : Header) (chain : List ℕ) (entries : List Entry)
+            → IsHonest (S.facts store) → IsDirectory (S.facts store).pages header chain entries
+            → IfErr result (λ refused. IsPassing refused.fault) }
+        ensures sound { (schema : Schema) (placed : List Placed) (next : ℕ)
+            → IsHonest (S.facts store) → AreSoundPages (S.facts store).pages schema placed next
+            → MatchResult result (λ t. IsSound t × (t.schema ≡ schema) × (t.placed ≡ placed)
+            × (t.next ≡ next)) (λ refused. IsPassing refused.fault) }
+        ensures unclean { (schema : Schema) → IsHonest (S.facts store)
+            → HasMark schema (S.facts store).pages
+            → IsErrAnd result (λ refused. IsMarkFault refused.fault) }
+        ensures kept { IfErr result (λ r. S.facts r.store ≡ read_store {A = S} (Err r.fault)
+            (S.facts store)) }
+        ensures refused { IfErr result (λ refused. IsOpenFault (S.facts store) refused.fault) }
     {
         // Its contract tells the proof how many pages there can be.
         let _pages = store.pages();
@@ -87,16 +93,14 @@ fn read_table<S: PageStore>(
     pager: &mut Pager<S>,
 ) -> Result<(Header, Places, Vec<u32>), TreeFault>
     ensures header { IfOk result (λ table. IsHeader table.0) }
-    ensures whole { IfOk result (λ table. IsReadWhole pager.old.store table.0 table.2.items table.1.entries.items) }
+    ensures whole { IfOk result (λ table. IsReadWhole pager.old.store table.0 table.2.items
+        table.1.entries.items) }
     ensures last { IfOk result (λ table. table.1.last ≡ last_address table.0.schema.dims) }
-    ensures kept { facts.Keeps pager.old.store pager.new.store }
-    ensures trace { SameTrace pager.old pager.new }
-    ensures refused { IfErr result (IsOpenFault pager.old.store pager.new.store) }
-    ensures reliable { IsErrOf result (TreeFault.Store StoreFault.Device) → IsTrue S.can_fail }
+    ensures effect { Opens pager.old pager.new result }
 {
     let header = header_of(pager)?;
     let listed = read_chain(alloc, pager, &header)?;
-    match Places::new(listed.entries, last(shape_of(&header.schema))) {
+    match Places::new(listed.entries, last(header.schema.shape())) {
         Some(places) => Ok((header, places, listed.chain)),
         None => unreachable!(),
     }
@@ -106,10 +110,7 @@ fn read_table<S: PageStore>(
 fn header_of<S: PageStore>(pager: &mut Pager<S>) -> Result<Header, TreeFault>
     ensures header { IfOk result (λ h. IsHeader h × (h.unclean ≡ false)) }
     ensures page { IfOk result (λ h. IsPage pager.old.store 0 (header_page h)) }
-    ensures kept { facts.Keeps pager.old.store pager.new.store }
-    ensures trace { SameTrace pager.old pager.new }
-    ensures refused { IfErr result (IsOpenFault pager.old.store pager.new.store) }
-    ensures reliable { IsErrOf result (TreeFault.Store StoreFault.Device) → IsTrue S.can_fail }
+    ensures effect { Opens pager.old pager.new result }
 {
     let page = pager.fetch(0)?;
     let header = read_header(&page).map_err(|fault| TreeFault::Page { page: 0, fault })?;
@@ -124,11 +125,9 @@ fn read_chain<S: PageStore>(
 ) -> Result<Listed, TreeFault>
     requires header { IsHeader header.now × (header.now.unclean ≡ false) }
     requires page { IsPage pager.old.store 0 (header_page header.now) }
-    ensures whole { IfOk result (λ listed. IsReadWhole pager.old.store header.now listed.chain.items listed.entries.items) }
-    ensures kept { facts.Keeps pager.old.store pager.new.store }
-    ensures trace { SameTrace pager.old pager.new }
-    ensures refused { IfErr result (IsOpenFault pager.old.store pager.new.store) }
-    ensures reliable { IsErrOf result (TreeFault.Store StoreFault.Device) → IsTrue S.can_fail }
+    ensures whole { IfOk result (λ listed. IsReadWhole pager.old.store header.now listed.chain.items
+        listed.entries.items) }
+    ensures effect { Opens pager.old pager.new result }
 {
     let mut listed = Listed {
         entries: Vec::new(alloc),
@@ -148,14 +147,16 @@ fn read_part<S: PageStore>(
     header: &Header,
     listed: &mut Listed,
 ) -> Result<(), TreeFault>
-    requires { IsReadUpTo pager.old.store header.now listed.old.chain.items listed.old.entries.items listed.old.next }
-    ensures full { length listed.old.entries.items + 170 < header.now.regions
-        → OnOk result (IsReadUpTo pager.new.store header.now listed.new.chain.items listed.new.entries.items listed.new.next × (length listed.new.entries.items ≡ length listed.old.entries.items + 170)) }
-    ensures whole { header.now.regions ≤ length listed.old.entries.items + 170 → OnOk result (IsReadWhole pager.old.store header.now listed.new.chain.items listed.new.entries.items) }
-    ensures kept { facts.Keeps pager.old.store pager.new.store }
-    ensures trace { SameTrace pager.old pager.new }
-    ensures refused { IfErr result (IsOpenFault pager.old.store pager.new.store) }
-    ensures reliable { IsErrOf result (TreeFault.Store StoreFault.Device) → IsTrue S.can_fail }
+    requires { IsReadUpTo pager.old.store header.now listed.old.chain.items listed.old.entries.items
+        listed.old.next }
+    ensures full { length listed.old.entries.items + MAX_ENTRIES < header.now.regions
+        → OnOk result (IsReadUpTo pager.new.store header.now listed.new.chain.items
+        listed.new.entries.items listed.new.next
+        × (length listed.new.entries.items ≡ length listed.old.entries.items + MAX_ENTRIES)) }
+    ensures whole { header.now.regions ≤ length listed.old.entries.items + MAX_ENTRIES
+        → OnOk result (IsReadWhole pager.old.store header.now listed.new.chain.items
+        listed.new.entries.items) }
+    ensures effect { Opens pager.old pager.new result }
 {
     let number = listed.next;
     let page = pager.fetch(number)?;
@@ -178,7 +179,8 @@ fn read_part<S: PageStore>(
 fn part_on(header: &Header, before: &[Entry], page: &Page) -> Result<Directory, PageFault>
     requires more { length before.now < header.now.regions }
     requires begun { AreBegun before.now }
-    ensures listing { IfOk result (λ part. IsListing header.now.schema.dims part × (page.now ≡ directory_page part)) }
+    ensures listing { IfOk result (λ part. IsListing header.now.schema.dims part
+        × (page.now ≡ directory_page part)) }
     ensures part { IfOk result (HasPart (header.now.regions - length before.now)) }
     ensures begun { IfOk result (λ part. AreBegun (before.now ++ part.entries)) }
     ensures refused { IfErr result (IsPartFault header.now before.now page.now) }
@@ -210,7 +212,7 @@ fn goes_on(before: &[Entry], entries: &[Entry]) -> bool
 {
     let first = &entries[0].first;
     match before.last() {
-        Some(entry) => is_before(&entry.first, first),
+        Some(entry) => entry.first.is_before(first),
         None => is_equal(first, &ORIGIN),
     }
 }

@@ -1,16 +1,16 @@
 ghost use Rattle.std.specs.Prelude.{◌≡◌, ℕ, ◌+◌, ◌-◌, ◌<◌, ◌≤◌, ◌↔◌, max, Some, None, IsTrue, All, Bool, if◌then◌else◌, nat_le, nat_lt, length, slice_get, option_copied, IsSome, IfSome, OnOk, OnErr};
 ghost use Rattle.std.specs.List.{insert, remove};
 ghost use Rattle.ub_bigmin.specs.Box.{Corners};
-ghost use Rattle.ub_page.specs.Keys.{IsBefore};
-ghost use Rattle.ub_tree.specs.Keys.{origin, are_ascending};
-ghost use Rattle.ub_tree.specs.Regions.{place_of};
-ghost use Rattle.ub_tree.specs.Spans.{ArePlaces, address_before, first_keys, regions_of, Meets, IsLater, First};
+ghost use Rattle.ub_region.specs.Regions.{place_of};
+ghost use Rattle.ub_region.specs.Spans.{address_before};
+ghost use Rattle.ub_table.specs.Keys.{IsBefore, origin, are_ascending};
+ghost use Rattle.ub_tree.specs.Spans.{ArePlaces, first_keys, regions_of, Meets, IsLater, First};
 
-use crate::keys::is_before;
 use crate::region::Region;
 use std::alloc::AllocError;
 use ub_bigmin::{ZBox, next_in_any};
-use ub_page::{Entry, Key};
+use ub_page::Entry;
+use ub_table::Key;
 
 /// The regions of a tree in order, and the last address of its space.
 #[derive(Drop)]
@@ -41,9 +41,11 @@ impl Places {
     /// Puts an entry after the one at a place, where the entries stay in order. Refused memory leaves all as it was.
     pub fn insert_after(&mut self, place: usize, entry: Entry) -> Result<(), AllocError>
         requires place { place < length self.old.entries.items }
-        requires places { ArePlaces self.old.last (insert self.old.entries.items (place + 1) entry) }
+        requires places { ArePlaces self.old.last
+            (insert self.old.entries.items (place + 1) entry) }
         ensures last { self.new.last ≡ self.old.last }
-        ensures ok { OnOk result (self.new.entries.items ≡ insert self.old.entries.items (place + 1) entry) }
+        ensures ok { OnOk result (self.new.entries.items ≡ insert self.old.entries.items
+            (place + 1) entry) }
         ensures err { OnErr result (self.new.entries.items ≡ self.old.entries.items) }
     {
         self.entries.insert(place + 1, entry)?;
@@ -73,13 +75,14 @@ impl Places {
         ensures some { 1 ≤ result }
         ensures within { result ≤ length self.now.entries.items }
         ensures place { result ≡ place_of key.now (first_keys self.now.entries.items) + 1 }
-        ensures later { (i : ℕ) (entry : Entry) → slice_get self.now.entries.items i ≡ Some entry → IsBefore key.now entry.first ↔ (result ≤ i) }
+        ensures later { (i : ℕ) (entry : Entry) → slice_get self.now.entries.items i ≡ Some entry
+            → IsBefore key.now entry.first ↔ (result ≤ i) }
     {
         let mut low = 1;
         let mut high = self.entries.len();
         while low < high {
             let middle = low + (high - low) / 2;
-            if is_before(key, &self.entries[middle].first) {
+            if key.is_before(&self.entries[middle].first) {
                 high = middle;
             } else {
                 low = middle + 1;
@@ -108,7 +111,8 @@ impl Places {
     /// The first region later than `after`, if one is given, whose span ends at z or later. `None` exactly where there is
     /// none.
     pub fn seek(&self, z: u128, after: Option<&Region>) -> Option<Region>
-        ensures { First (λ r. IsLater (option_copied after.entry) r × (z ≤ r.to)) (regions_of self.now.last self.now.entries.items) result }
+        ensures { First (λ r. IsLater (option_copied after.entry) r × (z ≤ r.to))
+            (regions_of self.now.last self.now.entries.items) result }
     {
         self.reach(z, self.start(after))
     }
@@ -116,7 +120,8 @@ impl Places {
     /// The first region later than `after`, if one is given, that meets one of the boxes. `None` exactly where there is
     /// none.
     pub fn next_meeting(&self, boxes: &[ZBox], after: Option<&Region>) -> Option<Region>
-        ensures { First (λ r. IsLater (option_copied after.entry) r × Meets boxes.now r) (regions_of self.now.last self.now.entries.items) result }
+        ensures { First (λ r. IsLater (option_copied after.entry) r × Meets boxes.now r)
+            (regions_of self.now.last self.now.entries.items) result }
     {
         let start = self.start(after);
         let from = self.entries.get(start)?.first.z;
@@ -126,7 +131,9 @@ impl Places {
 
     // The first place that is later than the region, or the first of all.
     fn start(&self, after: Option<&Region>) -> usize
-        ensures { (i : ℕ) (region : Region) → slice_get (regions_of self.now.last self.now.entries.items) i ≡ Some region → IsLater (option_copied after.entry) region ↔ (result ≤ i) }
+        ensures { (i : ℕ) (region : Region)
+            → slice_get (regions_of self.now.last self.now.entries.items) i ≡ Some region
+            → IsLater (option_copied after.entry) region ↔ (result ≤ i) }
     {
         match after {
             Some(region) => self.count_up_to(&region.first),
@@ -137,7 +144,12 @@ impl Places {
     // The first region at this place or later whose span ends at z or later. It is the one that holds the least key of
     // the address z, or a later one.
     fn reach(&self, z: u128, start: usize) -> Option<Region>
-        ensures { result ≡ (if nat_le z self.now.last then slice_get (regions_of self.now.last self.now.entries.items) (max start (place_of (record { z = z; number = 0 }) (first_keys self.now.entries.items))) else None) }
+        ensures { result ≡ (if nat_le z self.now.last then slice_get
+            (regions_of self.now.last self.now.entries.items)
+            (max start (place_of (record {
+              z = z;
+              number = 0;
+            }) (first_keys self.now.entries.items))) else None) }
     {
         if self.last < z {
             return None;
@@ -169,7 +181,7 @@ fn are_in_order(entries: &[Entry]) -> bool
     ensures { result ≡ are_ascending (first_keys entries.now) }
 {
     for i in 1..entries.len() {
-        if !is_before(&entries[i - 1].first, &entries[i].first) {
+        if !entries[i - 1].first.is_before(&entries[i].first) {
             return false;
         }
     }

@@ -1,4 +1,4 @@
-use ub_page::Key;
+use ub_table::Key;
 
 /// A region: its place in the order of addresses, the span of addresses that its rows can have, and its page.
 #[derive(Clone, Copy, PartialEq, Eq, Debug)]

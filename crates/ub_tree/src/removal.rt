@@ -1,19 +1,19 @@
 ghost use Rattle.std.specs.Prelude.{◌≡◌, ◌+◌, ◌-◌, ◌<◌, ◌≤◌, false, true, IsTrue, Err, Some, length, slice_get, IfOk, IfErr, OnOk, IsErrOf};
 ghost use Rattle.std.specs.List.{remove, AllByRecursion};
-ghost use Rattle.ub_page.specs.Region.{Region, IsRegion};
+ghost use Rattle.ub_region.specs.Joins.{JoinsNext, JoinsBefore, put_rows};
+ghost use Rattle.ub_region.specs.Regions.{settle};
 ghost use Rattle.ub_store.specs.Facts as facts;
-ghost use Rattle.ub_tree.specs.Calls.{IsReadFault};
-ghost use Rattle.ub_tree.specs.Change.{IsStored, IsElsewhereSame, IsChangeFault, IsMarkedFirst};
-ghost use Rattle.ub_tree.specs.Regions.{settle};
-ghost use Rattle.ub_tree.specs.Removal.{IsRemoved, IsUntouched, IsNotFull, JoinsNext, JoinsBefore, put_rows};
-ghost use Rattle.ub_tree.specs.View.{IsSound, KeepsTrace, regions};
+ghost use Rattle.ub_table.specs.Region.{Region, IsRegion};
+ghost use Rattle.ub_tree.specs.Change.{IsStored, IsElsewhereSame};
+ghost use Rattle.ub_tree.specs.Effects.{Searches, Changes};
+ghost use Rattle.ub_tree.specs.Removal.{IsRemoved, IsNotFull};
+ghost use Rattle.ub_tree.specs.View.{IsSound, regions};
 
-use crate::creation::shape_of;
 use crate::fault::TreeFault;
-use crate::rows::Rows;
 use crate::tree::Tree;
-use ub_page::{Key, PageFault, Row};
-use ub_store::{PageStore, StoreFault};
+use ub_region::Rows;
+use ub_store::PageStore;
+use ub_table::{Key, PageFault, Row};
 
 impl<S: PageStore> Tree<S> {
     // Takes the region after that at a place out of the directory. Its page stays in the store.
@@ -31,13 +31,12 @@ impl<S: PageStore> Tree<S> {
         requires place { place + 1 < length self.old.placed }
         requires few { length rows.now ≤ 64 }
         ensures same { OnOk result (IsElsewhereSame self.old self.new) }
-        ensures written { IsStored self.old → AllByRecursion (IsRegion self.old.schema) (put_rows place true rows.now (regions self.old))
-            → OnOk result (IsStored self.new × (regions self.new ≡ put_rows place true rows.now (regions self.old))) }
-        ensures schema { self.new.schema ≡ self.old.schema }
-        ensures first { IsMarkedFirst self.old self.new }
-        ensures trace { KeepsTrace self.old self.new }
-        ensures refused { IfErr result (IsChangeFault self.old self.new) }
-        ensures reliable { IsErrOf result (TreeFault.Store StoreFault.Device) → IsTrue S.can_fail }
+        ensures written { IsStored self.old
+            → AllByRecursion (IsRegion self.old.schema)
+            (put_rows place true rows.now (regions self.old))
+            → OnOk result (IsStored self.new
+            × (regions self.new ≡ put_rows place true rows.now (regions self.old))) }
+        ensures effect { Changes self.old self.new result }
         ensures not_full { IfErr result IsNotFull }
     {
         self.rewrite(place, rows)?;
@@ -52,10 +51,10 @@ impl<S: PageStore> Tree<S> {
         requires few { length rows.old ≤ self.old.schema.page_rows }
         ensures few { length rows.new ≤ self.old.schema.page_rows }
         ensures there { IfOk result (λ fit. IsTrue fit → place + 1 < length self.old.placed) }
-        ensures joined { facts.IsHonest self.old.store → IfOk result (λ fit. JoinsNext self.old.schema.page_rows place rows.old rows.new fit (regions self.old)) }
-        ensures kept { IsUntouched self.old self.new }
-        ensures refused { IfErr result (IsReadFault self.old self.new) }
-        ensures reliable { IsErrOf result (TreeFault.Store StoreFault.Device) → IsTrue S.can_fail }
+        ensures joined { facts.IsHonest self.old.store
+            → IfOk result (λ fit. JoinsNext self.old.schema.page_rows place rows.old rows.new fit
+            (regions self.old)) }
+        ensures effect { Searches self.old self.new result }
     {
         if self.places.entries.len() == place + 1 {
             return Ok(false);
@@ -71,10 +70,10 @@ impl<S: PageStore> Tree<S> {
         requires few { length rows.old ≤ self.old.schema.page_rows }
         ensures few { length rows.new ≤ self.old.schema.page_rows }
         ensures there { IfOk result (λ fit. IsTrue fit → 1 ≤ place) }
-        ensures joined { facts.IsHonest self.old.store → IfOk result (λ fit. JoinsBefore self.old.schema.page_rows place rows.old rows.new fit (regions self.old)) }
-        ensures kept { IsUntouched self.old self.new }
-        ensures refused { IfErr result (IsReadFault self.old self.new) }
-        ensures reliable { IsErrOf result (TreeFault.Store StoreFault.Device) → IsTrue S.can_fail }
+        ensures joined { facts.IsHonest self.old.store
+            → IfOk result (λ fit. JoinsBefore self.old.schema.page_rows place rows.old rows.new fit
+            (regions self.old)) }
+        ensures effect { Searches self.old self.new result }
     {
         if place == 0 {
             return Ok(false);
@@ -93,13 +92,13 @@ impl<S: PageStore> Tree<S> {
         requires place { place < length self.old.placed }
         requires few { length rows.old ≤ self.old.schema.page_rows }
         ensures same { OnOk result (IsElsewhereSame self.old self.new) }
-        ensures written { IsStored self.old → AllByRecursion (IsRegion self.old.schema) (settle self.old.schema.page_rows place (put_rows place false rows.old (regions self.old)))
-            → OnOk result (IsStored self.new × (regions self.new ≡ settle self.old.schema.page_rows place (put_rows place false rows.old (regions self.old)))) }
-        ensures schema { self.new.schema ≡ self.old.schema }
-        ensures first { IsMarkedFirst self.old self.new }
-        ensures trace { KeepsTrace self.old self.new }
-        ensures refused { IfErr result (IsChangeFault self.old self.new) }
-        ensures reliable { IsErrOf result (TreeFault.Store StoreFault.Device) → IsTrue S.can_fail }
+        ensures written { IsStored self.old
+            → AllByRecursion (IsRegion self.old.schema)
+            (settle self.old.schema.page_rows place
+            (put_rows place false rows.old (regions self.old))) → OnOk result (IsStored self.new
+            × (regions self.new ≡ settle self.old.schema.page_rows place
+            (put_rows place false rows.old (regions self.old)))) }
+        ensures effect { Changes self.old self.new result }
         ensures not_full { IfErr result IsNotFull }
     {
         if !rows.are_few(self.schema.page_rows()) {
@@ -122,14 +121,11 @@ impl<S: PageStore> Tree<S> {
     /// Memory where memory was refused, and Store where the store failed in this call or has no such page. After Store the
     /// tree may have failed; after another fault it is as it was.
     pub fn remove(&mut self, key: Key) -> Result<bool, TreeFault>
-        ensures removed { IsSound self.old → IfOk result (λ found. IsRemoved key found self.old self.new) }
-        ensures untouched { IfOk result (λ found. found ≡ false → IsUntouched self.old self.new) }
-        ensures schema { self.new.schema ≡ self.old.schema }
-        ensures first { IsMarkedFirst self.old self.new }
-        ensures trace { KeepsTrace self.old self.new }
+        ensures removed { IsSound self.old
+            → IfOk result (λ found. IsRemoved key found self.old self.new) }
+        ensures untouched { IfOk result (λ found. found ≡ false → self.new ≡ self.old) }
         ensures failed { IsTrue self.old.is_failed → result ≡ Err TreeFault.Failed }
-        ensures refused { IfErr result (IsChangeFault self.old self.new) }
-        ensures reliable { IsErrOf result (TreeFault.Store StoreFault.Device) → IsTrue S.can_fail }
+        ensures effect { Changes self.old self.new result }
         ensures not_full { IfErr result IsNotFull }
     {
         if self.is_failed {
@@ -137,7 +133,7 @@ impl<S: PageStore> Tree<S> {
         }
         let place = self.places.place_of(&key);
         let mut rows = self.rows_at(place)?;
-        if !rows.remove(shape_of(&self.schema), &key) {
+        if !rows.remove(self.schema.shape(), &key) {
             return Ok(false);
         }
         if self.rows == 0 {

@@ -1,8 +1,9 @@
-ghost use Rattle.std.specs.Prelude.{◌⊎◌, ◌≡◌, ◌<◌, ◌≤◌, [], IsTrue, Ok, Err, length, IfOk, IfErr, OnOk, option_copied, IsErrOf};
+ghost use Rattle.std.specs.Prelude.{◌≡◌, ◌≤◌, [], IsTrue, Err, length, IfOk, option_copied};
 ghost use Rattle.std.specs.List.{Contains};
-ghost use Rattle.ub_tree.specs.Calls.{IsReadFault, Keeps, HasNoted, StandsAt};
+ghost use Rattle.ub_tree.specs.Calls.{StandsAt};
+ghost use Rattle.ub_tree.specs.Effects.{Searches, ReadsRegion};
 ghost use Rattle.ub_tree.specs.Spans.{IsLater, Meets, First};
-ghost use Rattle.ub_tree.specs.View.{IsSound, KeepsTrace, spans_of};
+ghost use Rattle.ub_tree.specs.View.{IsSound, spans_of};
 
 use crate::fault::TreeFault;
 use crate::places::Places;
@@ -10,8 +11,9 @@ use crate::reading::region_on;
 use crate::region::Region;
 use std::marker::Model;
 use ub_bigmin::ZBox;
-use ub_page::{RegionPage, Schema};
-use ub_store::{PageStore, Pager, StoreFault};
+use ub_page::RegionPage;
+use ub_store::{PageStore, Pager};
+use ub_table::Schema;
 
 /// A UB-tree (Bayer 1997) over a store of pages: the rows of a table in regions, each on a page, in the order of their
 /// addresses.
@@ -91,12 +93,10 @@ impl<S: PageStore> Tree<S> {
     /// The first region later than `after`, if one is given, whose span ends at z or later; `None` exactly where there is
     /// none. Failed where the tree has failed.
     pub fn seek(&mut self, z: u128, after: Option<&Region>) -> Result<Option<Region>, TreeFault>
-        ensures found { IfOk result (λ found. First (λ r. IsLater (option_copied after.entry) r × (z ≤ r.to)) (spans_of self.old) found) }
+        ensures found { IfOk result (λ found. First (λ r. IsLater (option_copied after.entry) r
+            × (z ≤ r.to)) (spans_of self.old) found) }
         ensures failed { IsTrue self.old.is_failed → result ≡ Err TreeFault.Failed }
-        ensures refused { IfErr result (IsReadFault self.old self.new) }
-        ensures reliable { IsErrOf result (TreeFault.Store StoreFault.Device) → IsTrue S.can_fail }
-        ensures kept { Keeps self.old self.new }
-        ensures trace { KeepsTrace self.old self.new }
+        ensures effect { Searches self.old self.new result }
     {
         if self.has_failed() {
             return Err(TreeFault::Failed);
@@ -111,12 +111,10 @@ impl<S: PageStore> Tree<S> {
         boxes: &[ZBox],
         after: Option<&Region>,
     ) -> Result<Option<Region>, TreeFault>
-        ensures found { IfOk result (λ found. First (λ r. IsLater (option_copied after.entry) r × Meets boxes.now r) (spans_of self.old) found) }
+        ensures found { IfOk result (λ found. First (λ r. IsLater (option_copied after.entry) r
+            × Meets boxes.now r) (spans_of self.old) found) }
         ensures failed { IsTrue self.old.is_failed → result ≡ Err TreeFault.Failed }
-        ensures refused { IfErr result (IsReadFault self.old self.new) }
-        ensures reliable { IsErrOf result (TreeFault.Store StoreFault.Device) → IsTrue S.can_fail }
-        ensures kept { Keeps self.old self.new }
-        ensures trace { KeepsTrace self.old self.new }
+        ensures effect { Searches self.old self.new result }
     {
         if self.has_failed() {
             return Err(TreeFault::Failed);
@@ -131,13 +129,10 @@ impl<S: PageStore> Tree<S> {
     pub fn read_region(&mut self, region: &Region) -> Result<RegionPage, TreeFault>
         ensures dims { IfOk result (λ r. r.dims ≡ self.old.schema.dims) }
         ensures first { IfOk result (λ r. r.region.first ≡ region.now.first) }
-        ensures stands { IsSound self.old → Contains (spans_of self.old) region.now → IfOk result (λ r. StandsAt self.old.placed region.now.page r.region) }
-        ensures noted { (((result ≡ Err TreeFault.Failed) ⊎ (result ≡ Err TreeFault.Memory)) × KeepsTrace self.old self.new) ⊎ HasNoted region.now.page self.old self.new }
-        ensures listed { OnOk result (HasNoted region.now.page self.old self.new) }
+        ensures stands { IsSound self.old → Contains (spans_of self.old) region.now
+            → IfOk result (λ r. StandsAt self.old.placed region.now.page r.region) }
         ensures failed { IsTrue self.old.is_failed → result ≡ Err TreeFault.Failed }
-        ensures refused { Contains (spans_of self.old) region.now → IfErr result (IsReadFault self.old self.new) }
-        ensures reliable { IsErrOf result (TreeFault.Store StoreFault.Device) → IsTrue S.can_fail }
-        ensures kept { Keeps self.old self.new }
+        ensures effect { ReadsRegion region.now self.old self.new result }
     {
         if self.has_failed() {
             return Err(TreeFault::Failed);

@@ -9,6 +9,7 @@ invariant-loop-pager g l = record {
   own : (numbers : List ℕ) → AreOwn (page_count l.fn.pager.store) l.fn.chain.items numbers → AreOwn (page_count l.pager.store) l.chain.items numbers;
   least : min l.levels (length l.fn.chain.items) ≤ length l.chain.items;
   pages : page_count l.pager.store ≡ page_count l.fn.pager.store + (length l.chain.items - length l.fn.chain.items);
+  same : l.pager.store ≡ record l.fn.pager.store { pages = l.pager.store.pages; synced = l.pager.store.synced };
   grows : Grows l.fn.pager.store l.pager.store;
 }
 

@@ -1,15 +1,20 @@
-use Rattle.std.proofs.Common.{◌∙◌, refl}
-use Rattle.ub_tree.proofs.CloseFacts.{on_err, unclosed_of, closed_of}
+use Rattle.std.proofs.Common.{◌∙◌, ap, refl}
+use Rattle.ub_store.specs.Facts.{StoreFacts}
+use Rattle.ub_tree.proofs.CloseFacts.{on_err, unclosed_before, unclosed_of, closed_of}
 use Rattle.ub_tree.proofs.closing.write_table.Goals as goal
 
 pub returns-in_err-write_clean-clause-left : goal.returns-in_err-write_clean-clause-left
 returns-in_err-write_clean-clause-left g c = λ numbers honest own.
     on_err c.from_residual-in_err-write_clean.result _
-    (unclosed_of numbers c.args.entries.now c.in_ok-root.root c.args.pager.now.store c.write_places.new.pager.store c.write_clean.new.pager.store (c.write_places.ensures.kept numbers honest own)
-    (c.in_ok-root.ensures.written numbers honest own) c.write_clean.ensures.kept (c.write_places.ensures.honest ∙ honest))
+    (unclosed_of numbers c.args.entries.now c.in_ok-root.root c.args.pager.now.store c.write_places.new.pager.store c.write_clean.new.pager.store (c.write_places.ensures.kept numbers honest own).kept
+    (c.in_ok-root.ensures.written numbers honest own) c.in_ok-root.ensures.saved.synced c.write_clean.ensures.kept (ap (λ (s : StoreFacts). s.honest) c.write_places.ensures.same ∙ honest))
+
+pub returns-in_err-root-clause-left : goal.returns-in_err-root-clause-left
+returns-in_err-root-clause-left g c = λ numbers honest own.
+    on_err c.from_residual.result _ (unclosed_before numbers c.args.entries.now c.args.pager.now.store c.write_places.new.pager.store (c.write_places.ensures.kept numbers honest own))
 
 pub returns-clause-closed : goal.returns-clause-closed
 returns-clause-closed g c = λ numbers honest own.
-    closed_of numbers c.args.entries.now c.args.pager.now.store c.write_places.new.pager.store c.write_clean.new.pager.store _ (c.write_places.ensures.kept numbers honest own) (c.in_ok-root.ensures.written numbers honest own)
-    c.write_clean.ensures.kept (c.write_places.ensures.honest ∙ honest) (c.in_ok-write_clean.ensures.written (c.write_places.ensures.honest ∙ honest)) refl refl c.requires.some c.requires.few
-    c.requires.fewer c.requires.last_next c.in_ok-root.ensures.small c.levels_of.ensures (rw c.name.ensures at c.tell_name.ensures) (rw c.columns.ensures.columns at c.tell_names.ensures)
+    closed_of numbers c.args.entries.now c.args.pager.now.store c.write_places.new.pager.store c.write_clean.new.pager.store _ (c.write_places.ensures.kept numbers honest own).kept (c.in_ok-root.ensures.written numbers honest own)
+    c.write_clean.ensures.kept (ap (λ (s : StoreFacts). s.honest) c.write_places.ensures.same ∙ honest) (c.in_ok-write_clean.ensures.written (ap (λ (s : StoreFacts). s.honest) c.write_places.ensures.same ∙ honest)) refl refl c.requires.some c.requires.few
+    c.requires.counts.0 c.requires.counts.1 c.in_ok-root.ensures.small c.levels_of.ensures (rw c.name.ensures at c.tell_name.ensures) (rw c.columns.ensures.columns at c.tell_names.ensures)

@@ -1,14 +1,11 @@
 use Rattle.std.proofs.Common.{◌-◌, length}
-use Rattle.ub_store.specs.Facts as facts
-use Rattle.ub_store.specs.View.{SameTrace}
-use Rattle.ub_tree.specs.Opened.{IsReadUpTo}
+use Rattle.ub_tree.specs.Opened.{IsReadUpTo, IsSamePager}
 use Rattle.ub_tree.proofs.opening.read_chain.Given as goal
 
 abbrev pub invariant-loop-pager : goal.invariant-loop-pager
 invariant-loop-pager g l = record {
   read : IsReadUpTo l.pager.store l.header l.listed.chain.items l.listed.entries.items l.listed.next;
-  kept : facts.Keeps l.fn.pager.store l.pager.store;
-  trace : SameTrace l.fn.pager l.pager;
+  same : IsSamePager l.fn.pager l.pager;
 }
 
 abbrev pub decreases-loop-pager : goal.decreases-loop-pager

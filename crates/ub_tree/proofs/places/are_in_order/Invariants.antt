@@ -1,5 +1,5 @@
 use Rattle.std.proofs.Common.{◌≡◌, ◌-◌, drop}
-use Rattle.ub_tree.specs.Keys.{are_ascending}
+use Rattle.ub_table.specs.Keys.{are_ascending}
 use Rattle.ub_tree.specs.Spans.{first_keys}
 use Rattle.ub_tree.proofs.places.are_in_order.Given as goal
 

@@ -1,8 +1,8 @@
 use Rattle.std.proofs.Common.{◌≡◌, ◌+◌, ◌∙◌, sym, ap, length, Some, slice_get, refl}
 use Rattle.std.proofs.lemmas.Option.{slice_get_read}
-use Rattle.ub_page.specs.declared.row.Key.{Key}
+use Rattle.ub_region.specs.Regions.{place_of}
+use Rattle.ub_table.specs.declared.row.Key.{Key}
 use Rattle.ub_tree.specs.Spans.{first_keys}
-use Rattle.ub_tree.specs.Regions.{place_of}
 use Rattle.ub_tree.proofs.TreeFacts.{held_before, held_last, same_key}
 use Rattle.ub_tree.proofs.reading.is_held.Goals as goal
 

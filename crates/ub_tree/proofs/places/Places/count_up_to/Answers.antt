@@ -1,5 +1,5 @@
 use Rattle.std.proofs.Common.{◌≡◌, ◌+◌, ◌-◌, ◌/◌, ◌<◌, true, false, length, sym, ◌∙◌, arith}
-use Rattle.ub_tree.specs.Keys.{precedes}
+use Rattle.ub_table.specs.Keys.{precedes}
 use Rattle.ub_tree.proofs.PlaceFacts.{parted_down, parted_up, parted_place, parted_later, first_read}
 use Rattle.ub_tree.proofs.places.Places.count_up_to.Goals as goal
 

@@ -1,5 +1,6 @@
 use Rattle.std.proofs.Common.{◌≡◌, ◌+◌, ◌∙◌, drop}
-use Rattle.ub_tree.specs.Spans.{first_keys, span_end}
+use Rattle.ub_region.specs.Spans.{span_end}
+use Rattle.ub_tree.specs.Spans.{first_keys}
 use Rattle.ub_tree.proofs.SpanFacts.{region_found, no_region, end_before_next, end_at_last}
 use Rattle.ub_tree.proofs.places.Places.region_at.Goals as goal
 use Rattle.ub_tree.proofs.places.Places.region_at.Goals.{in-Some, in-None}

@@ -1,3 +1,5 @@
+use Rattle.std.proofs.Common.{ap}
+use Rattle.ub_store.specs.Facts.{StoreFacts}
 use Rattle.ub_tree.proofs.CloseFacts.{sound_pages, sound_unclosed, close_refused}
 use Rattle.ub_tree.proofs.tree.Tree.close.Goals as goal
 
@@ -5,7 +7,7 @@ pub returns-in-Ok-clause-closed : goal.returns-in-Ok-clause-closed
 returns-in-Ok-clause-closed g c =
     let t = c.self.inside in
     rw (c.into_store-in-Ok.ensures, ← c.self.view_is)
-    (sound_pages t.schema t.places.entries.items t.chain.items t.next t.rows t.is_changed t.is_failed t.pager c.write_table.new.pager.store c.write_table.ensures.honest (rw c.deref.ensures.value at c.in-Ok.ensures.closed))
+    (sound_pages t.schema t.places.entries.items t.chain.items t.next t.rows t.is_changed t.is_failed t.pager c.write_table.new.pager.store (ap (λ (s : StoreFacts). s.honest) c.write_table.ensures.same) (rw c.deref.ensures.value at c.in-Ok.ensures.closed))
 
 pub returns-clause-first : goal.returns-clause-first
 returns-clause-first g c =

@@ -9,7 +9,7 @@ returns-in-Ok-lay_out-clause-made g c =
     let made = c.in-Ok.ensures.made in
     let places = c.in-Ok-lay_out.ensures.places in
     let trace = c.in-Ok-lay_out.ensures.trace in
-    rw (c.copy_of.ensures, places.0, places.2)
-    (created facts c.args.schema.now c.lay_out.new.pager (c.in-Ok-lay_out.ensures.honest ∙ ap (λ (p : PagerView). p.store.honest) made)
+    rw (c.copy.ensures, places.0, places.2)
+    (created facts c.args.schema.now c.lay_out.new.pager (c.in-Ok-lay_out.ensures.left ∙ ap (λ (p : PagerView). record p.store { pages = c.lay_out.new.pager.store.pages; synced = c.lay_out.new.pager.store.synced }) made)
     (trace.0 ∙ ap (λ (p : PagerView). p.trace) made) (trace.1 ∙ ap (λ (p : PagerView). p.fetches) made)
     (λ honest. c.in-Ok-lay_out.ensures.pages (ap (λ (p : PagerView). p.store.honest) made ∙ honest)))

@@ -1,18 +1,15 @@
-use Rattle.std.proofs.Common.{subst, ◌∙◌, sym, rules, arith}
-use Rattle.ub_store.specs.Facts.{zero_page}
-use Rattle.ub_tree.specs.Change.{IsChangeFault}
-use Rattle.ub_tree.specs.Faults.{tree_fault}
-use Rattle.ub_tree.specs.Tree.{tree_view, known_pages}
+use Rattle.std.proofs.Common.{ap, rules, refl, arith, ℕ}
+use Rattle.ub_store.specs.Facts.{StoreFacts, zero_page}
+use Rattle.ub_tree.proofs.WriteFacts.{second_page, IsExtended, extended_may, extended_appends, extended_stored, extended_fresh, extended_leaves, extension_ended, extension_refused}
+use Rattle.ub_tree.specs.Tree.{tree_view}
 use Rattle.ub_tree.specs.View.{TreeView}
-use Rattle.ub_tree.specs.declared.fault.TreeFault.{TreeFault}
-use Rattle.ub_tree.proofs.TreeFacts.{entries_back}
-use Rattle.ub_tree.proofs.WriteFacts.{IsExtended, extended_may, extend_refused, extended_appends, extended_stored, extended_fresh, extended_leaves}
 use Rattle.ub_tree.proofs.tree.Tree.extend.Goals as goal
 
 pub returns-in-Ok-clause-grown : goal.returns-in-Ok-clause-grown
 returns-in-Ok-clause-grown g c =
     let t = c.self.inside in
-    let more : IsExtended t.pager.store c.extend.new.self.store = extended_appends zero_page t.pager.store c.extend.new.self.store c.in-Ok.ensures.added in
+    let effect = c.in-Ok.ensures.effect in
+    let more : IsExtended t.pager.store c.extend.new.self.store = extended_appends zero_page t.pager.store c.extend.new.self.store (ap (λ (s : StoreFacts). s.honest) effect.frame) effect.added in
     rw (← c.self.view_is) (λ stored.
     let both = extended_stored t.schema t.places.entries.items t.chain.items t.next t.rows t.is_changed t.is_failed t.pager c.extend.new.self more stored in
     (both.0, both.1, extended_fresh t.schema t.places.entries.items t.chain.items t.next t.rows t.is_changed t.is_failed t.pager c.extend.new.self more c.in-Ok.n c.in-Ok.ensures.number stored))
@@ -20,21 +17,32 @@ returns-in-Ok-clause-grown g c =
 pub returns-in-Ok-clause-leaves : goal.returns-in-Ok-clause-leaves
 returns-in-Ok-clause-leaves g c =
     let t = c.self.inside in
-    let more : IsExtended t.pager.store c.extend.new.self.store = extended_appends zero_page t.pager.store c.extend.new.self.store c.in-Ok.ensures.added in
-    rw (← c.self.view_is) (extended_leaves t.schema t.places.entries.items t.chain.items t.next t.rows t.is_changed t.is_failed t.pager c.extend.new.self more)
+    let effect = c.in-Ok.ensures.effect in
+    let more : IsExtended t.pager.store c.extend.new.self.store = extended_appends zero_page t.pager.store c.extend.new.self.store (ap (λ (s : StoreFacts). s.honest) effect.frame) effect.added in
+    rw (← c.self.view_is) (extended_leaves t.schema t.places.entries.items t.chain.items t.next t.rows t.is_changed t.is_failed t.pager c.extend.new.self more effect.frame c.in-Ok.ensures.trace)
 
-pub returns-in-Err-clause-refused : goal.returns-in-Err-clause-refused
-returns-in-Err-clause-refused g c =
+pub returns-in-Err-Device-clause-effect : goal.returns-in-Err-Device-clause-effect
+returns-in-Err-Device-clause-effect g c =
     let t = c.self.inside in
-    let old : TreeView = tree_view t.schema t.places.entries.items t.chain.items t.next t.rows t.is_changed t.is_failed t.pager in
+    let effect = c.in-Err-Device.ensures.effect in
+    let more : IsExtended t.pager.store c.extend.new.self.store = extended_may t.pager.store c.extend.new.self.store (ap (λ (s : StoreFacts). s.honest) effect.frame) effect.failed in
+    rw (← c.self.view_is)
+    (extension_ended t.schema t.places.entries.items t.chain.items t.next t.rows t.is_changed t.is_failed t.pager c.extend.new.self more ℕ c.in-Err-Device.field-0 (search rules) effect.frame c.in-Err-Device.ensures.trace (search rules))
+
+pub returns-in-Err-clause-effect : goal.returns-in-Err-clause-effect
+returns-in-Err-clause-effect g c =
+    let t = c.self.inside in
+    let effect = c.in-Err.ensures.effect in
+    let more : IsExtended t.pager.store c.extend.new.self.store = extended_may t.pager.store c.extend.new.self.store (ap (λ (s : StoreFacts). s.honest) effect.frame) effect.failed in
+    rw (← c.self.view_is)
+    (extension_refused t.schema t.places.entries.items t.chain.items t.next t.rows t.is_changed t.is_failed t.pager c.extend.new.self more ℕ c.in-Err.fault _ c.from.ensures effect.frame c.in-Err.ensures.trace
+    c.in-Err.ensures.no_page (search rules) c.in-Err.ensures.full)
+
+pub returns-in-Ok-clause-later : goal.returns-in-Ok-clause-later
+returns-in-Ok-clause-later g c = λ sound.
+    let t = c.self.inside in
     let new : TreeView = tree_view t.schema t.places.entries.items t.chain.items t.next t.rows t.is_changed t.is_failed c.extend.new.self in
-    let more : IsExtended t.pager.store c.extend.new.self.store = extended_may t.pager.store c.extend.new.self.store c.in-Err.ensures.failed in
-    subst (λ (f : TreeFault). IsChangeFault c.args.self.now new f) (sym c.from.ensures)
-    (subst (λ (v : TreeView). IsChangeFault v new (tree_fault c.in-Err.fault)) c.self.view_is
-    (extend_refused c.in-Err.fault old new c.in-Err.ensures.device c.in-Err.ensures.no_page (search rules) (λ is. let last = c.in-Err.ensures.full is in let grown = more.more in omega arith)
-    (extended_leaves t.schema t.places.entries.items t.chain.items t.next t.rows t.is_changed t.is_failed t.pager c.extend.new.self more)))
-
-pub returns-in-Ok-clause-entries : goal.returns-in-Ok-clause-entries
-returns-in-Ok-clause-entries g c =
-    let t = c.self.inside in
-    rw (← c.self.view_is) (entries_back t.schema (known_pages c.extend.new.self.store) t.places.entries.items ∙ sym (entries_back t.schema (known_pages t.pager.store) t.places.entries.items))
+    let more = second_page new t.chain.items refl c.self.invariant.some_chain sound in
+    let count = c.in-Ok.ensures.effect.added.0 in
+    let number = c.in-Ok.ensures.number in
+    omega arith

@@ -1,64 +1,119 @@
-use Rattle.std.proofs.Common.{◌≡◌, ◌<◌, ◌∙◌, sym, ap, subst, length, arith}
-use Rattle.std.proofs.Common.{◌≢◌, ◌+◌, ◌^◌, ℕ}
-use Rattle.ub_page.specs.declared.row.Row.{Row}
-use Rattle.ub_tree.specs.Change.{IsInserted, row_of}
+use Rattle.std.proofs.Common.{◌≡◌, ◌≢◌, ◌<◌, ◌+◌, ◌^◌, ◌∙◌, ℕ, Err, sym, ap, subst, length, arith}
+use Rattle.ub_region.proofs.RowFacts.{length-insert_row}
+use Rattle.ub_table.specs.declared.row.Row.{Row}
+use Rattle.ub_tree.specs.Change.{AreRowsAt, IsInserted, row_of}
+use Rattle.ub_tree.specs.Effects.{Changes}
 use Rattle.ub_tree.specs.Tree.{known_pages, tree_view}
-use Rattle.ub_tree.proofs.TreeFacts.{length-placed}
-use Rattle.ub_tree.proofs.GrowFacts.{IsReady, ready, room_of, insert_refused, grown, words_of}
-use Rattle.ub_tree.proofs.RowFacts.{length-insert_row}
+use Rattle.ub_tree.proofs.TreeFacts.{entries_back, length-placed, placed_at, placed_get}
+use Rattle.ub_tree.proofs.GrowFacts.{IsReady, ready, room_ready, grown, words_of}
+use Rattle.ub_tree.proofs.WriteFacts.{counted_anew, left_by, searched_by, then_changed, unchanged}
 use Rattle.ub_tree.specs.View.{TreeView}
+use Rattle.std.proofs.Common.{inr, map, refl, true, false, Some, slice_get}
+use Rattle.std.proofs.lemmas.Option.{slice_get_read}
+use Rattle.ub_zaddr.specs.Address.{last_address}
+use Rattle.ub_region.specs.Rows.{has_key, insert_row}
+use Rattle.ub_table.specs.declared.fault.PageFault.TheVariants.{BadOrder}
+use Rattle.ub_table.specs.declared.row.Key.{Key}
+use Rattle.ub_tree.specs.Placed.{Placed, entry_of}
+use Rattle.ub_tree.specs.Spans.{ArePlaces}
+use Rattle.ub_tree.specs.declared.fault.TreeFault.TheVariants.{Page}
+use Rattle.ub_tree.proofs.RoomFacts.{key_there}
 use Rattle.ub_tree.proofs.tree.Tree.insert.Goals as goal
 
 pub store_rows-requires-clause-most : goal.store_rows-requires-clause-most
 store_rows-requires-clause-most g c =
-    let long = length-insert_row c.shape_of-shape.result c.row_of-row.result c.in_ok-rows.rows in
-    let same = ap (λ (v : TreeView). v.schema.page_rows) c.in_ok-rows.ensures.same in
+    let long = length-insert_row c.shape-shape.result c.row_of-row.result c.in_ok-rows.rows in
+    let same = ap (λ (v : TreeView). v.schema.page_rows) c.in_ok-rows.ensures.effect.same in
     let few = c.in_ok-rows.ensures.few in
     rw c.insert.ensures (omega arith)
 
-pub returns-in_err-store_rows-clause-refused : goal.returns-in_err-store_rows-clause-refused
-returns-in_err-store_rows-clause-refused g c =
-    let t = c.self.inside in
-    let a = c.args.self.now in
-    let b = c.rows_at.new.self in
-    let same = c.in_ok-rows.ensures.same in
-    let kept = c.in_ok-rows.ensures.kept in
-    let row = c.row_of-row.result in
-    let honest : b.store.honest ≡ t.pager.store.honest = kept.honesty ∙ ap (λ (v : TreeView). v.store.honest) (sym c.self.view_is) in
-    let at_view = ready t.schema t.places.entries.items t.chain.items t.next t.rows t.is_changed t.is_failed t.pager b.store c.shape_of-shape.result c.place_of-place.result c.row_key.result row c.args.dims.now c.args.measures.now c.in_ok-rows.rows c.insert.new.self
-    honest c.row_of-row.ensures.row (rw (← c.self.view_is) at c.requires.dims) (rw (← c.self.view_is) at c.requires.measures) (words_of c.args.dims.now c.type_inv.dims) c.row_of-row.ensures.words
-    c.self.invariant.fewer c.self.invariant.last_next c.if-self-eq-NEXT_END.false c.row_key.ensures c.shape_of-shape.ensures c.place_of-place.ensures.place c.place_of-place.ensures.within
-    (rw (← c.self.view_is) at c.in_ok-rows.ensures.rows) c.insert.ensures in
-    let is_ready : IsReady b row c.place_of-place.result c.insert.new.self =
-    subst (λ (v : TreeView). IsReady v row c.place_of-place.result c.insert.new.self) (ap (λ (v : TreeView). record v { store = b.store }) c.self.view_is ∙ sym same) at_view in
-    insert_refused c.from_residual-in_err-store_rows.result a b c.store_rows.new.self c.in_err-store_rows.field-0.0 c.from_residual-in_err-store_rows.ensures.1 same kept
-    (c.in_err-store_rows.ensures.refused (room_of b row c.place_of-place.result c.insert.new.self is_ready))
+pub returns-in_err-rows-clause-effect : goal.returns-in_err-rows-clause-effect
+returns-in_err-rows-clause-effect g c =
+    searched_by c.from_residual.result c.in_err-rows.field-0.0 c.args.self.now c.rows_at.new.self c.from_residual.ensures.1 c.in_err-rows.ensures.effect
+
+pub returns-in_err-store_rows-clause-effect : goal.returns-in_err-store_rows-clause-effect
+returns-in_err-store_rows-clause-effect g c =
+    left_by c.from_residual-in_err-store_rows.result c.in_err-store_rows.field-0.0 c.args.self.now c.store_rows.new.self c.from_residual-in_err-store_rows.ensures.1
+    (then_changed {T = Unit {0}} _ c.args.self.now c.rows_at.new.self c.store_rows.new.self c.in_ok-rows.ensures.effect.same c.in_err-store_rows.ensures.effect)
+
+pub returns-clause-effect : goal.returns-clause-effect
+returns-clause-effect g c =
+    let after = c.store_rows.new.self in
+    let u = c.self-3.inside in
+    let d : TreeView = tree_view u.schema u.places.entries.items u.chain.items (u.next + 1) (u.rows + 1) u.is_changed u.is_failed u.pager in
+    counted_anew {T = Unit {0}} {U = ℕ} tt _ c.args.self.now after d after.placed (after.rows + 1) (after.next + 1) (ap (λ (v : TreeView). record v { next = v.next + 1; rows = v.rows + 1 }) c.self-3.view_is)
+    (then_changed {T = Unit {0}} _ c.args.self.now c.rows_at.new.self after c.in_ok-rows.ensures.effect.same c.in_ok-store_rows.ensures.effect)
 
 pub returns-clause-inserted : goal.returns-clause-inserted
 returns-clause-inserted g c =
     let t = c.self.inside in
     let a = c.args.self.now in
     let b = c.rows_at.new.self in
-    let same = c.in_ok-rows.ensures.same in
-    let kept = c.in_ok-rows.ensures.kept in
+    let same : b ≡ a = c.in_ok-rows.ensures.effect.same in
     let row = c.row_of-row.result in
-    let honest : b.store.honest ≡ t.pager.store.honest = kept.honesty ∙ ap (λ (v : TreeView). v.store.honest) (sym c.self.view_is) in
-    let at_view = ready t.schema t.places.entries.items t.chain.items t.next t.rows t.is_changed t.is_failed t.pager b.store c.shape_of-shape.result c.place_of-place.result c.row_key.result row c.args.dims.now c.args.measures.now c.in_ok-rows.rows c.insert.new.self
-    honest c.row_of-row.ensures.row (rw (← c.self.view_is) at c.requires.dims) (rw (← c.self.view_is) at c.requires.measures) (words_of c.args.dims.now c.type_inv.dims) c.row_of-row.ensures.words
-    c.self.invariant.fewer c.self.invariant.last_next c.if-self-eq-NEXT_END.false c.row_key.ensures c.shape_of-shape.ensures c.place_of-place.ensures.place c.place_of-place.ensures.within
+    let at_view = ready t.schema t.places.entries.items t.chain.items t.next t.rows t.is_changed t.is_failed t.pager c.shape-shape.result c.place_of-place.result c.key-key.result row c.args.dims.now c.args.measures.now c.in_ok-rows.rows c.insert.new.self
+    c.row_of-row.ensures.row (rw (← c.self.view_is) at c.requires.dims) (rw (← c.self.view_is) at c.requires.measures) (words_of c.args.dims.now c.type_inv.dims) c.row_of-row.ensures.words
+    c.self.invariant.fewer c.self.invariant.last_next c.if-self-eq-NEXT_END.false c.key-key.ensures c.shape-shape.ensures c.place_of-place.ensures.place c.place_of-place.ensures.within
     (rw (← c.self.view_is) at c.in_ok-rows.ensures.rows) c.insert.ensures in
     let is_ready : IsReady b row c.place_of-place.result c.insert.new.self =
-    subst (λ (v : TreeView). IsReady v row c.place_of-place.result c.insert.new.self) (ap (λ (v : TreeView). record v { store = b.store }) c.self.view_is ∙ sym same) at_view in
+    subst (λ (v : TreeView). IsReady v row c.place_of-place.result c.insert.new.self) (c.self.view_is ∙ sym same) at_view in
     let after = c.store_rows.new.self in
-    let u = c.self-2.inside in
+    let u = c.self-3.inside in
     let d : TreeView = tree_view u.schema u.places.entries.items u.chain.items (u.next + 1) (u.rows + 1) u.is_changed u.is_failed u.pager in
     let stored = c.in_ok-store_rows.ensures.same in
     let not_last : a.next ≢ 16777216 = λ e. c.if-self-eq-NEXT_END.false (ap (λ (v : TreeView). v.next) c.self.view_is ∙ e) in
-    let few : length after.placed < 2 ^ 32 = (let most = c.self-2.invariant.few in subst (λ (v : TreeView). length v.placed < 2 ^ 32) c.self-2.view_is
+    let few : length after.placed < 2 ^ 32 = (let most = c.self-3.invariant.few in subst (λ (v : TreeView). length v.placed < 2 ^ 32) c.self-3.view_is
     (let long = length-placed u.schema (known_pages u.pager.store) u.places.entries.items in omega arith)) in
     let number : row_of row.number c.args.dims.now c.args.measures.now ≡ row =
     ap (λ (n : ℕ). row_of n c.args.dims.now c.args.measures.now) (ap (λ (r : Row). r.number) c.row_of-row.ensures.row) ∙ sym c.row_of-row.ensures.row in
     λ sound. subst (λ (r : Row). IsInserted r a d) (sym number)
-    (grown a b after d row c.place_of-place.result c.insert.new.self same kept is_ready not_last c.in_ok-store_rows.ensures.written
+    (grown a b after d row c.place_of-place.result c.insert.new.self same is_ready not_last c.in_ok-store_rows.ensures.written
     (ap (λ (v : TreeView). v.schema) stored) (ap (λ (v : TreeView). v.next) stored) (ap (λ (v : TreeView). v.rows) stored) few (ap (λ (v : TreeView). v.is_changed) stored)
-    (ap (λ (v : TreeView). record v { next = v.next + 1; rows = v.rows + 1 }) c.self-2.view_is) sound)
+    c.in_ok-store_rows.ensures.effect.marked.marked
+    (ap (λ (v : TreeView). record v { next = v.next + 1; rows = v.rows + 1 }) c.self-3.view_is) sound)
+
+pub store_rows-requires-clause-room : goal.store_rows-requires-clause-room
+store_rows-requires-clause-room g c = λ over.
+    let t = c.self.inside in
+    let a = c.args.self.now in
+    let b = c.rows_at.new.self in
+    let same : b ≡ a = c.in_ok-rows.ensures.effect.same in
+    let row = c.row_of-row.result in
+    let rows = c.in_ok-rows.rows in
+    let at_view = ready t.schema t.places.entries.items t.chain.items t.next t.rows t.is_changed t.is_failed t.pager c.shape-shape.result c.place_of-place.result c.key-key.result row c.args.dims.now c.args.measures.now c.in_ok-rows.rows c.insert.new.self
+    c.row_of-row.ensures.row (rw (← c.self.view_is) at c.requires.dims) (rw (← c.self.view_is) at c.requires.measures) (words_of c.args.dims.now c.type_inv.dims) c.row_of-row.ensures.words
+    c.self.invariant.fewer c.self.invariant.last_next c.if-self-eq-NEXT_END.false c.key-key.ensures c.shape-shape.ensures c.place_of-place.ensures.place c.place_of-place.ensures.within
+    (rw (← c.self.view_is) at c.in_ok-rows.ensures.rows) c.insert.ensures in
+    let is_ready : IsReady b row c.place_of-place.result c.insert.new.self =
+    subst (λ (v : TreeView). IsReady v row c.place_of-place.result c.insert.new.self) (c.self.view_is ∙ sym same) at_view in
+    let dims : c.shape-shape.result ≡ b.schema.dims = c.shape-shape.ensures ∙ ap (λ (v : TreeView). v.schema.dims) (c.self.view_is ∙ sym same) in
+    let places : ArePlaces (last_address b.schema.dims) (map entry_of b.placed) =
+    subst (λ (v : TreeView). ArePlaces (last_address v.schema.dims) (map entry_of v.placed)) (c.self.view_is ∙ sym same)
+    (rw (← c.self.invariant.last_is, entries_back t.schema (known_pages t.pager.store) t.places.entries.items) (t.places.begins, t.places.within, t.places.ascending)) in
+    let are = subst (λ (v : TreeView). AreRowsAt v.schema (map entry_of v.placed) c.place_of-place.result rows) (sym same) c.in_ok-rows.ensures.at in
+    let none : has_key c.shape-shape.result c.key-key.result rows ≡ false = rw c.as_slice.ensures.rows at (sym c.has_key.ensures ∙ c.if-has_key.false) in
+    room_ready b row c.place_of-place.result rows c.insert.new.self is_ready places are (rw (c.key-key.ensures, dims) at none) (c.insert.ensures ∙ ap (λ (d : ℕ). insert_row d row rows) dims) over
+
+pub returns-then-has_key-clause-effect : goal.returns-then-has_key-clause-effect
+returns-then-has_key-clause-effect g c =
+    let t = c.self.inside in
+    let u = c.self-2.inside in
+    let a = c.args.self.now in
+    let b = c.rows_at.new.self in
+    let same : b ≡ a = c.in_ok-rows.ensures.effect.same in
+    let rows = c.in_ok-rows.rows in
+    let e = c.index.result.now in
+    let p : Placed = placed_at u.schema (known_pages u.pager.store) e in
+    let count : length t.places.entries.items ≡ length a.placed = sym (length-placed t.schema (known_pages t.pager.store) t.places.entries.items) ∙ ap (λ (v : TreeView). length v.placed) c.self.view_is in
+    let count_u : length a.placed ≡ length u.places.entries.items = sym (ap (λ (v : TreeView). length v.placed) (c.self-2.view_is ∙ same)) ∙ length-placed u.schema (known_pages u.pager.store) u.places.entries.items in
+    let held = c.place_of-place.ensures.within in
+    let within : c.place_of-place.result < length u.places.entries.items = omega arith in
+    let at : slice_get u.places.entries.items c.place_of-place.result ≡ Some e = slice_get_read u.places.entries.items (length u.places.entries.items) c.place_of-place.result e refl within c.index.ensures in
+    let there : slice_get a.placed c.place_of-place.result ≡ Some p =
+    subst (λ (v : TreeView). slice_get v.placed c.place_of-place.result ≡ Some p) (c.self-2.view_is ∙ same) (placed_get u.schema (known_pages u.pager.store) u.places.entries.items c.place_of-place.result e at) in
+    let number : c.key-key.result.number ≡ a.next =
+    ap (λ (k : Key). k.number) c.key-key.ensures ∙ ap (λ (r : Row). r.number) c.row_of-row.ensures.row ∙ ap (λ (v : TreeView). v.next) c.self.view_is in
+    let dims : c.shape-shape.result ≡ a.schema.dims = c.shape-shape.ensures ∙ ap (λ (v : TreeView). v.schema.dims) c.self.view_is in
+    let has : has_key c.shape-shape.result c.key-key.result rows ≡ true = rw c.as_slice.ensures.rows at (sym c.has_key.ensures ∙ c.if-has_key.true) in
+    let taken = key_there a c.place_of-place.result p c.key-key.result rows there number (rw dims at has) (λ honest. c.in_ok-rows.ensures.rows honest p there) in
+    subst (λ (v : TreeView). Changes {A = ℕ} a v (Err (Page e.page BadOrder))) (sym same) (unchanged (Page e.page BadOrder) a (taken.0, inr (inr (refl, taken.1)), refl))

@@ -14,7 +14,7 @@ returns-clause-joined g c = λ honest.
     let long = length-regions a.placed in
     let before = some_at a.placed (c.args.place - 1) (omega arith) in
     let read = c.in_ok-before.ensures.rows honest before.0 before.1 in
-    let rows_a = ap (λ (v : TreeView). v.schema.page_rows) (c.self.view_is ∙ c.in_ok-before.ensures.same) in
+    let rows_a = ap (λ (v : TreeView). v.schema.page_rows) (c.self.view_is ∙ c.in_ok-before.ensures.effect.same) in
     let join = join_one a.schema.page_rows c.args.place c.args.rows.now c.if-fit.rows c.join-fit.result before.0.region (regions a) some (region_get a.placed (c.args.place - 1) before.0 before.1) (omega arith)
     (rw (← read, ← rows_a, ← c.page_rows.ensures.page_rows) c.join-fit.ensures.fit) in
     join (elim c.if-fit.branch [

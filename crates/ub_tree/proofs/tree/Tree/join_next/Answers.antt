@@ -29,6 +29,6 @@ returns-clause-joined g c = λ honest.
     let b = next.0 in
     let up : suc c.args.place ≡ c.args.place + 1 = omega arith in
     let read = c.in_ok-next.ensures.rows honest b (subst (λ (i : ℕ). slice_get a.placed i ≡ Some b) up next.1) in
-    let rows_a = ap (λ (v : TreeView). v.schema.page_rows) (c.self-2.view_is ∙ c.in_ok-next.ensures.same) in
+    let rows_a = ap (λ (v : TreeView). v.schema.page_rows) (c.self-2.view_is ∙ c.in_ok-next.ensures.effect.same) in
     join_with a.schema.page_rows c.args.place c.args.rows.now c.join.new.self c.join.result b.region (regions a) (region_get a.placed (suc c.args.place) b next.1)
     (rw (← read, ← rows_a, ← c.page_rows.ensures.page_rows) c.join.ensures.fit) (rw (← read) c.join.ensures.rows)

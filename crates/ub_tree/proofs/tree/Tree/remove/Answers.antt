@@ -1,10 +1,14 @@
-use Rattle.std.proofs.Common.{◌≡◌, ◌<◌, ◌-◌, ◌^◌, ◌∙◌, ap, sym, subst, length, arith, true, false, ℕ}
-use Rattle.ub_tree.specs.Rows.{has_key, remove_row}
+use Rattle.std.proofs.Common.{◌≡◌, ◌<◌, ◌-◌, ◌^◌, ◌∙◌, ap, sym, subst, length, arith, true, false, refl, inl, inr, Bool, ℕ}
+use Rattle.ub_region.proofs.RowFacts.{length-remove_row}
+use Rattle.ub_region.specs.Rows.{has_key, remove_row}
+use Rattle.ub_table.specs.declared.fault.PageFault.TheVariants.{BadCount}
+use Rattle.ub_tree.specs.declared.fault.TreeFault.TheVariants.{Page}
+use Rattle.ub_tree.specs.Effects.{Changes}
 use Rattle.ub_tree.specs.Tree.{known_pages, tree_view}
 use Rattle.ub_tree.specs.View.{TreeView}
-use Rattle.ub_tree.proofs.RowFacts.{length-remove_row}
 use Rattle.ub_tree.proofs.ShrinkFacts.{holder, none_removed, some_counted, shrunk}
 use Rattle.ub_tree.proofs.TreeFacts.{length-placed}
+use Rattle.ub_tree.proofs.WriteFacts.{counted_anew, left_by, nothing_changed, searched_by, then_changed, unchanged}
 use Rattle.ub_tree.proofs.tree.Tree.remove.Goals as goal
 
 pub returns-then-not-remove-clause-removed : goal.returns-then-not-remove-clause-removed
@@ -14,31 +18,52 @@ returns-then-not-remove-clause-removed g c =
     let b = c.rows_at.new.self in
     let key = c.args.key in
     let rows = c.in_ok-rows.rows in
-    let same = c.in_ok-rows.ensures.same in
+    let same : b ≡ a = c.in_ok-rows.ensures.effect.same in
     let held = holder t.schema t.places.entries.items t.chain.items t.next t.rows t.is_changed t.is_failed t.pager a key c.place_of-place.result rows c.self.view_is
     c.place_of-place.ensures.place c.place_of-place.ensures.within c.in_ok-rows.ensures.rows in
-    let dims : c.shape_of.result ≡ a.schema.dims = c.shape_of.ensures ∙ ap (λ (v : TreeView). v.schema.dims) (c.self-2.view_is ∙ same) in
+    let dims : c.shape.result ≡ a.schema.dims = c.shape.ensures ∙ ap (λ (v : TreeView). v.schema.dims) (c.self-2.view_is ∙ same) in
     let found : has_key a.schema.dims key rows ≡ false = rw (← dims) (sym c.remove.ensures.found ∙ c.if-not-remove.true) in
-    none_removed a b key c.place_of-place.result rows held same c.in_ok-rows.ensures.kept found
+    none_removed a b key c.place_of-place.result rows held same found
 
-pub returns-then-self-eq0-clause-refused : goal.returns-then-self-eq0-clause-refused
-returns-then-self-eq0-clause-refused g c =
+pub returns-then-self-eq0-clause-effect : goal.returns-then-self-eq0-clause-effect
+returns-then-self-eq0-clause-effect g c =
     let t = c.self.inside in
     let a = c.args.self.now in
+    let b = c.rows_at.new.self in
     let key = c.args.key in
     let rows = c.in_ok-rows.rows in
-    let same = c.in_ok-rows.ensures.same in
+    let same : b ≡ a = c.in_ok-rows.ensures.effect.same in
     let held = holder t.schema t.places.entries.items t.chain.items t.next t.rows t.is_changed t.is_failed t.pager a key c.place_of-place.result rows c.self.view_is
     c.place_of-place.ensures.place c.place_of-place.ensures.within c.in_ok-rows.ensures.rows in
-    let dims : c.shape_of.result ≡ a.schema.dims = c.shape_of.ensures ∙ ap (λ (v : TreeView). v.schema.dims) (c.self-2.view_is ∙ same) in
+    let dims : c.shape.result ≡ a.schema.dims = c.shape.ensures ∙ ap (λ (v : TreeView). v.schema.dims) (c.self-2.view_is ∙ same) in
     let found : has_key a.schema.dims key rows ≡ true = rw (← dims) (sym c.remove.ensures.found ∙ c.if-not-remove.false) in
     let none : a.rows ≡ 0 = sym (ap (λ (v : TreeView). v.rows) (c.self-2.view_is ∙ same)) ∙ c.if-self-eq0.true in
-    some_counted a key c.place_of-place.result rows held found none
+    subst (λ (v : TreeView). Changes {A = Bool} a v _) (sym same) (unchanged (Page 0 BadCount) a (some_counted a key c.place_of-place.result rows held found none, inr (inl (refl, refl, none)), refl))
+
+pub returns-in_err-rows-clause-effect : goal.returns-in_err-rows-clause-effect
+returns-in_err-rows-clause-effect g c =
+    searched_by c.from_residual.result c.in_err-rows.field-0.0 c.args.self.now c.rows_at.new.self c.from_residual.ensures.1 c.in_err-rows.ensures.effect
+
+pub returns-then-not-remove-clause-effect : goal.returns-then-not-remove-clause-effect
+returns-then-not-remove-clause-effect g c = nothing_changed _ c.args.self.now c.rows_at.new.self c.in_ok-rows.ensures.effect.same
+
+pub returns-in_err-settle-clause-effect : goal.returns-in_err-settle-clause-effect
+returns-in_err-settle-clause-effect g c =
+    left_by c.from_residual-in_err-settle.result c.in_err-settle.field-0.0 c.args.self.now c.settle.new.self c.from_residual-in_err-settle.ensures.1
+    (then_changed {T = Unit {0}} _ c.args.self.now c.rows_at.new.self c.settle.new.self c.in_ok-rows.ensures.effect.same c.in_err-settle.ensures.effect)
+
+pub returns-clause-effect : goal.returns-clause-effect
+returns-clause-effect g c =
+    let u = c.self-3.inside in
+    let mid = c.settle.new.self in
+    let d : TreeView = tree_view u.schema u.places.entries.items u.chain.items u.next (u.rows - 1) u.is_changed u.is_failed u.pager in
+    counted_anew {T = Unit {0}} {U = Bool} tt _ c.args.self.now mid d mid.placed (mid.rows - 1) mid.next (ap (λ (v : TreeView). record v { rows = v.rows - 1 }) c.self-3.view_is)
+    (then_changed {T = Unit {0}} _ c.args.self.now c.rows_at.new.self mid c.in_ok-rows.ensures.effect.same c.in_ok-settle.ensures.effect)
 
 pub settle-requires-clause-few : goal.settle-requires-clause-few
 settle-requires-clause-few g c =
-    let less = length-remove_row c.shape_of.result c.args.key c.in_ok-rows.rows in
-    let same = ap (λ (v : TreeView). v.schema.page_rows) c.in_ok-rows.ensures.same in
+    let less = length-remove_row c.shape.result c.args.key c.in_ok-rows.rows in
+    let same = ap (λ (v : TreeView). v.schema.page_rows) c.in_ok-rows.ensures.effect.same in
     let few = c.in_ok-rows.ensures.few in
     rw c.remove.ensures.rows (omega arith)
 
@@ -49,11 +74,11 @@ returns-clause-removed g c =
     let b = c.rows_at.new.self in
     let key = c.args.key in
     let rows = c.in_ok-rows.rows in
-    let same = c.in_ok-rows.ensures.same in
+    let same : b ≡ a = c.in_ok-rows.ensures.effect.same in
     let held = holder t.schema t.places.entries.items t.chain.items t.next t.rows t.is_changed t.is_failed t.pager a key c.place_of-place.result rows c.self.view_is
     c.place_of-place.ensures.place c.place_of-place.ensures.within c.in_ok-rows.ensures.rows in
-    let dims_b : c.shape_of.result ≡ b.schema.dims = c.shape_of.ensures ∙ ap (λ (v : TreeView). v.schema.dims) c.self-2.view_is in
-    let dims : c.shape_of.result ≡ a.schema.dims = c.shape_of.ensures ∙ ap (λ (v : TreeView). v.schema.dims) (c.self-2.view_is ∙ same) in
+    let dims_b : c.shape.result ≡ b.schema.dims = c.shape.ensures ∙ ap (λ (v : TreeView). v.schema.dims) c.self-2.view_is in
+    let dims : c.shape.result ≡ a.schema.dims = c.shape.ensures ∙ ap (λ (v : TreeView). v.schema.dims) (c.self-2.view_is ∙ same) in
     let found : has_key a.schema.dims key rows ≡ true = rw (← dims) (sym c.remove.ensures.found ∙ c.if-not-remove.false) in
     let left : c.remove.new.self ≡ remove_row b.schema.dims key rows = c.remove.ensures.rows ∙ ap (λ (d : ℕ). remove_row d key rows) dims_b in
     let after = c.settle.new.self in
@@ -61,5 +86,5 @@ returns-clause-removed g c =
     let d : TreeView = tree_view u.schema u.places.entries.items u.chain.items u.next (u.rows - 1) u.is_changed u.is_failed u.pager in
     let few : length after.placed < 2 ^ 32 = (let most = c.self-3.invariant.few in subst (λ (v : TreeView). length v.placed < 2 ^ 32) c.self-3.view_is
     (let long = length-placed u.schema (known_pages u.pager.store) u.places.entries.items in omega arith)) in
-    shrunk a b after d key c.place_of-place.result rows held same c.in_ok-rows.ensures.kept found c.in_ok-settle.ensures.same few
+    shrunk a b after d key c.place_of-place.result rows held same found c.in_ok-settle.ensures.same c.in_ok-settle.ensures.effect.marked.marked few
     (ap (λ (v : TreeView). record v { rows = v.rows - 1 }) c.self-3.view_is) (rw left at c.in_ok-settle.ensures.written)

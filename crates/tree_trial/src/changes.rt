@@ -1,0 +1,140 @@
+use crate::model::{Model, ORIGIN};
+use crate::numbers::Numbers;
+use crate::plane::{address, created, put};
+use crate::trouble::Trouble;
+use std::alloc::Global;
+use ub_store::{MemStore, PageStore};
+use ub_table::{Key, Row};
+use ub_tree::{Region, Tree, TreeFault};
+
+/// What some changes leave.
+#[derive(Clone, Copy)]
+pub struct Left {
+    /// How many rows there are.
+    pub rows: u32,
+    /// In how many regions.
+    pub regions: u32,
+    /// Of the rows' addresses and numbers, in their order.
+    pub checksum: u128,
+}
+
+// Whether each row of a region's page is one of the model's, in that region.
+fn are_there(model: &Model, first: &Key, rows: &[Row]) -> bool {
+    for row in rows {
+        let key = Key {
+            z: address(row.dims[0], row.dims[1]),
+            number: row.number,
+        };
+        if !model.keys().contains(&key) || model.holder(&key) != *first {
+            return false;
+        }
+    }
+    rows.len() == model.size(first)
+}
+
+/// Whether the tree has the regions and the rows of the model.
+pub fn is_like<S: PageStore>(tree: &mut Tree<S>, model: &Model) -> Result<bool, TreeFault> {
+    let mut after: Option<Region> = None;
+    let mut first = Some(ORIGIN);
+    for _ in 0..tree.regions() {
+        let Some(region) = tree.seek(0, after.as_ref())? else {
+            return Ok(false);
+        };
+        let page = tree.read_region(&region)?;
+        if first != Some(region.first) || !are_there(model, &region.first, page.rows()) {
+            return Ok(false);
+        }
+        first = model.next(&region.first);
+        after = Some(region);
+    }
+    Ok(first.is_none() && tree.rows() as usize == model.keys().len())
+}
+
+// Puts a row in, once more where memory was refused, if the tree is as it was then; else it answers Full.
+fn put_again<S: PageStore>(
+    tree: &mut Tree<S>,
+    model: &Model,
+    x: u32,
+    y: u32,
+) -> Result<u32, TreeFault> {
+    match put(tree, x, y) {
+        Err(TreeFault::Memory) if is_like(tree, model)? => put(tree, x, y),
+        Err(TreeFault::Memory) => Err(TreeFault::Full),
+        answer => answer,
+    }
+}
+
+// Takes a row out, once more where memory was refused, if the tree is as it was then; else it answers Full.
+fn remove_again<S: PageStore>(
+    tree: &mut Tree<S>,
+    model: &Model,
+    key: &Key,
+) -> Result<bool, TreeFault> {
+    match tree.remove(*key) {
+        Err(TreeFault::Memory) if is_like(tree, model)? => tree.remove(*key),
+        Err(TreeFault::Memory) => Err(TreeFault::Full),
+        answer => answer,
+    }
+}
+
+/// Puts a row in at random, or takes one out, in the tree and in the model. Gives whether they answered alike.
+pub fn change<S: PageStore>(
+    alloc: Global,
+    tree: &mut Tree<S>,
+    model: &mut Model,
+    numbers: &mut Numbers,
+) -> Result<bool, TreeFault> {
+    if numbers.below(5) < 3 {
+        let x = numbers.coordinate();
+        let y = numbers.coordinate();
+        let number = put_again(tree, model, x, y)?;
+        model.insert(Key {
+            z: address(x, y),
+            number,
+        })?;
+        return Ok(true);
+    }
+    let place = numbers.below(model.keys().len() as u64) as usize;
+    let key = model.keys().get(place).copied().unwrap_or(ORIGIN);
+    let is_there = remove_again(tree, model, &key)?;
+    Ok(is_there == model.remove(alloc, &key)?)
+}
+
+// The checksum with these rows.
+fn with_rows(rows: &[Row], sum: u128) -> u128 {
+    let mut sum = sum;
+    for row in rows {
+        let z = address(row.dims[0], row.dims[1]);
+        sum = sum.rotate_left(7) ^ (u128::from(row.number) << 6) ^ z;
+    }
+    sum
+}
+
+// The checksum of all rows, region after region.
+fn checksum(tree: &mut Tree<MemStore>) -> Result<u128, Trouble> {
+    let mut after: Option<Region> = None;
+    let mut sum = 0u128;
+    for _ in 0..tree.regions() {
+        let region = tree.seek(0, after.as_ref())?.ok_or(Trouble::Wrong)?;
+        sum = with_rows(tree.read_region(&region)?.rows(), sum);
+        after = Some(region);
+    }
+    Ok(sum)
+}
+
+/// So many changes at random of a table with so many rows on a page, the tree compared with the definition after each one.
+pub fn changed_at_random(alloc: Global, page_rows: u32, changes: u32) -> Result<Left, Trouble> {
+    let mut model = Model::new(alloc, page_rows)?;
+    let mut numbers = Numbers::new(u64::from(page_rows));
+    let mut tree = created(alloc, page_rows)?;
+    for _ in 0..changes {
+        if !change(alloc, &mut tree, &mut model, &mut numbers)? || !is_like(&mut tree, &model)? {
+            return Err(Trouble::Wrong);
+        }
+    }
+    Ok(Left {
+        rows: tree.rows(),
+        regions: tree.regions(),
+        checksum: checksum(&mut tree)?,
+    })
+}

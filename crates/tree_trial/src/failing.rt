@@ -1,0 +1,64 @@
+use crate::changes::{change, is_like};
+use crate::model::Model;
+use crate::numbers::Numbers;
+use crate::plane::{plane, put};
+use crate::trouble::Trouble;
+use std::alloc::Global;
+use ub_store::{FaultyStore, MemStore};
+use ub_tree::{Tree, TreeFault};
+
+/// Before which call of the store a run of no failing call must come.
+const MOST_CALLS: u64 = 200;
+
+/// How many changes are made in each run.
+const CHANGES: u32 = 12;
+
+type FaultyTree = Tree<FaultyStore<MemStore>>;
+
+// Whether a tree whose store failed in a change counts as before, and does no more unless only a read failed.
+fn is_left(tree: &mut FaultyTree, model: &Model, regions: u32) -> Result<bool, TreeFault> {
+    if tree.regions() != regions || tree.rows() as usize != model.keys().len() {
+        return Ok(false);
+    }
+    if !tree.has_failed() {
+        return is_like(tree, model);
+    }
+    Ok(
+        matches!(put(tree, 0, 0), Err(TreeFault::Failed))
+            && matches!(tree.seek(0, None), Err(TreeFault::Failed)),
+    )
+}
+
+// Whether a tree over a store whose k-th call fails is left as it should be. `None` where no call failed.
+fn fails_well(alloc: Global, k: u64) -> Result<Option<bool>, Trouble> {
+    let store = FaultyStore::new(MemStore::new(alloc), k);
+    let mut tree = match Tree::create(alloc, store, &plane(2)?) {
+        Ok(tree) => tree,
+        Err(refused) if refused.fault == TreeFault::Memory => return Err(refused.fault.into()),
+        Err(_) => return Ok(Some(true)),
+    };
+    let mut model = Model::new(alloc, 2)?;
+    let mut numbers = Numbers::new(7);
+    for _ in 0..CHANGES {
+        let regions = tree.regions();
+        match change(alloc, &mut tree, &mut model, &mut numbers) {
+            Ok(true) => {}
+            Ok(false) => return Ok(Some(false)),
+            Err(TreeFault::Memory) => return Err(TreeFault::Memory.into()),
+            Err(_) => return Ok(Some(is_left(&mut tree, &model, regions)?)),
+        }
+    }
+    Ok(None)
+}
+
+/// How many calls of the store were made to fail, each in a run of its own: all that the runs make.
+pub fn failing_calls(alloc: Global) -> Result<u64, Trouble> {
+    for k in 1..MOST_CALLS {
+        match fails_well(alloc, k)? {
+            Some(true) => {}
+            Some(false) => return Err(Trouble::Wrong),
+            None => return Ok(k.wrapping_sub(1)),
+        }
+    }
+    Err(Trouble::Wrong)
+}

@@ -1,0 +1,176 @@
+-- What the calls of a tree leave, in a few words: a call that searches, one that reads regions, one that changes the tree.
+use Rattle.std.specs.Prelude.{◌+◌, ◌≡◌, ◌≢◌, ◌<◌, ◌≤◌, ◌⊎◌, ◌++◌, ℕ, Bool, true, false, [], ◌∷◌, IsTrue, Result, Ok, Err, IfErr, OnOk, IsErrOf, length, map, slice_get, List}
+use Rattle.std.specs.List.{Contains}
+use Rattle.ub_store.specs.Facts.{StoreFacts, IsHonest, IsPage, page_count, raised, counted as store_counted}
+use Rattle.ub_store.specs.declared.fault.StoreFault.{StoreFault}
+use Rattle.ub_store.specs.declared.fault.StoreFault.TheVariants as store
+use Rattle.ub_table.specs.declared.row.TheConstants.{MAX_ROW_NUMBER}
+use Rattle.ub_page.specs.Region.{IsRegionFault, region_page}
+use Rattle.ub_page.specs.declared.directory.Entry.{Entry}
+use Rattle.ub_table.specs.Region.{Region, IsRegion}
+use Rattle.ub_table.specs.declared.fault.PageFault.{PageFault}
+use Rattle.ub_table.specs.declared.fault.PageFault.TheVariants.{BadCount, BadOrder, OutOfRegion}
+use Rattle.ub_table.specs.declared.row.Key.{Key}
+use Rattle.ub_table.specs.declared.row.Row.{Row}
+use Rattle.ub_table.specs.declared.schema.Schema.{Schema}
+use Rattle.ub_tree.specs.Spans.{first_keys}
+use Rattle.ub_tree.specs.Tree.{IsHeldBy}
+use Rattle.ub_tree.specs.Placed.{Placed, entry_of}
+use Rattle.ub_tree.specs.Stored.{HasMark}
+use Rattle.ub_tree.specs.View.{TreeView, IsSound, KeepsTrace, spans_of}
+use Rattle.ub_tree.specs.declared.fault.TreeFault.{TreeFault}
+use Rattle.ub_tree.specs.declared.fault.TreeFault.TheVariants.{Full, Page, Store, Failed, Memory}
+use Rattle.ub_tree.specs.declared.region.Region.{Region as Span}
+
+-- a count of failures after a call with this fault, and after one with this result: Device raises it by one
+abbrev pub raised_by : TreeFault → ℕ → ℕ
+raised_by (Store store.Device) n = raised n 1
+raised_by _ n = n
+
+abbrev pub counted : {A : Type 0} → Result A TreeFault → ℕ → ℕ
+counted (Ok _) n = n
+counted (Err fault) n = raised_by fault n
+
+-- a store after a call with this result that only reads
+abbrev pub read_store : {A : Type 0} → Result A TreeFault → StoreFacts → StoreFacts
+read_store result old = record old { failed_reads = counted result old.failed_reads }
+
+-- a store after a call with this result that only writes, extends and syncs, with the pages that it then has
+abbrev pub written_store : {A : Type 0} → Result A TreeFault → StoreFacts → StoreFacts → StoreFacts
+written_store result old new = record old { pages = new.pages; synced = new.synced; failed_writes = counted result old.failed_writes }
+
+-- a store after such a call of its own
+abbrev pub put_store : {A : Type 0} → Result A StoreFault → StoreFacts → StoreFacts → StoreFacts
+put_store result old new = record old { pages = new.pages; synced = new.synced; failed_writes = store_counted result old.failed_writes }
+
+-- a call that only writes, extends and syncs a store
+pub record WritesStore {A : Type 0} (old new : StoreFacts) (result : Result A StoreFault) : Type 0 where
+  pub same : new ≡ put_store result old new
+  pub device : IsErrOf result store.Device → IsTrue old.can_fail
+
+-- why a page is refused where a region is due that begins with this key, in a directory of regions with these first keys: its
+-- reader refuses it, or it tells of a region that begins with another key or that the directory doesn't hold
+abbrev pub IsRegionRefused : Schema → List Key → Key → List ℕ → PageFault → Type 0
+IsRegionRefused schema firsts first page fault =
+    IsRegionFault schema page fault
+    ⊎ ((fault ≡ OutOfRegion) × (region : Region) × IsRegion schema region × (page ≡ region_page schema region)
+    × (¬ ((region.first ≡ first) × IsHeldBy schema.dims firsts region)))
+
+-- the page of this number is refused, on which the directory has a region
+abbrev pub IsPageRefused : TreeView → ℕ → PageFault → Type 0
+IsPageRefused t number fault =
+    (entry : Entry) × Contains (map entry_of t.placed) entry × (entry.page ≡ number) × (page : List ℕ) × IsPage t.store number page
+    × IsRegionRefused t.schema (first_keys (map entry_of t.placed)) entry.first page fault
+
+-- the directory has a region on a page that the store doesn't have
+abbrev pub IsPageMissing : TreeView → Type 0
+IsPageMissing t = (entry : Entry) × Contains (map entry_of t.placed) entry × (page_count t.store ≤ entry.page)
+
+-- what a call can answer that only reads: `Failed` where the tree has, the device's fault where the store can fail, and a fault
+-- of a page of the directory's, or that there is none, only where the tree isn't sound
+abbrev pub IsReadFault : TreeView → TreeFault → Type 0
+IsReadFault old Full = ⊥
+IsReadFault old Failed = IsTrue old.is_failed
+IsReadFault old Memory = Unit {0}
+IsReadFault old (Page page fault) = (¬ (IsSound old)) × IsPageRefused old page fault
+IsReadFault old (Store store.Device) = IsTrue old.store.can_fail
+IsReadFault old (Store store.NoPage) = (¬ (IsSound old)) × IsPageMissing old
+IsReadFault old (Store _) = ⊥
+
+-- a call that only searches: with the device's fault the store has one failed read more, and else nothing has changed
+pub record Searches {A : Type 0} (old new : TreeView) (result : Result A TreeFault) : Type 0 where
+  pub same : new ≡ record old { store = read_store result old.store }
+  pub faults : IfErr result (IsReadFault old)
+
+-- a call that searches and reads regions: the trace can grow too
+pub record Reads {A : Type 0} (old new : TreeView) (result : Result A TreeFault) : Type 0 where
+  pub same : new ≡ record old { store = read_store result old.store; trace = new.trace; fetches = new.fetches }
+  pub faults : IfErr result (IsReadFault old)
+
+-- a page was asked for: it stands in the trace, after the others
+abbrev pub HasNoted : ℕ → TreeView → TreeView → Type 0
+HasNoted page old new = (new.trace ≡ old.trace ++ page ∷ []) × (new.fetches ≡ raised old.fetches 1)
+
+-- what the reading of a region answers, also of one that isn't the tree's
+abbrev pub IsSpanFault : Span → TreeView → TreeFault → Type 0
+IsSpanFault span old Failed = IsTrue old.is_failed
+IsSpanFault span old Memory = Unit {0}
+IsSpanFault span old (Page number fault) =
+    (number ≡ span.page) × (page : List ℕ) × IsPage old.store number page
+    × IsRegionRefused old.schema (first_keys (map entry_of old.placed)) span.first page fault
+IsSpanFault span old (Store store.Device) = IsTrue old.store.can_fail
+IsSpanFault span old (Store store.NoPage) = page_count old.store ≤ span.page
+IsSpanFault span old _ = ⊥
+
+-- a call that reads this region, whose page is noted first; which region of the tree it is the caller says
+pub record ReadsRegion {A : Type 0} (span : Span) (old new : TreeView) (result : Result A TreeFault) : Type 0 where
+  pub same : new ≡ record old { store = read_store result old.store; trace = new.trace; fetches = new.fetches }
+  pub noted : (KeepsTrace old new × ((result ≡ Err Failed) ⊎ (result ≡ Err Memory))) ⊎ HasNoted span.page old new
+  pub listed : OnOk result (HasNoted span.page old new)
+  pub faults : Contains (spans_of old) span → IfErr result (IsReadFault old)
+  pub refused : IfErr result (IsSpanFault span old)
+
+-- unless the table is marked as changed, the pages but the first are as they were
+abbrev pub KeepsUnless : Bool → StoreFacts → StoreFacts → Type 0
+KeepsUnless is_changed old new = IsHonest old → is_changed ≡ false → (m : ℕ) → m ≢ 0 → m < page_count old → slice_get new.pages m ≡ slice_get old.pages m
+
+-- until a table is marked as changed no page but the first is written, and from then on the first page marks a sound tree's table
+pub record IsMarkedFirst (old new : TreeView) : Type 0 where
+  pub kept : KeepsUnless new.is_changed old.store new.store
+  pub marked : IsSound old → new.is_changed ≡ true → HasMark old.schema new.store.pages
+
+-- there are as many pages as a store can have, or as many regions
+abbrev pub IsFull : TreeView → Type 0
+IsFull t = (4294967295 ≤ page_count t.store) ⊎ (length t.placed ≡ 4294967295)
+
+-- the store can have pages more after those that there were, which hold nothing of the tree; all else is as it was
+pub record Leaves (old new : TreeView) : Type 0 where
+  pub same : new ≡ record old { placed = new.placed; store = record old.store { pages = new.store.pages; synced = new.store.synced } }
+  pub entries : map entry_of new.placed ≡ map entry_of old.placed
+  pub more : page_count old.store ≤ page_count new.store
+  pub pages : IsHonest old.store → (m : ℕ) → m < page_count old.store → slice_get new.store.pages m ≡ slice_get old.store.pages m
+  pub sound : IsSound old → (new.placed ≡ old.placed) × IsSound new
+
+-- a write or an extension met this fault: the tree has failed, with the directory and the counts that it had
+pub record HasEnded (fault : TreeFault) (old new : TreeView) : Type 0 where
+  pub same : new ≡ record old { placed = new.placed; is_changed = new.is_changed; is_failed = true; store = written_store {A = TreeFault} (Err fault) old.store new.store }
+  pub entries : map entry_of new.placed ≡ map entry_of old.placed
+
+-- a read failed: nothing but the count of failed reads has changed
+abbrev pub HasMissed : TreeView → TreeView → Type 0
+HasMissed old new = new ≡ record old { store = record old.store { failed_reads = raised old.store.failed_reads 1 } }
+
+-- the region on this page has a row already of the number that the next row gets
+abbrev pub IsNumberTaken : TreeView → ℕ → Type 0
+IsNumberTaken t number =
+    (p : Placed) × Contains t.placed p × (p.page ≡ number)
+    × (IsHonest t.store → (row : Row) × Contains p.region.rows row × (row.number ≡ t.next))
+
+-- which page a change refuses, and why: one that it reads; the first, where a row is there and none is counted; or that of the
+-- region that has the new row's key already
+abbrev pub IsChangeRefused : TreeView → ℕ → PageFault → Type 0
+IsChangeRefused t number fault =
+    IsPageRefused t number fault ⊎ ((number ≡ 0) × (fault ≡ BadCount) × (t.rows ≡ 0))
+    ⊎ ((fault ≡ BadOrder) × IsNumberTaken t number)
+
+-- what a call can answer that changes the tree, and what it leaves then
+abbrev pub IsLeft : TreeView → TreeView → TreeFault → Type 0
+IsLeft old new Full = (old.next ≡ MAX_ROW_NUMBER + 1) × (new ≡ old)
+IsLeft old new Failed = IsTrue old.is_failed × (new ≡ old)
+IsLeft old new Memory = Leaves old new
+IsLeft old new (Page page fault) = (¬ (IsSound old)) × IsChangeRefused old page fault × (new ≡ old)
+IsLeft old new (Store store.Device) = IsTrue old.store.can_fail × (HasMissed old new ⊎ HasEnded (Store store.Device) old new)
+IsLeft old new (Store store.NoPage) = (¬ (IsSound old)) × IsPageMissing old × ((new ≡ old) ⊎ HasEnded (Store store.NoPage) old new)
+IsLeft old new (Store store.BadSize) = IsFull old × Leaves old new
+IsLeft old new (Store store.Memory) = ⊥
+
+-- the tree works, and no call of the store has failed
+abbrev pub Works : TreeView → TreeView → Type 0
+Works old new = (new.is_failed ≡ old.is_failed) × (new.store ≡ record old.store { pages = new.store.pages; synced = new.store.synced })
+
+-- a call that changes the tree: what it never touches, that it marks the table first, and what it leaves
+pub record Changes {A : Type 0} (old new : TreeView) (result : Result A TreeFault) : Type 0 where
+  pub frame : new ≡ record old { placed = new.placed; rows = new.rows; next = new.next; is_changed = new.is_changed; is_failed = new.is_failed; store = new.store }
+  pub marked : IsMarkedFirst old new
+  pub done : OnOk result (Works old new)
+  pub left : IfErr result (IsLeft old new)

@@ -1,0 +1,54 @@
+ghost use Rattle.std.specs.Prelude.{◌≡◌, ◌+◌, ◌^◌, ◌<◌, ◌≤◌};
+ghost use Rattle.std.specs.List.{AllByRecursion};
+ghost use Rattle.ub_table.specs.Name.{IsName};
+ghost use Rattle.ub_tree.specs.Closing.{levels_for};
+ghost use Rattle.ub_tree.specs.Stored.{IsMarkPage};
+
+use ub_page::directory::MAX_ENTRIES;
+use ub_page::{Header, Page, write_header};
+use ub_table::{MAX_ROW_NUMBER, Name, Schema};
+
+/// The page of a header that marks a table as changed. What it tells of the rows and of the directory means nothing.
+pub fn mark_page(schema: &Schema, next: u32, rows: u32, regions: u32, root: u32) -> Page
+    requires fewer { rows < next }
+    requires last_next { next ≤ MAX_ROW_NUMBER + 1 }
+    requires some { 1 ≤ regions }
+    requires root { 1 ≤ root }
+    ensures { IsMarkPage schema.now result }
+{
+    tell_names(schema.columns());
+    tell_name(schema.name());
+    write_header(&Header {
+        schema: schema.copy(),
+        next,
+        rows,
+        regions,
+        root,
+        levels: levels_of(regions as usize) as u32,
+        unclean: true,
+    })
+}
+
+/// How many pages the directory of so many regions takes.
+pub fn levels_of(regions: usize) -> usize
+    requires { regions < 2 ^ 32 }
+    ensures { result ≡ levels_for regions }
+{
+    (regions + MAX_ENTRIES - 1) / MAX_ENTRIES
+}
+
+/// Each of these is a name: it tells this to the proof alone.
+pub fn tell_names(names: &[Name])
+    ensures { AllByRecursion IsName names.now }
+{
+    for name in names {
+        tell_name(name);
+    }
+}
+
+/// This is a name: it tells this to the proof alone.
+pub fn tell_name(name: &Name)
+    ensures { IsName name.now }
+{
+    let _bytes = name.bytes();
+}
