@@ -1,0 +1,76 @@
+-- Pieces of one length, put together and cut again.
+use Rattle.std.proofs.Common.{◌≡◌, ◌<◌, ◌≤◌, ◌+◌, ◌*◌, ℕ, zero, suc, List, [], ◌∷◌, ◌++◌, length, map, take, drop, Some, slice_get, slice_index_or, append-nil, append_assoc, add-one, refl, sym, ap, subst, arith, ◌∙◌}
+use Rattle.std.proofs.Math.Nat.{mul-le-mul_right}
+use Rattle.std.proofs.Math.Seq.{take-append_seam, drop-append_seam}
+use Rattle.std.proofs.lemmas.List.{length-append, drop-drop}
+use Rattle.std.specs.List.{flat_map}
+use Rattle.ub_answer.specs.Cut.{cut}
+
+module _ {A B : Type 0} (f : A → List B) (width : ℕ) (each : (a : A) → length (f a) ≡ width) where
+  pub length-pieces : (xs : List A) → length (flat_map f xs) ≡ length xs * width
+  length-pieces [] = omega arith
+  length-pieces (x ∷ xs) = let rest = length-pieces xs in let first = each x in let more : suc (length xs) * width ≡ length xs * width + width = omega arith in
+      omega (arith, length-append (f x) (flat_map f xs))
+
+  pub cut-pieces : (xs : List A) → cut (length xs) width (flat_map f xs) ≡ map f xs
+  unfolding cut
+  cut-pieces [] = refl
+  cut-pieces (x ∷ xs) =
+      let rest = flat_map f xs in
+      let first : take width (f x ++ rest) ≡ f x = subst (λ (n : ℕ). take n (f x ++ rest) ≡ f x) (each x) (take-append_seam (f x) rest) in
+      let after : drop width (f x ++ rest) ≡ rest = subst (λ (n : ℕ). drop n (f x ++ rest) ≡ rest) (each x) (drop-append_seam (f x) rest) in
+      let more = cut-pieces xs in
+      rw (first, after, more) refl
+
+pub length-cut : {E : Type 0} (count width : ℕ) (xs : List E) → length (cut count width xs) ≡ count
+unfolding cut
+length-cut zero width xs = refl
+length-cut (suc count) width xs = ap suc (length-cut count width (drop width xs))
+
+pub cut-at : {E : Type 0} (count width : ℕ) (xs : List E) (i : ℕ) → i < count → slice_get (cut count width xs) i ≡ Some (take width (drop (i * width) xs))
+unfolding cut
+cut-at zero width xs i below = absurd (omega arith)
+cut-at (suc count) width xs zero below = let e : 0 * width ≡ 0 = omega arith in rw e (ap (λ (ys : List _). Some (take width ys)) (sym (drop-none xs)))
+  where
+    drop-none : {E : Type 0} (xs : List E) → drop 0 xs ≡ xs
+    drop-none [] = refl
+    drop-none (x ∷ xs) = refl
+cut-at (suc count) width xs (suc i) below =
+    let e : width + i * width ≡ suc i * width = omega arith in
+    cut-at count width (drop width xs) i (omega arith) ∙ ap (λ (ys : List _). Some (take width ys)) (drop-drop (i * width) width xs ∙ ap (λ (n : ℕ). drop n xs) e)
+
+-- a piece lies within the whole
+pub piece-within : (i count width whole : ℕ) → i < count → whole ≡ count * width → i * width + width ≤ whole
+piece-within i count width whole below is =
+    let more : suc i * width ≤ count * width = mul-le-mul_right width (omega arith) in
+    let next : suc i * width ≡ i * width + width = omega arith in omega arith
+
+-- what stands in its place
+pub piece-at : {E : Type 0} (i count width : ℕ) (xs ys : List E) → i < count → length xs ≡ count * width
+    → ys ≡ take width (drop (i * width) xs) → slice_get (cut count width xs) i ≡ Some ys
+piece-at i count width xs ys below is e = cut-at count width xs i below ∙ ap Some (sym e)
+
+-- ---- pieces put together one after the other
+
+flat-take : {A B : Type 0} (f : A → List B) (xs : List A) (i : ℕ) (d : A) → i < length xs
+    → flat_map f (take (suc i) xs) ≡ flat_map f (take i xs) ++ f (slice_index_or xs i d)
+flat-take f [] i d below = absurd (omega arith)
+flat-take f (x ∷ xs) zero d below = append-nil (f x)
+flat-take f (x ∷ xs) (suc i) d below =
+    ap (λ (ys : List _). f x ++ ys) (flat-take f xs i d (omega arith)) ∙ sym (append_assoc (f x) (flat_map f (take i xs)) (f (slice_index_or xs i d)))
+
+pub pieces-next : {A B : Type 0} (f : A → List B) (xs : List A) (i : ℕ) (d : A) (before after : List B) → i < length xs
+    → before ≡ flat_map f (take i xs) → after ≡ before ++ f (slice_index_or xs i d) → after ≡ flat_map f (take (i + 1) xs)
+pieces-next f xs i d before after below is e = rw add-one (e ∙ ap (λ (ys : List _). ys ++ f (slice_index_or xs i d)) is ∙ sym (flat-take f xs i d below))
+
+take-all : {A : Type 0} (n : ℕ) (xs : List A) → length xs ≤ n → take n xs ≡ xs
+take-all zero [] h = refl
+take-all zero (x ∷ xs) h = absurd (omega arith)
+take-all (suc n) [] h = refl
+take-all (suc n) (x ∷ xs) h = ap (λ (ys : List _). x ∷ ys) (take-all n xs (omega arith))
+
+pub pieces-all : {A B : Type 0} (f : A → List B) (width : ℕ) → ((a : A) → length (f a) ≡ width) → (xs : List A) (i : ℕ) (all : List B) → length xs ≤ i
+    → all ≡ flat_map f (take i xs) → (length all ≡ length xs * width) × (cut (length xs) width all ≡ map f xs)
+pieces-all f width each xs i all past is =
+    let whole : all ≡ flat_map f xs = is ∙ ap (flat_map f) (take-all i xs past) in
+    (ap length whole ∙ length-pieces f width each xs, ap (cut (length xs) width) whole ∙ cut-pieces f width each xs)

@@ -1,0 +1,10 @@
+pub mod CompareFacts
+pub mod CutFacts
+pub mod FirstFacts
+pub mod RowFacts
+pub mod PermutedFacts
+pub mod TallyFacts
+pub mod TotalFacts
+pub mod EntryFacts
+pub mod GroupedFacts
+pub mod GatheredFacts

@@ -1,0 +1,6 @@
+use Rattle.ub_answer.specs.Gathered.{IsGathered}
+use Rattle.ub_answer.proofs.gathering.Gathering.new.Goals as goal
+
+pub returns-clause-gathered : goal.returns-clause-gathered
+unfolding IsGathered
+returns-clause-gathered c = c.taker_for.ensures.taken c.args.schema.now

@@ -1,0 +1,6 @@
+pub mod Compare
+pub mod Cut
+pub mod Gathered
+pub mod Groups
+pub mod Held
+pub mod Tally

@@ -1,0 +1,239 @@
+-- The laws of the definitions, as specs/Laws.antt states them.
+use Rattle.std.proofs.Common.{◌≡◌, ◌≢◌, ℕ, ◌+◌, ◌<◌, ◌≤◌, ℤ, pos, neg_ℤ, ◌≤ℤ◌, List, [], ◌∷◌, map, fold, ◌⊎◌, inl, inr, ⊎_elim, Contains, refl, sym, ◌∙◌, ap, subst, arith}
+use Rattle.std.specs.Int.{int_min, int_max}
+use Rattle.std.specs.List.{AllByRecursion}
+use Rattle.std.proofs.lemmas.Int.{ints, fold-int_min_bounds, fold-int_min_reached, fold-int_max_bounds, fold-int_max_reached}
+use Rattle.std.proofs.lemmas.List.Elements.{All-cons}
+use Rattle.std.proofs.lemmas.List.Kept.{AllPairs-from_increasing}
+use Rattle.std.proofs.lemmas.List.Sorted.{IsPermutation-refl}
+use Rattle.ub_query.proofs.Arranging.{Rising, Rising-from_pairs, Rising-filter, Rising-map, Rising-mapped, adjacent-from_Rising, Rising-both, one_arrangement, an_arrangement, contains_here, contains_later, contains_cases, contains_none}
+use Rattle.ub_query.proofs.GroupFacts.{some_groups, same_groups, whole_groups, cells-alike, IsWhole}
+use Rattle.ub_query.proofs.OrderFacts.{AreAlike, before-never, before-chain, before-sides, lists-never, lists-chain, lists-sides}
+use Rattle.ub_query.specs.Cells.{Group, row_cell, group_cell}
+use Rattle.ub_query.specs.Groups.{selected, is_selected}
+use Rattle.ub_query.specs.Laws.{PosedIsLow, MinIsLeast, MaxIsGreatest, RowsHaveAnArrangement, RowsHaveOneArrangement, SelectedAreInOrder, RowsInOrderAreArranged, RowsFallIntoGroups, GroupsHaveAnArrangement, GroupsHaveOneArrangement, PlainQueriesMean, QueriesHaveAMeaning, QueriesHaveOneMeaning}
+use Rattle.ub_query.specs.Meaning.{IsRowMeaning, IsGroupMeaning, limited}
+use Rattle.ub_query.specs.Order.{IsArrangement, IsRowBefore, IsGroupBefore, AreBelow}
+use Rattle.ub_query.specs.Posed.{greatest_number, IsLiteral, comparisons, nesting, height, IsGroupQuery, IsAggregate}
+use Rattle.ub_query.specs.Shape.{Shape, both, either, neither, compares, between, Asked}
+use Rattle.ub_query.specs.declared.cell.Cell.{Cell}
+use Rattle.ub_query.specs.declared.query.Item.{Item}
+use Rattle.ub_query.specs.declared.query.Item.TheVariants.{Column, Count, Aggregate}
+use Rattle.ub_query.specs.declared.query.SortKey.{SortKey}
+use Rattle.ub_table.specs.Table.{Table, IsInOrder}
+use Rattle.ub_table.specs.declared.row.Row.{Row}
+use Rattle.ub_table.specs.declared.schema.Schema.{Schema}
+
+-- each AND and each OR on the way to a comparison has a comparison more on its other side
+height-le : (c : Shape) → (1 ≤ comparisons c) × (height c ≤ comparisons c + nesting c)
+height-le (both a b) = let p = height-le a in let q = height-le b in (omega arith, omega arith)
+height-le (either a b) = let p = height-le a in let q = height-le b in (omega arith, omega arith)
+height-le (neither a) = let p = height-le a in (omega arith, omega arith)
+height-le (compares column operator value) = (omega arith, omega arith)
+height-le (between column low high) = (omega arith, omega arith)
+
+pub posed_is_low : PosedIsLow
+posed_is_low columns c posed = let h = height-le c in omega (arith, posed.few, posed.shallow)
+
+-- a number that may be written is one with a minus too
+pub is_literal : (n : ℕ) → n ≤ greatest_number → IsLiteral (pos n) × IsLiteral (neg_ℤ (pos n))
+is_literal n h = ((omega (arith, ints), omega (arith, ints)), (omega (arith, ints), omega (arith, ints)))
+
+-- ---- least and greatest
+
+among : (x : ℤ) (xs : List ℤ) (r : ℤ) → (r ≡ x) ⊎ Contains xs r → Contains (x ∷ xs) r
+among x xs r (inl e) = subst (λ (v : ℤ). Contains (x ∷ xs) v) (sym e) (contains_here x xs)
+among x xs r (inr c) = contains_later x xs r c
+
+pub min_is_least : MinIsLeast
+min_is_least [] least e = cc
+min_is_least (x ∷ xs) least e =
+    let is : least ≡ fold int_min x xs = cc in
+    let bounds = fold-int_min_bounds x xs least is in
+    (among x xs least (fold-int_min_reached x xs least is), All-cons (λ v. least ≤ℤ v) x xs bounds.0 bounds.1)
+
+pub max_is_greatest : MaxIsGreatest
+max_is_greatest [] greatest e = cc
+max_is_greatest (x ∷ xs) greatest e =
+    let is : greatest ≡ fold int_max x xs = cc in
+    let bounds = fold-int_max_bounds x xs greatest is in
+    (among x xs greatest (fold-int_max_reached x xs greatest is), All-cons (λ v. v ≤ℤ greatest) x xs bounds.0 bounds.1)
+
+-- ---- rows
+
+pub numbers-never : (a : Row) → ¬ (a.number < a.number)
+numbers-never a h = omega arith
+
+pub numbers-chain : (a b c : Row) → a.number < b.number → b.number < c.number → a.number < c.number
+numbers-chain a b c g h = omega arith
+
+row_cells-alike : (schema : Schema) (a b : Row) (item : Item) → AreAlike (row_cell schema a item) (row_cell schema b item)
+row_cells-alike schema a b (Column column) = tt
+row_cells-alike schema a b Count = tt
+row_cells-alike schema a b (Aggregate taken column) = tt
+
+all_rows : (rows : List Row) → AllByRecursion (λ (row : Row). Unit {0}) rows
+all_rows [] = tt
+all_rows (row ∷ rows) = (tt, all_rows rows)
+
+pub rows-rising : (rows : List Row) → IsInOrder rows → Rising (λ a b. a.number < b.number) rows
+rows-rising rows order =
+    let numbers = map (λ r. r.number) rows in
+    Rising-map (λ x y. x < y) (λ r. r.number) rows (Rising-from_pairs (λ x y. x < y) numbers (AllPairs-from_increasing numbers order))
+
+pub rows_have_an_arrangement : RowsHaveAnArrangement
+rows_have_an_arrangement schema keys rows order =
+    an_arrangement (IsRowBefore schema keys)
+    (before-chain (row_cell schema) (λ a b. a.number < b.number) numbers-chain keys)
+    rows
+    (Rising-both (λ a b. a.number < b.number) (λ a b. IsRowBefore schema keys a b ⊎ IsRowBefore schema keys b a) (λ row. Unit {0})
+    (λ a b p q h. before-sides (row_cell schema) (λ a b. a.number < b.number) keys a b (row_cells-alike schema a b) (inl h))
+    rows (all_rows rows) (rows-rising rows order))
+
+pub rows_have_one_arrangement : RowsHaveOneArrangement
+rows_have_one_arrangement schema keys rows first second a b =
+    one_arrangement (IsRowBefore schema keys)
+    (before-never (row_cell schema) (λ a b. a.number < b.number) numbers-never keys)
+    (before-chain (row_cell schema) (λ a b. a.number < b.number) numbers-chain keys)
+    rows rows first second (λ z c. c) (λ z c. c) a b
+
+in_order : (rows : List Row) → Rising (λ a b. a.number < b.number) rows → IsInOrder rows
+in_order rows up k within =
+    adjacent-from_Rising (λ x y. x < y) (map (λ r. r.number) rows) (Rising-mapped (λ x y. x < y) (λ r. r.number) rows up) k 0 within
+
+pub selected_are_in_order : SelectedAreInOrder
+selected_are_in_order table condition order =
+    in_order (selected table condition)
+    (Rising-filter (λ a b. a.number < b.number) (is_selected table.schema condition) table.rows (rows-rising table.rows order))
+
+pub rows_in_order_are_arranged : RowsInOrderAreArranged
+rows_in_order_are_arranged schema rows order = record {
+  same = IsPermutation-refl rows;
+  ordered = adjacent-from_Rising (IsRowBefore schema []) rows (rows-rising rows order);
+}
+
+-- ---- groups
+
+pub rows_fall_into_groups : RowsFallIntoGroups
+rows_fall_into_groups schema columns rows = some_groups schema columns rows
+
+groups-never : (g : Group) → ¬ AreBelow g.values g.values
+groups-never g h = lists-never g.values h
+
+groups-chain : (a b c : Group) → AreBelow a.values b.values → AreBelow b.values c.values → AreBelow a.values c.values
+groups-chain a b c g h = lists-chain a.values b.values c.values g h
+
+groups-sides : (schema : Schema) (columns : List ℕ) (keys : List SortKey) (a b : Group) → IsWhole columns a → IsWhole columns b → a.values ≢ b.values
+    → IsGroupBefore schema columns keys a b ⊎ IsGroupBefore schema columns keys b a
+groups-sides schema columns keys a b p q differ =
+    before-sides (group_cell schema columns) (λ a b. AreBelow a.values b.values) keys a b (cells-alike schema columns a b p q)
+    (lists-sides a.values b.values (p.values ∙ sym q.values) differ)
+
+arranged_groups : (schema : Schema) (columns : List ℕ) (keys : List SortKey) (groups : List Group)
+    → Rising (λ a b. IsGroupBefore schema columns keys a b ⊎ IsGroupBefore schema columns keys b a) groups
+    → (arranged : List Group) × IsArrangement (IsGroupBefore schema columns keys) groups arranged
+arranged_groups schema columns keys groups sides =
+    an_arrangement (IsGroupBefore schema columns keys)
+    (before-chain (group_cell schema columns) (λ a b. AreBelow a.values b.values) groups-chain keys)
+    groups sides
+
+pub groups_have_an_arrangement : GroupsHaveAnArrangement
+groups_have_an_arrangement schema [] keys rows groups are =
+    arranged_groups schema [] keys groups
+    (subst (λ (gs : List Group). Rising (λ a b. IsGroupBefore schema [] keys a b ⊎ IsGroupBefore schema [] keys b a) gs) (sym are) (tt, tt))
+groups_have_an_arrangement schema (column ∷ columns) keys rows groups are =
+    arranged_groups schema (column ∷ columns) keys groups
+    (Rising-both (λ a b. a.values ≢ b.values)
+    (λ a b. IsGroupBefore schema (column ∷ columns) keys a b ⊎ IsGroupBefore schema (column ∷ columns) keys b a)
+    (λ g. IsWhole (column ∷ columns) g) (groups-sides schema (column ∷ columns) keys)
+    groups (whole_groups schema (column ∷ columns) rows groups are)
+    (Rising-from_pairs (λ a b. a.values ≢ b.values) groups are.apart))
+
+pub groups_have_one_arrangement : GroupsHaveOneArrangement
+groups_have_one_arrangement schema columns keys rows groups others first second p q a b =
+    one_arrangement (IsGroupBefore schema columns keys)
+    (before-never (group_cell schema columns) (λ a b. AreBelow a.values b.values) groups-never keys)
+    (before-chain (group_cell schema columns) (λ a b. AreBelow a.values b.values) groups-chain keys)
+    groups others first second (same_groups schema columns rows groups others p q) (same_groups schema columns rows others groups q p) a b
+
+-- ---- meaning
+
+-- some item is an aggregate, or none is
+aggregate_or_none : (items : List Item)
+    → ((item : Item) × Contains items item × IsAggregate item) ⊎ (¬ ((item : Item) × Contains items item × IsAggregate item))
+aggregate_or_none [] = inr (λ (item, here, is). contains_none item here)
+aggregate_or_none (Count ∷ items) = inl (Count, contains_here Count items, tt)
+aggregate_or_none (Aggregate taken column ∷ items) = inl (Aggregate taken column, contains_here (Aggregate taken column) items, tt)
+aggregate_or_none (Column column ∷ items) =
+    ⊎_elim (λ (h : (item : Item) × Contains items item × IsAggregate item). inl (h.0, contains_later (Column column) items h.0 h.1, h.2))
+    (λ (h : ¬ ((item : Item) × Contains items item × IsAggregate item)).
+    inr (λ (k : (item : Item) × Contains (Column column ∷ items) item × IsAggregate item).
+    ⊎_elim (λ (e : Column column ≡ k.0). subst (λ (i : Item). IsAggregate i) (sym e) k.2)
+    (λ (c : Contains items k.0). h (k.0, c, k.2))
+    (contains_cases (Column column) items k.0 k.1)))
+    (aggregate_or_none items)
+
+empty_or_not : (columns : List ℕ) → (columns ≡ []) ⊎ (columns ≢ [])
+empty_or_not [] = inl refl
+empty_or_not (c ∷ cs) = inr (λ (e : c ∷ cs ≡ []). cc)
+
+group_or_row : (q : Asked) → IsGroupQuery q ⊎ (¬ IsGroupQuery q)
+group_or_row q =
+    ⊎_elim (λ (none : q.group ≡ []).
+    ⊎_elim (λ (h : (item : Item) × Contains q.items item × IsAggregate item). inl (inr h))
+    (λ (h : ¬ ((item : Item) × Contains q.items item × IsAggregate item)).
+    inr (λ (g : IsGroupQuery q). ⊎_elim (λ (some : q.group ≢ []). some none)
+    (λ (k : (item : Item) × Contains q.items item × IsAggregate item). h k) g))
+    (aggregate_or_none q.items))
+    (λ (some : q.group ≢ []). inl (inl some))
+    (empty_or_not q.group)
+
+group_meaning : (table : Table) (q : Asked) → (rows : List (List Cell)) × IsGroupMeaning table q rows
+group_meaning table q =
+    let (groups, grouped) = some_groups table.schema q.group (selected table q.filter) in
+    let (arranged, ordered) = groups_have_an_arrangement table.schema q.group q.order (selected table q.filter) groups grouped in (
+      map (λ group. map (group_cell table.schema q.group group) q.items) (limited q.limit arranged),
+      record { groups = groups; arranged = arranged; grouped = grouped; ordered = ordered; cells = refl },
+    )
+
+row_meaning : (table : Table) (q : Asked) → IsInOrder table.rows → (rows : List (List Cell)) × IsRowMeaning table q rows
+row_meaning table q order =
+    let (arranged, ordered) = rows_have_an_arrangement table.schema q.order (selected table q.filter) (selected_are_in_order table q.filter order) in (
+      map (λ row. map (row_cell table.schema row) q.items) (limited q.limit arranged),
+      record { arranged = arranged; ordered = ordered; cells = refl },
+    )
+
+pub plain_queries_mean : PlainQueriesMean
+plain_queries_mean table q order plain none = inr (
+  plain,
+  record {
+    arranged = selected table q.filter;
+    ordered = subst (λ (keys : List SortKey). IsArrangement (IsRowBefore table.schema keys) (selected table q.filter) (selected table q.filter)) (sym none)
+        (rows_in_order_are_arranged table.schema (selected table q.filter) (selected_are_in_order table q.filter order));
+    cells = refl;
+  },
+)
+
+pub queries_have_a_meaning : QueriesHaveAMeaning
+queries_have_a_meaning table q order =
+    ⊎_elim (λ (g : IsGroupQuery q). let (rows, means) = group_meaning table q in (rows, inl (g, means)))
+    (λ (r : ¬ IsGroupQuery q). let (rows, means) = row_meaning table q order in (rows, inr (r, means)))
+    (group_or_row q)
+
+one_group_meaning : (table : Table) (q : Asked) (first second : List (List Cell)) → IsGroupMeaning table q first → IsGroupMeaning table q second → first ≡ second
+one_group_meaning table q first second a b =
+    let same : a.arranged ≡ b.arranged = groups_have_one_arrangement table.schema q.group q.order (selected table q.filter)
+    a.groups b.groups a.arranged b.arranged a.grouped b.grouped a.ordered b.ordered in
+    a.cells ∙ ap (λ (gs : List Group). map (λ group. map (group_cell table.schema q.group group) q.items) (limited q.limit gs)) same ∙ sym b.cells
+
+one_row_meaning : (table : Table) (q : Asked) (first second : List (List Cell)) → IsRowMeaning table q first → IsRowMeaning table q second → first ≡ second
+one_row_meaning table q first second a b =
+    let same : a.arranged ≡ b.arranged = rows_have_one_arrangement table.schema q.order (selected table q.filter)
+    a.arranged b.arranged a.ordered b.ordered in
+    a.cells ∙ ap (λ (rs : List Row). map (λ row. map (row_cell table.schema row) q.items) (limited q.limit rs)) same ∙ sym b.cells
+
+pub queries_have_one_meaning : QueriesHaveOneMeaning
+queries_have_one_meaning table q first second (inl a) (inl b) = one_group_meaning table q first second a.1 b.1
+queries_have_one_meaning table q first second (inl a) (inr b) = absurd (b.0 a.0)
+queries_have_one_meaning table q first second (inr a) (inl b) = absurd (a.0 b.0)
+queries_have_one_meaning table q first second (inr a) (inr b) = one_row_meaning table q first second a.1 b.1

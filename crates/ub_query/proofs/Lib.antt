@@ -1,0 +1,5 @@
+pub mod Laws
+pub mod Arranging
+pub mod OrderFacts
+pub mod GroupFacts
+pub mod Examples

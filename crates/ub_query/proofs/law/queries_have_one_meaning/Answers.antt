@@ -1,0 +1,5 @@
+use Rattle.ub_query.proofs.Laws.{queries_have_one_meaning}
+use Rattle.ub_query.proofs.law.queries_have_one_meaning.Goals as goal
+
+pub returns : goal.returns
+returns c = queries_have_one_meaning

@@ -1,0 +1,9 @@
+pub mod Cells
+pub mod Examples
+pub mod Groups
+pub mod Laws
+pub mod Meaning
+pub mod Order
+pub mod Posed
+pub mod Shape
+pub mod Truth

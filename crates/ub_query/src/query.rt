@@ -1,0 +1,75 @@
+ghost use Rattle.std.specs.Prelude.{◌≡◌, IfOk};
+ghost use Rattle.std.specs.Option.{option_map};
+ghost use Rattle.ub_query.specs.Shape.{asked, shape};
+
+use crate::condition::Cond;
+use std::alloc::{AllocError, Global};
+use ub_table::Items;
+
+/// A query over the columns of one table. Columns are counted from 0, dimensions first.
+#[derive(Drop)]
+pub struct Query {
+    /// What each row of the result has; `*` is all columns.
+    pub items: Items<Item>,
+    /// Which rows are selected; all where there is none.
+    pub filter: Option<Cond>,
+    /// The columns by which rows are grouped.
+    pub group: Items<usize>,
+    /// The keys by which the result is ordered, the first of them first.
+    pub order: Items<SortKey>,
+    /// How many rows the result has at most.
+    pub limit: Option<u64>,
+}
+
+impl Query {
+    /// The same query in memory of its own.
+    pub fn copy(&self, alloc: Global) -> Result<Query, AllocError>
+        ensures { IfOk result (λ q. asked q ≡ asked self.now) }
+    {
+        Ok(Query {
+            items: self.items.copy(alloc)?,
+            filter: copy_of(alloc, &self.filter)?,
+            group: self.group.copy(alloc)?,
+            order: self.order.copy(alloc)?,
+            limit: self.limit,
+        })
+    }
+}
+
+// The same condition in memory of its own, if there is one.
+fn copy_of(alloc: Global, filter: &Option<Cond>) -> Result<Option<Cond>, AllocError>
+    ensures { IfOk result (λ c. option_map shape c ≡ option_map shape filter.now) }
+{
+    match filter {
+        Some(condition) => Ok(Some(condition.copy(alloc)?)),
+        None => Ok(None),
+    }
+}
+
+/// One thing that is selected, or by which is ordered.
+#[derive(Clone, Copy, PartialEq, Eq, Debug)]
+pub enum Item {
+    /// The value in a column.
+    Column(usize),
+    /// COUNT(*)
+    Count,
+    /// SUM, MIN or MAX of a column.
+    Aggregate(Aggregate, usize),
+}
+
+/// What is taken of a column's values.
+#[derive(Clone, Copy, PartialEq, Eq, Debug)]
+pub enum Aggregate {
+    Sum,
+    Min,
+    Max,
+}
+
+/// A key by which a result is ordered.
+#[derive(Clone, Copy, PartialEq, Eq, Debug)]
+pub struct SortKey {
+    /// The item whose values are compared.
+    pub item: Item,
+    /// Whether greater values come first.
+    pub is_descending: bool,
+}
