@@ -1,0 +1,78 @@
+-- The laws of the boxes of a condition, as specs/Laws.antt states them.
+use Rattle.std.proofs.Common.{◌≡◌, ◌<◌, ℕ, zero, suc, List, [], ◌∷◌, Option, Some, None, Bool, true, false, not, ◌&&◌, nat_lt, take, get_or, refl, sym, ap, arith, ◌∙◌, inl, inr, rules}
+use Rattle.std.proofs.lemmas.Bool.{cases_Bool}
+use Rattle.ub_boxes.proofs.ApartFacts.{boxes-apart, pairs-apart, among-some, some-among}
+use Rattle.ub_boxes.proofs.CellFacts.{Among, in_boxes}
+use Rattle.ub_boxes.proofs.GridFacts.{are_sides}
+use Rattle.ub_boxes.proofs.LinkFacts.{cut_lists, sides_are, length-cut_lists, all_cuts, cover-of_cells, is_over, space_has}
+use Rattle.ub_boxes.proofs.TruthFacts.{IsAt, allows, known}
+use Rattle.ub_boxes.specs.Boxes.{boxes_on, space, is_wide}
+use Rattle.ub_boxes.specs.Grid.{grid}
+use Rattle.ub_boxes.specs.Laws.{point_of, BoxesAreApart, BoxesAreTheCover, WideBoxesAreTheSpace, SelectedAreInBoxes, ExactBoxesSelect}
+use Rattle.ub_boxes.specs.Truths.{covers, is_of_dimensions}
+use Rattle.ub_boxes.specs.declared.truths.Truths.{Truths}
+use Rattle.ub_query.specs.Groups.{is_selected}
+use Rattle.ub_query.specs.Shape.{Shape}
+use Rattle.ub_query.specs.Truth.{value_in}
+use Rattle.ub_table.specs.declared.row.Row.{Row}
+use Rattle.ub_table.specs.declared.schema.Schema.{Schema}
+use Rattle.ub_zaddr.specs.Address.{IsPoint}
+
+pub boxes_are_apart : BoxesAreApart
+boxes_are_apart schema filter = elim (cases_Bool (is_wide schema filter)) [
+  | inl t ↦ rw t (pairs-apart (space schema.dims ∷ []) ((λ p i m. m), tt))
+  | inr f ↦ rw f (pairs-apart _ (boxes-apart (covers schema filter) (grid schema filter) (are_sides schema filter)))
+]
+
+in_cover : (schema : Schema) (filter : Option Shape) (point : List ℕ) → IsPoint schema.dims point
+    → (Among (boxes_on (covers schema filter) (grid schema filter)) point → covers schema filter point ≡ true)
+    × (covers schema filter point ≡ true → Among (boxes_on (covers schema filter) (grid schema filter)) point)
+in_cover schema filter point is =
+    let some = schema.counts.some_dims in
+    let long = length-cut_lists schema filter schema.dims in
+    rw (sides_are schema filter schema.dims)
+    (in_boxes (covers schema filter) (cut_lists schema filter schema.dims) point (omega arith) (all_cuts schema filter schema.dims)
+    (cover-of_cells schema filter) (is_over (cut_lists schema filter schema.dims) point (is.0 ∙ sym long) is.1))
+
+pub boxes_are_the_cover : BoxesAreTheCover
+boxes_are_the_cover schema filter point is narrow =
+    let both = in_cover schema filter point is in
+    rw narrow ((λ h. both.0 (some-among _ point h)), (λ e. among-some _ point (both.1 e)))
+
+pub wide_boxes_are_the_space : WideBoxesAreTheSpace
+wide_boxes_are_the_space schema filter point is wide = rw wide (among-some (space schema.dims ∷ []) point (inl (space_has schema.dims point is)))
+
+get_or-taken : (xs : List ℕ) (n k : ℕ) → k < n → get_or (take n xs) k 0 ≡ get_or xs k 0
+get_or-taken xs zero k lt = absurd (omega arith)
+get_or-taken [] (suc n) k lt = refl
+get_or-taken (x ∷ xs) (suc n) zero lt = refl
+get_or-taken (x ∷ xs) (suc n) (suc k) lt = get_or-taken xs n k (omega arith)
+
+row-at : (schema : Schema) (row : Row) → IsAt schema (value_in schema row) (point_of schema row)
+row-at schema row column lt =
+    let t : nat_lt column schema.dims ≡ true = search (rules, lt) in
+    rw (t, get_or-taken row.dims schema.dims column lt) refl
+
+selected-covered : (schema : Schema) (filter : Option Shape) (row : Row) → is_selected schema filter row ≡ true → covers schema filter (point_of schema row) ≡ true
+selected-covered schema None row e = refl
+selected-covered schema (Some c) row e = (allows schema (value_in schema row) (point_of schema row) (row-at schema row) c).0 e
+
+pub selected_are_in_boxes : SelectedAreInBoxes
+selected_are_in_boxes schema filter row is e = elim (cases_Bool (is_wide schema filter)) [
+  | inl t ↦ wide_boxes_are_the_space schema filter (point_of schema row) is t
+  | inr f ↦ (boxes_are_the_cover schema filter (point_of schema row) is f).1 (selected-covered schema filter row e)
+]
+
+and-parts : (a b : Bool) → (not a && b) ≡ true → (a ≡ false) × (b ≡ true)
+and-parts true b e = absurd (search (rules, e))
+and-parts false b e = (refl, e)
+
+covered-is : (schema : Schema) (filter : Option Shape) (row : Row) → is_of_dimensions schema filter ≡ true → covers schema filter (point_of schema row) ≡ is_selected schema filter row
+covered-is schema None row e = refl
+covered-is schema (Some c) row e =
+    ap (λ (t : Truths). t.can_be_true) (known schema (value_in schema row) (point_of schema row) (row-at schema row) c e)
+
+pub exact_boxes_select : ExactBoxesSelect
+exact_boxes_select schema filter row is e =
+    let parts = and-parts (is_wide schema filter) (is_of_dimensions schema filter) e in
+    rw (← covered-is schema filter row parts.1) (boxes_are_the_cover schema filter (point_of schema row) is parts.0)

@@ -1,0 +1,13 @@
+pub mod CutFacts
+pub mod GridFacts
+pub mod SizeFacts
+pub mod RunFacts
+pub mod FrontFacts
+pub mod TotalFacts
+pub mod TruthFacts
+pub mod CellFacts
+pub mod ApartFacts
+pub mod LinkFacts
+pub mod Laws
+pub mod TurnFacts
+pub mod WhereFacts

@@ -1,0 +1,22 @@
+use Rattle.std.proofs.Common.{◌≡◌, ◌∙◌, ◌++◌, ◌∷◌, [], ap, sym, get_or, rules}
+use Rattle.std.specs.Option.{option_map_or}
+use Rattle.ub_boxes.proofs.RunFacts.{up_to-grown, up_to-ended, grown-is}
+use Rattle.ub_boxes.specs.Truths as truth
+use Rattle.ub_boxes.proofs.covering.add_runs.Goals as goal
+use Rattle.ub_boxes.proofs.covering.add_runs.Goals.{then-covers, else-covers+in_ok-add_run}
+
+pub loop-interval-preserved : goal.loop-interval-preserved
+loop-interval-preserved c =
+    let i = get_or c.args.side.now c.loop-interval.interval-index (record { low = 0; high = 0 }) in
+    let corner : c.lo.result.now ≡ c.args.front.now.lo ++ i.low ∷ [] = c.lo.ensures.lo ∙ ap (λ b. b.lo) c.widened.ensures in
+    let test : c.covers.result ≡ truth.covers c.args.schema.now (truth.shape_of c.args.filter) (c.args.front.now.lo ++ i.low ∷ []) =
+    c.covers.ensures ∙ ap (truth.covers c.args.schema.now (truth.shape_of c.args.filter)) corner in
+    elim c.if-covers.branch [
+      | then-covers w ↦
+          let low : w.map_or-low.result ≡ option_map_or (λ r. r.low) c.loop-interval.run i.low = search rules in
+          rw (w.boxes-is, w.run-is, grown-is c.loop-interval.run i w.map_or-low.result low)
+          (up_to-grown _ _ c.loop-interval.run c.args.side.now c.loop-interval.interval-index _ c.loop-interval-test.true _ _ c.loop-interval.invariant (sym test ∙ w.if-covers.true))
+      | else-covers+in_ok-add_run w ↦
+          rw (w.boxes-is, w.run-is)
+          (up_to-ended _ _ c.loop-interval.run c.args.side.now c.loop-interval.interval-index _ c.loop-interval-test.true _ _ c.loop-interval.invariant _ (sym test ∙ w.if-covers.false) w.in_ok-add_run.ensures)
+    ]

@@ -1,0 +1,67 @@
+-- The laws of the boxes of a condition. Each is what the function of its name in `law` ensures, and is proved in
+-- proofs/Laws.antt.
+use Rattle.std.specs.Prelude.{◌≡◌, ◌≢◌, ◌↔◌, ℕ, ℤ, pos, ◌-ℤ◌, List, take, true, false, IsTrue, Option, Some, AllPairs, Contains}
+use Rattle.std.specs.List.Sorted.{IsStrictlyIncreasing}
+use Rattle.ub_bigmin.specs.Box.{Corners, IsInside}
+use Rattle.ub_boxes.specs.Boxes.{boxes_of, cover_of, is_wide}
+use Rattle.ub_boxes.specs.Cuts.{cuts, cut_of, turns, turns_of}
+use Rattle.ub_boxes.specs.Truths.{covers}
+use Rattle.ub_query.specs.Groups.{is_selected}
+use Rattle.ub_query.specs.Shape.{Shape}
+use Rattle.ub_query.specs.Truth.{holds}
+use Rattle.ub_query.specs.declared.condition.Operator.{Operator}
+use Rattle.ub_table.specs.declared.row.Row.{Row}
+use Rattle.ub_table.specs.declared.schema.Schema.{Schema}
+use Rattle.ub_zaddr.specs.Address.{IsPoint}
+
+-- a point is in some of the boxes
+abbrev pub IsInSome : List Corners → List ℕ → Type 0
+IsInSome boxes point = (b : Corners) × Contains boxes b × IsInside b point
+
+-- two boxes have no point in common
+abbrev pub AreApart : Corners → Corners → Type 0
+AreApart a b = (point : List ℕ) → IsInside a point → ¬ (IsInside b point)
+
+-- the point of a row
+abbrev pub point_of : Schema → Row → List ℕ
+point_of schema row = take schema.dims row.dims
+
+-- the boxes have no point in common
+abbrev pub BoxesAreApart : Type 0
+BoxesAreApart = (schema : Schema) (filter : Option Shape)
+    → AllPairs AreApart (boxes_of schema filter)
+
+-- where the condition isn't wide, a point is in the boxes exactly where its cover holds
+abbrev pub BoxesAreTheCover : Type 0
+BoxesAreTheCover = (schema : Schema) (filter : Option Shape) (point : List ℕ)
+    → IsPoint schema.dims point → is_wide schema filter ≡ false
+    → IsInSome (boxes_of schema filter) point ↔ IsTrue (covers schema filter point)
+
+-- where it is wide, each point is in the boxes
+abbrev pub WideBoxesAreTheSpace : Type 0
+WideBoxesAreTheSpace = (schema : Schema) (filter : Option Shape) (point : List ℕ)
+    → IsPoint schema.dims point → is_wide schema filter ≡ true → IsInSome (boxes_of schema filter) point
+
+-- each selected row is in the boxes
+abbrev pub SelectedAreInBoxes : Type 0
+SelectedAreInBoxes = (schema : Schema) (filter : Option Shape) (row : Row)
+    → IsPoint schema.dims (point_of schema row) → IsTrue (is_selected schema filter row)
+    → IsInSome (boxes_of schema filter) (point_of schema row)
+
+-- where the boxes are exact, the rows in them are the selected ones
+abbrev pub ExactBoxesSelect : Type 0
+ExactBoxesSelect = (schema : Schema) (filter : Option Shape) (row : Row)
+    → IsPoint schema.dims (point_of schema row) → IsTrue (cover_of schema filter).exact
+    → IsInSome (boxes_of schema filter) (point_of schema row) ↔ IsTrue (is_selected schema filter row)
+
+-- the cuts of a dimension ascend, and are the coordinates from 1 on at which a comparison on it turns
+abbrev pub CutsAreTheTurns : Type 0
+CutsAreTheTurns = (schema : Schema) (c : Shape) (dim : ℕ)
+    → IsStrictlyIncreasing (cuts schema (Some c) dim)
+    × ((n : ℕ) → Contains (cuts schema (Some c) dim) n
+    ↔ ((v : ℤ) × Contains (turns dim c) v × (cut_of schema dim v ≡ Some n)))
+
+-- a comparison with a number turns exactly there: of such a value and the one before it holds of one alone
+abbrev pub TurnsAreWhereItTurns : Type 0
+TurnsAreWhereItTurns = (operator : Operator) (number value : ℤ) → Contains (turns_of operator number) value
+    ↔ (holds operator value number ≢ holds operator (value -ℤ pos 1) number)

@@ -1,0 +1,7 @@
+pub mod Truths
+pub mod Cuts
+pub mod Grid
+pub mod Boxes
+pub mod Points
+pub mod Laws
+pub mod inner

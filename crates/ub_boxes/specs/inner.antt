@@ -1,0 +1,4 @@
+pub mod Sides
+pub mod Fronts
+pub mod Runs
+pub mod Counts

@@ -1,0 +1,39 @@
+ghost use Rattle.ub_boxes.specs.Laws.{CutsAreTheTurns, TurnsAreWhereItTurns, BoxesAreApart, BoxesAreTheCover, WideBoxesAreTheSpace, SelectedAreInBoxes, ExactBoxesSelect};
+
+// Each function here does nothing, and its clause is a law of the definitions in specs/. So the law is proved, and is read
+// beside the code.
+
+/// The values at which a comparison is said to turn are those at which it does.
+pub fn turns_are_where_it_turns()
+    ensures { TurnsAreWhereItTurns }
+{}
+
+/// The cuts of a dimension ascend, and are the coordinates from 1 on at which a comparison on it turns.
+pub fn cuts_are_the_turns()
+    ensures { CutsAreTheTurns }
+{}
+
+/// No two boxes of a condition have a point in common.
+pub fn boxes_are_apart()
+    ensures { BoxesAreApart }
+{}
+
+/// The points in the boxes of a condition that isn't wide are those of its cover.
+pub fn boxes_are_the_cover()
+    ensures { BoxesAreTheCover }
+{}
+
+/// All points are in the boxes of a wide condition.
+pub fn wide_boxes_are_the_space()
+    ensures { WideBoxesAreTheSpace }
+{}
+
+/// Each selected row is in the boxes of the condition.
+pub fn selected_are_in_boxes()
+    ensures { SelectedAreInBoxes }
+{}
+
+/// The rows in exact boxes are the selected ones.
+pub fn exact_boxes_select()
+    ensures { ExactBoxesSelect }
+{}
