@@ -68,7 +68,8 @@ fn run_end(source: &[u8], from: usize, run: Run) -> usize
 
 // The kind of the sign that two bytes are.
 fn pair_kind(first: u8, next: u8) -> Option<TokenKind>
-    ensures { MatchOption result (¬ (IsPair first next)) (λ kind. IsPair first next × IsSpelling kind (first ∷ next ∷ [])) }
+    ensures { MatchOption result (¬ (IsPair first next))
+        (λ kind. IsPair first next × IsSpelling kind (first ∷ next ∷ [])) }
 {
     match (first, next) {
         (b'<', b'>') | (b'!', b'=') => Some(TokenKind::NotEqual),

@@ -32,7 +32,8 @@ pub fn statements(alloc: Global, tokens: &[Token]) -> Result<Vec<(usize, usize)>
     ensures statements { IfOk result (λ ranges. AreStatements tokens.now ranges.items) }
 
     // There is no other list of them.
-    ensures only { (ranges : List (ℕ × ℕ)) → AreStatements tokens.now ranges → IfOk result (λ r. r.items ≡ ranges) }
+    ensures only { (ranges : List (ℕ × ℕ)) → AreStatements tokens.now ranges
+        → IfOk result (λ r. r.items ≡ ranges) }
 {
     let mut ranges = Vec::new(alloc);
     let mut from = 0;

@@ -1,10 +1,10 @@
 -- The names and numbers of a statement's syntax are tokens of the statement.
-use Rattle.std.proofs.Common.{◌≡◌, ◌<◌, ◌≤◌, ◌⊎◌, ℕ, zero, suc, Bool, true, false, not, ◌&&◌, List, [], ◌∷◌, ◌++◌, length, map, Option, Some, None, All, refl, sym, ap, arith, inl, inr, slice_index_or, if◌then◌else◌}
+use Rattle.std.proofs.Common.{◌≡◌, ℕ, zero, suc, List, [], ◌∷◌, ◌++◌, Option, Some, None, All, refl, arith, inl, inr}
 use Rattle.std.proofs.lemmas.List.Elements.{All-nil, All-append}
-use Rattle.std.specs.List.{fold, list_all}
+use Rattle.std.specs.List.{fold}
 use Rattle.std.specs.Option.{option_to_list}
 use Rattle.ub_lexer.specs.declared.token.Token.{Token}
-use Rattle.ub_syntax.specs.Grammar.{Lexeme, symbol_of, IsToken, Is, AreJoined, IsChain, IsOptional, IsLiteral, IsComparison, IsNegation, IsDisjunction, IsNested, IsOperand, IsItem, IsSelection, IsKey, IsFilter, IsGroup, IsOrder, IsLimit, IsStatement}
+use Rattle.ub_syntax.specs.Grammar.{Lexeme, symbol_of, IsToken, AreJoined, IsChain, IsOptional, IsLiteral, IsComparison, IsDisjunction, IsOperand, IsItem, IsSelection, IsKey, IsFilter, IsGroup, IsOrder, IsLimit, IsStatement}
 use Rattle.ub_syntax.specs.Tree.{Select, Shape, both, either, neither, compares, between}
 use Rattle.ub_syntax.specs.declared.symbol.Symbol.{Symbol}
 use Rattle.ub_syntax.specs.declared.symbol.Symbol.TheVariants as symbol
@@ -14,7 +14,8 @@ use Rattle.ub_syntax.specs.declared.syntax.Literal.{Literal}
 use Rattle.ub_syntax.specs.declared.syntax.OrderKey.{OrderKey}
 use Rattle.ub_syntax.specs.declared.syntax.Selection.{Selection}
 use Rattle.ub_syntax.specs.declared.syntax.Selection.TheVariants.{All as Star, Listed}
-use Rattle.ub_parser.specs.Refusals.{item_names, names_in, listed, compared, comparisons, key_items, names}
+use Rattle.ub_syntax.specs.Limits.{listed, compared, comparisons, key_items}
+use Rattle.ub_parser.specs.Refusals.{item_names, names_in, names}
 use Rattle.ub_parser.specs.Spans.{compared_numbers, filter_numbers, numbers}
 
 -- Q holds of each thing

@@ -1,16 +1,16 @@
 -- Which fault of a statement is the first, by what its parts have told.
-use Rattle.std.proofs.Common.{◌≡◌, ◌<◌, ◌≤◌, ◌⊎◌, ℕ, zero, suc, List, [], ◌∷◌, ◌++◌, length, take, drop, All, Some, Option, slice_get, refl, sym, ap, arith, ◌∙◌, inl, inr, append_assoc, take-take}
-use Rattle.std.proofs.lemmas.List.{take-append-drop, append-nil}
-use Rattle.std.proofs.lemmas.Bool.Decides.{leb_tells}
+use Rattle.std.proofs.Common.{◌≡◌, ◌<◌, ℕ, zero, suc, List, [], ◌∷◌, ◌++◌, All, Some, slice_get, refl, arith}
 use Rattle.ub_lexer.specs.declared.token.Token.{Token}
 use Rattle.ub_lexer.specs.declared.token.TokenKind.TheVariants as kind
-use Rattle.ub_page.specs.declared.schema.Schema.{Schema}
-use Rattle.ub_syntax.specs.Grammar.{Lexeme, lexemes, IsStatement}
-use Rattle.ub_syntax.specs.Stop.{Begins, IsStop, IsTooDeep, IsRefusedAt, IsTooDeepAt}
+use Rattle.ub_syntax.specs.Grammar.{lexemes, IsStatement}
+use Rattle.ub_syntax.specs.Limits.{past_limits}
+use Rattle.ub_syntax.specs.Stop.{IsRefusedAt, IsTooDeepAt}
 use Rattle.ub_syntax.specs.Tree.{Select}
+use Rattle.ub_syntax.proofs.OneVerdict.{deep_alone, deep_no_statement}
 use Rattle.ub_parser.specs.Refusals.{IsFirst, IsTooLarge, IsMisfit, IsFault, IsFirstMisfit, IsFirstFault, rank}
 use Rattle.ub_parser.specs.declared.fault.SqlFault.{SqlFault}
 use Rattle.ub_parser.specs.declared.fault.SqlFault.TheVariants.{BadByte, Syntax, NumberTooLarge, TooDeep, TooMany, UnknownTable, UnknownColumn, NotGrouped, NotSelected, Memory}
+use Rattle.ub_table.specs.declared.schema.Schema.{Schema}
 
 -- where P holds of none, there is no first
 no_first : {A : Type 0} (P : A → Type 0) (before after : List A) (x : A) → All (λ y. ¬ (P y)) (before ++ x ∷ after) → ¬ (P x)
@@ -19,49 +19,6 @@ no_first P (y ∷ before) after x h = no_first P before after x (λ k d below. h
 
 none_first : {A : Type 0} (P : A → Type 0) (xs : List A) (x : A) → All (λ y. ¬ (P y)) xs → ¬ (IsFirst P xs x)
 none_first P xs x none is = no_first P is.0 is.1 x (rw is.2 at none) is.4
-
--- a front of lexemes with which a statement begins is one, too
-begins_front : (n : ℕ) (a b : List Lexeme) → Begins n (a ++ b) → Begins n a
-begins_front n a b h = (b ++ h.0, h.1, rw (append_assoc a b h.0) at h.2)
-
-begins_take : (n k : ℕ) (ls : List Lexeme) → Begins n ls → Begins n (take k ls)
-begins_take n k ls h = begins_front n (take k ls) (drop k ls) (rw (sym (take-append-drop k ls)) at h)
-
-statement_begins : (n : ℕ) (ls : List Lexeme) (s : Select) → IsStatement n ls s → Begins n ls
-statement_begins n ls s is = ([], s, rw (sym (append-nil ls)) at is)
-
--- two stops are at one place
-not_later : (n : ℕ) (ls : List Lexeme) (i j : ℕ) (s t : Lexeme) → IsStop n ls i s → IsStop n ls j t → i < j → ⊥
-not_later n ls i j s t a b h =
-    let shorter : take (suc i) (take j ls) ≡ take (suc i) ls = take-take (suc i) j ls (omega arith) in
-    a.not_with (rw shorter at (begins_take n (suc i) (take j ls) b.before))
-
-pub no_stop : (n : ℕ) (ls : List Lexeme) (i : ℕ) (s : Lexeme) → IsStop n ls i s → Begins n ls → ⊥
-no_stop n ls i s a h = a.not_with (begins_take n (suc i) ls h)
-
-same_place : (n : ℕ) (ls : List Lexeme) (i j : ℕ) (s t : Lexeme) → IsStop n ls i s → IsStop n ls j t → i ≡ j
-same_place n ls i j s t a b = elim (leb_tells (suc i) j) [
-  | inl f ↦ absurd (not_later n ls i j s t a b f.1)
-  | inr f ↦ elim (leb_tells (suc j) i) [
-    | inl g ↦ absurd (not_later n ls j i t s b a g.1)
-    | inr g ↦ let l = f.1 in let m = g.1 in omega arith
-  ]
-]
-
-some_is : {A : Type 0} (a b : A) (o : Option A) → o ≡ Some a → o ≡ Some b → a ≡ b
-some_is a b o h k = cc
-
--- where the nesting is at fault, the statement isn't refused otherwise
-deep_alone : (n : ℕ) (ls : List Lexeme) (at other : ℕ) → IsTooDeepAt n ls at → IsRefusedAt n ls other → ⊥
-deep_alone n ls at other (i, s, deep, e) (none, inl (j, t, stop, not_deep, f)) =
-    let place : i ≡ j = same_place n ls i j s t deep.is_stop stop in
-    let there = rw place at deep in
-    let same : s ≡ t = some_is s t _ there.is_stop.at stop.at in
-    not_deep (rw same at there)
-deep_alone n ls at other (i, s, deep, e) (none, inr (last, l, begins, f)) = no_stop n ls i s deep.is_stop begins
-
-deep_no_statement : (n : ℕ) (ls : List Lexeme) (at : ℕ) (s : Select) → IsTooDeepAt n ls at → IsStatement n ls s → ⊥
-deep_no_statement n ls at s deep is = no_stop n ls deep.0 deep.1 deep.2.is_stop (statement_begins n ls s is)
 
 module _ (source : List ℕ) (schema : Schema) (tokens : List Token) where
   -- the fault is none of the first four kinds, or it is one of them and not there
@@ -148,6 +105,25 @@ module _ (source : List ℕ) (schema : Schema) (tokens : List Token) where
 
   pub deep_first : NoBad → NoLarge → (at : ℕ) → IsTooDeepAt 64 (lexemes source tokens) at → IsFirstFault source schema tokens (TooDeep at)
   deep_first none large at h = (h, above_deep none (no_syntax_if_deep at h) large)
+
+  above_many : NoBad → NoSyntax → NoLarge → ((at : ℕ) → ¬ (Holds (TooDeep at))) → (other : SqlFault) → rank other < 5 → ¬ (Holds other)
+  above_many none syntax large deep (BadByte at) h = no_bad none at
+  above_many none syntax large deep (Syntax at) h = syntax at
+  above_many none syntax large deep (NumberTooLarge at) h = no_large large at
+  above_many none syntax large deep (TooDeep at) h = deep at
+  above_many none syntax large deep (TooMany at) h = absurd (omega arith)
+  above_many none syntax large deep (UnknownTable at) h = absurd (omega arith)
+  above_many none syntax large deep (UnknownColumn at) h = absurd (omega arith)
+  above_many none syntax large deep (NotGrouped at) h = absurd (omega arith)
+  above_many none syntax large deep (NotSelected at) h = absurd (omega arith)
+  above_many none syntax large deep Memory h = absurd (omega arith)
+
+  pub many_first : NoBad → NoLarge → (s : Select) → IsStatement 64 (lexemes source tokens) s → (t : Token) → slice_get (past_limits s) 0 ≡ Some t
+      → IsFirstFault source schema tokens (TooMany t.from)
+  many_first none large s is t past = (
+    (s, is, (t, past, refl)),
+    above_many none (no_syntax_if_statement s is) large (λ at deep. deep_no_statement 64 (lexemes source tokens) at s deep is),
+  )
 
   -- of a statement whose only syntax is this one: a fault is a misfit of that
   fault_fits : (s : Select) → NoBad → NoLarge → IsStatement 64 (lexemes source tokens) s → ((t : Select) → IsStatement 64 (lexemes source tokens) t → s ≡ t)

@@ -5,7 +5,8 @@ use Rattle.std.specs.Option.{option_or}
 use Rattle.std.proofs.lemmas.Grind.{flat_map-append}
 use Rattle.std.proofs.lemmas.List.Elements.{All-append, All-head, All-more, All-nil, All-same, All-tail}
 use Rattle.ub_parser.specs.Firsts.{IsFirstOrNone}
-use Rattle.ub_parser.specs.Refusals.{IsFirst, item_names, key_items, names_in}
+use Rattle.ub_syntax.specs.Limits.{key_items}
+use Rattle.ub_parser.specs.Refusals.{IsFirst, item_names, names_in}
 use Rattle.ub_lexer.specs.declared.token.Token.{Token}
 use Rattle.ub_syntax.specs.declared.syntax.Item.{Item}
 use Rattle.ub_syntax.specs.declared.syntax.OrderKey.{OrderKey}
@@ -25,6 +26,12 @@ module _ {A : Type 0} where
   -- nor of any
   pub none_at_all : (P : A → Type 0) (xs : List A) (i : ℕ) → length xs ≤ i → All (λ y. ¬ P y) (take i xs) → All (λ y. ¬ P y) xs
   none_at_all P xs i le none = All-same (λ y. ¬ P y) xs (take i xs) (sym (take_all i xs le)) none
+
+-- the first of four options
+pub from_left : {A : Type 0} (a b c d : Option A) → option_or (option_or (option_or a b) c) d ≡ option_or a (option_or b (option_or c d))
+from_left None None c d = refl
+from_left None (Some y) c d = refl
+from_left (Some x) b c d = refl
 
 -- over lists that are joined, the first of the whole is that of the first list that has one
 module _ {A : Type 0} (P : A → Type 0) where

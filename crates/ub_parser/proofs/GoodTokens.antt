@@ -1,20 +1,20 @@
 -- The tokens of a source are good where no number is too large: a name lies in the source, a number may be written.
-use Rattle.std.proofs.Common.{◌≡◌, ◌<◌, ◌≤◌, ℕ, zero, suc, Bool, true, false, not, List, [], ◌∷◌, length, map, All, refl, arith, inl, inr, if◌then◌else◌, cond}
+use Rattle.std.proofs.Common.{◌≡◌, ◌<◌, ◌≤◌, ℕ, zero, suc, Bool, true, false, List, [], ◌∷◌, All, refl, arith, inl, inr, if◌then◌else◌}
 use Rattle.std.proofs.lemmas.Bool.Decides.{leb_tells}
-use Rattle.ub_lexer.specs.Text.{IsSpelling}
 use Rattle.ub_lexer.specs.Tokens.{AreSpelled, text_of}
 use Rattle.ub_lexer.specs.declared.token.Token.{Token}
 use Rattle.ub_lexer.specs.declared.token.TokenKind.{TokenKind}
 use Rattle.ub_lexer.specs.declared.token.TokenKind.TheVariants as kind
-use Rattle.ub_page.specs.Name.{is_word}
-use Rattle.ub_syntax.specs.Grammar.{Lexeme, lexemes}
+use Rattle.ub_syntax.specs.Grammar.{lexemes}
 use Rattle.ub_syntax.specs.Symbols.{keywords, symbol_among, symbol}
 use Rattle.ub_syntax.specs.declared.symbol.Symbol.{Symbol}
 use Rattle.ub_syntax.specs.declared.symbol.Symbol.TheVariants as symbols
-use Rattle.ub_parser.specs.Refusals.{greatest_number, IsTooLarge}
+use Rattle.ub_query.specs.Posed.{greatest_number}
+use Rattle.ub_parser.specs.Refusals.{IsTooLarge}
 use Rattle.ub_parser.specs.Sense.{number_of}
 use Rattle.ub_parser.specs.Spans.{IsWithin, IsSpelled, IsNumber}
-use Rattle.ub_parser.proofs.Among.{Each, Good, Are}
+use Rattle.ub_parser.proofs.Among.{Good, Are}
+use Rattle.ub_table.specs.Name.{is_word}
 
 is_number : Symbol → Bool
 is_number symbols.Number = true

@@ -5,16 +5,17 @@ use Rattle.std.proofs.lemmas.List.{map-append}
 use Rattle.std.proofs.lemmas.List.Elements.{All-contains, All-head, All-map, All-same}
 use Rattle.ub_lexer.specs.Tokens.{text_of}
 use Rattle.ub_lexer.specs.declared.token.Token.{Token}
-use Rattle.ub_page.specs.declared.schema.Schema.{Schema}
 use Rattle.ub_syntax.specs.Tree.{Select}
 use Rattle.ub_syntax.specs.declared.syntax.Item.{Item}
 use Rattle.ub_syntax.specs.declared.syntax.Item.TheVariants.{Column}
 use Rattle.ub_syntax.specs.declared.syntax.Selection.{Selection}
 use Rattle.ub_syntax.specs.declared.syntax.Selection.TheVariants.{Listed}
-use Rattle.ub_parser.specs.Refusals.{IsAggregate, IsFirst, IsGrouping, IsNotGrouped, IsUngrouped, IsUnselected, first_token, listed}
+use Rattle.ub_syntax.specs.Limits.{first_token, listed}
+use Rattle.ub_parser.specs.Refusals.{IsAggregate, IsFirst, IsGrouping, IsNotGrouped, IsUngrouped, IsUnselected}
 use Rattle.ub_parser.specs.Sense.{item_of}
 use Rattle.ub_parser.proofs.FirstFacts.{fails}
 use Rattle.ub_parser.proofs.KnownFacts.{all_right}
+use Rattle.ub_table.specs.declared.schema.Schema.{Schema}
 
 -- the contrary of a test
 pub not_iff : (r : Bool) (P : Type 0) → (IsTrue r ↔ P) → IsTrue (not r) ↔ (¬ P)

@@ -5,13 +5,14 @@ use Rattle.std.specs.Option.{option_to_list}
 use Rattle.std.proofs.lemmas.List.Elements.{All-nil, All-cons, All-head, All-tail}
 use Rattle.ub_lexer.specs.Tokens.{text_of}
 use Rattle.ub_lexer.specs.declared.token.Token.{Token}
-use Rattle.ub_page.specs.declared.schema.Schema.{Schema}
 use Rattle.ub_syntax.specs.Tree.{Select, Shape, both, either, neither, compares, between}
 use Rattle.ub_syntax.specs.declared.syntax.Item.{Item}
 use Rattle.ub_syntax.specs.declared.syntax.OrderKey.{OrderKey}
 use Rattle.ub_parser.specs.Known.{AreComparedWithin, IsColumn, IsKnown, IsKnownItem}
-use Rattle.ub_parser.specs.Refusals.{comparisons, compared, item_names, key_items, listed, names, names_in}
+use Rattle.ub_syntax.specs.Limits.{comparisons, compared, key_items, listed}
+use Rattle.ub_parser.specs.Refusals.{item_names, names, names_in}
 use Rattle.ub_parser.specs.Spans.{AreWritten, IsNumber, IsWithin, compared_numbers, filter_numbers}
+use Rattle.ub_table.specs.declared.schema.Schema.{Schema}
 
 module _ {A : Type 0} (P : A → Type 0) where
   pub all_left : (xs ys : List A) → All P (xs ++ ys) → All P xs

@@ -5,7 +5,8 @@ mod KnownFacts
 mod Among
 mod GoodTokens
 mod FaultFacts
-mod LimitFacts
+mod OneFault
 mod GroupFacts
 mod ParseFacts
 mod MisfitFacts
+mod PosedFacts

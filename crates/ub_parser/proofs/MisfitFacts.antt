@@ -1,23 +1,24 @@
 -- The five misfits of a statement, and which of them is the first.
-use Rattle.std.proofs.Common.{◌≡◌, ◌≢◌, ◌↔◌, ◌<◌, ℕ, Bool, false, IsTrue, List, Option, Some, None, slice_get, Contains, refl, sym, ◌∙◌, arith}
+use Rattle.std.proofs.Common.{◌≡◌, ◌≢◌, ◌↔◌, ◌<◌, ℕ, Bool, false, IsTrue, List, [], Option, Some, None, slice_get, Contains, refl, sym, ap, ◌∙◌, arith}
 use Rattle.std.specs.List.{All, position_from}
 use Rattle.std.specs.Str.{bytes_eq}
 use Rattle.std.proofs.lemmas.List.Elements.{All-weaker}
 use Rattle.ub_lexer.specs.Tokens.{text_of}
 use Rattle.ub_lexer.specs.declared.token.Token.{Token}
-use Rattle.ub_page.specs.declared.schema.Schema.{Schema}
 use Rattle.ub_syntax.specs.Tree.{Select}
 use Rattle.ub_syntax.specs.declared.syntax.Item.{Item}
 use Rattle.ub_parser.specs.Known.{IsUnknown}
-use Rattle.ub_parser.specs.Refusals.{IsFirst, IsFirstMisfit, IsGrouping, IsMisfit, IsNotGrouped, IsUnselected, first_token, key_items, names, past_limits, rank}
+use Rattle.ub_syntax.specs.Limits.{first_token, key_items, past_limits}
+use Rattle.ub_parser.specs.Refusals.{IsFirst, IsFirstMisfit, IsGrouping, IsMisfit, IsNotGrouped, IsUnselected, names, rank}
 use Rattle.ub_parser.specs.declared.fault.SqlFault.{SqlFault}
 use Rattle.ub_parser.specs.declared.fault.SqlFault.TheVariants.{BadByte, Syntax, NumberTooLarge, TooDeep, TooMany, UnknownTable, UnknownColumn, NotGrouped, NotSelected, Memory}
 use Rattle.ub_parser.proofs.FirstFacts.{fails}
 use Rattle.ub_parser.proofs.GroupFacts.{no_first}
 use Rattle.ub_parser.proofs.PlaceFacts.{found}
+use Rattle.ub_table.specs.declared.schema.Schema.{Schema}
 
 -- whether a text is among some names is decided
-stable_at : (text : List ℕ) (columns : List (List ℕ)) (r : Option ℕ) → r ≡ position_from (λ name. bytes_eq name text) 0 columns → ¬ (¬ Contains columns text) → Contains columns text
+pub stable_at : (text : List ℕ) (columns : List (List ℕ)) (r : Option ℕ) → r ≡ position_from (λ name. bytes_eq name text) 0 columns → ¬ (¬ Contains columns text) → Contains columns text
 stable_at text columns None is h = absurd (h (found text columns None is))
 stable_at text columns (Some place) is h = (found text columns (Some place) is).2
 
@@ -46,9 +47,9 @@ module _ (source : List ℕ) (schema : Schema) (s : Select) where
   below n many table column grouped selected (NotSelected at) lt h = selected lt at h
   below n many table column grouped selected Memory lt h = h
 
-  pub no_many : (r : Option Token) → r ≡ slice_get (past_limits s) 0 → r ≡ None → No (λ at. TooMany at)
+  pub no_many : past_limits s ≡ [] → No (λ at. TooMany at)
   unfolding No
-  no_many r is none at (t, e, same) = let clash : ◌≡◌ {A = Option Token} None (Some t) = sym none ∙ is ∙ e in cc
+  no_many few at (t, e, same) = let clash : ◌≡◌ {A = Option Token} None (Some t) = ap (λ (ts : List Token). slice_get ts 0) (sym few) ∙ e in cc
 
   pub no_table : (r : Bool) → (IsTrue r ↔ (text_of source s.table ≢ schema.name)) → r ≡ false → No (λ at. UnknownTable at)
   unfolding No

@@ -9,7 +9,7 @@ use Rattle.std.specs.Str.Parse.{AllDigits, ParsesUnsigned, without_leading_plus,
 use Rattle.std.proofs.lemmas.Bool.Decides.{nat_tests}
 use Rattle.std.proofs.lemmas.List.Elements.{All-head, All-tail}
 use Rattle.std.proofs.lemmas.Str.{digit_value_digit}
-use Rattle.ub_parser.specs.Refusals.{greatest_number}
+use Rattle.ub_query.specs.Posed.{greatest_number}
 
 in_range : (c : ℕ) → is_ascii_digit c ≡ true → IsInRange 48 57 c
 in_range c e = search (rules, tests)

@@ -1,13 +1,15 @@
 -- Statements whose names are columns of a table.
-use Rattle.std.specs.Prelude.{ℕ, List, Contains}
+use Rattle.std.specs.Prelude.{ℕ, ◌<◌, List, Contains, IfSome}
 use Rattle.std.specs.List.{All}
 use Rattle.ub_lexer.specs.Tokens.{text_of}
 use Rattle.ub_lexer.specs.declared.token.Token.{Token}
-use Rattle.ub_page.specs.declared.schema.Schema.{Schema}
+use Rattle.ub_query.specs.Posed.{IsItemOver, IsOver}
+use Rattle.ub_query.specs.Shape.{Asked}
 use Rattle.ub_syntax.specs.Tree.{Shape, both, either, neither, compares, between}
 use Rattle.ub_syntax.specs.declared.syntax.Item.{Item}
 use Rattle.ub_parser.specs.Refusals.{item_names}
 use Rattle.ub_parser.specs.Spans.{IsWithin, IsNumber}
+use Rattle.ub_table.specs.declared.schema.Schema.{Schema}
 
 -- the token lies in the source and names a column
 abbrev pub IsColumn : List ℕ → Schema → Token → Type 0
@@ -36,3 +38,10 @@ AreComparedWithin source (between name low high) = IsWithin source name
 -- the token names no column
 abbrev pub IsUnknown : List ℕ → Schema → Token → Type 0
 IsUnknown source schema t = ¬ Contains schema.columns (text_of source t)
+
+-- the query names columns of a table with so many
+pub record IsAskedOver (columns : ℕ) (q : Asked) : Type 0 where
+  pub items : All (λ item. IsItemOver columns item) q.items
+  pub filter : IfSome q.filter (λ c. IsOver columns c)
+  pub group : All (λ column. column < columns) q.group
+  pub order : All (λ key. IsItemOver columns key.item) q.order

@@ -1,8 +1,6 @@
-pub mod Shape
 pub mod Sense
 pub mod Refusals
 pub mod Spans
 pub mod Firsts
 pub mod Outcome
-pub mod Meaning
 pub mod Known

@@ -1,15 +1,15 @@
 -- What a statement of a script is told: what it asks, or why it is refused.
 use Rattle.std.specs.Prelude.{◌≡◌, ℕ, Bool, true, false, List, Result, Ok, Err}
 use Rattle.ub_lexer.specs.declared.token.Token.{Token}
-use Rattle.ub_page.specs.declared.schema.Schema.{Schema}
 use Rattle.ub_syntax.specs.Grammar.{lexemes, IsStatement}
 use Rattle.ub_syntax.specs.Tree.{Select}
-use Rattle.ub_parser.specs.Shape.{Asked, asked}
+use Rattle.ub_query.specs.Shape.{Asked, asked}
 use Rattle.ub_parser.specs.Sense.{sense_of}
 use Rattle.ub_parser.specs.Refusals.{IsFault, IsFirstFault}
 use Rattle.ub_parser.specs.declared.fault.SqlFault.{SqlFault}
 use Rattle.ub_parser.specs.declared.statement.Statement.{Statement}
 use Rattle.ub_parser.specs.declared.statement.Statement.TheVariants as statement
+use Rattle.ub_table.specs.declared.schema.Schema.{Schema}
 
 -- a statement without the boxes in which its condition lies in memory
 pub record Told : Type 0 where

@@ -1,38 +1,29 @@
 -- Why a statement is refused: nine conditions, the first of which is told.
-use Rattle.std.specs.Prelude.{◌≡◌, ◌≢◌, ◌<◌, ◌⊎◌, ℕ, List, [], ◌∷◌, ◌++◌, map, drop, Option, Some, None, slice_get, Contains}
+use Rattle.std.specs.Prelude.{◌≡◌, ◌≢◌, ◌<◌, ◌⊎◌, ℕ, List, [], ◌∷◌, ◌++◌, map, Some, slice_get, Contains}
 use Rattle.std.specs.List.{All}
 use Rattle.ub_lexer.specs.Tokens.{text_of}
 use Rattle.ub_lexer.specs.declared.token.Token.{Token}
 use Rattle.ub_lexer.specs.declared.token.TokenKind.TheVariants as kind
-use Rattle.ub_page.specs.declared.schema.Schema.{Schema}
+use Rattle.ub_query.specs.Posed.{greatest_number}
 use Rattle.ub_syntax.specs.Grammar.{lexemes, IsStatement}
+use Rattle.ub_syntax.specs.Limits.{first_token, listed, comparisons, key_items, past_limits}
 use Rattle.ub_syntax.specs.Stop.{IsRefusedAt, IsTooDeepAt}
-use Rattle.ub_syntax.specs.Tree.{Select, Shape, both, either, neither, compares, between}
+use Rattle.ub_syntax.specs.Tree.{Select}
 use Rattle.ub_syntax.specs.declared.syntax.Item.{Item}
 use Rattle.ub_syntax.specs.declared.syntax.Item.TheVariants.{Column, Count, Aggregate}
-use Rattle.ub_syntax.specs.declared.syntax.OrderKey.{OrderKey}
 use Rattle.ub_syntax.specs.declared.syntax.Selection.{Selection}
 use Rattle.ub_syntax.specs.declared.syntax.Selection.TheVariants.{All as Star, Listed}
 use Rattle.ub_parser.specs.Sense.{item_of, number_of}
 use Rattle.ub_parser.specs.declared.fault.SqlFault.{SqlFault}
 use Rattle.ub_parser.specs.declared.fault.SqlFault.TheVariants.{BadByte, Syntax, NumberTooLarge, TooDeep, TooMany, UnknownTable, UnknownColumn, NotGrouped, NotSelected, Memory}
+use Rattle.ub_table.specs.declared.schema.Schema.{Schema}
 
 -- the first of some things of which P holds
 abbrev pub IsFirst : {A : Type 0} → (A → Type 0) → List A → A → Type 0
 IsFirst {A = A} P xs x = (before after : List A) × (xs ≡ before ++ x ∷ after) × All (λ y. ¬ P y) before × P x
 
--- the greatest number that a statement may write
-abbrev pub greatest_number : ℕ
-greatest_number = 18446744073709551615
-
 abbrev pub IsTooLarge : List ℕ → Token → Type 0
 IsTooLarge source t = (t.kind ≡ kind.Number) × (greatest_number < number_of source t)
-
--- the token with which an item begins
-abbrev pub first_token : Item → Token
-first_token (Column name) = name
-first_token (Count first) = first
-first_token (Aggregate aggregate first name) = first
 
 -- the columns that an item names
 abbrev pub item_names : Item → List Token
@@ -44,35 +35,9 @@ abbrev pub names_in : List Item → List Token
 names_in [] = []
 names_in (item ∷ items) = item_names item ++ names_in items
 
--- the items that are written; `*` is none
-abbrev pub listed : Selection → List Item
-listed (Star star) = []
-listed (Listed items) = items
-
--- the columns of the comparisons of a condition, in order
-abbrev pub compared : Shape → List Token
-compared (both a b) = compared a ++ compared b
-compared (either a b) = compared a ++ compared b
-compared (neither a) = compared a
-compared (compares name operator v) = name ∷ []
-compared (between name low high) = name ∷ []
-
-abbrev pub comparisons : Option Shape → List Token
-comparisons None = []
-comparisons (Some c) = compared c
-
-abbrev pub key_items : List OrderKey → List Item
-key_items keys = map (λ key. key.item) keys
-
 -- the names of a statement but that of its table, in the order of its tokens
 abbrev pub names : Select → List Token
 names s = names_in (listed s.selection) ++ (comparisons s.filter ++ (s.group ++ names_in (key_items s.order)))
-
--- the tokens at which it has more than 8 items, 64 comparisons, 8 group columns or 8 order keys, in the order of its tokens
-abbrev pub past_limits : Select → List Token
-past_limits s =
-    drop 8 (map first_token (listed s.selection)) ++ (drop 64 (comparisons s.filter)
-    ++ (drop 8 s.group ++ drop 8 (map first_token (key_items s.order))))
 
 abbrev pub IsAggregate : Item → Type 0
 IsAggregate (Column name) = ⊥

@@ -6,7 +6,6 @@ use Rattle.std.specs.Str.{bytes_eq}
 use Rattle.std.specs.Str.Parse.{digits_value}
 use Rattle.ub_lexer.specs.Tokens.{text_of}
 use Rattle.ub_lexer.specs.declared.token.Token.{Token}
-use Rattle.ub_page.specs.declared.schema.Schema.{Schema}
 use Rattle.ub_syntax.specs.Tree.{Select}
 use Rattle.ub_syntax.specs.Tree as syntax
 use Rattle.ub_syntax.specs.declared.syntax.Item.TheVariants as item
@@ -15,10 +14,11 @@ use Rattle.ub_syntax.specs.declared.syntax.Literal.{Literal}
 use Rattle.ub_syntax.specs.declared.syntax.OrderKey.{OrderKey}
 use Rattle.ub_syntax.specs.declared.syntax.Selection.{Selection}
 use Rattle.ub_syntax.specs.declared.syntax.Selection.TheVariants.{All, Listed}
-use Rattle.ub_parser.specs.Shape.{Shape, both, either, neither, compares, between, Asked}
-use Rattle.ub_parser.specs.declared.query.Item.{Item}
-use Rattle.ub_parser.specs.declared.query.Item.TheVariants.{Column, Count, Aggregate}
-use Rattle.ub_parser.specs.declared.query.Key.{Key}
+use Rattle.ub_query.specs.Shape.{Shape, both, either, neither, compares, between, Asked}
+use Rattle.ub_query.specs.declared.query.Item.{Item}
+use Rattle.ub_query.specs.declared.query.Item.TheVariants.{Column, Count, Aggregate}
+use Rattle.ub_query.specs.declared.query.SortKey.{SortKey}
+use Rattle.ub_table.specs.declared.schema.Schema.{Schema}
 
 -- how many names stand before the first that is this text: its column, where it is one of them
 abbrev pub place_of : List ℕ → List (List ℕ) → ℕ
@@ -57,7 +57,7 @@ abbrev pub items_of : List ℕ → Schema → Selection → List Item
 items_of source schema (All star) = all_columns schema
 items_of source schema (Listed items) = map (item_of source schema) items
 
-abbrev pub key_of : List ℕ → Schema → OrderKey → Key
+abbrev pub key_of : List ℕ → Schema → OrderKey → SortKey
 key_of source schema key = record { item = item_of source schema key.item; is_descending = key.is_descending }
 
 -- what a statement asks

@@ -7,7 +7,8 @@ use Rattle.ub_lexer.specs.Tokens.{text_of}
 use Rattle.ub_lexer.specs.declared.token.Token.{Token}
 use Rattle.ub_lexer.specs.declared.token.TokenKind.TheVariants as kind
 use Rattle.ub_syntax.specs.Tree.{Select, Shape, both, either, neither, compares, between}
-use Rattle.ub_parser.specs.Refusals.{greatest_number, names}
+use Rattle.ub_query.specs.Posed.{greatest_number}
+use Rattle.ub_parser.specs.Refusals.{names}
 use Rattle.ub_parser.specs.Sense.{number_of}
 
 -- the token's span lies in the source

@@ -1,8 +1,9 @@
 // Why a statement whose syntax is known is refused.
-ghost use Rattle.std.specs.Prelude.{◌≡◌, ◌≢◌, ◌↔◌, Contains, IsTrue, MatchOption};
+ghost use Rattle.std.specs.Prelude.{◌≡◌, ◌≢◌, ◌↔◌, [], Contains, IsTrue, MatchOption};
 ghost use Rattle.std.specs.List.{All};
 ghost use Rattle.std.specs.Option.{IfNone};
 ghost use Rattle.ub_lexer.specs.Tokens.{text_of};
+ghost use Rattle.ub_syntax.specs.Limits.{past_limits};
 ghost use Rattle.ub_syntax.specs.Tree.{select_of};
 ghost use Rattle.ub_parser.specs.Refusals.{IsFirstMisfit, IsMisfit, names};
 ghost use Rattle.ub_parser.specs.Spans.{IsWithin};
@@ -11,26 +12,25 @@ ghost use Rattle.ub_parser.specs.declared.fault.SqlFault.{SqlFault};
 use crate::columns::unknown_column;
 use crate::fault::SqlFault;
 use crate::grouping::{not_grouped, not_selected};
-use crate::limits::{first_token, too_many};
+use crate::items::first_token;
 use crate::text::text;
 use ub_lexer::Token;
-use ub_page::Schema;
 use ub_syntax::Syntax;
+use ub_table::Schema;
 
-/// Why a statement of this syntax is refused over a table of the schema: the first of `TooMany`, `UnknownTable`,
-/// `UnknownColumn`, `NotGrouped` and `NotSelected` that holds. Takes no memory.
+/// Why a statement of this syntax is refused over a table of the schema: the first of `UnknownTable`, `UnknownColumn`,
+/// `NotGrouped` and `NotSelected` that holds. It is within the limits, as the caller has found. Takes no memory.
 pub(crate) fn misfit(source: &[u8], schema: &Schema, syntax: &Syntax) -> Option<SqlFault>
     requires table { IsWithin source.now syntax.now.table }
     requires names { All (λ t. IsWithin source.now t) (names (select_of syntax.now)) }
+    requires few { past_limits (select_of syntax.now) ≡ [] }
     ensures first { MatchOption result
         ((fault : SqlFault) → ¬ IsMisfit source.now schema.now (select_of syntax.now) fault)
         (λ fault. IsFirstMisfit source.now schema.now (select_of syntax.now) fault) }
     // where nothing is refused, each name is a column
-    ensures known { IfNone result (All (λ name. Contains schema.now.columns (text_of source.now name)) (names (select_of syntax.now))) }
+    ensures known { IfNone result (All
+        (λ name. Contains schema.now.columns (text_of source.now name)) (names (select_of syntax.now))) }
 {
-    if let Some(token) = too_many(syntax) {
-        return Some(SqlFault::TooMany { at: token.from });
-    }
     if is_unknown_table(source, schema, &syntax.table) {
         return Some(SqlFault::UnknownTable {
             at: syntax.table.from,

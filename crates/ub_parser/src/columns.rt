@@ -5,20 +5,22 @@ ghost use Rattle.std.specs.Option.{option_map};
 ghost use Rattle.ub_syntax.specs.Tree.{select_of, shape};
 ghost use Rattle.ub_parser.specs.Firsts.{IsFirstOrNone};
 ghost use Rattle.ub_parser.specs.Known.{AreComparedWithin, IsUnknown};
-ghost use Rattle.ub_parser.specs.Refusals.{comparisons, compared, item_names, key_items, names, names_in};
+ghost use Rattle.ub_syntax.specs.Limits.{comparisons, compared, key_items};
+ghost use Rattle.ub_parser.specs.Refusals.{item_names, names, names_in};
 ghost use Rattle.ub_parser.specs.Spans.{IsWithin};
 
-use crate::limits::listed;
+use crate::items::listed;
 use crate::sense::place;
 use crate::text::text;
 use ub_lexer::Token;
-use ub_page::Schema;
 use ub_syntax::{Condition, Item, OrderKey, Syntax};
+use ub_table::Schema;
 
 /// The first name of a statement, its table's left aside, that is no column of the schema.
 pub(crate) fn unknown_column(source: &[u8], schema: &Schema, syntax: &Syntax) -> Option<Token>
     requires { All (λ t. IsWithin source.now t) (names (select_of syntax.now)) }
-    ensures { IsFirstOrNone (λ name. IsUnknown source.now schema.now name) (names (select_of syntax.now)) result }
+    ensures { IsFirstOrNone (λ name. IsUnknown source.now schema.now name)
+        (names (select_of syntax.now)) result }
 {
     let item = unknown_in_items(source, schema, listed(&syntax.selection));
     let compared = unknown_in_filter(source, schema, &syntax.filter);
@@ -87,7 +89,8 @@ fn unknown_in_items(source: &[u8], schema: &Schema, items: &[Item]) -> Option<To
 // The first name of these keys that is no column.
 fn unknown_in_keys(source: &[u8], schema: &Schema, keys: &[OrderKey]) -> Option<Token>
     requires { All (λ key. All (λ t. IsWithin source.now t) (item_names key.item)) keys.now }
-    ensures { IsFirstOrNone (λ name. IsUnknown source.now schema.now name) (names_in (key_items keys.now)) result }
+    ensures { IsFirstOrNone (λ name. IsUnknown source.now schema.now name)
+        (names_in (key_items keys.now)) result }
 {
     for key in keys {
         if let Some(name) = unknown_in_item(source, schema, &key.item) {
@@ -100,7 +103,8 @@ fn unknown_in_keys(source: &[u8], schema: &Schema, keys: &[OrderKey]) -> Option<
 // The first column of a comparison that is none.
 fn unknown_in_filter(source: &[u8], schema: &Schema, filter: &Option<Condition>) -> Option<Token>
     requires { IfSome (option_map shape filter.now) (λ c. AreComparedWithin source.now c) }
-    ensures { IsFirstOrNone (λ name. IsUnknown source.now schema.now name) (comparisons (option_map shape filter.now)) result }
+    ensures { IsFirstOrNone (λ name. IsUnknown source.now schema.now name)
+        (comparisons (option_map shape filter.now)) result }
 {
     match filter {
         Some(condition) => unknown_in_condition(source, schema, condition),
@@ -111,7 +115,8 @@ fn unknown_in_filter(source: &[u8], schema: &Schema, filter: &Option<Condition>)
 // The first column of a comparison that is none.
 fn unknown_in_condition(source: &[u8], schema: &Schema, condition: &Condition) -> Option<Token>
     requires { AreComparedWithin source.now (shape condition.now) }
-    ensures { IsFirstOrNone (λ name. IsUnknown source.now schema.now name) (compared (shape condition.now)) result }
+    ensures { IsFirstOrNone (λ name. IsUnknown source.now schema.now name)
+        (compared (shape condition.now)) result }
 {
     match condition {
         Condition::And(a, b) | Condition::Or(a, b) => {

@@ -7,25 +7,26 @@ ghost use Rattle.ub_syntax.specs.Tree.{select_of};
 ghost use Rattle.ub_syntax.specs.declared.syntax.Item.{Item};
 ghost use Rattle.ub_parser.specs.Firsts.{IsFirstOrNone};
 ghost use Rattle.ub_parser.specs.Known.{IsColumn, IsKnownItem};
-ghost use Rattle.ub_parser.specs.Refusals as spec;
-ghost use Rattle.ub_parser.specs.Refusals.{IsAggregate, IsGrouping, IsNotGrouped, IsUngrouped, IsUnselected, item_names, key_items, names};
+ghost use Rattle.ub_syntax.specs.Limits.{key_items, listed};
+ghost use Rattle.ub_parser.specs.Refusals.{IsAggregate, IsGrouping, IsNotGrouped, IsUngrouped, IsUnselected, item_names, names};
 ghost use Rattle.ub_parser.specs.Sense.{item_of};
 ghost use Rattle.ub_parser.specs.Spans.{IsWithin};
 
-use crate::limits::{first_token, listed};
-use crate::query;
+use crate::items::{first_token, listed};
 use crate::sense::item;
 use crate::text::text;
 use ub_lexer::Token;
-use ub_page::Schema;
 use ub_syntax::{Item, OrderKey, Selection, Syntax};
+use ub_table::Schema;
 
 /// In a statement with groups, the `*`, or the first token of the first item that is a column by which is not grouped.
 pub(crate) fn not_grouped(source: &[u8], syntax: &Syntax) -> Option<Token>
     requires { All (λ t. IsWithin source.now t) (names (select_of syntax.now)) }
     ensures { MatchOption result
-        ((t : Token) → IsGrouping (select_of syntax.now) → ¬ IsNotGrouped source.now (select_of syntax.now) syntax.now.selection t)
-        (λ t. IsGrouping (select_of syntax.now) × IsNotGrouped source.now (select_of syntax.now) syntax.now.selection t) }
+        ((t : Token) → IsGrouping (select_of syntax.now)
+        → ¬ IsNotGrouped source.now (select_of syntax.now) syntax.now.selection t)
+        (λ t. IsGrouping (select_of syntax.now)
+        × IsNotGrouped source.now (select_of syntax.now) syntax.now.selection t) }
 {
     if !is_grouping(syntax) {
         return None;
@@ -42,7 +43,8 @@ pub(crate) fn not_grouped(source: &[u8], syntax: &Syntax) -> Option<Token>
 /// The first key by which may not be ordered: with groups, one that is none of the items; without, an aggregate.
 pub(crate) fn not_selected(source: &[u8], schema: &Schema, syntax: &Syntax) -> Option<Item>
     requires { All (λ t. IsColumn source.now schema.now t) (names (select_of syntax.now)) }
-    ensures { IsFirstOrNone (λ key. IsUnselected source.now schema.now (select_of syntax.now) key) (key_items syntax.now.order) result }
+    ensures { IsFirstOrNone (λ key. IsUnselected source.now schema.now (select_of syntax.now) key)
+        (key_items syntax.now.order) result }
 {
     first_unselected(source, schema, syntax, syntax.order.as_slice())
 }
@@ -55,8 +57,9 @@ fn first_unselected(
     keys: &[OrderKey],
 ) -> Option<Item>
     requires keys { All (λ key. IsKnownItem source.now schema.now key.item) keys.now }
-    requires items { All (λ item. IsKnownItem source.now schema.now item) (spec.listed syntax.now.selection) }
-    ensures { IsFirstOrNone (λ key. IsUnselected source.now schema.now (select_of syntax.now) key) (key_items keys.now) result }
+    requires items { All (λ item. IsKnownItem source.now schema.now item) (listed syntax.now.selection) }
+    ensures { IsFirstOrNone (λ key. IsUnselected source.now schema.now (select_of syntax.now) key)
+        (key_items keys.now) result }
 {
     for key in keys {
         if is_unselected(source, schema, syntax, &key.item) {
@@ -120,7 +123,8 @@ fn is_ungrouped(source: &[u8], syntax: &Syntax, item: &Item) -> bool
 fn is_grouped(source: &[u8], group: &[Token], name: &Token) -> bool
     requires group { All (λ t. IsWithin source.now t) group.now }
     requires name { IsWithin source.now name.now }
-    ensures { IsTrue result ↔ Contains (map (λ t. text_of source.now t) group.now) (text_of source.now name.now) }
+    ensures { IsTrue result
+        ↔ Contains (map (λ t. text_of source.now t) group.now) (text_of source.now name.now) }
 {
     for other in group {
         if is_same(text(source, other), text(source, name)) {
@@ -139,7 +143,7 @@ fn is_same(a: &[u8], b: &[u8]) -> bool
 // Whether by this may not be ordered.
 fn is_unselected(source: &[u8], schema: &Schema, syntax: &Syntax, key: &Item) -> bool
     requires key { IsKnownItem source.now schema.now key.now }
-    requires items { All (λ item. IsKnownItem source.now schema.now item) (spec.listed syntax.now.selection) }
+    requires items { All (λ item. IsKnownItem source.now schema.now item) (listed syntax.now.selection) }
     ensures { IsTrue result ↔ IsUnselected source.now schema.now (select_of syntax.now) key.now }
 {
     if is_grouping(syntax) {
@@ -153,7 +157,8 @@ fn is_unselected(source: &[u8], schema: &Schema, syntax: &Syntax, key: &Item) ->
 fn is_selected(source: &[u8], schema: &Schema, items: &[Item], wanted: &Item) -> bool
     requires wanted { IsKnownItem source.now schema.now wanted.now }
     requires items { All (λ item. IsKnownItem source.now schema.now item) items.now }
-    ensures { IsTrue result ↔ Contains (map (λ item. item_of source.now schema.now item) items.now) (item_of source.now schema.now wanted.now) }
+    ensures { IsTrue result ↔ Contains (map (λ item. item_of source.now schema.now item) items.now)
+        (item_of source.now schema.now wanted.now) }
 {
     let wanted = item(source, schema, wanted);
     for other in items {
@@ -164,7 +169,7 @@ fn is_selected(source: &[u8], schema: &Schema, items: &[Item], wanted: &Item) ->
     false
 }
 
-fn is_equal(a: query::Item, b: query::Item) -> bool
+fn is_equal(a: ub_query::Item, b: ub_query::Item) -> bool
     ensures { IsTrue result ↔ (a ≡ b) }
 {
     a == b

@@ -2,20 +2,18 @@
 //
 // The grammar is the crate below's (`ub_syntax`): it builds the syntax of a statement from its tokens. This crate looks at
 // the names and numbers that stand in it: which refusal comes first (specs/Refusals), what a statement that is accepted asks
-// (specs/Sense), and what that means on the rows of a table (specs/Shape, specs/Meaning). How a query is answered is the part
-// of the crates above.
+// (specs/Sense). What a query means is said by the crate of queries (`ub_query`), and how it is answered is the part of the
+// crates above.
 #![tactic(auto)]
 
-ghost use Rattle.ub_parser.specs.Meaning.{meaning};
 ghost use Rattle.ub_parser.specs.Outcome.{IsOutcome};
 
 mod check;
 mod columns;
 pub mod fault;
 mod grouping;
-mod limits;
+mod items;
 pub mod parser;
-pub mod query;
 mod sense;
 pub mod statement;
 mod text;
@@ -23,6 +21,5 @@ mod tokens;
 
 pub use fault::SqlFault;
 pub use parser::parse;
-pub use query::{Cond, Item, Key, Query};
 pub use statement::Statement;
-pub use ub_syntax::{Aggregate, Items, Operator};
+pub use ub_query::{Aggregate, Cond, Item, Items, Operator, Query, SortKey};

@@ -7,17 +7,20 @@ ghost use Rattle.ub_lexer.specs.Tokens.{text_of};
 ghost use Rattle.ub_syntax.specs.Tree.{select_of};
 ghost use Rattle.ub_syntax.specs.Tree as syntax;
 ghost use Rattle.ub_parser.specs.Known.{IsColumn, IsKnown, IsKnownItem};
-ghost use Rattle.ub_parser.specs.Refusals.{listed, names};
+ghost use Rattle.ub_syntax.specs.Limits.{listed};
+ghost use Rattle.ub_parser.specs.Refusals.{names};
 ghost use Rattle.ub_parser.specs.Sense as spec;
-ghost use Rattle.ub_parser.specs.Shape.{IsAskedOver, IsItemOver, IsOver, asked, shape};
+ghost use Rattle.ub_parser.specs.Known.{IsAskedOver};
+ghost use Rattle.ub_query.specs.Posed.{IsItemOver, IsOver};
+ghost use Rattle.ub_query.specs.Shape.{asked, shape};
 ghost use Rattle.ub_parser.specs.Spans.{AreWritten, IsNumber};
 
-use crate::query::{Cond, Item, Key, Query};
 use crate::text::{number, text};
 use std::alloc::{AllocError, Global};
 use ub_lexer::Token;
-use ub_page::{Name, Schema};
-use ub_syntax::{Condition, Items, Literal, OrderKey, Selection, Syntax};
+use ub_query::{Cond, Item, Items, Query, SortKey};
+use ub_syntax::{Condition, Literal, OrderKey, Selection, Syntax};
+use ub_table::{Name, Schema};
 
 /// The place, from 0, of the first of the names that is this text.
 pub(crate) fn place(names: &[Name], text: &[u8]) -> Option<usize>
@@ -71,7 +74,8 @@ fn condition(
     condition: &Condition,
 ) -> Result<Cond, AllocError>
     requires { IsKnown source.now schema.now (syntax.shape condition.now) }
-    ensures shape { IfOk result (λ c. shape c ≡ spec.shape_of source.now schema.now (syntax.shape condition.now)) }
+    ensures shape { IfOk result
+        (λ c. shape c ≡ spec.shape_of source.now schema.now (syntax.shape condition.now)) }
     ensures over { IfOk result (λ c. IsOver (length schema.now.columns) (shape c)) }
 {
     Ok(match condition {
@@ -110,8 +114,10 @@ fn listed(
     spelled: &[ub_syntax::Item],
 ) -> Result<Vec<Item>, AllocError>
     requires { All (λ item. IsKnownItem source.now schema.now item) spelled.now }
-    ensures items { IfOk result (λ items. items.items ≡ map (λ item. spec.item_of source.now schema.now item) spelled.now) }
-    ensures over { IfOk result (λ items. All (λ item. IsItemOver (length schema.now.columns) item) items.items) }
+    ensures items { IfOk result
+        (λ items. items.items ≡ map (λ item. spec.item_of source.now schema.now item) spelled.now) }
+    ensures over { IfOk result
+        (λ items. All (λ item. IsItemOver (length schema.now.columns) item) items.items) }
 {
     let mut items = Vec::new(alloc);
     for item in spelled {
@@ -123,7 +129,8 @@ fn listed(
 /// All columns, in order.
 fn all_columns(alloc: Global, schema: &Schema) -> Result<Vec<Item>, AllocError>
     ensures items { IfOk result (λ items. items.items ≡ spec.all_columns schema.now) }
-    ensures over { IfOk result (λ items. All (λ item. IsItemOver (length schema.now.columns) item) items.items) }
+    ensures over { IfOk result
+        (λ items. All (λ item. IsItemOver (length schema.now.columns) item) items.items) }
 {
     schema
         .columns()
@@ -141,7 +148,8 @@ fn group(
     names: &[Token],
 ) -> Result<Vec<usize>, AllocError>
     requires { All (λ name. IsColumn source.now schema.now name) names.now }
-    ensures group { IfOk result (λ group. group.items ≡ map (λ name. spec.column_of source.now schema.now name) names.now) }
+    ensures group { IfOk result
+        (λ group. group.items ≡ map (λ name. spec.column_of source.now schema.now name) names.now) }
     ensures over { IfOk result (λ group. All (λ column. column < length schema.now.columns) group.items) }
 {
     let mut group = Vec::new(alloc);
@@ -157,14 +165,16 @@ fn order(
     source: &[u8],
     schema: &Schema,
     keys: &[OrderKey],
-) -> Result<Vec<Key>, AllocError>
+) -> Result<Vec<SortKey>, AllocError>
     requires { All (λ key. IsKnownItem source.now schema.now key.item) keys.now }
-    ensures order { IfOk result (λ order. order.items ≡ map (λ key. spec.key_of source.now schema.now key) keys.now) }
-    ensures over { IfOk result (λ order. All (λ key. IsItemOver (length schema.now.columns) key.item) order.items) }
+    ensures order { IfOk result
+        (λ order. order.items ≡ map (λ key. spec.key_of source.now schema.now key) keys.now) }
+    ensures over { IfOk result
+        (λ order. All (λ key. IsItemOver (length schema.now.columns) key.item) order.items) }
 {
     let mut order = Vec::new(alloc);
     for key in keys {
-        order.push(Key {
+        order.push(SortKey {
             item: item(source, schema, &key.item),
             is_descending: key.is_descending,
         })?;
@@ -181,7 +191,8 @@ fn items(
 ) -> Result<Vec<Item>, AllocError>
     requires { All (λ item. IsKnownItem source.now schema.now item) (listed selection.now) }
     ensures items { IfOk result (λ items. items.items ≡ spec.items_of source.now schema.now selection.now) }
-    ensures over { IfOk result (λ items. All (λ item. IsItemOver (length schema.now.columns) item) items.items) }
+    ensures over { IfOk result
+        (λ items. All (λ item. IsItemOver (length schema.now.columns) item) items.items) }
 {
     match selection {
         Selection::All(_) => all_columns(alloc, schema),
@@ -197,8 +208,10 @@ fn filter(
     filter: &Option<Condition>,
 ) -> Result<Option<Cond>, AllocError>
     requires { IfSome (option_map syntax.shape filter.now) (λ c. IsKnown source.now schema.now c) }
-    ensures filter { IfOk result (λ c. option_map shape c ≡ option_map (λ c. spec.shape_of source.now schema.now c) (option_map syntax.shape filter.now)) }
-    ensures over { IfOk result (λ c. IfSome (option_map shape c) (λ c. IsOver (length schema.now.columns) c)) }
+    ensures filter { IfOk result (λ c. option_map shape c
+        ≡ option_map (λ c. spec.shape_of source.now schema.now c) (option_map syntax.shape filter.now)) }
+    ensures over { IfOk result
+        (λ c. IfSome (option_map shape c) (λ c. IsOver (length schema.now.columns) c)) }
 {
     match filter {
         Some(filter) => Ok(Some(condition(alloc, source, schema, filter)?)),
@@ -229,7 +242,8 @@ pub(crate) fn query(
     syntax: &Syntax,
 ) -> Result<Query, AllocError>
     requires written { AreWritten source.now (select_of syntax.now) }
-    requires known { All (λ name. Contains schema.now.columns (text_of source.now name)) (names (select_of syntax.now)) }
+    requires known { All (λ name. Contains schema.now.columns (text_of source.now name))
+        (names (select_of syntax.now)) }
     ensures asked { IfOk result (λ q. asked q ≡ spec.sense_of source.now schema.now (select_of syntax.now)) }
     ensures over { IfOk result (λ q. IsAskedOver (length schema.now.columns) (asked q)) }
 {

@@ -1,4 +1,4 @@
-use crate::query::Query;
+use ub_query::Query;
 
 /// A statement of a script.
 #[derive(Drop)]

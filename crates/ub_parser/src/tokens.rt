@@ -23,7 +23,8 @@ pub(crate) fn bad_byte(tokens: &[Token]) -> Option<SqlFault>
 /// `NumberTooLarge` at the first number above 2^64 - 1, if there is one.
 pub(crate) fn number_too_large(source: &[u8], tokens: &[Token]) -> Option<SqlFault>
     requires { AreSpelled source.now tokens.now }
-    ensures { IsRefusalAtFirst (λ t. IsTooLarge source.now t) (λ at. SqlFault.NumberTooLarge at) tokens.now result }
+    ensures { IsRefusalAtFirst (λ t. IsTooLarge source.now t)
+        (λ at. SqlFault.NumberTooLarge at) tokens.now result }
 {
     for token in tokens {
         if is_too_large(source, token) {

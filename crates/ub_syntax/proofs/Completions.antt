@@ -7,7 +7,7 @@ use Rattle.ub_syntax.specs.Grammar.{Lexeme, symbol_of, Is}
 use Rattle.ub_syntax.specs.Symbols.{keywords}
 use Rattle.ub_syntax.specs.Stop.{Begins}
 use Rattle.ub_syntax.specs.Machine.{Config, config, and_then, token, reads, start, may_end}
-use Rattle.ub_syntax.specs.declared.symbol.Operator.TheVariants as operator
+use Rattle.ub_query.specs.declared.condition.Operator.TheVariants as operator
 use Rattle.ub_syntax.specs.declared.symbol.Symbol.TheVariants as symbol
 use Rattle.ub_syntax.specs.declared.machine.Fixed.{Fixed}
 use Rattle.ub_syntax.specs.declared.machine.Fixed.TheVariants as fixed

@@ -13,3 +13,6 @@ pub mod StatementSound
 pub mod Completions
 pub mod Depths
 pub mod Verdicts
+pub mod Marking
+pub mod Counting
+pub mod OneVerdict

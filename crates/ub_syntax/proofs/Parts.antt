@@ -7,7 +7,7 @@ use Rattle.ub_lexer.specs.declared.token.Token.{Token}
 use Rattle.ub_syntax.specs.Grammar.{Lexeme, Is, IsToken, IsLiteral, IsComparison}
 use Rattle.ub_syntax.specs.Reading.{first_symbol, Reads, Advances, Accepts}
 use Rattle.ub_syntax.specs.Tree.{both, either, neither, compares, between}
-use Rattle.ub_syntax.specs.declared.symbol.Operator.{Operator}
+use Rattle.ub_query.specs.declared.condition.Operator.{Operator}
 use Rattle.ub_syntax.specs.declared.symbol.Symbol.{Symbol}
 use Rattle.ub_syntax.specs.declared.symbol.Symbol.TheVariants as symbol
 use Rattle.ub_syntax.specs.declared.syntax.Literal.{Literal}

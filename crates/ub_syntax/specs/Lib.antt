@@ -5,3 +5,5 @@ pub mod Stop
 pub mod Reading
 pub mod Machine
 pub mod Verdicts
+pub mod Limits
+pub mod Marks

@@ -1,12 +1,12 @@
 -- What a token is to the grammar: a keyword, a name, a number or a sign.
 use Rattle.std.specs.Prelude.{ℕ, List, [], ◌∷◌, if◌then◌else◌, codes}
-use Rattle.ub_page.specs.Name.{is_word}
 use Rattle.ub_lexer.specs.declared.token.TokenKind.{TokenKind}
 use Rattle.ub_lexer.specs.declared.token.TokenKind.TheVariants as kind
-use Rattle.ub_syntax.specs.declared.symbol.Operator.TheVariants.{Equal, NotEqual, Less, AtMost, Greater, AtLeast}
-use Rattle.ub_syntax.specs.declared.symbol.Aggregate.TheVariants as aggregate
+use Rattle.ub_query.specs.declared.condition.Operator.TheVariants.{Equal, NotEqual, Less, AtMost, Greater, AtLeast}
+use Rattle.ub_query.specs.declared.query.Aggregate.TheVariants as aggregate
 use Rattle.ub_syntax.specs.declared.symbol.Symbol.{Symbol}
 use Rattle.ub_syntax.specs.declared.symbol.Symbol.TheVariants.{Select, Explain, From, Where, And, Or, Not, Between, Group, Order, By, Ascending, Descending, Limit, Count, Aggregate, Name, Number, Comma, Open, Close, Star, Operator, Minus, Other}
+use Rattle.ub_table.specs.Name.{is_word}
 
 -- the words of the language and what each is; those of the last line are kept for later
 unfoldable pub keywords : List (List ℕ × Symbol)

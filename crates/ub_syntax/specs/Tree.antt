@@ -2,7 +2,7 @@
 use Rattle.std.specs.Prelude.{Bool, List, Option}
 use Rattle.std.specs.Option.{option_map}
 use Rattle.ub_lexer.specs.declared.token.Token.{Token}
-use Rattle.ub_syntax.specs.declared.symbol.Operator.{Operator}
+use Rattle.ub_query.specs.declared.condition.Operator.{Operator}
 use Rattle.ub_syntax.specs.declared.syntax.Literal.{Literal}
 use Rattle.ub_syntax.specs.declared.syntax.OrderKey.{OrderKey}
 use Rattle.ub_syntax.specs.declared.syntax.Selection.{Selection}

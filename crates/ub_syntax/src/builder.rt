@@ -2,16 +2,17 @@ ghost use Rattle.std.specs.Prelude.{◌≡◌, ◌↔◌, ◌≤◌, [], ◌∷�
 ghost use Rattle.std.specs.Option.{option_map};
 ghost use Rattle.ub_lexer.specs.Tokens.{AreSpelled};
 ghost use Rattle.ub_syntax.specs.Grammar.{lexemes, AreJoined, IsToken, IsLiteral, IsComparison, IsOperand, IsCondition, IsItem, IsSelection, IsKey, IsOptional, IsFilter, IsGroup, IsOrder, IsLimit, IsStatement, IsChain};
+ghost use Rattle.ub_syntax.specs.Limits.{past_limits};
 ghost use Rattle.ub_syntax.specs.Reading.{first_symbol, Reads, Advances, Accepts};
-ghost use Rattle.ub_syntax.specs.declared.symbol.Operator.{Operator};
+ghost use Rattle.ub_query.specs.declared.condition.Operator.{Operator};
 ghost use Rattle.ub_syntax.specs.Tree.{Select, shape, select_of, both};
 
-use crate::items::Items;
-use crate::symbol::{Operator, Symbol, symbol_of};
+use crate::symbol::{Symbol, symbol_of};
 use crate::syntax::{Condition, Item, Literal, OrderKey, Selection, Syntax};
 use std::alloc::{AllocError, Global};
 use std::marker::Model;
 use ub_lexer::{Token, TokenKind};
+use ub_query::{Items, Operator};
 
 // What is read past the last token, where the reader of a statement never comes.
 const NO_TOKEN: Token = Token {
@@ -148,7 +149,8 @@ impl<'a> Reader<'a> {
     // Operands joined by AND.
     #[cycle(condition)]
     fn conjunction(&mut self, alloc: Global, depth: u8) -> Result<Condition, AllocError>
-        ensures reads { IfOk result (λ c. Reads (IsChain Symbol.And both (IsOperand depth)) (Symbol.And ∷ []) self.old (shape c) self.new) }
+        ensures reads { IfOk result (λ c. Reads (IsChain Symbol.And both (IsOperand depth))
+            (Symbol.And ∷ []) self.old (shape c) self.new) }
         ensures shorter { length self.new ≤ length self.old }
     {
         let mut all = self.operand(alloc, depth)?;
@@ -162,7 +164,8 @@ impl<'a> Reader<'a> {
     // Conjunctions joined by OR.
     #[cycle(condition)]
     fn condition(&mut self, alloc: Global, depth: u8) -> Result<Condition, AllocError>
-        ensures reads { IfOk result (λ c. Reads (IsCondition depth) (Symbol.Or ∷ Symbol.And ∷ []) self.old (shape c) self.new) }
+        ensures reads { IfOk result
+            (λ c. Reads (IsCondition depth) (Symbol.Or ∷ Symbol.And ∷ []) self.old (shape c) self.new) }
         ensures shorter { length self.new ≤ length self.old }
     {
         let mut all = self.conjunction(alloc, depth)?;
@@ -194,7 +197,8 @@ impl<'a> Reader<'a> {
 
     // Items with commas between them.
     fn items(&mut self, alloc: Global) -> Result<Vec<Item>, AllocError>
-        ensures { IfOk result (λ v. Reads (AreJoined Symbol.Comma IsItem) (Symbol.Comma ∷ []) self.old v.items self.new) }
+        ensures { IfOk result
+            (λ v. Reads (AreJoined Symbol.Comma IsItem) (Symbol.Comma ∷ []) self.old v.items self.new) }
     {
         let mut items = Vec::new(alloc);
         items.push(self.item())?;
@@ -217,7 +221,8 @@ impl<'a> Reader<'a> {
 
     // WHERE and a condition, or nothing.
     fn filter(&mut self, alloc: Global) -> Result<Option<Condition>, AllocError>
-        ensures { IfOk result (λ f. Reads (IsOptional (IsFilter 64)) (Symbol.Where ∷ Symbol.Or ∷ Symbol.And ∷ []) self.old (option_map shape f) self.new) }
+        ensures { IfOk result (λ f. Reads (IsOptional (IsFilter 64))
+            (Symbol.Where ∷ Symbol.Or ∷ Symbol.And ∷ []) self.old (option_map shape f) self.new) }
     {
         if !self.accept(Symbol::Where) {
             return Ok(None);
@@ -228,7 +233,8 @@ impl<'a> Reader<'a> {
 
     // Names with commas between them.
     fn names(&mut self, alloc: Global) -> Result<Vec<Token>, AllocError>
-        ensures { IfOk result (λ v. Reads (AreJoined Symbol.Comma (IsToken Symbol.Name)) (Symbol.Comma ∷ []) self.old v.items self.new) }
+        ensures { IfOk result (λ v. Reads (AreJoined Symbol.Comma (IsToken Symbol.Name))
+            (Symbol.Comma ∷ []) self.old v.items self.new) }
     {
         let mut names = Vec::new(alloc);
         names.push(self.advance())?;
@@ -240,7 +246,8 @@ impl<'a> Reader<'a> {
 
     // GROUP BY and names, or nothing.
     fn group(&mut self, alloc: Global) -> Result<Vec<Token>, AllocError>
-        ensures { IfOk result (λ v. Reads IsGroup (Symbol.Group ∷ Symbol.Comma ∷ []) self.old v.items self.new) }
+        ensures { IfOk result
+            (λ v. Reads IsGroup (Symbol.Group ∷ Symbol.Comma ∷ []) self.old v.items self.new) }
     {
         if !self.accept(Symbol::Group) {
             return Ok(Vec::new(alloc));
@@ -267,7 +274,8 @@ impl<'a> Reader<'a> {
 
     // Keys with commas between them.
     fn keys(&mut self, alloc: Global) -> Result<Vec<OrderKey>, AllocError>
-        ensures { IfOk result (λ v. Reads (AreJoined Symbol.Comma IsKey) (Symbol.Comma ∷ Symbol.Descending ∷ Symbol.Ascending ∷ []) self.old v.items self.new) }
+        ensures { IfOk result (λ v. Reads (AreJoined Symbol.Comma IsKey)
+            (Symbol.Comma ∷ Symbol.Descending ∷ Symbol.Ascending ∷ []) self.old v.items self.new) }
     {
         let mut keys = Vec::new(alloc);
         keys.push(self.key())?;
@@ -279,7 +287,9 @@ impl<'a> Reader<'a> {
 
     // ORDER BY and keys, or nothing.
     fn order(&mut self, alloc: Global) -> Result<Vec<OrderKey>, AllocError>
-        ensures { IfOk result (λ v. Reads IsOrder (Symbol.Order ∷ Symbol.Comma ∷ Symbol.Descending ∷ Symbol.Ascending ∷ []) self.old v.items self.new) }
+        ensures { IfOk result (λ v. Reads IsOrder
+            (Symbol.Order ∷ Symbol.Comma ∷ Symbol.Descending ∷ Symbol.Ascending ∷ [])
+            self.old v.items self.new) }
     {
         if !self.accept(Symbol::Order) {
             return Ok(Vec::new(alloc));
@@ -325,12 +335,15 @@ impl<'a> Reader<'a> {
 }
 
 /// The syntax of the statement that the tokens are, with at most 64 parentheses and NOTs round a place of its condition
-/// (the caller's condition, which `recognise` tells). There is no other: tokens are one statement at most. `AllocError`
-/// only where memory is refused.
+/// (the caller's condition, which `recognise` tells) and at most 64 comparisons in it (another one, which `too_many` tells),
+/// so that its tree is at most 128 high. There is no other syntax: tokens are one statement at most. `AllocError` only
+/// where memory is refused.
 pub fn build(alloc: Global, source: &[u8], tokens: &[Token]) -> Result<Syntax, AllocError>
     requires spelled { AreSpelled source.now tokens.now }
     requires statement { (s : Select) × IsStatement 64 (lexemes source.now tokens.now) s }
-    ensures { (s : Select) → IsStatement 64 (lexemes source.now tokens.now) s → IfOk result (λ r. select_of r ≡ s) }
+    requires few { (s : Select) → IsStatement 64 (lexemes source.now tokens.now) s → past_limits s ≡ [] }
+    ensures { (s : Select) → IsStatement 64 (lexemes source.now tokens.now) s
+        → IfOk result (λ r. select_of r ≡ s) }
 {
     let mut reader = Reader {
         source,
@@ -342,20 +355,22 @@ pub fn build(alloc: Global, source: &[u8], tokens: &[Token]) -> Result<Syntax, A
 #[cfg(test)]
 mod tests {
     use super::*;
+    use crate::limits::too_many;
     use crate::recogniser::{Verdict, recognise};
-    use crate::symbol::Aggregate;
     use std::test::Fail;
     use ub_lexer::lex;
+    use ub_query::Aggregate;
 
-    // The syntax of a source of one statement, if it is one.
+    // The syntax of a source of one statement, if it is one within the limits.
     fn syntax_of(alloc: Global, source: &[u8]) -> Result<Option<Syntax>, AllocError> {
         let tokens = lex(alloc, source)?;
-        if tokens.is_empty() {
+        let tokens = tokens.as_slice();
+        if tokens.is_empty() || recognise(alloc, source, tokens)? != Verdict::Statement {
             return Ok(None);
         }
-        match recognise(alloc, source, &tokens)? {
-            Verdict::Statement => Ok(Some(build(alloc, source, &tokens)?)),
-            _ => Ok(None),
+        match too_many(source, tokens) {
+            Some(_) => Ok(None),
+            None => Ok(Some(build(alloc, source, tokens)?)),
         }
     }
 

@@ -6,14 +6,15 @@
 #![tactic(auto)]
 
 mod builder;
-mod items;
+mod limits;
 mod machine;
 pub mod recogniser;
 pub mod symbol;
 pub mod syntax;
 
 pub use builder::build;
-pub use items::Items;
+pub use limits::too_many;
 pub use recogniser::{Verdict, recognise};
-pub use symbol::{Aggregate, Operator, Symbol, symbol_of};
+pub use symbol::{Symbol, symbol_of};
 pub use syntax::{Condition, Item, Literal, OrderKey, Selection, Syntax};
+pub use ub_query::{Aggregate, Items, Operator};

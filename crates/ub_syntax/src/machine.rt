@@ -115,7 +115,9 @@ impl Machine {
 
     /// Reads a symbol. After an error nothing more is to be read.
     pub fn read(&mut self, symbol: Symbol) -> Result<Result<(), Refusal>, AllocError>
-        ensures { IfOk result (λ answer. MatchResult answer (λ _. spec.step 64 self.old symbol ≡ Ok self.new) (λ refusal. spec.step 64 self.old symbol ≡ Err refusal)) }
+        ensures { IfOk result (λ answer. MatchResult answer
+            (λ _. spec.step 64 self.old symbol ≡ Ok self.new)
+            (λ refusal. spec.step 64 self.old symbol ≡ Err refusal)) }
     {
         match advance(self.goals.pop(), self.rest, symbol) {
             Ok(turn) => {

@@ -2,6 +2,7 @@ ghost use Rattle.std.specs.Prelude.{◌≡◌, ◌<◌, length, IfOk};
 ghost use Rattle.ub_lexer.specs.Tokens.{AreSpelled};
 ghost use Rattle.ub_syntax.specs.Grammar.{lexemes};
 ghost use Rattle.ub_syntax.specs.Verdicts.{IsVerdict, refused_at};
+ghost use Rattle.ub_syntax.specs.declared.recogniser.Verdict.{Verdict};
 
 use crate::machine::{Machine, Refusal};
 use crate::symbol::symbol_of;
@@ -25,7 +26,10 @@ pub enum Verdict {
 pub fn recognise(alloc: Global, source: &[u8], tokens: &[Token]) -> Result<Verdict, AllocError>
     requires some { 0 < length tokens.now }
     requires spelled { AreSpelled source.now tokens.now }
-    ensures { IfOk result (λ verdict. IsVerdict 64 (lexemes source.now tokens.now) verdict) }
+    ensures verdict { IfOk result (λ verdict. IsVerdict 64 (lexemes source.now tokens.now) verdict) }
+    // there is no other
+    ensures only { (v : Verdict) → IsVerdict 64 (lexemes source.now tokens.now) v
+        → IfOk result (λ verdict. verdict ≡ v) }
 {
     let mut machine = Machine::new(alloc);
     for token in tokens {

@@ -1,27 +1,10 @@
-ghost use Rattle.std.specs.Prelude.{◌≡◌, ◌≤◌, length, map};
+ghost use Rattle.std.specs.Prelude.{◌≡◌, ◌≤◌, ◌↔◌, false, length, map};
 ghost use Rattle.ub_lexer.specs.Tokens.{text_of};
 ghost use Rattle.ub_syntax.specs.Symbols as spec;
+ghost use Rattle.ub_table.specs.Name.{is_keyword};
 
 use ub_lexer::{Token, TokenKind};
-
-/// How two values are compared.
-#[derive(Clone, Copy, PartialEq, Eq, Debug)]
-pub enum Operator {
-    Equal,
-    NotEqual,
-    Less,
-    AtMost,
-    Greater,
-    AtLeast,
-}
-
-/// What is taken of a column's values.
-#[derive(Clone, Copy, PartialEq, Eq, Debug)]
-pub enum Aggregate {
-    Sum,
-    Min,
-    Max,
-}
+use ub_query::{Aggregate, Operator};
 
 /// What a token is to the grammar.
 #[derive(Clone, Copy, PartialEq, Eq, Debug)]
@@ -88,7 +71,10 @@ const KEYWORDS: [(&str, Symbol); 22] = [
 pub fn symbol_of(source: &[u8], token: &Token) -> Symbol
     requires span { token.now.from ≤ token.now.to }
     requires within { token.now.to ≤ length source.now }
-    ensures { result ≡ spec.symbol token.now.kind (text_of source.now token.now) }
+    ensures symbol { result ≡ spec.symbol token.now.kind (text_of source.now token.now) }
+    // what no name may be is a keyword here, and nothing else
+    ensures keywords { token.now.kind ≡ TokenKind.Word
+        → (result ≡ Symbol.Name) ↔ (is_keyword (text_of source.now token.now) ≡ false) }
 {
     match token.kind {
         TokenKind::Word => symbol_among(&KEYWORDS, &source[token.from..token.to]),

@@ -1,6 +1,5 @@
-use crate::items::Items;
-use crate::symbol::{Aggregate, Operator};
 use ub_lexer::Token;
+use ub_query::{Aggregate, Items, Operator};
 
 /// The syntax of one statement, a SELECT that EXPLAIN may stand before. Its names and numbers are the tokens that spell
 /// them.

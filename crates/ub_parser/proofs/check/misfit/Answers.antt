@@ -12,22 +12,22 @@ returns-in-Some-not_grouped-clause-first c =
     let source = c.args.source.now in
     let schema = c.args.schema.now in
     let s = select_of c.args.syntax.now in
-    first_grouped source schema s (no_many source schema s c.too_many.result c.too_many.ensures c.in_default.is)
-    (no_table source schema s c.is_unknown_table.result c.is_unknown_table.ensures c.if-is_unknown_table.false) (no_column source schema s c.in_default-unknown_column.ensures)
+    first_grouped source schema s (no_many source schema s c.requires.few)
+    (no_table source schema s c.is_unknown_table.result c.is_unknown_table.ensures c.if-is_unknown_table.false) (no_column source schema s c.in_default.ensures)
     c.in-Some-not_grouped.token c.in-Some-not_grouped.ensures.0 c.in-Some-not_grouped.ensures.1
 
 pub not_selected-requires : goal.not_selected-requires
 not_selected-requires c =
     all_columns c.args.source.now c.args.schema.now (names (select_of c.args.syntax.now)) c.requires.names
-    (all_known c.args.source.now c.args.schema.now (select_of c.args.syntax.now) c.in_default-unknown_column.ensures)
+    (all_known c.args.source.now c.args.schema.now (select_of c.args.syntax.now) c.in_default.ensures)
 
 pub returns-in-Some-not_selected-clause-first : goal.returns-in-Some-not_selected-clause-first
 returns-in-Some-not_selected-clause-first c =
     let source = c.args.source.now in
     let schema = c.args.schema.now in
     let s = select_of c.args.syntax.now in
-    first_selected source schema s (no_many source schema s c.too_many.result c.too_many.ensures c.in_default.is)
-    (no_table source schema s c.is_unknown_table.result c.is_unknown_table.ensures c.if-is_unknown_table.false) (no_column source schema s c.in_default-unknown_column.ensures)
+    first_selected source schema s (no_many source schema s c.requires.few)
+    (no_table source schema s c.is_unknown_table.result c.is_unknown_table.ensures c.if-is_unknown_table.false) (no_column source schema s c.in_default.ensures)
     (no_grouped source schema s c.in_default-not_grouped.ensures) c.in-Some-not_selected.key c.first_token.result.from c.in-Some-not_selected.ensures (ap (λ (t : Token). t.from) c.first_token.ensures)
 
 pub returns-clause-first : goal.returns-clause-first
@@ -35,9 +35,9 @@ returns-clause-first c =
     let source = c.args.source.now in
     let schema = c.args.schema.now in
     let s = select_of c.args.syntax.now in
-    no_misfit source schema s (no_many source schema s c.too_many.result c.too_many.ensures c.in_default.is)
-    (no_table source schema s c.is_unknown_table.result c.is_unknown_table.ensures c.if-is_unknown_table.false) (no_column source schema s c.in_default-unknown_column.ensures)
+    no_misfit source schema s (no_many source schema s c.requires.few)
+    (no_table source schema s c.is_unknown_table.result c.is_unknown_table.ensures c.if-is_unknown_table.false) (no_column source schema s c.in_default.ensures)
     (no_grouped source schema s c.in_default-not_grouped.ensures) (no_selected source schema s c.in_default-not_selected.ensures)
 
 pub returns-clause-known : goal.returns-clause-known
-returns-clause-known c = all_known c.args.source.now c.args.schema.now (select_of c.args.syntax.now) c.in_default-unknown_column.ensures
+returns-clause-known c = all_known c.args.source.now c.args.schema.now (select_of c.args.syntax.now) c.in_default.ensures

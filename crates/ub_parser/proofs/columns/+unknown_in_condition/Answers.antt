@@ -4,7 +4,7 @@ use Rattle.ub_lexer.specs.declared.token.Token.{Token}
 use Rattle.ub_syntax.specs.Tree.{shape}
 use Rattle.ub_syntax.specs.declared.syntax.Condition.{Condition}
 use Rattle.ub_parser.specs.Known.{IsUnknown}
-use Rattle.ub_parser.specs.Refusals.{compared}
+use Rattle.ub_syntax.specs.Limits.{compared}
 use Rattle.ub_parser.proofs.FirstFacts.{first_same, first_joined}
 use Rattle.ub_parser.proofs.columns.+unknown_in_condition.Goals as goal
 

@@ -8,11 +8,12 @@ use Rattle.ub_syntax.specs.Tree.{select_of, shape}
 use Rattle.ub_syntax.specs.declared.syntax.Item.{Item}
 use Rattle.ub_syntax.specs.declared.syntax.OrderKey.{OrderKey}
 use Rattle.ub_parser.specs.Known.{IsUnknown}
-use Rattle.ub_parser.specs.Refusals.{comparisons, item_names, key_items, listed, names, names_in}
+use Rattle.ub_syntax.specs.Limits.{comparisons, key_items, listed}
+use Rattle.ub_parser.specs.Refusals.{item_names, names, names_in}
 use Rattle.ub_parser.specs.Spans.{IsWithin}
 use Rattle.ub_parser.proofs.FirstFacts.{first_same, first_joined}
 use Rattle.ub_parser.proofs.KnownFacts.{names_of_items, names_of_filter, names_of_group, names_of_keys, within_filter}
-use Rattle.ub_parser.proofs.LimitFacts.{from_left}
+use Rattle.ub_parser.proofs.FirstFacts.{from_left}
 use Rattle.ub_parser.proofs.columns.unknown_column.Goals as goal
 
 pub unknown_in_items-item-requires : goal.unknown_in_items-item-requires

@@ -2,7 +2,7 @@ use Rattle.std.proofs.Common.{◌≢◌, map, Contains, IsTrue, false, ◌↔◌
 use Rattle.std.proofs.lemmas.List.Elements.{All-more}
 use Rattle.ub_syntax.specs.declared.syntax.Item.{Item}
 use Rattle.ub_parser.specs.Sense.{item_of}
-use Rattle.ub_parser.specs.declared.query.Item.{Item as Meant}
+use Rattle.ub_query.specs.declared.query.Item.{Item as Meant}
 use Rattle.ub_parser.proofs.FirstFacts.{fails}
 use Rattle.ub_parser.proofs.GroupFacts.{no_image}
 use Rattle.ub_parser.proofs.grouping.is_selected.Goals as goal

@@ -5,7 +5,8 @@ use Rattle.ub_syntax.specs.Tree.{select_of}
 use Rattle.ub_syntax.specs.declared.syntax.Item.{Item}
 use Rattle.ub_syntax.specs.declared.syntax.OrderKey.{OrderKey}
 use Rattle.ub_parser.specs.Known.{IsColumn, IsKnownItem}
-use Rattle.ub_parser.specs.Refusals.{IsUnselected, key_items}
+use Rattle.ub_syntax.specs.Limits.{key_items}
+use Rattle.ub_parser.specs.Refusals.{IsUnselected}
 use Rattle.ub_parser.proofs.FirstFacts.{first_same}
 use Rattle.ub_parser.proofs.KnownFacts.{names_of_items, names_of_keys}
 use Rattle.ub_parser.proofs.grouping.not_selected.Goals as goal

@@ -1,8 +1,14 @@
-use Rattle.std.proofs.Common.{◌≡◌, ◌∙◌, inl, inr, refl, sym}
+use Rattle.std.proofs.Common.{◌∙◌, inr, length, sym, subst}
+use Rattle.ub_query.specs.Posed.{IsPosed}
+use Rattle.ub_query.specs.Shape.{Asked}
+use Rattle.ub_syntax.specs.Grammar.{lexemes}
+use Rattle.ub_parser.specs.Known.{IsAskedOver}
+use Rattle.ub_parser.proofs.KnownFacts.{are_columns, known_filter, known_limit}
+use Rattle.ub_parser.proofs.PosedFacts.{posed}
 use Rattle.ub_syntax.specs.Tree.{select_of}
-use Rattle.ub_parser.specs.Outcome.{told, IsAccepted}
+use Rattle.ub_parser.specs.Outcome.{told}
 use Rattle.ub_parser.proofs.FaultFacts.{fits, misfit_first}
-use Rattle.ub_parser.proofs.ParseFacts.{nothing_accepted, is_statement, are_written, table_within, accepted_only}
+use Rattle.ub_parser.proofs.ParseFacts.{nothing_accepted, is_statement, are_written, table_within, accepted_only, only_misfit}
 use Rattle.ub_parser.proofs.parser.sense.Goals as goal
 
 pub misfit-requires-clause-table : goal.misfit-requires-clause-table
@@ -48,3 +54,27 @@ pub returns-clause-only : goal.returns-clause-only
 returns-clause-only c = λ t accepted.
     accepted_only c.args.source.now c.args.schema.now c.args.tokens.now (select_of c.in_ok-syntax.syntax) c.in_ok-syntax.ensures (told c.statement.result) t accepted
     c.statement.ensures.explained (c.statement.ensures.asked ∙ c.in_ok-query.ensures.asked)
+
+pub returns-in-Some-clause-only_fault : goal.returns-in-Some-clause-only_fault
+returns-in-Some-clause-only_fault c =
+    let is = is_statement c.args.source.now c.args.schema.now c.args.tokens.now (select_of c.in_ok-syntax.syntax) c.in_ok-syntax.ensures c.requires.statement in
+    only_misfit c.args.source.now c.args.schema.now c.args.tokens.now (select_of c.in_ok-syntax.syntax) c.in_ok-syntax.ensures c.in-Some.fault
+    (misfit_first c.args.source.now c.args.schema.now c.args.tokens.now (select_of c.in_ok-syntax.syntax) c.requires.bytes c.requires.numbers is c.in_ok-syntax.ensures
+    c.in-Some.fault c.in-Some.ensures.first)
+
+pub misfit-requires-clause-few : goal.misfit-requires-clause-few
+misfit-requires-clause-few c =
+    c.requires.few (select_of c.in_ok-syntax.syntax)
+    (is_statement c.args.source.now c.args.schema.now c.args.tokens.now (select_of c.in_ok-syntax.syntax) c.in_ok-syntax.ensures c.requires.statement)
+
+pub returns-clause-posed : goal.returns-clause-posed
+returns-clause-posed c =
+    let source = c.args.source.now in
+    let schema = c.args.schema.now in
+    let s = select_of c.in_ok-syntax.syntax in
+    let is = is_statement source schema c.args.tokens.now s c.in_ok-syntax.ensures c.requires.statement in
+    let written = are_written source schema c.args.tokens.now s c.requires.spelled c.requires.numbers is in
+    let known = known_filter source schema s written (are_columns source schema s written c.in_default.ensures.known) in
+    let over = subst (λ (x : Asked). IsAskedOver (length schema.columns) x) c.in_ok-query.ensures.asked c.in_ok-query.ensures.over in
+    subst (λ (x : Asked). IsPosed (length schema.columns) x) (sym (c.statement.ensures.asked ∙ c.in_ok-query.ensures.asked))
+    (posed source schema s c.in_default.ensures.first (lexemes source c.args.tokens.now) is known (known_limit source schema s written) over)

@@ -2,7 +2,7 @@
 use Rattle.std.proofs.Common.{◌≡◌, take, map, length}
 use Rattle.std.specs.List.{All}
 use Rattle.ub_parser.specs.Sense.{item_of}
-use Rattle.ub_parser.specs.Shape.{IsItemOver}
+use Rattle.ub_query.specs.Posed.{IsItemOver}
 use Rattle.ub_parser.proofs.sense.listed.Given as goal
 
 abbrev pub invariant-loop-item : goal.invariant-loop-item

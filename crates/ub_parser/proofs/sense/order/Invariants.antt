@@ -2,7 +2,7 @@
 use Rattle.std.proofs.Common.{◌≡◌, take, map, length}
 use Rattle.std.specs.List.{All}
 use Rattle.ub_parser.specs.Sense.{key_of}
-use Rattle.ub_parser.specs.Shape.{IsItemOver}
+use Rattle.ub_query.specs.Posed.{IsItemOver}
 use Rattle.ub_parser.proofs.sense.order.Given as goal
 
 abbrev pub invariant-loop-key : goal.invariant-loop-key
