@@ -5,12 +5,12 @@ use Rattle.std.proofs.lemmas.Slice.Eq.{bytes_eq-Decides}
 use Rattle.std.proofs.Math.Seq.{take-suc-set}
 use Rattle.std.specs.List.{enumerate_from, list_any}
 use Rattle.std.specs.Str.{bytes_eq}
-use Rattle.ub_page.specs.Name.{is_name}
-use Rattle.ub_page.specs.Schema.{AreCounts, AreDistinct}
 use Rattle.ub_load.specs.Refusals.{first_of, header_refusals, name_refusal}
 use Rattle.ub_load.specs.declared.fault.LoadFault.{LoadFault}
 use Rattle.ub_load.specs.declared.fault.LoadFault.TheVariants.{BadName, ColumnCount}
 use Rattle.ub_load.proofs.RefusalFacts.{take_one}
+use Rattle.ub_table.specs.Name.{is_name}
+use Rattle.ub_table.specs.Schema.{AreCounts, AreDistinct}
 
 pub get-map : {X Y : Type 0} (h : X → Y) (xs : List X) (i : ℕ) (x : X) → slice_get xs i ≡ Some x → slice_get (map h xs) i ≡ Some (h x)
 get-map h [] i x e = cc

@@ -3,5 +3,6 @@ pub mod RefusalFacts
 pub mod RowFacts
 pub mod CsvFacts
 pub mod HeaderFacts
+pub mod ToldFacts
 pub mod LoadFacts
 pub mod PutFacts

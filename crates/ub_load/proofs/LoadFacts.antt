@@ -1,5 +1,5 @@
 -- What has been read of a text: the records so far, and the tree that holds the rows of those after the header.
-use Rattle.std.proofs.Common.{Bor, ◌≡◌, ◌≢◌, ◌≤◌, ◌<◌, ◌+◌, ℕ, false, List, [], ◌∷◌, ◌++◌, length, map, Option, Some, None, Ok, refl, sym, ap, subst, ◌∙◌, arith, append_assoc, length-append, inl, inr}
+use Rattle.std.proofs.Common.{Bor, ◌≡◌, ◌≤◌, ◌<◌, ◌+◌, ℕ, false, List, [], ◌∷◌, ◌++◌, length, map, Option, Some, None, Ok, refl, sym, ap, subst, ◌∙◌, arith, append_assoc, length-append, inl, inr}
 use Rattle.std.proofs.lemmas.List.{map-append, length-map}
 use Rattle.std.proofs.lemmas.List.FromFn.{length-enumerate_from}
 use Rattle.std.specs.List.{enumerate_from, flat_map}
@@ -11,26 +11,26 @@ use Rattle.csv.specs.declared.iter.ByteRecordsIntoIter.{ByteRecordsIntoIter}
 use Rattle.csv.specs.declared.parser.State.TheVariants as st
 use Rattle.csv.specs.declared.reader.Reader.{Reader}
 use Rattle.csv.specs.declared.reader.Trim.TheVariants as trim
-use Rattle.ub_page.specs.Region.{Region, IsRow, measures_of}
-use Rattle.ub_page.specs.declared.row.Row.{Row}
-use Rattle.ub_page.specs.declared.schema.Schema.{Schema}
 use Rattle.ub_store.specs.Facts.{StoreFacts, IsHonest}
 use Rattle.ub_tree.specs.Calls.{IsCreated}
 use Rattle.ub_tree.specs.Change.{IsInserted}
-use Rattle.ub_tree.specs.Keys.{origin}
-use Rattle.ub_tree.specs.Regions.{AreTableRows, insert}
-use Rattle.ub_tree.specs.View.{TreeView, IsSound, KeepsTrace, regions}
-use Rattle.ub_tree.proofs.TableFacts.{insert_table}
+use Rattle.ub_tree.specs.View.{TreeView, IsSound, regions}
 use Rattle.ub_load.specs.Field.{trimmed}
 use Rattle.ub_load.specs.LoadedTable.{records_of, row_of, rows_of}
 use Rattle.ub_load.specs.LoadedTree.{IsLoadedTree, insert_all, loaded_regions}
-use Rattle.ub_load.specs.Refusals.{first_of, first_refusal, fault_of, header_refusals, record_refusals, refusals}
+use Rattle.ub_load.specs.Loading.{HasTaken, IsAtWork, IsLoadFault, IsTakeFault}
+use Rattle.ub_load.proofs.ToldFacts.{told_after}
+use Rattle.ub_load.specs.Refusals.{first_of, first_refusal, header_refusals, record_refusals, refusals}
 use Rattle.ub_load.specs.declared.fault.LoadFault.{LoadFault}
-use Rattle.ub_load.specs.declared.fault.LoadFault.TheVariants.{Csv, Memory, NoHeader}
-use Rattle.csv.specs.declared.error.ErrorKind.{ErrorKind}
-use Rattle.csv.specs.declared.error.ErrorKind.TheVariants as kind
+use Rattle.ub_load.specs.declared.fault.LoadFault.TheVariants.{NoHeader}
 use Rattle.ub_load.proofs.CsvFacts.{AreRecords-records, Reached-front}
 use Rattle.ub_load.proofs.RefusalFacts.{enumerate_from-append, first-here, first-skip, flat-more, flat-refused}
+use Rattle.ub_region.proofs.TableFacts.{insert_table}
+use Rattle.ub_region.specs.Regions.{AreTableRows, insert}
+use Rattle.ub_table.specs.Keys.{origin}
+use Rattle.ub_table.specs.Region.{Region, IsRow, measures_of}
+use Rattle.ub_table.specs.declared.row.Row.{Row}
+use Rattle.ub_table.specs.declared.schema.Schema.{Schema}
 
 abbrev pub Source : Type 0
 Source = Bor (List ℕ)
@@ -129,9 +129,8 @@ pub record IsLoading (text : List ℕ) (dims page_rows : ℕ) (name : List ℕ) 
   pub columns_are : t.schema.columns ≡ map trimmed header
   pub dims_are : t.schema.dims ≡ dims
   pub page_rows_are : t.schema.page_rows ≡ page_rows
-  pub working : t.is_failed ≡ false
-  pub trace_is : t.trace ≡ []
-  pub fetches_are : t.fetches ≡ 0
+  pub next_is : t.next ≡ number
+  pub at_work : IsAtWork store t
   pub holds : IsHonest store → HoldsRows dims page_rows (rows_of dims taken) t
 
 -- before the first record
@@ -153,9 +152,13 @@ loading_none {text} {header} is dims page_rows name store schema t fine parts ma
       columns_are = ap (λ (s : Schema). s.columns) same ∙ parts.1;
       dims_are = ap (λ (s : Schema). s.dims) same ∙ parts.2;
       page_rows_are = ap (λ (s : Schema). s.page_rows) same ∙ parts.3;
-      working = made.working;
-      trace_is = made.trace_is;
-      fetches_are = made.fetches_are;
+      next_is = made.next_is;
+      at_work = record {
+        working = made.working;
+        can_fail = ap (λ (s : StoreFacts). s.can_fail) made.store_is;
+        trace_is = made.trace_is;
+        fetches_are = made.fetches_are;
+      };
       holds = λ honest. rw (rows_of-none dims) (holds_none dims page_rows t (made.sound honest) (made.regions_are honest) made.next_is);
     }
 
@@ -163,25 +166,14 @@ loading_none {text} {header} is dims page_rows name store schema t fine parts ma
 width_is : (t : TreeView) (header : List (List ℕ)) → t.schema.columns ≡ map trimmed header → length t.schema.columns ≡ length header
 width_is t header e = ap length e ∙ length-map header trimmed
 
--- where the store is honest, the row's number is next
-pub number_next : {text : List ℕ} {dims page_rows : ℕ} {name : List ℕ} {store : StoreFacts} {number : ℕ} {t : TreeView} {a : Reader Source} {n : ℕ}
-    → IsLoading text dims page_rows name store number t a n → IsHonest store → IsSound t × (t.next ≡ number)
-number_next {dims = dims} is honest =
-    let h = is.holds honest in
-    let next = h.next in
-    let long = length-rows_of dims is.taken in
-    let count = is.number_is in
-    (h.sound, omega arith)
-
 -- one more record
 pub loading_more : {text : List ℕ} {dims page_rows : ℕ} {name : List ℕ} {store : StoreFacts} {number : ℕ} {t : TreeView} {a : Reader Source} {n : ℕ}
-    → IsLoading text dims page_rows name store number t a n → (u : TreeView) (b : Reader Source) (m : ℕ) (r : Fields) → RowStep bytes_of a b m (Some (Ok r)) → number ≤ 16777215
-    → first_of (record_refusals t.schema.dims (length t.schema.columns) (number, fields_of r)) ≡ None → IsRow t.schema.dims (measures_of t.schema) (row_of t.schema.dims (number, fields_of r))
-    → (IsSound t → t.next ≡ number → IsInserted (row_of t.schema.dims (number, fields_of r)) t u) → u.is_failed ≡ false → u.schema ≡ t.schema → KeepsTrace t u
-    → IsLoading text dims page_rows name store (number + 1) u b m
-loading_more {text} {dims} {page_rows} {name} {store} {number} {t} is u b m r s few fine good put working schema trace =
+    → IsLoading text dims page_rows name store number t a n → (u : TreeView) (b : Reader Source) (m : ℕ) (r : Fields) → RowStep bytes_of a b m (Some (Ok r))
+    → HasTaken (number, fields_of r) t u → IsLoading text dims page_rows name store (number + 1) u b m
+loading_more {text} {dims} {page_rows} {name} {store} {number} {t} is u b m r s taken =
     let wide = width_is t is.header is.columns_are in
-    let next = number_next is in
+    let least : number ≤ 16777215 = taken.number in
+    let fine : first_of (record_refusals t.schema.dims (length t.schema.columns) (number, fields_of r)) ≡ None = taken.accepted in
     record {
       header = is.header;
       taken = is.taken ++ fields_of r ∷ [];
@@ -190,16 +182,21 @@ loading_more {text} {dims} {page_rows} {name} {store} {number} {t} is u b m r s 
       few = omega arith;
       fine = is.fine;
       accepted = flat-more (record_refusals dims (length is.header)) 1 number is.taken (fields_of r) is.number_is is.accepted (rw (is.dims_are, wide) at fine);
-      name_is = ap (λ (s : Schema). s.name) schema ∙ is.name_is;
-      columns_are = ap (λ (s : Schema). s.columns) schema ∙ is.columns_are;
-      dims_are = ap (λ (s : Schema). s.dims) schema ∙ is.dims_are;
-      page_rows_are = ap (λ (s : Schema). s.page_rows) schema ∙ is.page_rows_are;
-      working = working;
-      trace_is = trace.0 ∙ is.trace_is;
-      fetches_are = trace.1 ∙ is.fetches_are;
+      name_is = ap (λ (s : Schema). s.name) taken.schema ∙ is.name_is;
+      columns_are = ap (λ (s : Schema). s.columns) taken.schema ∙ is.columns_are;
+      dims_are = ap (λ (s : Schema). s.dims) taken.schema ∙ is.dims_are;
+      page_rows_are = ap (λ (s : Schema). s.page_rows) taken.schema ∙ is.page_rows_are;
+      next_is = taken.next ∙ ap (λ (k : ℕ). k + 1) is.next_is;
+      at_work = record {
+        working = taken.working;
+        can_fail = taken.can_fail ∙ is.at_work.can_fail;
+        trace_is = taken.trace.0 ∙ is.at_work.trace_is;
+        fetches_are = taken.trace.1 ∙ is.at_work.fetches_are;
+      };
       holds = λ honest.
           let row = row_of t.schema.dims (number, fields_of r) in
-          let more = holds_more dims page_rows (rows_of dims is.taken) row t u (is.holds honest) is.dims_are is.page_rows_are good (put (next honest).0 (next honest).1) in
+          let before = is.holds honest in
+          let more = holds_more dims page_rows (rows_of dims is.taken) row t u before is.dims_are is.page_rows_are taken.row (taken.inserted before.sound) in
           let same : rows_of dims is.taken ++ row ∷ [] ≡ rows_of dims (is.taken ++ fields_of r ∷ []) =
           rw (is.dims_are, is.number_is) (sym (rows_of-more dims is.taken (fields_of r))) in
           subst (λ (rows : List Row). HoldsRows dims page_rows rows u) same more;
@@ -217,6 +214,13 @@ refused_here {text} {dims} {page_rows} {name} {store} {number} {t} is b m r s f 
     ap (first_refusal dims name) (sym whole)
     ∙ first-skip (header_refusals dims name (map trimmed is.header)) _ is.fine
     ∙ flat-refused (record_refusals dims (length is.header)) 1 number is.taken front.0 (fields_of r) f is.number_is is.accepted (rw (is.dims_are, wide) at bad)
+
+-- what is told of a record is told of the text
+pub told_record : {text : List ℕ} {dims page_rows : ℕ} {name : List ℕ} {store : StoreFacts} {number : ℕ} {t : TreeView} {a : Reader Source} {n : ℕ}
+    → IsLoading text dims page_rows name store number t a n → (b : Reader Source) (m : ℕ) (r : Fields) → RowStep bytes_of a b m (Some (Ok r)) → (f : LoadFault)
+    → IsTakeFault (number, fields_of r) t f → IsLoadFault dims name text store f
+told_record is b m r s f h =
+    inr (told_after (refused_here is b m r s) (λ can. rw is.at_work.can_fail at can) (λ broken honest. broken (is.holds honest).sound) f h)
 
 -- a header that is refused is the first thing wrong
 pub refused_header : {text : List ℕ} {header : List (List ℕ)} {a : Reader Source} {n : ℕ} → IsAt text (header ∷ []) a n → (dims : ℕ) (name : List ℕ) (f : LoadFault)
@@ -256,15 +260,6 @@ all_loaded {text} {dims} {page_rows} {name} is b m s honest =
       table = h.table;
       next = h.next;
     }
-
--- what `csv` refuses is told by `Csv` or `Memory`
-pub of_csv : (k : ErrorKind) (f : LoadFault) (P : Type 0) → f ≡ fault_of k → f ≢ Csv → f ≢ Memory → P
-of_csv kind.OutOfMemory f P e c m = absurd (m e)
-of_csv (kind.Io x) f P e c m = absurd (c e)
-of_csv (kind.UnequalLengths pos expected len) f P e c m = absurd (c e)
-of_csv (kind.Utf8 pos why) f P e c m = absurd (c e)
-of_csv (kind.Serialize why) f P e c m = absurd (c e)
-of_csv (kind.Deserialize pos why) f P e c m = absurd (c e)
 
 -- a fresh reader of a text with no header row
 pub at_start : (text : Source) (fresh b : ReaderBuilder) (rdr : Reader Source) (it : ByteRecordsIntoIter Source)

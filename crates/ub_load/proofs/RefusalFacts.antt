@@ -6,7 +6,7 @@ use Rattle.std.proofs.lemmas.List.Elements.{filter_map-append}
 use Rattle.std.proofs.lemmas.Grind.{flat_map-append}
 use Rattle.std.proofs.lemmas.Bool.{eq-eqb, ne_eqb, le-leb, lt-leb}
 use Rattle.std.specs.Prelude.{◌==◌, nat_le, if◌then◌else◌}
-use Rattle.ub_load.specs.Refusals.{field_refusal, first_of, record_refusals}
+use Rattle.ub_load.specs.Refusals.{content_refusal, content_refusals, fields_refusal, first_of, record_refusals}
 use Rattle.ub_load.specs.declared.fault.LoadFault.TheVariants.{Csv, Tree}
 use Rattle.ub_load.specs.declared.fault.LoadFault.{LoadFault}
 use Rattle.ub_tree.specs.declared.fault.TreeFault.TheVariants as tree
@@ -93,29 +93,31 @@ module _ {X : Type 0} (g : ℕ × X → List (Option LoadFault)) where
 
 -- the parts of a record's refusals, in order
 pub record_of_other_length : (dims width number : ℕ) (fields : List (List ℕ)) → (length fields ≡ width → ⊥)
-    → first_of (record_refusals dims width (number, fields)) ≡ Some Csv
-unfolding record_refusals
+    → first_of (content_refusals dims width (number, fields)) ≡ Some Csv
+unfolding content_refusals
 record_of_other_length dims width number fields ne = let t : (length fields == width) ≡ false = ne_eqb (length fields) width ne in rw t refl
 
-pub record_with_bad_field : (dims width number : ℕ) (fields : List (List ℕ)) (f : LoadFault) → length fields ≡ width
-    → first_of (map (field_refusal dims number) (enumerate_from 0 fields)) ≡ Some f → first_of (record_refusals dims width (number, fields)) ≡ Some f
-unfolding record_refusals
-record_with_bad_field dims width number fields f long h =
-    let t : (length fields == width) ≡ true = eq-eqb (length fields) width long in
-    rw t (first-here (map (field_refusal dims number) (enumerate_from 0 fields)) ((if nat_le number 16777215 then None else Some (Tree tree.Full)) ∷ []) f h)
+pub content_is_of_fields : (dims width number : ℕ) (fields : List (List ℕ)) → length fields ≡ width
+    → content_refusal dims width (number, fields) ≡ fields_refusal dims number fields
+unfolding content_refusals
+content_is_of_fields dims width number fields long = let t : (length fields == width) ≡ true = eq-eqb (length fields) width long in rw t refl
 
-pub record_past_last : (dims width number : ℕ) (fields : List (List ℕ)) → length fields ≡ width → 16777215 < number
-    → first_of (map (field_refusal dims number) (enumerate_from 0 fields)) ≡ None → first_of (record_refusals dims width (number, fields)) ≡ Some (Tree tree.Full)
+-- what a record holds is refused before its number
+pub record_with_bad_content : (dims width : ℕ) (r : ℕ × List (List ℕ)) (f : LoadFault) → content_refusal dims width r ≡ Some f
+    → first_of (record_refusals dims width r) ≡ Some f
 unfolding record_refusals
-record_past_last dims width number fields long past h =
-    let t : (length fields == width) ≡ true = eq-eqb (length fields) width long in
-    let u : nat_le number 16777215 ≡ false = lt-leb number 16777215 past in
-    rw (t, u) (first-skip (map (field_refusal dims number) (enumerate_from 0 fields)) (Some (Tree tree.Full) ∷ []) h)
+record_with_bad_content dims width r f h = first-here (content_refusals dims width r) ((if nat_le r.0 16777215 then None else Some (Tree tree.Full)) ∷ []) f h
 
-pub record_is_fine : (dims width number : ℕ) (fields : List (List ℕ)) → length fields ≡ width → number ≤ 16777215
-    → first_of (map (field_refusal dims number) (enumerate_from 0 fields)) ≡ None → first_of (record_refusals dims width (number, fields)) ≡ None
+pub record_past_last : (dims width : ℕ) (r : ℕ × List (List ℕ)) → 16777215 < r.0 → content_refusal dims width r ≡ None
+    → first_of (record_refusals dims width r) ≡ Some (Tree tree.Full)
 unfolding record_refusals
-record_is_fine dims width number fields long le h =
-    let t : (length fields == width) ≡ true = eq-eqb (length fields) width long in
-    let u : nat_le number 16777215 ≡ true = le-leb number 16777215 le in
-    rw (t, u) (first-skip (map (field_refusal dims number) (enumerate_from 0 fields)) (None ∷ []) h)
+record_past_last dims width r past h =
+    let u : nat_le r.0 16777215 ≡ false = lt-leb r.0 16777215 past in
+    rw u (first-skip (content_refusals dims width r) (Some (Tree tree.Full) ∷ []) h)
+
+pub record_is_fine : (dims width : ℕ) (r : ℕ × List (List ℕ)) → r.0 ≤ 16777215 → content_refusal dims width r ≡ None
+    → first_of (record_refusals dims width r) ≡ None
+unfolding record_refusals
+record_is_fine dims width r le h =
+    let u : nat_le r.0 16777215 ≡ true = le-leb r.0 16777215 le in
+    rw u (first-skip (content_refusals dims width r) (None ∷ []) h)

@@ -2,10 +2,10 @@
 use Rattle.std.proofs.Common.{Bor, ◌≡◌, ◌+◌, ◌-◌, ◌<◌, ◌≤◌, ℕ, zero, suc, List, [], ◌∷◌, ◌++◌, length, take, drop, map, replicate, slice_get, slice_set, Option, Some, None, refl, sym, ap, ◌∙◌, arith, length-append, add-one}
 use Rattle.std.specs.Prelude.{ℤ, pos, nat_abs, IsSome, option_map}
 use Rattle.csv.specs.Records.{field_at}
-use Rattle.ub_page.specs.declared.row.Row.{Row}
 use Rattle.ub_load.proofs.RefusalFacts.{take_one, length-taken}
 use Rattle.ub_load.specs.Field.{trimmed, number_of}
 use Rattle.ub_load.specs.LoadedTable.{coordinates_of, measures_of, row_of}
+use Rattle.ub_table.specs.declared.row.Row.{Row}
 
 module _ {X A : Type 0} (g : X → A) (z : A) where
   -- the values of some items, and then z at each place up to the n-th

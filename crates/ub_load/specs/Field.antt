@@ -1,5 +1,5 @@
 -- What a field of a CSV record says.
-use Rattle.std.specs.Prelude.{ℕ, ◌==◌, ◌&&◌, Bool, nat_lt, ℤ, pos, negsuc, int_le, if◌then◌else◌, List, [], ◌∷◌, length, reverse}
+use Rattle.std.specs.Prelude.{◌≡◌, true, false, ℕ, ◌==◌, ◌&&◌, Bool, nat_lt, ℤ, pos, negsuc, int_le, if◌then◌else◌, List, [], ◌∷◌, length, reverse}
 use Rattle.std.specs.List.{list_all}
 use Rattle.std.specs.Char.{is_ascii_digit}
 use Rattle.std.specs.Str.Parse.{without_leading_sign, signed_digits_value}
@@ -26,3 +26,7 @@ abbrev pub fits_column : Bool → ℤ → Bool
 fits_column is_dimension v =
     if is_dimension then int_le (pos 0) v && int_le v (pos 4294967295)
     else int_le (negsuc 9223372036854775807) v && int_le v (pos 9223372036854775807)
+
+-- a number that 64 bits with sign hold
+abbrev pub IsWord : List ℕ → Type 0
+IsWord text = (is_number text ≡ true) × (fits_column false (number_of text) ≡ true)

@@ -2,3 +2,4 @@ pub mod Field
 pub mod Refusals
 pub mod LoadedTable
 pub mod LoadedTree
+pub mod Loading

@@ -2,10 +2,10 @@
 use Rattle.std.specs.Prelude.{◌≡◌, ℕ, ◌-◌, ℤ, pos, nat_abs, List, ◌∷◌, ◌++◌, length, map, take, drop, replicate, None}
 use Rattle.std.specs.List.{enumerate_from}
 use Rattle.csv.specs.Reading.{default_config, strip_bom, records}
-use Rattle.ub_page.specs.declared.row.Row.{Row}
-use Rattle.ub_page.specs.declared.schema.Schema.{Schema}
 use Rattle.ub_load.specs.Field.{trimmed, number_of}
 use Rattle.ub_load.specs.Refusals.{first_refusal}
+use Rattle.ub_table.specs.declared.row.Row.{Row}
+use Rattle.ub_table.specs.declared.schema.Schema.{Schema}
 
 -- the records of a text, each a list of fields, each a list of bytes, as `csv` reads them with its defaults; a byte
 -- order mark at the front is dropped
@@ -30,6 +30,15 @@ row_of dims r = record { number = r.0; dims = coordinates_of dims r.1; measures 
 unfoldable pub rows_of : ℕ → List (List (List ℕ)) → List Row
 rows_of dims records = map (row_of dims) (enumerate_from 1 records)
 
+-- the names of a header's columns
+abbrev pub columns_of : List (List ℕ) → List (List ℕ)
+columns_of header = map trimmed header
+
+-- the schema of a table of this name with this header
+abbrev pub IsSchemaOf : List (List ℕ) → ℕ → ℕ → List ℕ → Schema → Type 0
+IsSchemaOf header dims page_rows name s =
+    (s.name ≡ name) × (s.columns ≡ columns_of header) × (s.dims ≡ dims) × (s.page_rows ≡ page_rows)
+
 -- the text is that of a table with this schema and these rows, with nothing wrong in it
 pub record IsLoaded (text : List ℕ) (dims page_rows : ℕ) (name : List ℕ) (schema : Schema) (rows : List Row) : Type 0 where
   pub header : List (List ℕ)
@@ -37,7 +46,7 @@ pub record IsLoaded (text : List ℕ) (dims page_rows : ℕ) (name : List ℕ) (
   pub records : records_of text ≡ header ∷ rest
   pub accepted : first_refusal dims name (header ∷ rest) ≡ None
   pub name_is : schema.name ≡ name
-  pub columns_are : schema.columns ≡ map trimmed header
+  pub columns_are : schema.columns ≡ columns_of header
   pub dims_are : schema.dims ≡ dims
   pub page_rows_are : schema.page_rows ≡ page_rows
   pub rows_are : rows ≡ rows_of dims rest

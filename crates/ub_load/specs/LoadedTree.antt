@@ -1,10 +1,10 @@
 -- The tree that a CSV text is loaded into.
 use Rattle.std.specs.Prelude.{◌≡◌, ◌+◌, ℕ, List, [], ◌∷◌, length}
-use Rattle.ub_page.specs.Region.{Region}
-use Rattle.ub_page.specs.declared.row.Row.{Row}
 use Rattle.ub_load.specs.LoadedTable.{IsLoaded}
-use Rattle.ub_tree.specs.Keys.{origin}
-use Rattle.ub_tree.specs.Regions.{AreTableRows, insert}
+use Rattle.ub_region.specs.Regions.{AreTableRows, insert}
+use Rattle.ub_table.specs.Keys.{origin}
+use Rattle.ub_table.specs.Region.{Region}
+use Rattle.ub_table.specs.declared.row.Row.{Row}
 use Rattle.ub_tree.specs.View.{TreeView, IsSound, regions}
 
 -- rows put in one after the other, where a page holds c

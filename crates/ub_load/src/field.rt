@@ -1,10 +1,10 @@
 //! What one field of a record says.
 
-ghost use Rattle.std.specs.Prelude.{◌≡◌, ◌<◌, ◌^◌, ◌↔◌, reverse, true, false, nat_lt, IsSome, IfSome, MatchResult};
+ghost use Rattle.std.specs.Prelude.{◌≡◌, ◌<◌, ◌^◌, ◌↔◌, reverse, IsSome, IfSome, MatchResult};
 ghost use Rattle.std.specs.Char.{is_ascii_digit};
 ghost use Rattle.std.specs.List.{list_all};
 ghost use Rattle.std.specs.Str.Parse.{without_leading_sign};
-ghost use Rattle.ub_load.specs.Refusals.{field_refusal};
+ghost use Rattle.ub_load.specs.Refusals.{field_refusal, HoldsValue};
 ghost use Rattle.ub_load.specs.Field as spec;
 
 use crate::fault::LoadFault;
@@ -46,9 +46,9 @@ fn before_spaces(field: &[u8]) -> &[u8]
     rest
 }
 
-/// Whether the text is an optional sign (`+` or `-`) and then one digit or more.
+// Whether the text is an optional sign (`+` or `-`) and then one digit or more.
 #[tactic(auto, unfolding(crate::specs::Field::is_number))]
-pub fn is_number(text: &[u8]) -> bool
+fn is_number(text: &[u8]) -> bool
     ensures { result ≡ spec.is_number text.now }
 {
     let digits = without_sign(text);
@@ -72,10 +72,10 @@ fn without_sign(text: &[u8]) -> &[u8]
     }
 }
 
-/// The number that the text writes, where the text is a number (`is_number`) and fits 64 bits with sign.
-pub fn read_number(text: &[u8]) -> Option<i64>
+// The number that the text writes, where the text is a number (`is_number`) and fits 64 bits with sign.
+fn read_number(text: &[u8]) -> Option<i64>
     ensures value { IfSome result (λ v. v ≡ spec.number_of text.now) }
-    ensures valid { IsSome result ↔ ((spec.is_number text.now ≡ true) × (spec.fits_column false (spec.number_of text.now) ≡ true)) }
+    ensures valid { IsSome result ↔ spec.IsWord text.now }
 {
     match str::from_utf8(text) {
         Ok(text) => text.parse().ok(),
@@ -88,7 +88,7 @@ pub fn read_number(text: &[u8]) -> Option<i64>
 pub fn read_field(field: &[u8], place: usize, dims: u32, row: u32) -> Result<i64, LoadFault>
     requires { place < 2 ^ 31 }
     ensures { MatchResult result
-        (λ v. (field_refusal dims row (place, field.now) ≡ None) × (v ≡ spec.number_of (spec.trimmed field.now)) × (spec.fits_column (nat_lt place dims) v ≡ true))
+        (HoldsValue dims row (place, field.now))
         (λ f. field_refusal dims row (place, field.now) ≡ Some f) }
 {
     let text = trim_spaces(field);

@@ -1,19 +1,17 @@
 //! The header of a CSV text as the schema of the table.
 
-ghost use Rattle.std.specs.Prelude.{◌≡◌, ◌+◌, ◌≤◌, ◌<◌, ◌&&◌, not, true, false, length, map, take, IfOk, IfErr};
+ghost use Rattle.std.specs.Prelude.{◌≡◌, ◌+◌, ◌≤◌, ◌<◌, true, false, length, take, IfOk, IfErr};
 ghost use Rattle.std.specs.Result.{OnOk, OnErr};
-ghost use Rattle.std.specs.List.{enumerate_from, list_any};
-ghost use Rattle.std.specs.Str.{bytes_eq};
 ghost use Rattle.csv.specs.Records.{fields_of};
-ghost use Rattle.ub_page.specs.Name.{is_name};
 ghost use Rattle.ub_load.specs.Field.{trimmed};
-ghost use Rattle.ub_load.specs.Refusals.{first_of, header_refusals, name_refusal};
+ghost use Rattle.ub_load.specs.LoadedTable.{columns_of, IsSchemaOf};
+ghost use Rattle.ub_load.specs.Refusals.{header_refusal, is_new_name, names_refusal};
 
 use crate::fault::LoadFault;
 use crate::field::trim_spaces;
 use crate::row::field_at;
 use csv::ByteRecord;
-use ub_page::{Name, Schema};
+use ub_table::{Name, Schema};
 
 /// The schema of a table of this name whose columns are the header's fields, or the first thing that is wrong with them:
 /// `ColumnCount`, `BadName(0)` for the table's name, `BadName` for a column's.
@@ -27,10 +25,11 @@ pub fn read_schema(
     requires few_dims { dims ≤ 4 }
     requires some_rows { 2 ≤ page_rows }
     requires few_rows { page_rows ≤ 64 }
-    ensures schema { IfOk result (λ s. (s.name ≡ name.now) × (s.columns ≡ map trimmed (fields_of header.now)) × (s.dims ≡ dims) × (s.page_rows ≡ page_rows)) }
+    ensures schema { IfOk result (IsSchemaOf (fields_of header.now) dims page_rows name.now) }
     ensures few_columns { OnOk result (length (fields_of header.now) ≤ dims + 4) }
-    ensures accepted { OnOk result (first_of (header_refusals dims name.now (map trimmed (fields_of header.now))) ≡ None) }
-    ensures refused { IfErr result (λ fault. first_of (header_refusals dims name.now (map trimmed (fields_of header.now))) ≡ Some fault) }
+    ensures accepted { OnOk result (header_refusal dims name.now (columns_of (fields_of header.now)) ≡ None) }
+    ensures refused { IfErr result
+        (λ f. header_refusal dims name.now (columns_of (fields_of header.now)) ≡ Some f) }
 {
     let width = header.len();
     if width < dims as usize || width > dims as usize + 4 {
@@ -47,9 +46,10 @@ pub fn read_schema(
 // The names of the columns in the first places, and the filler in the others; or the first name's refusal.
 fn read_names(header: &ByteRecord, filler: Name) -> Result<[Name; 8], LoadFault>
     requires { length (fields_of header.now) ≤ 8 }
-    ensures names { IfOk result (λ names. take (length (fields_of header.now)) names ≡ map trimmed (fields_of header.now)) }
-    ensures accepted { OnOk result (first_of (map (name_refusal (map trimmed (fields_of header.now))) (enumerate_from 0 (map trimmed (fields_of header.now)))) ≡ None) }
-    ensures refused { IfErr result (λ fault. first_of (map (name_refusal (map trimmed (fields_of header.now))) (enumerate_from 0 (map trimmed (fields_of header.now)))) ≡ Some fault) }
+    ensures names { IfOk result
+        (λ all. take (length (fields_of header.now)) all ≡ columns_of (fields_of header.now)) }
+    ensures accepted { OnOk result (names_refusal (columns_of (fields_of header.now)) ≡ None) }
+    ensures refused { IfErr result (λ fault. names_refusal (columns_of (fields_of header.now)) ≡ Some fault) }
 {
     let mut names = [filler; 8];
     for place in 0..header.len() {
@@ -62,8 +62,8 @@ fn read_names(header: &ByteRecord, filler: Name) -> Result<[Name; 8], LoadFault>
 fn read_name(field: &[u8], place: usize, earlier: &[Name]) -> Result<Name, LoadFault>
     requires { place < 8 }
     ensures name { IfOk result (λ name. name ≡ trimmed field.now) }
-    ensures accepted { OnOk result (is_name (trimmed field.now) && not (list_any (bytes_eq (trimmed field.now)) earlier.now) ≡ true) }
-    ensures refused { OnErr result (is_name (trimmed field.now) && not (list_any (bytes_eq (trimmed field.now)) earlier.now) ≡ false) }
+    ensures accepted { OnOk result (is_new_name earlier.now (trimmed field.now) ≡ true) }
+    ensures refused { OnErr result (is_new_name earlier.now (trimmed field.now) ≡ false) }
     ensures column { IfErr result (λ fault. fault ≡ LoadFault.BadName (place + 1)) }
 {
     match Name::new(trim_spaces(field)) {

@@ -4,7 +4,7 @@
 #![tactic(auto)]
 
 pub mod fault;
-pub mod field;
+mod field;
 mod header;
 mod row;
 pub mod table;

@@ -1,39 +1,29 @@
 //! A record of a CSV text as a row of the table.
 
-ghost use Rattle.std.specs.Prelude.{◌≡◌, ◌+◌, ◌≤◌, ◌<◌, length, map, IfOk, IfErr, slice_get};
+ghost use Rattle.std.specs.Prelude.{◌≡◌, ◌+◌, ◌≤◌, ◌<◌, length, IfOk, IfErr, slice_get};
 ghost use Rattle.std.specs.Result.{OnOk};
-ghost use Rattle.std.specs.List.{enumerate_from};
 ghost use Rattle.csv.specs.Records.{fields_of};
 ghost use Rattle.ub_load.specs.LoadedTable.{row_of};
-ghost use Rattle.ub_load.specs.Refusals.{field_refusal, first_of, record_refusals};
+ghost use Rattle.ub_load.specs.Refusals.{content_refusal, fields_refusal};
 
 use crate::fault::LoadFault;
 use crate::field::read_field;
 use csv::ByteRecord;
-use ub_page::Row;
-use ub_tree::TreeFault;
-
-/// The most rows that a table has, since a row's number is less than 2^24.
-pub const MOST_ROWS: u32 = 16777215;
+use ub_table::Row;
 
 /// The row of this number that a record holds, for a table with so many dimensions and columns (the width), or the first
-/// thing that is wrong with the record: `Csv` for another length, a field's refusal, the tree's `Full` past the last row number.
+/// thing that is wrong with what it holds: `Csv` for another length, or a field's refusal.
 pub fn read_row(fields: &ByteRecord, dims: u32, width: usize, number: u32) -> Result<Row, LoadFault>
     requires few_dims { dims ≤ 4 }
     requires few_columns { width ≤ dims + 4 }
     ensures row { IfOk result (λ row. row ≡ row_of dims (number, fields_of fields.now)) }
-    ensures numbered { OnOk result (number ≤ MOST_ROWS) }
-    ensures accepted { OnOk result (first_of (record_refusals dims width (number, fields_of fields.now)) ≡ None) }
-    ensures refused { IfErr result (λ fault. first_of (record_refusals dims width (number, fields_of fields.now)) ≡ Some fault) }
+    ensures accepted { OnOk result (content_refusal dims width (number, fields_of fields.now) ≡ None) }
+    ensures refused { IfErr result (λ f. content_refusal dims width (number, fields_of fields.now) ≡ Some f) }
 {
     if fields.len() != width {
         return Err(LoadFault::Csv);
     }
-    let row = read_values(fields, dims, number)?;
-    if number > MOST_ROWS {
-        return Err(LoadFault::Tree(TreeFault::Full));
-    }
-    Ok(row)
+    read_values(fields, dims, number)
 }
 
 // The row that the record's fields make, or the first field's refusal.
@@ -41,8 +31,8 @@ fn read_values(fields: &ByteRecord, dims: u32, number: u32) -> Result<Row, LoadF
     requires few_dims { dims ≤ 4 }
     requires few_columns { length (fields_of fields.now) ≤ dims + 4 }
     ensures row { IfOk result (λ row. row ≡ row_of dims (number, fields_of fields.now)) }
-    ensures accepted { OnOk result (first_of (map (field_refusal dims number) (enumerate_from 0 (fields_of fields.now))) ≡ None) }
-    ensures refused { IfErr result (λ fault. first_of (map (field_refusal dims number) (enumerate_from 0 (fields_of fields.now))) ≡ Some fault) }
+    ensures accepted { OnOk result (fields_refusal dims number (fields_of fields.now) ≡ None) }
+    ensures refused { IfErr result (λ fault. fields_refusal dims number (fields_of fields.now) ≡ Some fault) }
 {
     let mut row = Row {
         number,

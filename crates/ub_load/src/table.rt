@@ -1,24 +1,25 @@
 //! A whole CSV text as a table in a UB-tree.
 
-ghost use Rattle.std.specs.Prelude.{◌≡◌, ◌≢◌, ◌≤◌, ◌⊎◌, [], true, false, length, Some, Err, IfOk, IfErr, IsErrOf, IsTrue};
+ghost use Rattle.std.specs.Prelude.{◌≡◌, ◌≤◌, ◌+◌, false, IfOk, IfErr};
 ghost use Rattle.std.specs.Result.{OnOk};
 ghost use Rattle.csv.specs.Records.{fields_of};
-ghost use Rattle.ub_page.specs.Region.{IsRow, measures_of};
+ghost use Rattle.ub_load.specs.LoadedTree.{IsLoadedTree};
+ghost use Rattle.ub_load.specs.Loading.{HasCounted, HasTaken, IsAtWork, IsLoadFault, IsNewFault, IsTakeFault};
 ghost use Rattle.ub_store.specs.Facts.{page_count, IsHonest};
+ghost use Rattle.ub_table.specs.Region.{IsRow, measures_of};
+ghost use Rattle.ub_table.specs.declared.row.TheConstants.{MAX_ROW_NUMBER};
 ghost use Rattle.ub_tree.specs.Calls.{IsCreated};
 ghost use Rattle.ub_tree.specs.Change.{IsInserted};
-ghost use Rattle.ub_tree.specs.View.{IsSound, KeepsTrace};
-ghost use Rattle.ub_load.specs.LoadedTable.{records_of, row_of};
-ghost use Rattle.ub_load.specs.LoadedTree.{IsLoadedTree};
-ghost use Rattle.ub_load.specs.Refusals.{first_of, first_refusal, record_refusals};
+ghost use Rattle.ub_tree.specs.Effects.{Changes};
+ghost use Rattle.ub_tree.specs.View.{IsSound};
 
 use crate::fault::LoadFault;
 use crate::header::read_schema;
-use crate::row::{MOST_ROWS, read_row};
+use crate::row::read_row;
 use csv::{ByteRecord, ReaderBuilder};
 use std::alloc::Global;
-use ub_page::{Row, Schema};
-use ub_store::{PageStore, StoreFault};
+use ub_store::PageStore;
+use ub_table::{Row, Schema};
 use ub_tree::{Tree, TreeFault};
 
 /// Loads the table of this name that a CSV text holds into a new tree over this store, which has no pages: the first record
@@ -29,8 +30,8 @@ use ub_tree::{Tree, TreeFault};
 /// The error is the first thing that is wrong, in the order of the text: `NoHeader`, `ColumnCount`, `BadName`, and then for
 /// each row `Csv` for a length other than the header's, `BadNumber` or `OutOfRange`, and `Tree` with `Full`. `Csv` comes only
 /// where `csv` refused a record, which is also where reading failed, `Memory` only where memory was refused, and `Tree` with
-/// another fault only from the store: over an honest one `Device` where it failed (never over one that can't fail), and
-/// `BadSize` where it has room for no more pages. With each refusal the store is dropped, and the rows in it.
+/// another fault only from the store: `Device` where it failed (never where it can't fail), `BadSize` where it has room for no
+/// more pages, and `NoPage` or a page's fault where it isn't honest. With each refusal the store is dropped, and the rows in it.
 pub fn load<S: PageStore>(
     alloc: Global,
     text: &[u8],
@@ -44,14 +45,9 @@ pub fn load<S: PageStore>(
     requires some_rows { 2 ≤ page_rows }
     requires few_rows { page_rows ≤ 64 }
     requires empty { page_count (S.facts store) ≡ 0 }
-    ensures loaded { IsHonest (S.facts store) → IfOk result (λ t. IsLoadedTree text.now dims page_rows name.now t) }
-    ensures working { IfOk result (λ t. (t.is_failed ≡ false) × (t.trace ≡ []) × (t.fetches ≡ 0)) }
-    // each refusal but memory, Csv and those of the store is the first thing that is wrong
-    ensures refused { IfErr result (λ f. f ≢ LoadFault.Csv → f ≢ LoadFault.Memory → ((fault : TreeFault) → f ≡ LoadFault.Tree fault → fault ≡ TreeFault.Full)
-        → first_refusal dims name.now (records_of text.now) ≡ Some f) }
-    ensures store_faults { (fault : TreeFault) → result ≡ Err (LoadFault.Tree fault) → IsHonest (S.facts store)
-        → (fault ≡ TreeFault.Full) ⊎ (fault ≡ TreeFault.Store StoreFault.Device) ⊎ (fault ≡ TreeFault.Store StoreFault.BadSize) }
-    ensures reliable { IsErrOf result (LoadFault.Tree (TreeFault.Store StoreFault.Device)) → IsTrue S.can_fail }
+    ensures loaded { IsHonest (S.facts store) → IfOk result (IsLoadedTree text.now dims page_rows name.now) }
+    ensures working { IfOk result (IsAtWork (S.facts store)) }
+    ensures refused { IfErr result (IsLoadFault dims name.now text.now (S.facts store)) }
 {
     let mut records = ReaderBuilder::new()
         .has_headers(false)
@@ -76,8 +72,7 @@ pub fn load<S: PageStore>(
 fn new_tree<S: PageStore>(alloc: Global, store: S, schema: &Schema) -> Result<Tree<S>, LoadFault>
     requires { page_count (S.facts store) ≡ 0 }
     ensures made { IfOk result (λ t. IsCreated (S.facts store) schema.now t) }
-    ensures refused { IfErr result (λ f. (f ≡ LoadFault.Memory) ⊎ (f ≡ LoadFault.Tree (TreeFault.Store StoreFault.Device))) }
-    ensures reliable { IsErrOf result (LoadFault.Tree (TreeFault.Store StoreFault.Device)) → IsTrue S.can_fail }
+    ensures refused { IfErr result (IsNewFault (S.facts store)) }
 {
     match Tree::create(alloc, store, schema) {
         Ok(tree) => Ok(tree),
@@ -91,19 +86,11 @@ fn load_record<S: PageStore>(
     fields: &ByteRecord,
     number: u32,
 ) -> Result<(), LoadFault>
-    requires { 1 ≤ number }
-    ensures numbered { OnOk result (number ≤ MOST_ROWS) }
-    ensures accepted { OnOk result (first_of (record_refusals tree.old.schema.dims (length tree.old.schema.columns) (number, fields_of fields.now)) ≡ None) }
-    ensures row { OnOk result (IsRow tree.old.schema.dims (measures_of tree.old.schema) (row_of tree.old.schema.dims (number, fields_of fields.now))) }
-    ensures inserted { IsSound tree.old → tree.old.next ≡ number → OnOk result (IsInserted (row_of tree.old.schema.dims (number, fields_of fields.now)) tree.old tree.new) }
-    ensures working { OnOk result (tree.new.is_failed ≡ false) }
-    ensures schema { tree.new.schema ≡ tree.old.schema }
-    ensures trace { KeepsTrace tree.old tree.new }
-    ensures refused { IfErr result (λ f. f ≢ LoadFault.Memory → ((fault : TreeFault) → f ≡ LoadFault.Tree fault → fault ≡ TreeFault.Full)
-        → first_of (record_refusals tree.old.schema.dims (length tree.old.schema.columns) (number, fields_of fields.now)) ≡ Some f) }
-    ensures store_faults { IsSound tree.old → tree.old.next ≡ number → IfErr result (λ f. (fault : TreeFault) → f ≡ LoadFault.Tree fault
-        → (fault ≡ TreeFault.Full) ⊎ (fault ≡ TreeFault.Store StoreFault.Device) ⊎ (fault ≡ TreeFault.Store StoreFault.BadSize)) }
-    ensures reliable { IsErrOf result (LoadFault.Tree (TreeFault.Store StoreFault.Device)) → IsTrue S.can_fail }
+    requires numbered { (1 ≤ number) × (number ≤ MAX_ROW_NUMBER + 1) }
+    requires next { tree.old.next ≡ number }
+    requires working { tree.old.is_failed ≡ false }
+    ensures taken { OnOk result (HasTaken (number, fields_of fields.now) tree.old tree.new) }
+    ensures refused { IfErr result (IsTakeFault (number, fields_of fields.now) tree.old) }
 {
     let dims = tree.schema().dims();
     let width = tree.schema().columns().len();
@@ -112,24 +99,17 @@ fn load_record<S: PageStore>(
     Ok(())
 }
 
-// Puts a row into the tree, where it gets the number that is next. The row has a number, so there is one left: a tree that
-// answers Full, or that has failed after it answered the number, is over a store that isn't honest, and is told to have failed.
+// Puts a row into the tree, where it gets the number that is next.
 fn put_row<S: PageStore>(tree: &mut Tree<S>, row: &Row) -> Result<(), TreeFault>
-    requires { IsRow tree.old.schema.dims (measures_of tree.old.schema) row.now }
-    ensures inserted { IsSound tree.old → tree.old.next ≡ row.now.number → OnOk result (IsInserted row.now tree.old tree.new) }
-    ensures working { OnOk result (tree.new.is_failed ≡ false) }
-    ensures schema { tree.new.schema ≡ tree.old.schema }
-    ensures trace { KeepsTrace tree.old tree.new }
-    ensures refused { IfErr result (λ f. f ≢ TreeFault.Full) }
-    ensures faults { IsSound tree.old → tree.old.next ≡ row.now.number
-        → IfErr result (λ f. (f ≡ TreeFault.Memory) ⊎ (f ≡ TreeFault.Store StoreFault.Device) ⊎ (f ≡ TreeFault.Store StoreFault.BadSize)) }
-    ensures reliable { IsErrOf result (TreeFault.Store StoreFault.Device) → IsTrue S.can_fail }
+    requires { tree.old.is_failed ≡ false }
+    ensures inserted { IsSound tree.old → tree.old.next ≡ row.now.number
+        → IsRow tree.old.schema.dims (measures_of tree.old.schema) row.now
+        → OnOk result (IsInserted row.now tree.old tree.new) }
+    ensures counted { OnOk result (HasCounted tree.old tree.new) }
+    ensures effect { Changes tree.old tree.new result }
 {
     let dims = tree.schema().dims() as usize;
     let measures = tree.schema().measures() as usize;
-    match tree.insert(&row.dims[..dims], &row.measures[..measures]) {
-        Ok(_) if !tree.has_failed() => Ok(()),
-        Ok(_) | Err(TreeFault::Full) => Err(TreeFault::Failed),
-        Err(fault) => Err(fault),
-    }
+    tree.insert(&row.dims[..dims], &row.measures[..measures])?;
+    Ok(())
 }

@@ -1,7 +1,7 @@
 use crate::{LoadFault, load};
 use std::test::Fail;
-use ub_page::Row;
 use ub_store::{FaultyStore, MemStore, StoreFault};
+use ub_table::Row;
 use ub_tree::{Tree, TreeFault};
 
 type MemTree = Tree<MemStore>;

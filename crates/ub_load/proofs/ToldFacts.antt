@@ -1,0 +1,194 @@
+-- What is told of a text, of a record and of a tree. None of the refusals of a header or of what a record holds is one of the tree.
+use Rattle.std.proofs.Common.{◌⊎◌, ◌≡◌, ◌≢◌, ◌+◌, ◌==◌, ℕ, false, List, [], ◌∷◌, length, take, map, Option, Some, None, refl, ap, subst, inl, inr}
+use Rattle.std.specs.Prelude.{IfSome, IsTrue, nat_lt, ◌&&◌, ◌||◌, not, if◌then◌else◌}
+use Rattle.std.specs.List.{AllByRecursion, enumerate_from, list_any}
+use Rattle.std.specs.Str.{bytes_eq}
+use Rattle.csv.specs.declared.error.ErrorKind.{ErrorKind}
+use Rattle.csv.specs.declared.error.ErrorKind.TheVariants as kind
+use Rattle.std.proofs.lemmas.Bool.{cases_Bool}
+use Rattle.ub_store.specs.Facts.{StoreFacts}
+use Rattle.ub_store.specs.declared.fault.StoreFault.TheVariants as store
+use Rattle.ub_tree.specs.Calls.{IsCreateFault}
+use Rattle.ub_tree.specs.Effects.{IsLeft}
+use Rattle.ub_tree.specs.View.{TreeView, IsSound, KeepsTrace}
+use Rattle.ub_tree.specs.declared.fault.TreeFault.{TreeFault}
+use Rattle.ub_tree.specs.declared.fault.TreeFault.TheVariants as tree
+use Rattle.ub_load.specs.Field.{trimmed, is_number, number_of, fits_column}
+use Rattle.ub_load.specs.Loading.{IsLoadFault, IsNewFault, IsToldOf}
+use Rattle.ub_load.specs.Refusals.{content_refusal, content_refusals, fault_of, fault_of_tree, field_refusal, first_of, header_refusals, name_refusal}
+use Rattle.ub_load.specs.declared.fault.LoadFault.{LoadFault}
+use Rattle.ub_load.specs.declared.fault.LoadFault.TheVariants.{NoHeader, Csv, Tree, Memory, BadName, BadNumber, OutOfRange, ColumnCount}
+use Rattle.ub_table.specs.Name.{is_name}
+
+-- what is told where something is the first thing wrong is told where that is the first thing wrong of more
+pub told_after : {first later : Option LoadFault} {F B G C : Type 0} → ((f : LoadFault) → first ≡ Some f → later ≡ Some f) → (F → G) → (B → C) → (f : LoadFault)
+    → IsToldOf first F B f → IsToldOf later G C f
+told_after same can broken NoHeader h = same NoHeader h
+told_after same can broken (BadName n) h = same (BadName n) h
+told_after same can broken ColumnCount h = same ColumnCount h
+told_after same can broken (BadNumber row column) h = same (BadNumber row column) h
+told_after same can broken (OutOfRange row column) h = same (OutOfRange row column) h
+told_after same can broken Csv h = same Csv h
+told_after same can broken (Tree tree.Full) h = same (Tree tree.Full) h
+told_after same can broken (Tree (tree.Page page fault)) h = broken h
+told_after same can broken (Tree (tree.Store store.Device)) h = can h
+told_after same can broken (Tree (tree.Store store.NoPage)) h = broken h
+told_after same can broken (Tree (tree.Store store.BadSize)) h = tt
+told_after same can broken (Tree (tree.Store store.Memory)) h = absurd h
+told_after same can broken (Tree tree.Failed) h = absurd h
+told_after same can broken (Tree tree.Memory) h = absurd h
+told_after same can broken Memory h = tt
+
+-- it is none of the tree's
+abbrev pub IsOfText : LoadFault → Type 0
+IsOfText f = (fault : TreeFault) → f ≢ Tree fault
+
+pub told_first : (F B : Type 0) (first : Option LoadFault) (f : LoadFault) → IsOfText f → first ≡ Some f → IsToldOf first F B f
+told_first F B first NoHeader h e = e
+told_first F B first (BadName n) h e = e
+told_first F B first ColumnCount h e = e
+told_first F B first (BadNumber row column) h e = e
+told_first F B first (OutOfRange row column) h e = e
+told_first F B first Csv h e = e
+told_first F B first (Tree fault) h e = absurd (h fault refl)
+told_first F B first Memory h e = tt
+
+-- what a new tree's refusal tells
+pub told_new : (B : Type 0) (facts : StoreFacts) (first : Option LoadFault) (f : LoadFault) → IsNewFault facts f → IsToldOf first (IsTrue facts.can_fail) B f
+told_new B facts first NoHeader h = absurd h
+told_new B facts first (BadName n) h = absurd h
+told_new B facts first ColumnCount h = absurd h
+told_new B facts first (BadNumber row column) h = absurd h
+told_new B facts first (OutOfRange row column) h = absurd h
+told_new B facts first Csv h = absurd h
+told_new B facts first (Tree tree.Full) h = absurd h
+told_new B facts first (Tree (tree.Page page fault)) h = absurd h
+told_new B facts first (Tree (tree.Store store.Device)) h = h
+told_new B facts first (Tree (tree.Store store.NoPage)) h = absurd h
+told_new B facts first (Tree (tree.Store store.BadSize)) h = absurd h
+told_new B facts first (Tree (tree.Store store.Memory)) h = absurd h
+told_new B facts first (Tree tree.Failed) h = absurd h
+told_new B facts first (Tree tree.Memory) h = absurd h
+told_new B facts first Memory h = tt
+
+pub new_fault : (facts : StoreFacts) (fault : TreeFault) → IsCreateFault facts fault → IsNewFault facts (fault_of_tree fault)
+new_fault facts tree.Full h = absurd h
+new_fault facts (tree.Page page fault) h = absurd h
+new_fault facts (tree.Store store.Device) h = h
+new_fault facts (tree.Store store.NoPage) h = absurd h
+new_fault facts (tree.Store store.BadSize) h = absurd h
+new_fault facts (tree.Store store.Memory) h = absurd h
+new_fault facts tree.Failed h = absurd h
+new_fault facts tree.Memory h = tt
+
+-- what a refused insertion into a tree that works tells
+pub told_put : (first : Option LoadFault) (t u : TreeView) → t.is_failed ≡ false → (t.next ≡ 16777216 → first ≡ Some (Tree tree.Full)) → (fault : TreeFault) → IsLeft t u fault
+    → IsToldOf first (IsTrue t.store.can_fail) (¬ (IsSound t)) (fault_of_tree fault)
+told_put first t u works last tree.Full h = last h.0
+told_put first t u works last (tree.Page page fault) h = h.0
+told_put first t u works last (tree.Store store.Device) h = h.0
+told_put first t u works last (tree.Store store.NoPage) h = h.0
+told_put first t u works last (tree.Store store.BadSize) h = tt
+told_put first t u works last (tree.Store store.Memory) h = absurd h
+told_put first t u works last tree.Failed h = let bad = rw works at h.0 in cc
+told_put first t u works last tree.Memory h = tt
+
+-- what a change of a tree keeps
+pub frame_keeps : (t u : TreeView) → u ≡ record t { placed = u.placed; rows = u.rows; next = u.next; is_changed = u.is_changed; is_failed = u.is_failed; store = u.store }
+    → (u.schema ≡ t.schema) × KeepsTrace t u
+frame_keeps t u e = (ap (λ (v : TreeView). v.schema) e, (ap (λ (v : TreeView). v.trace) e, ap (λ (v : TreeView). v.fetches) e))
+
+-- what `csv` refuses
+pub told_csv : (dims : ℕ) (name text : List ℕ) (facts : StoreFacts) (k : ErrorKind) (f : LoadFault) → f ≡ fault_of k → IsLoadFault dims name text facts f
+told_csv dims name text facts kind.OutOfMemory f e = rw e (inr tt)
+told_csv dims name text facts (kind.Io x) f e = inl e
+told_csv dims name text facts (kind.UnequalLengths pos expected len) f e = inl e
+told_csv dims name text facts (kind.Utf8 pos why) f e = inl e
+told_csv dims name text facts (kind.Serialize why) f e = inl e
+told_csv dims name text facts (kind.Deserialize pos why) f e = inl e
+
+-- over an honest store that can't fail: what is told is the first thing wrong, unless memory was refused or there is no room
+pub told_sure : {first : Option LoadFault} {F B : Type 0} → ¬ F → ¬ B → (f : LoadFault) → IsToldOf first F B f → f ≢ Memory → f ≢ Tree (tree.Store store.BadSize) → first ≡ Some f
+told_sure reliable honest NoHeader h some room = h
+told_sure reliable honest (BadName n) h some room = h
+told_sure reliable honest ColumnCount h some room = h
+told_sure reliable honest (BadNumber row column) h some room = h
+told_sure reliable honest (OutOfRange row column) h some room = h
+told_sure reliable honest Csv h some room = h
+told_sure reliable honest (Tree tree.Full) h some room = h
+told_sure reliable honest (Tree (tree.Page page fault)) h some room = absurd (honest h)
+told_sure reliable honest (Tree (tree.Store store.Device)) h some room = absurd (reliable h)
+told_sure reliable honest (Tree (tree.Store store.NoPage)) h some room = absurd (honest h)
+told_sure reliable honest (Tree (tree.Store store.BadSize)) h some room = absurd (room refl)
+told_sure reliable honest (Tree (tree.Store store.Memory)) h some room = absurd h
+told_sure reliable honest (Tree tree.Failed) h some room = absurd h
+told_sure reliable honest (Tree tree.Memory) h some room = absurd h
+told_sure reliable honest Memory h some room = absurd (some refl)
+
+-- and of the tree's faults it is one of these
+pub told_tree : (first : Option LoadFault) {F B : Type 0} → ¬ F → ¬ B → (fault : TreeFault) → IsToldOf first F B (Tree fault) → (fault ≡ tree.Full) ⊎ (fault ≡ tree.Store store.BadSize)
+told_tree first reliable honest tree.Full h = inl refl
+told_tree first reliable honest (tree.Page page fault) h = absurd (honest h)
+told_tree first reliable honest (tree.Store store.Device) h = absurd (reliable h)
+told_tree first reliable honest (tree.Store store.NoPage) h = absurd (honest h)
+told_tree first reliable honest (tree.Store store.BadSize) h = inr refl
+told_tree first reliable honest (tree.Store store.Memory) h = absurd h
+told_tree first reliable honest tree.Failed h = absurd h
+told_tree first reliable honest tree.Memory h = absurd h
+
+-- what is true of each refusal of a list is true of the first
+first-has : (P : LoadFault → Type 0) (xs : List (Option LoadFault)) (f : LoadFault) → AllByRecursion (λ o. IfSome o P) xs → first_of xs ≡ Some f → P f
+first-has P [] f h e = cc
+first-has P (None ∷ xs) f h e = first-has P xs f h.1 e
+first-has P (Some g ∷ xs) f h e = let same : g ≡ f = cc in subst P same h.0
+
+all_found : {X : Type 0} (g : X → Option LoadFault) (P : LoadFault → Type 0) → ((x : X) → IfSome (g x) P) → (xs : List X) → AllByRecursion (λ o. IfSome o P) (map g xs)
+all_found g P h [] = tt
+all_found g P h (x ∷ xs) = (h x, all_found g P h xs)
+
+field_is_of_text : (dims row : ℕ) (f : ℕ × List ℕ) → IfSome (field_refusal dims row f) IsOfText
+field_is_of_text dims row f = elim (cases_Bool (is_number (trimmed f.1))) [
+  | inl t ↦ elim (cases_Bool (fits_column (nat_lt f.0 dims) (number_of (trimmed f.1)))) [
+    | inl u ↦ rw (t, u) tt
+    | inr u ↦ rw (t, u) (λ fault e. cc)
+  ]
+  | inr n ↦ rw n (λ fault e. cc)
+]
+
+-- a record of another length, and a field, are no faults of the tree
+pub content_is_of_text : (dims width : ℕ) (r : ℕ × List (List ℕ)) (f : LoadFault) → content_refusal dims width r ≡ Some f → IsOfText f
+unfolding content_refusals
+content_is_of_text dims width r f e =
+    first-has IsOfText ((if length r.1 == width then None else Some Csv) ∷ map (field_refusal dims r.0) (enumerate_from 0 r.1)) f
+    (other_length, all_found (field_refusal dims r.0) IsOfText (field_is_of_text dims r.0) (enumerate_from 0 r.1)) e
+  where
+    other_length : IfSome (if length r.1 == width then None else Some Csv) IsOfText
+    other_length = elim (cases_Bool (length r.1 == width)) [
+      | inl t ↦ rw t tt
+      | inr n ↦ rw n (λ fault e. cc)
+    ]
+
+-- nor are what is wrong with a header
+name_is_of_text : (names : List (List ℕ)) (c : ℕ × List ℕ) → IfSome (name_refusal names c) IsOfText
+name_is_of_text names c = elim (cases_Bool (is_name c.1 && not (list_any (bytes_eq c.1) (take c.0 names)))) [
+  | inl t ↦ rw t tt
+  | inr n ↦ rw n (λ fault e. cc)
+]
+
+pub header_is_of_text : (dims : ℕ) (name : List ℕ) (names : List (List ℕ)) (f : LoadFault) → first_of (header_refusals dims name names) ≡ Some f → IsOfText f
+unfolding header_refusals
+header_is_of_text dims name names f e =
+    first-has IsOfText ((if nat_lt (length names) dims || nat_lt (dims + 4) (length names) then Some ColumnCount else None)
+    ∷ (if is_name name then None else Some (BadName 0)) ∷ map (name_refusal names) (enumerate_from 0 names)) f (count, (table, all_found (name_refusal names) IsOfText (name_is_of_text names) (enumerate_from 0 names))) e
+  where
+    count : IfSome (if nat_lt (length names) dims || nat_lt (dims + 4) (length names) then Some ColumnCount else None) IsOfText
+    count = elim (cases_Bool (nat_lt (length names) dims || nat_lt (dims + 4) (length names))) [
+      | inl t ↦ rw t (λ fault e. cc)
+      | inr n ↦ rw n tt
+    ]
+
+    table : IfSome (if is_name name then None else Some (BadName 0)) IsOfText
+    table = elim (cases_Bool (is_name name)) [
+      | inl t ↦ rw t tt
+      | inr n ↦ rw n (λ fault e. cc)
+    ]
