@@ -1,0 +1,4 @@
+pub mod KeptFacts
+pub mod WalkFacts
+pub mod VisitFacts
+pub mod MeantFacts

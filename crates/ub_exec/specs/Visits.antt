@@ -1,0 +1,74 @@
+-- The regions that carrying out a plan fetches: those that its plan visits, each once, in the order of their keys.
+use Rattle.std.specs.Prelude.{◌≡◌, ◌++◌, Bool, ℕ, zero, suc, List, [], Option, Some, None, length, map}
+use Rattle.std.specs.List.{AllByRecursion, Contains, filter}
+use Rattle.ub_bigmin.specs.Box.{Corners}
+use Rattle.ub_plan.specs.Plan.{PlanView}
+use Rattle.ub_plan.specs.Visits as plan
+use Rattle.ub_plan.specs.Visits.{AreThose, AreVisits}
+use Rattle.ub_region.specs.Regions.{rows_of}
+use Rattle.ub_store.specs.Facts.{raised}
+use Rattle.ub_table.specs.declared.row.Row.{Row}
+use Rattle.ub_tree.specs.Effects.{HasNoted}
+use Rattle.ub_tree.specs.Placed.{Placed, regions_in}
+use Rattle.ub_tree.specs.Spans.{IsLater, Meets, First}
+use Rattle.ub_tree.specs.View.{TreeView, KeepsTrace, regions, spans_of}
+use Rattle.ub_tree.specs.declared.region.Region.{Region as Span}
+
+-- a count of fetches after so many more
+abbrev pub fetches_then : ℕ → ℕ → ℕ
+fetches_then fetches zero = fetches
+fetches_then fetches (suc n) = raised fetches (suc n)
+
+-- the regions that a plan visits were fetched, each once, in the order of their keys, and no others: their pages stand in the
+-- trace, after those that stood there
+pub record HasFetched (p : PlanView) (old new : TreeView) : Type 0 where
+  pub visits : List plan.Span
+  pub visits_are : AreVisits old.schema p (regions old) visits
+  pub visited : List Placed
+  pub there : AllByRecursion (Contains old.placed) visited
+  pub regions_are : regions_in visited ≡ map (λ span. span.region) visits
+  pub trace_is : new.trace ≡ old.trace ++ map (λ region. region.page) visited
+  pub fetches_are : new.fetches ≡ fetches_then old.fetches (length visits)
+
+-- ---- what a walk does
+
+-- of some rows those that are chosen were handed over, after the rows that were taken before
+abbrev pub HandsThese : {T : Type 0} → (List Row → T → Type 0) → (Row → Bool) → T → T → List Row → Type 0
+HandsThese HasTaken chosen old new rows =
+    (taken : List Row) → HasTaken taken old → HasTaken (taken ++ filter chosen rows) new
+
+-- the same of some rows that are told of
+abbrev pub Hands : {T : Type 0} → (List Row → T → Type 0) → (Row → Bool) → T → T → (List Row → Type 0) → Type 0
+Hands HasTaken chosen old new Are =
+    (taken : List Row) → HasTaken taken old → (rows : List Row) × HasTaken (taken ++ filter chosen rows) new × Are rows
+
+-- a region of the tree meets the boxes: some address of the span that begins with its first key lies in one of them
+abbrev pub MeetsIn : TreeView → List Corners → Placed → Type 0
+MeetsIn t boxes p = (span : Span) × Contains (spans_of t) span × (span.first ≡ p.region.first) × Meets boxes span
+
+-- the regions of the tree that meet the boxes, in the order of their keys
+abbrev pub AreMeeting : List Corners → TreeView → List Placed → Type 0
+AreMeeting boxes t visited = AreThose (MeetsIn t boxes) t.placed visited
+
+-- the regions that meet the boxes were read, each once, in the order of their keys; these are their rows
+pub record HasWalked (boxes : List Corners) (old new : TreeView) (rows : List Row) : Type 0 where
+  pub visited : List Placed
+  pub visits : AreMeeting boxes old visited
+  pub rows_are : rows ≡ rows_of (regions_in visited)
+  pub trace_is : new.trace ≡ old.trace ++ map (λ p. p.page) visited
+  pub fetches_are : new.fetches ≡ fetches_then old.fetches (length visited)
+
+-- the region of this span was read; these are its rows
+pub record HasVisited (span : Span) (old new : TreeView) (rows : List Row) : Type 0 where
+  pub region : Placed
+  pub there : Contains old.placed region
+  pub begins : region.region.first ≡ span.first
+  pub noted : HasNoted region.page old new
+  pub rows_are : rows ≡ region.region.rows
+
+-- the first region later than one that meets the boxes was read, or there is none
+abbrev pub HasTurned : List Corners → Option Span → TreeView → TreeView → Option Span → List Row → Type 0
+HasTurned boxes after old new None rows =
+    First (λ s. IsLater after s × Meets boxes s) (spans_of old) None × KeepsTrace old new × (rows ≡ [])
+HasTurned boxes after old new (Some span) rows =
+    First (λ s. IsLater after s × Meets boxes s) (spans_of old) (Some span) × HasVisited span old new rows

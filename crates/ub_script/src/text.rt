@@ -1,0 +1,175 @@
+ghost use Rattle.std.specs.Prelude.{◌≡◌, ◌<◌, [], ◌∷◌, ◌++◌, length, map, decimal, if◌then◌else◌, IfOk, OnOk};
+ghost use Rattle.std.specs.List.{All, flat_map};
+ghost use Rattle.ub_query.specs.Cells as sql;
+ghost use Rattle.ub_query.specs.Posed.{IsItemOver};
+ghost use Rattle.ub_query.specs.Shape.{asked};
+ghost use Rattle.ub_script.specs.Text as spec;
+
+use itoa::Buffer;
+use std::alloc::{AllocError, Global};
+use ub_answer::Cells;
+use ub_parser::{Aggregate, Item, Query, SqlFault};
+use ub_query::Cell;
+use ub_table::Schema;
+
+/// The text of a refused statement: the refusal's name, and the byte offset in the script where it is seen; nothing for
+/// want of memory, which is no refusal. `AllocError` only where memory is refused.
+pub fn refused_text(alloc: Global, fault: &SqlFault) -> Result<Vec<u8>, AllocError>
+    ensures { IfOk result (λ text. text.items ≡ spec.refused_text fault.now) }
+{
+    match fault {
+        SqlFault::BadByte { at } => refusal_text(alloc, "BadByte", *at),
+        SqlFault::Syntax { at } => refusal_text(alloc, "Syntax", *at),
+        SqlFault::NumberTooLarge { at } => refusal_text(alloc, "NumberTooLarge", *at),
+        SqlFault::TooDeep { at } => refusal_text(alloc, "TooDeep", *at),
+        SqlFault::TooMany { at } => refusal_text(alloc, "TooMany", *at),
+        SqlFault::UnknownTable { at } => refusal_text(alloc, "UnknownTable", *at),
+        SqlFault::UnknownColumn { at } => refusal_text(alloc, "UnknownColumn", *at),
+        SqlFault::NotGrouped { at } => refusal_text(alloc, "NotGrouped", *at),
+        SqlFault::NotSelected { at } => refusal_text(alloc, "NotSelected", *at),
+        SqlFault::Memory => Ok(Vec::new(alloc)),
+    }
+}
+
+/// The text of a query's answer on a table of this schema, for which so many region pages were fetched: a line of the
+/// titles, a line for each row of cells, and a line of counts. `AllocError` only where memory is refused.
+#[tactic(auto, unfolding(crate::specs::Text::answer_text))]
+pub fn answer_text(
+    alloc: Global,
+    schema: &Schema,
+    query: &Query,
+    rows: &Cells,
+    pages: usize,
+) -> Result<Vec<u8>, AllocError>
+    requires { All (λ item. IsItemOver (length schema.now.columns) item) query.now.items }
+    ensures { IfOk result (λ text.
+        text.items ≡ spec.answer_text schema.now (asked query.now) rows.now pages) }
+{
+    let mut text = Vec::new(alloc);
+    push_titles(&mut text, schema, query.items.as_slice())?;
+    push_rows(&mut text, rows)?;
+    push_counts(&mut text, rows.len(), pages)?;
+    Ok(text)
+}
+
+// A refusal's line: its name, and the byte offset where it is seen.
+#[tactic(auto, unfolding(crate::specs::Text::refusal_text))]
+fn refusal_text(alloc: Global, name: &str, at: usize) -> Result<Vec<u8>, AllocError>
+    ensures { IfOk result (λ text. text.items ≡ spec.refusal_text name.now at) }
+{
+    let mut text = Vec::from_slice(alloc, b"! ")?;
+    text.extend_from_slice(name.as_bytes())?;
+    text.extend_from_slice(b" at ")?;
+    push_number(&mut text, at)?;
+    text.push(b'\n')?;
+    Ok(text)
+}
+
+// Puts the line of the items' titles.
+fn push_titles(text: &mut Vec<u8>, schema: &Schema, items: &[Item]) -> Result<(), AllocError>
+    requires { All (λ item. IsItemOver (length schema.now.columns) item) items.now }
+    ensures { OnOk result (text.new.items
+        ≡ text.old.items ++ spec.line (map (sql.title schema.now) items.now)) }
+{
+    for (place, item) in items.iter().enumerate() {
+        push_comma(text, place == 0)?;
+        push_title(text, schema, *item)?;
+    }
+    text.push(b'\n')?;
+    Ok(())
+}
+
+// Puts the title of an item.
+fn push_title(text: &mut Vec<u8>, schema: &Schema, item: Item) -> Result<(), AllocError>
+    requires { IsItemOver (length schema.now.columns) item }
+    ensures { OnOk result (text.new.items ≡ text.old.items ++ sql.title schema.now item) }
+{
+    match item {
+        Item::Column(column) => push_name(text, schema, column),
+        Item::Count => text.extend_from_slice(b"COUNT(*)"),
+        Item::Aggregate(aggregate, column) => {
+            text.extend_from_slice(keyword_of(aggregate))?;
+            text.extend_from_slice(b"(")?;
+            push_name(text, schema, column)?;
+            text.extend_from_slice(b")")
+        }
+    }
+}
+
+// Puts the name of a column.
+fn push_name(text: &mut Vec<u8>, schema: &Schema, column: usize) -> Result<(), AllocError>
+    requires { column < length schema.now.columns }
+    ensures { OnOk result (text.new.items ≡ text.old.items ++ sql.name_of schema.now column) }
+{
+    text.extend_from_slice(schema.columns()[column].bytes())
+}
+
+// The keyword of what is taken.
+fn keyword_of(aggregate: Aggregate) -> &'static [u8]
+    ensures { result.now ≡ sql.keyword_of aggregate }
+{
+    match aggregate {
+        Aggregate::Sum => b"SUM",
+        Aggregate::Min => b"MIN",
+        Aggregate::Max => b"MAX",
+    }
+}
+
+// Puts a line for each row of cells.
+fn push_rows(text: &mut Vec<u8>, rows: &Cells) -> Result<(), AllocError>
+    ensures { OnOk result (text.new.items ≡ text.old.items ++ flat_map spec.row_line rows.now) }
+{
+    for index in 0..rows.len() {
+        push_row(text, rows.row(index))?;
+    }
+    Ok(())
+}
+
+// Puts the line of a row of cells.
+fn push_row(text: &mut Vec<u8>, cells: &[Cell]) -> Result<(), AllocError>
+    ensures { OnOk result (text.new.items ≡ text.old.items ++ spec.row_line cells.now) }
+{
+    for (place, cell) in cells.iter().enumerate() {
+        push_comma(text, place == 0)?;
+        push_cell(text, *cell)?;
+    }
+    text.push(b'\n')?;
+    Ok(())
+}
+
+// Puts a number in decimal, or NULL.
+fn push_cell(text: &mut Vec<u8>, cell: Cell) -> Result<(), AllocError>
+    ensures { OnOk result (text.new.items ≡ text.old.items ++ spec.cell_text cell) }
+{
+    match cell {
+        Cell::Number(number) => text.extend_from_slice(Buffer::new().format(number).as_bytes()),
+        Cell::Null => text.extend_from_slice(b"NULL"),
+    }
+}
+
+// Puts the line that says how many rows were written and how many region pages were fetched for them.
+fn push_counts(text: &mut Vec<u8>, rows: usize, pages: usize) -> Result<(), AllocError>
+    ensures { OnOk result (text.new.items ≡ text.old.items ++ spec.counts_line rows pages) }
+{
+    text.extend_from_slice(b"-- rows ")?;
+    push_number(text, rows)?;
+    text.extend_from_slice(b", pages ")?;
+    push_number(text, pages)?;
+    text.extend_from_slice(b"\n")
+}
+
+fn push_number(text: &mut Vec<u8>, number: usize) -> Result<(), AllocError>
+    ensures { OnOk result (text.new.items ≡ text.old.items ++ decimal number) }
+{
+    text.extend_from_slice(Buffer::new().format(number).as_bytes())
+}
+
+// Puts a comma before a piece, unless it is the first of its line.
+fn push_comma(text: &mut Vec<u8>, is_first: bool) -> Result<(), AllocError>
+    ensures { OnOk result (text.new.items ≡ text.old.items ++ (if is_first then [] else 44 ∷ [])) }
+{
+    if !is_first {
+        text.push(b',')?;
+    }
+    Ok(())
+}
