@@ -2,7 +2,7 @@ use crate::SMALL_TABLE;
 use std::alloc::{AllocError, Global};
 use std::test::Fail;
 use std::{fs, process, str};
-use ub_shell::Over;
+use ub_script::Over;
 use ub_shell::command::command;
 
 // The words of a command line, the program's name first.

@@ -7,6 +7,8 @@ mod boxes;
 #[cfg(test)]
 mod commands;
 #[cfg(test)]
+mod queries;
+#[cfg(test)]
 mod scripts;
 #[cfg(test)]
 mod statements;

@@ -2,15 +2,25 @@ use crate::SMALL_TABLE;
 use std::alloc::Global;
 use std::str;
 use std::test::Fail;
-use ub_shell::{Over, RunFault, Summary, try_text};
+use ub_script::{Over, RunFault, Summary, try_text};
 
 // What a script writes on a table of two dimensions, and how the run ended.
 pub(crate) fn run(alloc: Global, csv: &str, script: &str) -> (Vec<u8>, Result<Summary, RunFault>) {
+    run_on(alloc, csv, 2, script)
+}
+
+// What a script writes on a table of so many dimensions, two rows a page, and how the run ended.
+pub(crate) fn run_on(
+    alloc: Global,
+    csv: &str,
+    dims: u32,
+    script: &str,
+) -> (Vec<u8>, Result<Summary, RunFault>) {
     let mut out = Over::new(Vec::new(alloc));
     let end = try_text(
         alloc,
         csv.as_bytes(),
-        2,
+        dims.clamp(1, 4),
         2,
         b"t",
         script.as_bytes(),
@@ -69,7 +79,7 @@ fn drops_spaces_of_the_header(rt: HostRuntime) -> Result<(), Fail> {
 
 #[test]
 fn answers_each_statement(rt: HostRuntime) -> Result<(), Fail> {
-    let none = "x,y,m\n-- rows 0, pages 3\n";
+    let none = "x,y,m\n-- rows 0, pages 0\n";
     let all = "x,y,m\n1,1,10\n2,3,20\n3,0,5\n0,2,7\n2,3,1\n-- rows 5, pages 3\n";
     let cases = [
         ("", ""),
@@ -77,7 +87,7 @@ fn answers_each_statement(rt: HostRuntime) -> Result<(), Fail> {
         ("-- one\n-- two", ""),
         (
             "select * from t where x between 3 and 3",
-            "x,y,m\n3,0,5\n-- rows 1, pages 3\n",
+            "x,y,m\n3,0,5\n-- rows 1, pages 2\n",
         ),
         ("SELECT * FROM t WHERE x BETWEEN 3 AND 2;", none),
         ("SELECT * FROM t WHERE y BETWEEN -1 AND 99999999999;", all),
@@ -109,7 +119,7 @@ fn goes_on_after_a_refused_statement(rt: HostRuntime) -> Result<(), Fail> {
     let (bytes, end) = run(rt.alloc(), SMALL_TABLE, script);
     assert_eq!(rt;
         str::from_utf8(bytes.as_slice())?,
-        "! UnknownTable at 14\nx,y,m\n0,2,7\n-- rows 1, pages 3\n"
+        "! UnknownTable at 14\nx,y,m\n0,2,7\n-- rows 1, pages 2\n"
     );
     let summary = end?;
     assert_eq!(rt; summary.statements, 2);

@@ -5,7 +5,7 @@ use std::str;
 use std::test::Fail;
 
 // Statements that are refused, each for one reason or, from `SELECT FROM # t` on, for two, the first of which is told.
-const REFUSED: [(&str, &str); 24] = [
+const REFUSED: [(&str, &str); 20] = [
     ("SELECT x FROM t WHERE x = 1 # 2;", "! BadByte at 28\n"),
     ("SELECT x FROM t WHERE x ! 1;", "! BadByte at 24\n"),
     ("SELECT FROM t;", "! Syntax at 7\n"),
@@ -41,13 +41,6 @@ const REFUSED: [(&str, &str); 24] = [
         "! NotGrouped at 7\n",
     ),
     // Accepted, and not answered yet.
-    (
-        "SELECT * FROM t LIMIT 18446744073709551615;",
-        "! Syntax at 0\n",
-    ),
-    ("SELECT COUNT(*) FROM t;", "! Syntax at 0\n"),
-    ("SELECT x FROM t GROUP BY x;", "! Syntax at 0\n"),
-    ("SELECT x FROM t ORDER BY x;", "! Syntax at 0\n"),
     ("EXPLAIN SELECT x FROM t;", "! Syntax at 0\n"),
 ];
 
@@ -59,15 +52,15 @@ const ANSWERED: [(&str, &str); 11] = [
     ),
     (
         "SELECT m, x, m FROM t WHERE y = 3;",
-        "m,x,m\n20,2,20\n1,2,1\n-- rows 2, pages 3\n",
+        "m,x,m\n20,2,20\n1,2,1\n-- rows 2, pages 2\n",
     ),
     (
         "SELECT m FROM t WHERE x = 1 OR x = 2 AND y = 9;",
-        "m\n10\n-- rows 1, pages 3\n",
+        "m\n10\n-- rows 1, pages 2\n",
     ),
     (
         "SELECT m FROM t WHERE (x = 1 OR x = 2) AND y = 3;",
-        "m\n20\n1\n-- rows 2, pages 3\n",
+        "m\n20\n1\n-- rows 2, pages 2\n",
     ),
     (
         "SELECT m FROM t WHERE NOT x = 1 AND y = 1;",
@@ -79,19 +72,19 @@ const ANSWERED: [(&str, &str); 11] = [
     ),
     (
         "SELECT x FROM t WHERE x != 2 AND x <> 3;",
-        "x\n1\n0\n-- rows 2, pages 3\n",
+        "x\n1\n0\n-- rows 2, pages 2\n",
     ),
     (
         "SELECT x FROM t WHERE x > -18446744073709551615 AND x BETWEEN 1 AND 1;",
-        "x\n1\n-- rows 1, pages 3\n",
+        "x\n1\n-- rows 1, pages 2\n",
     ),
     (
         "SELECT x FROM t WHERE x = 1AND y = 1",
-        "x\n1\n-- rows 1, pages 3\n",
+        "x\n1\n-- rows 1, pages 1\n",
     ),
     (
         "SELECT x--y\n, y FROM t WHERE x <= 0",
-        "x,y\n0,2\n-- rows 1, pages 3\n",
+        "x,y\n0,2\n-- rows 1, pages 2\n",
     ),
     (
         "SELECT x FROM t WHERE m >= 20 OR m < 5;",
@@ -143,7 +136,7 @@ fn answers_queries_of_rows(rt: HostRuntime) -> Result<(), Fail> {
 fn limits_depth_and_comparisons(rt: HostRuntime) -> Result<(), Fail> {
     let front = "SELECT x FROM t WHERE ";
     let nine = "SELECT x,x,x,x,x,x,x,x,x FROM t WHERE ";
-    let one = "x\n1\n-- rows 1, pages 3\n";
+    let one = "x\n1\n-- rows 1, pages 2\n";
     let cases = [
         (front, "(", 64, "x = 1", ")", one),
         (front, "(", 65, "x = 1", ")", "! TooDeep at 86\n"),

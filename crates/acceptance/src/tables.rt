@@ -2,7 +2,7 @@ use std::alloc::Global;
 use std::str;
 use std::test::Fail;
 use ub_load::LoadFault;
-use ub_shell::{Over, RunFault, Summary, try_text};
+use ub_script::{Over, RunFault, Summary, try_text};
 
 const ALL_ROWS: &[u8] = b"SELECT * FROM t WHERE x BETWEEN 0 AND 4294967295;";
 

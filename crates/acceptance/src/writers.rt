@@ -3,7 +3,7 @@ ghost use Rattle.std.specs.Prelude.{List, ℕ, Option, None};
 use crate::SMALL_TABLE;
 use std::str;
 use std::test::Fail;
-use ub_shell::{Out, OutFault, RunFault, try_text};
+use ub_script::{Out, OutFault, RunFault, try_text};
 
 const SCRIPT: &[u8] =
     b"SELECT * FROM t WHERE x BETWEEN 0 AND 0; SELECT * FROM t WHERE x BETWEEN 9 AND 9;";
@@ -53,7 +53,7 @@ fn writes_byte_by_byte(rt: HostRuntime) -> Result<(), Fail> {
         &mut out,
     );
     assert_eq!(rt; end?.statements, 2);
-    let want = "x,y,m\n0,2,7\n-- rows 1, pages 3\nx,y,m\n-- rows 0, pages 3\n";
+    let want = "x,y,m\n0,2,7\n-- rows 1, pages 2\nx,y,m\n-- rows 0, pages 1\n";
     assert_eq!(rt; str::from_utf8(out.taken.as_slice())?, want);
     Ok(())
 }

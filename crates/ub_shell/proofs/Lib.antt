@@ -1,13 +1,3 @@
-pub mod AskFacts
-pub mod CommandFacts
-pub mod GivenFacts
-pub mod HeldFacts
-pub mod LineFacts
 pub mod NextFacts
-pub mod QueryFacts
-pub mod GatherFacts
-pub mod SortFacts
-pub mod KeptFacts
-pub mod RowsFacts
-pub mod RunFacts
-pub mod StatusFacts
+pub mod EndFacts
+pub mod Laws

@@ -1,9 +1,4 @@
-pub mod Counts
-pub mod Faults
-pub mod Text
-pub mod Script
-pub mod Run
 pub mod Next
 pub mod Status
-pub mod Gather
-pub mod CommandLine
+pub mod Ending
+pub mod Laws

@@ -1,25 +1,15 @@
-// Scripts run on a UB-tree, or on the table of a CSV text: what each statement writes, and where it is written; and the
-// command line.
+// The program's commands over the words of its command line, files and whatever bytes are written to.
 //
-// `output` is what bytes are written to, `text` makes the text of one statement's result from the rows that `gather` reads
-// from the tree, and `script` runs the statements of a script one after the other. `command` reads the program's command
-// line and runs what it asks for: `next` is the command for the addresses of a box, and `status` is how a command ends. The
-// grammar and the meaning of a statement belong to the crates below.
+// `command` runs what the command line asks for: `next` is the command for the addresses of a box, and `status` is how
+// a command ends. `program` is the last step, over any writer. What words ask for is read by `ub_words`, and scripts
+// belong to `ub_script`, whose names are passed on here.
 #![tactic(auto)]
 
 pub mod command;
-pub mod fault;
-mod gather;
+pub mod law;
 pub mod next;
-pub mod output;
-pub mod script;
+pub mod program;
 pub mod status;
-pub mod text;
 
-pub use fault::RunFault;
-pub use output::{Out, OutFault, Over, put_all};
-pub use script::{Summary, run, try_text};
-pub use text::{RowQuery, query_text, refused_text, row_query};
-
-#[cfg(test)]
-mod tests;
+pub use program::{WordsFault, program_words, run_program};
+pub use ub_script::{Out, OutFault, Over, RunFault, Summary, put_all, run, try_text};

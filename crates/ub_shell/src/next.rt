@@ -3,16 +3,16 @@ ghost use Rattle.std.specs.Char.{is_ascii_digit};
 ghost use Rattle.std.specs.List.{list_all, slice_split};
 ghost use Rattle.std.specs.String.{string_bytes};
 ghost use Rattle.ub_shell.specs.Next.{IsPointText, AreNearest, IsNearest, IsNextAnswer, number_in, neighbour_line, next_fault_text, answer_text, answer_status};
-ghost use Rattle.ub_shell.specs.Status.{Tells};
+ghost use Rattle.ub_shell.specs.Ending.{between, Tells};
 ghost use Rattle.ub_shell.specs.declared.next.Neighbours.{Neighbours};
 ghost use Rattle.ub_shell.specs.declared.next.NextFault.{NextFault};
 ghost use Rattle.ub_shell.specs.declared.next.NextFault.TheVariants.{Memory};
 
-use crate::output::Out;
 use crate::status::{Status, tell, tell_memory};
 use std::alloc::{AllocError, AllocFailed, Global};
 use thiserror::Error;
 use ub_bigmin::ZBox;
+use ub_script::Out;
 use ub_zaddr::{Point, Shape, last};
 
 /// The addresses of a box that are nearest to an address: the least from it on, and the greatest up to it.
@@ -211,7 +211,8 @@ pub fn answer_status(answer: &Result<Neighbours, NextFault>) -> Status
 /// The command `next`: writes what is told of the words, and says how it ends; `Device` where a write fails.
 pub fn tell_next<W: Out>(alloc: Global, lo: &str, hi: &str, z: &str, out: &mut W) -> Status
     ensures { (answer : Result Neighbours NextFault) × IsNextAnswer lo.now hi.now z.now answer
-        × Tells (W.told out.old) (W.told out.new) (W.failures out.old) (W.failures out.new) (answer_text answer) (answer_status answer) result }
+        × Tells (between W.told W.failures out.old out.new)
+        (answer_text answer) (answer_status answer) result }
 {
     let answer = neighbours_of(alloc, lo, hi, z);
     match answer_text(alloc, &answer) {
@@ -223,8 +224,8 @@ pub fn tell_next<W: Out>(alloc: Global, lo: &str, hi: &str, z: &str, out: &mut W
 #[cfg(test)]
 mod tests {
     use super::*;
-    use crate::output::Over;
     use std::test::Fail;
+    use ub_script::Over;
 
     #[test]
     fn neighbours_are_told(rt: HostRuntime) -> Result<(), Fail> {

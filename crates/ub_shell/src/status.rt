@@ -1,13 +1,13 @@
 ghost use Rattle.std.specs.Prelude.{◌≡◌, ◌≤◌, IfOk, codes};
 ghost use Rattle.std.specs.String.{string_bytes};
-ghost use Rattle.ub_shell.specs.Status.{status_code, summary_status, load_fault_status, load_fault_text, page_fault_word, tree_fault_status, tree_fault_text, Tells, TellsIfMemory};
+ghost use Rattle.ub_shell.specs.Status.{status_code, summary_status, load_fault_status, load_fault_text, page_fault_word, tree_fault_status, tree_fault_text};
+ghost use Rattle.ub_shell.specs.Ending.{between, Tells, TellsIfMemory};
 
-use crate::output::{Out, put_all};
-use crate::script::Summary;
 use std::alloc::{AllocError, Global};
 use ub_load::LoadFault;
-use ub_page::PageFault;
+use ub_script::{Out, Summary, put_all};
 use ub_store::StoreFault;
+use ub_table::PageFault;
 use ub_tree::TreeFault;
 
 /// How a command of the program ends.
@@ -134,7 +134,7 @@ pub fn load_fault_line(alloc: Global, fault: LoadFault) -> Result<String, AllocE
 
 /// Writes the bytes, and ends with the status, or with `Device` where a write fails.
 pub fn tell<W: Out>(out: &mut W, bytes: &[u8], status: Status) -> Status
-    ensures { Tells (W.told out.old) (W.told out.new) (W.failures out.old) (W.failures out.new) bytes.now status result }
+    ensures { Tells (between W.told W.failures out.old out.new) bytes.now status result }
 {
     match put_all(out, bytes) {
         Ok(()) => status,
@@ -144,14 +144,15 @@ pub fn tell<W: Out>(out: &mut W, bytes: &[u8], status: Status) -> Status
 
 /// Writes the line that says that memory was refused.
 pub fn tell_memory<W: Out>(out: &mut W) -> Status
-    ensures { Tells (W.told out.old) (W.told out.new) (W.failures out.old) (W.failures out.new) (codes "! Memory\n") Status.Memory result }
+    ensures { Tells (between W.told W.failures out.old out.new) (codes "! Memory\n") Status.Memory result }
 {
     tell(out, b"! Memory\n", Status::Memory)
 }
 
 /// Writes the line for a table that was refused.
 pub fn tell_load_fault<W: Out>(alloc: Global, fault: LoadFault, out: &mut W) -> Status
-    ensures { TellsIfMemory (W.told out.old) (W.told out.new) (W.failures out.old) (W.failures out.new) (load_fault_text fault) (load_fault_status fault) result }
+    ensures { TellsIfMemory (between W.told W.failures out.old out.new)
+        (load_fault_text fault) (load_fault_status fault) result }
 {
     match load_fault_line(alloc, fault) {
         Ok(line) => tell(out, line.as_bytes(), load_fault_status(fault)),
@@ -161,7 +162,8 @@ pub fn tell_load_fault<W: Out>(alloc: Global, fault: LoadFault, out: &mut W) -> 
 
 /// Writes the line for what a tree refused.
 pub fn tell_tree_fault<W: Out>(alloc: Global, fault: TreeFault, out: &mut W) -> Status
-    ensures { TellsIfMemory (W.told out.old) (W.told out.new) (W.failures out.old) (W.failures out.new) (tree_fault_text fault) (tree_fault_status fault) result }
+    ensures { TellsIfMemory (between W.told W.failures out.old out.new)
+        (tree_fault_text fault) (tree_fault_status fault) result }
 {
     match tree_fault_line(alloc, fault) {
         Ok(line) => tell(out, line.as_bytes(), tree_fault_status(fault)),

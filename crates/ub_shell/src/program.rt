@@ -1,0 +1,130 @@
+ghost use Rattle.std.specs.Prelude.{◌≡◌, ℕ, MatchResult, map, string_bytes};
+ghost use Rattle.ub_shell.specs.Ending.{between, since, words_fault_status, words_fault_text, HasEnded, Tells};
+ghost use Rattle.ub_shell.specs.Status.{status_code};
+ghost use Rattle.ub_shell.specs.declared.status.Status.{Status};
+
+use crate::command::command;
+use crate::status::{Status, tell, tell_memory};
+use std::io::Write;
+use std::rt::{Env, Files};
+use std::{env, io};
+use ub_script::{Out, Over};
+
+/// Why the words of the program's command line were not read.
+#[derive(Clone, Copy, PartialEq, Eq, Debug)]
+pub enum WordsFault {
+    /// One of them is no text in UTF-8.
+    NotText,
+    /// The memory for them was refused.
+    Memory,
+}
+
+/// The words of the program's command line, the first of which is the program's name.
+pub fn program_words<R: Env + AllocGlobal>(rt: &R) -> Result<Vec<String>, WordsFault> {
+    match env::args(rt) {
+        Ok(words) => match words.collect::<Vec<String>>(rt.alloc()) {
+            Ok(words) => Ok(words),
+            Err(_) => Err(WordsFault::Memory),
+        },
+        Err(error) => match error.kind() {
+            io::ErrorKind::OutOfMemory => Err(WordsFault::Memory),
+            _ => Err(WordsFault::NotText),
+        },
+    }
+}
+
+/// The whole program but for what touches the process: runs the command line of these words as `command` does, over a
+/// writer with no buffer before it, and gives the status and the writer back. Words that were not read are told.
+pub fn run_program<R: Files + AllocGlobal, W: Write>(
+    rt: &R,
+    words: Result<Vec<String>, WordsFault>,
+    to: W,
+) -> (u8, W)
+    ensures { (status : Status) × (failures : ℕ) × (result.0 ≡ status_code status)
+        × MatchResult words
+        (λ all. HasEnded (map string_bytes all.items) (since W.contents to result.1 failures) status)
+        (λ fault. Tells (since W.contents to result.1 failures)
+        (words_fault_text fault) (words_fault_status fault) status) }
+{
+    let mut out = Over::new(to);
+    let code = run_or_tell(rt, words, &mut out);
+    (code, out.into_inner())
+}
+
+// Runs the command line of these words, or tells that they were not read.
+fn run_or_tell<R: Files + AllocGlobal, W: Out>(
+    rt: &R,
+    words: Result<Vec<String>, WordsFault>,
+    out: &mut W,
+) -> u8
+    ensures { (status : Status) × (result ≡ status_code status)
+        × MatchResult words
+        (λ all. HasEnded (map string_bytes all.items) (between W.told W.failures out.old out.new) status)
+        (λ fault. Tells (between W.told W.failures out.old out.new)
+        (words_fault_text fault) (words_fault_status fault) status) }
+{
+    match words {
+        Ok(words) => command(rt, words.as_slice(), out),
+        Err(fault) => tell_no_words(fault, out).code(),
+    }
+}
+
+// Ends a command line whose words were not read.
+fn tell_no_words<W: Out>(fault: WordsFault, out: &mut W) -> Status
+    ensures { Tells (between W.told W.failures out.old out.new)
+        (words_fault_text fault) (words_fault_status fault) result }
+{
+    match fault {
+        WordsFault::Memory => tell_memory(out),
+        WordsFault::NotText => tell(
+            out,
+            b"error: the words of the command line are not all text in UTF-8\n",
+            Status::CommandLine,
+        ),
+    }
+}
+
+#[cfg(test)]
+mod tests {
+    use super::*;
+    use std::alloc::{AllocError, Global};
+    use std::test::Fail;
+
+    // The words of `ubq next 2,2 6,3 19`.
+    fn next_words(alloc: Global) -> Result<Vec<String>, AllocError> {
+        let mut words = Vec::new(alloc);
+        for word in ["ubq", "next", "2,2", "6,3", "19"] {
+            words.push(String::from_str(alloc, word)?)?;
+        }
+        Ok(words)
+    }
+
+    #[test]
+    fn gives_the_writer_back(rt: HostRuntime) -> Result<(), Fail> {
+        let words = next_words(rt.alloc())?;
+        let (code, text) = run_program(&rt, Ok(words), Vec::new(rt.alloc()));
+        assert_eq!(rt; code, 0);
+        assert_eq!(rt; text.as_slice(), b"next 36\nprev 15\n".as_slice());
+        Ok(())
+    }
+
+    #[test]
+    fn tells_words_that_are_no_text(rt: HostRuntime) {
+        let (code, text) = run_program(&rt, Err(WordsFault::NotText), Vec::new(rt.alloc()));
+        assert_eq!(rt; code, 2);
+        assert_eq!(rt;
+            text.as_slice(),
+            b"error: the words of the command line are not all text in UTF-8\n".as_slice()
+        );
+    }
+
+    #[test]
+    fn ends_with_4_where_the_writer_is_full(rt: HostRuntime) -> Result<(), Fail> {
+        let words = next_words(rt.alloc())?;
+        let mut room = [0u8; 5];
+        let (code, _) = run_program(&rt, Ok(words), &mut room[..]);
+        assert_eq!(rt; code, 4);
+        assert_eq!(rt; room.as_slice(), b"next ".as_slice());
+        Ok(())
+    }
+}

@@ -1,0 +1,148 @@
+-- What words ask for, by what `clap` makes of them.
+use Rattle.std.proofs.Common.{◌≡◌, ◌≢◌, ◌∙◌, ℕ, List, Option, Some, None, ap, inl, inr, sym, refl, codes, subst, true, [], ◌∷◌}
+use Rattle.std.specs.Prelude.{Bool, false, unwrap_or}
+use Rattle.std.specs.Str.{bytes_eq}
+use Rattle.std.proofs.lemmas.Bool.{false≢true}
+use Rattle.std.proofs.lemmas.Slice.Eq.{bytes_eq-Decides}
+use Rattle.std.specs.Prelude.{option_map}
+use Rattle.clap.specs.Words.{App, HasKind, HasMatchesOf, IsAmong, Row, fault_of, is_simple, is_simple_and_free, subcommand_of, subcommand_rows_of}
+use Rattle.clap.specs.declared.error.Error.{Error}
+use Rattle.clap.specs.declared.parser.matches.ArgMatches.{ArgMatches}
+use Rattle.clap.specs.declared.error.kind.ErrorKind.{ErrorKind}
+use Rattle.clap.specs.declared.error.kind.ErrorKind.TheVariants as kind
+use Rattle.clap.proofs.OnLiterals.{clap_on_literals}
+use Rattle.ub_words.specs.CommandLine.{AreNextWords, AsksHelpAlone, AsksNothing, IsNextGiven, IsTaken, IsTryGiven, ubq_app}
+
+-- the program's command line is one whose matches `clap` tells
+pub ubq_is_simple : is_simple ubq_app ≡ true
+unfolding clap_on_literals ubq_app
+ubq_is_simple = refl
+
+pub ubq_is_free : is_simple_and_free ubq_app ≡ true
+unfolding clap_on_literals ubq_app
+ubq_is_free = refl
+
+-- what is found is one thing
+abbrev both : List ℕ → List Row → Option (List ℕ × List Row)
+both command rows = Some (command, rows)
+
+pub same_found : (command other : List ℕ) (rows more : List Row) → both command rows ≡ both other more → (command ≡ other) × (rows ≡ more)
+same_found command other rows more e =
+    let left : List ℕ × List Row = (command, rows) in
+    (ap (λ (o : Option (List ℕ × List Row)). (unwrap_or o left).0) e, ap (λ (o : Option (List ℕ × List Row)). (unwrap_or o left).1) e)
+
+-- words that `clap` takes ask for no help
+pub no_help_taken : (words : List (List ℕ)) → fault_of ubq_app words ≡ [] → ¬ (AsksHelpAlone words)
+no_help_taken words none (inl help) = let bad = sym none ∙ help in cc
+no_help_taken words none (inr version) = let bad = sym none ∙ version in cc
+
+-- nor do words that `clap` may refuse in another way
+only_kind : (k one : ErrorKind) (kinds : List ErrorKind) → IsAmong k kinds → kinds ≡ one ∷ [] → k ≡ one
+only_kind k one kinds among is = elim (subst (λ kinds. IsAmong k kinds) is among) [
+  | inl same ↦ same
+  | inr none ↦ absurd none
+]
+
+pub no_help_refused : (words : List (List ℕ)) (k : ErrorKind) → IsAmong k (fault_of ubq_app words) → k ≢ kind.DisplayHelp → k ≢ kind.DisplayVersion → ¬ (AsksHelpAlone words)
+no_help_refused words k among no_help no_version (inl help) = no_help (only_kind k _ _ among help)
+no_help_refused words k among no_help no_version (inr version) = no_version (only_kind k _ _ among version)
+
+-- the words that ask for a `try` whose arguments were not all given ask for nothing
+pub nothing_by_try : (words : List (List ℕ)) (rows : List Row) → IsTaken words (Some (codes "try", rows))
+    → ((table script name : List ℕ) (dims page_rows : ℕ) → ¬ (IsTryGiven rows table script name dims page_rows)) → AsksNothing words
+nothing_by_try words rows taken none = record {
+  no_try = λ table script name dims page_rows asks.
+      let same = same_found _ _ _ _ (sym taken.1 ∙ asks.1.1) in
+      none table script name dims page_rows (subst (λ (r : List Row). IsTryGiven r table script name dims page_rows) (sym same.1) asks.2);
+  no_next = λ lo hi z asks. elim asks [
+    | inl by_clap ↦ let same = (same_found _ _ _ _ (sym taken.1 ∙ by_clap.1.1)).0 in cc
+    | inr by_place ↦ by_place.0 taken.0
+  ];
+  no_help = no_help_taken words taken.0;
+}
+
+pub nothing_by_next : (words : List (List ℕ)) (rows : List Row) → IsTaken words (Some (codes "next", rows))
+    → ((lo hi z : List ℕ) → ¬ (IsNextGiven rows lo hi z)) → AsksNothing words
+nothing_by_next words rows taken none = record {
+  no_try = λ table script name dims page_rows asks. let same = (same_found _ _ _ _ (sym taken.1 ∙ asks.1.1)).0 in cc;
+  no_next = λ lo hi z asks. elim asks [
+    | inl by_clap ↦
+        let same = same_found _ _ _ _ (sym taken.1 ∙ by_clap.1.1) in
+        none lo hi z (subst (λ (r : List Row). IsNextGiven r lo hi z) (sym same.1) by_clap.2)
+    | inr by_place ↦ by_place.0 taken.0
+  ];
+  no_help = no_help_taken words taken.0;
+}
+
+-- so do words by which no command was found, or another one
+pub nothing_by_other : (words : List (List ℕ)) (found : Option (List ℕ × List Row)) → IsTaken words found
+    → ((rows : List Row) → found ≢ Some (codes "try", rows)) → ((rows : List Row) → found ≢ Some (codes "next", rows)) → AsksNothing words
+nothing_by_other words found taken other another = record {
+  no_try = λ table script name dims page_rows asks. other asks.0 (sym taken.1 ∙ asks.1.1);
+  no_next = λ lo hi z asks. elim asks [
+    | inl by_clap ↦ another by_clap.0 (sym taken.1 ∙ by_clap.1.1)
+    | inr by_place ↦ by_place.0 taken.0
+  ];
+  no_help = no_help_taken words taken.0;
+}
+
+-- and words that are refused, but for three words after `next`
+pub nothing_by_refusal : (words : List (List ℕ)) → fault_of ubq_app words ≢ [] → ¬ (AsksHelpAlone words) → ((lo hi z : List ℕ) → ¬ (AreNextWords words lo hi z)) → AsksNothing words
+nothing_by_refusal words refused no_help none = record {
+  no_try = λ table script name dims page_rows asks. refused asks.1.0;
+  no_next = λ lo hi z asks. elim asks [
+    | inl by_clap ↦ refused by_clap.1.0
+    | inr by_place ↦ none lo hi z by_place.1
+  ];
+  no_help = no_help;
+}
+
+-- where a kind comes, some kind comes
+pub some_fault : (words : List (List ℕ)) (k : ErrorKind) → IsAmong k (fault_of ubq_app words) → fault_of ubq_app words ≢ []
+some_fault words k among none = subst (λ kinds. IsAmong k kinds) none among
+
+-- what a parse that succeeds has found
+pub taken_by : (app : App) (words : List (List ℕ)) (m : ArgMatches) → app ≡ ubq_app → HasMatchesOf app words m
+    → (is_simple_and_free app ≡ true → fault_of app words ≡ []) → IsTaken words (subcommand_rows_of m)
+taken_by app words m is has none = (
+  ap (λ (a : App). fault_of a words) (sym is) ∙ none (ap is_simple_and_free is ∙ ubq_is_free),
+  ap (λ (a : App). subcommand_of a words) (sym is) ∙ sym (has (ap is_simple is ∙ ubq_is_simple)).1,
+)
+
+-- and why one fails
+pub refused_by : (app : App) (words : List (List ℕ)) (e : Error) → app ≡ ubq_app → (is_simple_and_free app ≡ true → HasKind (fault_of app words) e)
+    → HasKind (fault_of ubq_app words) e
+refused_by app words e is has = subst (λ (a : App). HasKind (fault_of a words) e) is (has (ap is_simple_and_free is ∙ ubq_is_free))
+
+-- the command that was found, by its name
+pub taken_as : (words : List (List ℕ)) (found : Option (List ℕ × List Row)) (name command : List ℕ) (rows : List Row) → both name rows ≡ found → name ≡ command
+    → IsTaken words found → IsTaken words (both command rows)
+taken_as words found name command rows is same taken = (taken.0, taken.1 ∙ (sym is ∙ ap (λ (n : List ℕ). both n rows) same))
+
+pub nothing_by_name : (words : List (List ℕ)) (found : Option (List ℕ × List Row)) (name : List ℕ) (rows : List Row) → both name rows ≡ found
+    → name ≢ codes "next" → name ≢ codes "try" → IsTaken words found → AsksNothing words
+nothing_by_name words found name rows is other another taken =
+    nothing_by_other words found taken (λ more e. another (same_found _ _ _ _ (is ∙ e)).0) (λ more e. other (same_found _ _ _ _ (is ∙ e)).0)
+
+pub nothing_by_none : (words : List (List ℕ)) (found : Option (List ℕ × List Row)) → None ≡ found → IsTaken words found → AsksNothing words
+nothing_by_none words found is taken =
+    nothing_by_other words found taken (λ more e. let bad = is ∙ e in cc) (λ more e. let bad = is ∙ e in cc)
+
+abbrev pub pair_of : List ℕ → List Row → List ℕ × List Row
+pair_of name rows = (name, rows)
+
+-- what is told apart of two parts is told of the pair
+pub paired : {X P : Type 0} (r : Option P) (f : P → List ℕ) (h : P → List Row) (sub : Option X) (name : X → List ℕ) (rows : X → List Row)
+    → option_map f r ≡ option_map name sub → option_map h r ≡ option_map (λ (p : List ℕ × List Row). p.1) (option_map (λ b. pair_of (name b) (rows b)) sub)
+    → option_map (λ p. pair_of (f p) (h p)) r ≡ option_map (λ b. pair_of (name b) (rows b)) sub
+paired None f h None name rows a b = refl
+paired None f h (Some x) name rows a b = cc
+paired (Some p) f h None name rows a b = cc
+paired (Some p) f h (Some x) name rows a b =
+    let left = ap (λ (o : Option (List ℕ)). unwrap_or o []) a in
+    let right = ap (λ (o : Option (List Row)). unwrap_or o []) b in
+    rw (left, right) refl
+
+-- a name that was compared
+pub not_named : (same : Bool) (name word : List ℕ) → same ≡ bytes_eq name word → same ≡ false → name ≢ word
+not_named same name word is unlike e = false≢true (sym unlike ∙ (is ∙ (bytes_eq-Decides name word).1 e))

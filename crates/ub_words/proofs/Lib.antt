@@ -1,0 +1,4 @@
+pub mod AskFacts
+pub mod CommandFacts
+pub mod GivenFacts
+pub mod Laws

@@ -1,0 +1,12 @@
+use Rattle.std.proofs.Common.{rules}
+use Rattle.std.proofs.lemmas.Result.{IfOk-weaker}
+use Rattle.ub_words.specs.CommandLine.{IsCommandFor, bare_app, ubq_app}
+use Rattle.ub_words.proofs.CommandFacts.{with_command}
+use Rattle.ub_words.proofs.builder.program.Goals as goal
+
+pub returns : goal.returns
+unfolding ubq_app
+returns c =
+    let bare : IsCommandFor bare_app c.subcommand_required.result = (search rules, search rules) in
+    let first = with_command _ _ _ _ _ bare c.in_ok-next_command.ensures c.in_ok-subcommand.ensures in
+    IfOk-weaker c.subcommand-2.result _ _ (λ r adds. with_command _ _ r _ _ first c.in_ok-try_command.ensures adds) c.subcommand-2.ensures

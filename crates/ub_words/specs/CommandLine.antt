@@ -1,0 +1,117 @@
+-- What the program's command line asks for.
+use Rattle.std.specs.Prelude.{◌≡◌, ◌≢◌, ◌≤◌, ◌⊎◌, ℕ, true, false, List, [], ◌∷◌, Option, Some, codes, pos}
+use Rattle.std.specs.Str.Parse.{IsNumeral, digits_value, without_leading_plus}
+use Rattle.clap.specs.Words.{App, IsAmong, Row, Rule, fault_of, first_of, new_app, new_rule, one_of, app_of, rule_of, subcommand_of, with_rule, with_subcommand}
+use Rattle.clap.specs.declared.builder.Arg.{Arg}
+use Rattle.clap.specs.declared.builder.command.Command.{Command}
+use Rattle.clap.specs.declared.builder.command.Command.TheViews.{out-Command as fields_of}
+use Rattle.clap.specs.declared.builder.value_parser.ValueParser.TheVariants as parser
+use Rattle.clap.specs.declared.error.kind.ErrorKind.TheVariants as kind
+
+-- ---- the command line as `clap` reads it
+
+-- a word that is to be given at its place
+abbrev pub word_rule : List ℕ → Rule
+word_rule id = record (new_rule id) { required = true }
+
+-- an option with a value
+abbrev pub option_rule : List ℕ → Rule
+option_rule id = record (new_rule id) { long = Some id; value_names = 1 }
+
+abbrev pub dims_rule : Rule
+dims_rule = record (option_rule (codes "dims")) { required = true; parser = Some (parser.Signed (pos 1) (pos 4)) }
+
+abbrev pub page_rows_rule : Rule
+page_rows_rule = record (option_rule (codes "page-rows")) {
+  defaults = codes "64" ∷ [];
+  parser = Some (parser.Signed (pos 2) (pos 64));
+}
+
+abbrev pub name_rule : Rule
+name_rule = record (option_rule (codes "name")) { defaults = codes "t" ∷ [] }
+
+-- `next LO HI Z`
+abbrev pub next_app : App
+next_app = with_rule (with_rule (with_rule (new_app (codes "next")) (word_rule (codes "LO"))) (word_rule (codes "HI"))) (word_rule (codes "Z"))
+
+-- `try DATA SCRIPT --dims D [--page-rows C] [--name T]`
+abbrev pub try_app : App
+try_app = with_rule (with_rule (with_rule (with_rule (with_rule (new_app (codes "try"))
+    (word_rule (codes "DATA"))) (word_rule (codes "SCRIPT"))) dims_rule) page_rows_rule) name_rule
+
+-- the program before its commands are added: it has a version, and wants a command
+abbrev pub bare_app : App
+bare_app = record (new_app (codes "ubq")) {
+  top = record (new_app (codes "ubq")).top { has_version = true; subcommand_required = true };
+}
+
+-- the whole command line
+unfoldable pub ubq_app : App
+ubq_app = with_subcommand (with_subcommand bare_app next_app.top) try_app.top
+
+-- an argument that `clap` reads so, and that no subcommand shares
+abbrev pub IsArgFor : Rule → Arg → Type 0
+IsArgFor rule arg = (rule_of arg ≡ rule) × (arg.global ≡ false)
+
+-- a command that `clap` reads so, with no argument that its subcommands share
+abbrev pub IsCommandFor : App → Command → Type 0
+IsCommandFor app command = (app_of command ≡ app) × ((fields_of command).has_globals ≡ false)
+
+-- ---- what words ask for
+
+-- `clap` takes the words, and this is what it finds: the command that they name, and what was given for each of its arguments
+abbrev pub IsTaken : List (List ℕ) → Option (List ℕ × List Row) → Type 0
+IsTaken words found = (fault_of ubq_app words ≡ []) × (subcommand_of ubq_app words ≡ found)
+
+-- the number that was given for an option, in digits before which a plus may stand, and within these bounds
+pub record IsNumberGiven (rows : List Row) (id : List ℕ) (least most number : ℕ) : Type 0 where
+  pub text : List ℕ
+  pub given : one_of id rows ≡ Some text
+  pub digits : IsNumeral 10 (without_leading_plus text)
+  pub value : number ≡ digits_value 10 (without_leading_plus text)
+  pub at_least : least ≤ number
+  pub at_most : number ≤ most
+
+-- what was given for the command `try`
+pub record IsTryGiven (rows : List Row) (table script name : List ℕ) (dims page_rows : ℕ) : Type 0 where
+  pub table_is : first_of (codes "DATA") rows ≡ Some table
+  pub script_is : first_of (codes "SCRIPT") rows ≡ Some script
+  pub name_is : first_of (codes "name") rows ≡ Some name
+  pub dims_are : IsNumberGiven rows (codes "dims") 1 4 dims
+  pub page_rows_are : IsNumberGiven rows (codes "page-rows") 2 64 page_rows
+
+-- what was given for the command `next`
+pub record IsNextGiven (rows : List Row) (lo hi z : List ℕ) : Type 0 where
+  pub lo_is : first_of (codes "LO") rows ≡ Some lo
+  pub hi_is : first_of (codes "HI") rows ≡ Some hi
+  pub z_is : first_of (codes "Z") rows ≡ Some z
+
+-- the words are a program's name, `next` and these three
+abbrev pub AreNextWords : List (List ℕ) → List ℕ → List ℕ → List ℕ → Type 0
+AreNextWords words lo hi z = (program : List ℕ) × (words ≡ program ∷ codes "next" ∷ lo ∷ hi ∷ z ∷ [])
+
+-- the words ask for a run of the script of this file on the table of this file
+abbrev pub AsksTry : List (List ℕ) → List ℕ → List ℕ → List ℕ → ℕ → ℕ → Type 0
+AsksTry words table script name dims page_rows =
+    (rows : List Row) × IsTaken words (Some (codes "try", rows)) × IsTryGiven rows table script name dims page_rows
+
+-- the words ask for the help or the version, as `clap` may answer them
+abbrev pub AsksHelp : List (List ℕ) → Type 0
+AsksHelp words = IsAmong kind.DisplayHelp (fault_of ubq_app words) ⊎ IsAmong kind.DisplayVersion (fault_of ubq_app words)
+
+-- and `clap` answers them in no other way
+abbrev pub AsksHelpAlone : List (List ℕ) → Type 0
+AsksHelpAlone words = (fault_of ubq_app words ≡ kind.DisplayHelp ∷ []) ⊎ (fault_of ubq_app words ≡ kind.DisplayVersion ∷ [])
+
+-- the words ask for the neighbours of an address in a box; three words after `next` do so also where `clap` refuses them,
+-- since one of them begins as an option does, unless that is an option for help
+abbrev pub AsksNext : List (List ℕ) → List ℕ → List ℕ → List ℕ → Type 0
+AsksNext words lo hi z =
+    ((rows : List Row) × IsTaken words (Some (codes "next", rows)) × IsNextGiven rows lo hi z)
+    ⊎ ((fault_of ubq_app words ≢ []) × AreNextWords words lo hi z × ¬ (AsksHelpAlone words))
+
+-- the words ask for neither command, nor for the help or the version
+pub record AsksNothing (words : List (List ℕ)) : Type 0 where
+  pub no_try : (table script name : List ℕ) (dims page_rows : ℕ) → ¬ (AsksTry words table script name dims page_rows)
+  pub no_next : (lo hi z : List ℕ) → ¬ (AsksNext words lo hi z)
+  pub no_help : ¬ (AsksHelpAlone words)

@@ -1,0 +1,35 @@
+-- The laws of what words ask for. Each is what the function of its name in `law` ensures, and is proved in proofs/Laws.antt.
+use Rattle.std.specs.Prelude.{◌≡◌, ℕ, List}
+use Rattle.ub_words.specs.Asked.{IsAskedBy}
+use Rattle.ub_words.specs.CommandLine.{AsksHelpAlone}
+use Rattle.ub_words.specs.declared.words.Asked.{Asked}
+use Rattle.ub_words.specs.declared.words.Asked.TheVariants.{Try, Next, Help, Wrong}
+
+-- these ask for one thing, but for the text for words that ask for no command; `clap` may refuse some words in two ways,
+-- one of which is the help
+abbrev pub AreAlike : Asked → Asked → Type 0
+AreAlike (Try a) (Try b) =
+    (a.table.now ≡ b.table.now) × (a.script.now ≡ b.script.now) × (a.name.now ≡ b.name.now)
+    × (a.dims ≡ b.dims) × (a.page_rows ≡ b.page_rows)
+AreAlike (Try a) b = ⊥
+AreAlike (Next a) (Next b) = (a.low.now ≡ b.low.now) × (a.high.now ≡ b.high.now) × (a.address.now ≡ b.address.now)
+AreAlike (Next a) (Help text) = Unit {0}
+AreAlike (Next a) b = ⊥
+AreAlike (Help text) (Try b) = ⊥
+AreAlike (Help text) b = Unit {0}
+AreAlike (Wrong text) (Try b) = ⊥
+AreAlike (Wrong text) (Next b) = ⊥
+AreAlike (Wrong text) b = Unit {0}
+
+-- the same words ask for one thing
+abbrev pub OneThingIsAsked : Type 0
+OneThingIsAsked = (words : List (List ℕ)) (a b : Asked) → IsAskedBy words a → IsAskedBy words b → AreAlike a b
+
+-- this is the help
+abbrev pub IsHelp : Asked → Type 0
+IsHelp (Help text) = Unit {0}
+IsHelp a = ⊥
+
+-- words that ask for the help alone are told the help
+abbrev pub HelpIsHelp : Type 0
+HelpIsHelp = (words : List (List ℕ)) (a : Asked) → AsksHelpAlone words → IsAskedBy words a → IsHelp a

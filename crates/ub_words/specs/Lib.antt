@@ -1,0 +1,3 @@
+pub mod CommandLine
+pub mod Asked
+pub mod Laws

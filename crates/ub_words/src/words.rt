@@ -1,0 +1,117 @@
+ghost use Rattle.std.specs.Prelude.{ℕ, List, Some, codes, map, string_bytes, IfOk};
+ghost use Rattle.clap.specs.Words.{HasKind, fault_of, found_of, rows_of, subcommand_rows_of};
+ghost use Rattle.ub_words.specs.Asked.{AreLines, IsAskedBy};
+ghost use Rattle.ub_words.specs.CommandLine.{AsksNothing, IsTaken, ubq_app};
+
+use crate::builder::program;
+use crate::given::{NextWords, TryWords, command_found, next_words, three_after_next, try_words};
+use clap::ArgMatches;
+use clap::error::ErrorKind;
+use std::alloc::{AllocError, Global};
+
+/// What the words of a command line ask for.
+#[derive(Drop)]
+pub enum Asked<'a> {
+    /// A run of a script on the table of a CSV file.
+    Try(TryWords<'a>),
+    /// The addresses of a box that are nearest to one.
+    Next(NextWords<'a>),
+    /// The help or the version: this is its text.
+    Help(Vec<u8>),
+    /// None of these: this text says what is wrong with the words.
+    Wrong(Vec<u8>),
+}
+
+/// What the words of a command line ask for, the first of which is the program's name. `AllocError` only where memory is
+/// refused.
+pub fn read_words<'a>(alloc: Global, words: &'a [String]) -> Result<Asked<'a>, AllocError>
+    ensures { IfOk result (IsAskedBy (map string_bytes words.now)) }
+{
+    match program(alloc)?.try_get_matches_from(words) {
+        Ok(matches) => asked_by_matches(alloc, &matches),
+        Err(error) => asked_by_refused(alloc, words, &error),
+    }
+}
+
+// What words ask for that `clap` takes.
+fn asked_by_matches<'a>(alloc: Global, matches: &ArgMatches<'a>) -> Result<Asked<'a>, AllocError>
+    ensures { (words : List (List ℕ)) → IsTaken words (subcommand_rows_of matches.now)
+        → IfOk result (IsAskedBy words) }
+{
+    let Some((name, found)) = command_found(matches) else {
+        return no_command(alloc);
+    };
+    if name == "next" {
+        asked_by_next(alloc, found)
+    } else if name == "try" {
+        asked_by_try(alloc, found)
+    } else {
+        no_command(alloc)
+    }
+}
+
+// What words ask for that name the command `try`.
+fn asked_by_try<'a>(alloc: Global, found: &ArgMatches<'a>) -> Result<Asked<'a>, AllocError>
+    ensures { (words : List (List ℕ)) → IsTaken words (Some (codes "try", rows_of (found_of found.now)))
+        → IfOk result (IsAskedBy words) }
+{
+    match try_words(found) {
+        Some(asked) => Ok(Asked::Try(asked)),
+        None => no_command(alloc),
+    }
+}
+
+// What words ask for that name the command `next`.
+fn asked_by_next<'a>(alloc: Global, found: &ArgMatches<'a>) -> Result<Asked<'a>, AllocError>
+    ensures { (words : List (List ℕ)) → IsTaken words (Some (codes "next", rows_of (found_of found.now)))
+        → IfOk result (IsAskedBy words) }
+{
+    match next_words(found) {
+        Some(asked) => Ok(Asked::Next(asked)),
+        None => no_command(alloc),
+    }
+}
+
+// What is told of words that are none of the commands, which `clap` does not let through.
+fn no_command<'a>(alloc: Global) -> Result<Asked<'a>, AllocError>
+    ensures { (words : List (List ℕ)) → AsksNothing words → IfOk result (IsAskedBy words) }
+{
+    let text = Vec::from_slice(alloc, b"error: no such command\n")?;
+    Ok(Asked::Wrong(text))
+}
+
+// What words ask for that `clap` refuses, or that ask for the help or the version. Three words after `next` ask for
+// neighbours, even if one of them begins as an option does.
+fn asked_by_refused<'a>(
+    alloc: Global,
+    words: &'a [String],
+    error: &clap::Error,
+) -> Result<Asked<'a>, AllocError>
+    ensures { HasKind (fault_of ubq_app (map string_bytes words.now)) error.now
+        → IfOk result (IsAskedBy (map string_bytes words.now)) }
+{
+    match error.kind() {
+        ErrorKind::OutOfMemory => Err(AllocError),
+        ErrorKind::DisplayHelp | ErrorKind::DisplayVersion => {
+            let text = usage_lines(alloc, error)?;
+            Ok(Asked::Help(text))
+        }
+        _ => match three_after_next(words) {
+            Some(asked) => Ok(Asked::Next(asked)),
+            None => {
+                let text = usage_lines(alloc, error)?;
+                Ok(Asked::Wrong(text))
+            }
+        },
+    }
+}
+
+// The text of `clap`, with a line feed at its end.
+fn usage_lines(alloc: Global, error: &clap::Error) -> Result<Vec<u8>, AllocError>
+    ensures { IfOk result (λ text. AreLines text.items) }
+{
+    let text = format!(in alloc; "{error}")?;
+    let mut bytes = Vec::from_slice(alloc, text.trim_end().as_bytes())?;
+    bytes.push(b'\n')?;
+    Ok(bytes)
+}
