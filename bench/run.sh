@@ -1,26 +1,50 @@
 #!/usr/bin/env bash
-# Times, from outside: `next_in_box`, in nanoseconds a call for each number of dimensions, the making of the boxes included; and
-# the rows put into a tree, and the regions walked, in a second.
+# Times, from outside: `next_in_box`, in nanoseconds a call for each number of dimensions, beside its body by bits, and without
+# the making of the boxes and addresses; the rows put into a tree, and the regions walked, in a second; and the boxes of a condition.
 # usage: bench/run.sh [CALLS]     (default 1000000)
 set -euo pipefail
 calls=${1:-1000000}
 top=$(cd "$(dirname "$0")/.." && pwd)
 cd "$top/crates/bench"
 rt run -- 1 > /dev/null 2>&1 || { echo "bench/run.sh: crate bench does not build: see rt check there" >&2; exit 1; }
+# The nanoseconds that a command takes: the least of some runs, since what else the machine does only adds.
+repeats=7
+least() {
+    local start end best=0 run
+    for ((run = 0; run < repeats; run++)); do
+        start=$(date +%s%N)
+        "$@" > /dev/null
+        end=$(date +%s%N)
+        if [ "$best" -eq 0 ] || [ $((end - start)) -lt "$best" ]; then best=$((end - start)); fi
+    done
+    echo "$best"
+}
+# Nanoseconds for the calls in D dimensions by one way.
+jumps() {
+    least out/bench "$calls" "$1" "$2"
+}
 for dims in 1 2 3 4; do
-    start=$(date +%s%N)
-    out/bench "$calls" "$dims" > /dev/null
-    end=$(date +%s%N)
-    echo "next_in_box, $dims dimensions: $(( (end - start) / calls )) ns a call ($calls calls)"
+    making=$(jumps "$dims" making)
+    words=$(jumps "$dims" words)
+    bits=$(jumps "$dims" bits)
+    echo "next_in_box, $dims dimensions: $(((words - making) / calls)) ns a call, by bits $(((bits - making) / calls))," \
+        "the making apart, $((making / calls)) ($calls calls)"
+done
+
+# Addresses of points, and points of addresses.
+for dims in 1 2 3 4; do
+    echo "interleave, $dims dimensions: $(($(jumps "$dims" interleave) * 10 / calls)) tenths of a ns a call," \
+        "spread $(($(jumps "$dims" spread) * 10 / calls)) ($calls calls)"
+done
+
+# The event value of a box in spans like the regions of 200,000 rows.
+for dims in 1 2 3 4; do
+    echo "least_value, $dims dimensions: $(($(jumps "$dims" events) / calls)) ns a call ($calls calls)"
 done
 
 # Rows put into a UB-tree over a store in memory (two dimensions, 64 rows a page), and its regions walked.
 tree() {
-    local start end
-    start=$(date +%s%N)
-    out/bench tree "$1" "$2" > /dev/null
-    end=$(date +%s%N)
-    echo $((end - start))
+    least out/bench tree "$1" "$2"
 }
 for rows in 10000 100000; do
     fill=$(tree "$rows" 0)
@@ -30,3 +54,15 @@ for rows in 10000 100000; do
     echo "ub_tree, $rows rows: $((rows * 1000000000 / fill)) rows put in a second," \
         "$((regions * walks * 1000000000 / (walked - fill + 1))) regions walked a second"
 done
+
+# The boxes of a condition of 64 comparisons and 4096 cells.
+boxes() {
+    local start end
+    start=$(date +%s%N)
+    out/bench boxes "$1" > /dev/null
+    end=$(date +%s%N)
+    echo $((end - start))
+}
+none=$(boxes 0)
+some=$(boxes 100)
+echo "boxes, 64 comparisons and 4096 cells: $(((some - none) / 100000)) us a call (100 calls)"

@@ -1,7 +1,7 @@
 use crate::generator::Generator;
 use std::alloc::Global;
-use ub_page::{Name, PageFault, Schema};
 use ub_store::MemStore;
+use ub_table::{Name, PageFault, Schema};
 use ub_tree::{Region, Tree, TreeFault};
 
 // Two dimensions, no measure, 64 rows on a page.

@@ -1,23 +1,66 @@
 // What bench/run.sh times from outside.
 //
-// `bench N [D]` calls `next_in_box` on boxes and addresses from a fixed generator, N times for each number of dimensions
-// (or for D alone), and prints a checksum of the answers, which bench/checksum.py finds by another way.
+// `bench N [D [WAY]]` calls `next_in_box` on boxes and addresses from a fixed generator, N times for each number of
+// dimensions (or for D alone), and prints a checksum of the answers, which bench/checksum.py finds by another way. WAY
+// `bits` takes `next_by_bits` instead, `making` makes the boxes and addresses alone, `events` calls `least_value` on one box and
+// spans like the regions of 200,000 rows, `interleave` makes addresses of points, and `spread` points of addresses.
 //
 // `bench tree N W` puts N rows into a UB-tree over a store in memory, walks its regions W times, and prints how many
 // regions there are and how many rows were read.
+//
+// `bench boxes N` makes the boxes of a condition of 64 comparisons and 4096 cells N times, and prints how many they were.
 #![tactic(auto)]
 
+mod addresses;
+mod conditions;
+mod events;
 mod fill;
 mod generator;
 
+use addresses::{interleaved, spread_out};
+use conditions::boxes_of_many_cells;
+use events::events;
 use fill::fill_and_walk;
 use generator::Generator;
 use std::{env, io};
 use ub_bigmin::ZBox;
+use ub_bigmin::laws::next_by_bits;
 use ub_zaddr::{Point, Shape, last};
 
+// What is called.
+#[derive(Clone, Copy)]
+enum Way {
+    Words,
+    Bits,
+    Making,
+    Events,
+    Interleave,
+    Spread,
+}
+
+// The way that a word of the command line names, if there is one.
+fn way_of(word: Option<String>) -> Way {
+    match word {
+        Some(text) if text.as_str() == "bits" => Way::Bits,
+        Some(text) if text.as_str() == "making" => Way::Making,
+        Some(text) if text.as_str() == "events" => Way::Events,
+        Some(text) if text.as_str() == "interleave" => Way::Interleave,
+        Some(text) if text.as_str() == "spread" => Way::Spread,
+        _ => Way::Words,
+    }
+}
+
+// The answer for one box and address.
+fn answer(way: Way, space: &ZBox, z: u128) -> u128 {
+    match way {
+        Way::Words => space.next_in_box(z).unwrap_or(u128::MAX),
+        Way::Bits => next_by_bits(space, z).unwrap_or(u128::MAX),
+        _ => z,
+    }
+}
+
 /// The checksum after `calls` calls of `next_in_box` in a space of this shape.
-fn checksum(shape: Shape, calls: u64) -> u128 {
+fn checksum(way: Way, shape: Shape, calls: u64) -> u128 {
     let mut numbers = Generator::new(u64::from(shape.dims()));
     let mut sum = 0u128;
     for _ in 0..calls {
@@ -30,7 +73,7 @@ fn checksum(shape: Shape, calls: u64) -> u128 {
         )
             && let Some(space) = ZBox::new(shape, &lo, &hi)
         {
-            sum = sum.rotate_left(1) ^ space.next_in_box(z).unwrap_or(u128::MAX);
+            sum = sum.rotate_left(1) ^ answer(way, &space, z);
         }
     }
     sum
@@ -59,14 +102,29 @@ fn main(rt: HostRuntime) -> io::Result<()> {
         }
         return Ok(());
     }
+    if let Some(word) = &first
+        && word.as_str() == "boxes"
+    {
+        match boxes_of_many_cells(rt.alloc(), number(words.next()).unwrap_or(1)) {
+            Ok(made) => println!(rt; "{made} boxes")?,
+            Err(_) => println!(rt; "! Memory")?,
+        }
+        return Ok(());
+    }
     let calls = number(first).unwrap_or(1000);
     let only = number(words.next());
+    let way = way_of(words.next());
     for dims in 1..=4u32 {
         let is_asked = only.unwrap_or(u64::from(dims)) == u64::from(dims);
         if let Ok(shape) = Shape::new(dims)
             && is_asked
         {
-            let sum = checksum(shape, calls);
+            let sum = match way {
+                Way::Events => events(shape, calls),
+                Way::Interleave => interleaved(shape, calls),
+                Way::Spread => spread_out(shape, calls),
+                _ => checksum(way, shape, calls),
+            };
             println!(rt; "{dims} {sum}")?;
         }
     }
