@@ -202,8 +202,17 @@ fn end_before(key: &Key) -> u128
 #[cfg(test)]
 mod tests {
     use super::*;
-    use crate::tests::rectangle;
     use std::test::Fail;
+    use ub_zaddr::{Point, Shape};
+
+    // The box between two corners of the plane.
+    fn rectangle(lo: [u32; 2], hi: [u32; 2]) -> Result<ZBox, Fail> {
+        let shape = Shape::new(2)?;
+        let lo = Point::new(shape, &lo)?;
+        let hi = Point::new(shape, &hi)?;
+        let zbox = ZBox::new(shape, &lo, &hi).ok_or("no box")?;
+        Ok(zbox)
+    }
 
     // Regions of two dimensions from these first keys on, kept on the pages 1, 2 and so on.
     fn places(rt: &HostRuntime, firsts: &[(u128, u32)]) -> Result<Places, Fail> {
