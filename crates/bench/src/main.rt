@@ -8,6 +8,9 @@
 // `bench tree N W` puts N rows into a UB-tree over a store in memory, walks its regions W times, and prints how many
 // regions there are and how many rows were read.
 //
+// `bench pages D N [held]` reads a page of 64 rows with D dimensions and one measure N times, filters it by a box each time, and
+// prints a checksum of the masks; with `held` one region takes all of them in.
+//
 // `bench boxes N` makes the boxes of a condition of 64 comparisons and 4096 cells N times, and prints how many they were.
 #![tactic(auto)]
 
@@ -16,12 +19,14 @@ mod conditions;
 mod events;
 mod fill;
 mod generator;
+mod pages;
 
 use addresses::{interleaved, spread_out};
 use conditions::boxes_of_many_cells;
 use events::events;
 use fill::fill_and_walk;
 use generator::Generator;
+use pages::read_and_filter;
 use std::{env, io};
 use ub_bigmin::ZBox;
 use ub_bigmin::laws::next_by_bits;
@@ -108,6 +113,17 @@ fn main(rt: HostRuntime) -> io::Result<()> {
         match boxes_of_many_cells(rt.alloc(), number(words.next()).unwrap_or(1)) {
             Ok(made) => println!(rt; "{made} boxes")?,
             Err(_) => println!(rt; "! Memory")?,
+        }
+        return Ok(());
+    }
+    if let Some(word) = &first
+        && word.as_str() == "pages"
+    {
+        let dims = number(words.next()).unwrap_or(2).clamp(1, 4) as u32;
+        let calls = number(words.next()).unwrap_or(1);
+        match read_and_filter(dims, calls, words.next().is_some()) {
+            Ok(sum) => println!(rt; "{sum}")?,
+            Err(fault) => println!(rt; "! {fault}")?,
         }
         return Ok(());
     }

@@ -1,10 +1,10 @@
 -- What a write at the end of a draft leaves.
-use Rattle.std.proofs.Common.{◌≡◌, ◌≤◌, ◌+◌, ◌-◌, ℕ, zero, suc, List, [], ◌∷◌, ◌++◌, length, take, drop, replicate, add-one, refl, sym, ap, arith, ◌∙◌, append_assoc, slice_set}
-use Rattle.std.proofs.lemmas.List.{append-nil, length-append, length-take, length-drop, drop_all, drop-drop, set_split}
+use Rattle.std.proofs.Common.{◌≡◌, ◌≤◌, ◌+◌, ◌-◌, ℕ, zero, suc, List, [], ◌∷◌, ◌++◌, length, take, drop, replicate, ◌↔◌, Bool, IsTrue, add-one, refl, sym, ap, arith, ◌∙◌, append_assoc, slice_set}
+use Rattle.std.proofs.lemmas.List.{append-nil, length-append, length-replicate, length-take, length-drop, drop_all, drop-drop, set_split}
 use Rattle.std.proofs.Math.Seq.{drop-append_seam, take-append_seam}
 use borrow.Rule.Slice.PartMut.{put_mid, post_of, mid_of}
 
-same_count : (m n : ℕ) (a : ℕ) → m ≡ n → replicate m a ≡ replicate n a
+pub same_count : (m n : ℕ) (a : ℕ) → m ≡ n → replicate m a ≡ replicate n a
 same_count m n a e = ap (λ (k : ℕ). replicate k a) e
 
 drop-replicate : (m n : ℕ) (a : ℕ) → drop m (replicate n a) ≡ replicate (n - m) a
@@ -68,3 +68,13 @@ after_push {size} {len} {page} {value} d x =
     let count : len + 1 ≡ length (take len page ++ x ∷ []) = omega (arith, length-append (take len page) (x ∷ []), length-take len page) in
     let parts = of_front (take len page ++ x ∷ []) _ _ (len + 1) count whole in
     (fits, parts.0, parts.1 ∙ ap (λ (s : List ℕ). s ++ x ∷ []) d.is)
+
+-- the rest of a page is zeros where it is equal to the rest of a page of zeros
+pub blank_from : (place : ℕ) (page : List ℕ) (b : Bool) → length page ≡ 4096
+    → (IsTrue b ↔ (take (4096 - place) (drop place page) ≡ take (4096 - place) (drop place (replicate 4096 0))))
+    → IsTrue b ↔ (drop place page ≡ replicate (4096 - place) 0)
+blank_from place page b long test =
+    let all : take (4096 - place) (drop place page) ≡ drop place page = take_whole (4096 - place) (drop place page) (omega (arith, length-drop place page)) in
+    let blank : take (4096 - place) (drop place (replicate 4096 0)) ≡ replicate (4096 - place) 0
+    = ap (take (4096 - place)) (drop-replicate place 4096 0) ∙ take_whole (4096 - place) (replicate (4096 - place) 0) (omega (arith, length-replicate {A = ℕ} (4096 - place) 0)) in
+    (λ yes. sym all ∙ test.0 yes ∙ blank, λ same. test.1 (all ∙ same ∙ sym blank))

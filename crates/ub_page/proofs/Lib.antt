@@ -1,7 +1,11 @@
 pub mod BytesFacts
+pub mod ColumnFacts
 pub mod DirectoryFacts
 pub mod DraftFacts
 pub mod HeaderFacts
+pub mod KeysFacts
+pub mod LaneFacts
 pub mod MaskFacts
 pub mod PlacesFacts
 pub mod RegionFacts
+pub mod SpelledFacts

@@ -6,7 +6,7 @@ use Rattle.std.proofs.Math.Facts.{Fits-lt-pow, Fits-of_lt, Fits-of_z, sfits_lit,
 use Rattle.std.proofs.Math.Seq.{drop-append_seam}
 use Rattle.std.proofs.lemmas.List.Elements.{All-append, All-replicate}
 use Rattle.std.proofs.lemmas.List.FromFn.{length-map-range_with_len, get_or-map-range_with_len}
-use Rattle.std.proofs.Common.{◌≡◌, ◌≢◌, ◌≤◌, ◌<◌, ◌+◌, ◌-◌, ◌*◌, ◌^◌, ℕ, zero, suc, List, [], ◌∷◌, ◌++◌, length, map, take, drop, replicate, get_or, subst, refl, sym, ap, arith, ◌∙◌, append_assoc, Some}
+use Rattle.std.proofs.Common.{◌≡◌, ◌≤◌, ◌<◌, ◌+◌, ◌-◌, ◌*◌, ◌^◌, ℕ, zero, suc, List, [], ◌∷◌, ◌++◌, length, map, take, drop, replicate, get_or, subst, refl, sym, ap, arith, ◌∙◌, append_assoc, Some}
 use Rattle.std.specs.List.{All, AllByRecursion, flat_map, range_with_len, slice_get}
 use Rattle.std.proofs.lemmas.Grind.{flat_map-append}
 use Rattle.std.proofs.lemmas.List.{length-append, append-nil, take-append-drop, get_or-drop, length-replicate}
@@ -62,7 +62,7 @@ written schema first rows =
 abbrev pub FitIn : ℕ → (Row → ℕ) → List Row → Type 0
 FitIn width number rows = AllByRecursion (λ row. number row < 256 ^ width) rows
 
-length-column : (width : ℕ) (number : Row → ℕ) (rows : List Row) → length (column width number rows) ≡ width * length rows
+pub length-column : (width : ℕ) (number : Row → ℕ) (rows : List Row) → length (column width number rows) ≡ width * length rows
 length-column width number [] = omega arith
 length-column width number (row ∷ rows) =
     let one = length-number_bytes width (number row) in
@@ -113,7 +113,7 @@ columns_at width number rows page front rest place n is fit e j less i row there
     let same : 0 + j ≡ j = omega arith in
     columns_read width number rows page front rest place 0 n is fit e j less i _ row there refl ∙ ap (λ (k : ℕ). number k row) same
 
-length-columns : (width : ℕ) (number : ℕ → Row → ℕ) (a n : ℕ) (rows : List Row)
+pub length-columns : (width : ℕ) (number : ℕ → Row → ℕ) (a n : ℕ) (rows : List Row)
     → length (flat_map (λ i. column width (number i) rows) (range_with_len a n)) ≡ width * (length rows * n)
 length-columns width number a zero rows = omega arith
 length-columns width number a (suc n) rows =
@@ -245,7 +245,7 @@ parts schema region page is e =
     }
 
 -- what stands in n bytes is a number of n bytes
-number_lt : (n place : ℕ) (page : List ℕ) → ((k : ℕ) → get_or page k 0 < 256) → number_at n place page < 256 ^ n
+pub number_lt : (n place : ℕ) (page : List ℕ) → ((k : ℕ) → get_or page k 0 < 256) → number_at n place page < 256 ^ n
 unfolding number_at
 number_lt n place page bytes = big_from-lt 0 n (drop place page) (λ k. rw (get_or-drop place page k 0) (bytes (place + k)))
 
@@ -311,12 +311,6 @@ not_refused schema region page is same OutOfRegion fault =
 not_refused schema region page is same BadPadding fault = fault.5 region is same
 not_refused schema region page is same Unclean fault = fault
 not_refused schema region page is same BadName fault = fault
-
--- a page that is not written of what stands on it is written of nothing
-pub padding_fault : (schema : Schema) (region : Region) (page : List ℕ) → region ≡ region_on schema page → IsRegionKind page → HasCounts schema page → HasRows schema page → HasOrder schema page
-    → HasFirst schema page → region_page schema region ≢ page → IsRegionFault schema page BadPadding
-padding_fault schema region page on kind counts rows order first other =
-    (kind, counts, rows, order, first, λ r is e. other (ap (region_page schema) (on ∙ (parts schema r page is e).on) ∙ sym e))
 
 pub same_view : (view : RegionView) (dims : ℕ) (region : Region) → view.dims ≡ dims → view.region ≡ region → view ≡ record { dims = dims; region = region }
 same_view view dims region a b = rw (← a, ← b) refl

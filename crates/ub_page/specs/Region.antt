@@ -4,7 +4,7 @@ use Rattle.std.specs.Int.{w64, cast_signed, cast_unsigned}
 use Rattle.std.specs.List.{AllByRecursion, flat_map, range_with_len}
 use Rattle.ub_bigmin.specs.Box.{Corners, IsInside}
 use Rattle.ub_page.specs.Bytes.{number_bytes, number_at, layout, padded}
-use Rattle.ub_table.specs.Keys.{AreKeysAscending}
+use Rattle.ub_table.specs.Keys.{origin, AreKeysAscending}
 use Rattle.ub_table.specs.Region.{Region, measures_of, keys_of, IsNumbered, IsFirst, AreFrom, IsRegion}
 use Rattle.ub_table.specs.declared.fault.PageFault.{PageFault}
 use Rattle.ub_table.specs.declared.fault.PageFault.TheVariants.{WrongKind, BadCount, BadRow, BadOrder, OutOfRegion, BadPadding}
@@ -16,6 +16,10 @@ use Rattle.ub_table.specs.declared.schema.Schema.{Schema}
 pub record RegionView : Type 0 where
   pub dims : ℕ
   pub region : Region
+
+-- one of no rows, from the first address on
+abbrev pub empty_region : ℕ → RegionView
+empty_region dims = record { dims = dims; region = record { first = origin; rows = [] } }
 
 -- 'R', how many dimensions, measures and rows, and the first key
 abbrev pub head_fields : ℕ → ℕ → ℕ → Key → List (ℕ × ℕ)

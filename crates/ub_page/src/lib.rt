@@ -7,9 +7,11 @@
 
 #![tactic(auto)]
 
+mod columns;
 pub mod directory;
 mod draft;
 pub mod header;
+pub mod laws;
 pub mod page;
 pub mod region;
 

@@ -1,4 +1,4 @@
-ghost use Rattle.std.specs.Prelude.{◌≡◌, ◌+◌, ◌<◌, ◌≤◌, ◌^◌, ◌↔◌, IsTrue};
+ghost use Rattle.std.specs.Prelude.{◌≡◌, ◌+◌, ◌-◌, ◌<◌, ◌≤◌, ◌^◌, ◌↔◌, IsTrue, drop, replicate};
 ghost use Rattle.std.specs.Int.{w64, cast_signed};
 ghost use Rattle.ub_page.specs.Bytes.{number_at};
 
@@ -60,6 +60,14 @@ pub(crate) fn is_same(a: &Page, b: &Page) -> bool
     ensures { IsTrue result ↔ (a.now ≡ b.now) }
 {
     *a == *b
+}
+
+// Whether all bytes of a page from a place on are zero.
+pub(crate) fn is_blank_from(page: &Page, place: usize) -> bool
+    requires { place ≤ 4096 }
+    ensures { IsTrue result ↔ (drop place page.now ≡ replicate (4096 - place) 0) }
+{
+    are_equal(&page[place..], &[0; 4096][place..])
 }
 
 // Whether two texts are the same, byte for byte.

@@ -1,16 +1,16 @@
-ghost use Rattle.std.specs.Prelude.{◌≡◌, ◌+◌, ◌-◌, ◌*◌, ◌≤◌, ◌<◌, ◌++◌, ◌↔◌, ℕ, pos, Some, Ok, length, map, take, replicate, slice_get, IsTrue, IfOk, IfErr};
-ghost use Rattle.std.specs.Int.{bit_at, w64, cast_signed};
-ghost use Rattle.std.specs.List.{AllByRecursion, range_with_len};
-ghost use Rattle.ub_bigmin.specs.Box.{IsInside};
+ghost use Rattle.std.specs.Prelude.{◌≡◌, ◌+◌, ◌-◌, ◌*◌, ◌≤◌, ◌<◌, ◌++◌, ◌↔◌, ℕ, Ok, Some, length, slice_get, IsTrue, IsOk, IfOk, IfErr, OnOk, OnErr};
+ghost use Rattle.std.specs.Int.{bit_at};
+ghost use Rattle.std.specs.List.{AllByRecursion};
 ghost use Rattle.ub_page.specs.Bytes.{number_at};
-ghost use Rattle.ub_page.specs.Region.{column, columns, dim_of, measure_of, places, region_page, row_on, region_on, IsRegionKind, HasCounts, HasRows, HasOrder, HasFirst, IsRegionFault, IsRowInside};
-ghost use Rattle.ub_page.specs.RowBlock.{blank_row};
+ghost use Rattle.ub_page.specs.Columns.{end_with, IsKeyNumbered};
+ghost use Rattle.ub_page.specs.Region.{column, columns, dim_of, measure_of, region_page, region_on, empty_region, IsRegionKind, HasCounts, HasRows, HasOrder, HasFirst, IsRegionFault, IsRowInside};
 ghost use Rattle.ub_table.specs.Keys.{AreKeysAscending};
-ghost use Rattle.ub_table.specs.Region.{Region, measures_of, keys_of, IsNumbered, IsFirst, AreFrom, IsRegion};
-ghost use Rattle.ub_zaddr.specs.Address.{IsAtMost};
+ghost use Rattle.ub_table.specs.Region.{Region, keys_of, IsNumbered, IsFirst, AreFrom, IsRegion};
 
+use crate::columns::{Dims, Keys, Measures, read_dims, read_keys, read_measures, row_at, rows_of};
 use crate::draft::Draft;
-use crate::page::{Page, i64_at, is_same, u8_at, u32_at, u128_at};
+use crate::laws::mask_between;
+use crate::page::{Page, is_blank_from, u8_at, u32_at, u128_at};
 use std::marker::Model;
 use ub_bigmin::ZBox;
 use ub_table::{Key, MAX_ROW_NUMBER, MAX_ROWS, PageFault, Row, Schema};
@@ -19,29 +19,33 @@ use ub_zaddr::{Shape, last};
 // 'R', with which each page of a region begins.
 const KIND: u8 = 0x52;
 
+// The key that no key is before.
+const ORIGIN: Key = Key { z: 0, number: 0 };
+
 /// A region's page that has been read: the first key, and the rows in the order of their keys, none before the first key.
-#[derive(Clone, Copy)]
+///
+/// The rows stand in columns of host order, and each is made when it is asked for; their keys are made once, by `read`.
+#[derive(Drop)]
 pub struct RegionPage {
     shape: Shape,
     first: Key,
+    keys: Keys,
+    dims: Dims,
+    measures: Measures,
+    // The rows once more, for those that ask for all.
     rows: [Row; MAX_ROWS],
     len: usize,
 }
 
 impl Model for RegionPage {
+    ghost use Rattle.ub_page.specs.Held.{held, AreColumns};
     ghost use Rattle.ub_page.specs.Region.{RegionView};
-    ghost use Rattle.ub_page.specs.RowBlock.{IsRowBlock, view_of, inside_of, inside_back};
 
     ghost Value = { RegionView };
 
-    ghost view = { view_of };
+    ghost view = { held };
 
-    ghost invariant = { λ p. IsRowBlock p.len p.rows };
-
-    // The unused places are blank, so that a region is kept in one way alone.
-    ghost inverse = { inside_of };
-
-    ghost inverse_ok = { inside_back };
+    ghost invariant = { AreColumns };
 }
 
 impl RegionPage {
@@ -60,11 +64,132 @@ impl RegionPage {
             → result ≡ Ok (record { dims = schema.now.dims; region = region }) }
         ensures refused { IfErr result (IsRegionFault schema.now page.now) }
     {
-        let region = region_of(schema, page)?;
-        if !is_same(&write_region(schema, region.first(), region.rows()), page) {
+        let mut region = RegionPage::empty(schema.shape());
+        region.fill(schema, page)?;
+        Ok(region)
+    }
+
+    /// A region of no rows from the first address on, for `fill`. Takes no memory.
+    pub fn empty(shape: Shape) -> RegionPage
+        ensures { result ≡ empty_region shape }
+    {
+        let blank = Row {
+            number: 0,
+            dims: [0; 4],
+            measures: [0; 4],
+        };
+        RegionPage {
+            shape,
+            first: ORIGIN,
+            keys: [ORIGIN; MAX_ROWS],
+            dims: [[0; MAX_ROWS]; 4],
+            measures: [[0; MAX_ROWS]; 4],
+            rows: [blank; MAX_ROWS],
+            len: 0,
+        }
+    }
+
+    /// Puts the region that the page tells of in the place of this one, so that no region moves. It is refused as by
+    /// `read`, and then a region of no rows stands here. Takes no memory.
+    pub fn fill(&mut self, schema: &Schema, page: &Page) -> Result<(), PageFault>
+        ensures dims { self.new.dims ≡ schema.now.dims }
+        ensures on { OnOk result (self.new.region ≡ region_on schema.now page.now) }
+        ensures found { OnOk result (IsRegion schema.now self.new.region
+            × (page.now ≡ region_page schema.now self.new.region)) }
+        ensures exact { (region : Region) → IsRegion schema.now region
+            → page.now ≡ region_page schema.now region
+            → IsOk result × (self.new ≡ record { dims = schema.now.dims; region = region }) }
+        ensures refused { IfErr result (IsRegionFault schema.now page.now) }
+        ensures empty { OnErr result (self.new ≡ empty_region schema.now.dims) }
+    {
+        match self.take_in(schema, page) {
+            Ok(()) => Ok(()),
+            Err(fault) => {
+                self.clear(schema.shape());
+                Err(fault)
+            }
+        }
+    }
+
+    // Leaves no rows.
+    fn clear(&mut self, shape: Shape)
+        ensures { self.new ≡ empty_region shape }
+    {
+        self.shape = shape;
+        self.first = ORIGIN;
+        self.len = 0;
+    }
+
+    // Takes in what stands on the page, where all of it is in range and in order.
+    fn take_in(&mut self, schema: &Schema, page: &Page) -> Result<(), PageFault>
+        ensures dims { OnOk result (self.new.dims ≡ schema.now.dims) }
+        ensures on { OnOk result (self.new.region ≡ region_on schema.now page.now) }
+        ensures found { OnOk result (IsRegion schema.now self.new.region
+            × (page.now ≡ region_page schema.now self.new.region)) }
+        ensures exact { (region : Region) → IsRegion schema.now region
+            → page.now ≡ region_page schema.now region
+            → IsOk result × (self.new ≡ record { dims = schema.now.dims; region = region }) }
+        ensures refused { IfErr result (IsRegionFault schema.now page.now) }
+    {
+        self.take_in_fields(schema, page)?;
+        if !is_blank_from(page, end_of(schema, self.len())) {
             return Err(PageFault::BadPadding);
         }
-        Ok(region)
+        Ok(())
+    }
+
+    // Takes in what its fields tell, where that is in range and in order.
+    fn take_in_fields(&mut self, schema: &Schema, page: &Page) -> Result<(), PageFault>
+        ensures region { OnOk result ((self.new.dims ≡ schema.now.dims)
+            × (self.new.region ≡ region_on schema.now page.now)) }
+        ensures range { OnOk result
+            (IsRegionKind page.now × HasCounts schema.now page.now × HasRows schema.now page.now) }
+        ensures order { OnOk result (HasOrder schema.now page.now × HasFirst schema.now page.now) }
+        ensures refused { IfErr result (IsRegionFault schema.now page.now) }
+    {
+        if u8_at(page, 0) != KIND {
+            return Err(PageFault::WrongKind);
+        }
+        if !has_counts(schema, page) {
+            return Err(PageFault::BadCount);
+        }
+        self.take_in_columns(schema, page);
+        if !has_rows(schema.shape(), self) {
+            return Err(PageFault::BadRow);
+        }
+        if !are_ascending(self.keys()) {
+            return Err(PageFault::BadOrder);
+        }
+        if !are_from(&self.first(), self.keys()) {
+            return Err(PageFault::OutOfRegion);
+        }
+        Ok(())
+    }
+
+    // Takes in the first key and the rows that stand on the page.
+    fn take_in_columns(&mut self, schema: &Schema, page: &Page)
+        requires { number_at 1 3 page.now ≤ MAX_ROWS }
+        ensures dims { self.new.dims ≡ schema.now.dims }
+        ensures region { self.new.region ≡ region_on schema.now page.now }
+    {
+        let len = usize::from(u8_at(page, 3));
+        let used = schema.dims() as usize;
+        let place = 24 + 4 * len;
+        self.shape = schema.shape();
+        self.first = Key {
+            z: u128_at(page, 4),
+            number: u32_at(page, 20),
+        };
+        self.dims = read_dims(page, used, place, len);
+        self.measures = read_measures(
+            page,
+            schema.measures() as usize,
+            place + 4 * (len * used),
+            len,
+        );
+        self.keys = read_keys(page, self.shape, &self.dims, len);
+        self.rows = rows_of(&self.keys, &self.dims, &self.measures, len);
+        self.len = len;
     }
 
     /// The region's first key: no row of it is before.
@@ -79,7 +204,7 @@ impl RegionPage {
         ensures len { result ≡ length self.now.region.rows }
         ensures few { result ≤ MAX_ROWS }
     {
-        self.rows().len()
+        self.keys().len()
     }
 
     /// The rows in the order of their keys: at most 64.
@@ -95,7 +220,15 @@ impl RegionPage {
         requires { i < length self.now.region.rows }
         ensures { slice_get self.now.region.rows i ≡ Some result }
     {
-        self.rows()[i]
+        row_at(&self.keys, &self.dims, &self.measures, i)
+    }
+
+    /// The keys of the rows in their order, each the row's address and its number: at most 64.
+    pub fn keys(&self) -> &[Key]
+        ensures keys { result.now ≡ keys_of self.now.dims self.now.region.rows }
+        ensures few { length result.now ≤ MAX_ROWS }
+    {
+        &self.keys[..self.len]
     }
 
     /// The key of the row at a place, from 0, of those there are: its address and its number.
@@ -103,7 +236,7 @@ impl RegionPage {
         requires { i < length self.now.region.rows }
         ensures { slice_get (keys_of self.now.dims self.now.region.rows) i ≡ Some result }
     {
-        self.row(i).key(self.shape)
+        self.keys()[i]
     }
 
     /// Which rows lie in a box of the region's shape: bit i is 1 exactly where there is a row at place i, from 0, and it
@@ -112,31 +245,8 @@ impl RegionPage {
         requires { length zbox.now.lo ≡ self.now.dims }
         ensures { (i : ℕ) → (bit_at result i ≡ 1) ↔ IsRowInside self.now zbox.now i }
     {
-        let mut mask = 0u64;
-        for (i, row) in self.rows().iter().enumerate() {
-            if is_inside(self.shape, row, zbox) {
-                mask |= 1 << i;
-            }
-        }
-        mask
+        mask_between(&self.dims, self.len, zbox.lo().values(), zbox.hi().values())
     }
-}
-
-// Whether a row lies in a box of this shape.
-fn is_inside(shape: Shape, row: &Row, zbox: &ZBox) -> bool
-    requires { length zbox.now.lo ≡ shape }
-    ensures { IsTrue result ↔ IsInside zbox.now (take shape row.now.dims) }
-{
-    let point = &row.dims[..shape.dims() as usize];
-    is_at_most(zbox.lo().values(), point) && is_at_most(point, zbox.hi().values())
-}
-
-// Whether each value is at most the other's at its place.
-fn is_at_most(values: &[u32], others: &[u32]) -> bool
-    requires { length values.now ≡ length others.now }
-    ensures { IsTrue result ↔ IsAtMost values.now others.now }
-{
-    values.iter().zip(others).all(|(a, b)| *a <= *b)
 }
 
 /// The page of a region: its first key and its rows, at most 64. Of each row it holds the number, and what the schema's
@@ -219,34 +329,6 @@ fn put_measure(draft: &mut Draft, rows: &[Row], measure: usize)
     }
 }
 
-// What stands on the page, where that is in range and in order.
-fn region_of(schema: &Schema, page: &Page) -> Result<RegionPage, PageFault>
-    ensures region { IfOk result
-        (λ r. (r.dims ≡ schema.now.dims) × (r.region ≡ region_on schema.now page.now)) }
-    ensures range { IfOk result
-        (λ _. IsRegionKind page.now × HasCounts schema.now page.now × HasRows schema.now page.now) }
-    ensures order { IfOk result (λ _. HasOrder schema.now page.now × HasFirst schema.now page.now) }
-    ensures refused { IfErr result (IsRegionFault schema.now page.now) }
-{
-    if u8_at(page, 0) != KIND {
-        return Err(PageFault::WrongKind);
-    }
-    if !has_counts(schema, page) {
-        return Err(PageFault::BadCount);
-    }
-    let region = read_region(schema, page);
-    if !has_rows(schema.shape(), &region) {
-        return Err(PageFault::BadRow);
-    }
-    if !are_ascending(schema.shape(), region.rows()) {
-        return Err(PageFault::BadOrder);
-    }
-    if !are_from(schema.shape(), &region.first(), region.rows()) {
-        return Err(PageFault::OutOfRegion);
-    }
-    Ok(region)
-}
-
 // Whether the page tells of the schema's dimensions and measures, and of no more rows than its pages hold.
 fn has_counts(schema: &Schema, page: &Page) -> bool
     ensures { IsTrue result ↔ HasCounts schema.now page.now }
@@ -256,299 +338,63 @@ fn has_counts(schema: &Schema, page: &Page) -> bool
         && u32::from(u8_at(page, 3)) <= schema.page_rows()
 }
 
-// The first key and the rows that stand on the page.
-fn read_region(schema: &Schema, page: &Page) -> RegionPage
-    requires { number_at 1 3 page.now ≤ MAX_ROWS }
-    ensures dims { result.dims ≡ schema.now.dims }
-    ensures region { result.region ≡ region_on schema.now page.now }
-{
-    let first = Key {
-        z: u128_at(page, 4),
-        number: u32_at(page, 20),
-    };
-    let len = usize::from(u8_at(page, 3));
-    RegionPage {
-        shape: schema.shape(),
-        first,
-        rows: read_rows(schema, page, len),
-        len,
-    }
-}
-
-// The rows of a page that tells of so many, and blank ones after them.
-fn read_rows(schema: &Schema, page: &Page, count: usize) -> [Row; MAX_ROWS]
+// How many bytes of a page so many rows use.
+fn end_of(schema: &Schema, count: usize) -> usize
     requires { count ≤ MAX_ROWS }
-    ensures { result
-        ≡ map (row_on schema.now.dims (measures_of schema.now) count page.now) (range_with_len 0 count)
-        ++ replicate (MAX_ROWS - count) blank_row }
-{
-    let blank = Row {
-        number: 0,
-        dims: [0; 4],
-        measures: [0; 4],
-    };
-    let mut rows = [blank; MAX_ROWS];
-    for i in 0..count {
-        rows[i] = read_row(schema, page, count, i);
-    }
-    rows
-}
-
-// The row at a place, of so many rows.
-#[tactic(auto, unfolding(crate::specs::Region::row_on))]
-fn read_row(schema: &Schema, page: &Page, count: usize, i: usize) -> Row
-    requires count { count ≤ MAX_ROWS }
-    requires row { i < count }
-    ensures { result ≡ row_on schema.now.dims (measures_of schema.now) count page.now i }
+    ensures { result ≡ end_with schema.now count }
 {
     let dims = schema.dims() as usize;
-    let place = 24 + 4 * count;
-    Row {
-        number: u32_at(page, 24 + 4 * i),
-        dims: read_dims(page, dims, place, count, i),
-        measures: read_measures(
-            page,
-            schema.measures() as usize,
-            place + 4 * (count * dims),
-            count,
-            i,
-        ),
-    }
-}
-
-// The dimensions of a row, of so many rows, the first of which begin at a place.
-fn read_dims(page: &Page, dims: usize, place: usize, count: usize, i: usize) -> [u32; 4]
-    requires dims { dims ≤ 4 }
-    requires place { place ≤ 280 }
-    requires count { count ≤ MAX_ROWS }
-    requires row { i < count }
-    ensures { result ≡ places 0 (λ d. number_at 4 (place + 4 * (count * d + i)) page.now) dims }
-{
-    let mut values = [0; 4];
-    for dim in 0..dims {
-        values[dim] = u32_at(page, place + 4 * (count * dim + i));
-    }
-    values
-}
-
-// The measures of a row, of so many rows, the first of which begin at a place.
-fn read_measures(page: &Page, measures: usize, place: usize, count: usize, i: usize) -> [i64; 4]
-    requires measures { measures ≤ 4 }
-    requires place { place ≤ 1304 }
-    requires count { count ≤ MAX_ROWS }
-    requires row { i < count }
-    ensures { result ≡ places (pos 0)
-        (λ m. cast_signed w64 (number_at 8 (place + 8 * (count * m + i)) page.now)) measures }
-{
-    let mut values = [0; 4];
-    for measure in 0..measures {
-        values[measure] = i64_at(page, place + 8 * (count * measure + i));
-    }
-    values
+    let measures = schema.measures() as usize;
+    24 + 4 * count + 4 * (count * dims) + 8 * (count * measures)
 }
 
 // Whether the first key and the rows' numbers are in range.
 fn has_rows(shape: Shape, region: &RegionPage) -> bool
+    requires { region.now.dims ≡ shape }
     ensures { IsTrue result
         ↔ (IsFirst shape region.now.region.first × AllByRecursion IsNumbered region.now.region.rows) }
 {
-    region.first.z <= last(shape)
-        && region.first.number <= MAX_ROW_NUMBER
-        && are_numbered(region.rows())
+    is_first(shape, &region.first()) && are_numbered(region.keys())
 }
 
-fn are_numbered(rows: &[Row]) -> bool
-    ensures { IsTrue result ↔ AllByRecursion IsNumbered rows.now }
+fn is_first(shape: Shape, key: &Key) -> bool
+    ensures { IsTrue result ↔ IsFirst shape key.now }
 {
-    for row in rows {
-        if row.number == 0 || row.number > MAX_ROW_NUMBER {
+    key.z <= last(shape) && key.number <= MAX_ROW_NUMBER
+}
+
+fn are_numbered(keys: &[Key]) -> bool
+    ensures { IsTrue result ↔ AllByRecursion IsKeyNumbered keys.now }
+{
+    for key in keys {
+        if key.number == 0 || key.number > MAX_ROW_NUMBER {
             return false;
         }
     }
     true
 }
 
-// Whether each row's key is before the next row's.
-fn are_ascending(shape: Shape, rows: &[Row]) -> bool
-    ensures { IsTrue result ↔ AreKeysAscending (keys_of shape rows.now) }
+// Whether each key is before the next.
+fn are_ascending(keys: &[Key]) -> bool
+    ensures { IsTrue result ↔ AreKeysAscending keys.now }
 {
-    if rows.is_empty() {
+    if keys.is_empty() {
         return true;
     }
-    let mut before = rows[0].key(shape);
-    for i in 1..rows.len() {
-        let key = rows[i].key(shape);
-        if !before.is_before(&key) {
+    let mut before = keys[0];
+    for i in 1..keys.len() {
+        if !before.is_before(&keys[i]) {
             return false;
         }
-        before = key;
+        before = keys[i];
     }
     true
 }
 
-// Whether no row, of rows in the order of their keys, is before the first key.
-fn are_from(shape: Shape, first: &Key, rows: &[Row]) -> bool
-    requires { AreKeysAscending (keys_of shape rows.now) }
-    ensures { IsTrue result ↔ AreFrom first.now (keys_of shape rows.now) }
+// Whether no key, of keys in order, is before the first.
+fn are_from(first: &Key, keys: &[Key]) -> bool
+    requires { AreKeysAscending keys.now }
+    ensures { IsTrue result ↔ AreFrom first.now keys.now }
 {
-    rows.is_empty() || !rows[0].key(shape).is_before(first)
-}
-
-#[cfg(test)]
-mod tests {
-    use super::*;
-    use std::test::Fail;
-    use ub_table::Name;
-    use ub_zaddr::Point;
-
-    fn plane() -> Result<Schema, PageFault> {
-        let columns = [Name::new(b"x")?, Name::new(b"y")?, Name::new(b"m")?];
-        Schema::new(Name::new(b"t")?, &columns, 2, 2)
-    }
-
-    fn row(number: u32, x: u32, y: u32, m: i64) -> Row {
-        Row {
-            number,
-            dims: [x, y, 0, 0],
-            measures: [m, 0, 0, 0],
-        }
-    }
-
-    // Two rows from the address 0 on.
-    fn low_page() -> Page {
-        page_of(&[
-            (27, 1),
-            (31, 4),
-            (35, 1),
-            (43, 1),
-            (47, 2),
-            (55, 10),
-            (63, 7),
-        ])
-    }
-
-    // Two rows from the address 13 on.
-    fn high_page() -> Page {
-        page_of(&[
-            (19, 13),
-            (27, 2),
-            (31, 5),
-            (35, 2),
-            (39, 2),
-            (43, 3),
-            (47, 3),
-            (55, 20),
-            (63, 1),
-        ])
-    }
-
-    // A page of two rows with two dimensions and a measure, with these bytes.
-    fn page_of(bytes: &[(usize, u8)]) -> Page {
-        let mut page = [0; 4096];
-        page[..4].copy_from_slice(&[0x52, 2, 1, 2]);
-        changed(page, bytes)
-    }
-
-    fn changed(mut page: Page, bytes: &[(usize, u8)]) -> Page {
-        for (place, byte) in bytes {
-            page[*place % 4096] = *byte;
-        }
-        page
-    }
-
-    #[test]
-    fn reads_what_it_writes(rt: HostRuntime) -> Result<(), Fail> {
-        let schema = plane()?;
-        let low = [row(1, 1, 1, 10), row(4, 0, 2, 7)];
-        let high = [row(2, 2, 3, 20), row(5, 2, 3, 1)];
-        for (z, rows, page) in [(0, low, low_page()), (13, high, high_page())] {
-            let first = Key { z, number: 0 };
-            assert!(rt; is_same(&write_region(&schema, first, &rows), &page), "{z}");
-            let region = RegionPage::read(&schema, &page)?;
-            assert!(rt;
-                region.first() == first && region.rows() == rows.as_slice(),
-                "{z}"
-            );
-        }
-        Ok(())
-    }
-
-    #[test]
-    fn gives_rows_and_keys(rt: HostRuntime) -> Result<(), Fail> {
-        let region = RegionPage::read(&plane()?, &low_page())?;
-        assert_eq!(rt; region.len(), 2);
-        if region.len() == 2 {
-            assert!(rt; region.row(1) == row(4, 0, 2, 7));
-            assert!(rt; region.key(1) == Key { z: 4, number: 4 });
-        }
-        Ok(())
-    }
-
-    #[test]
-    fn refuses_the_first_fault(rt: HostRuntime) -> Result<(), Fail> {
-        let schema = plane()?;
-        let exchanged = [
-            (27, 4),
-            (31, 1),
-            (35, 0),
-            (39, 1),
-            (43, 2),
-            (47, 1),
-            (55, 7),
-            (63, 10),
-        ];
-        for (bytes, fault) in [
-            ([(0, 0)].as_slice(), PageFault::WrongKind),
-            ([(3, 3)].as_slice(), PageFault::BadCount),
-            ([(27, 0), (31, 0)].as_slice(), PageFault::BadRow),
-            (exchanged.as_slice(), PageFault::BadOrder),
-            ([(19, 4)].as_slice(), PageFault::OutOfRegion),
-            ([(4095, 1)].as_slice(), PageFault::BadPadding),
-        ] {
-            let page = changed(low_page(), bytes);
-            assert!(rt;
-                RegionPage::read(&schema, &page).err() == Some(fault),
-                "{fault}"
-            );
-        }
-        Ok(())
-    }
-
-    #[test]
-    fn masks_rows_in_a_box(rt: HostRuntime) -> Result<(), Fail> {
-        let schema = plane()?;
-        let region = RegionPage::read(&schema, &low_page())?;
-        let shape = Shape::new(schema.dims())?;
-        let lo = Point::new(shape, &[0, 0])?;
-        let hi = Point::new(shape, &[0, 3])?;
-        let zbox = ZBox::new(shape, &lo, &hi).ok_or(PageFault::BadCount)?;
-        assert_eq!(rt; region.mask(&zbox), 0b10);
-        Ok(())
-    }
-
-    #[test]
-    fn holds_full_pages(rt: HostRuntime) -> Result<(), Fail> {
-        let x = Name::new(b"x")?;
-        let mut columns = [x; 8];
-        for (i, text) in ["a", "b", "c", "d", "e", "f", "g", "h"].iter().enumerate() {
-            columns[i % 8] = Name::new(text.as_bytes())?;
-        }
-        let schema = Schema::new(x, &columns, 4, 64)?;
-        let mut rows = [row(16_777_215, 0, 0, 0); 64];
-        for i in 0..64u32 {
-            let number = if i == 63 { 16_777_215 } else { i + 1 };
-            rows[i as usize] = Row {
-                number,
-                dims: [0, u32::MAX, 7, i],
-                measures: [i64::MIN, i64::MAX, -1, i64::from(i)],
-            };
-        }
-        let first = Key {
-            z: 0,
-            number: 16_777_215,
-        };
-        let region = RegionPage::read(&schema, &write_region(&schema, first, &rows))?;
-        assert!(rt; region.first() == first && region.rows() == rows.as_slice());
-        Ok(())
-    }
+    keys.is_empty() || !keys[0].is_before(first)
 }

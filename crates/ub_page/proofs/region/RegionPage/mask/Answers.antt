@@ -1,24 +1,23 @@
-use Rattle.std.proofs.Common.{ap, true, ◌≡◌, length, ◌≤◌}
+use Rattle.std.proofs.Common.{◌≡◌, ◌≤◌, ℕ, List, ap, sym, subst, ◌∙◌, arith, length}
+use Rattle.ub_page.proofs.MaskFacts.{IsMaskBelow-all}
+use Rattle.ub_page.specs.Lanes.{IsMaskBelow}
 use Rattle.ub_page.specs.Region.{RegionView}
-use Rattle.ub_page.proofs.MaskFacts.{IsMaskTo-in, IsMaskTo-out, IsMaskTo-all}
 use Rattle.ub_page.proofs.region.RegionPage.mask.Goals as goal
-use Rattle.ub_page.proofs.region.RegionPage.mask.Goals.{then-is_inside, else-is_inside}
-
-pub loop-i-preserved : goal.loop-i-preserved
-loop-i-preserved c =
-    let dims = ap (λ (v : RegionView). v.dims) c.self.view_is in
-    elim c.if-is_inside.branch [
-      | then-is_inside w ↦
-          rw w.mask-is
-          (IsMaskTo-in c.args.self.now c.args.zbox.now c.loop-i.mask c.loop-i.i c.rows-row-items.result.now c.self.inside.shape _ c.rows-row-items.ensures.rows dims c.loop-i-test.true c.rows-row-items.ensures.few
-          (c.is_inside.ensures.0 w.if-is_inside.true) c.loop-i.invariant)
-      | else-is_inside w ↦
-          rw w.mask-is
-          (IsMaskTo-out c.args.self.now c.args.zbox.now c.loop-i.mask c.loop-i.i c.rows-row-items.result.now c.self.inside.shape _ c.rows-row-items.ensures.rows dims c.loop-i-test.true
-          (λ inside. let yes : c.is_inside.result ≡ true = c.is_inside.ensures.1 inside in let no = w.if-is_inside.false in cc) c.loop-i.invariant)
-    ]
 
 pub returns : goal.returns
 returns c =
-    let done : length c.args.self.now.region.rows ≤ c.loop-i.i = rw c.rows-row-items.ensures.rows at c.loop-i-test.false in
-    IsMaskTo-all c.args.self.now c.args.zbox.now c.loop-i.mask c.loop-i.i done c.loop-i.invariant
+    let p = c.self.inside in
+    let zbox = c.args.zbox.now in
+    let mask = c.mask_between.result in
+    let corners = c.lo.ensures.corners in
+    let lo_is = c.values.ensures.values ∙ c.lo.ensures.lo in
+    let hi_is = c.values-2.ensures.values ∙ c.hi.ensures.hi in
+    let lo_long : length zbox.lo ≡ p.shape = c.requires ∙ sym (ap (λ (v : RegionView). v.dims) c.self.view_is) in
+    let hi_long : length zbox.hi ≡ p.shape = sym corners.ordered.0 ∙ lo_long in
+    let some : 1 ≤ p.shape = omega (arith, corners.some) in
+    let within : p.shape ≤ 4 = omega (arith, corners.within) in
+    let in_lo = subst (λ (lo : List ℕ). IsMaskBelow p.len p.dims lo c.values-2.result.now (length lo) mask) lo_is c.mask_between.ensures in
+    let in_hi = subst (λ (hi : List ℕ). IsMaskBelow p.len p.dims zbox.lo hi (length zbox.lo) mask) hi_is in_lo in
+    let in_box = subst (λ (n : ℕ). IsMaskBelow p.len p.dims zbox.lo zbox.hi n mask) lo_long in_hi in
+    rw (← c.self.view_is)
+    (IsMaskBelow-all p.shape p.len p.first p.keys p.dims p.measures zbox mask some within c.self.invariant.few lo_long hi_long c.self.invariant.dims_long in_box)

@@ -1,0 +1,99 @@
+ghost use Rattle.std.specs.Prelude.{◌≡◌, ◌≤◌};
+
+use crate::generator::Generator;
+use ub_bigmin::ZBox;
+use ub_page::{Page, RegionPage, write_region};
+use ub_table::{Key, Name, PageFault, Row, Schema};
+use ub_zaddr::{Point, Shape, last, spread};
+
+/// How many rows stand on the page.
+const ROWS: u32 = 64;
+
+// So many dimensions, one measure, 64 rows on a page.
+fn space(dims: u32) -> Result<Schema, PageFault>
+    requires { dims ≤ 4 }
+{
+    let columns = [
+        Name::new(b"a")?,
+        Name::new(b"b")?,
+        Name::new(b"c")?,
+        Name::new(b"d")?,
+        Name::new(b"m")?,
+    ];
+    let dimensions = dims as usize;
+    let mut named = columns;
+    named[dimensions] = columns[4];
+    Schema::new(Name::new(b"t")?, &named[..dimensions + 1], dims, ROWS)
+}
+
+// Rows at addresses that lie about as far apart as there is room for.
+fn rows_of(shape: Shape) -> [Row; 64] {
+    let mut numbers = Generator::new(64);
+    let row = Row {
+        number: 1,
+        dims: [0; 4],
+        measures: [0; 4],
+    };
+    let mut rows = [row; 64];
+    let width = last(shape) / u128::from(ROWS);
+    let mut z = 0u128;
+    for i in 0..64u32 {
+        if let Ok(point) = spread(shape, z) {
+            for (dim, value) in point.values().iter().enumerate() {
+                rows[i as usize].dims[dim % 4] = *value;
+            }
+        }
+        rows[i as usize].number = i + 1;
+        rows[i as usize].measures[0] = i64::from(numbers.coordinate());
+        z = z.saturating_add(width / 2).saturating_add(u128::from(
+            numbers.coordinate() >> 20,
+        ).saturating_mul(width >> 13));
+    }
+    rows
+}
+
+// The box of the middle half of each dimension.
+fn middle(shape: Shape) -> Option<ZBox> {
+    let dims = shape.dims() as usize;
+    let lo = Point::new(shape, &[1 << 30; 4][..dims]).ok()?;
+    let hi = Point::new(shape, &[3 << 30; 4][..dims]).ok()?;
+    ZBox::new(shape, &lo, &hi)
+}
+
+// The page's rows in the box, one bit for each: of a region made anew, or of this one, which takes them in.
+fn filtered(
+    schema: &Schema,
+    page: &Page,
+    zbox: &ZBox,
+    held: &mut RegionPage,
+    is_held: bool,
+) -> Result<u64, PageFault> {
+    if zbox.lo().values().len() != schema.dims() as usize {
+        return Ok(0);
+    }
+    if is_held {
+        held.fill(schema, page)?;
+        Ok(held.mask(zbox))
+    } else {
+        Ok(RegionPage::read(schema, page)?.mask(zbox))
+    }
+}
+
+/// The checksum of the masks of a page with 64 rows, which is read and filtered by one box so many times, each time into the
+/// same region where that is held.
+pub fn read_and_filter(dims: u32, calls: u64, is_held: bool) -> Result<u64, PageFault>
+    requires { dims ≤ 4 }
+{
+    let schema = space(dims)?;
+    let shape = schema.shape();
+    let Some(zbox) = middle(shape) else {
+        return Ok(0);
+    };
+    let page = write_region(&schema, Key { z: 0, number: 0 }, &rows_of(shape));
+    let mut held = RegionPage::empty(shape);
+    let mut sum = 0u64;
+    for _ in 0..calls {
+        sum = sum.rotate_left(1) ^ filtered(&schema, &page, &zbox, &mut held, is_held)?;
+    }
+    Ok(sum)
+}
