@@ -25,7 +25,7 @@ use Rattle.ub_load.specs.declared.fault.LoadFault.{LoadFault}
 use Rattle.ub_load.specs.declared.fault.LoadFault.TheVariants.{NoHeader}
 use Rattle.ub_load.proofs.CsvFacts.{AreRecords-records, Reached-front}
 use Rattle.ub_load.proofs.RefusalFacts.{enumerate_from-append, first-here, first-skip, flat-more, flat-refused}
-use Rattle.ub_region.proofs.TableFacts.{insert_table}
+use Rattle.ub_region.proofs.Laws.{insertion_adds_the_row}
 use Rattle.ub_region.specs.Regions.{AreTableRows, insert}
 use Rattle.ub_table.specs.Keys.{origin}
 use Rattle.ub_table.specs.Region.{Region, IsRow, measures_of}
@@ -111,7 +111,7 @@ holds_more dims c rows row t u h dims_are page_rows_are good put =
     record {
       sound = put.sound;
       regions_are = are ∙ rw (dims_are, page_rows_are, h.regions_are) (sym (insert_all-more dims c rows row (record { first = origin; rows = [] } ∷ [])));
-      table = rw are (insert_table t.schema t.next row (regions t) rows h.sound.regions_are h.table good put.number);
+      table = rw are (insertion_adds_the_row t.schema t.next (regions t) rows row h.sound.regions_are h.table good put.number);
       next = put.next ∙ (let old = h.next in let long = length-append rows (row ∷ []) in omega arith);
     }
 

@@ -6,7 +6,7 @@ use Rattle.std.specs.List.{AllByRecursion, enumerate_from}
 use Rattle.std.proofs.lemmas.Bool.{cases_Bool, eqb-true, lt-ltb, le-ltb}
 use Rattle.std.proofs.lemmas.List.{length-map, take-append-drop}
 use Rattle.std.proofs.lemmas.List.Elements.{All-from_recursion}
-use Rattle.ub_tree.proofs.GrowFacts.{new_row}
+use Rattle.ub_tree.proofs.Laws.{new_row}
 use Rattle.ub_tree.specs.Change.{row_of as made_of}
 use Rattle.ub_load.specs.Field.{trimmed, is_number, number_of, fits_column}
 use Rattle.ub_load.specs.LoadedTable.{row_of}

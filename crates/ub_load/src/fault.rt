@@ -1,15 +1,30 @@
 use csv::ErrorKind;
+use std::fmt;
 use thiserror::Error;
 use ub_tree::TreeFault;
 
-/// Why a CSV text is no table. Rows and columns count from 1, the header not among the rows.
+// Whose name it is: the table's (0), or a column's, counted from 1.
+#[derive(Drop)]
+struct Named(u32);
+
+impl fmt::Display for Named {
+    fn fmt<W: fmt::Write>(&self, f: &mut fmt::Formatter<W>) -> fmt::Result {
+        match self.0 {
+            0 => write!(f, "table"),
+            column => write!(f, "column {column}"),
+        }
+    }
+}
+
+/// Why a CSV text is no table. Rows and columns count from 1, the header not among the rows. Shown, it is what the program
+/// prints of it.
 #[derive(Clone, Copy, PartialEq, Eq, Debug, Error)]
 pub enum LoadFault {
     /// The text has no record at all.
     #[error("NoHeader")]
     NoHeader,
     /// The table's name (0) or a column's (from 1) is no name, or an earlier column has it.
-    #[error("BadName {0}")]
+    #[error("BadName {named}", named = Named(*.0))]
     BadName(u32),
     /// The header has fewer columns than dimensions, or more than four more.
     #[error("ColumnCount")]

@@ -116,3 +116,22 @@ fn store_fails(rt: HostRuntime) {
         );
     }
 }
+
+// What a fault shows is the line that the program prints, but for its first two characters.
+#[test]
+fn faults_are_shown_as_they_are_printed(rt: HostRuntime) -> Result<(), Fail> {
+    let cases = [
+        (LoadFault::BadName(0), "BadName table"),
+        (LoadFault::BadName(3), "BadName column 3"),
+        (
+            LoadFault::BadNumber { row: 12, column: 2 },
+            "BadNumber row 12 column 2",
+        ),
+        (LoadFault::Tree(TreeFault::Full), "Full"),
+    ];
+    for (fault, text) in cases {
+        let shown = format!(in rt.alloc(); "{fault}")?;
+        assert_eq!(rt; shown.as_str(), text);
+    }
+    Ok(())
+}

@@ -1,5 +1,6 @@
 // The regions of a UB-tree (Bayer 1997), without a store: which keys a region holds, where a row goes in, how a region is split
-// and joined (the definitions stand in specs/: `Regions`, `Rows`, `Joins`, `Spans`), and the rows of one region in memory.
+// and joined (the definitions stand in specs/: `Regions`, `Rows`, `Joins`, `Spans`; the functions of `law` ensure their laws), and
+// the rows of one region in memory.
 //
 // What belongs here is what is true of regions as lists. Where a region's page is, and how it is read and written, stands
 // above; what names, rows and keys are, below. Nothing in this crate takes memory.
@@ -7,6 +8,7 @@
 #![tactic(auto)]
 
 pub mod keys;
+pub mod law;
 pub mod rows;
 
 pub use keys::{first_between, is_equal};

@@ -8,7 +8,6 @@ use Rattle.ub_page.specs.declared.directory.Entry.{Entry}
 use Rattle.ub_store.specs.Facts.{StoreFacts, IsHonest, IsPage, page_count, counted as counted_there}
 use Rattle.ub_store.specs.View.{PagerView, SameTrace}
 use Rattle.ub_store.specs.declared.fault.StoreFault.{StoreFault}
-use Rattle.ub_store.specs.declared.fault.StoreFault.TheVariants as store
 use Rattle.ub_table.specs.Keys.{are_ascending}
 use Rattle.ub_table.specs.declared.fault.PageFault.{PageFault}
 use Rattle.ub_table.specs.declared.schema.Schema.{Schema}
@@ -23,6 +22,7 @@ use Rattle.ub_tree.specs.declared.fault.TreeFault.{TreeFault}
 use Rattle.ub_tree.specs.declared.fault.TreeFault.TheVariants.{Page, Store}
 use Rattle.ub_tree.specs.declared.region.Region.{Region as Span}
 use Rattle.ub_tree.proofs.TreeFacts.{IsKnownAt, entry_known, IsKnown, span_known, spans_are, entries_back, span_entry, contained_at}
+use Rattle.ub_store.specs.declared.fault.StoreFault.TheVariants as store
 
 pub known_is : (facts : StoreFacts) → IsHonest facts → known_pages facts ≡ facts.pages
 known_is facts honest = rw honest refl

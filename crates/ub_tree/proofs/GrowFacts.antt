@@ -1,11 +1,9 @@
 -- A row put into a tree.
-use Rattle.std.proofs.Common.{◌≡◌, ◌≢◌, ◌<◌, ◌≤◌, ◌+◌, ◌-◌, ◌^◌, ℕ, ℤ, pos, zero, suc, Bool, true, false, List, [], ◌∷◌, ◌++◌, Some, Ok, Err, Result, OnOk, length, map, take, drop, replicate, nat_le, ◌∙◌, sym, ap, subst, refl, arith, slice_get, append_assoc, length-append}
-use Rattle.std.proofs.lemmas.List.{map-append, take-map, drop-map}
+use Rattle.std.proofs.Common.{◌≡◌, ◌≢◌, ◌<◌, ◌≤◌, ◌+◌, ◌-◌, ◌^◌, ℕ, ℤ, pos, zero, suc, Bool, true, false, List, [], ◌∷◌, ◌++◌, Some, Ok, Err, Result, OnOk, length, map, take, drop, replicate, nat_le, ◌∙◌, sym, ap, subst, refl, arith, slice_get, append_assoc, length-append, rules, Fits, get_or, w32}
+use Rattle.std.proofs.lemmas.List.{map-append, take-map, drop-map, length-replicate}
 use Rattle.std.proofs.lemmas.List.Elements.{All-append, All-from_recursion}
-use Rattle.std.proofs.Common.{rules}
 use Rattle.std.proofs.Math.Facts.{Fits-lt-pow}
 use Rattle.std.proofs.Math.Seq.{drop-append_seam}
-use Rattle.std.proofs.lemmas.List.{length-replicate}
 use Rattle.std.proofs.lemmas.List.Sorted.{length_permutation}
 use Rattle.std.specs.Prelude.{FitsSigned}
 use Rattle.std.specs.Int.{w64}
@@ -25,11 +23,8 @@ use Rattle.ub_tree.specs.declared.fault.TreeFault.{TreeFault}
 use Rattle.ub_tree.proofs.TreeFacts.{firsts_back, length-placed}
 use Rattle.ub_tree.proofs.RoomFacts.{room_for}
 use Rattle.ub_tree.proofs.WriteFacts.{stored_of}
-use Rattle.std.proofs.Common.{Fits, get_or, w32}
 use Rattle.std.proofs.lemmas.Grind.{get_or_default_zero}
-use Rattle.ub_region.proofs.InsertFacts.{insert_keeps}
-use Rattle.ub_region.proofs.KeyLists.{all_left, all_right}
-use Rattle.ub_region.proofs.TableFacts.{insert_table}
+use Rattle.ub_region.proofs.Laws.{insert_keeps, all_left, all_right, insert_table}
 use Rattle.ub_region.specs.Regions.{AreRegions, firsts_of, insert, place_of, rows_of, split_region}
 use Rattle.ub_region.specs.Rows.{Halves, has_key, insert_row, split}
 use Rattle.ub_table.specs.Region.{Region, IsRegion, IsRow, HasRest, key_of, measures_of}
@@ -104,7 +99,7 @@ entry_at [] place p at = cc
 entry_at (q ∷ placed) zero p at = let same : q ≡ p = cc in ap (λ (x : Placed). Some (entry_of x)) same
 entry_at (q ∷ placed) (suc place) p at = entry_at placed place p at
 
-firsts_placed : (placed : List Placed) → first_keys (map entry_of placed) ≡ firsts_of (regions_in placed)
+pub firsts_placed : (placed : List Placed) → first_keys (map entry_of placed) ≡ firsts_of (regions_in placed)
 firsts_placed [] = refl
 firsts_placed (p ∷ placed) = ap (λ (ks : List Key). p.region.first ∷ ks) (firsts_placed placed)
 

@@ -1,4 +1,3 @@
-pub mod PlaceFacts
 pub mod SpanFacts
 pub mod SeekFacts
 pub mod TreeFacts
@@ -10,8 +9,7 @@ pub mod GrowFacts
 pub mod StoredFacts
 pub mod Example
 pub mod ShrinkFacts
-pub mod CoverFacts
-pub mod EntryFacts
+pub mod Laws
+pub mod WalkFacts
 pub mod CloseFacts
-pub mod OpenFacts
 pub mod OpenedFacts

@@ -8,20 +8,16 @@ use Rattle.std.proofs.lemmas.Map.Keys.{IsDistinct-head}
 use Rattle.std.proofs.lemmas.Option.{slice_get_within}
 use Rattle.std.specs.List.{AllByRecursion}
 use Rattle.ub_zaddr.specs.Address.{last_address}
-use Rattle.ub_page.proofs.DirectoryFacts as directory
-use Rattle.ub_page.proofs.HeaderFacts as headers
-use Rattle.ub_page.proofs.RegionFacts as region_pages
 use Rattle.ub_page.specs.Directory.{Listing, AreAscending, IsEntry, IsListing, directory_page}
 use Rattle.ub_page.specs.Header.{IsHeader, AreSame, IsHeaderFault, header_page}
 use Rattle.ub_page.specs.Region.{region_page}
 use Rattle.ub_page.specs.declared.directory.Entry.{Entry}
 use Rattle.ub_page.specs.declared.header.Header.{Header}
 use Rattle.ub_page.specs.Bytes.{number_at}
-use Rattle.ub_region.proofs.KeyLists.{all_more, all_left, all_right, all_take, all_drop, are_ascending_of}
+use Rattle.ub_region.proofs.Laws.{all_more, all_left, all_right, all_take, all_drop, are_ascending_of}
 use Rattle.ub_region.specs.Regions.{firsts_of}
 use Rattle.ub_store.specs.Facts.{StoreFacts, IsHonest, page_count}
 use Rattle.ub_store.specs.View.{PagerView, pager_view}
-use Rattle.ub_store.specs.declared.fault.StoreFault.TheVariants as store
 use Rattle.ub_table.proofs.KeyFacts.{before_of}
 use Rattle.ub_table.proofs.SchemaFacts.{same_schema}
 use Rattle.ub_table.specs.Keys.{origin, are_ascending}
@@ -30,10 +26,12 @@ use Rattle.ub_table.specs.declared.fault.PageFault.TheVariants.{WrongKind, Uncle
 use Rattle.ub_table.specs.declared.fault.PageFault.{PageFault}
 use Rattle.ub_table.specs.declared.row.Key.{Key}
 use Rattle.ub_table.specs.declared.schema.Schema.{Schema}
-use Rattle.ub_tree.specs.Opened.{IsDirectory, IsOpened, Spells, AreFull, AreBegun, HasPart, IsMisfit, IsPartFault, IsReadUpTo, IsReadWhole, IsOpenFault, IsMarkFault, IsPassing, IsSamePager}
+use Rattle.ub_directory.specs.Reading.{IsDirectory, Spells, AreFull, AreBegun, HasPart, IsMisfit, IsPartFault, IsReadUpTo, IsReadWhole, IsSamePager}
+use Rattle.ub_tree.specs.Opened.{IsOpened, IsOpenFault, IsMarkFault, IsPassing}
 use Rattle.ub_tree.specs.Placed.{Placed, ArePlaced, placed_of, regions_in, entry_of}
 use Rattle.ub_tree.specs.Spans.{ArePlaces, first_keys}
-use Rattle.ub_tree.specs.Stored.{IsChain, AreSoundPages, HasMark}
+use Rattle.ub_directory.specs.Chain.{IsChain}
+use Rattle.ub_tree.specs.Stored.{AreSoundPages, HasMark}
 use Rattle.ub_tree.specs.Tree.{known_pages, tree_view}
 use Rattle.ub_tree.specs.View.{TreeView, IsSound}
 use Rattle.ub_tree.specs.declared.fault.TreeFault.{TreeFault}
@@ -41,6 +39,14 @@ use Rattle.ub_tree.specs.declared.fault.TreeFault.TheVariants.{Full, Page, Store
 use Rattle.ub_tree.proofs.CallFacts.{known_is}
 use Rattle.ub_tree.proofs.StoredFacts.{IsTold, IsSpelled, placed_told}
 use Rattle.ub_tree.proofs.TreeFacts.{entries_back}
+use Rattle.ub_page.proofs.DirectoryFacts as directory
+use Rattle.ub_page.proofs.HeaderFacts as headers
+use Rattle.ub_page.proofs.RegionFacts as region_pages
+use Rattle.ub_store.specs.declared.fault.StoreFault.TheVariants as store
+use Rattle.ub_directory.specs.Reading.{IsReadFault}
+use Rattle.ub_directory.specs.declared.fault.DirectoryFault.{DirectoryFault}
+use Rattle.ub_directory.specs.declared.fault.DirectoryFault.TheVariants as directory_fault
+use Rattle.ub_tree.specs.Faults.{opening_fault}
 
 -- what is made of a table that was read
 pub opened : (first : StoreFacts) (header : Header) (chain : List ℕ) (entries : List Entry) (pager now : PagerView) → pager ≡ pager_view first [] 0 → IsReadWhole pager.store header chain entries
@@ -55,7 +61,7 @@ opened first header chain entries pager now made whole kept =
       directory = found.directory;
       schema_is = refl;
       entries_are = entries_back header.schema (known_pages now.store) entries;
-      reserved_is = refl;
+      chain_is = refl;
       rows_are = refl;
       next_is = refl;
       unchanged = refl;
@@ -439,7 +445,6 @@ abbrev view_with : Schema → List Placed → List ℕ → ℕ → ℕ → Pager
 view_with schema placed chain next rows pager = record {
   schema = schema;
   placed = placed;
-  reserved = 0 ∷ chain;
   rows = rows;
   next = next;
   is_changed = false;
@@ -447,6 +452,7 @@ view_with schema placed chain next rows pager = record {
   store = pager.store;
   trace = pager.trace;
   fetches = pager.fetches;
+  inner = record { chain = chain };
 }
 
 -- opening a closed table gives a sound tree of its regions
@@ -522,3 +528,11 @@ module _ (first : StoreFacts) (small : page_count first < 2 ^ 32) (pager : Pager
   never_whole header chain entries whole schema honest mark =
       let found = (subst (λ (s : StoreFacts). IsReadWhole s header chain entries) store_is whole).directory honest in
       never_clean first honest schema mark header found.spelled found.in_range found.clean
+
+-- a directory that wasn't read, as a table that wasn't opened
+pub open_refused : (old : StoreFacts) (fault : DirectoryFault) → IsReadFault old fault → IsOpenFault old (opening_fault fault)
+open_refused old (directory_fault.Page n fault) h = h
+open_refused old (directory_fault.Store store.Device) h = h
+open_refused old (directory_fault.Store store.NoPage) h = h
+open_refused old (directory_fault.Store store.Memory) h = h
+open_refused old (directory_fault.Store store.BadSize) h = h

@@ -6,9 +6,7 @@ use Rattle.std.proofs.lemmas.List.Elements.{All-append, All-take, All-drop, All-
 use Rattle.std.specs.List.{AllByRecursion, insert}
 use Rattle.ub_zaddr.specs.Address.{last_address}
 use Rattle.ub_page.specs.declared.directory.Entry.{Entry}
-use Rattle.ub_region.proofs.InsertFacts.{IsFilled, two_chain}
-use Rattle.ub_region.proofs.KeyLists.{all_drop, all_left, all_right, before_or_same, upto_before, IsBeforeNext, up_head, up_tail, up_cons}
-use Rattle.ub_region.proofs.RowFacts.{all_keys, all_of_keys, all_insert, length-insert_row}
+use Rattle.ub_region.proofs.Laws.{IsFilled, two_chain, all_drop, all_left, all_right, before_or_same, upto_before, IsBeforeNext, up_head, up_tail, up_cons, all_keys, all_of_keys, all_insert, length-insert_row}
 use Rattle.ub_region.specs.Regions.{place_of, rows_of}
 use Rattle.ub_region.specs.Rows.{has_key, insert_row, cut, split}
 use Rattle.ub_store.specs.Facts.{IsHonest}
@@ -24,8 +22,8 @@ use Rattle.ub_tree.specs.Placed.{Placed}
 use Rattle.ub_tree.specs.Spans.{first_keys, ArePlaces}
 use Rattle.ub_tree.specs.Tree.{IsHeldBy}
 use Rattle.ub_tree.specs.View.{TreeView, IsSound, regions}
-use Rattle.ub_tree.proofs.PlaceFacts.{first_at}
-use Rattle.ub_tree.proofs.TreeFacts.{contained_at, place_at, region_get, same_key}
+use Rattle.ub_directory.proofs.Laws.{first_at, same_key}
+use Rattle.ub_tree.proofs.TreeFacts.{contained_at, place_at, region_get}
 
 abbrev inserted_at : List Entry → ℕ → Entry → List Entry
 inserted_at es place x = take (suc place) es ++ x ∷ drop (suc place) es

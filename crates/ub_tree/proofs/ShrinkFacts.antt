@@ -3,17 +3,11 @@ use Rattle.std.proofs.Common.{◌≡◌, ◌≢◌, ◌<◌, ◌+◌, ◌-◌, �
 use Rattle.std.proofs.lemmas.Bool.{cases_Bool}
 use Rattle.std.proofs.lemmas.List.{length-map, map-append, take-map, drop-map}
 use Rattle.std.proofs.lemmas.List.Elements.{All-append, All-take, All-drop}
-use Rattle.std.specs.List.{AllByRecursion, remove as remove_at_place}
+use Rattle.std.specs.List.{AllByRecursion, remove as remove_at_place, IsDistinct}
 use Rattle.std.proofs.lemmas.List.Sorted.{IsPermutation-middle, length_permutation}
 use Rattle.std.proofs.lemmas.Map.Keys.{IsDistinct-IsPermutation, IsDistinct-tail}
-use Rattle.std.specs.List.{IsDistinct}
 use Rattle.ub_page.specs.declared.directory.Entry.{Entry}
-use Rattle.ub_region.proofs.ChainFacts.{IsChain, chain_of}
-use Rattle.ub_region.proofs.InsertFacts.{nat_eq_flips}
-use Rattle.ub_region.proofs.KeyLists.{all_more}
-use Rattle.ub_region.proofs.RemoveFacts.{all_from, other_key, remove_keeps, remove_none, remove_rows}
-use Rattle.ub_region.proofs.TableFacts.{remove_table}
-use Rattle.ub_region.proofs.RowFacts.{all_of_keys, has_append, has_none}
+use Rattle.ub_region.proofs.Laws.{IsChain, chain_of, nat_eq_flips, all_more, all_from, other_key, remove_keeps, remove_none, remove_rows, remove_table, all_of_keys, has_append, has_none}
 use Rattle.ub_region.specs.Joins.{put_rows, JoinsNext, JoinsBefore}
 use Rattle.ub_region.specs.Regions.{AreRegions, change_from, firsts_of, fits_next, is_small, join_before, join_first, place_of, remove, remove_first, rows_of, settle}
 use Rattle.ub_region.specs.Rows.{has_key, remove_row}

@@ -1,6 +1,6 @@
 -- A tree's regions, by its entries and the pages of its store.
 use Rattle.std.proofs.Common.{◌≡◌, ◌≢◌, ◌<◌, ◌≤◌, ◌+◌, ◌-◌, ◌↔◌, inl, inr, add-one, ℕ, zero, suc, Bool, true, false, List, [], ◌∷◌, Option, Some, None, IfSome, length, map, ◌∙◌, sym, ap, subst, refl, arith, slice_get, slice_index_or}
-use Rattle.std.proofs.lemmas.Bool.{cases_Bool, cases_eq, and_parts, eqb-true}
+use Rattle.std.proofs.lemmas.Bool.{cases_Bool, cases_eq}
 use Rattle.std.proofs.lemmas.List.{length-map}
 use Rattle.std.proofs.lemmas.Option.{slice_get_past, slice_get_read, slice_get_within, get_or_from_slice_get}
 use Rattle.std.specs.List.{All, AllByRecursion, Contains}
@@ -10,7 +10,7 @@ use Rattle.ub_page.specs.declared.directory.Entry.{Entry}
 use Rattle.ub_region.specs.Regions.{AreRegions, AreApart, firsts_of, place_of}
 use Rattle.ub_region.specs.Spans.{span_end}
 use Rattle.ub_table.proofs.KeyFacts.{before_of, precedes_of, before_trans, not_both_before, not_before_self, ascending_get}
-use Rattle.ub_table.specs.Keys.{IsBefore, AreKeysAscending, precedes, is_same, are_ascending}
+use Rattle.ub_table.specs.Keys.{IsBefore, AreKeysAscending, precedes, are_ascending}
 use Rattle.ub_table.specs.Region.{Region, IsRegion, key_of, keys_of}
 use Rattle.ub_table.specs.declared.row.Key.{Key}
 use Rattle.ub_table.specs.declared.row.Row.{Row}
@@ -20,7 +20,7 @@ use Rattle.ub_tree.specs.Tree.{IsHeldBy}
 use Rattle.ub_tree.specs.Placed.{Placed, ArePlaced, placed_of, regions_in, entry_of}
 use Rattle.ub_tree.specs.View.{spans_in}
 use Rattle.ub_tree.specs.declared.region.Region.{Region as Span}
-use Rattle.ub_tree.proofs.PlaceFacts.{place_is, first_at}
+use Rattle.ub_directory.proofs.Laws.{place_is, first_at}
 use Rattle.ub_tree.proofs.SpanFacts.{region_with}
 
 -- the region of an entry, with the rows of its page
@@ -155,12 +155,6 @@ before_last key (k ∷ j ∷ keys) (suc i) end up long at before =
 pub all_before : (key : Key) (keys : List Key) (i : ℕ) (end : Key) → AreKeysAscending keys → length keys ≡ suc i → slice_get keys i ≡ Some end
     → IsBefore end key ↔ AllByRecursion (λ k. IsBefore k key) keys
 all_before key keys i end up long at = (before_last key keys i end up long at, λ all. each_get (λ k. IsBefore k key) keys i end all at)
-
-abbrev key_with : ℕ → ℕ → Key
-key_with z number = record { z = z; number = number }
-
-pub same_key : (a b : Key) → is_same a b ≡ true → a ≡ b
-same_key a b t = let parts = and_parts _ _ t in ap (λ (z : ℕ). key_with z a.number) (eqb-true a.z b.z parts.0) ∙ ap (key_with b.z) (eqb-true a.number b.number parts.1)
 
 pub last_tells : (key end : Key) (dims len : ℕ) (rows : List Row) (b : Bool) → AreKeysAscending (keys_of dims rows) → len ≡ length rows → len ≢ 0
     → slice_get (keys_of dims rows) (len - 1) ≡ Some end → b ≡ precedes end key → (b ≡ true) ↔ AllByRecursion (λ k. IsBefore k key) (keys_of dims rows)

@@ -1,36 +1,38 @@
 -- What a tree's pages are after a change.
-use Rattle.std.proofs.Common.{◌≡◌, ◌≢◌, ◌<◌, ◌≤◌, ◌+◌, ◌^◌, ◌⊎◌, inl, inr, ℕ, zero, suc, Bool, true, false, List, [], ◌∷◌, ◌++◌, Option, None, Some, IsNone, IfSome, ◌↔◌, Err, length, map, drop, nat_eq, ◌∙◌, sym, ap, subst, refl, arith, slice_get}
+use Rattle.std.proofs.Common.{◌≡◌, ◌≢◌, ◌<◌, ◌≤◌, ◌+◌, ◌^◌, ◌⊎◌, inl, inr, ℕ, zero, suc, Bool, true, false, List, [], ◌∷◌, ◌++◌, Option, None, Some, IsNone, IfSome, ◌↔◌, Err, length, map, drop, nat_eq, ◌∙◌, sym, ap, subst, refl, arith, slice_get, Ok, IfErr, IsTrue, OnOk, Result, IsErrOf}
 use Rattle.std.proofs.lemmas.Bool.{eq-eqb}
 use Rattle.std.proofs.lemmas.List.Elements.{recursion_from_All}
 use Rattle.std.proofs.lemmas.Map.Keys.{IsDistinct-head}
 use Rattle.std.proofs.lemmas.Option.{slice_get_within}
 use Rattle.std.specs.List.{AllByRecursion, Contains, IsDistinct, insert, remove}
-use Rattle.std.proofs.Common.{Ok, IfErr, IsTrue, OnOk, Result, IsErrOf}
 use Rattle.std.specs.Result.{IsErrAnd}
 use Rattle.ub_page.specs.Region.{region_on, region_page}
 use Rattle.ub_page.specs.declared.directory.Entry.{Entry}
-use Rattle.ub_region.proofs.KeyLists.{all_right}
+use Rattle.ub_region.proofs.Laws.{all_right}
 use Rattle.ub_region.specs.Regions.{AreRegions, rows_of}
 use Rattle.ub_tree.specs.declared.fault.TreeFault.{TreeFault}
 use Rattle.ub_tree.specs.declared.fault.TreeFault.TheVariants.{Full, Page, Store, Failed as HasFailed, Memory}
 use Rattle.ub_store.specs.Facts.{StoreFacts, IsHonest, Appends, page_count}
 use Rattle.ub_store.specs.View.{PagerView, SameTrace}
 use Rattle.ub_store.specs.declared.fault.StoreFault.{StoreFault}
-use Rattle.ub_store.specs.declared.fault.StoreFault.TheVariants as store
 use Rattle.ub_table.specs.Region.{Region, IsRegion}
 use Rattle.ub_table.specs.declared.row.Key.{Key}
 use Rattle.ub_table.specs.declared.row.Row.{Row}
 use Rattle.ub_table.specs.declared.schema.Schema.{Schema}
 use Rattle.ub_tree.specs.Change.{IsStored, IsFresh, IsWriteFault, Writes, Puts, PutsTwo, Marks, PutsMark, placed_with}
-use Rattle.ub_tree.specs.Effects.{put_store, written_store, IsPageMissing, KeepsUnless, IsMarkedFirst, Leaves, HasEnded, IsLeft, Works, Changes, Searches}
+use Rattle.ub_directory.specs.Writing.{put_store}
+use Rattle.ub_tree.specs.Effects.{written_store, IsPageMissing, KeepsUnless, IsMarkedFirst, Leaves, HasEnded, IsLeft, Works, Changes, Searches}
 use Rattle.ub_tree.specs.Faults.{tree_fault}
 use Rattle.ub_tree.specs.Tree.{known_pages, tree_view}
 use Rattle.ub_tree.specs.Placed.{Placed, ArePlaced, placed_of, regions_in, entry_of}
-use Rattle.ub_tree.specs.Stored.{IsChain, AreSoundPages, IsMarkPage, HasMark}
+use Rattle.ub_directory.specs.Chain.{IsChain}
+use Rattle.ub_tree.specs.Stored.{AreSoundPages, IsMarkPage, HasMark}
 use Rattle.ub_tree.specs.View.{TreeView, IsSound}
 use Rattle.ub_tree.proofs.CallFacts.{known_is}
 use Rattle.ub_tree.proofs.StoredFacts.{IsTold, numbers_of, differs, rewritten_pages, split_pages, extended_pages, fresh_number}
 use Rattle.ub_tree.proofs.TreeFacts.{each_get, entries_back, placed_at, placed_get}
+use Rattle.ub_store.specs.declared.fault.StoreFault.TheVariants as store
+use Rattle.ub_directory.specs.Inner.{reserved}
 
 pub stored_of : (t : TreeView) → IsSound t → IsStored t
 stored_of t sound = record { working = sound.working; honest = sound.honest; placed_are = sound.placed_are }
@@ -92,11 +94,11 @@ own_page schema entries chain pages known place e placed_are at =
     (all_right (λ m. nat_eq 0 m ≡ false) chain numbers (IsDistinct-head nat_eq 0 (chain ++ numbers) placed_are.own)) (numbers_get schema known entries place e at))
 
 -- a sound tree has a page after the first
-pub second_page : (t : TreeView) (chain : List ℕ) → t.reserved ≡ 0 ∷ chain → 1 ≤ length chain → IsSound t → 2 ≤ length t.store.pages
+pub second_page : (t : TreeView) (chain : List ℕ) → reserved t.inner ≡ 0 ∷ chain → 1 ≤ length chain → IsSound t → 2 ≤ length t.store.pages
 second_page t [] is some sound = absurd (omega arith)
 second_page t (n ∷ chain) is some sound =
     let own = subst (λ (ns : List ℕ). IsDistinct nat_eq (ns ++ numbers_of t.placed)) is sound.placed_are.own in
-    let within = subst (λ (ns : List ℕ). AllByRecursion (λ m. m < length t.store.pages) ns) is (recursion_from_All (λ m. m < length t.store.pages) t.reserved sound.placed_are.within) in
+    let within = subst (λ (ns : List ℕ). AllByRecursion (λ m. m < length t.store.pages) ns) is (recursion_from_All (λ m. m < length t.store.pages) (reserved t.inner) sound.placed_are.within) in
     let apart = differs 0 n (IsDistinct-head nat_eq 0 ((n ∷ chain) ++ numbers_of t.placed) own).0 in
     let lt = within.1.0 in
     omega arith

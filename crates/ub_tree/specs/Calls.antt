@@ -1,7 +1,6 @@
 -- What reading a region tells, and what creation makes.
 use Rattle.std.specs.Prelude.{false, ◌≡◌, ◌≤◌, ◌⊎◌, ℕ, [], ◌∷◌, IsTrue, List, Contains}
 use Rattle.ub_store.specs.Facts.{StoreFacts, IsHonest, page_count}
-use Rattle.ub_store.specs.declared.fault.StoreFault.TheVariants as store
 use Rattle.ub_table.specs.Keys.{origin}
 use Rattle.ub_table.specs.Region.{Region}
 use Rattle.ub_table.specs.declared.schema.Schema.{Schema}
@@ -10,6 +9,7 @@ use Rattle.ub_tree.specs.Stored.{HasMark}
 use Rattle.ub_tree.specs.View.{TreeView, regions, IsSound}
 use Rattle.ub_tree.specs.declared.fault.TreeFault.{TreeFault}
 use Rattle.ub_tree.specs.declared.fault.TreeFault.TheVariants.{Store, Memory}
+use Rattle.ub_store.specs.declared.fault.StoreFault.TheVariants as store
 
 -- the region stands at this page
 abbrev pub StandsAt : List Placed → ℕ → Region → Type 0

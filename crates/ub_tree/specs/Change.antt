@@ -1,14 +1,12 @@
 -- What a change of one region does to a tree.
 use Rattle.std.specs.Prelude.{IfSome, ◌≡◌, ◌≢◌, ◌<◌, ◌+◌, ◌-◌, ◌++◌, ℕ, ℤ, pos, suc, Bool, true, false, List, [], ◌∷◌, Option, Some, MatchOption, IsTrue, Result, IfErr, OnOk, length, map, take, drop, replicate, slice_get}
 use Rattle.std.specs.Bool.{nat_eq}
-use Rattle.std.specs.List.{AllByRecursion, IsDistinct}
-use Rattle.std.specs.List.{insert as insert_at}
+use Rattle.std.specs.List.{AllByRecursion, IsDistinct, insert as insert_at}
 use Rattle.ub_region.specs.Regions.{AreTableRows, insert, split_region}
 use Rattle.ub_region.specs.Rows.{Halves}
 use Rattle.ub_zaddr.specs.Address.{last_address}
 use Rattle.ub_tree.specs.Spans.{ArePlaces, first_keys}
 use Rattle.ub_store.specs.Facts.{StoreFacts, IsHonest, page_count}
-use Rattle.ub_store.specs.declared.fault.StoreFault.TheVariants as store
 use Rattle.ub_page.specs.declared.directory.Entry.{Entry}
 use Rattle.ub_table.specs.Keys.{IsBefore}
 use Rattle.ub_table.specs.Region.{Region, IsRegion, keys_of}
@@ -20,6 +18,8 @@ use Rattle.ub_tree.specs.Placed.{Placed, ArePlaced, entry_of}
 use Rattle.ub_tree.specs.View.{TreeView, IsSound, regions}
 use Rattle.ub_tree.specs.declared.fault.TreeFault.{TreeFault}
 use Rattle.ub_tree.specs.declared.fault.TreeFault.TheVariants.{Store, Memory}
+use Rattle.ub_store.specs.declared.fault.StoreFault.TheVariants as store
+use Rattle.ub_directory.specs.Inner.{reserved}
 
 -- a row of this number with these coordinates and measures
 abbrev pub row_of : ℕ → List ℕ → List ℤ → Row
@@ -30,7 +30,7 @@ row_of number dims measures =
 pub record IsStored (t : TreeView) : Type 0 where
   pub working : t.is_failed ≡ false
   pub honest : IsHonest t.store
-  pub placed_are : ArePlaced t.schema t.placed t.reserved t.store.pages
+  pub placed_are : ArePlaced t.schema t.placed (reserved t.inner) t.store.pages
 
 -- this page stands at the number now, and the others but the first are as they were
 pub record Puts (n : ℕ) (page : List ℕ) (old new : StoreFacts) : Type 0 where
@@ -92,7 +92,7 @@ pub record IsInserted (row : Row) (old new : TreeView) : Type 0 where
 
 -- no page of the tree has this number
 abbrev pub IsFresh : ℕ → TreeView → Type 0
-IsFresh n t = IsDistinct nat_eq (n ∷ (t.reserved ++ map (λ p. p.page) t.placed))
+IsFresh n t = IsDistinct nat_eq (n ∷ (reserved t.inner ++ map (λ p. p.page) t.placed))
 
 -- the rows are those of a region which begins as that at a place does, and they stand before the next region
 abbrev pub AreRowsAt : Schema → List Entry → ℕ → List Row → Type 0

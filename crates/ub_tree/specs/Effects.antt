@@ -1,9 +1,7 @@
 -- What the calls of a tree leave, in a few words: a call that searches, one that reads regions, one that changes the tree.
-use Rattle.std.specs.Prelude.{◌+◌, ◌≡◌, ◌≢◌, ◌<◌, ◌≤◌, ◌⊎◌, ◌++◌, ℕ, Bool, true, false, [], ◌∷◌, IsTrue, Result, Ok, Err, IfErr, OnOk, IsErrOf, length, map, slice_get, List}
+use Rattle.std.specs.Prelude.{◌+◌, ◌≡◌, ◌≢◌, ◌<◌, ◌≤◌, ◌⊎◌, ◌++◌, ℕ, Bool, true, false, [], ◌∷◌, IsTrue, Result, Ok, Err, IfErr, OnOk, length, map, slice_get, List}
 use Rattle.std.specs.List.{Contains}
-use Rattle.ub_store.specs.Facts.{StoreFacts, IsHonest, IsPage, page_count, raised, counted as store_counted}
-use Rattle.ub_store.specs.declared.fault.StoreFault.{StoreFault}
-use Rattle.ub_store.specs.declared.fault.StoreFault.TheVariants as store
+use Rattle.ub_store.specs.Facts.{StoreFacts, IsHonest, IsPage, page_count, raised}
 use Rattle.ub_table.specs.declared.row.TheConstants.{MAX_ROW_NUMBER}
 use Rattle.ub_page.specs.Region.{IsRegionFault, region_page}
 use Rattle.ub_page.specs.declared.directory.Entry.{Entry}
@@ -21,6 +19,7 @@ use Rattle.ub_tree.specs.View.{TreeView, IsSound, KeepsTrace, spans_of}
 use Rattle.ub_tree.specs.declared.fault.TreeFault.{TreeFault}
 use Rattle.ub_tree.specs.declared.fault.TreeFault.TheVariants.{Full, Page, Store, Failed, Memory}
 use Rattle.ub_tree.specs.declared.region.Region.{Region as Span}
+use Rattle.ub_store.specs.declared.fault.StoreFault.TheVariants as store
 
 -- a count of failures after a call with this fault, and after one with this result: Device raises it by one
 abbrev pub raised_by : TreeFault → ℕ → ℕ
@@ -38,15 +37,6 @@ read_store result old = record old { failed_reads = counted result old.failed_re
 -- a store after a call with this result that only writes, extends and syncs, with the pages that it then has
 abbrev pub written_store : {A : Type 0} → Result A TreeFault → StoreFacts → StoreFacts → StoreFacts
 written_store result old new = record old { pages = new.pages; synced = new.synced; failed_writes = counted result old.failed_writes }
-
--- a store after such a call of its own
-abbrev pub put_store : {A : Type 0} → Result A StoreFault → StoreFacts → StoreFacts → StoreFacts
-put_store result old new = record old { pages = new.pages; synced = new.synced; failed_writes = store_counted result old.failed_writes }
-
--- a call that only writes, extends and syncs a store
-pub record WritesStore {A : Type 0} (old new : StoreFacts) (result : Result A StoreFault) : Type 0 where
-  pub same : new ≡ put_store result old new
-  pub device : IsErrOf result store.Device → IsTrue old.can_fail
 
 -- why a page is refused where a region is due that begins with this key, in a directory of regions with these first keys: its
 -- reader refuses it, or it tells of a region that begins with another key or that the directory doesn't hold

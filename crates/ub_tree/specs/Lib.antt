@@ -10,3 +10,4 @@ pub mod Change
 pub mod Closing
 pub mod Opened
 pub mod Removal
+pub mod Laws

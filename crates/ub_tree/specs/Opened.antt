@@ -1,39 +1,16 @@
 -- Opening a store: which pages tell of a table, what is made of them, and why others are refused.
-use Rattle.std.specs.Prelude.{◌≡◌, ◌≤◌, ◌<◌, ◌-◌, ◌^◌, ◌↔◌, ◌⊎◌, ◌++◌, ℕ, min, false, IsTrue, List, [], ◌∷◌, Some, length, map, take, drop, slice_get, slice_index_or, Result, IfErr}
-use Rattle.std.specs.List.{AllByRecursion}
-use Rattle.ub_page.specs.declared.directory.TheConstants.{MAX_ENTRIES}
-use Rattle.ub_zaddr.specs.Address.{last_address}
-use Rattle.ub_page.specs.Directory.{Listing, IsEntry, IsListing, directory_page, IsDirectoryFault}
-use Rattle.ub_page.specs.Header.{IsHeader, header_page, IsHeaderFault}
+use Rattle.std.specs.Prelude.{◌≡◌, ◌≤◌, ◌⊎◌, ℕ, false, IsTrue, List, [], map}
 use Rattle.ub_page.specs.declared.directory.Entry.{Entry}
 use Rattle.ub_page.specs.declared.header.Header.{Header}
-use Rattle.ub_store.specs.Facts as facts
 use Rattle.ub_store.specs.Facts.{StoreFacts, IsHonest, page_count}
-use Rattle.ub_store.specs.View.{PagerView}
-use Rattle.ub_store.specs.declared.fault.StoreFault.TheVariants as store
-use Rattle.ub_table.specs.Keys.{origin, are_ascending}
-use Rattle.ub_table.specs.declared.fault.PageFault.TheVariants.{Unclean, BadCount, BadOrder}
-use Rattle.ub_table.specs.declared.fault.PageFault.{PageFault}
-use Rattle.ub_tree.specs.Effects.{read_store}
+use Rattle.ub_table.specs.declared.fault.PageFault.TheVariants.{Unclean}
 use Rattle.ub_tree.specs.Placed.{entry_of}
-use Rattle.ub_tree.specs.Spans.{ArePlaces, first_keys}
-use Rattle.ub_tree.specs.Stored.{IsChain}
 use Rattle.ub_tree.specs.View.{TreeView}
 use Rattle.ub_tree.specs.declared.fault.TreeFault.{TreeFault}
 use Rattle.ub_tree.specs.declared.fault.TreeFault.TheVariants.{Page, Store, Memory}
-
--- the pages tell of a table that can be opened: a clean header, and a directory of the regions that it counts
-pub record IsDirectory (pages : List (List ℕ)) (header : Header) (chain : List ℕ) (entries : List Entry) : Type 0 where
-  pub spelled : slice_get pages 0 ≡ Some (header_page header)
-  pub in_range : IsHeader header
-  pub clean : header.unclean ≡ false
-  pub root_is : slice_get chain 0 ≡ Some header.root
-  pub levels_are : header.levels ≡ length chain
-  pub some_pages : AllByRecursion (λ n. 1 ≤ n) chain
-  pub directory : IsChain pages chain entries
-  pub regions_are : header.regions ≡ length entries
-  pub each : AllByRecursion (IsEntry (last_address header.schema.dims)) entries
-  pub places : ArePlaces (last_address header.schema.dims) entries
+use Rattle.ub_store.specs.Facts as facts
+use Rattle.ub_store.specs.declared.fault.StoreFault.TheVariants as store
+use Rattle.ub_directory.specs.Reading.{IsDirectory, IsAskedFor, IsRefused}
 
 -- what opening a store with these facts makes
 pub record IsOpened (store : StoreFacts) (t : TreeView) : Type 0 where
@@ -43,7 +20,7 @@ pub record IsOpened (store : StoreFacts) (t : TreeView) : Type 0 where
   pub directory : IsHonest store → IsDirectory store.pages header chain entries
   pub schema_is : t.schema ≡ header.schema
   pub entries_are : map entry_of t.placed ≡ entries
-  pub reserved_is : t.reserved ≡ 0 ∷ chain
+  pub chain_is : t.inner.chain ≡ chain
   pub rows_are : t.rows ≡ header.rows
   pub next_is : t.next ≡ header.next
   pub unchanged : t.is_changed ≡ false
@@ -51,63 +28,6 @@ pub record IsOpened (store : StoreFacts) (t : TreeView) : Type 0 where
   pub store_is : t.store ≡ store
   pub trace_is : t.trace ≡ []
   pub fetches_are : t.fetches ≡ 0
-
--- the page of this number, which is not the first, spells this part of a directory
-pub record Spells (dims : ℕ) (pages : List (List ℕ)) (n : ℕ) (listing : Listing) : Type 0 where
-  pub some : 1 ≤ n
-  pub range : IsListing dims listing
-  pub page : slice_get pages n ≡ Some (directory_page listing)
-
--- the pages of this chain spell the entries, 170 on each, each naming the next page and the last one this
-abbrev pub AreFull : ℕ → List (List ℕ) → List ℕ → List Entry → ℕ → Type 0
-AreFull dims pages [] entries next = entries ≡ []
-AreFull dims pages (n ∷ chain) entries next =
-    Spells dims pages n (record { entries = take MAX_ENTRIES entries; next = slice_index_or chain 0 next }) × (length (take MAX_ENTRIES entries) ≡ MAX_ENTRIES)
-    × AreFull dims pages chain (drop MAX_ENTRIES entries) next
-
--- the first entries of a directory: the first one begins with the least key of all, and each after the one before it
-abbrev pub AreBegun : List Entry → Type 0
-AreBegun [] = Unit {0}
-AreBegun (entry ∷ entries) = (entry.first ≡ origin) × IsTrue (are_ascending (first_keys (entry ∷ entries)))
-
--- from the header's root on the directory was read, full pages in order, up to the page of this number, and not all regions were met
-pub record IsReadUpTo (store : StoreFacts) (header : Header) (chain : List ℕ) (entries : List Entry) (n : ℕ) : Type 0 where
-  pub spelled : facts.IsPage store 0 (header_page header)
-  pub in_range : IsHeader header
-  pub clean : header.unclean ≡ false
-  pub root_is : slice_get (chain ++ n ∷ []) 0 ≡ Some header.root
-  pub some_page : 1 ≤ n
-  pub small : n < 2 ^ 32
-  pub full : IsHonest store → AreFull header.schema.dims store.pages chain entries n
-  pub each : AllByRecursion (IsEntry (last_address header.schema.dims)) entries
-  pub begun : AreBegun entries
-  pub more : length entries < header.regions
-
--- a page of the directory tells what it must where so many regions are left: 170 of them and the next page, or all and none
-abbrev pub HasPart : ℕ → Listing → Type 0
-HasPart left listing = (length listing.entries ≡ min left MAX_ENTRIES) × ((listing.next ≡ 0) ↔ (left ≤ MAX_ENTRIES))
-
--- a page of the directory doesn't fit where so many regions are left after these entries
-abbrev pub IsMisfit : ℕ → List Entry → Listing → PageFault → Type 0
-IsMisfit left before listing BadCount = ¬ (HasPart left listing)
-IsMisfit left before listing BadOrder = HasPart left listing × (¬ (AreBegun (before ++ listing.entries)))
-IsMisfit left before listing _ = ⊥
-
--- why this page of the directory is refused after these entries: its reader refuses it, or else it doesn't fit
-abbrev pub IsPartFault : Header → List Entry → List ℕ → PageFault → Type 0
-IsPartFault header before page fault =
-    IsDirectoryFault header.schema.dims page fault
-    ⊎ ((listing : Listing) × IsListing header.schema.dims listing × (page ≡ directory_page listing) × IsMisfit (header.regions - length before) before listing fault)
-
--- the page of this number is asked for: it is the first, or the directory goes on there
-abbrev pub IsAskedFor : StoreFacts → ℕ → Type 0
-IsAskedFor store n = (n ≡ 0) ⊎ ((header : Header) × (chain : List ℕ) × (entries : List Entry) × IsReadUpTo store header chain entries n)
-
--- this page is refused: as the header, or where the directory goes on
-abbrev pub IsRefused : StoreFacts → ℕ → List ℕ → PageFault → Type 0
-IsRefused store n page fault =
-    ((n ≡ 0) × IsHeaderFault page fault)
-    ⊎ ((header : Header) × (chain : List ℕ) × (entries : List Entry) × IsReadUpTo store header chain entries n × IsPartFault header entries page fault)
 
 -- why opening is refused: for want of memory; the store failed in this call, which it then can; it has no page of a number that
 -- was asked for; or a page is refused
@@ -117,23 +37,6 @@ IsOpenFault old (Store store.Device) = IsTrue old.can_fail
 IsOpenFault old (Store store.NoPage) = (n : ℕ) × IsAskedFor old n × (page_count old ≤ n)
 IsOpenFault old (Page n fault) = (page : List ℕ) × facts.IsPage old n page × IsRefused old n page fault
 IsOpenFault old _ = ⊥
-
--- the pager is as it was, but for the pages that it holds
-abbrev pub IsSamePager : PagerView → PagerView → Type 0
-IsSamePager old new = new ≡ record old { cached = new.cached }
-
--- a call that only reads a store behind a pager, of which no region is asked for
-pub record Opens {A : Type 0} (old new : PagerView) (result : Result A TreeFault) : Type 0 where
-  pub same : new ≡ record old { store = read_store result old.store; cached = new.cached }
-  pub faults : IfErr result (IsOpenFault old.store)
-
--- a directory that was read whole
-pub record IsReadWhole (store : StoreFacts) (header : Header) (chain : List ℕ) (entries : List Entry) : Type 0 where
-  pub places : ArePlaces (last_address header.schema.dims) entries
-  pub regions_are : header.regions ≡ length entries
-  pub root_is : slice_get chain 0 ≡ Some header.root
-  pub some_chain : 1 ≤ length chain
-  pub directory : IsHonest store → IsDirectory store.pages header chain entries
 
 -- why a table isn't opened that is marked as changed: for its header, for want of memory, or as the store failed
 abbrev pub IsMarkFault : TreeFault → Type 0

@@ -1,19 +1,12 @@
 -- The spans of a UB-tree's regions (Bayer 1997), and which regions a search asks for.
-use Rattle.std.specs.Prelude.{◌≡◌, ◌≤◌, ℕ, List, [], ◌∷◌, map, Option, Some, MatchOption, IfSome, All, Contains, IsTrue, slice_get}
+use Rattle.std.specs.Prelude.{◌≤◌, ℕ, List, [], ◌∷◌, Option, IfSome}
 use Rattle.ub_bigmin.specs.Box.{Corners, HoldsAny}
 use Rattle.ub_page.specs.declared.directory.Entry.{Entry}
-use Rattle.ub_table.specs.Keys.{IsBefore, origin, are_ascending}
-use Rattle.ub_table.specs.declared.row.Key.{Key}
+use Rattle.ub_table.specs.Keys.{IsBefore}
 use Rattle.ub_region.specs.Spans.{span_end}
+use Rattle.ub_region.specs.Those.{FirstBy}
 use Rattle.ub_tree.specs.declared.region.Region.{Region}
-
-abbrev pub first_keys : List Entry → List Key
-first_keys entries = map (λ entry. entry.first) entries
-
--- the entries are those of a tree's regions in order, in a space that ends with this address
-abbrev pub ArePlaces : ℕ → List Entry → Type 0
-ArePlaces last entries =
-    (slice_get (first_keys entries) 0 ≡ Some origin) × All (λ entry. entry.first.z ≤ last) entries × IsTrue (are_ascending (first_keys entries))
+pub use Rattle.ub_directory.specs.Slots.{ArePlaces, first_keys}
 
 -- the regions of these entries, each with its span, in a space that ends with this address
 abbrev pub regions_of : ℕ → List Entry → List Region
@@ -31,6 +24,4 @@ IsLater after region = IfSome after (λ other. IsBefore other.first region.first
 
 -- r is the first of the regions that have a property, in the order of their first keys; or none has it
 abbrev pub First : (Region → Type 0) → List Region → Option Region → Type 0
-First P regions found =
-    MatchOption found ((r : Region) → Contains regions r → ¬ (P r))
-    (λ r. Contains regions r × P r × ((other : Region) → Contains regions other → P other → ¬ (IsBefore other.first r.first)))
+First P regions found = FirstBy (λ region. region.first) P regions found

@@ -1,22 +1,11 @@
 -- The pages of a closed table, format 1, and the mark of one that is being changed.
-use Rattle.std.specs.Prelude.{◌≡◌, ◌≤◌, ℕ, true, false, List, [], ◌∷◌, Some, length, map, take, drop, slice_get}
-use Rattle.ub_page.specs.Directory.{directory_page}
+use Rattle.std.specs.Prelude.{◌≡◌, ℕ, true, false, List, ◌∷◌, Some, length, map, slice_get}
 use Rattle.ub_page.specs.Header.{IsHeader, header_page}
-use Rattle.ub_page.specs.declared.directory.Entry.{Entry}
-use Rattle.ub_page.specs.declared.directory.TheConstants.{MAX_ENTRIES}
 use Rattle.ub_page.specs.declared.header.Header.{Header}
 use Rattle.ub_region.specs.Regions.{AreRegions, rows_of}
 use Rattle.ub_table.specs.declared.schema.Schema.{Schema}
 use Rattle.ub_tree.specs.Placed.{Placed, ArePlaced, entry_of, regions_in}
-
--- the pages of this chain spell the entries, 170 on each but the last, each naming the next page
-abbrev pub IsChain : List (List ℕ) → List ℕ → List Entry → Type 0
-IsChain pages [] entries = ⊥
-IsChain pages (n ∷ []) entries =
-    (1 ≤ length entries) × (length entries ≤ MAX_ENTRIES) × (slice_get pages n ≡ Some (directory_page (record { entries = entries; next = 0 })))
-IsChain pages (n ∷ m ∷ chain) entries =
-    (slice_get pages n ≡ Some (directory_page (record { entries = take MAX_ENTRIES entries; next = m }))) × (length (take MAX_ENTRIES entries) ≡ MAX_ENTRIES)
-    × IsChain pages (m ∷ chain) (drop MAX_ENTRIES entries)
+use Rattle.ub_directory.specs.Chain.{IsChain}
 
 -- the pages are a closed table of this schema, with these regions and this next number
 pub record AreSoundPages (pages : List (List ℕ)) (schema : Schema) (placed : List Placed) (next : ℕ) : Type 0 where

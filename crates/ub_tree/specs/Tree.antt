@@ -1,5 +1,5 @@
 -- A tree's parts, as contracts see them together.
-use Rattle.std.specs.Prelude.{◌+◌, ◌≡◌, ◌≤◌, ◌<◌, ◌^◌, ℕ, suc, length, slice_get, Bool, if◌then◌else◌, List, [], ◌∷◌, Some, IfSome}
+use Rattle.std.specs.Prelude.{◌+◌, ◌≡◌, ◌≤◌, ◌<◌, ◌^◌, ℕ, suc, length, slice_get, Bool, if◌then◌else◌, List, [], Some, IfSome}
 use Rattle.std.specs.List.{AllByRecursion}
 use Rattle.ub_table.specs.declared.row.TheConstants.{MAX_ROW_NUMBER}
 use Rattle.ub_zaddr.specs.Address.{last_address}
@@ -24,7 +24,6 @@ abbrev pub tree_view : Schema → List Entry → List ℕ → ℕ → ℕ → Bo
 tree_view schema entries chain next rows is_changed is_failed pager = record {
   schema = schema;
   placed = placed_of schema (known_pages pager.store) entries;
-  reserved = 0 ∷ chain;
   rows = rows;
   next = next;
   is_changed = is_changed;
@@ -32,6 +31,7 @@ tree_view schema entries chain next rows is_changed is_failed pager = record {
   store = pager.store;
   trace = pager.trace;
   fetches = pager.fetches;
+  inner = record { chain = chain };
 }
 
 -- what is true of a tree's parts: its places are those of its schema's space, and can be counted; the directory begins on a

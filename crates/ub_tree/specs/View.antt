@@ -11,14 +11,14 @@ use Rattle.ub_tree.specs.Placed.{Placed, ArePlaced, regions_in, entry_of}
 use Rattle.ub_tree.specs.Spans as spans
 use Rattle.ub_tree.specs.Stored.{AreSoundPages, HasMark}
 use Rattle.ub_tree.specs.declared.region.Region.{Region as Span}
+use Rattle.ub_directory.specs.Inner.{Inner, reserved}
 
--- a tree: its schema; its regions in order; the pages that hold no region (the first, and others of its own); how many rows
--- it counts; the next row number; whether it has changed since it was opened, and whether it has failed; the facts of its
--- store; and the region pages asked for since the trace began, and how many were ever asked for
+-- a tree: its schema; its regions in order; how many rows it counts; the next row number; whether it has changed since it was
+-- opened, and whether it has failed; the facts of its store; the region pages asked for since the trace began, and how many were
+-- ever asked for; and what its directory keeps to itself
 pub record TreeView : Type 0 where
   pub schema : Schema
   pub placed : List Placed
-  pub reserved : List ℕ
   pub rows : ℕ
   pub next : ℕ
   pub is_changed : Bool
@@ -26,6 +26,7 @@ pub record TreeView : Type 0 where
   pub store : StoreFacts
   pub trace : List ℕ
   pub fetches : ℕ
+  pub inner : Inner
 
 -- the regions of a tree, and its rows, one region after the other
 abbrev pub regions : TreeView → List Region
@@ -48,7 +49,7 @@ pub record IsSound (t : TreeView) : Type 0 where
   pub working : t.is_failed ≡ false
   pub honest : IsHonest t.store
   pub regions_are : AreRegions t.schema t.next (regions t)
-  pub placed_are : ArePlaced t.schema t.placed t.reserved t.store.pages
+  pub placed_are : ArePlaced t.schema t.placed (reserved t.inner) t.store.pages
   pub rows_are : t.rows ≡ length (tree_rows t)
   pub some_next : 1 ≤ t.next
   pub last_next : t.next ≤ MAX_ROW_NUMBER + 1

@@ -9,20 +9,17 @@ ghost use Rattle.ub_tree.specs.Tree.{IsLaidOut};
 
 use crate::fault::TreeFault;
 use crate::header::mark_page;
-use crate::places::Places;
 use crate::tree::Tree;
 use std::alloc::{AllocError, Global};
 use std::num::NonZeroUsize;
+use ub_directory::{ORIGIN, Places};
 use ub_page::{Entry, write_region};
 use ub_store::{PageStore, Pager, Rejected};
-use ub_table::{Key, Schema};
+use ub_table::Schema;
 use ub_zaddr::last;
 
 // How many pages the cache of a tree holds.
 const CACHE_PAGES: usize = 64;
-
-/// Where the first region of all begins.
-pub const ORIGIN: Key = Key { z: 0, number: 0 };
 
 impl<S: PageStore> Tree<S> {
     /// A tree of this schema with no rows, over a store that has no pages. It takes three: the header, marked unclean, the

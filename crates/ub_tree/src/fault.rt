@@ -1,5 +1,6 @@
 use std::alloc::AllocError;
 use thiserror::Error;
+use ub_directory::DirectoryFault;
 use ub_store::StoreFault;
 use ub_table::PageFault;
 
@@ -34,6 +35,21 @@ impl From<StoreFault> for TreeFault {
         match fault {
             StoreFault::Memory => TreeFault::Memory,
             fault => TreeFault::Store(fault),
+        }
+    }
+}
+
+impl From<DirectoryFault> for TreeFault {
+    ghost use Rattle.std.specs.Prelude.{◌≡◌};
+    ghost use Rattle.ub_tree.specs.Faults.{opening_fault};
+
+    ghost from_gives = { λ fault e. e ≡ opening_fault fault };
+
+    /// The directory's fault, or Memory.
+    fn from(fault: DirectoryFault) -> TreeFault {
+        match fault {
+            DirectoryFault::Page { page, fault } => TreeFault::Page { page, fault },
+            DirectoryFault::Store(fault) => TreeFault::from(fault),
         }
     }
 }

@@ -1,10 +1,9 @@
-ghost use Rattle.std.specs.Prelude.{◌≡◌, ◌+◌, ◌^◌, ◌<◌, ◌≤◌};
+ghost use Rattle.std.specs.Prelude.{◌+◌, ◌<◌, ◌≤◌};
 ghost use Rattle.std.specs.List.{AllByRecursion};
 ghost use Rattle.ub_table.specs.Name.{IsName};
-ghost use Rattle.ub_tree.specs.Closing.{levels_for};
 ghost use Rattle.ub_tree.specs.Stored.{IsMarkPage};
 
-use ub_page::directory::MAX_ENTRIES;
+use ub_directory::levels_of;
 use ub_page::{Header, Page, write_header};
 use ub_table::{MAX_ROW_NUMBER, Name, Schema};
 
@@ -27,14 +26,6 @@ pub fn mark_page(schema: &Schema, next: u32, rows: u32, regions: u32, root: u32)
         levels: levels_of(regions as usize) as u32,
         unclean: true,
     })
-}
-
-/// How many pages the directory of so many regions takes.
-pub fn levels_of(regions: usize) -> usize
-    requires { regions < 2 ^ 32 }
-    ensures { result ≡ levels_for regions }
-{
-    (regions + MAX_ENTRIES - 1) / MAX_ENTRIES
 }
 
 /// Each of these is a name: it tells this to the proof alone.

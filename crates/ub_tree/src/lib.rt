@@ -1,10 +1,12 @@
-// The UB-tree (Bayer 1997): disjoint regions in the order of addresses, each on a page of a store, and each row in the region
-// that holds its key. The definitions stand in specs/: `Regions` (what regions are, insertion and removal as functions on their
-// list), `Spans` (the addresses that a region covers), `View` (what contracts see of a tree, and when it is sound), `Stored` (the
-// pages of a closed table), `Opened` (which pages are opened). The code, from the bottom: keys and the rows of one region (`keys`,
-// `rows`), the directory in memory (`places`), and the tree over a store: `creation` and `opening` to begin, `tree` to search and
-// read, `change` to put rows in, `removal` to take them out, `closing` to write the directory and the header; the header that
-// marks a table as changed stands in `header`. Pages are spelled, and stores kept, in the crates below.
+// The UB-tree (Bayer 1997) over a store: each row stands in the region that holds its key, and each region on a page. The
+// definitions stand in specs/: `Spans` (the addresses that a region covers, and which region a search asks for), `View` (what
+// contracts see of a tree, and when it is sound), `Effects` (what a call leaves), `Stored` (the pages of a closed table), `Opened`
+// (which pages are opened), `Closing`; the functions of `law` ensure the laws of a sound tree. The code: `creation` and `opening`
+// to begin, `tree` to search and read, `change` to put rows in, `removal` to take them out, `closing` to write the directory and
+// then the header; the header that marks a table as changed stands in `header`.
+//
+// What belongs here is what a tree does over a store, and in which order its pages go out. Where each region's page is, stands in
+// `ub_directory`; what regions are, in `ub_region`; how pages are spelled, and stores kept, in the other crates below.
 
 #![tactic(auto)]
 
@@ -13,8 +15,8 @@ mod closing;
 mod creation;
 pub mod fault;
 mod header;
+pub mod law;
 mod opening;
-mod places;
 mod reading;
 pub mod region;
 mod removal;

@@ -10,7 +10,7 @@ ghost use Rattle.ub_tree.specs.Spans.{first_keys};
 ghost use Rattle.ub_tree.specs.Tree.{IsHeldBy};
 
 use crate::fault::TreeFault;
-use crate::places::Places;
+use ub_directory::Places;
 use ub_page::{Page, RegionPage};
 use ub_region::is_equal;
 use ub_table::{Key, PageFault, Schema};

@@ -1,3 +1,8 @@
+ghost use Rattle.std.specs.Prelude.{◌≡◌, option_copied};
+ghost use Rattle.std.specs.Option.{option_map};
+ghost use Rattle.ub_tree.specs.Faults.{region_of};
+
+use ub_directory::Slot;
 use ub_table::Key;
 
 /// A region: its place in the order of addresses, the span of addresses that its rows can have, and its page.
@@ -11,4 +16,27 @@ pub struct Region {
     pub to: u128,
     /// The region's page: at least 1.
     pub page: u32,
+}
+
+/// The region of a slot, if there is one.
+pub(crate) fn region_in(slot: Option<Slot>) -> Option<Region>
+    ensures { result ≡ option_map region_of slot }
+{
+    let slot = slot?;
+    Some(Region {
+        first: slot.first,
+        from: slot.from,
+        to: slot.to,
+        page: slot.page,
+    })
+}
+
+/// The first key of a region, if one is given.
+pub(crate) fn first_of(region: Option<&Region>) -> Option<Key>
+    ensures { result ≡ option_map (λ r. r.first) (option_copied region.entry) }
+{
+    match region {
+        Some(region) => Some(region.first),
+        None => None,
+    }
 }

@@ -6,11 +6,11 @@ ghost use Rattle.ub_tree.specs.Spans.{IsLater, Meets, First};
 ghost use Rattle.ub_tree.specs.View.{IsSound, spans_of};
 
 use crate::fault::TreeFault;
-use crate::places::Places;
 use crate::reading::region_on;
-use crate::region::Region;
+use crate::region::{Region, first_of, region_in};
 use std::marker::Model;
 use ub_bigmin::ZBox;
+use ub_directory::Places;
 use ub_page::RegionPage;
 use ub_store::{PageStore, Pager};
 use ub_table::Schema;
@@ -101,7 +101,8 @@ impl<S: PageStore> Tree<S> {
         if self.has_failed() {
             return Err(TreeFault::Failed);
         }
-        Ok(self.places.seek(z, after))
+        let found = self.places.seek(z, first_of(after));
+        Ok(region_in(found))
     }
 
     /// The first region later than `after`, if one is given, that meets one of the boxes; `None` exactly where there is
@@ -119,7 +120,8 @@ impl<S: PageStore> Tree<S> {
         if self.has_failed() {
             return Err(TreeFault::Failed);
         }
-        Ok(self.places.next_meeting(boxes, after))
+        let found = self.places.next_meeting(boxes, first_of(after));
+        Ok(region_in(found))
     }
 
     /// What stands on the region's page, which is noted in the trace first. The page is checked against the directory: its

@@ -3,7 +3,8 @@ use Rattle.std.proofs.lemmas.Option.{slice_get_read}
 use Rattle.ub_region.specs.Regions.{place_of}
 use Rattle.ub_table.specs.declared.row.Key.{Key}
 use Rattle.ub_tree.specs.Spans.{first_keys}
-use Rattle.ub_tree.proofs.TreeFacts.{held_before, held_last, same_key}
+use Rattle.ub_directory.proofs.Laws.{same_key}
+use Rattle.ub_tree.proofs.TreeFacts.{held_before, held_last}
 use Rattle.ub_tree.proofs.reading.is_held.Goals as goal
 
 pub returns-in-Some : goal.returns-in-Some

@@ -1,5 +1,5 @@
-use Rattle.std.proofs.Common.{◌≡◌, ◌≢◌, ◌<◌, ◌+◌, ◌^◌, ◌∙◌, ℕ, Err, sym, ap, subst, length, arith}
-use Rattle.ub_region.proofs.RowFacts.{length-insert_row}
+use Rattle.std.proofs.Common.{◌≡◌, ◌≢◌, ◌<◌, ◌+◌, ◌^◌, ◌∙◌, ℕ, Err, sym, ap, subst, length, arith, inr, map, refl, true, false, Some, slice_get}
+use Rattle.ub_region.proofs.Laws.{length-insert_row}
 use Rattle.ub_table.specs.declared.row.Row.{Row}
 use Rattle.ub_tree.specs.Change.{AreRowsAt, IsInserted, row_of}
 use Rattle.ub_tree.specs.Effects.{Changes}
@@ -8,7 +8,6 @@ use Rattle.ub_tree.proofs.TreeFacts.{entries_back, length-placed, placed_at, pla
 use Rattle.ub_tree.proofs.GrowFacts.{IsReady, ready, room_ready, grown, words_of}
 use Rattle.ub_tree.proofs.WriteFacts.{counted_anew, left_by, searched_by, then_changed, unchanged}
 use Rattle.ub_tree.specs.View.{TreeView}
-use Rattle.std.proofs.Common.{inr, map, refl, true, false, Some, slice_get}
 use Rattle.std.proofs.lemmas.Option.{slice_get_read}
 use Rattle.ub_zaddr.specs.Address.{last_address}
 use Rattle.ub_region.specs.Rows.{has_key, insert_row}

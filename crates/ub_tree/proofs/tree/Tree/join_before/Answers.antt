@@ -3,8 +3,8 @@ use Rattle.ub_tree.specs.View.{TreeView, regions}
 use Rattle.ub_tree.proofs.GrowFacts.{some_at}
 use Rattle.ub_tree.proofs.TreeFacts.{region_get}
 use Rattle.ub_tree.proofs.ShrinkFacts.{join_one, length-regions}
-use Rattle.ub_tree.proofs.tree.Tree.join_before.Goals as goal
 use Rattle.ub_tree.proofs.tree.Tree.join_before.Goals.{then-fit, else-fit}
+use Rattle.ub_tree.proofs.tree.Tree.join_before.Goals as goal
 
 pub returns-clause-joined : goal.returns-clause-joined
 returns-clause-joined g c = λ honest.

@@ -1,8 +1,6 @@
-use Rattle.std.proofs.Common.{◌≡◌, ◌<◌, refl, arith, rules, length}
+use Rattle.std.proofs.Common.{◌≡◌, ◌<◌, refl, arith, rules, length, List, ℕ, sym, subst}
 use Rattle.std.proofs.lemmas.Option.{slice_get_within}
 use Rattle.ub_page.specs.Region.{region_page}
-use Rattle.std.proofs.Common.{List, ℕ}
-use Rattle.std.proofs.Common.{sym, subst}
 use Rattle.ub_page.specs.declared.directory.Entry.{Entry}
 use Rattle.ub_table.specs.declared.row.Key.{Key}
 use Rattle.ub_tree.specs.Effects.{IsRegionRefused}

@@ -1,5 +1,5 @@
 use Rattle.std.proofs.Common.{◌≡◌, ◌<◌, ◌-◌, ◌^◌, ◌∙◌, ap, sym, subst, length, arith, true, false, refl, inl, inr, Bool, ℕ}
-use Rattle.ub_region.proofs.RowFacts.{length-remove_row}
+use Rattle.ub_region.proofs.Laws.{length-remove_row}
 use Rattle.ub_region.specs.Rows.{has_key, remove_row}
 use Rattle.ub_table.specs.declared.fault.PageFault.TheVariants.{BadCount}
 use Rattle.ub_tree.specs.declared.fault.TreeFault.TheVariants.{Page}

@@ -1,0 +1,61 @@
+-- Entries that stay in order.
+use Rattle.std.proofs.Common.{◌≡◌, ◌<◌, ◌≤◌, ◌+◌, ◌-◌, ℕ, zero, suc, List, [], ◌∷◌, Bool, true, ◌&&◌, Some, length, take, drop, get_or, ◌∙◌, ap, refl, arith, slice_get}
+use Rattle.std.proofs.lemmas.Bool.{and_parts, and_from}
+use Rattle.std.proofs.lemmas.List.Elements.{All-append, All-take, All-drop}
+use Rattle.std.specs.List.{remove}
+use Rattle.ub_page.specs.declared.directory.Entry.{Entry}
+use Rattle.ub_table.proofs.KeyFacts.{precedes_trans}
+use Rattle.ub_table.specs.Keys.{origin, precedes, are_ascending}
+use Rattle.ub_directory.specs.Slots.{first_keys, ArePlaces}
+
+-- from one entry on, the first is before the second, and the others are in order
+order_at : (entries : List Entry) (i : ℕ) (d : Entry) → suc i < length entries
+    → are_ascending (first_keys (drop i entries)) ≡ (precedes (get_or entries i d).first (get_or entries (suc i) d).first && are_ascending (first_keys (drop (suc i) entries)))
+order_at [] i d lt = absurd (omega arith)
+order_at (x ∷ []) i d lt = absurd (omega arith)
+order_at (x ∷ y ∷ entries) zero d lt = refl
+order_at (x ∷ y ∷ entries) (suc i) d lt = order_at (y ∷ entries) i d (omega arith)
+
+pub order_step : (entries : List Entry) (i : ℕ) (d : Entry) → 1 ≤ i → i < length entries → precedes (get_or entries (i - 1) d).first (get_or entries i d).first ≡ true
+    → are_ascending (first_keys (drop (i - 1) entries)) ≡ are_ascending (first_keys (drop (i + 1 - 1) entries))
+order_step entries zero d some lt before = absurd (omega arith)
+order_step entries (suc i) d some lt before =
+    let here : suc i - 1 ≡ i = omega arith in
+    let next : suc i + 1 - 1 ≡ suc i = omega arith in
+    let first : precedes (get_or entries i d).first (get_or entries (suc i) d).first ≡ true = rw here at before in
+    rw (here, next) (order_at entries i d lt ∙ ap (λ (b : Bool). b && are_ascending (first_keys (drop (suc i) entries))) first)
+
+pub one_in_order : (entries : List Entry) → length entries ≤ 1 → are_ascending (first_keys entries) ≡ true
+one_in_order [] h = refl
+one_in_order (x ∷ []) h = refl
+one_in_order (x ∷ y ∷ entries) h = absurd (omega arith)
+
+-- entries without one of them
+ascending_remove : (entries : List Entry) (i : ℕ) → are_ascending (first_keys entries) ≡ true → are_ascending (first_keys (remove entries i)) ≡ true
+ascending_remove [] zero up = refl
+ascending_remove [] (suc i) up = refl
+ascending_remove (x ∷ entries) zero up = (and_parts _ _ up).1
+ascending_remove (x ∷ []) (suc i) up = by_place i
+  where
+    by_place : (i : ℕ) → are_ascending (first_keys (remove (x ∷ []) (suc i))) ≡ true
+    by_place zero = refl
+    by_place (suc i) = refl
+ascending_remove (x ∷ y ∷ []) (suc zero) up = refl
+ascending_remove (x ∷ y ∷ z ∷ entries) (suc zero) up =
+    let first : precedes x.first y.first ≡ true = (and_parts _ _ up).0 in
+    let rest : are_ascending (first_keys (y ∷ z ∷ entries)) ≡ true = (and_parts _ _ up).1 in
+    and_from _ _ (precedes_trans x.first y.first z.first first (and_parts _ _ rest).0) (and_parts _ _ rest).1
+ascending_remove (x ∷ y ∷ entries) (suc (suc i)) up =
+    and_from _ _ (and_parts _ _ up).0 (ascending_remove (y ∷ entries) (suc i) (and_parts _ _ up).1)
+
+begins_remove : (entries : List Entry) (i : ℕ) → 1 ≤ i → slice_get (first_keys entries) 0 ≡ Some origin → slice_get (first_keys (remove entries i)) 0 ≡ Some origin
+begins_remove entries zero some begins = absurd (omega arith)
+begins_remove [] (suc i) some begins = cc
+begins_remove (x ∷ entries) (suc i) some begins = begins
+
+pub places_remove : (last : ℕ) (entries : List Entry) (i : ℕ) → 1 ≤ i → ArePlaces last entries → ArePlaces last (remove entries i)
+places_remove last entries i some h = (
+  begins_remove entries i some h.0,
+  All-append (λ (e : Entry). e.first.z ≤ last) (take i entries) (drop (suc i) entries) (All-take (λ (e : Entry). e.first.z ≤ last) i entries h.1) (All-drop (λ (e : Entry). e.first.z ≤ last) (suc i) entries h.1),
+  ascending_remove entries i h.2,
+)

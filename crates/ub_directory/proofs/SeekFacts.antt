@@ -1,0 +1,297 @@
+-- Searches among the regions in order.
+use Rattle.std.proofs.Common.{◌≡◌, ◌<◌, ◌≤◌, ◌-◌, inl, inr, ℕ, zero, suc, max, true, false, List, [], ◌∷◌, Option, Some, None, length, ◌↔◌, ◌∙◌, sym, ap, refl, arith, slice_get, subst, nat_le, if◌then◌else◌}
+use Rattle.std.proofs.lemmas.Bool.{cases_lt, cases_eq, cases_Bool, le-leb, lt-leb, and_parts}
+use Rattle.std.proofs.lemmas.Option.{slice_get_read, slice_get_within, get_or_from_slice_get, slice_get_cases}
+use Rattle.std.specs.List.{All, Contains}
+use Rattle.ub_bigmin.specs.Box.{Corners, HoldsAny}
+use Rattle.ub_bigmin.specs.Extremes.{LeastFrom}
+use Rattle.ub_page.specs.declared.directory.Entry.{Entry}
+use Rattle.ub_region.specs.Regions.{place_of}
+use Rattle.ub_region.specs.Spans.{address_before, span_end}
+use Rattle.ub_table.proofs.KeyFacts.{before_from, before_parts, before_of, precedes_trans, not_before_self, not_both_before, ascending_get}
+use Rattle.ub_table.specs.Keys.{IsBefore, origin, precedes, are_ascending}
+use Rattle.ub_table.specs.declared.row.Key.{Key}
+use Rattle.ub_directory.specs.Slots.{first_keys, slots_of, Meets, IsLater, First}
+use Rattle.ub_directory.specs.declared.slot.Slot.{Slot}
+use Rattle.ub_directory.proofs.PlaceFacts.{first_at}
+use Rattle.ub_directory.proofs.SpanFacts.{slot_with}
+
+-- what a region's place in the list tells of its entry
+pub slot_entry : (last : ℕ) (entries : List Entry) (i : ℕ) (r : Slot) → slice_get (slots_of last entries) i ≡ Some r
+    → (entry : Entry) × (slice_get entries i ≡ Some entry) × (entry.first ≡ r.first) × (r.from ≡ r.first.z)
+slot_entry last [] i r at = cc
+slot_entry last (e ∷ entries) zero r at =
+    let whole : Slot = slot_with (span_end last (first_keys entries)) e in
+    let same : whole ≡ r = cc in
+    (e, refl, ap (λ (q : Slot). q.first) same, subst (λ (q : Slot). q.from ≡ q.first.z) same refl)
+slot_entry last (e ∷ entries) (suc i) r at = slot_entry last entries i r at
+
+pub slot_first : (last : ℕ) (entries : List Entry) (i : ℕ) (r : Slot) → slice_get (slots_of last entries) i ≡ Some r → slice_get (first_keys entries) i ≡ Some r.first
+slot_first last [] i r at = cc
+slot_first last (e ∷ entries) zero r at =
+    let whole : Slot = slot_with (span_end last (first_keys entries)) e in
+    let same : whole ≡ r = cc in
+    ap (λ (q : Slot). Some q.first) same
+slot_first last (e ∷ entries) (suc i) r at = slot_first last entries i r at
+
+-- the regions that begin after a key, of which the entries are known
+pub later_by_key : (last : ℕ) (entries : List Entry) (key : Key) (start : ℕ)
+    → ((i : ℕ) (entry : Entry) → slice_get entries i ≡ Some entry → IsBefore key entry.first ↔ (start ≤ i))
+    → (i : ℕ) (r : Slot) → slice_get (slots_of last entries) i ≡ Some r → IsBefore key r.first ↔ (start ≤ i)
+later_by_key last entries key start h i r at =
+    let there = slot_entry last entries i r at in
+    subst (λ (k : Key). IsBefore key k ↔ (start ≤ i)) there.2 (h i there.0 there.1)
+
+ends_from : (z : ℕ) (first next : Key) → precedes first next ≡ true → (z ≤ address_before next.z next.number) ↔ (precedes (record { z = z; number = 0 }) next ≡ true)
+ends_from z first next up = by_number next.z next.number (before_of first next up)
+  where
+    by_number : (y n : ℕ) → IsBefore first (record { z = y; number = n }) → (z ≤ address_before y n) ↔ (precedes (record { z = z; number = 0 }) (record { z = y; number = n }) ≡ true)
+    by_number y zero before = (to, from)
+      where
+        positive : IsBefore first (record { z = y; number = 0 }) → 0 < y
+        positive h = elim (before_parts first (record { z = y; number = 0 }) h) [
+          | inl lt ↦ omega arith
+          | inr both ↦ let no = both.1 in absurd (omega arith)
+        ]
+
+        to : z ≤ y - 1 → precedes (record { z = z; number = 0 }) (record { z = y; number = 0 }) ≡ true
+        to le = let some = positive before in before_from (record { z = z; number = 0 }) (record { z = y; number = 0 }) (inl (omega arith))
+
+        back : IsBefore (record { z = z; number = 0 }) (record { z = y; number = 0 }) → z ≤ y - 1
+        back h = elim (before_parts (record { z = z; number = 0 }) (record { z = y; number = 0 }) h) [
+          | inl lt ↦ omega arith
+          | inr both ↦ let no = both.1 in absurd (omega arith)
+        ]
+
+        from : precedes (record { z = z; number = 0 }) (record { z = y; number = 0 }) ≡ true → z ≤ y - 1
+        from t = back t
+    by_number y (suc n) before = (to, from)
+      where
+        to : z ≤ y → precedes (record { z = z; number = 0 }) (record { z = y; number = suc n }) ≡ true
+        to le = elim (cases_lt z y) [
+          | inl lt ↦ before_from (record { z = z; number = 0 }) (record { z = y; number = suc n }) (inl lt)
+          | inr ge ↦ let same : z ≡ y = omega arith in before_from (record { z = z; number = 0 }) (record { z = y; number = suc n }) (inr (same, omega arith))
+        ]
+
+        back : IsBefore (record { z = z; number = 0 }) (record { z = y; number = suc n }) → z ≤ y
+        back h = elim (before_parts (record { z = z; number = 0 }) (record { z = y; number = suc n }) h) [
+          | inl lt ↦ omega arith
+          | inr both ↦ let same = both.0 in omega arith
+        ]
+
+        from : precedes (record { z = z; number = 0 }) (record { z = y; number = suc n }) ≡ true → z ≤ y
+        from t = back t
+
+place_zero : (key first : Key) (firsts : List Key) → are_ascending (first ∷ firsts) ≡ true → precedes key first ≡ true → place_of key (first ∷ firsts) ≡ 0
+place_zero key first [] up t = refl
+place_zero key first (next ∷ firsts) up t = rw (precedes_trans key first next t (and_parts _ _ up).0) refl
+
+-- a span ends at an address or later exactly from the region on that holds the least key of the address
+pub reaches : (last z : ℕ) (entries : List Entry) → are_ascending (first_keys entries) ≡ true → z ≤ last → (i : ℕ) (r : Slot) → slice_get (slots_of last entries) i ≡ Some r
+    → (z ≤ r.to) ↔ (place_of (record { z = z; number = 0 }) (first_keys entries) ≤ i)
+reaches last z [] up le i r at = cc
+reaches last z (e ∷ []) up le zero r at =
+    let whole : Slot = slot_with last e in
+    let same : whole ≡ r = cc in
+    let end : last ≡ r.to = ap (λ (q : Slot). q.to) same in
+    (λ x. omega arith, λ x. omega arith)
+reaches last z (e ∷ []) up le (suc i) r at = cc
+reaches last z (e ∷ next ∷ entries) up le zero r at =
+    let whole : Slot = slot_with (address_before next.first.z next.first.number) e in
+    let same : whole ≡ r = cc in
+    let end : address_before next.first.z next.first.number ≡ r.to = ap (λ (q : Slot). q.to) same in
+    let is = ends_from z e.first next.first (and_parts _ _ up).0 in
+    elim (cases_Bool (precedes (record { z = z; number = 0 }) next.first)) [
+      | inl t ↦ let far = is.1 t in rw t (λ x. omega arith, λ x. omega arith)
+      | inr f ↦ rw f (λ x. absurd (let t = is.0 (omega arith) in cc), λ x. absurd (omega arith))
+    ]
+reaches last z (e ∷ next ∷ entries) up le (suc i) r at =
+    let both : (precedes e.first next.first ≡ true) × (are_ascending (first_keys (next ∷ entries)) ≡ true) = and_parts _ _ up in
+    let rest_up = both.1 in
+    let more : (z ≤ r.to) ↔ (place_of (record { z = z; number = 0 }) (first_keys (next ∷ entries)) ≤ i) = reaches last z (next ∷ entries) rest_up le i r at in
+    elim (cases_Bool (precedes (record { z = z; number = 0 }) next.first)) [
+      | inl t ↦
+          let none : place_of (record { z = z; number = 0 }) (first_keys (next ∷ entries)) ≡ 0 =
+          place_zero (record { z = z; number = 0 }) next.first (first_keys entries) rest_up t in
+          let far : z ≤ r.to = more.1 (omega (arith, none)) in
+          rw t (λ x. omega arith, λ x. far)
+      | inr f ↦ rw f (λ x. let n = more.0 x in omega arith, λ x. more.1 (omega arith))
+    ]
+
+-- the region that holds the least key of an address begins at that address or before
+pub begins_by : (z : ℕ) (first : Key) (firsts : List Key) (i : ℕ) (found : Key) → first.z ≤ z → place_of (record { z = z; number = 0 }) (first ∷ firsts) ≡ i
+    → slice_get (first ∷ firsts) i ≡ Some found → found.z ≤ z
+begins_by z first [] zero found le is at = let same : first ≡ found = cc in let e = ap (λ (k : Key). k.z) same in omega arith
+begins_by z first [] (suc i) found le is at = cc
+begins_by z first (next ∷ firsts) zero found le is at = let same : first ≡ found = cc in let e = ap (λ (k : Key). k.z) same in omega arith
+begins_by z first (next ∷ firsts) (suc i) found le is at = elim (cases_Bool (precedes (record { z = z; number = 0 }) next)) [
+  | inl t ↦ let none : 0 ≡ suc i = rw t at is in absurd (omega arith)
+  | inr f ↦ let rest : suc (place_of (record { z = z; number = 0 }) (next ∷ firsts)) ≡ suc i = rw f at is in
+      begins_by z next firsts i found (below f) (omega arith) at
+]
+  where
+    below : precedes (record { z = z; number = 0 }) next ≡ false → next.z ≤ z
+    below f = elim (cases_lt z next.z) [
+      | inl lt ↦ let t = before_from (record { z = z; number = 0 }) next (inl lt) in cc
+      | inr ge ↦ ge
+    ]
+
+-- no span ends after the last address
+pub ends_by_last : (last : ℕ) (entries : List Entry) → All (λ entry. entry.first.z ≤ last) entries → (i : ℕ) (r : Slot) → slice_get (slots_of last entries) i ≡ Some r → r.to ≤ last
+ends_by_last last [] within i r at = cc
+ends_by_last last (e ∷ []) within zero r at =
+    let whole : Slot = slot_with last e in
+    let same : whole ≡ r = cc in
+    let end : last ≡ r.to = ap (λ (q : Slot). q.to) same in
+    omega arith
+ends_by_last last (e ∷ []) within (suc i) r at = cc
+ends_by_last last (e ∷ next ∷ entries) within zero r at =
+    let whole : Slot = slot_with (address_before next.first.z next.first.number) e in
+    let same : whole ≡ r = cc in
+    let end : address_before next.first.z next.first.number ≡ r.to = ap (λ (q : Slot). q.to) same in
+    let small : next.first.z ≤ last = within 1 next (omega arith) in
+    let le = at_most next.first.z next.first.number in
+    omega arith
+  where
+    at_most : (y n : ℕ) → address_before y n ≤ y
+    at_most y zero = omega arith
+    at_most y (suc n) = omega arith
+ends_by_last last (e ∷ next ∷ entries) within (suc i) r at =
+    ends_by_last last (next ∷ entries) (λ k d lt. within (suc k) d (omega arith)) i r at
+
+module _ (last : ℕ) (entries : List Entry) (up : are_ascending (first_keys entries) ≡ true) where
+  contained : (r : Slot) (found : Contains (slots_of last entries) r) → slice_get (slots_of last entries) found.0 ≡ Some r
+  contained r found = slice_get_read (slots_of last entries) (length (slots_of last entries)) found.0 r refl found.1 (sym found.2)
+
+  ordered : (i j : ℕ) (a b : Slot) → i < j → slice_get (slots_of last entries) i ≡ Some a → slice_get (slots_of last entries) j ≡ Some b → IsBefore a.first b.first
+  ordered i j a b lt at_i at_j = before_of a.first b.first (ascending_get (first_keys entries) up i j lt a.first b.first (slot_first last entries i a at_i) (slot_first last entries j b at_j))
+
+  pub first_of : (P : Slot → Type 0) (n : ℕ) → ((i : ℕ) (r : Slot) → slice_get (slots_of last entries) i ≡ Some r → P r → n ≤ i)
+      → ((r : Slot) → slice_get (slots_of last entries) n ≡ Some r → P r) → First P (slots_of last entries) (slice_get (slots_of last entries) n)
+  first_of P n least has = by_found (slice_get (slots_of last entries) n) refl
+    where
+      by_found : (o : Option Slot) → slice_get (slots_of last entries) n ≡ o → First P (slots_of last entries) o
+      by_found None at = λ r in_list p.
+          let le = least in_list.0 r (contained r in_list) p in
+          elim ((slice_get_cases (slots_of last entries) n).1) [
+            | inl some ↦ let there = some.2 in cc
+            | inr past ↦ let far = past.0 in let lt = in_list.1 in omega arith
+          ]
+      by_found (Some x) at = (
+        (n, slice_get_within (slots_of last entries) n x at, get_or_from_slice_get (slots_of last entries) n x x at),
+        has x at,
+        λ other in_list p before.
+            let le = least in_list.0 other (contained other in_list) p in
+            elim (cases_eq n in_list.0) [
+              | inl e ↦
+                  let there : slice_get (slots_of last entries) n ≡ Some other = ap (slice_get (slots_of last entries)) e ∙ contained other in_list in
+                  let same : x ≡ other = cc in
+                  not_before_self x.first (subst (λ (q : Slot). IsBefore q.first x.first) (sym same) before)
+              | inr ne ↦ not_both_before x.first other.first (ordered n in_list.0 x other (omega arith) at (contained other in_list)) before
+            ],
+      )
+
+  pub none_of : (P : Slot → Type 0) → ((i : ℕ) (r : Slot) → slice_get (slots_of last entries) i ≡ Some r → ¬ (P r)) → First P (slots_of last entries) None
+  none_of P never = λ r in_list. never in_list.0 r (contained r in_list)
+
+  module _ (within : All (λ entry. entry.first.z ≤ last) entries) (after : Option Key) (start : ℕ)
+      (later : (i : ℕ) (r : Slot) → slice_get (slots_of last entries) i ≡ Some r → IsLater after r ↔ (start ≤ i)) where
+    abbrev found_at : ℕ → Option Slot
+    found_at z = if nat_le z last then slice_get (slots_of last entries) (max start (place_of (record { z = z; number = 0 }) (first_keys entries))) else None
+
+    pub seek_first : (z : ℕ) → First (λ r. IsLater after r × (z ≤ r.to)) (slots_of last entries) (found_at z)
+    seek_first z = elim (cases_lt last z) [
+      | inl lt ↦ rw (lt-leb z last lt) (none_of (λ r. IsLater after r × (z ≤ r.to)) (λ i r at p. let end = ends_by_last last entries within i r at in let far = p.1 in omega arith))
+      | inr le ↦ rw (le-leb z last le) (first_of (λ r. IsLater after r × (z ≤ r.to)) _
+          (λ i r at p. let a = (later i r at).0 p.0 in let b = (reaches last z entries up le i r at).0 p.1 in omega arith)
+          (λ r at. ((later _ r at).1 (omega arith), (reaches last z entries up le _ r at).1 (omega arith))))
+    ]
+
+    pub none_meets : (boxes : List Corners) → length entries ≤ start → First (λ r. IsLater after r × Meets boxes r) (slots_of last entries) None
+    none_meets boxes past = none_of (λ r. IsLater after r × Meets boxes r) (λ i r at p.
+        let a = (later i r at).0 p.0 in
+        let there = slot_entry last entries i r at in
+        let lt = slice_get_within entries i there.0 there.1 in
+        omega arith)
+
+    module _ (boxes : List Corners) (entry : Entry) (at_start : slice_get entries start ≡ Some entry) where
+      -- a later region does not begin before the first one that is
+      begins_from : (i : ℕ) (r : Slot) → slice_get (slots_of last entries) i ≡ Some r → start ≤ i → entry.first.z ≤ r.from
+      begins_from i r at le =
+          let there = slot_entry last entries i r at in
+          elim (cases_eq start i) [
+            | inl e ↦
+                let again : slice_get entries start ≡ Some there.0 = ap (slice_get entries) e ∙ there.1 in
+                let same : entry ≡ there.0 = cc in
+                let firsts : entry.first.z ≡ r.first.z = ap (λ (x : Entry). x.first.z) same ∙ ap (λ (k : Key). k.z) there.2 in
+                let start_of = there.3 in
+                omega arith
+            | inr ne ↦
+                let before = ascending_get (first_keys entries) up start i (omega arith) entry.first r.first (first_at entries start entry at_start) (slot_first last entries i r at) in
+                let le = address_le entry.first r.first (before_of entry.first r.first before) in
+                let start_of = there.3 in
+                omega arith
+          ]
+        where
+          address_le : (a b : Key) → IsBefore a b → a.z ≤ b.z
+          address_le a b h = elim (before_parts a b h) [
+            | inl lt ↦ omega arith
+            | inr both ↦ let e = both.0 in omega arith
+          ]
+
+      pub no_address : LeastFrom (HoldsAny boxes) entry.first.z None → First (λ r. IsLater after r × Meets boxes r) (slots_of last entries) None
+      no_address none = none_of (λ r. IsLater after r × Meets boxes r) (λ i r at p.
+          let a = (later i r at).0 p.0 in
+          let m = p.1 in
+          let far = none m.0 m.1 in
+          let from = begins_from i r at a in
+          let le = m.2 in
+          omega arith)
+
+      pub next_meets : slice_get (first_keys entries) 0 ≡ Some origin → (z : ℕ) → LeastFrom (HoldsAny boxes) entry.first.z (Some z)
+          → First (λ r. IsLater after r × Meets boxes r) (slots_of last entries) (found_at z)
+      next_meets begins z least = elim (cases_lt last z) [
+        | inl lt ↦ rw (lt-leb z last lt) (none_of (λ r. IsLater after r × Meets boxes r) (λ i r at p.
+            let end = ends_by_last last entries within i r at in
+            let near = reached i r at p in
+            omega arith))
+        | inr le ↦ rw (le-leb z last le) (first_of (λ r. IsLater after r × Meets boxes r) _
+            (λ i r at p. let a = (later i r at).0 p.0 in let near = reached i r at p in let b = (reaches last z entries up le i r at).0 near in omega arith)
+            (λ r at. ((later _ r at).1 (omega arith), (z, least.0, begun _ r at refl, (reaches last z entries up le _ r at).1 (omega arith)))))
+      ]
+        where
+          -- a later region that meets the boxes ends at their least address or later
+          reached : (i : ℕ) (r : Slot) → slice_get (slots_of last entries) i ≡ Some r → IsLater after r × Meets boxes r → z ≤ r.to
+          reached i r at p =
+              let a = (later i r at).0 p.0 in
+              let m = p.1 in
+              let from = begins_from i r at a in
+              let le : entry.first.z ≤ m.0 = (let start_of = m.2 in omega arith) in
+              let near = least.2 m.0 m.1 le in
+              let end = m.3 in
+              omega arith
+
+          from_origin : (firsts : List Key) (i : ℕ) (found : Key) → slice_get firsts 0 ≡ Some origin → place_of (record { z = z; number = 0 }) firsts ≡ i → slice_get firsts i ≡ Some found → found.z ≤ z
+          from_origin [] i found o is at = cc
+          from_origin (first ∷ firsts) i found o is at =
+              let same : first ≡ origin = cc in
+              let none : first.z ≡ 0 = ap (λ (k : Key). k.z) same in
+              begins_by z first firsts i found (omega arith) is at
+
+          begun : (n : ℕ) (r : Slot) → slice_get (slots_of last entries) n ≡ Some r → n ≡ max start (place_of (record { z = z; number = 0 }) (first_keys entries)) → r.from ≤ z
+          begun n r at is =
+              let there = slot_entry last entries n r at in
+              elim (cases_eq start n) [
+                | inl e ↦
+                    let again : slice_get entries start ≡ Some there.0 = ap (slice_get entries) e ∙ there.1 in
+                    let same : entry ≡ there.0 = cc in
+                    let firsts : entry.first.z ≡ r.first.z = ap (λ (x : Entry). x.first.z) same ∙ ap (λ (k : Key). k.z) there.2 in
+                    let start_of = there.3 in
+                    let le = least.1 in
+                    omega arith
+                | inr ne ↦
+                    let place : place_of (record { z = z; number = 0 }) (first_keys entries) ≡ n = omega arith in
+                    let le = from_origin (first_keys entries) n r.first begins place (slot_first last entries n r at) in
+                    let start_of = there.3 in
+                    omega arith
+              ]

@@ -1,0 +1,5 @@
+pub mod Slots
+pub mod Chain
+pub mod Reading
+pub mod Writing
+pub mod Inner

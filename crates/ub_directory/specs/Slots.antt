@@ -1,0 +1,35 @@
+-- Where the regions of a table stand: entries in the order of their first keys; and the span of each.
+use Rattle.std.specs.Prelude.{◌≡◌, ◌≤◌, ℕ, List, [], ◌∷◌, map, Option, Some, IfSome, All, IsTrue, slice_get}
+use Rattle.ub_bigmin.specs.Box.{Corners, HoldsAny}
+use Rattle.ub_directory.specs.declared.slot.Slot.{Slot}
+use Rattle.ub_page.specs.declared.directory.Entry.{Entry}
+use Rattle.ub_region.specs.Spans.{span_end}
+use Rattle.ub_region.specs.Those.{FirstBy}
+use Rattle.ub_table.specs.Keys.{IsBefore, origin, are_ascending}
+use Rattle.ub_table.specs.declared.row.Key.{Key}
+
+abbrev pub first_keys : List Entry → List Key
+first_keys entries = map (λ entry. entry.first) entries
+
+-- the entries are those of a table's regions in order, in a space that ends with this address
+abbrev pub ArePlaces : ℕ → List Entry → Type 0
+ArePlaces last entries =
+    (slice_get (first_keys entries) 0 ≡ Some origin) × All (λ entry. entry.first.z ≤ last) entries × IsTrue (are_ascending (first_keys entries))
+
+-- the slots of these entries, each with its region's span, in a space that ends with this address
+abbrev pub slots_of : ℕ → List Entry → List Slot
+slots_of last [] = []
+slots_of last (entry ∷ entries) =
+    record { first = entry.first; from = entry.first.z; to = span_end last (first_keys entries); page = entry.page } ∷ slots_of last entries
+
+-- some address of the span lies in one of the boxes
+abbrev pub Meets : List Corners → Slot → Type 0
+Meets boxes slot = (z : ℕ) × HoldsAny boxes z × (slot.from ≤ z) × (z ≤ slot.to)
+
+-- the region begins after a key, where one is given
+abbrev pub IsLater : Option Key → Slot → Type 0
+IsLater after slot = IfSome after (λ key. IsBefore key slot.first)
+
+-- the first of the slots that have a property, or none has it
+abbrev pub First : (Slot → Type 0) → List Slot → Option Slot → Type 0
+First P slots found = FirstBy (λ slot. slot.first) P slots found

@@ -1,0 +1,21 @@
+// The directory of a UB-tree (Bayer 1997): where each of a table's regions begins and on which page it stands. In memory it is a
+// list of entries in the order of their first keys (`places`), in which the region that holds a key, and the next one that
+// meets some boxes, are found by halving. In a store it is a chain of pages, which `reading` reads and `writing` writes. The
+// definitions stand in specs/: `Slots` (entries and spans), `Chain` (its pages), `Reading` and `Writing`.
+//
+// What belongs here is where a region's page is. What stands on that page, and when a table is opened, changed and closed, stands
+// above; how pages are spelled, and stores kept, below.
+
+#![tactic(auto)]
+
+pub mod fault;
+pub mod places;
+pub mod reading;
+pub mod slot;
+pub mod writing;
+
+pub use fault::DirectoryFault;
+pub use places::{ORIGIN, Places};
+pub use reading::read_table;
+pub use slot::Slot;
+pub use writing::{levels_of, write_places};

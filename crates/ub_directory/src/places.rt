@@ -1,0 +1,296 @@
+ghost use Rattle.std.specs.Prelude.{◌≡◌, ℕ, ◌+◌, ◌-◌, ◌<◌, ◌≤◌, ◌↔◌, max, Some, None, IsTrue, All, Bool, if◌then◌else◌, nat_le, nat_lt, length, slice_get, IsSome, IfSome, OnOk, OnErr};
+ghost use Rattle.std.specs.List.{insert, remove};
+ghost use Rattle.ub_bigmin.specs.Box.{Corners};
+ghost use Rattle.ub_region.specs.Regions.{place_of};
+ghost use Rattle.ub_region.specs.Spans.{address_before};
+ghost use Rattle.ub_table.specs.Keys.{IsBefore, origin, are_ascending};
+ghost use Rattle.ub_directory.specs.Slots.{ArePlaces, first_keys, slots_of, Meets, IsLater, First};
+
+use crate::slot::Slot;
+use std::alloc::AllocError;
+use ub_bigmin::{ZBox, next_in_any};
+use ub_page::Entry;
+use ub_table::Key;
+
+/// Where the first region of all begins.
+pub const ORIGIN: Key = Key { z: 0, number: 0 };
+
+/// The regions of a tree in order, and the last address of its space.
+#[derive(Drop)]
+pub struct Places {
+    /// Where each region begins, and its page.
+    pub entries: Vec<Entry>,
+    /// The last address.
+    pub last: u128,
+    ghost begins: { slice_get (first_keys entries.items) 0 ≡ Some origin },
+    ghost within: { All (λ entry. entry.first.z ≤ last) entries.items },
+    ghost ascending: { IsTrue (are_ascending (first_keys entries.items)) },
+}
+
+impl Places {
+    /// The regions of these entries, in a space with this last address. `None` unless the first one begins with the least
+    /// key of all, each begins after the one before it, and none begins after the last address.
+    pub fn new(entries: Vec<Entry>, last: u128) -> Option<Places>
+        ensures some { IsSome result ↔ ArePlaces last entries.items }
+        ensures parts { IfSome result (λ p. (p.entries ≡ entries) × (p.last ≡ last)) }
+    {
+        if begins(&entries) && are_within(&entries, last) && are_in_order(&entries) {
+            Some(Places { entries, last })
+        } else {
+            None
+        }
+    }
+
+    /// Puts an entry after the one at a place, where the entries stay in order. Refused memory leaves all as it was.
+    pub fn insert_after(&mut self, place: usize, entry: Entry) -> Result<(), AllocError>
+        requires place { place < length self.old.entries.items }
+        requires places { ArePlaces self.old.last
+            (insert self.old.entries.items (place + 1) entry) }
+        ensures last { self.new.last ≡ self.old.last }
+        ensures ok { OnOk result (self.new.entries.items ≡ insert self.old.entries.items
+            (place + 1) entry) }
+        ensures err { OnErr result (self.new.entries.items ≡ self.old.entries.items) }
+    {
+        self.entries.insert(place + 1, entry)?;
+        Ok(())
+    }
+
+    /// Takes out the entry at a place, but not the first one.
+    pub fn remove(&mut self, place: usize)
+        requires some { 1 ≤ place }
+        requires within { place < length self.old.entries.items }
+        ensures last { self.new.last ≡ self.old.last }
+        ensures entries { self.new.entries.items ≡ remove self.old.entries.items place }
+    {
+        self.entries.remove(place);
+    }
+
+    /// The place of the region that holds a key: the last one that does not begin after it.
+    pub fn place_of(&self, key: &Key) -> usize
+        ensures place { result ≡ place_of key.now (first_keys self.now.entries.items) }
+        ensures within { result < length self.now.entries.items }
+    {
+        self.count_up_to(key) - 1
+    }
+
+    // How many regions do not begin after the key, by halving.
+    fn count_up_to(&self, key: &Key) -> usize
+        ensures some { 1 ≤ result }
+        ensures within { result ≤ length self.now.entries.items }
+        ensures place { result ≡ place_of key.now (first_keys self.now.entries.items) + 1 }
+        ensures later { (i : ℕ) (entry : Entry) → slice_get self.now.entries.items i ≡ Some entry
+            → IsBefore key.now entry.first ↔ (result ≤ i) }
+    {
+        let mut low = 1;
+        let mut high = self.entries.len();
+        while low < high {
+            let middle = low + (high - low) / 2;
+            if key.is_before(&self.entries[middle].first) {
+                high = middle;
+            } else {
+                low = middle + 1;
+            }
+        }
+        low
+    }
+
+    /// The slot at a place, if there is one.
+    pub fn slot_at(&self, i: usize) -> Option<Slot>
+        ensures { result ≡ slice_get (slots_of self.now.last self.now.entries.items) i }
+    {
+        let entry = self.entries.get(i)?;
+        let to = match self.entries.get(i + 1) {
+            Some(next) => end_before(&next.first),
+            None => self.last,
+        };
+        Some(Slot {
+            first: entry.first,
+            from: entry.first.z,
+            to,
+            page: entry.page,
+        })
+    }
+
+    /// The first region that begins after a key, if one is given, and whose span ends at z or later. `None` exactly where there is
+    /// none.
+    pub fn seek(&self, z: u128, after: Option<Key>) -> Option<Slot>
+        ensures { First (λ slot. IsLater after slot × (z ≤ slot.to))
+            (slots_of self.now.last self.now.entries.items) result }
+    {
+        self.reach(z, self.start(after))
+    }
+
+    /// The first region that begins after a key, if one is given, and meets one of the boxes. `None` exactly where there is
+    /// none.
+    pub fn next_meeting(&self, boxes: &[ZBox], after: Option<Key>) -> Option<Slot>
+        ensures { First (λ slot. IsLater after slot × Meets boxes.now slot)
+            (slots_of self.now.last self.now.entries.items) result }
+    {
+        let start = self.start(after);
+        let from = self.entries.get(start)?.first.z;
+        let z = next_in_any(boxes, from)?;
+        self.reach(z, start)
+    }
+
+    // The place of the first region that begins after the key, or of the first of all.
+    fn start(&self, after: Option<Key>) -> usize
+        ensures { (i : ℕ) (slot : Slot)
+            → slice_get (slots_of self.now.last self.now.entries.items) i ≡ Some slot
+            → IsLater after slot ↔ (result ≤ i) }
+    {
+        match after {
+            Some(key) => self.count_up_to(&key),
+            None => 0,
+        }
+    }
+
+    // The first region at this place or later whose span ends at z or later. It is the one that holds the least key of
+    // the address z, or a later one.
+    fn reach(&self, z: u128, start: usize) -> Option<Slot>
+        ensures { result ≡ (if nat_le z self.now.last then slice_get
+            (slots_of self.now.last self.now.entries.items)
+            (max start (place_of (record {
+              z = z;
+              number = 0;
+            }) (first_keys self.now.entries.items))) else None) }
+    {
+        if self.last < z {
+            return None;
+        }
+        let least = Key { z, number: 0 };
+        self.slot_at(start.max(self.place_of(&least)))
+    }
+}
+
+// Whether the first region begins with the least key of all.
+fn begins(entries: &[Entry]) -> bool
+    ensures { IsTrue result ↔ (slice_get (first_keys entries.now) 0 ≡ Some origin) }
+{
+    match entries.first() {
+        Some(entry) => entry.first.z == 0 && entry.first.number == 0,
+        None => false,
+    }
+}
+
+// Whether no region begins after this address.
+fn are_within(entries: &[Entry], last: u128) -> bool
+    ensures { IsTrue result ↔ All (λ entry. entry.first.z ≤ last) entries.now }
+{
+    entries.iter().all(|entry| entry.first.z <= last)
+}
+
+// Whether each region begins after the one before it.
+fn are_in_order(entries: &[Entry]) -> bool
+    ensures { result ≡ are_ascending (first_keys entries.now) }
+{
+    for i in 1..entries.len() {
+        if !entries[i - 1].first.is_before(&entries[i].first) {
+            return false;
+        }
+    }
+    true
+}
+
+// The greatest address that a key before this one can have.
+fn end_before(key: &Key) -> u128
+    ensures { result ≡ address_before key.now.z key.now.number }
+{
+    if key.number == 0 {
+        key.z.saturating_sub(1)
+    } else {
+        key.z
+    }
+}
+
+#[cfg(test)]
+mod tests {
+    use super::*;
+    use std::test::Fail;
+    use ub_zaddr::{Point, Shape};
+
+    // The box between two corners of the plane.
+    fn rectangle(lo: [u32; 2], hi: [u32; 2]) -> Result<ZBox, Fail> {
+        let shape = Shape::new(2)?;
+        let lo = Point::new(shape, &lo)?;
+        let hi = Point::new(shape, &hi)?;
+        let zbox = ZBox::new(shape, &lo, &hi).ok_or("no box")?;
+        Ok(zbox)
+    }
+
+    // Regions of two dimensions from these first keys on, kept on the pages 1, 2 and so on.
+    fn places(rt: &HostRuntime, firsts: &[(u128, u32)]) -> Result<Places, Fail> {
+        let mut entries = Vec::new(rt.alloc());
+        let mut page = 1;
+        for (z, number) in firsts {
+            let first = Key {
+                z: *z,
+                number: *number,
+            };
+            entries.push(Entry { first, page })?;
+            page = page.wrapping_add(1);
+        }
+        let all = Places::new(entries, u128::from(u64::MAX)).ok_or("not in order")?;
+        Ok(all)
+    }
+
+    fn span(region: Option<Slot>) -> Option<(u128, u128)> {
+        region.map(|r| (r.from, r.to))
+    }
+
+    #[test]
+    fn spans_and_places(rt: HostRuntime) -> Result<(), Fail> {
+        let all = places(&rt, &[(0, 0), (10, 0), (13, 0)])?;
+        let last = u128::from(u64::MAX);
+        assert_eq!(rt; span(all.slot_at(0)), Some((0, 9)));
+        assert_eq!(rt; span(all.slot_at(1)), Some((10, 12)));
+        assert_eq!(rt; span(all.slot_at(2)), Some((13, last)));
+        assert_eq!(rt; all.slot_at(3), None);
+        assert_eq!(rt; all.place_of(&Key { z: 13, number: 5 }), 2);
+        assert_eq!(rt; all.place_of(&Key { z: 12, number: 9 }), 1);
+        assert_eq!(rt; span(all.seek(12, None)), Some((10, 12)));
+        assert_eq!(rt; all.seek(last + 1, None), None);
+        Ok(())
+    }
+
+    #[test]
+    fn next_that_meets(rt: HostRuntime) -> Result<(), Fail> {
+        let all = places(&rt, &[(0, 0), (10, 0), (13, 0)])?;
+        let boxes = [rectangle([2, 2], [u32::MAX, u32::MAX])?];
+        let middle = all.next_meeting(&boxes, None).ok_or("no region")?;
+        let end = all
+            .next_meeting(&boxes, Some(middle.first))
+            .ok_or("no region")?;
+        assert_eq!(rt; (middle.from, end.from), (10, 13));
+        assert_eq!(rt; all.next_meeting(&boxes, Some(end.first)), None);
+        assert_eq!(rt; all.next_meeting(&[], None), None);
+        Ok(())
+    }
+
+    #[test]
+    fn regions_that_share_an_address(rt: HostRuntime) -> Result<(), Fail> {
+        let all = places(&rt, &[(0, 0), (63, 3)])?;
+        let boxes = [rectangle([7, 7], [7, 7])?];
+        let left = all.next_meeting(&boxes, None).ok_or("no region")?;
+        let right = all
+            .next_meeting(&boxes, Some(left.first))
+            .ok_or("no region")?;
+        assert_eq!(rt; (left.from, left.to, right.from), (0, 63, 63));
+        assert_eq!(rt; all.next_meeting(&boxes, Some(right.first)), None);
+        Ok(())
+    }
+
+    #[test]
+    fn entries_come_and_go(rt: HostRuntime) -> Result<(), Fail> {
+        let mut entries = Vec::new(rt.alloc());
+        let first = Key { z: 0, number: 0 };
+        entries.push(Entry { first, page: 1 })?;
+        let mut all = Places::new(entries, 99).ok_or("not in order")?;
+        let first = Key { z: 10, number: 0 };
+        all.insert_after(0, Entry { first, page: 2 })?;
+        assert_eq!(rt; span(all.slot_at(0)), Some((0, 9)));
+        all.remove(1);
+        assert_eq!(rt; span(all.slot_at(0)), Some((0, 99)));
+        assert!(rt; Places::new(Vec::new(rt.alloc()), 9).is_none());
+        Ok(())
+    }
+}

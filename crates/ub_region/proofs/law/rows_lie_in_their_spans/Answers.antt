@@ -1,0 +1,5 @@
+use Rattle.ub_region.proofs.Laws.{rows_lie_in_their_spans}
+use Rattle.ub_region.proofs.law.rows_lie_in_their_spans.Goals as goal
+
+pub returns : goal.returns
+returns c = rows_lie_in_their_spans

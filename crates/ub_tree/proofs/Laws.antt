@@ -1,0 +1,141 @@
+-- The laws of a sound tree, as specs/Laws.antt states them, and what else the proofs of crates above use.
+use Rattle.std.proofs.Common.{◌≡◌, ◌<◌, inl, inr, ℕ, zero, suc, List, [], ◌∷◌, ◌++◌, false, Some, Contains, length, map, drop, nat_eq, slice_get, sym, ap, refl, arith, ◌∙◌}
+use Rattle.std.proofs.lemmas.Bool.{cases_lt, cases_eq, eq-eqb}
+use Rattle.std.proofs.lemmas.Map.Keys.{apart_from_distinct, IsDistinct-tail}
+use Rattle.std.proofs.lemmas.Option.{slice_get_read, slice_get_within, get_or_from_slice_get}
+use Rattle.std.specs.List.{IsDistinct}
+use Rattle.ub_region.proofs.Laws as lists
+use Rattle.ub_region.specs.Regions.{firsts_of}
+use Rattle.ub_region.specs.Spans.{span_end}
+use Rattle.ub_table.specs.Region.{Region}
+use Rattle.ub_tree.proofs.GrowFacts.{firsts_placed}
+use Rattle.ub_tree.proofs.WalkFacts.{answers_are_those}
+use Rattle.ub_tree.specs.Laws.{FirstKeysAscend, PagesDiffer, EachAddressHasASpan, RowsLieInTheirSpans, AnswersAreThoseThatMeet}
+use Rattle.ub_tree.specs.Placed.{Placed, entry_of, regions_in}
+use Rattle.ub_tree.specs.Spans.{Meets, first_keys, regions_of}
+use Rattle.ub_tree.specs.View.{TreeView, IsSound, regions, spans_of}
+use Rattle.ub_tree.specs.declared.region.Region.{Region as Span}
+use Rattle.ub_zaddr.specs.Address.{last_address}
+pub use Rattle.ub_tree.proofs.GrowFacts.{new_row}
+pub use Rattle.ub_tree.proofs.SeekFacts.{region_first}
+use Rattle.ub_directory.specs.Inner.{reserved}
+
+module _ {X : Type 0} where
+  contained_at : (xs : List X) (x : X) (found : Contains xs x) → slice_get xs found.0 ≡ Some x
+  contained_at xs x found = slice_get_read xs (length xs) found.0 x refl found.1 (sym found.2)
+
+  contains_at : (xs : List X) (i : ℕ) (x : X) → slice_get xs i ≡ Some x → Contains xs x
+  contains_at xs i x at = (i, slice_get_within xs i x at, get_or_from_slice_get xs i x x at)
+
+-- the region of a span, with its page
+record HasSpan (last i : ℕ) (placed : List Placed) (span : Span) (p : Placed) : Type 0 where
+  pub at : slice_get placed i ≡ Some p
+  pub region_at : slice_get (regions_in placed) i ≡ Some p.region
+  pub first : p.region.first ≡ span.first
+  pub page : p.page ≡ span.page
+  pub from : span.from ≡ p.region.first.z
+  pub to : span.to ≡ span_end last (firsts_of (drop (suc i) (regions_in placed)))
+
+has_span : (last : ℕ) (placed : List Placed) (i : ℕ) (span : Span) → slice_get (regions_of last (map entry_of placed)) i ≡ Some span → (p : Placed) × HasSpan last i placed span p
+has_span last [] i span at = cc
+has_span last (p ∷ placed) zero span at =
+    let whole : Span = record { first = p.region.first; from = p.region.first.z; to = span_end last (first_keys (map entry_of placed)); page = p.page } in
+    let same : whole ≡ span = cc in (
+      p,
+      record {
+        at = refl;
+        region_at = refl;
+        first = ap (λ (s : Span). s.first) same;
+        page = ap (λ (s : Span). s.page) same;
+        from = sym (ap (λ (s : Span). s.from) same);
+        to = sym (ap (λ (s : Span). s.to) same) ∙ ap (span_end last) (firsts_placed placed);
+      },
+    )
+has_span last (q ∷ placed) (suc i) span at =
+    let (p, h) = has_span last placed i span at in
+    (p, record { at = h.at; region_at = h.region_at; first = h.first; page = h.page; from = h.from; to = h.to })
+
+-- the region at a place has a span
+span_at : (last : ℕ) (placed : List Placed) (i : ℕ) (region : Region) → slice_get (regions_in placed) i ≡ Some region → (span : Span) × (slice_get (regions_of last (map entry_of placed)) i ≡ Some span)
+span_at last [] i region at = cc
+span_at last (p ∷ placed) zero region at = (_, refl)
+span_at last (p ∷ placed) (suc i) region at = span_at last placed i region at
+
+pub first_keys_ascend : FirstKeysAscend
+first_keys_ascend t i j a b sound lt at_i at_j =
+    let (p, one) = has_span (last_address t.schema.dims) t.placed i a at_i in
+    let (q, other) = has_span (last_address t.schema.dims) t.placed j b at_j in
+    let up = lists.first_keys_ascend t.schema t.next (regions t) i j p.region q.region sound.regions_are lt one.region_at other.region_at in
+    rw (one.first, other.first) at up
+
+distinct_right : (xs ys : List ℕ) → IsDistinct nat_eq (xs ++ ys) → IsDistinct nat_eq ys
+distinct_right [] ys h = h
+distinct_right (x ∷ xs) ys h = distinct_right xs ys (IsDistinct-tail nat_eq x (xs ++ ys) h)
+
+-- different numbers stand at one place each
+one_place : (ns : List ℕ) (i j n : ℕ) → IsDistinct nat_eq ns → slice_get ns i ≡ Some n → slice_get ns j ≡ Some n → i ≡ j
+one_place ns i j n own at_i at_j = elim (cases_lt i j) [
+  | inl lt ↦ absurd (never i j lt at_i at_j)
+  | inr ge ↦ elim (cases_eq i j) [
+    | inl e ↦ e
+    | inr ne ↦ absurd (never j i (omega arith) at_j at_i)
+  ]
+]
+  where
+    never : (i j : ℕ) → i < j → slice_get ns i ≡ Some n → slice_get ns j ≡ Some n → ⊥
+    never i j lt at_i at_j =
+        let apart = apart_from_distinct nat_eq ns i j n own lt (slice_get_within ns j n at_j) in
+        let one = get_or_from_slice_get ns i n n at_i in
+        let other = get_or_from_slice_get ns j n n at_j in
+        let same : nat_eq n n ≡ false = rw (one, other) at apart in
+        let t = eq-eqb n n refl in
+        cc
+
+page_at : (placed : List Placed) (i : ℕ) (p : Placed) → slice_get placed i ≡ Some p → slice_get (map (λ p. p.page) placed) i ≡ Some p.page
+page_at [] i p at = cc
+page_at (q ∷ placed) zero p at = let same : q ≡ p = cc in ap (λ (x : Placed). Some x.page) same
+page_at (q ∷ placed) (suc i) p at = page_at placed i p at
+
+-- two places of one page
+same_place : (t : TreeView) → IsSound t → (i j : ℕ) (p q : Placed) → slice_get t.placed i ≡ Some p → slice_get t.placed j ≡ Some q → p.page ≡ q.page → i ≡ j
+same_place t sound i j p q at_i at_j same =
+    let own = distinct_right (reserved t.inner) (map (λ (p : Placed). p.page) t.placed) sound.placed_are.own in
+    one_place (map (λ (p : Placed). p.page) t.placed) i j p.page own (page_at t.placed i p at_i) (page_at t.placed j q at_j ∙ ap (λ (n : ℕ). Some n) (sym same))
+
+pub pages_differ : PagesDiffer
+pages_differ t i j a b sound at_i at_j same =
+    let (p, one) = has_span (last_address t.schema.dims) t.placed i a at_i in
+    let (q, other) = has_span (last_address t.schema.dims) t.placed j b at_j in
+    same_place t sound i j p q one.at other.at (one.page ∙ same ∙ sym other.page)
+
+pub each_address_has_a_span : EachAddressHasASpan
+each_address_has_a_span t z sound upto =
+    let (i, (r, at, from, end)) = lists.each_address_has_a_span t.schema t.next (regions t) z sound.regions_are upto in
+    let (span, span_is) = span_at (last_address t.schema.dims) t.placed i r at in
+    let (p, one) = has_span (last_address t.schema.dims) t.placed i span span_is in
+    let region_at = one.region_at in
+    let same : p.region ≡ r = cc in
+    let begins : span.from ≡ r.first.z = one.from ∙ ap (λ (x : Region). x.first.z) same in
+    let ends = one.to in
+    (span, contains_at (spans_of t) i span span_is, (omega arith, omega arith))
+
+pub rows_lie_in_their_spans : RowsLieInTheirSpans
+rows_lie_in_their_spans t span r row sound there stands has =
+    let span_is = contained_at (spans_of t) span there in
+    let (p, one) = has_span (last_address t.schema.dims) t.placed there.0 span span_is in
+    let (q, listed, on, is) = stands in
+    let place : there.0 ≡ listed.0 = same_place t sound there.0 listed.0 p q one.at (contained_at t.placed q listed) (one.page ∙ sym on) in
+    let again : slice_get t.placed there.0 ≡ Some q = ap (slice_get t.placed) place ∙ contained_at t.placed q listed in
+    let at_p = one.at in
+    let same : p ≡ q = cc in
+    let region_is : p.region ≡ r = ap (λ (x : Placed). x.region) same ∙ is in
+    let at : slice_get (regions t) there.0 ≡ Some r = one.region_at ∙ ap (λ (x : Region). Some x) region_is in
+    let (own, own_at, from, end) = lists.rows_lie_in_their_spans t.schema t.next (regions t) there.0 r row sound.regions_are at has in
+    let own_is : own ≡ r = cc in
+    let begins : span.from ≡ own.first.z = one.from ∙ ap (λ (x : Region). x.first.z) (region_is ∙ sym own_is) in
+    let ends = one.to in
+    (omega arith, omega arith)
+
+pub answers_are_those_that_meet : AnswersAreThoseThatMeet
+answers_are_those_that_meet t boxes answers sound are =
+    answers_are_those (Meets boxes) (spans_of t) (λ i j a b lt at_i at_j. first_keys_ascend t i j a b sound lt at_i at_j) answers are

@@ -1,0 +1,82 @@
+-- Answers, each the first one later than the answer before it, are the elements that have the property asked for.
+use Rattle.std.proofs.Common.{◌≡◌, ◌<◌, ◌≤◌, ◌+◌, ◌-◌, ◌↔◌, inl, inr, ℕ, zero, suc, List, [], ◌∷◌, Option, Some, None, length, drop, sym, ap, refl, arith, subst, slice_get, Contains, ◌∙◌}
+use Rattle.std.proofs.lemmas.Bool.{cases_lt, cases_eq}
+use Rattle.std.proofs.lemmas.Option.{slice_get_read, slice_get_within, get_or_from_slice_get}
+use Rattle.ub_region.specs.Those.{AreThose}
+use Rattle.ub_table.proofs.KeyFacts.{not_both_before, not_before_self}
+use Rattle.ub_table.specs.Keys.{IsBefore}
+use Rattle.ub_tree.specs.Laws.{AreAnswers}
+use Rattle.ub_tree.specs.Spans.{IsLater}
+use Rattle.ub_tree.specs.declared.region.Region.{Region as Span}
+
+module _ {X : Type 0} where
+  pub drop_get : (n i : ℕ) (xs : List X) → slice_get (drop n xs) i ≡ slice_get xs (n + i)
+  drop_get zero i xs = let same : i ≡ 0 + i = omega arith in ap (slice_get xs) same
+  drop_get (suc n) i [] = refl
+  drop_get (suc n) i (x ∷ xs) = let same : suc (n + i) ≡ suc n + i = omega arith in drop_get n i xs ∙ ap (slice_get (x ∷ xs)) same
+
+  contained_at : (xs : List X) (x : X) (found : Contains xs x) → slice_get xs found.0 ≡ Some x
+  contained_at xs x found = slice_get_read xs (length xs) found.0 x refl found.1 (sym found.2)
+
+  contains_at : (xs : List X) (i : ℕ) (x : X) → slice_get xs i ≡ Some x → Contains xs x
+  contains_at xs i x at = (i, slice_get_within xs i x at, get_or_from_slice_get xs i x x at)
+
+  module _ (P : X → Type 0) where
+    -- where none has the property
+    those_none : (xs : List X) → ((i : ℕ) (x : X) → slice_get xs i ≡ Some x → ¬ (P x)) → AreThose P xs []
+    those_none [] never = refl
+    those_none (x ∷ xs) never = inr (never 0 x refl, those_none xs (λ i y at. never (suc i) y at))
+
+    -- where the first that has it stands at a place
+    those_first : (xs : List X) (n : ℕ) (found : X) (more : List X) → slice_get xs n ≡ Some found → P found
+        → ((m : ℕ) (x : X) → m < n → slice_get xs m ≡ Some x → ¬ (P x)) → AreThose P (drop (suc n) xs) more → AreThose P xs (found ∷ more)
+    those_first [] n found more at has before rest = cc
+    those_first (x ∷ xs) zero found more at has before rest =
+        let same : found ≡ x = cc in
+        inl (subst P same has, more, ap (λ (y : X). y ∷ more) same, rest)
+    those_first (x ∷ xs) (suc n) found more at has before rest =
+        inr (before 0 x (omega arith) refl, those_first xs n found more at has (λ m y lt at_m. before (suc m) y (omega arith) at_m) rest)
+
+-- in a list whose first keys ascend
+module _ (P : Span → Type 0) (spans : List Span) (up : (i j : ℕ) (a b : Span) → i < j → slice_get spans i ≡ Some a → slice_get spans j ≡ Some b → IsBefore a.first b.first) where
+  -- later than the one at a place are those from the next place on
+  later_from : (k i : ℕ) (a r : Span) → slice_get spans k ≡ Some a → slice_get spans i ≡ Some r → IsBefore a.first r.first ↔ (suc k ≤ i)
+  later_from k i a r at_k at_i = (to, λ after. up k i a r (omega arith) at_k at_i)
+    where
+      to : IsBefore a.first r.first → suc k ≤ i
+      to before = elim (cases_lt k i) [
+        | inl lt ↦ omega arith
+        | inr ge ↦ elim (cases_eq i k) [
+          | inl e ↦
+              let again : slice_get spans k ≡ Some r = ap (slice_get spans) (sym e) ∙ at_i in
+              let same : a ≡ r = cc in
+              absurd (not_before_self a.first (subst (λ (s : Span). IsBefore a.first s.first) (sym same) before))
+          | inr ne ↦ absurd (not_both_before a.first r.first before (up i k r a (omega arith) at_i at_k))
+        ]
+      ]
+
+  answered : (answers : List Span) (after : Option Span) (place : ℕ) → ((i : ℕ) (r : Span) → slice_get spans i ≡ Some r → IsLater after r ↔ (place ≤ i))
+      → AreAnswers P spans after answers → AreThose P (drop place spans) answers
+  answered [] after place later none = those_none P (drop place spans) (λ i r at has.
+      let at_i : slice_get spans (place + i) ≡ Some r = sym (drop_get place i spans) ∙ at in
+      none r (contains_at spans (place + i) r at_i) ((later (place + i) r at_i).1 (omega arith), has))
+  answered (found ∷ more) after place later (first, rest) =
+      let k : ℕ = first.0.0 in
+      let at_k : slice_get spans k ≡ Some found = contained_at spans found first.0 in
+      let from : place ≤ k = (later k found at_k).0 first.1.0 in
+      let again : place + (k - place) ≡ k = omega arith in
+      let there : slice_get (drop place spans) (k - place) ≡ Some found = drop_get place (k - place) spans ∙ ap (slice_get spans) again ∙ at_k in
+      those_first P (drop place spans) (k - place) found more there first.1.1
+      (λ m r lt at has.
+      let at_m : slice_get spans (place + m) ≡ Some r = sym (drop_get place m spans) ∙ at in
+      first.2 r (contains_at spans (place + m) r at_m) ((later (place + m) r at_m).1 (omega arith), has) (up (place + m) k r found (omega arith) at_m at_k))
+      (subst (λ (xs : List Span). AreThose P xs more) (dropped place (k - place) k spans (sym again)) (answered more (Some found) (suc k) (λ i r at. later_from k i found r at_k at) rest))
+    where
+      dropped : (n m k : ℕ) (xs : List Span) → k ≡ n + m → drop (suc k) xs ≡ drop (suc m) (drop n xs)
+      dropped zero m k xs is = let same : k ≡ m = omega arith in ap (λ (j : ℕ). drop (suc j) xs) same
+      dropped (suc n) m zero xs is = absurd (omega arith)
+      dropped (suc n) m (suc k) [] is = refl
+      dropped (suc n) m (suc k) (x ∷ xs) is = dropped n m k xs (omega arith)
+
+  pub answers_are_those : (answers : List Span) → AreAnswers P spans None answers → AreThose P spans answers
+  answers_are_those answers are = answered answers None 0 (λ i r at. (λ _. omega arith, λ _. tt)) are

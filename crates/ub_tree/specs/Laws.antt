@@ -1,0 +1,49 @@
+-- The laws of a sound tree. Each is what the function of its name in `law` ensures, and is proved in proofs/Laws.antt. That an
+-- insertion and a removal keep what regions are is a law of `ub_region`.
+use Rattle.std.specs.Prelude.{◌≡◌, ◌≤◌, ◌<◌, ℕ, List, [], ◌∷◌, Option, Some, None, Contains, slice_get}
+use Rattle.ub_bigmin.specs.Box.{Corners}
+use Rattle.ub_region.specs.Those.{AreThose}
+use Rattle.ub_table.specs.Keys.{IsBefore}
+use Rattle.ub_table.specs.Region.{Region, key_of}
+use Rattle.ub_table.specs.declared.row.Row.{Row}
+use Rattle.ub_tree.specs.Calls.{StandsAt}
+use Rattle.ub_tree.specs.Spans.{First, IsLater, Meets}
+use Rattle.ub_tree.specs.View.{TreeView, IsSound, spans_of}
+use Rattle.ub_tree.specs.declared.region.Region.{Region as Span}
+use Rattle.ub_zaddr.specs.Address.{last_address}
+
+-- of two regions the later one begins with the later key
+abbrev pub FirstKeysAscend : Type 0
+FirstKeysAscend = (t : TreeView) (i j : ℕ) (a b : Span) → IsSound t → i < j
+    → slice_get (spans_of t) i ≡ Some a → slice_get (spans_of t) j ≡ Some b → IsBefore a.first b.first
+
+-- no two regions stand on one page
+abbrev pub PagesDiffer : Type 0
+PagesDiffer = (t : TreeView) (i j : ℕ) (a b : Span) → IsSound t
+    → slice_get (spans_of t) i ≡ Some a → slice_get (spans_of t) j ≡ Some b → a.page ≡ b.page → i ≡ j
+
+-- an address lies in a span
+abbrev pub LiesIn : Span → ℕ → Type 0
+LiesIn span z = (span.from ≤ z) × (z ≤ span.to)
+
+-- each address of the space lies in the span of some region
+abbrev pub EachAddressHasASpan : Type 0
+EachAddressHasASpan = (t : TreeView) (z : ℕ) → IsSound t → z ≤ last_address t.schema.dims
+    → (span : Span) × Contains (spans_of t) span × LiesIn span z
+
+-- and each row's address in the span of the row's region
+abbrev pub RowsLieInTheirSpans : Type 0
+RowsLieInTheirSpans = (t : TreeView) (span : Span) (region : Region) (row : Row) → IsSound t → Contains (spans_of t) span
+    → StandsAt t.placed span.page region → Contains region.rows row → LiesIn span (key_of t.schema.dims row).z
+
+-- the answers of a search for the next region that has a property, from the one after the given one on: each is asked for with
+-- the answer before it, until there is none
+abbrev pub AreAnswers : (Span → Type 0) → List Span → Option Span → List Span → Type 0
+AreAnswers P spans after [] = First (λ r. IsLater after r × P r) spans None
+AreAnswers P spans after (found ∷ more) =
+    First (λ r. IsLater after r × P r) spans (Some found) × AreAnswers P spans (Some found) more
+
+-- so `next_meeting`, from the beginning on, answers the regions that meet the boxes, each once and in order, and no others
+abbrev pub AnswersAreThoseThatMeet : Type 0
+AnswersAreThoseThatMeet = (t : TreeView) (boxes : List Corners) (answers : List Span) → IsSound t
+    → AreAnswers (Meets boxes) (spans_of t) None answers → AreThose (Meets boxes) (spans_of t) answers

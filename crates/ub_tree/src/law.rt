@@ -1,0 +1,30 @@
+ghost use Rattle.ub_tree.specs.Laws.{FirstKeysAscend, PagesDiffer, EachAddressHasASpan, RowsLieInTheirSpans, AnswersAreThoseThatMeet};
+
+// Each function here does nothing, and its clause is a law of the definitions in specs/. So the law is proved, and is read
+// beside the code.
+
+/// Of two regions of a sound tree the later one begins with the later key.
+pub fn first_keys_ascend()
+    ensures { FirstKeysAscend }
+{}
+
+/// No two regions stand on one page.
+pub fn pages_differ()
+    ensures { PagesDiffer }
+{}
+
+/// Each address of the space lies in the span of some region.
+pub fn each_address_has_a_span()
+    ensures { EachAddressHasASpan }
+{}
+
+/// Each row's address lies in the span of the row's region.
+pub fn rows_lie_in_their_spans()
+    ensures { RowsLieInTheirSpans }
+{}
+
+/// `next_meeting`, from the beginning on and each time after the last answer, answers the regions that meet the boxes, each once
+/// and in order, and no others.
+pub fn answers_are_those_that_meet()
+    ensures { AnswersAreThoseThatMeet }
+{}

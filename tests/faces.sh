@@ -1,0 +1,32 @@
+#!/usr/bin/env bash
+# Which crates look behind the face of another one.
+#
+#     tests/faces.sh
+#
+# A crate of this repository may import another one's definitions (`specs/`) and the one proof file `Laws`. It prints each line
+# that imports another crate's other proofs, or its `specs/inner`, and each that names a field `inner` in a crate that declares
+# none. The status is 1 where there is such a line.
+set -u
+
+crates=$(cd "$(dirname "$(readlink -f "${BASH_SOURCE[0]}")")/../crates" && pwd)
+cd "$crates" || exit 2
+names=$(ls -d -- */ | tr -d / | paste -sd'|')
+
+# The lines of code, definitions and proofs of a crate, each with its file and its number.
+lines() {
+    find "$1" \( -name out -prune \) -o \( -name '*.rt' -o -name '*.antt' \) -exec grep -Hn "$2" {} +
+}
+
+broken=$(
+    for crate in ${names//|/ }; do
+        lines "$crate" 'Rattle\.' | grep -E "Rattle\.($names)\.(proofs|specs\.inner)\b" |
+            grep -vE "Rattle\.$crate\.|\.proofs\.Laws\b"
+        if ! lines "$crate" '^ *\(pub \|abbrev \)*inner *:' | grep -q .; then
+            lines "$crate" '\.inner\b' | grep -v 'specs\.inner'
+        fi
+    done
+)
+if [ -n "$broken" ]; then
+    printf '%s\n' "$broken"
+    exit 1
+fi
