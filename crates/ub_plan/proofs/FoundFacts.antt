@@ -1,10 +1,9 @@
--- A span meets some boxes or it doesn't, so each plan has visits.
-use Rattle.std.proofs.Common.{◌≡◌, ◌≤◌, ◌<◌, ◌+◌, ◌-◌, ℕ, zero, suc, List, [], ◌∷◌, length, Contains, ◌⊎◌, inl, inr, refl, sym, ap, subst, arith}
-use Rattle.std.proofs.lemmas.Bool.{cases_lt}
-use Rattle.ub_bigmin.specs.Box.{Corners}
+-- A point of some boxes has a property or none has it: so a span meets them or it doesn't, and has a value in a dimension or hasn't.
+use Rattle.std.proofs.Common.{◌≡◌, ◌≤◌, ◌<◌, ◌+◌, ◌-◌, nat_eq, ℕ, zero, suc, List, [], ◌∷◌, length, slice_index, Contains, ◌⊎◌, inl, inr, refl, sym, ap, subst, arith}
+use Rattle.std.proofs.lemmas.Bool.{cases_Bool, cases_lt, eqb-true, eqb-false}
+use Rattle.ub_bigmin.specs.Box.{Corners, IsInside, IsValueInSpan}
 use Rattle.ub_plan.proofs.InsideFacts.{at_each}
-use Rattle.ub_plan.specs.Plan.{PlanView}
-use Rattle.ub_plan.specs.Visits.{Span, Meets, AreThose, AreVisits, spans_of}
+use Rattle.ub_plan.specs.Visits.{Span, Meets, AreThose, AreMeeting, spans_of}
 use Rattle.ub_query.proofs.Arranging.{contains_here, contains_later, contains_cases, contains_none}
 use Rattle.ub_table.specs.Region.{Region}
 use Rattle.ub_table.specs.declared.schema.Schema.{Schema}
@@ -72,24 +71,70 @@ between from to z = elim (cases_lt z from) [
   ]
 ]
 
-pub meets_or_not : (boxes : List Corners) (from to : ℕ) → Meets boxes from to ⊎ (¬ (Meets boxes from to))
-meets_or_not [] from to = inr (λ h. contains_none h.1.0 h.1.1)
-meets_or_not (b ∷ boxes) from to = elim (find_point b.lo b.hi (λ p. (from ≤ address p) × (address p ≤ to)) (λ p. between from to (address p))) [
-  | inl found ↦ inl (address found.0, (b, contains_here b boxes, (found.0, (found.1, found.2), refl)), found.3.0, found.3.1)
-  | inr none ↦ elim (meets_or_not boxes from to) [
-    | inl h ↦ inl (h.0, (h.1.0, contains_later b boxes h.1.0 h.1.1, h.1.2), h.2, h.3)
-    | inr out ↦ inr (λ h. neither none out h.0 h.1.0 h.1.1 h.1.2.0 h.1.2.1 h.1.2.2 h.2 h.3)
+-- some point of the boxes has a property
+pub record HasPoint (boxes : List Corners) (Q : List ℕ → Type 0) : Type 0 where
+  pub space : Corners
+  pub point : List ℕ
+  pub there : Contains boxes space
+  pub inside : IsInside space point
+  pub has : Q point
+
+-- some point of the boxes has a property, or none has it
+pub some_point : (boxes : List Corners) (Q : List ℕ → Type 0) → ((p : List ℕ) → Q p ⊎ (¬ (Q p))) → HasPoint boxes Q ⊎ (¬ (HasPoint boxes Q))
+some_point [] Q decide = inr (λ h. contains_none h.space h.there)
+some_point (b ∷ boxes) Q decide = elim (find_point b.lo b.hi Q decide) [
+  | inl found ↦ inl (record { space = b; point = found.0; there = contains_here b boxes; inside = (found.1, found.2); has = found.3 })
+  | inr none ↦ elim (some_point boxes Q decide) [
+    | inl h ↦ inl (record { space = h.space; point = h.point; there = contains_later b boxes h.space h.there; inside = h.inside; has = h.has })
+    | inr out ↦ inr (λ h. neither none out h.space h.there h.point h.inside h.has)
   ]
 ]
   where
-    neither : ¬ (Found b.lo b.hi (λ p. (from ≤ address p) × (address p ≤ to))) → ¬ (Meets boxes from to) → (z : ℕ) (c : Corners) → Contains (b ∷ boxes) c
-        → (p : List ℕ) → (IsAtMost c.lo p × IsAtMost p c.hi) → address p ≡ z → from ≤ z → z ≤ to → ⊥
-    neither none out z c there p inside is low high = elim (contains_cases b boxes c there) [
+    neither : ¬ (Found b.lo b.hi Q) → ¬ (HasPoint boxes Q) → (c : Corners) → Contains (b ∷ boxes) c → (p : List ℕ) → IsInside c p → Q p → ⊥
+    neither none out c there p inside q = elim (contains_cases b boxes c there) [
       | inl same ↦
           let here = subst (λ (d : Corners). IsAtMost d.lo p × IsAtMost p d.hi) (sym same) inside in
-          none (p, here.0, here.1, (subst (λ (n : ℕ). from ≤ n) (sym is) low, subst (λ (n : ℕ). n ≤ to) (sym is) high))
-      | inr rest ↦ out (z, (c, rest, (p, inside, is)), low, high)
+          none (p, here.0, here.1, q)
+      | inr rest ↦ out (record { space = c; point = p; there = rest; inside = inside; has = q })
     ]
+
+pub meets_or_not : (boxes : List Corners) (from to : ℕ) → Meets boxes from to ⊎ (¬ (Meets boxes from to))
+meets_or_not boxes from to = elim (some_point boxes (λ p. (from ≤ address p) × (address p ≤ to)) (λ p. between from to (address p))) [
+  | inl h ↦ inl (address h.point, (h.space, h.there, (h.point, h.inside, refl)), h.has.0, h.has.1)
+  | inr out ↦ inr (λ m. none out m.0 m.1.0 m.1.1 m.1.2.0 m.1.2.1 m.1.2.2 m.2 m.3)
+]
+  where
+    none : ¬ (HasPoint boxes (λ p. (from ≤ address p) × (address p ≤ to))) → (z : ℕ) (b : Corners) → Contains boxes b → (p : List ℕ) → IsInside b p
+        → address p ≡ z → from ≤ z → z ≤ to → ⊥
+    none out z b there p inside is low high =
+        out (record {
+          space = b;
+          point = p;
+          there = there;
+          inside = inside;
+          has = (subst (λ (n : ℕ). from ≤ n) (sym is) low, subst (λ (n : ℕ). n ≤ to) (sym is) high);
+        })
+
+-- ---- coordinates in a dimension
+
+-- the point's address lies in the span, and its coordinate is v
+abbrev pub HasValue : ℕ → ℕ → ℕ → ℕ → List ℕ → Type 0
+HasValue from to dim v p = ((from ≤ address p) × (address p ≤ to)) × (slice_index p dim ≡ v)
+
+has_value_or_not : (from to dim v : ℕ) (p : List ℕ) → HasValue from to dim v p ⊎ (¬ (HasValue from to dim v p))
+has_value_or_not from to dim v p = elim (between from to (address p)) [
+  | inl here ↦ elim (cases_Bool (nat_eq (slice_index p dim) v)) [
+    | inl t ↦ inl (here, eqb-true (slice_index p dim) v t)
+    | inr f ↦ inr (λ h. eqb-false (slice_index p dim) v f h.1)
+  ]
+  | inr out ↦ inr (λ h. out h.0)
+]
+
+pub value_or_not : (boxes : List Corners) (from to dim v : ℕ) → IsValueInSpan boxes from to dim v ⊎ (¬ (IsValueInSpan boxes from to dim v))
+value_or_not boxes from to dim v = elim (some_point boxes (HasValue from to dim v) (has_value_or_not from to dim v)) [
+  | inl h ↦ inl (h.space, h.point, h.there, h.inside, h.has.0.0, h.has.0.1, h.has.1)
+  | inr out ↦ inr (λ m. out (record { space = m.0; point = m.1; there = m.2; inside = m.3; has = ((m.4, m.5), m.6) }))
+]
 
 pub those_of : {E : Type 0} (P : E → Type 0) → ((x : E) → P x ⊎ (¬ (P x))) → (xs : List E) → (those : List E) × AreThose P xs those
 those_of P decide [] = ([], refl)
@@ -100,6 +145,6 @@ those_of P decide (x ∷ xs) =
       | inr out ↦ (those, inr (out, are))
     ]
 
-pub visits_of : (schema : Schema) (plan : PlanView) (regions : List Region) → (visits : List Span) × AreVisits schema plan regions visits
-visits_of schema plan regions =
-    those_of (λ (span : Span). Meets plan.covering.boxes span.from span.to) (λ span. meets_or_not plan.covering.boxes span.from span.to) (spans_of schema regions)
+pub meeting_of : (schema : Schema) (boxes : List Corners) (regions : List Region) → (meeting : List Span) × AreMeeting schema boxes regions meeting
+meeting_of schema boxes regions =
+    those_of (λ (span : Span). Meets boxes span.from span.to) (λ span. meets_or_not boxes span.from span.to) (spans_of schema regions)

@@ -4,14 +4,15 @@ use Rattle.std.proofs.lemmas.Bool.{true≢false, cases_Bool, eqb-true, eqb-false
 use Rattle.std.proofs.lemmas.List.Sorted.{Contains-permutation, IsPermutation-sym, IsPermutation-refl}
 use Rattle.ub_bigmin.specs.Box.{Corners}
 use Rattle.ub_boxes.specs.Boxes.{boxes_of, cover_of}
-use Rattle.ub_plan.proofs.FoundFacts.{visits_of}
+use Rattle.ub_plan.proofs.FoundFacts.{meeting_of}
 use Rattle.ub_plan.proofs.MeaningFacts.{with_filter, table_of, all_selected, same_meaning, same_rows, zero_means_none, none_means_zero}
 use Rattle.ub_plan.proofs.TakeFacts.{empty_boxes, in_none}
 use Rattle.ub_plan.proofs.ThoseFacts.{filter_none}
-use Rattle.ub_plan.proofs.VisitFacts.{visits_taken}
+use Rattle.ub_plan.proofs.VisitFacts.{meeting_taken}
 use Rattle.ub_plan.specs.Meaning.{IsPlanMeaning, MeansAs}
-use Rattle.ub_plan.specs.Plan.{PlanView, kind_for, plan_of, kind_of, takes}
+use Rattle.ub_plan.specs.Plan.{PlanView, kind_asked, kind_for, plan_of, kind_of, takes}
 use Rattle.ub_plan.specs.Visits.{fetched_rows}
+use Rattle.ub_plan.specs.declared.planned.Kind.{Kind}
 use Rattle.ub_plan.specs.declared.planned.Kind.TheVariants.{Empty}
 use Rattle.ub_query.proofs.Laws.{selected_are_in_order}
 use Rattle.ub_query.specs.Groups.{selected}
@@ -31,12 +32,12 @@ zero_or_not (Some n) = elim (cases_Bool (n == 0)) [
 ]
 
 -- where the limit is 0, the plan has no boxes
-zero_is_empty : (boxes : List Corners) (limit : Option ℕ) → limit ≡ Some 0 → kind_for boxes limit ≡ Empty
-zero_is_empty [] limit e = refl
-zero_is_empty (b ∷ boxes) limit e = rw e refl
+zero_is_empty : (boxes : List Corners) (limit : Option ℕ) (kind : Kind) → limit ≡ Some 0 → kind_for boxes limit kind ≡ Empty
+zero_is_empty [] limit kind e = refl
+zero_is_empty (b ∷ boxes) limit kind e = rw e refl
 
 zero_has_no_boxes : (schema : Schema) (q : Asked) → q.limit ≡ Some 0 → (plan_of schema q).covering.boxes ≡ []
-zero_has_no_boxes schema q zero = empty_boxes (kind_of schema q) (cover_of schema q.filter) (zero_is_empty (boxes_of schema q.filter) q.limit zero)
+zero_has_no_boxes schema q zero = empty_boxes (kind_of schema q) (cover_of schema q.filter) (zero_is_empty (boxes_of schema q.filter) q.limit (kind_asked schema q) zero)
 
 -- ---- where the limit isn't 0, the selected rows are chosen
 
@@ -44,8 +45,8 @@ some_mean : (schema : Schema) (q : Asked) (next : ℕ) (regions : List Region) (
     → AreRegions schema next regions → AreTableRows regions rows → IsPlanMeaning schema (plan_of schema q) regions cells → IsMeaning (table_of schema rows) q cells
 some_mean schema q next regions rows cells limit are table h =
     let all = selected (table_of schema rows) q.filter in
-    let taken = filter (takes schema (plan_of schema q)) (fetched_rows h.chosen.visits) in
-    let perm = visits_taken schema q next regions rows h.chosen.visits limit are table h.chosen.visited in
+    let taken = filter (takes schema (plan_of schema q)) (fetched_rows h.chosen.meeting) in
+    let perm = meeting_taken schema q next regions rows h.chosen.meeting limit are table h.chosen.meets in
     let same : h.rows ≡ selected (table_of schema rows) q.filter =
     same_rows h.rows all h.chosen.ascending (selected_are_in_order (table_of schema rows) q.filter table.ascending)
     (λ row c. Contains-permutation taken all row perm (Contains-permutation h.rows taken row (IsPermutation-sym taken h.rows h.chosen.taken) c))
@@ -55,13 +56,13 @@ some_mean schema q next regions rows cells limit are table h =
 some_meant : (schema : Schema) (q : Asked) (next : ℕ) (regions : List Region) (rows : List Row) (cells : List (List Cell)) → q.limit ≢ Some 0
     → AreRegions schema next regions → AreTableRows regions rows → IsMeaning (table_of schema rows) q cells → IsPlanMeaning schema (plan_of schema q) regions cells
 some_meant schema q next regions rows cells limit are table m =
-    let (visits, visited) = visits_of schema (plan_of schema q) regions in
+    let (meeting, meets) = meeting_of schema (plan_of schema q).covering.boxes regions in
     record {
       rows = selected (table_of schema rows) q.filter;
       chosen = record {
-        visits = visits;
-        visited = visited;
-        taken = visits_taken schema q next regions rows visits limit are table visited;
+        meeting = meeting;
+        meets = meets;
+        taken = meeting_taken schema q next regions rows meeting limit are table meets;
         ascending = selected_are_in_order (table_of schema rows) q.filter table.ascending;
       };
       means = same_meaning schema q q.filter None rows (selected (table_of schema rows) q.filter) cells (sym (all_selected schema (selected (table_of schema rows) q.filter))) m;
@@ -80,14 +81,14 @@ none_meant : (schema : Schema) (q : Asked) (regions : List Region) (rows : List 
 none_meant schema q regions rows cells zero m =
     let nothing : cells ≡ [] = zero_means_none (table_of schema rows) q cells zero m in
     let none = zero_has_no_boxes schema q zero in
-    let (visits, visited) = visits_of schema (plan_of schema q) regions in
-    let untaken : filter (takes schema (plan_of schema q)) (fetched_rows visits) ≡ [] =
-    filter_none (takes schema (plan_of schema q)) (fetched_rows visits) (λ row c t. true≢false (sym t ∙ in_none schema (plan_of schema q) row none)) in
+    let (meeting, meets) = meeting_of schema (plan_of schema q).covering.boxes regions in
+    let untaken : filter (takes schema (plan_of schema q)) (fetched_rows meeting) ≡ [] =
+    filter_none (takes schema (plan_of schema q)) (fetched_rows meeting) (λ row c t. true≢false (sym t ∙ in_none schema (plan_of schema q) row none)) in
     record {
       rows = [];
       chosen = record {
-        visits = visits;
-        visited = visited;
+        meeting = meeting;
+        meets = meets;
         taken = subst (λ (rs : List Row). IsPermutation rs []) (sym untaken) (IsPermutation-refl []);
         ascending = λ k within. absurd (omega arith);
       };

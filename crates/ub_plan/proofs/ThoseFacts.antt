@@ -2,9 +2,9 @@
 use Rattle.std.proofs.Common.{◌≡◌, List, [], ◌∷◌, ◌++◌, Bool, true, filter, Contains, inl, inr, refl, sym, ap, ◌∙◌, subst}
 use Rattle.std.proofs.lemmas.Bool.{cases_Bool}
 use Rattle.std.proofs.lemmas.List.Elements.{filter-append, Contains-append_cases, Contains-append_left, Contains-append_right}
-use Rattle.std.specs.List.{flat_map}
+use Rattle.std.specs.List.{AllByRecursion, flat_map}
 use Rattle.ub_plan.specs.Visits.{AreThose}
-use Rattle.ub_query.proofs.Arranging.{contains_here, contains_later, contains_none}
+use Rattle.ub_query.proofs.Arranging.{Rising, contains_here, contains_later, contains_none}
 
 -- there is only one list of them
 pub those_one : {E : Type 0} (P : E → Type 0) (xs us vs : List E) → AreThose P xs us → AreThose P xs vs → us ≡ vs
@@ -70,3 +70,21 @@ filter_same p r [] alike = refl
 filter_same p r (x ∷ xs) alike =
     let rest = filter_same p r xs (λ y c. alike y (contains_later x xs y c)) in
     rw (alike x (contains_here x xs), rest) refl
+
+-- each of those has the property
+pub those_have : {E : Type 0} (P : E → Type 0) (xs those : List E) → AreThose P xs those → AllByRecursion P those
+those_have P [] those a = subst (λ (ys : List _). AllByRecursion P ys) (sym a) tt
+those_have P (x ∷ xs) those (inl a) = subst (λ (ys : List _). AllByRecursion P ys) (sym a.2) (a.0, those_have P xs a.1 a.3)
+those_have P (x ∷ xs) those (inr a) = those_have P xs those a.1
+
+all_those : {E : Type 0} (P Q : E → Type 0) (xs those : List E) → AreThose P xs those → AllByRecursion Q xs → AllByRecursion Q those
+all_those P Q [] those a all = subst (λ (ys : List _). AllByRecursion Q ys) (sym a) tt
+all_those P Q (x ∷ xs) those (inl a) all = subst (λ (ys : List _). AllByRecursion Q ys) (sym a.2) (all.0, all_those P Q xs a.1 a.3 all.1)
+all_those P Q (x ∷ xs) those (inr a) all = all_those P Q xs those a.1 all.1
+
+-- and they stand in the order of all
+pub Rising-those : {E : Type 0} (R : E → E → Type 0) (P : E → Type 0) (xs those : List E) → AreThose P xs those → Rising R xs → Rising R those
+Rising-those R P [] those a up = subst (λ (ys : List _). Rising R ys) (sym a) tt
+Rising-those R P (x ∷ xs) those (inl a) up =
+    subst (λ (ys : List _). Rising R ys) (sym a.2) (all_those P (λ y. R x y) xs a.1 a.3 up.0, Rising-those R P xs a.1 a.3 up.1)
+Rising-those R P (x ∷ xs) those (inr a) up = Rising-those R P xs those a.1 up.1

@@ -1,14 +1,15 @@
--- The rows of the visited regions that are selected are the selected rows of the table.
+-- The rows of the regions that meet a plan's boxes that are selected are the selected rows of the table.
 use Rattle.std.proofs.Common.{true, ◌≡◌, ◌≢◌, ◌<◌, ◌++◌, ℕ, List, [], ◌∷◌, false, nat_eq, map, filter, Some, Contains, IsPermutation, ◌⊎◌, inl, inr, refl, sym, ap, ◌∙◌, subst, arith}
 use Rattle.std.proofs.lemmas.Bool.{cases_lt, eqb-false}
-use Rattle.std.proofs.lemmas.List.Sorted.{Contains-permutation, IsPermutation-sym}
+use Rattle.std.proofs.lemmas.List.Sorted.{Contains-permutation, IsPermutation-refl, IsPermutation-sym}
 use Rattle.std.specs.List.{AllByRecursion, IsDistinct}
+use Rattle.ub_bigmin.specs.Box.{Corners}
 use Rattle.ub_plan.proofs.MeaningFacts.{table_of}
 use Rattle.ub_plan.proofs.SpanFacts.{rows_are_points}
 use Rattle.ub_plan.proofs.TakeFacts.{row_is_taken, row_meets}
 use Rattle.ub_plan.proofs.ThoseFacts.{filter_none, filter_same, parts_among, parts_back, those_parts}
-use Rattle.ub_plan.specs.Plan.{PlanView, plan_of, takes}
-use Rattle.ub_plan.specs.Visits.{Span, Meets, AreVisits, fetched_rows, spans_of, spans_up_to}
+use Rattle.ub_plan.specs.Plan.{plan_of, takes}
+use Rattle.ub_plan.specs.Visits.{Span, Meets, AreMeeting, fetched_rows, selected_rows, spans_of, spans_up_to}
 use Rattle.ub_query.proofs.Arranging.{Rising, Rising-filter, Rising-from_adjacent, Rising-one, an_arrangement}
 use Rattle.ub_query.proofs.GroupFacts.{contains_filter, contains_from_filter}
 use Rattle.ub_query.proofs.Laws.{rows-rising, numbers-never, numbers-chain, selected_are_in_order}
@@ -38,7 +39,7 @@ numbers_differ : (row : Row) (rows : List Row) → AllByRecursion (λ m. nat_eq 
 numbers_differ row [] h = tt
 numbers_differ row (other ∷ rows) h = (differ row.number other.number h.0, numbers_differ row rows h.1)
 
-rows_differ : (rows : List Row) → IsDistinct nat_eq (map (λ r. r.number) rows) → Rising (λ a b. Differ a b) rows
+pub rows_differ : (rows : List Row) → IsDistinct nat_eq (map (λ r. r.number) rows) → Rising (λ a b. Differ a b) rows
 unfolding IsDistinct
 rows_differ [] h = tt
 rows_differ (row ∷ rows) h = (numbers_differ row rows h.0, rows_differ rows h.1)
@@ -57,44 +58,56 @@ rows_in_spans : (last : ℕ) (regions : List Region) → fetched_rows (spans_up_
 rows_in_spans last [] = refl
 rows_in_spans last (region ∷ regions) = ap (λ (rows : List Row). region.rows ++ rows) (rows_in_spans last regions)
 
-pub visits_hold : (schema : Schema) (q : Asked) (next : ℕ) (regions : List Region) (rows : List Row) (visits : List Span) → q.limit ≢ Some 0
-    → AreRegions schema next regions → AreTableRows regions rows → AreVisits schema (plan_of schema q) regions visits
-    → IsPermutation (filter (is_selected schema q.filter) (fetched_rows visits)) (selected (table_of schema rows) q.filter)
-visits_hold schema q next regions rows visits limit are table those =
+-- the selected rows of the regions that meet are those of all regions, in the same order
+held_same : (schema : Schema) (q : Asked) (next : ℕ) (regions : List Region) (meeting : List Span) → q.limit ≢ Some 0
+    → AreRegions schema next regions → AreMeeting schema (plan_of schema q).covering.boxes regions meeting
+    → filter (is_selected schema q.filter) (fetched_rows meeting) ≡ selected_rows schema (plan_of schema q) regions
+held_same schema q next regions meeting limit are those =
     let chain = chain_of schema regions are.each are.ascending are.apart in
-    let same : filter (is_selected schema q.filter) (fetched_rows visits) ≡ filter (is_selected schema q.filter) (rows_of regions) =
-    those_parts (λ (span : Span). Meets (plan_of schema q).covering.boxes span.from span.to) (λ (span : Span). span.region.rows) (is_selected schema q.filter) (spans_of schema regions) visits those
+    those_parts (λ (span : Span). Meets (plan_of schema q).covering.boxes span.from span.to) (λ (span : Span). span.region.rows) (is_selected schema q.filter) (spans_of schema regions) meeting those
     (λ span there out. filter_none (is_selected schema q.filter) span.region.rows (λ row has t. out (row_meets schema q regions span row limit chain there has t)))
-    ∙ ap (λ (rs : List Row). filter (is_selected schema q.filter) rs) (rows_in_spans (last_address schema.dims) regions) in
-    subst (λ (rs : List Row). IsPermutation rs (selected (table_of schema rows) q.filter)) (sym same)
+    ∙ ap (λ (rs : List Row). filter (is_selected schema q.filter) rs) (rows_in_spans (last_address schema.dims) regions)
+
+pub meeting_hold : (schema : Schema) (q : Asked) (next : ℕ) (regions : List Region) (meeting : List Span) → q.limit ≢ Some 0
+    → AreRegions schema next regions → AreMeeting schema (plan_of schema q).covering.boxes regions meeting
+    → IsPermutation (filter (is_selected schema q.filter) (fetched_rows meeting)) (selected_rows schema (plan_of schema q) regions)
+meeting_hold schema q next regions meeting limit are those =
+    subst (λ (rs : List Row). IsPermutation rs (selected_rows schema (plan_of schema q) regions)) (sym (held_same schema q next regions meeting limit are those))
+    (IsPermutation-refl (selected_rows schema (plan_of schema q) regions))
+
+pub meeting_hold_tables : (schema : Schema) (q : Asked) (next : ℕ) (regions : List Region) (rows : List Row) (meeting : List Span) → q.limit ≢ Some 0
+    → AreRegions schema next regions → AreTableRows regions rows → AreMeeting schema (plan_of schema q).covering.boxes regions meeting
+    → IsPermutation (filter (is_selected schema q.filter) (fetched_rows meeting)) (selected (table_of schema rows) q.filter)
+meeting_hold_tables schema q next regions rows meeting limit are table those =
+    subst (λ (rs : List Row). IsPermutation rs (selected (table_of schema rows) q.filter)) (sym (held_same schema q next regions meeting limit are those))
     (permuted (filter (is_selected schema q.filter) (rows_of regions)) (selected (table_of schema rows) q.filter)
     (Rising-filter (λ a b. Differ a b) (is_selected schema q.filter) (rows_of regions) (rows_differ (rows_of regions) are.distinct))
     (selected_are_in_order (table_of schema rows) q.filter table.ascending)
     (λ row c. let k = contains_from_filter (is_selected schema q.filter) (rows_of regions) row c in contains_filter (is_selected schema q.filter) rows row ((table.same row).1 k.0) k.1)
     (λ row c. let k = contains_from_filter (is_selected schema q.filter) rows row c in contains_filter (is_selected schema q.filter) (rows_of regions) row ((table.same row).0 k.0) k.1))
 
--- the rows of the visited regions are rows of the regions
-fetched_among : (schema : Schema) (plan : PlanView) (regions : List Region) (visits : List Span) (row : Row) → AreVisits schema plan regions visits → Contains (fetched_rows visits) row → Contains (rows_of regions) row
-fetched_among schema plan regions visits row those c =
+-- the rows of the regions that meet are rows of the regions
+fetched_among : (schema : Schema) (boxes : List Corners) (regions : List Region) (meeting : List Span) (row : Row) → AreMeeting schema boxes regions meeting → Contains (fetched_rows meeting) row → Contains (rows_of regions) row
+fetched_among schema boxes regions meeting row those c =
     subst (λ (rs : List Row). Contains rs row) (rows_in_spans (last_address schema.dims) regions)
-    (parts_among (λ (span : Span). Meets plan.covering.boxes span.from span.to) (λ (span : Span). span.region.rows) row (spans_of schema regions) visits those c)
+    (parts_among (λ (span : Span). Meets boxes span.from span.to) (λ (span : Span). span.region.rows) row (spans_of schema regions) meeting those c)
 
 -- and the plan takes the selected ones of them
-pub visits_taken : (schema : Schema) (q : Asked) (next : ℕ) (regions : List Region) (rows : List Row) (visits : List Span) → q.limit ≢ Some 0
-    → AreRegions schema next regions → AreTableRows regions rows → AreVisits schema (plan_of schema q) regions visits
-    → IsPermutation (filter (takes schema (plan_of schema q)) (fetched_rows visits)) (selected (table_of schema rows) q.filter)
-visits_taken schema q next regions rows visits limit are table those =
+pub meeting_taken : (schema : Schema) (q : Asked) (next : ℕ) (regions : List Region) (rows : List Row) (meeting : List Span) → q.limit ≢ Some 0
+    → AreRegions schema next regions → AreTableRows regions rows → AreMeeting schema (plan_of schema q).covering.boxes regions meeting
+    → IsPermutation (filter (takes schema (plan_of schema q)) (fetched_rows meeting)) (selected (table_of schema rows) q.filter)
+meeting_taken schema q next regions rows meeting limit are table those =
     let chain = chain_of schema regions are.each are.ascending are.apart in
-    let same : filter (takes schema (plan_of schema q)) (fetched_rows visits) ≡ filter (is_selected schema q.filter) (fetched_rows visits) =
-    filter_same (takes schema (plan_of schema q)) (is_selected schema q.filter) (fetched_rows visits)
-    (λ row c. row_is_taken schema q row limit (rows_are_points schema regions row chain (fetched_among schema (plan_of schema q) regions visits row those c))) in
-    subst (λ (rs : List Row). IsPermutation rs (selected (table_of schema rows) q.filter)) (sym same) (visits_hold schema q next regions rows visits limit are table those)
+    let same : filter (takes schema (plan_of schema q)) (fetched_rows meeting) ≡ filter (is_selected schema q.filter) (fetched_rows meeting) =
+    filter_same (takes schema (plan_of schema q)) (is_selected schema q.filter) (fetched_rows meeting)
+    (λ row c. row_is_taken schema q row limit (rows_are_points schema regions row chain (fetched_among schema (plan_of schema q).covering.boxes regions meeting row those c))) in
+    subst (λ (rs : List Row). IsPermutation rs (selected (table_of schema rows) q.filter)) (sym same) (meeting_hold_tables schema q next regions rows meeting limit are table those)
 
-pub row_is_visited : (schema : Schema) (q : Asked) (next : ℕ) (regions : List Region) (visits : List Span) (row : Row) → q.limit ≢ Some 0
-    → AreRegions schema next regions → AreVisits schema (plan_of schema q) regions visits → Contains (rows_of regions) row → is_selected schema q.filter row ≡ true
-    → Contains (fetched_rows visits) row
-row_is_visited schema q next regions visits row limit are those c t =
+pub row_is_met : (schema : Schema) (q : Asked) (next : ℕ) (regions : List Region) (meeting : List Span) (row : Row) → q.limit ≢ Some 0
+    → AreRegions schema next regions → AreMeeting schema (plan_of schema q).covering.boxes regions meeting → Contains (rows_of regions) row → is_selected schema q.filter row ≡ true
+    → Contains (fetched_rows meeting) row
+row_is_met schema q next regions meeting row limit are those c t =
     let chain = chain_of schema regions are.each are.ascending are.apart in
-    parts_back (λ (span : Span). Meets (plan_of schema q).covering.boxes span.from span.to) (λ (span : Span). span.region.rows) row (spans_of schema regions) visits those
+    parts_back (λ (span : Span). Meets (plan_of schema q).covering.boxes span.from span.to) (λ (span : Span). span.region.rows) row (spans_of schema regions) meeting those
     (λ span there has. row_meets schema q regions span row limit chain there has t)
     (subst (λ (rs : List Row). Contains rs row) (sym (rows_in_spans (last_address schema.dims) regions)) c)

@@ -2,4 +2,6 @@ pub mod inner
 pub mod Plan
 pub mod Visits
 pub mod Meaning
+pub mod Explained
+pub mod Faults
 pub mod Laws

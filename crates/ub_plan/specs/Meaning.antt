@@ -3,7 +3,7 @@ use Rattle.std.specs.Prelude.{◌↔◌, ℕ, List, None}
 use Rattle.std.specs.List.{filter}
 use Rattle.std.specs.List.Sorted.{IsPermutation}
 use Rattle.ub_plan.specs.Plan.{PlanView, takes}
-use Rattle.ub_plan.specs.Visits.{Span, AreVisits, fetched_rows}
+use Rattle.ub_plan.specs.Visits.{Span, AreMeeting, fetched_rows}
 use Rattle.ub_query.specs.Meaning.{IsMeaning}
 use Rattle.ub_query.specs.Shape.{Asked}
 use Rattle.ub_query.specs.declared.cell.Cell.{Cell}
@@ -13,11 +13,11 @@ use Rattle.ub_table.specs.Table.{IsInOrder}
 use Rattle.ub_table.specs.declared.row.Row.{Row}
 use Rattle.ub_table.specs.declared.schema.Schema.{Schema}
 
--- the rows of the visited regions that the plan takes, in order of row number
+-- the rows of the regions that meet the boxes that the plan takes, in order of row number
 pub record AreChosen (schema : Schema) (plan : PlanView) (regions : List Region) (rows : List Row) : Type 0 where
-  pub visits : List Span
-  pub visited : AreVisits schema plan regions visits
-  pub taken : IsPermutation (filter (takes schema plan) (fetched_rows visits)) rows
+  pub meeting : List Span
+  pub meets : AreMeeting schema plan.covering.boxes regions meeting
+  pub taken : IsPermutation (filter (takes schema plan) (fetched_rows meeting)) rows
   pub ascending : IsInOrder rows
 
 -- what a plan means on a list of regions: what its query, without its condition, means on the rows that are chosen

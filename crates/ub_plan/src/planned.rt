@@ -10,6 +10,13 @@ pub enum Kind {
     Empty,
     /// Those that meet a box are, in the order of their first keys.
     Scan,
+    /// Those that meet a box are, in the order of a dimension, until the limit is filled: a sweep.
+    Sweep {
+        /// The dimension, counted from 0.
+        dim: usize,
+        /// Whether the sweep goes from the greatest coordinate down.
+        is_descending: bool,
+    },
 }
 
 /// The plan of a query.
@@ -34,8 +41,9 @@ impl Model for Plan {
 }
 
 impl Plan {
-    ghost use Rattle.std.specs.Prelude.{◌≡◌};
+    ghost use Rattle.std.specs.Prelude.{◌≡◌, ◌≤◌, ◌^◌};
     ghost use Rattle.std.specs.Option.{option_map};
+    ghost use Rattle.ub_boxes.specs.Points.{total};
     ghost use Rattle.ub_plan.specs.Plan.{kept_by, residual_of};
     ghost use Rattle.ub_query.specs.Shape.{asked, shape};
 
@@ -55,11 +63,12 @@ impl Plan {
 
     /// The boxes, outside of which no row is taken. An empty plan has none.
     pub fn boxes(&self) -> &[ZBox]
-        ensures { result.now ≡ self.now.covering.boxes }
+        ensures boxes { result.now ≡ self.now.covering.boxes }
+        ensures points { total result.now ≤ 2 ^ 128 }
     {
         match self.kind {
             Kind::Empty => &[],
-            Kind::Scan => self.cover.boxes(),
+            Kind::Scan | Kind::Sweep { .. } => self.cover.boxes(),
         }
     }
 
@@ -90,8 +99,8 @@ impl Plan {
     {
         match self.kind {
             Kind::Empty => None,
-            Kind::Scan if self.cover.is_exact() => None,
-            Kind::Scan => self.query.filter.as_ref(),
+            Kind::Scan | Kind::Sweep { .. } if self.cover.is_exact() => None,
+            Kind::Scan | Kind::Sweep { .. } => self.query.filter.as_ref(),
         }
     }
 }

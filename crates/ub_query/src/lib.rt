@@ -11,8 +11,10 @@ pub mod condition;
 pub mod example;
 pub mod law;
 pub mod query;
+pub mod value;
 
 pub use cell::Cell;
 pub use condition::{Cond, Operator};
 pub use query::{Aggregate, Item, Query, SortKey};
 pub use ub_table::Items;
+pub use value::value_in;
