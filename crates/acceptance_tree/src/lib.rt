@@ -1,8 +1,12 @@
-// Tests of trees over stores, by their public calls alone. The values come from worked rows and hand arithmetic, never from the
-// program's own output.
+// Tests of trees over stores and of sweeps over trees, by their public calls alone. The values come from worked rows and hand
+// arithmetic, never from the program's own output.
 #![tactic(auto)]
 
 #[cfg(test)]
+mod failures;
+#[cfg(test)]
 mod openings;
+#[cfg(test)]
+mod sweep;
 #[cfg(test)]
 mod trees;

@@ -105,7 +105,7 @@ fn opens_a_closed_table(rt: HostRuntime) -> Result<(), Fail> {
 }
 
 // Why a row isn't put into a tree of the plane.
-fn refused_row(tree: &mut MemTree) -> Option<TreeFault> {
+pub fn refused_row<S: PageStore>(tree: &mut Tree<S>) -> Option<TreeFault> {
     if tree.schema().dims() != 2 || tree.schema().measures() != 1 {
         return None;
     }
@@ -156,15 +156,18 @@ fn refuses_a_page_of_another_region(rt: HostRuntime) -> Result<(), Fail> {
     Ok(())
 }
 
+// A page of directory has 170 regions at most.
 #[test]
-fn opens_two_pages_of_directory(rt: HostRuntime) -> Result<(), Fail> {
-    let pages = [
-        header_page(171)?,
-        [0; 4096],
-        part(0, 170, 3),
-        part(170, 1, 0),
-    ];
-    assert_eq!(rt; opened(&rt, &pages)?.regions(), 171);
+fn opens_a_directory_of_one_page_and_of_two(rt: HostRuntime) -> Result<(), Fail> {
+    for (regions, count, next, rest) in [(1, 1, 0, 0), (170, 170, 0, 0), (171, 170, 3, 1)] {
+        let pages = [
+            header_page(regions)?,
+            [0; 4096],
+            part(0, count, next),
+            part(170, rest, 0),
+        ];
+        assert_eq!(rt; opened(&rt, &pages)?.regions(), regions);
+    }
     Ok(())
 }
 

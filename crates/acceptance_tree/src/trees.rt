@@ -38,7 +38,7 @@ pub fn put<S: PageStore>(tree: &mut Tree<S>, x: u32, y: u32, m: i64) -> Result<u
 }
 
 // The rows (1,1), (2,3), (3,0), (0,2) and (2,3), whose addresses are 3, 13, 10, 4 and 13.
-fn table_s(rt: &HostRuntime) -> Result<MemTree, Fail> {
+pub fn table_s(rt: &HostRuntime) -> Result<MemTree, Fail> {
     let mut tree = empty(rt)?;
     for (x, y, m) in [(1, 1, 10), (2, 3, 20), (3, 0, 5), (0, 2, 7), (2, 3, 1)] {
         put(&mut tree, x, y, m)?;
@@ -47,7 +47,7 @@ fn table_s(rt: &HostRuntime) -> Result<MemTree, Fail> {
 }
 
 // The span of the first region whose span ends at z or later, and the numbers of its first and last row.
-pub fn spans_to(tree: &mut MemTree, z: u128) -> Result<(u128, u128, u32, u32), Fail> {
+pub fn spans_to<S: PageStore>(tree: &mut Tree<S>, z: u128) -> Result<(u128, u128, u32, u32), Fail> {
     let region = tree.seek(z, None)?.ok_or("no region")?;
     let page = tree.read_region(&region)?;
     let first = page.rows().first().ok_or("no row")?;
@@ -85,7 +85,7 @@ fn notes_region_pages(rt: HostRuntime) -> Result<(), Fail> {
     Ok(())
 }
 
-fn closed(tree: MemTree) -> Result<MemStore, Fail> {
+pub fn closed(tree: MemTree) -> Result<MemStore, Fail> {
     match tree.close() {
         Ok(store) => Ok(store),
         Err(refused) => Err(refused.fault.into()),

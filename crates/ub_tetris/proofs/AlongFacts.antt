@@ -1,0 +1,187 @@
+-- Coordinates along a sweep, event values, and the order asked where its first key is the sweep's dimension.
+use Rattle.std.proofs.Common.{◌≡◌, ◌≢◌, ◌<◌, ◌+◌, ◌==◌, ℕ, List, [], ◌∷◌, Bool, true, false, nat_lt, Option, Some, None, length, get_or, slice_index, Contains, ◌⊎◌, inl, inr, refl, sym, ap, ◌∙◌, subst, arith}
+use Rattle.std.proofs.lemmas.Bool.{cases_Bool, cases_lt, ltb-true, lt-ltb, true≢false}
+use Rattle.std.proofs.lemmas.Int.{ints}
+use Rattle.std.specs.List.{AllAdjacentBelow, list_any}
+use Rattle.ub_bigmin.specs.Box.{Corners}
+use Rattle.ub_boxes.specs.Boxes.{Covering, boxes_of, cover_of}
+use Rattle.ub_plan.specs.Plan.{PlanView, gives_groups, is_aggregate, kept_by, kind_asked, kind_by, kind_for, kind_led, kind_of, kind_within, plan_of}
+use Rattle.ub_plan.specs.Visits.{Event, IsAlong, IsEventBefore}
+use Rattle.ub_plan.specs.declared.planned.Kind.{Kind}
+use Rattle.ub_plan.specs.declared.planned.Kind.TheVariants.{Empty, Scan, Sweep}
+use Rattle.ub_query.proofs.Arranging.{Rising, Rising-from_adjacent, contains_cases, contains_none}
+use Rattle.ub_query.specs.Order.{IsRowBefore}
+use Rattle.ub_query.specs.Posed.{IsAggregate, IsGroupQuery}
+use Rattle.ub_query.specs.Shape.{Asked}
+use Rattle.ub_query.specs.declared.query.Item.{Item}
+use Rattle.ub_query.specs.declared.query.Item.TheVariants.{Column, Count, Aggregate}
+use Rattle.ub_query.specs.declared.query.SortKey.{SortKey}
+use Rattle.ub_table.specs.declared.row.Row.{Row}
+use Rattle.ub_table.specs.declared.schema.Schema.{Schema}
+
+-- ---- coordinates along a sweep
+
+pub along_chain : (down : Bool) (a b c : ℕ) → IsAlong down a b → IsAlong down b c → IsAlong down a c
+along_chain false a b c g h = omega arith
+along_chain true a b c g h = omega arith
+
+pub along_never : (down : Bool) (a : ℕ) → ¬ (IsAlong down a a)
+along_never false a h = omega arith
+along_never true a h = omega arith
+
+-- not past one another
+abbrev pub IsUpTo : Bool → ℕ → ℕ → Type 0
+IsUpTo down a b = ¬ (IsAlong down b a)
+
+pub up_to_chain : (down : Bool) (a b c : ℕ) → IsUpTo down a b → IsUpTo down b c → IsUpTo down a c
+up_to_chain false a b c g h k = elim (cases_lt b a) [
+  | inl lt ↦ g lt
+  | inr le ↦ h (omega arith)
+]
+up_to_chain true a b c g h k = elim (cases_lt a b) [
+  | inl lt ↦ g lt
+  | inr le ↦ h (omega arith)
+]
+
+pub along_up_to : (down : Bool) (a b c : ℕ) → IsAlong down a b → IsUpTo down b c → IsAlong down a c
+along_up_to false a b c g h = elim (cases_lt a c) [
+  | inl lt ↦ lt
+  | inr le ↦ absurd (h (omega arith))
+]
+along_up_to true a b c g h = elim (cases_lt c a) [
+  | inl lt ↦ lt
+  | inr le ↦ absurd (h (omega arith))
+]
+
+pub up_to_along : (down : Bool) (a b c : ℕ) → IsUpTo down a b → IsAlong down b c → IsAlong down a c
+up_to_along false a b c g h = elim (cases_lt a c) [
+  | inl lt ↦ lt
+  | inr le ↦ absurd (g (omega arith))
+]
+up_to_along true a b c g h = elim (cases_lt c a) [
+  | inl lt ↦ lt
+  | inr le ↦ absurd (g (omega arith))
+]
+
+-- ---- event values
+
+value_up_to : (down : Bool) (a b : Event) → IsEventBefore down a b → IsUpTo down a.value b.value
+value_up_to down a b (inl along) back = along_never down a.value (along_chain down a.value b.value a.value along back)
+value_up_to down a b (inr same) back = along_never down b.value (subst (λ (v : ℕ). IsAlong down b.value v) same.0 back)
+
+pub values_rise : (down : Bool) (events : List Event) → AllAdjacentBelow (IsEventBefore down) events (length events)
+    → Rising (λ a b. IsUpTo down a.value b.value) events
+values_rise down events next =
+    Rising-from_adjacent (λ a b. IsUpTo down a.value b.value) (λ a b c g h. up_to_chain down a.value b.value c.value g h) events
+    (λ k d within. value_up_to down (get_or events k d) (get_or events (k + 1) d) (next k d within))
+
+-- ---- the query of a sweep
+
+kind_by_sweep : (dims : ℕ) (item : Item) (down : Bool) (dim : ℕ) (is_descending : Bool) → kind_by dims item down ≡ Sweep dim is_descending
+    → (item ≡ Column dim) × (down ≡ is_descending) × (dim < dims)
+kind_by_sweep dims (Column column) down dim is_descending is = elim (cases_Bool (nat_lt column dims)) [
+  | inl t ↦
+      let same : Sweep column down ≡ Sweep dim is_descending = rw t at is in
+      let at : column ≡ dim = cc in
+      (ap Column at, cc, subst (λ (d : ℕ). d < dims) at (ltb-true column dims t))
+  | inr f ↦ let same : Scan ≡ Sweep dim is_descending = rw f at is in absurd cc
+]
+kind_by_sweep dims Count down dim is_descending is = absurd cc
+kind_by_sweep dims (Aggregate taken column) down dim is_descending is = absurd cc
+
+-- the first key is the dimension, and the query gives rows
+pub record IsLed (schema : Schema) (q : Asked) (dim : ℕ) (is_descending : Bool) : Type 0 where
+  pub first : SortKey
+  pub keys : List SortKey
+  pub order : q.order ≡ first ∷ keys
+  pub item : first.item ≡ Column dim
+  pub descending : first.is_descending ≡ is_descending
+  pub within : dim < schema.dims
+  pub plain : gives_groups q.group q.items ≡ false
+
+led_by : (schema : Schema) (q : Asked) (dim : ℕ) (is_descending : Bool) (keys : List SortKey) → q.order ≡ keys → gives_groups q.group q.items ≡ false
+    → kind_led schema.dims keys ≡ Sweep dim is_descending → IsLed schema q dim is_descending
+led_by schema q dim is_descending [] same plain is = absurd cc
+led_by schema q dim is_descending (key ∷ keys) same plain is =
+    let parts = kind_by_sweep schema.dims key.item key.is_descending dim is_descending is in
+    record { first = key; keys = keys; order = same; item = parts.0; descending = parts.1; within = parts.2; plain = plain }
+
+led_asked : (schema : Schema) (q : Asked) (dim : ℕ) (is_descending : Bool) → kind_asked schema q ≡ Sweep dim is_descending → IsLed schema q dim is_descending
+led_asked schema q dim is_descending is = elim (cases_Bool (gives_groups q.group q.items)) [
+  | inl t ↦ let same : Scan ≡ Sweep dim is_descending = rw t at is in absurd cc
+  | inr f ↦ led_by schema q dim is_descending q.order refl f (rw f at is)
+]
+
+within_sweep : (limit : Option ℕ) (kind : Kind) (dim : ℕ) (is_descending : Bool) → kind_within limit kind ≡ Sweep dim is_descending → kind ≡ Sweep dim is_descending
+within_sweep None kind dim is_descending is = is
+within_sweep (Some n) kind dim is_descending is = elim (cases_Bool (n == 0)) [
+  | inl t ↦ let same : Empty ≡ Sweep dim is_descending = rw t at is in absurd cc
+  | inr f ↦ rw f at is
+]
+
+for_sweep : (boxes : List Corners) (limit : Option ℕ) (kind : Kind) (dim : ℕ) (is_descending : Bool) → kind_for boxes limit kind ≡ Sweep dim is_descending → kind ≡ Sweep dim is_descending
+for_sweep [] limit kind dim is_descending is = absurd cc
+for_sweep (b ∷ boxes) limit kind dim is_descending is = within_sweep limit kind dim is_descending is
+
+within_some : (limit : Option ℕ) (kind : Kind) (dim : ℕ) (is_descending : Bool) → kind_within limit kind ≡ Sweep dim is_descending → limit ≢ Some 0
+within_some limit kind dim is_descending is none =
+    let same : Empty ≡ Sweep dim is_descending = ap (λ (o : Option ℕ). kind_within o kind) (sym none) ∙ is in absurd cc
+
+for_some : (boxes : List Corners) (limit : Option ℕ) (kind : Kind) (dim : ℕ) (is_descending : Bool) → kind_for boxes limit kind ≡ Sweep dim is_descending → limit ≢ Some 0
+for_some [] limit kind dim is_descending is = absurd cc
+for_some (b ∷ boxes) limit kind dim is_descending is = within_some limit kind dim is_descending is
+
+pub led : (schema : Schema) (q : Asked) (dim : ℕ) (is_descending : Bool) → kind_of schema q ≡ Sweep dim is_descending → IsLed schema q dim is_descending
+led schema q dim is_descending is = led_asked schema q dim is_descending (for_sweep (boxes_of schema q.filter) q.limit (kind_asked schema q) dim is_descending is)
+
+kept_boxes : (kind : Kind) (covering : Covering) (dim : ℕ) (is_descending : Bool) → kind ≡ Sweep dim is_descending → (kept_by kind covering).boxes ≡ covering.boxes
+kept_boxes Empty covering dim is_descending is = absurd cc
+kept_boxes Scan covering dim is_descending is = refl
+kept_boxes (Sweep d b) covering dim is_descending is = refl
+
+pub sweep_boxes : (schema : Schema) (plan : PlanView) (dim : ℕ) (is_descending : Bool) → plan ≡ plan_of schema plan.asked → plan.kind ≡ Sweep dim is_descending
+    → plan.covering.boxes ≡ boxes_of schema plan.asked.filter
+sweep_boxes schema plan dim is_descending planned kind =
+    ap (λ (p : PlanView). p.covering.boxes) planned
+    ∙ kept_boxes (kind_of schema plan.asked) (cover_of schema plan.asked.filter) dim is_descending (sym (ap (λ (p : PlanView). p.kind) planned) ∙ kind)
+
+pub led_plan : (schema : Schema) (plan : PlanView) (dim : ℕ) (is_descending : Bool) → plan ≡ plan_of schema plan.asked → plan.kind ≡ Sweep dim is_descending
+    → IsLed schema plan.asked dim is_descending
+led_plan schema plan dim is_descending planned kind = led schema plan.asked dim is_descending (sym (ap (λ (p : PlanView). p.kind) planned) ∙ kind)
+
+-- ---- the order asked
+
+led_before : (schema : Schema) (dim : ℕ) (is_descending : Bool) (key : SortKey) (keys : List SortKey) (a b : Row) → key.item ≡ Column dim → key.is_descending ≡ is_descending → nat_lt dim schema.dims ≡ true
+    → IsAlong is_descending (slice_index a.dims dim) (slice_index b.dims dim) → IsRowBefore schema (key ∷ keys) a b
+led_before schema dim false key keys a b item descending within along = rw (item, descending, within) (inl (omega (arith, ints)))
+led_before schema dim true key keys a b item descending within along = rw (item, descending, within) (inl (omega (arith, ints)))
+
+pub along_before : (schema : Schema) (q : Asked) (dim : ℕ) (is_descending : Bool) (a b : Row) → IsLed schema q dim is_descending
+    → IsAlong is_descending (slice_index a.dims dim) (slice_index b.dims dim) → IsRowBefore schema q.order a b
+along_before schema q dim is_descending a b of along =
+    subst (λ (order : List SortKey). IsRowBefore schema order a b) (sym of.order)
+    (led_before schema dim is_descending of.first of.keys a b of.item of.descending (lt-ltb dim schema.dims of.within) along)
+
+-- ---- a query that is led by a dimension gives rows
+
+no_aggregate : (items : List Item) (item : Item) → list_any is_aggregate items ≡ false → Contains items item → IsAggregate item → ⊥
+no_aggregate [] item none there is = contains_none item there
+no_aggregate (Column column ∷ items) item none there is = elim (contains_cases (Column column) items item there) [
+  | inl same ↦ subst (λ (i : Item). IsAggregate i) (sym same) is
+  | inr later ↦ no_aggregate items item none later is
+]
+no_aggregate (Count ∷ items) item none there is = absurd (true≢false none)
+no_aggregate (Aggregate taken column ∷ items) item none there is = absurd (true≢false none)
+
+no_groups : (group : List ℕ) (items : List Item) → gives_groups group items ≡ false → (group ≢ []) ⊎ ((item : Item) × Contains items item × IsAggregate item) → ⊥
+no_groups [] items none (inl some) = some refl
+no_groups [] items none (inr some) = no_aggregate items some.0 none some.1 some.2
+no_groups (column ∷ group) items none some = absurd (true≢false none)
+
+pub led_is_plain : (schema : Schema) (q : Asked) (dim : ℕ) (is_descending : Bool) → IsLed schema q dim is_descending → ¬ (IsGroupQuery q)
+led_is_plain schema q dim is_descending of grouped = no_groups q.group q.items of.plain grouped
+
+-- and asks for a row at least
+pub led_asks : (schema : Schema) (plan : PlanView) (dim : ℕ) (is_descending : Bool) → plan ≡ plan_of schema plan.asked → plan.kind ≡ Sweep dim is_descending → plan.asked.limit ≢ Some 0
+led_asks schema plan dim is_descending planned kind =
+    for_some (boxes_of schema plan.asked.filter) plan.asked.limit (kind_asked schema plan.asked) dim is_descending (sym (ap (λ (p : PlanView). p.kind) planned) ∙ kind)

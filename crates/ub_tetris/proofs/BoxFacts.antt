@@ -1,0 +1,52 @@
+-- Each box of a sweep's plan has the sweep's dimension.
+use Rattle.std.proofs.Common.{◌≡◌, ◌<◌, ℕ, List, [], ◌∷◌, Bool, Option, length, map, Contains, inl, inr, sym, ap, ◌∙◌, subst, arith}
+use Rattle.std.proofs.lemmas.Bool.{cases_Bool}
+use Rattle.std.proofs.lemmas.List.{length-replicate}
+use Rattle.std.specs.List.{All}
+use Rattle.ub_bigmin.specs.Box.{Corners}
+use Rattle.ub_boxes.proofs.GridFacts.{length-sides}
+use Rattle.ub_boxes.specs.Boxes.{beside, boxes_of, boxes_on, is_wide, nowhere, runs, space}
+use Rattle.ub_boxes.specs.Grid.{grid}
+use Rattle.ub_boxes.specs.Truths.{covers}
+use Rattle.ub_plan.specs.Plan.{PlanView, plan_of}
+use Rattle.ub_plan.specs.declared.planned.Kind.TheVariants.{Sweep}
+use Rattle.ub_query.proofs.Arranging.{contains_cases, contains_none}
+use Rattle.ub_query.proofs.GroupFacts.{contains_from_map}
+use Rattle.ub_query.specs.Shape.{Shape}
+use Rattle.ub_table.specs.declared.schema.Schema.{Schema}
+use Rattle.ub_tetris.proofs.AlongFacts.{led_plan, sweep_boxes}
+use Rattle.ub_tetris.proofs.ArrangeFacts.{all_of, from_part}
+
+boxes_on-long : (test : List ℕ → Bool) (sides : List (List _)) (b : Corners) → Contains (boxes_on test sides) b → length b.lo ≡ length sides
+boxes_on-long test [] b there = absurd (contains_none b there)
+boxes_on-long test (side ∷ []) b there =
+    let (run, here, same) = contains_from_map (λ (run : _). beside run nowhere) (runs (λ low. test (low ∷ [])) side) b there in
+    sym (ap (λ (c : Corners). length c.lo) same)
+boxes_on-long test (side ∷ next ∷ sides) b there =
+    let (interval, here, within) = from_part (λ (interval : _). map (beside interval) (boxes_on (λ point. test (interval.low ∷ point)) (next ∷ sides))) side b there in
+    let (c, in_rest, same) = contains_from_map (beside interval) (boxes_on (λ point. test (interval.low ∷ point)) (next ∷ sides)) b within in
+    let rest = boxes_on-long (λ point. test (interval.low ∷ point)) (next ∷ sides) c in_rest in
+    let lo : length (beside interval c).lo ≡ length b.lo = ap (λ (c : Corners). length c.lo) same in
+    omega (arith, rest, lo)
+
+boxes_of-long : (schema : Schema) (filter : Option Shape) (b : Corners) → Contains (boxes_of schema filter) b → length b.lo ≡ schema.dims
+boxes_of-long schema filter b there = elim (cases_Bool (is_wide schema filter)) [
+  | inl t ↦
+      let one : Contains (space schema.dims ∷ []) b = rw t at there in
+      elim (contains_cases (space schema.dims) [] b one) [
+        | inl same ↦ sym (ap (λ (c : Corners). length c.lo) same) ∙ length-replicate schema.dims 0
+        | inr none ↦ absurd (contains_none b none)
+      ]
+  | inr f ↦
+      let some : Contains (boxes_on (covers schema filter) (grid schema filter)) b = rw f at there in
+      boxes_on-long (covers schema filter) (grid schema filter) b some ∙ length-sides schema filter schema.dims
+]
+
+pub have_dimension : (schema : Schema) (plan : PlanView) (dim : ℕ) (is_descending : Bool) → plan ≡ plan_of schema plan.asked → plan.kind ≡ Sweep dim is_descending
+    → All (λ b. dim < length b.lo) plan.covering.boxes
+have_dimension schema plan dim is_descending planned kind =
+    let led = led_plan schema plan dim is_descending planned kind in
+    all_of (λ (b : Corners). dim < length b.lo) plan.covering.boxes
+    (λ b there.
+    let long = boxes_of-long schema plan.asked.filter b (subst (λ (boxes : List Corners). Contains boxes b) (sweep_boxes schema plan dim is_descending planned kind) there) in
+    omega (arith, long, led.within))

@@ -1,0 +1,241 @@
+-- What the calls of a sweep leave of a tree, one after the other.
+use Rattle.std.proofs.Common.{◌≡◌, ◌∙◌, ◌++◌, ◌+◌, ◌∷◌, ◌⊎◌, inl, inr, ℕ, zero, suc, Bool, IsTrue, Result, Ok, Err, IfErr, List, [], length, Contains, subst, sym, ap, refl, arith, append_assoc}
+use Rattle.std.proofs.lemmas.List.{append-nil, length-append}
+use Rattle.std.proofs.lemmas.List.Elements.{Contains-append_right}
+use Rattle.std.specs.List.{AllByRecursion}
+use Rattle.std.specs.Result.{IsErrAnd}
+use Rattle.ub_query.proofs.Arranging.{contains_here}
+use Rattle.ub_store.specs.Facts.{raised}
+use Rattle.ub_store.specs.declared.fault.StoreFault.TheVariants as store
+use Rattle.ub_tetris.specs.Effects.{Searches, Sweeps, IsSweepFault, IsAwaitedFault, fault_of_tree, fetches_then, read_store}
+use Rattle.ub_tetris.specs.Sweep.{AwaitedRegion, SweepView, AreItsRegions}
+use Rattle.ub_tetris.specs.declared.fault.SweepFault.{SweepFault}
+use Rattle.ub_tetris.specs.declared.fault.SweepFault.TheVariants as sweep
+use Rattle.ub_tree.specs.Effects.{IsReadFault, IsPageRefused, IsPageMissing, IsSpanFault, HasNoted, ReadsRegion, raised_by}
+use Rattle.ub_tree.specs.View.{TreeView, IsSound, KeepsRegions, KeepsTrace, spans_of}
+use Rattle.ub_tree.specs.declared.region.Region.{Region as Span}
+use Rattle.ub_tree.specs.declared.fault.TreeFault.{TreeFault}
+use Rattle.ub_tree.specs.declared.fault.TreeFault.TheVariants.{Full, Page, Store, Failed as HasFailed, Memory}
+
+-- nothing but the trace and the count of fetches has changed
+abbrev pub IsTraced : TreeView → TreeView → Type 0
+IsTraced old new = new ≡ record old { trace = new.trace; fetches = new.fetches }
+
+retraced : (t : TreeView) (trace : List ℕ) (fetches : ℕ) → IsSound t → IsSound (record t { trace = trace; fetches = fetches })
+retraced t trace fetches h = record {
+  working = h.working;
+  honest = h.honest;
+  regions_are = h.regions_are;
+  placed_are = h.placed_are;
+  rows_are = h.rows_are;
+  some_next = h.some_next;
+  last_next = h.last_next;
+  few = h.few;
+  closed = h.closed;
+  marked = h.marked;
+}
+
+pub traced_sound : (old new : TreeView) → IsTraced old new → IsSound old → IsSound new
+traced_sound old new is sound = subst IsSound (sym is) (retraced old new.trace new.fetches sound)
+
+pub traced_regions : (old new : TreeView) → IsTraced old new → KeepsRegions old new
+traced_regions old new is = subst (λ (t : TreeView). KeepsRegions old t) (sym is) (record { schema = refl; placed = refl; rows = refl; next = refl })
+
+pub traced_spans : (old new : TreeView) → IsTraced old new → spans_of new ≡ spans_of old
+traced_spans old new is = ap spans_of is
+
+-- where the trace begins anew, and where nothing has changed
+pub begun_traced : (old new : TreeView) → new ≡ record old { trace = [] } → IsTraced old new
+begun_traced old new is = is ∙ ap (λ (t : TreeView). record old { trace = t.trace; fetches = t.fetches }) (sym is)
+
+pub same_traced : (old new : TreeView) → new ≡ old → IsTraced old new
+same_traced old new is = is ∙ ap (λ (t : TreeView). record old { trace = t.trace; fetches = t.fetches }) (sym is)
+
+pub traced_then : (a b c : TreeView) → IsTraced a b → IsTraced b c → IsTraced a c
+traced_then a b c h k = k ∙ ap (λ (t : TreeView). record t { trace = c.trace; fetches = c.fetches }) h
+
+-- a call's fault, seen from before an earlier call that only read
+pub read_fault_before : (a b : TreeView) (fault : TreeFault) → IsTraced a b → IsReadFault b fault → IsReadFault a fault
+read_fault_before a b Full h is = is
+read_fault_before a b HasFailed h is = subst (λ (t : TreeView). IsTrue t.is_failed) h is
+read_fault_before a b Memory h is = tt
+read_fault_before a b (Page page of_page) h is = ((λ sound. is.0 (traced_sound a b h sound)), subst (λ (t : TreeView). IsPageRefused t page of_page) h is.1)
+read_fault_before a b (Store store.Device) h is = subst (λ (t : TreeView). IsTrue t.store.can_fail) h is
+read_fault_before a b (Store store.NoPage) h is = ((λ sound. is.0 (traced_sound a b h sound)), subst (λ (t : TreeView). IsPageMissing t) h is.1)
+read_fault_before a b (Store store.Memory) h is = is
+read_fault_before a b (Store store.BadSize) h is = is
+
+pub sweep_fault_before : (failed : Bool) (a b : TreeView) (fault : SweepFault) → IsTraced a b → IsSweepFault failed b fault → IsSweepFault failed a fault
+sweep_fault_before failed a b sweep.Memory h is = tt
+sweep_fault_before failed a b (sweep.Tree fault) h is = (read_fault_before a b fault h is.0, is.1)
+sweep_fault_before failed a b sweep.Failed h is = is
+
+-- ---- calls that only search
+
+pub memory_searched : {T : Type 0} (r : Result T SweepFault) (a b : TreeView) → IsErrAnd r (λ x. x ≡ sweep.Memory) → b ≡ a → Searches a b r
+memory_searched (Ok x) a b is same = absurd is
+memory_searched (Err f) a b is same = rw is (record { same = same; faults = tt })
+
+pub tree_searched : {T : Type 0} (r : Result T SweepFault) (e : TreeFault) (a b c : TreeView) → IsErrAnd r (λ x. x ≡ fault_of_tree e) → b ≡ a
+    → c ≡ record b { store = record b.store { failed_reads = raised_by e b.store.failed_reads } } → IsReadFault b e → Searches a c r
+tree_searched (Ok x) e a b c is before same fault = absurd is
+tree_searched (Err f) Memory a b c is before same fault = rw is (record { same = same ∙ before; faults = tt })
+tree_searched (Err f) Full a b c is before same fault = absurd fault
+tree_searched (Err f) HasFailed a b c is before same fault =
+    rw is (record { same = same ∙ before; faults = (subst (λ (t : TreeView). IsReadFault t HasFailed) before fault, λ e. cc) })
+tree_searched (Err f) (Page page of_page) a b c is before same fault =
+    rw is (record { same = same ∙ before; faults = (subst (λ (t : TreeView). IsReadFault t (Page page of_page)) before fault, λ e. cc) })
+tree_searched (Err f) (Store of_store) a b c is before same fault =
+    rw is (record {
+      same = same ∙ ap (λ (t : TreeView). record t { store = record t.store { failed_reads = raised_by (Store of_store) t.store.failed_reads } }) before;
+      faults = (subst (λ (t : TreeView). IsReadFault t (Store of_store)) before fault, λ e. cc);
+    })
+
+-- ---- calls that fetch a region
+
+span_fault_before : (span : Span) (a b : TreeView) (fault : TreeFault) → IsTraced a b → IsSpanFault span b fault → IsSpanFault span a fault
+span_fault_before span a b Full h is = is
+span_fault_before span a b HasFailed h is = subst (λ (t : TreeView). IsSpanFault span t HasFailed) h is
+span_fault_before span a b Memory h is = tt
+span_fault_before span a b (Page page of_page) h is = subst (λ (t : TreeView). IsSpanFault span t (Page page of_page)) h is
+span_fault_before span a b (Store store.Device) h is = subst (λ (t : TreeView). IsSpanFault span t (Store store.Device)) h is
+span_fault_before span a b (Store store.NoPage) h is = subst (λ (t : TreeView). IsSpanFault span t (Store store.NoPage)) h is
+span_fault_before span a b (Store store.Memory) h is = is
+span_fault_before span a b (Store store.BadSize) h is = is
+
+-- the page of a region may have been noted
+noted_as : (old new : TreeView) (page : ℕ) → KeepsTrace old new ⊎ HasNoted page old new
+    → (noted : List ℕ) × (new.trace ≡ old.trace ++ noted) × (new.fetches ≡ fetches_then old.fetches (length noted))
+noted_as old new page (inl kept) = ([], kept.0 ∙ sym (append-nil old.trace), kept.1)
+noted_as old new page (inr noted) = (page ∷ [], noted.0, noted.1)
+
+-- the next region awaited was come to, and nothing is known yet of the result but what it leaves of the store
+module _ {T : Type 0} (r : Result T SweepFault) (s new_s : SweepView) (a : AwaitedRegion) (old new : TreeView) (one : s.awaited ≡ a ∷ new_s.awaited)
+    (same : new ≡ record old { store = read_store r old.store; trace = new.trace; fetches = new.fetches }) (noted : KeepsTrace old new ⊎ HasNoted a.region.page old new) where
+  pub its_region : AreItsRegions old s → Contains (spans_of old) a.region
+  its_region all = (subst (λ (those : List AwaitedRegion). AllByRecursion (λ b. Contains (spans_of old) b.region) those) one all).0
+
+  pub swept_one : IfErr r (IsAwaitedFault s old) → (AreItsRegions old s → IfErr r (IsSweepFault s.is_failed old)) → Sweeps s new_s old new r
+  swept_one refused faults =
+      let (pages, trace, fetches) = noted_as old new a.region.page noted in
+      record {
+        noted = pages;
+        same = same ∙ ap (λ (pages : List ℕ). record old { store = read_store r old.store; trace = pages; fetches = new.fetches }) trace
+            ∙ ap (λ (count : ℕ). record old { store = read_store r old.store; trace = old.trace ++ pages; fetches = count }) fetches;
+        left = (a ∷ [], one);
+        refused = refused;
+        faults = faults;
+        regions = λ all.
+            subst (λ (spans : List Span). AllByRecursion (λ b. Contains spans b.region) new_s.awaited) (sym (ap spans_of same))
+            (subst (λ (those : List AwaitedRegion). AllByRecursion (λ b. Contains (spans_of old) b.region) those) one all).1;
+      }
+
+-- the region was read
+pub read_swept : {T : Type 0} (x : T) (s new_s : SweepView) (a : AwaitedRegion) (old new : TreeView) → s.awaited ≡ a ∷ new_s.awaited
+    → new ≡ record old { trace = new.trace; fetches = new.fetches } → HasNoted a.region.page old new → Sweeps s new_s old new (Ok x)
+read_swept x s new_s a old new one same noted = swept_one (Ok x) s new_s a old new one same (inr noted) tt (λ all. tt)
+
+-- and then memory was refused
+pub memory_swept : {T : Type 0} (r : Result T SweepFault) (s new_s : SweepView) (a : AwaitedRegion) (old new : TreeView) → IsErrAnd r (λ x. x ≡ sweep.Memory) → s.awaited ≡ a ∷ new_s.awaited
+    → new ≡ record old { trace = new.trace; fetches = new.fetches } → HasNoted a.region.page old new → Sweeps s new_s old new r
+memory_swept (Ok x) s new_s a old new is one same noted = absurd is
+memory_swept (Err f) s new_s a old new is one same noted = rw is (swept_one (Err sweep.Memory) s new_s a old new one same (inr noted) tt (λ all. tt))
+
+either_noted : {A : Type 0} (result : Result A TreeFault) (old new : TreeView) (page : ℕ) → (KeepsTrace old new × ((result ≡ Err HasFailed) ⊎ (result ≡ Err Memory))) ⊎ HasNoted page old new
+    → KeepsTrace old new ⊎ HasNoted page old new
+either_noted result old new page (inl kept) = inl kept.0
+either_noted result old new page (inr noted) = inr noted
+
+first_awaited : (s new_s : SweepView) (a : AwaitedRegion) → s.awaited ≡ a ∷ new_s.awaited → Contains s.awaited a
+first_awaited s new_s a one = subst (λ (those : List AwaitedRegion). Contains those a) (sym one) (contains_here a new_s.awaited)
+
+-- the tree refused it
+module _ {T : Type 0} (s new_s : SweepView) (a : AwaitedRegion) (old new : TreeView) (one : s.awaited ≡ a ∷ new_s.awaited) (noted : KeepsTrace old new ⊎ HasNoted a.region.page old new) where
+  refused_by : (r : Result T SweepFault) (e : TreeFault) → IsErrAnd r (λ x. x ≡ fault_of_tree e)
+      → new ≡ record old { store = record old.store { failed_reads = raised_by e old.store.failed_reads }; trace = new.trace; fetches = new.fetches }
+      → IsSpanFault a.region old e → (Contains (spans_of old) a.region → IsReadFault old e) → Sweeps s new_s old new r
+  refused_by (Ok x) e is same refused faults = absurd is
+  refused_by (Err f) Memory is same refused faults = rw is (swept_one (Err sweep.Memory) s new_s a old new one same noted tt (λ all. tt))
+  refused_by (Err f) Full is same refused faults = absurd refused
+  refused_by (Err f) HasFailed is same refused faults =
+      rw is (swept_one (Err (sweep.Tree HasFailed)) s new_s a old new one same noted ((a, first_awaited s new_s a one, refused), λ x. cc)
+      (λ all. (faults (its_region {T = T} (Err (sweep.Tree HasFailed)) s new_s a old new one same noted all), λ x. cc)))
+  refused_by (Err f) (Page page of_page) is same refused faults =
+      rw is (swept_one (Err (sweep.Tree (Page page of_page))) s new_s a old new one same noted ((a, first_awaited s new_s a one, refused), λ x. cc)
+      (λ all. (faults (its_region {T = T} (Err (sweep.Tree (Page page of_page))) s new_s a old new one same noted all), λ x. cc)))
+  refused_by (Err f) (Store of_store) is same refused faults =
+      rw is (swept_one (Err (sweep.Tree (Store of_store))) s new_s a old new one same noted ((a, first_awaited s new_s a one, refused), λ x. cc)
+      (λ all. (faults (its_region {T = T} (Err (sweep.Tree (Store of_store))) s new_s a old new one same noted all), λ x. cc)))
+
+pub tree_swept : {T A : Type 0} (r : Result T SweepFault) (e : TreeFault) (s new_s : SweepView) (a : AwaitedRegion) (old new : TreeView) → IsErrAnd r (λ x. x ≡ fault_of_tree e)
+    → s.awaited ≡ a ∷ new_s.awaited → ReadsRegion {A = A} a.region old new (Err e) → Sweeps s new_s old new r
+tree_swept {A = A} r e s new_s a old new is one reads =
+    refused_by s new_s a old new one (either_noted {A = A} (Err e) old new a.region.page reads.noted) r e is reads.same reads.refused reads.faults
+
+-- ---- one call after the other
+
+-- nothing was read yet
+pub Sweeps-none : {T : Type 0} (x : T) (s : SweepView) (t : TreeView) → Sweeps s s t t (Ok x)
+Sweeps-none x s t = record {
+  noted = [];
+  same = ap (λ (pages : List ℕ). record t { trace = pages }) (sym (append-nil t.trace));
+  left = ([], refl);
+  refused = tt;
+  faults = λ all. tt;
+  regions = λ all. all;
+}
+
+awaited_fault_before : (a b : SweepView) (t m : TreeView) (fault : SweepFault) → IsTraced t m → a.is_failed ≡ b.is_failed
+    → ((x : AwaitedRegion) → Contains b.awaited x → Contains a.awaited x) → IsAwaitedFault b m fault → IsAwaitedFault a t fault
+awaited_fault_before a b t m sweep.Memory h failed among is = tt
+awaited_fault_before a b t m (sweep.Tree fault) h failed among is = ((is.0.0, among is.0.0 is.0.1, span_fault_before is.0.0.region t m fault h is.0.2), is.1)
+awaited_fault_before a b t m sweep.Failed h failed among is = subst (λ (x : Bool). IsTrue x) (sym failed) is
+
+pub swept_traced : {T : Type 0} (x : T) (a b : SweepView) (t m : TreeView) → Sweeps a b t m (Ok x) → IsTraced t m
+swept_traced x a b t m swept = swept.same ∙ ap (λ (n : TreeView). record t { trace = n.trace; fetches = n.fetches }) (sym swept.same)
+
+fetched_then : (fetches n m : ℕ) → fetches_then (fetches_then fetches n) m ≡ fetches_then fetches (n + m)
+fetched_then fetches zero m = let e : 0 + m ≡ m = omega arith in ap (fetches_then fetches) (sym e)
+fetched_then fetches (suc n) zero = let e : suc n + 0 ≡ suc n = omega arith in ap (fetches_then fetches) (sym e)
+fetched_then fetches (suc n) (suc m) = let e : suc n + suc m ≡ suc (n + suc m) = omega arith in fetched_more fetches n m ∙ ap (fetches_then fetches) (sym e)
+  where
+    fetched_more : (fetches n m : ℕ) → raised (raised fetches (suc n)) (suc m) ≡ raised fetches (suc (n + suc m))
+    fetched_more fetches n m = omega arith
+
+pub sweeps_then : {T U : Type 0} (x : T) (r : Result U SweepFault) (a b c : SweepView) (t m n : TreeView) → a.is_failed ≡ b.is_failed
+    → Sweeps a b t m (Ok x) → Sweeps b c m n r → Sweeps a c t n r
+sweeps_then x r a b c t m n failed first second =
+    let traced = swept_traced x a b t m first in
+    record {
+      noted = first.noted ++ second.noted;
+      same = second.same
+          ∙ ap (λ (v : TreeView). record v { store = read_store r v.store; trace = v.trace ++ second.noted; fetches = fetches_then v.fetches (length second.noted) }) first.same
+          ∙ ap (λ (pages : List ℕ). record t { store = read_store r t.store; trace = pages; fetches = fetches_then (fetches_then t.fetches (length first.noted)) (length second.noted) })
+          (append_assoc t.trace first.noted second.noted)
+          ∙ ap (λ (count : ℕ). record t { store = read_store r t.store; trace = t.trace ++ (first.noted ++ second.noted); fetches = count })
+          (fetched_then t.fetches (length first.noted) (length second.noted) ∙ ap (fetches_then t.fetches) (sym (length-append first.noted second.noted)));
+      left = (
+        first.left.0 ++ second.left.0,
+        first.left.1 ∙ ap (λ (those : List AwaitedRegion). first.left.0 ++ those) second.left.1 ∙ sym (append_assoc first.left.0 second.left.0 c.awaited),
+      );
+      refused = refused r traced second.refused;
+      faults = λ all. faults r traced (second.faults (first.regions all));
+      regions = λ all. second.regions (first.regions all);
+    }
+  where
+    among : (y : AwaitedRegion) → Contains b.awaited y → Contains a.awaited y
+    among y here = subst (λ (those : List AwaitedRegion). Contains those y) (sym first.left.1) (Contains-append_right first.left.0 b.awaited y here)
+
+    refused : {U : Type 0} (r : Result U SweepFault) → IsTraced t m → IfErr r (IsAwaitedFault b m) → IfErr r (IsAwaitedFault a t)
+    refused (Ok x) traced is = tt
+    refused (Err e) traced is = awaited_fault_before a b t m e traced failed among is
+
+    faults : {U : Type 0} (r : Result U SweepFault) → IsTraced t m → IfErr r (IsSweepFault b.is_failed m) → IfErr r (IsSweepFault a.is_failed t)
+    faults (Ok x) traced is = tt
+    faults (Err e) traced is = subst (λ (x : Bool). IsSweepFault x t e) (sym failed) (sweep_fault_before b.is_failed t m e traced is)
+
+-- the fault of a call handed on
+pub swept_by : {T U : Type 0} (r : Result T SweepFault) (e : SweepFault) (a b : SweepView) (t n : TreeView) → IsErrAnd r (λ x. x ≡ e) → Sweeps {A = U} a b t n (Err e) → Sweeps a b t n r
+swept_by (Ok x) e a b t n is swept = absurd is
+swept_by (Err f) e a b t n is swept =
+    rw is (record { noted = swept.noted; same = swept.same; left = swept.left; refused = swept.refused; faults = swept.faults; regions = swept.regions })

@@ -1,0 +1,55 @@
+-- The region at a sweep's place is fetched.
+use Rattle.std.proofs.Common.{◌≡◌, ◌<◌, ◌+◌, ◌∙◌, ◌∷◌, ℕ, zero, suc, true, List, [], Option, Some, Contains, drop, length, slice_get, slice_index_or, sym, ap, subst, arith}
+use Rattle.ub_query.specs.Shape.{Asked}
+use Rattle.ub_table.specs.Region.{Region}
+use Rattle.ub_table.specs.declared.row.Row.{Row}
+use Rattle.ub_table.specs.declared.schema.Schema.{Schema}
+use Rattle.ub_tetris.specs.declared.event.Awaited.{Awaited}
+use Rattle.ub_tetris.specs.declared.state.State.{State}
+use Rattle.ub_tetris.specs.inner.Turns.{HasFetchedNext, HoldsAlso, IsDue, awaited_of, is_due_by}
+use Rattle.ub_tree.specs.Calls.{StandsAt}
+use Rattle.ub_tree.specs.Effects.{HasNoted}
+use Rattle.ub_tree.specs.View.{TreeView, IsSound, spans_of}
+
+pub next_at : (queue : List Awaited) (k : ℕ) (x : Awaited) → k < length queue → x ≡ slice_index_or queue k x → slice_get queue k ≡ Some x
+next_at [] k x within is = absurd (omega arith)
+next_at (y ∷ queue) zero x within is = ap Some (sym is)
+next_at (y ∷ queue) (suc k) x within is = next_at queue k x (omega arith) is
+
+-- those awaited are the region at the place, and those after it
+pub next_awaited : (queue : List Awaited) (k n : ℕ) (x : Awaited) → n ≡ k + 1 → slice_get queue k ≡ Some x
+    → awaited_of (drop k queue) ≡ record { value = x.value; region = x.region } ∷ awaited_of (drop n queue)
+next_awaited [] k n x next at = cc
+next_awaited (y ∷ queue) zero n x next at =
+    let same : y ≡ x = cc in
+    let one : n ≡ 1 = omega arith in
+    ap (λ (z : Awaited). record { value = z.value; region = z.region } ∷ awaited_of (drop 0 queue)) same ∙ ap (λ (m : ℕ). record { value = x.value; region = x.region } ∷ awaited_of (drop m (y ∷ queue))) (sym one)
+next_awaited (y ∷ queue) (suc k) zero x next at = absurd (omega arith)
+next_awaited (y ∷ queue) (suc k) (suc n) x next at = next_awaited queue k n x (omega arith) at
+
+-- a region is due only where one is awaited
+pub due_within : (s : State) → IsDue s true → s.fetched < length s.queue.items
+due_within s (first, first_is, due) = within s.queue.items s.fetched first due
+  where
+    within : (queue : List Awaited) (k : ℕ) (first : Option Row) → true ≡ is_due_by s.course (slice_get queue k) first → k < length queue
+    within [] k first due = cc
+    within (y ∷ queue) zero first due = omega arith
+    within (y ∷ queue) (suc k) first due = let more = within queue k first due in omega arith
+
+pub has_fetched : (q : Asked) (t new : TreeView) (s new_s : State) (x : Awaited) (region : Region) (schema : Schema) (rows : List Row) → slice_get s.queue.items s.fetched ≡ Some x
+    → HasNoted x.region.page t new → (IsSound t → Contains (spans_of t) x.region → StandsAt t.placed x.region.page region) → region.first ≡ x.region.first
+    → schema ≡ t.schema → rows ≡ region.rows → HoldsAlso schema q rows s.held new_s.held → HasFetchedNext q t new s new_s
+has_fetched q t new s new_s x region schema rows at noted stands first of_tree of_region holds = record {
+  next = x;
+  at = at;
+  noted = noted;
+  rows = λ sound there.
+      let (p, in_tree, page, is) = stands sound there in (
+        p,
+        in_tree,
+        page,
+        ap (λ (r : Region). r.first) is ∙ first,
+        subst (λ (rs : List Row). HoldsAlso t.schema q rs s.held new_s.held) (of_region ∙ ap (λ (r : Region). r.rows) (sym is))
+            (subst (λ (x : Schema). HoldsAlso x q rows s.held new_s.held) of_tree holds),
+      );
+}

@@ -1,0 +1,438 @@
+-- What the steps of a sweep do, as lists alone: it begins, fetches a region, gives a row, and ends.
+use Rattle.std.specs.Prelude.{IfSome}
+use Rattle.std.proofs.Common.{◌≡◌, ◌≤◌, ◌<◌, ◌==◌, ℕ, List, [], ◌∷◌, ◌++◌, Bool, true, false, cond, not, if◌then◌else◌, Option, Some, None, length, map, filter, take, slice_index, Contains, IsPermutation, inl, inr, refl, sym, ap, ◌∙◌, append_assoc, subst, arith}
+use Rattle.std.proofs.lemmas.Bool.{cases_Bool, eq-eqb, eqb-true, lt-ltb, ltb-true, true≢false}
+use Rattle.std.proofs.lemmas.Grind.{flat_map-append}
+use Rattle.std.proofs.lemmas.List.{append-nil, length-map, map-append, take_all}
+use Rattle.std.proofs.lemmas.List.Elements.{All-contains, All-nil, All-tail, Contains-append_cases, Contains-append_left, Contains-append_right, filter-append}
+use Rattle.std.proofs.lemmas.List.Sorted.{Contains-permutation, IsPermutation-append_left, IsPermutation-append_right, IsPermutation-pop_more, IsPermutation-refl, IsPermutation-sym, IsPermutation-trans, sum_by-IsPermutation}
+use Rattle.std.proofs.lemmas.List.Sums.{sum_by-append}
+use Rattle.std.proofs.Math.Seq.{take-append_seam}
+use Rattle.std.specs.List.{All, sum_by}
+use Rattle.ub_plan.proofs.ThoseFacts.{filter_none}
+use Rattle.ub_plan.proofs.SweepFacts.{arranged_of}
+use Rattle.ub_plan.proofs.VisitFacts.{Differ}
+use Rattle.ub_plan.specs.Plan.{PlanView}
+use Rattle.ub_plan.specs.Visits.{AreArranged, AreEvents, AreSweepVisits, Event, IsAlong, coordinates, is_filled, is_past, last_of, reached, selected_rows}
+use Rattle.ub_query.proofs.Arranging.{Rising, Rising-from_adjacent, all_at, contains_cases, contains_here, contains_later, contains_none}
+use Rattle.ub_query.proofs.GroupFacts.{contains_filter, contains_from_filter}
+use Rattle.ub_query.specs.Cells.{row_cell}
+use Rattle.ub_query.specs.Groups.{is_selected, selected}
+use Rattle.ub_query.specs.Meaning.{IsMeaning, limited}
+use Rattle.ub_query.specs.Order.{IsRowBefore}
+use Rattle.ub_region.specs.Regions.{AreTableRows, rows_of}
+use Rattle.ub_table.specs.Region.{Region}
+use Rattle.ub_table.specs.declared.row.Row.{Row}
+use Rattle.ub_table.specs.declared.schema.Schema.{Schema}
+use Rattle.ub_tetris.proofs.AlongFacts.{IsUpTo, along_before, along_up_to, led_asks, led_is_plain, led_plan, up_to_chain, values_rise}
+use Rattle.ub_tetris.proofs.ArrangeFacts.{all_of, least_first, rising_apart, rising_right, rising_two, some_weight, weight_there}
+use Rattle.ub_tetris.proofs.NumberFacts.{asked-chain, asked-never, selected_differ, selected_of_table}
+use Rattle.ub_tetris.proofs.ReachFacts.{event_rows, fetched_weigh, from_fetched, in_fetched, row_in_event, row_is_past}
+use Rattle.ub_tetris.specs.Machine.{IsRowAlong, IsUnderWay, regions_at}
+pub use Rattle.ub_tetris.proofs.ReachFacts.{IsSweepOver}
+
+-- a row's coordinate lies before the value of the next event, if there is one
+abbrev pub IsBeforeNext : ℕ → Bool → Row → List Event → Type 0
+IsBeforeNext dim is_descending row [] = Unit {0}
+IsBeforeNext dim is_descending row (event ∷ events) = IsRowAlong dim is_descending row event.value
+
+-- a row was the next one to be given, and was given: no region was fetched whose event value is past it
+pub record Gives (schema : Schema) (plan : PlanView) (dim : ℕ) (is_descending : Bool) (regions : List Region) (held_then given rest : List Row) (fetched unread : List Event) (row : Row) : Type 0 where
+  pub more : List Row
+  pub next : rest ≡ row ∷ more
+  pub under_way : IsUnderWay schema plan dim is_descending regions held_then (given ++ row ∷ []) more fetched unread
+  pub reached : All (λ event. ¬ IsRowAlong dim is_descending row event.value) fetched
+
+-- a sweep begins: nothing is held or given, and no region fetched
+pub begins : (schema : Schema) (plan : PlanView) (dim : ℕ) (is_descending : Bool) (next : ℕ) (regions : List Region) (events : List Event)
+    → IsSweepOver schema plan dim is_descending next regions → AreEvents schema plan.covering.boxes dim is_descending regions events
+    → (rest : List Row) × IsUnderWay schema plan dim is_descending regions [] [] rest [] events
+begins schema plan dim is_descending next regions events over are =
+    let (rest, arranged) = arranged_of schema plan next regions over.are in (
+      rest,
+      record {
+        events = are;
+        rows = arranged;
+        held_are = IsPermutation-refl [];
+        held_past = All-nil (λ event. All (λ row. ¬ (IsRowAlong dim is_descending row event.value)) []);
+        given_before = all_of (λ event. All (λ row. IsRowAlong dim is_descending row event.value) []) events (λ event there. All-nil (λ row. IsRowAlong dim is_descending row event.value));
+      },
+    )
+
+selected_append : (schema : Schema) (plan : PlanView) (xs ys : List Event)
+    → selected_rows schema plan (regions_at (xs ++ ys)) ≡ selected_rows schema plan (regions_at xs) ++ selected_rows schema plan (regions_at ys)
+selected_append schema plan xs ys =
+    ap (λ (regions : List Region). selected_rows schema plan regions) (map-append (λ (event : Event). event.span.region) xs ys)
+    ∙ ap (λ (rows : List Row). filter (is_selected schema plan.asked.filter) rows) (flat_map-append (λ (region : Region). region.rows) (regions_at xs) (regions_at ys))
+    ∙ filter-append (is_selected schema plan.asked.filter) (rows_of (regions_at xs)) (rows_of (regions_at ys))
+
+fetched_are : (schema : Schema) (plan : PlanView) (held held_then given : List Row) (fetched : List Event) (event : Event)
+    → IsPermutation (selected_rows schema plan (regions_at fetched)) (given ++ held)
+    → IsPermutation (held ++ filter (is_selected schema plan.asked.filter) event.span.region.rows) held_then
+    → IsPermutation (selected_rows schema plan (regions_at (fetched ++ event ∷ []))) (given ++ held_then)
+fetched_are schema plan held held_then given fetched event are same =
+    let new = filter (is_selected schema plan.asked.filter) event.span.region.rows in
+    let parts : selected_rows schema plan (regions_at (fetched ++ event ∷ [])) ≡ selected_rows schema plan (regions_at fetched) ++ new =
+    selected_append schema plan fetched (event ∷ [])
+    ∙ ap (λ (rows : List Row). selected_rows schema plan (regions_at fetched) ++ filter (is_selected schema plan.asked.filter) rows) (append-nil event.span.region.rows) in
+    subst (λ (rows : List Row). IsPermutation rows (given ++ held_then)) (sym parts)
+    (IsPermutation-trans (selected_rows schema plan (regions_at fetched) ++ new) ((given ++ held) ++ new) (given ++ held_then)
+    (IsPermutation-append_left new (selected_rows schema plan (regions_at fetched)) (given ++ held) are)
+    (subst (λ (rows : List Row). IsPermutation rows (given ++ held_then)) (sym (append_assoc given held new)) (IsPermutation-append_right given (held ++ new) held_then same)))
+
+-- what a list of one element contains
+only_one : {E : Type 0} (x y : E) → Contains (x ∷ []) y → (P : E → Type 0) → P x → P y
+only_one x y there P is = elim (contains_cases x [] y there) [
+  | inl same ↦ subst (λ (z : _). P z) same is
+  | inr none ↦ absurd (contains_none y none)
+]
+
+-- it fetches the next region, where no held row lies before its event value, and then holds the region's selected rows too
+pub fetches : (schema : Schema) (plan : PlanView) (dim : ℕ) (is_descending : Bool) (next : ℕ) (regions : List Region) (held held_then given rest : List Row) (fetched : List Event) (event : Event) (unread : List Event)
+    → IsSweepOver schema plan dim is_descending next regions
+    → IsUnderWay schema plan dim is_descending regions held given rest fetched (event ∷ unread)
+    → All (λ row. ¬ IsRowAlong dim is_descending row event.value) held
+    → IsPermutation (held ++ filter (is_selected schema plan.asked.filter) event.span.region.rows) held_then
+    → IsUnderWay schema plan dim is_descending regions held_then given rest (fetched ++ event ∷ []) unread
+fetches schema plan dim is_descending next regions held held_then given rest fetched event unread over under past same =
+    let up : Rising (λ a b. IsUpTo is_descending a.value b.value) (fetched ++ event ∷ unread) = values_rise is_descending (fetched ++ event ∷ unread) under.events.ordered in
+    let here : Contains (fetched ++ event ∷ unread) event = Contains-append_right fetched (event ∷ unread) event (contains_here event unread) in
+    record {
+      events = subst (λ (events : List Event). AreEvents schema plan.covering.boxes dim is_descending regions events) (sym (append_assoc fetched (event ∷ []) unread)) under.events;
+      rows = under.rows;
+      held_are = fetched_are schema plan held held_then given fetched event under.held_are same;
+      held_past = all_of (λ e. All (λ row. ¬ (IsRowAlong dim is_descending row e.value)) held_then) (fetched ++ event ∷ [])
+          (λ e there. all_of (λ row. ¬ (IsRowAlong dim is_descending row e.value)) held_then
+          (λ row c. elim (Contains-append_cases held (filter (is_selected schema plan.asked.filter) event.span.region.rows) row
+          (Contains-permutation held_then (held ++ filter (is_selected schema plan.asked.filter) event.span.region.rows) row (IsPermutation-sym (held ++ filter (is_selected schema plan.asked.filter) event.span.region.rows) held_then same) c)) [
+            | inl old ↦ elim (Contains-append_cases fetched (event ∷ []) e there) [
+              | inl before ↦ All-contains (λ row. ¬ (IsRowAlong dim is_descending row e.value)) held row (All-contains (λ e. All (λ row. ¬ (IsRowAlong dim is_descending row e.value)) held) fetched e under.held_past before) old
+              | inr last ↦ only_one event e last (λ x. ¬ (IsRowAlong dim is_descending row x.value)) (All-contains (λ row. ¬ (IsRowAlong dim is_descending row event.value)) held row past old)
+            ]
+            | inr new ↦
+                let from = contains_from_filter (is_selected schema plan.asked.filter) event.span.region.rows row new in
+                let after : IsUpTo is_descending event.value (slice_index row.dims dim) =
+                row_is_past schema plan dim is_descending next regions (fetched ++ event ∷ unread) event row over under.events here from.0 from.1 in
+                elim (Contains-append_cases fetched (event ∷ []) e there) [
+                  | inl before ↦ up_to_chain is_descending e.value event.value (slice_index row.dims dim)
+                      (rising_apart (λ a b. IsUpTo is_descending a.value b.value) fetched (event ∷ unread) e event up before (contains_here event unread)) after
+                  | inr last ↦ only_one event e last (λ x. ¬ (IsRowAlong dim is_descending row x.value)) after
+                ]
+          ]));
+      given_before = All-tail (λ e. All (λ row. IsRowAlong dim is_descending row e.value) given) event unread under.given_before;
+    }
+
+-- a row that lies before the next event value lies before all that follow
+before_all : (dim : ℕ) (is_descending : Bool) (row : Row) (unread : List Event) → IsBeforeNext dim is_descending row unread → Rising (λ a b. IsUpTo is_descending a.value b.value) unread
+    → (event : Event) → Contains unread event → IsRowAlong dim is_descending row event.value
+before_all dim is_descending row [] before up event there = absurd (contains_none event there)
+before_all dim is_descending row (first ∷ unread) before up event there = elim (contains_cases first unread event there) [
+  | inl same ↦ subst (λ (e : Event). IsRowAlong dim is_descending row e.value) same before
+  | inr later ↦ along_up_to is_descending (slice_index row.dims dim) first.value event.value before (all_at (λ e. IsUpTo is_descending first.value e.value) unread event up.0 later)
+]
+
+-- a held row is one of the rows still to be given: it weighs there what it weighs among the held ones
+one_if : ℕ → Row → ℕ
+one_if number row = cond (row.number == number) 1 0
+
+one_if_same : (row : Row) → one_if row.number row ≡ 1
+unfolding one_if
+one_if_same row = rw (eq-eqb row.number row.number refl) refl
+
+same_if_one : (number : ℕ) (row : Row) → 1 ≤ one_if number row → row.number ≡ number
+unfolding one_if
+same_if_one number row h = elim (cases_Bool (row.number == number)) [
+  | inl t ↦ eqb-true row.number number t
+  | inr f ↦ let none : 1 ≤ 0 = rw f at h in absurd (omega arith)
+]
+
+held_weigh : (schema : Schema) (plan : PlanView) (dim : ℕ) (is_descending : Bool) (regions : List Region) (held given rest : List Row) (fetched unread : List Event) (weight : Row → ℕ)
+    → IsUnderWay schema plan dim is_descending regions held given rest fetched unread → sum_by weight held ≤ sum_by weight rest
+held_weigh schema plan dim is_descending regions held given rest fetched unread weight under =
+    let most = fetched_weigh schema plan dim is_descending regions fetched unread weight under.events in
+    let left = sum_by-IsPermutation weight (selected_rows schema plan (regions_at fetched)) (given ++ held) under.held_are in
+    let right = sum_by-IsPermutation weight (selected_rows schema plan regions) (given ++ rest) under.rows.same in
+    let left_parts = sum_by-append weight given held in
+    let right_parts = sum_by-append weight given rest in
+    omega (arith, most, left, right, left_parts, right_parts)
+
+same_row : (rows : List Row) (a b : Row) → Rising (λ a b. Differ a b) rows → Contains rows a → Contains rows b → a.number ≡ b.number → a ≡ b
+same_row rows a b up left right same = elim (rising_two (λ a b. Differ a b) rows a b up left right) [
+  | inl is ↦ is
+  | inr (inl (inl lt)) ↦ absurd (omega arith)
+  | inr (inl (inr lt)) ↦ absurd (omega arith)
+  | inr (inr (inl lt)) ↦ absurd (omega arith)
+  | inr (inr (inr lt)) ↦ absurd (omega arith)
+]
+
+-- the held rows and those still to be given are selected rows
+held_selected : (schema : Schema) (plan : PlanView) (dim : ℕ) (is_descending : Bool) (regions : List Region) (held given rest : List Row) (fetched unread : List Event) (row : Row)
+    → IsUnderWay schema plan dim is_descending regions held given rest fetched unread → Contains held row → Contains (selected_rows schema plan regions) row
+held_selected schema plan dim is_descending regions held given rest fetched unread row under here =
+    let (event, there, has, t) = from_fetched schema plan fetched row
+    (Contains-permutation (given ++ held) (selected_rows schema plan (regions_at fetched)) row
+    (IsPermutation-sym (selected_rows schema plan (regions_at fetched)) (given ++ held) under.held_are) (Contains-append_right given held row here)) in
+    contains_filter (is_selected schema plan.asked.filter) (rows_of regions) row
+    (event_rows schema plan.covering.boxes dim is_descending regions (fetched ++ unread) event row under.events (Contains-append_left fetched unread event there) has) t
+
+rest_selected : (schema : Schema) (plan : PlanView) (dim : ℕ) (is_descending : Bool) (regions : List Region) (held given rest : List Row) (fetched unread : List Event) (row : Row)
+    → IsUnderWay schema plan dim is_descending regions held given rest fetched unread → Contains rest row → Contains (selected_rows schema plan regions) row
+rest_selected schema plan dim is_descending regions held given rest fetched unread row under there =
+    Contains-permutation (given ++ rest) (selected_rows schema plan regions) row (IsPermutation-sym (selected_rows schema plan regions) (given ++ rest) under.rows.same) (Contains-append_right given rest row there)
+
+held_in_rest : (schema : Schema) (plan : PlanView) (dim : ℕ) (is_descending : Bool) (next : ℕ) (regions : List Region) (held given rest : List Row) (fetched unread : List Event) (row : Row)
+    → IsSweepOver schema plan dim is_descending next regions → IsUnderWay schema plan dim is_descending regions held given rest fetched unread → Contains held row → Contains rest row
+held_in_rest schema plan dim is_descending next regions held given rest fetched unread row over under here =
+    let most = held_weigh schema plan dim is_descending regions held given rest fetched unread (one_if row.number) under in
+    let one = weight_there (one_if row.number) held row here in
+    let is = one_if_same row in
+    let (other, there, weighs) = some_weight (one_if row.number) rest (omega (arith, most, one, is)) in
+    let same : other ≡ row = same_row (selected_rows schema plan regions) other row (selected_differ schema plan next regions over.are)
+    (rest_selected schema plan dim is_descending regions held given rest fetched unread other under there)
+    (held_selected schema plan dim is_descending regions held given rest fetched unread row under here)
+    (same_if_one row.number other weighs) in
+    subst (λ (r : Row). Contains rest r) same there
+
+-- no row still to be given is before a held one that no held row is before and that lies before all unread event values
+none_before : (schema : Schema) (plan : PlanView) (dim : ℕ) (is_descending : Bool) (next : ℕ) (regions : List Region) (held held_then given rest : List Row) (fetched unread : List Event) (row : Row)
+    → IsSweepOver schema plan dim is_descending next regions
+    → IsUnderWay schema plan dim is_descending regions held given rest fetched unread
+    → IsPermutation held (row ∷ held_then)
+    → All (λ other. ¬ (IsRowBefore schema plan.asked.order other row)) held_then
+    → ((event : Event) → Contains unread event → IsRowAlong dim is_descending row event.value)
+    → Rising (IsRowBefore schema plan.asked.order) (given ++ rest)
+    → (other : Row) → Contains rest other → ¬ (IsRowBefore schema plan.asked.order other row)
+none_before schema plan dim is_descending next regions held held_then given rest fetched unread row over under same least before up other there bad =
+    let (event, is_event, has, t) = row_in_event schema plan dim is_descending next regions (fetched ++ unread) other over under.events
+    (rest_selected schema plan dim is_descending regions held given rest fetched unread other under there) in
+    elim (Contains-append_cases fetched unread event is_event) [
+      | inl was ↦ elim (Contains-append_cases given held other (Contains-permutation (selected_rows schema plan (regions_at fetched)) (given ++ held) other under.held_are (in_fetched schema plan fetched event other was has t))) [
+        | inl gone ↦ asked-never schema plan.asked.order other (rising_apart (IsRowBefore schema plan.asked.order) given rest other other up gone there)
+        | inr kept ↦ elim (contains_cases row held_then other (Contains-permutation held (row ∷ held_then) other same kept)) [
+          | inl is ↦ asked-never schema plan.asked.order row (subst (λ (r : Row). IsRowBefore schema plan.asked.order r row) (sym is) bad)
+          | inr late ↦ All-contains (λ other. ¬ (IsRowBefore schema plan.asked.order other row)) held_then other least late bad
+        ]
+      ]
+      | inr will ↦
+          let past : IsUpTo is_descending event.value (slice_index other.dims dim) =
+          row_is_past schema plan dim is_descending next regions (fetched ++ unread) event other over under.events is_event has t in
+          let first : IsRowBefore schema plan.asked.order row other =
+          along_before schema plan.asked dim is_descending row other (led_plan schema plan dim is_descending over.planned over.kind)
+          (along_up_to is_descending (slice_index row.dims dim) event.value (slice_index other.dims dim) (before event will) past) in
+          asked-never schema plan.asked.order row (asked-chain schema plan.asked.order row other row first bad)
+    ]
+
+-- it gives a held row that no held row is before, where it lies before the next event value
+pub gives : (schema : Schema) (plan : PlanView) (dim : ℕ) (is_descending : Bool) (next : ℕ) (regions : List Region) (held held_then given rest : List Row) (fetched unread : List Event) (row : Row)
+    → IsSweepOver schema plan dim is_descending next regions
+    → IsUnderWay schema plan dim is_descending regions held given rest fetched unread
+    → IsPermutation held (row ∷ held_then)
+    → All (λ other. ¬ IsRowBefore schema plan.asked.order other row) held_then
+    → IsBeforeNext dim is_descending row unread
+    → Gives schema plan dim is_descending regions held_then given rest fetched unread row
+gives schema plan dim is_descending next regions held held_then given rest fetched unread row over under same least before =
+    let here : Contains held row = Contains-permutation (row ∷ held_then) held row (IsPermutation-sym held (row ∷ held_then) same) (contains_here row held_then) in
+    let asked_up : Rising (IsRowBefore schema plan.asked.order) (given ++ rest) = Rising-from_adjacent (IsRowBefore schema plan.asked.order) (asked-chain schema plan.asked.order) (given ++ rest) under.rows.ordered in
+    let up : Rising (λ a b. IsUpTo is_descending a.value b.value) unread =
+    rising_right (λ a b. IsUpTo is_descending a.value b.value) fetched unread (values_rise is_descending (fetched ++ unread) under.events.ordered) in
+    let before_each = before_all dim is_descending row unread before up in
+    let (more, first) = least_first (IsRowBefore schema plan.asked.order) rest row (rising_right (IsRowBefore schema plan.asked.order) given rest asked_up)
+    (held_in_rest schema plan dim is_descending next regions held given rest fetched unread row over under here)
+    (λ other there. none_before schema plan dim is_descending next regions held held_then given rest fetched unread row over under same least before_each asked_up other there) in
+    let whole : (given ++ row ∷ []) ++ more ≡ given ++ rest = append_assoc given (row ∷ []) more ∙ ap (λ (rows : List Row). given ++ rows) (sym first) in
+    record {
+      more = more;
+      next = first;
+      under_way = record {
+        events = under.events;
+        rows = subst (λ (rows : List Row). AreArranged schema plan (selected_rows schema plan regions) rows) (sym whole) under.rows;
+        held_are = IsPermutation-pop_more (selected_rows schema plan (regions_at fetched)) given held held_then row under.held_are same;
+        held_past = all_of (λ event. All (λ row. ¬ (IsRowAlong dim is_descending row event.value)) held_then) fetched
+            (λ event there. all_of (λ row. ¬ (IsRowAlong dim is_descending row event.value)) held_then
+            (λ other c. All-contains (λ row. ¬ (IsRowAlong dim is_descending row event.value)) held other
+            (All-contains (λ event. All (λ row. ¬ (IsRowAlong dim is_descending row event.value)) held) fetched event under.held_past there)
+            (Contains-permutation (row ∷ held_then) held other (IsPermutation-sym held (row ∷ held_then) same) (contains_later row held_then other c))));
+        given_before = all_of (λ event. All (λ row. IsRowAlong dim is_descending row event.value) (given ++ row ∷ [])) unread
+            (λ event there. all_of (λ row. IsRowAlong dim is_descending row event.value) (given ++ row ∷ [])
+            (λ other c. elim (Contains-append_cases given (row ∷ []) other c) [
+              | inl old ↦ All-contains (λ row. IsRowAlong dim is_descending row event.value) given other
+                  (All-contains (λ event. All (λ row. IsRowAlong dim is_descending row event.value) given) unread event under.given_before there) old
+              | inr last ↦ only_one row other last (λ r. IsRowAlong dim is_descending r event.value) (before_each event there)
+            ]));
+      };
+      reached = all_of (λ event. ¬ (IsRowAlong dim is_descending row event.value)) fetched
+          (λ event there. All-contains (λ row. ¬ (IsRowAlong dim is_descending row event.value)) held row
+          (All-contains (λ event. All (λ row. ¬ (IsRowAlong dim is_descending row event.value)) held) fetched event under.held_past there) here);
+    }
+
+no_elements : {E : Type 0} (xs : List E) → ((x : E) → ¬ (Contains xs x)) → xs ≡ []
+no_elements [] none = refl
+no_elements (x ∷ xs) none = absurd (none x (contains_here x xs))
+
+-- where no row is held and no region is left, all rows were given
+pub ends : (schema : Schema) (plan : PlanView) (dim : ℕ) (is_descending : Bool) (next : ℕ) (regions : List Region) (given rest : List Row) (fetched : List Event)
+    → IsSweepOver schema plan dim is_descending next regions → IsUnderWay schema plan dim is_descending regions [] given rest fetched [] → rest ≡ []
+ends schema plan dim is_descending next regions given rest fetched over under =
+    no_elements rest
+    (λ row there.
+    let up : Rising (IsRowBefore schema plan.asked.order) (given ++ rest) = Rising-from_adjacent (IsRowBefore schema plan.asked.order) (asked-chain schema plan.asked.order) (given ++ rest) under.rows.ordered in
+    let (event, is_event, has, t) = row_in_event schema plan dim is_descending next regions (fetched ++ []) row over under.events
+    (rest_selected schema plan dim is_descending regions [] given rest fetched [] row under there) in
+    let was : Contains fetched event = subst (λ (events : List Event). Contains events event) (append-nil fetched) is_event in
+    let gone : Contains given row = subst (λ (rows : List Row). Contains rows row) (append-nil given)
+    (Contains-permutation (selected_rows schema plan (regions_at fetched)) (given ++ []) row under.held_are (in_fetched schema plan fetched event row was has t)) in
+    asked-never schema plan.asked.order row (rising_apart (IsRowBefore schema plan.asked.order) given rest row row up gone there))
+
+-- where all rows were given, none is held
+pub none_held : (schema : Schema) (plan : PlanView) (dim : ℕ) (is_descending : Bool) (next : ℕ) (regions : List Region) (held given : List Row) (fetched unread : List Event)
+    → IsSweepOver schema plan dim is_descending next regions → IsUnderWay schema plan dim is_descending regions held given [] fetched unread → held ≡ []
+none_held schema plan dim is_descending next regions held given fetched unread over under =
+    no_elements held (λ row there. contains_none row (held_in_rest schema plan dim is_descending next regions held given [] fetched unread row over under there))
+
+-- ---- where it stops
+
+pub past_is : (down : Bool) (a b : ℕ) → is_past down a b ≡ true → IsAlong down a b
+past_is false a b t = ltb-true a b t
+past_is true a b t = ltb-true b a t
+
+pub is_past_of : (down : Bool) (a b : ℕ) → IsAlong down a b → is_past down a b ≡ true
+is_past_of false a b h = lt-ltb a b h
+is_past_of true a b h = lt-ltb b a h
+
+last_is : (dim : ℕ) (given : List Row) (row : Row) → last_of (coordinates dim (given ++ row ∷ [])) ≡ slice_index row.dims dim
+last_is dim [] row = refl
+last_is dim (first ∷ []) row = refl
+last_is dim (first ∷ second ∷ given) row = last_is dim (second ∷ given) row
+
+filter_all : {E : Type 0} (p : E → Bool) (xs : List E) → ((x : E) → Contains xs x → p x ≡ true) → filter p xs ≡ xs
+filter_all p [] passes = refl
+filter_all p (x ∷ xs) passes = rw (passes x (contains_here x xs)) (ap (λ (ys : List _). x ∷ ys) (filter_all p xs (λ y c. passes y (contains_later x xs y c))))
+
+not_past : (down : Bool) (a b : ℕ) → ¬ (IsAlong down a b) → not (is_past down a b) ≡ true
+not_past down a b h = elim (cases_Bool (is_past down a b)) [
+  | inl t ↦ absurd (h (past_is down a b t))
+  | inr f ↦ rw f refl
+]
+
+-- the events whose values aren't past a coordinate are those fetched
+fetched_reached : (dim : ℕ) (is_descending : Bool) (fetched unread : List Event) (row : Row)
+    → All (λ event. ¬ (IsRowAlong dim is_descending row event.value)) fetched → ((event : Event) → Contains unread event → IsRowAlong dim is_descending row event.value)
+    → filter (λ event. not (is_past is_descending (slice_index row.dims dim) event.value)) (fetched ++ unread) ≡ fetched
+fetched_reached dim is_descending fetched unread row reached before =
+    filter-append (λ (event : Event). not (is_past is_descending (slice_index row.dims dim) event.value)) fetched unread
+    ∙ ap (λ (events : List Event). filter (λ event. not (is_past is_descending (slice_index row.dims dim) event.value)) fetched ++ events)
+    (filter_none (λ (event : Event). not (is_past is_descending (slice_index row.dims dim) event.value)) unread
+    (λ event there t. let past = is_past_of is_descending (slice_index row.dims dim) event.value (before event there) in true≢false (sym t ∙ ap not past)))
+    ∙ append-nil (filter (λ event. not (is_past is_descending (slice_index row.dims dim) event.value)) fetched)
+    ∙ filter_all (λ (event : Event). not (is_past is_descending (slice_index row.dims dim) event.value)) fetched
+    (λ event there. not_past is_descending (slice_index row.dims dim) event.value
+    (All-contains (λ event. ¬ (IsRowAlong dim is_descending row event.value)) fetched event reached there))
+
+limited_filled : (limit : Option ℕ) (given rest : List Row) → limit ≡ Some (length given) → limited limit (given ++ rest) ≡ given
+limited_filled limit given rest filled = ap (λ (o : Option ℕ). limited o (given ++ rest)) filled ∙ take-append_seam given rest
+
+filled_count : (dim : ℕ) (limit : Option ℕ) (given : List Row) → limit ≡ Some (length given) → is_filled limit (length (coordinates dim given)) ≡ true
+filled_count dim limit given filled =
+    ap (λ (o : Option ℕ). is_filled o (length (coordinates dim given))) filled
+    ∙ eq-eqb (length given) (length (coordinates dim given)) (sym (length-map given (λ row. slice_index row.dims dim)))
+
+reached_filled : (plan : PlanView) (dim : ℕ) (is_descending : Bool) (given rest : List Row) (fetched unread : List Event) (row : Row)
+    → plan.asked.limit ≡ Some (length (given ++ row ∷ []))
+    → All (λ event. ¬ (IsRowAlong dim is_descending row event.value)) fetched → ((event : Event) → Contains unread event → IsRowAlong dim is_descending row event.value)
+    → reached is_descending plan.asked.limit (coordinates dim (limited plan.asked.limit ((given ++ row ∷ []) ++ rest))) (fetched ++ unread) ≡ fetched
+reached_filled plan dim is_descending given rest fetched unread row filled past before =
+    ap (λ (rows : List Row). reached is_descending plan.asked.limit (coordinates dim rows) (fetched ++ unread)) (limited_filled plan.asked.limit (given ++ row ∷ []) rest filled)
+    ∙ ap (λ (b : Bool). if b then filter (λ event. not (is_past is_descending (last_of (coordinates dim (given ++ row ∷ []))) event.value)) (fetched ++ unread) else fetched ++ unread)
+    (filled_count dim plan.asked.limit (given ++ row ∷ []) filled)
+    ∙ ap (λ (last : ℕ). filter (λ event. not (is_past is_descending last event.value)) (fetched ++ unread)) (last_is dim given row)
+    ∙ fetched_reached dim is_descending fetched unread row past before
+
+-- the limit was filled by a row: the regions fetched are the visits
+pub stops : (schema : Schema) (plan : PlanView) (dim : ℕ) (is_descending : Bool) (regions : List Region) (held given rest : List Row) (fetched unread : List Event) (row : Row)
+    → IsUnderWay schema plan dim is_descending regions held (given ++ row ∷ []) rest fetched unread
+    → plan.asked.limit ≡ Some (length (given ++ row ∷ []))
+    → All (λ event. ¬ IsRowAlong dim is_descending row event.value) fetched
+    → AreSweepVisits schema plan dim is_descending regions (map (λ event. event.span) fetched)
+stops schema plan dim is_descending regions held given rest fetched unread row under filled reached =
+    record {
+      events = fetched ++ unread;
+      events_are = under.events;
+      arranged = (given ++ row ∷ []) ++ rest;
+      arranged_are = under.rows;
+      visits_are = ap (λ (events : List Event). map (λ (event : Event). event.span) events)
+          (sym (reached_filled plan dim is_descending given rest fetched unread row filled reached
+          (λ event there. All-contains (λ row. IsRowAlong dim is_descending row event.value) (given ++ row ∷ []) row
+          (All-contains (λ event. All (λ row. IsRowAlong dim is_descending row event.value) (given ++ row ∷ [])) unread event under.given_before there)
+          (Contains-append_right given (row ∷ []) row (contains_here row [])))));
+    }
+
+limited_short : (limit : Option ℕ) (given : List Row) → IfSome limit (λ n. length given < n) → limited limit (given ++ []) ≡ given
+limited_short None given short = append-nil given
+limited_short (Some n) given short = ap (λ (rows : List Row). take n rows) (append-nil given) ∙ take_all n given (omega (arith, short))
+
+short_count : (dim : ℕ) (limit : Option ℕ) (given : List Row) → IfSome limit (λ n. length given < n) → is_filled limit (length (coordinates dim given)) ≡ false
+short_count dim None given short = refl
+short_count dim (Some n) given short = elim (cases_Bool (n == length (coordinates dim given))) [
+  | inl t ↦
+      let same = eqb-true n (length (coordinates dim given)) t in
+      let long = length-map given (λ row. slice_index row.dims dim) in
+      absurd (omega (arith, short, same, long))
+  | inr f ↦ f
+]
+
+reached_short : (limit : Option ℕ) (dim : ℕ) (is_descending : Bool) (given : List Row) (events : List Event) → IfSome limit (λ n. length given < n)
+    → reached is_descending limit (coordinates dim (limited limit (given ++ []))) events ≡ events
+reached_short limit dim is_descending given events short =
+    ap (λ (rows : List Row). reached is_descending limit (coordinates dim rows) events) (limited_short limit given short)
+    ∙ ap (λ (b : Bool). if b then filter (λ event. not (is_past is_descending (last_of (coordinates dim given)) event.value)) events else events) (short_count dim limit given short)
+
+-- no row is left, and the limit isn't filled: all regions are the visits
+pub runs_out : (schema : Schema) (plan : PlanView) (dim : ℕ) (is_descending : Bool) (regions : List Region) (held given : List Row) (fetched : List Event)
+    → IsUnderWay schema plan dim is_descending regions held given [] fetched []
+    → IfSome plan.asked.limit (λ n. length given < n)
+    → AreSweepVisits schema plan dim is_descending regions (map (λ event. event.span) fetched)
+runs_out schema plan dim is_descending regions held given fetched under short =
+    record {
+      events = fetched ++ [];
+      events_are = under.events;
+      arranged = given ++ [];
+      arranged_are = under.rows;
+      visits_are = ap (λ (events : List Event). map (λ (event : Event). event.span) events)
+          (sym (reached_short plan.asked.limit dim is_descending given (fetched ++ []) short ∙ append-nil fetched));
+    }
+
+given_mean : (schema : Schema) (plan : PlanView) (dim : ℕ) (is_descending : Bool) (next : ℕ) (regions : List Region) (rows held given rest : List Row) (fetched unread : List Event)
+    → IsSweepOver schema plan dim is_descending next regions → AreTableRows regions rows
+    → IsUnderWay schema plan dim is_descending regions held given rest fetched unread
+    → limited plan.asked.limit (given ++ rest) ≡ given
+    → IsMeaning (record { schema = schema; rows = rows }) plan.asked (map (λ row. map (row_cell schema row) plan.asked.items) given)
+given_mean schema plan dim is_descending next regions rows held given rest fetched unread over table under limited_are = inr (
+  led_is_plain schema plan.asked dim is_descending (led_plan schema plan dim is_descending over.planned over.kind),
+  record {
+    arranged = given ++ rest;
+    ordered = record {
+      same = IsPermutation-trans (selected (record { schema = schema; rows = rows }) plan.asked.filter) (selected_rows schema plan regions) (given ++ rest)
+          (selected_of_table schema plan next regions rows under.events.meeting over.planned (led_asks schema plan dim is_descending over.planned over.kind) over.are table under.events.meeting_are)
+          under.rows.same;
+      ordered = under.rows.ordered;
+    };
+    cells = ap (λ (rows : List Row). map (λ (row : Row). map (row_cell schema row) plan.asked.items) rows) (sym limited_are);
+  },
+)
+
+-- what was given is then what the query means on the table
+pub stops_with_the_meaning : (schema : Schema) (plan : PlanView) (dim : ℕ) (is_descending : Bool) (next : ℕ) (regions : List Region) (rows held given rest : List Row) (fetched unread : List Event)
+    → IsSweepOver schema plan dim is_descending next regions → AreTableRows regions rows
+    → IsUnderWay schema plan dim is_descending regions held given rest fetched unread
+    → plan.asked.limit ≡ Some (length given)
+    → IsMeaning (record { schema = schema; rows = rows }) plan.asked (map (λ row. map (row_cell schema row) plan.asked.items) given)
+stops_with_the_meaning schema plan dim is_descending next regions rows held given rest fetched unread over table under filled =
+    given_mean schema plan dim is_descending next regions rows held given rest fetched unread over table under (limited_filled plan.asked.limit given rest filled)
+
+pub runs_out_with_the_meaning : (schema : Schema) (plan : PlanView) (dim : ℕ) (is_descending : Bool) (next : ℕ) (regions : List Region) (rows held given : List Row) (fetched unread : List Event)
+    → IsSweepOver schema plan dim is_descending next regions → AreTableRows regions rows
+    → IsUnderWay schema plan dim is_descending regions held given [] fetched unread
+    → IfSome plan.asked.limit (λ n. length given < n)
+    → IsMeaning (record { schema = schema; rows = rows }) plan.asked (map (λ row. map (row_cell schema row) plan.asked.items) given)
+runs_out_with_the_meaning schema plan dim is_descending next regions rows held given fetched unread over table under short =
+    given_mean schema plan dim is_descending next regions rows held given [] fetched unread over table under (limited_short plan.asked.limit given short)

@@ -1,0 +1,35 @@
+use Rattle.std.proofs.Common.{Bool, Err, ap, refl, subst}
+use Rattle.ub_query.specs.Shape.{Asked}
+use Rattle.ub_tetris.proofs.EffectFacts.{sweeps_then, swept_by}
+use Rattle.ub_tetris.proofs.FetchFacts.{due_within}
+use Rattle.ub_tetris.proofs.StepsFacts.{Fetches-more, Fetches-none, fewer, step_ends}
+use Rattle.ub_tetris.specs.inner.Turns.{HasFetchedNext, IsDue, view_of}
+use Rattle.ub_tetris.proofs.state.State.step.Goals as goal
+
+pub loop-self-init : goal.loop-self-init
+loop-self-init g c = Fetches-none c.args.plan.now c.args.tree.now c.args.self.now
+
+pub fetch-requires-clause-some : goal.fetch-requires-clause-some
+fetch-requires-clause-some g c = due_within c.loop-self.self (subst (λ (due : Bool). IsDue c.loop-self.self due) c.loop-self-test.true c.is_due.ensures)
+
+pub loop-self-smaller : goal.loop-self-smaller
+loop-self-smaller g c =
+    fewer c.loop-self.self.queue.items c.fetch.new.self.queue.items c.loop-self.self.fetched c.fetch.new.self.fetched (ap (λ (queue : _). queue.items) c.in_ok-fetch.ensures.onward.1)
+    c.in_ok-fetch.ensures.onward.2 (due_within c.loop-self.self (subst (λ (due : Bool). IsDue c.loop-self.self due) c.loop-self-test.true c.is_due.ensures))
+
+pub loop-self-preserved : goal.loop-self-preserved
+loop-self-preserved g c =
+    Fetches-more c.args.plan.now c.args.tree.now c.loop-self.tree c.args.self.now c.loop-self.self c.loop-self.invariant c.fetch.new.tree c.fetch.new.self
+    (subst (λ (due : Bool). IsDue c.loop-self.self due) c.loop-self-test.true c.is_due.ensures) c.in_ok-fetch.ensures.onward
+    (subst (λ (q : Asked). HasFetchedNext q c.loop-self.tree c.fetch.new.tree c.loop-self.self c.fetch.new.self) c.query.ensures c.in_ok-fetch.ensures.rows) c.in_ok-fetch.ensures.effect
+
+pub returns-in_err-fetch-clause-effect : goal.returns-in_err-fetch-clause-effect
+returns-in_err-fetch-clause-effect g c =
+    swept_by c.from_residual.result _ (view_of c.args.self.now) (view_of c.fetch.new.self) c.args.tree.now c.fetch.new.tree c.from_residual.ensures.1
+    (sweeps_then tt (Err _) (view_of c.args.self.now) (view_of c.loop-self.self) (view_of c.fetch.new.self) c.args.tree.now c.loop-self.tree c.fetch.new.tree refl
+    c.loop-self.invariant.effect c.in_err-fetch.ensures.effect)
+
+pub returns-clause-next : goal.returns-clause-next
+returns-clause-next g c given rest fetched unread is =
+    step_ends c.args.plan.now c.args.tree.now c.loop-self.tree c.args.self.now c.loop-self.self c.loop-self.invariant _ c.take_first.result
+    (subst (λ (due : Bool). IsDue c.loop-self.self due) c.loop-self-test.false c.is_due.ensures) c.take_first.ensures (refl, refl, refl) given rest fetched unread is

@@ -1,0 +1,69 @@
+-- What the calls of a sweep can answer, and what they leave of the tree.
+use Rattle.std.specs.Prelude.{◌≡◌, ◌≢◌, ◌++◌, [], ℕ, zero, suc, Bool, true, false, IsTrue, List, Result, Err, IfErr, OnOk, Contains, length}
+use Rattle.ub_store.specs.Facts.{StoreFacts, raised}
+use Rattle.ub_tetris.specs.Sweep.{AwaitedRegion, SweepView, AreItsRegions}
+use Rattle.ub_tetris.specs.declared.fault.SweepFault.{SweepFault}
+use Rattle.ub_tetris.specs.declared.fault.SweepFault.TheVariants.{Memory, Tree, Failed}
+use Rattle.ub_tree.specs.Effects.{IsReadFault, IsSpanFault, raised_by}
+use Rattle.ub_tree.specs.View.{TreeView}
+use Rattle.ub_tree.specs.declared.fault.TreeFault.{TreeFault}
+use Rattle.ub_tree.specs.declared.fault.TreeFault.TheVariants.{Memory as no_memory}
+
+-- want of memory is one fault wherever it comes
+abbrev pub fault_of_tree : TreeFault → SweepFault
+fault_of_tree no_memory = Memory
+fault_of_tree fault = Tree fault
+
+-- a fault of the tree as its reading calls answer it, but for want of memory; or the sweep has failed before
+abbrev pub IsSweepFault : Bool → TreeView → SweepFault → Type 0
+IsSweepFault is_failed old Memory = Unit {0}
+IsSweepFault is_failed old (Tree fault) = IsReadFault old fault × (fault ≢ no_memory)
+IsSweepFault is_failed old Failed = IsTrue is_failed
+
+-- a fault of the reading of a region that the sweep awaits, also where it isn't one of the tree
+abbrev pub IsAwaitedFault : SweepView → TreeView → SweepFault → Type 0
+IsAwaitedFault s old Memory = Unit {0}
+IsAwaitedFault s old (Tree fault) =
+    ((a : AwaitedRegion) × Contains s.awaited a × IsSpanFault a.region old fault) × (fault ≢ no_memory)
+IsAwaitedFault s old Failed = IsTrue s.is_failed
+
+-- a count of failed reads after a call with this result
+abbrev pub counted : {A : Type 0} → Result A SweepFault → ℕ → ℕ
+counted (Err (Tree fault)) n = raised_by fault n
+counted _ n = n
+
+-- a store after a call with this result that only reads
+abbrev pub read_store : {A : Type 0} → Result A SweepFault → StoreFacts → StoreFacts
+read_store result old = record old { failed_reads = counted result old.failed_reads }
+
+-- a count of fetches after so many more
+abbrev pub fetches_then : ℕ → ℕ → ℕ
+fetches_then fetches zero = fetches
+fetches_then fetches (suc n) = raised fetches (suc n)
+
+-- a sweep was begun: the trace is empty, and else the tree is as it was
+pub record Begins {A : Type 0} (old new : TreeView) (result : Result A SweepFault) : Type 0 where
+  pub same : new ≡ record old { store = read_store result old.store; trace = [] }
+  pub faults : IfErr result (IsSweepFault false old)
+
+-- a sweep read the tree and no more: pages were noted after those that stood in the trace, and the first of the regions awaited
+-- are awaited no more. Over a tree that has those awaited it is refused as each call is that reads the tree, and the tree has
+-- those still awaited.
+pub record Sweeps {A : Type 0} (s new_s : SweepView) (old new : TreeView) (result : Result A SweepFault) : Type 0 where
+  pub noted : List ℕ
+  pub same : new ≡ record old { store = read_store result old.store; trace = old.trace ++ noted; fetches = fetches_then old.fetches (length noted) }
+  pub left : (come : List AwaitedRegion) × (s.awaited ≡ come ++ new_s.awaited)
+  pub refused : IfErr result (IsAwaitedFault s old)
+  pub faults : AreItsRegions old s → IfErr result (IsSweepFault s.is_failed old)
+  pub regions : AreItsRegions old s → AreItsRegions new new_s
+
+-- after a fault a sweep has failed, and only then; one that has failed changes nothing and answers that
+pub record FailsOnce {A : Type 0} (s new_s : SweepView) (old new : TreeView) (result : Result A SweepFault) : Type 0 where
+  pub fails : IfErr result (λ fault. new_s.is_failed ≡ true)
+  pub works : OnOk result (new_s.is_failed ≡ false)
+  pub stays : IsTrue s.is_failed → (result ≡ Err Failed) × (new_s ≡ s) × (new ≡ old)
+
+-- a tree was searched and no more
+pub record Searches {A : Type 0} (old new : TreeView) (result : Result A SweepFault) : Type 0 where
+  pub same : new ≡ record old { store = read_store result old.store }
+  pub faults : IfErr result (IsSweepFault false old)

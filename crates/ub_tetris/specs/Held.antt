@@ -1,0 +1,41 @@
+-- What is held of a sweep: rows, and the values by which they stand in the order asked.
+use Rattle.std.specs.Prelude.{◌≡◌, ℤ, pos, ◌-ℤ◌, Bool, true, false, List, map}
+use Rattle.std.specs.List.{AllByRecursion}
+use Rattle.ub_query.specs.Truth.{value_in}
+use Rattle.ub_query.specs.declared.query.Item.{Item}
+use Rattle.ub_query.specs.declared.query.Item.TheVariants.{Column, Count, Aggregate}
+use Rattle.ub_query.specs.declared.query.SortKey.{SortKey}
+use Rattle.ub_table.specs.declared.row.Row.{Row}
+use Rattle.ub_table.specs.declared.schema.Schema.{Schema}
+
+-- a row, and its values in the order asked, one for each key
+pub record HeldRow : Type 0 where
+  pub values : List ℤ
+  pub row : Row
+
+-- the value of a row for an item; an aggregate has none, and stands for no row
+abbrev pub item_value : Schema → Row → Item → ℤ
+item_value schema row (Column column) = value_in schema row column
+item_value schema row Count = pos 0
+item_value schema row (Aggregate taken column) = pos 0
+
+-- a value by which lesser ones come first: where greater ones do, it is turned round zero
+abbrev pub turned : Bool → ℤ → ℤ
+turned false value = value
+turned true value = pos 0 -ℤ value -ℤ pos 1
+
+-- the values of a row by some keys
+abbrev pub values_by : Schema → List SortKey → Row → List ℤ
+values_by schema keys row = map (λ key. turned key.is_descending (item_value schema row key.item)) keys
+
+-- a row as it is held by these keys
+abbrev pub held_row : Schema → List SortKey → Row → HeldRow
+held_row schema keys row = record { values = values_by schema keys row; row = row }
+
+-- the rows that are held
+abbrev pub rows_held : List HeldRow → List Row
+rows_held held = map (λ h. h.row) held
+
+-- each has its values by these keys
+abbrev pub AreHeldBy : Schema → List SortKey → List HeldRow → Type 0
+AreHeldBy schema keys held = AllByRecursion (λ h. h.values ≡ values_by schema keys h.row) held

@@ -1,0 +1,5 @@
+pub mod Machine
+pub mod Held
+pub mod Sweep
+pub mod Effects
+pub mod inner

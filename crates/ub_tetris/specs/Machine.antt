@@ -1,0 +1,31 @@
+-- A sweep over the regions of a table (Tetris: Markl, Zirkel and Bayer 1999), as lists alone: which regions were fetched and
+-- which weren't yet, which rows are held, which were given and which are still to be given.
+use Rattle.std.specs.Prelude.{◌++◌, ℕ, Bool, List, map, slice_index}
+use Rattle.std.specs.List.{All}
+use Rattle.std.specs.List.Sorted.{IsPermutation}
+use Rattle.ub_plan.specs.Plan.{PlanView}
+use Rattle.ub_plan.specs.Visits.{Event, IsAlong, AreEvents, AreArranged, selected_rows}
+use Rattle.ub_table.specs.Region.{Region}
+use Rattle.ub_table.specs.declared.row.Row.{Row}
+use Rattle.ub_table.specs.declared.schema.Schema.{Schema}
+
+-- the regions of some events
+abbrev pub regions_at : List Event → List Region
+regions_at events = map (λ event. event.span.region) events
+
+-- a row's coordinate lies before a value along the sweep, and after it
+abbrev pub IsRowAlong : ℕ → Bool → Row → ℕ → Type 0
+IsRowAlong dim is_descending row value = IsAlong is_descending (slice_index row.dims dim) value
+
+abbrev pub IsRowPast : ℕ → Bool → ℕ → Row → Type 0
+IsRowPast dim is_descending value row = IsAlong is_descending value (slice_index row.dims dim)
+
+-- a sweep under way: it comes to the regions in order, those fetched first; the rows given and those still to be given are the
+-- selected rows in the order asked; those given and those held are the selected rows of the fetched regions. No held row lies
+-- before the event value of a fetched region, and each row given lies before that of each region not yet fetched.
+pub record IsUnderWay (schema : Schema) (plan : PlanView) (dim : ℕ) (is_descending : Bool) (regions : List Region) (held given rest : List Row) (fetched unread : List Event) : Type 0 where
+  pub events : AreEvents schema plan.covering.boxes dim is_descending regions (fetched ++ unread)
+  pub rows : AreArranged schema plan (selected_rows schema plan regions) (given ++ rest)
+  pub held_are : IsPermutation (selected_rows schema plan (regions_at fetched)) (given ++ held)
+  pub held_past : All (λ event. All (λ row. ¬ IsRowAlong dim is_descending row event.value) held) fetched
+  pub given_before : All (λ event. All (λ row. IsRowAlong dim is_descending row event.value) given) unread

@@ -1,0 +1,97 @@
+-- What contracts see of a sweep, and how it stands to its plan and to the tree over which it goes.
+use Rattle.std.specs.Prelude.{◌≡◌, ◌++◌, ◌∷◌, [], ℕ, Bool, false, List, Option, Some, None, map, Contains}
+use Rattle.std.specs.List.{All, AllByRecursion}
+use Rattle.ub_plan.specs.Plan.{PlanView, plan_of}
+use Rattle.ub_plan.specs.Visits.{Event}
+use Rattle.ub_plan.specs.declared.planned.Kind.TheVariants.{Sweep}
+use Rattle.ub_table.specs.declared.row.Row.{Row}
+use Rattle.ub_tetris.specs.Held.{HeldRow, AreHeldBy, rows_held}
+use Rattle.ub_tetris.specs.Machine.{IsUnderWay, IsRowAlong, regions_at}
+use Rattle.ub_tree.specs.Placed.{Placed, regions_in}
+use Rattle.ub_tree.specs.View.{TreeView, IsSound, regions, spans_of}
+use Rattle.ub_tree.specs.declared.region.Region.{Region as TreeRegion}
+
+-- a region that is not fetched yet, and its event value
+pub record AwaitedRegion : Type 0 where
+  pub value : ℕ
+  pub region : TreeRegion
+
+-- a sweep: its dimension and direction; the rows that it holds; the regions not yet fetched; whether it has failed
+pub record SweepView : Type 0 where
+  pub dim : ℕ
+  pub is_descending : Bool
+  pub held : List HeldRow
+  pub awaited : List AwaitedRegion
+  pub is_failed : Bool
+
+-- the tree is sound, and the plan that of its query over the tree's schema: a sweep in this dimension and direction
+pub record IsSwept (t : TreeView) (plan : PlanView) (dim : ℕ) (is_descending : Bool) : Type 0 where
+  pub sound : IsSound t
+  pub planned : plan ≡ plan_of t.schema plan.asked
+  pub kind : plan.kind ≡ Sweep dim is_descending
+
+-- the trace has the pages of the regions of these events, in their order
+pub record AreNoted (t : TreeView) (events : List Event) : Type 0 where
+  pub placed : List Placed
+  pub there : AllByRecursion (Contains t.placed) placed
+  pub regions_are : regions_in placed ≡ regions_at events
+  pub trace_is : t.trace ≡ map (λ p. p.page) placed
+
+-- a region awaited is a region of the tree, and that of the event, with its value
+pub record IsAwaited (t : TreeView) (awaited : AwaitedRegion) (event : Event) : Type 0 where
+  pub there : Contains (spans_of t) awaited.region
+  pub first : awaited.region.first ≡ event.span.region.first
+  pub value : awaited.value ≡ event.value
+
+-- those awaited are the regions of these events, in their order
+abbrev pub AreAwaited : TreeView → List AwaitedRegion → List Event → Type 0
+AreAwaited t [] events = events ≡ []
+AreAwaited t (awaited ∷ rest) [] = ⊥
+AreAwaited t (awaited ∷ rest) (event ∷ events) = IsAwaited t awaited event × AreAwaited t rest events
+
+-- how a sweep that hasn't failed stands to its plan and its tree: these rows were given, and these are still to be given; the
+-- trace has the pages of the regions that were fetched, and these are not fetched yet
+pub record IsSweeping (plan : PlanView) (t : TreeView) (s : SweepView) (given rest : List Row) (fetched unread : List Event) : Type 0 where
+  pub working : s.is_failed ≡ false
+  pub swept : IsSwept t plan s.dim s.is_descending
+  pub under_way : IsUnderWay t.schema plan s.dim s.is_descending (regions t) (rows_held s.held) given rest fetched unread
+  pub values : AreHeldBy t.schema plan.asked.order s.held
+  pub noted : AreNoted t fetched
+  pub awaited : AreAwaited t s.awaited unread
+
+-- the next row was given: these regions were fetched for it, and those fetched are now just the ones whose event values aren't
+-- past it
+pub record HasGiven (plan : PlanView) (t : TreeView) (s : SweepView) (given rest : List Row) (fetched unread : List Event) (row : Row) : Type 0 where
+  pub more : List Row
+  pub read : List Event
+  pub left : List Event
+  pub next : rest ≡ row ∷ more
+  pub parts : unread ≡ read ++ left
+  pub reached : All (λ event. ¬ IsRowAlong s.dim s.is_descending row event.value) (fetched ++ read)
+  pub sweeping : IsSweeping plan t s (given ++ row ∷ []) more (fetched ++ read) left
+
+-- no row is left: all regions were fetched
+pub record HasEnded (plan : PlanView) (t : TreeView) (s : SweepView) (given rest : List Row) (fetched unread : List Event) : Type 0 where
+  pub none : rest ≡ []
+  pub sweeping : IsSweeping plan t s given [] (fetched ++ unread) []
+
+-- what asking for the next row does
+abbrev pub HasStepped : PlanView → TreeView → SweepView → List Row → List Row → List Event → List Event → Option Row → Type 0
+HasStepped plan t s given rest fetched unread None = HasEnded plan t s given rest fetched unread
+HasStepped plan t s given rest fetched unread (Some row) = HasGiven plan t s given rest fetched unread row
+
+-- a sweep that was begun over a tree: no row was given, and no region fetched
+pub record HasBegun (plan : PlanView) (t : TreeView) (s : SweepView) : Type 0 where
+  pub rest : List Row
+  pub unread : List Event
+  pub sweeping : IsSweeping plan t s [] rest [] unread
+
+-- the regions that a sweep awaits are regions of the tree
+abbrev pub AreItsRegions : TreeView → SweepView → Type 0
+AreItsRegions t s = AllByRecursion (λ awaited. Contains (spans_of t) awaited.region) s.awaited
+
+-- a sweep that was begun over any tree: it holds nothing, hasn't failed, and awaits regions of the tree
+pub record IsStarted (t : TreeView) (s : SweepView) : Type 0 where
+  pub none : s.held ≡ []
+  pub working : s.is_failed ≡ false
+  pub regions : AreItsRegions t s

@@ -1,0 +1,55 @@
+-- The regions of a tree that a sweep awaits, with their event values, and the order of the sweep as a comparison.
+use Rattle.std.specs.Prelude.{ℕ, Bool, true, false, List, Option, Some, map}
+use Rattle.std.specs.List.{AllByRecursion, Contains}
+use Rattle.std.specs.List.Sorted.{IsPermutation, IsSorted}
+use Rattle.std.specs.Ordering.{nat_cmp, ordering_then}
+use Rattle.std.specs.declared.cmp.Ordering.{Ordering}
+use Rattle.ub_bigmin.specs.Box.{Corners, IsValueInSpan}
+use Rattle.ub_bigmin.specs.Extremes.{Least, Greatest}
+use Rattle.ub_plan.specs.Visits.{AreThose}
+use Rattle.ub_tetris.specs.declared.course.Course.{Course}
+use Rattle.ub_tetris.specs.declared.event.Awaited.{Awaited}
+use Rattle.ub_tree.specs.Spans.{Meets}
+use Rattle.ub_tree.specs.View.{TreeView, IsSound, spans_of}
+use Rattle.ub_tree.specs.declared.region.Region.{Region}
+
+-- the first along the sweep of a set of coordinates, if there is one
+abbrev pub IsFirstOn : Bool → (ℕ → Type 0) → Option ℕ → Type 0
+IsFirstOn false P found = Least P found
+IsFirstOn true P found = Greatest P found
+
+-- the first coordinate along the sweep among the points of the boxes in the region's span
+abbrev pub IsFirstValue : List Corners → ℕ → Bool → Region → ℕ → Type 0
+IsFirstValue boxes dim is_descending region v = IsFirstOn is_descending (IsValueInSpan boxes region.from region.to dim) (Some v)
+
+-- each has its event value, and is a region of the tree
+abbrev pub AreValued : List Corners → Course → TreeView → List Awaited → Type 0
+AreValued boxes course t awaited =
+    AllByRecursion (λ a. IsFirstValue boxes course.dim course.is_descending a.region a.value × Contains (spans_of t) a.region) awaited
+
+abbrev pub regions_awaited : List Awaited → List Region
+regions_awaited awaited = map (λ a. a.region) awaited
+
+-- regions of the tree with their event values; of a sound one those that meet the boxes, in the order of their first keys
+pub record AreMet (boxes : List Corners) (course : Course) (t : TreeView) (awaited : List Awaited) : Type 0 where
+  pub valued : AreValued boxes course t awaited
+  pub those : IsSound t → AreThose (Meets boxes) (spans_of t) (regions_awaited awaited)
+
+-- coordinates along the sweep
+abbrev pub along_cmp : Bool → ℕ → ℕ → Ordering
+along_cmp false a b = nat_cmp a b
+along_cmp true a b = nat_cmp b a
+
+-- by event value along the sweep, and where these are equal, by first key
+abbrev pub event_cmp : Bool → Awaited → Awaited → Ordering
+event_cmp is_descending a b =
+    ordering_then
+    (ordering_then (along_cmp is_descending a.value b.value) (nat_cmp a.region.first.z b.region.first.z))
+    (nat_cmp a.region.first.number b.region.first.number)
+
+-- such regions in the order of the sweep
+pub record AreQueued (boxes : List Corners) (course : Course) (t : TreeView) (awaited : List Awaited) : Type 0 where
+  pub met : List Awaited
+  pub met_are : AreMet boxes course t met
+  pub same : IsPermutation met awaited
+  pub sorted : IsSorted (event_cmp course.is_descending) awaited

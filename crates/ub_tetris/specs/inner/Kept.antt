@@ -1,0 +1,47 @@
+-- The rows held as a heap stores them, and which of them is the first.
+use Rattle.std.specs.Prelude.{◌≡◌, [], ◌∷◌, ℕ, ℤ, List, Option, Some, None, map, Contains}
+use Rattle.std.specs.Cmp.{IsTotalOrder, back_total, int_cmp_total, nat_cmp_total, on_total, then_total}
+use Rattle.std.specs.Cmp.Lexicographic.{lists_total, slice_cmp}
+use Rattle.std.specs.List.{AllByRecursion}
+use Rattle.std.specs.List.Sorted.{IsPermutation}
+use Rattle.std.specs.Ordering.{nat_cmp, int_cmp, ordering_then}
+use Rattle.std.specs.declared.cmp.Ordering.{Ordering}
+use Rattle.std.specs.declared.cmp.Ordering.TheVariants.{Less}
+use Rattle.ub_table.specs.declared.row.Row.{Row}
+use Rattle.ub_tetris.specs.Held.{HeldRow}
+use Rattle.ub_tetris.specs.declared.place.Held.{Held}
+
+-- what is held, without the room in memory
+abbrev pub held_of : List Held → List HeldRow
+held_of items = map (λ h. record { values = h.values.items; row = h.row }) items
+
+-- the order of values, and where these are equal, of row numbers
+abbrev pub place_cmp : List ℤ → ℕ → List ℤ → ℕ → Ordering
+place_cmp values number others other = ordering_then (slice_cmp int_cmp values others) (nat_cmp number other)
+
+-- the greatest is the first
+abbrev pub held_cmp : Held → Held → Ordering
+held_cmp a b = place_cmp b.values.items b.row.number a.values.items a.row.number
+
+pub held_total : IsTotalOrder held_cmp
+held_total =
+    back_total
+    (then_total (on_total (λ (h : Held). h.values.items) (lists_total int_cmp_total)) (on_total (λ (h : Held). h.row.number) nat_cmp_total))
+
+-- one stands before another
+abbrev pub IsHeldBefore : HeldRow → HeldRow → Type 0
+IsHeldBefore a b = place_cmp a.values a.row.number b.values b.row.number ≡ Less
+
+-- none stands before this one
+abbrev pub IsFirstAmong : HeldRow → List HeldRow → Type 0
+IsFirstAmong first held = AllByRecursion (λ other. ¬ (IsHeldBefore other first)) held
+
+-- the row is the first of those held; none is where none are held
+abbrev pub IsFirstOf : List HeldRow → Option Row → Type 0
+IsFirstOf held None = held ≡ []
+IsFirstOf held (Some row) = (first : HeldRow) × Contains held first × (first.row ≡ row) × IsFirstAmong first held
+
+-- the first was taken out of those held; none was where none are held
+abbrev pub TakesFirst : List HeldRow → List HeldRow → Option Row → Type 0
+TakesFirst held left None = (held ≡ []) × (left ≡ [])
+TakesFirst held left (Some row) = (first : HeldRow) × IsPermutation held (first ∷ left) × (first.row ≡ row) × IsFirstAmong first left

@@ -1,0 +1,64 @@
+-- What the turns of a sweep do to its state: the next region is fetched, or the first row is taken.
+use Rattle.std.specs.Prelude.{◌≡◌, ◌++◌, ◌+◌, Bool, false, true, not, List, [], Option, Some, None, map, drop, slice_get, slice_index}
+use Rattle.std.specs.List.{filter, Contains}
+use Rattle.std.specs.List.Sorted.{IsPermutation}
+use Rattle.ub_plan.specs.Visits.{is_past}
+use Rattle.ub_query.specs.Groups.{is_selected}
+use Rattle.ub_query.specs.Shape.{Asked}
+use Rattle.ub_table.specs.declared.row.Row.{Row}
+use Rattle.ub_table.specs.declared.schema.Schema.{Schema}
+use Rattle.ub_tetris.specs.Held.{HeldRow, held_row}
+use Rattle.ub_tetris.specs.Sweep.{AwaitedRegion, SweepView}
+use Rattle.ub_tetris.specs.declared.course.Course.{Course}
+use Rattle.ub_tetris.specs.declared.event.Awaited.{Awaited}
+use Rattle.ub_tetris.specs.declared.state.State.{State}
+use Rattle.ub_tetris.specs.inner.Kept.{IsFirstOf}
+use Rattle.ub_tree.specs.Effects.{HasNoted}
+use Rattle.ub_tree.specs.Placed.{Placed}
+use Rattle.ub_tree.specs.View.{TreeView, IsSound, spans_of}
+
+-- what contracts see of a sweep in this state
+abbrev pub awaited_of : List Awaited → List AwaitedRegion
+awaited_of queue = map (λ a. record { value = a.value; region = a.region }) queue
+
+abbrev pub view_by : State → Bool → SweepView
+view_by s is_failed = record {
+  dim = s.course.dim;
+  is_descending = s.course.is_descending;
+  held = s.held;
+  awaited = awaited_of (drop s.fetched s.queue.items);
+  is_failed = is_failed;
+}
+
+abbrev pub view_of : State → SweepView
+view_of s = view_by s false
+
+-- that of a sweep which has come to none of these regions yet
+abbrev pub begun_view : Course → List Awaited → SweepView
+begun_view course queue = record { dim = course.dim; is_descending = course.is_descending; held = []; awaited = awaited_of queue; is_failed = false }
+
+-- a region is due while none is held, and while its event value isn't past the first of those held
+abbrev pub is_due_by : Course → Option Awaited → Option Row → Bool
+is_due_by course None first = false
+is_due_by course (Some awaited) None = true
+is_due_by course (Some awaited) (Some row) = not (is_past course.is_descending (slice_index row.dims course.dim) awaited.value)
+
+abbrev pub IsDue : State → Bool → Type 0
+IsDue s due = (first : Option Row) × IsFirstOf s.held first × (due ≡ is_due_by s.course (slice_get s.queue.items s.fetched) first)
+
+-- the selected ones of some rows are held beside those that were
+abbrev pub HoldsAlso : Schema → Asked → List Row → List HeldRow → List HeldRow → Type 0
+HoldsAlso schema q rows old new =
+    IsPermutation (old ++ map (held_row schema q.order) (filter (is_selected schema q.filter) rows)) new
+
+-- one region more is behind
+abbrev pub IsOnward : State → State → Type 0
+IsOnward old new = (new.course ≡ old.course) × (new.queue ≡ old.queue) × (new.fetched ≡ old.fetched + 1)
+
+-- the region at the sweep's place was fetched, and its selected rows are held too
+pub record HasFetchedNext (q : Asked) (t new : TreeView) (s new_s : State) : Type 0 where
+  pub next : Awaited
+  pub at : slice_get s.queue.items s.fetched ≡ Some next
+  pub noted : HasNoted next.region.page t new
+  pub rows : IsSound t → Contains (spans_of t) next.region → (p : Placed) × Contains t.placed p × (p.page ≡ next.region.page)
+      × (p.region.first ≡ next.region.first) × HoldsAlso t.schema q p.region.rows s.held new_s.held

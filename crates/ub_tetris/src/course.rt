@@ -1,0 +1,47 @@
+ghost use Rattle.std.specs.Prelude.{◌≡◌, ◌<◌, ◌↔◌, All, Some, IfSome, IsTrue, length};
+ghost use Rattle.ub_plan.specs.declared.planned.Kind.TheVariants.{Sweep};
+
+use ub_bigmin::ZBox;
+use ub_plan::{Kind, Plan};
+
+/// Where a sweep goes: along which dimension, and in which direction.
+#[derive(Clone, Copy, PartialEq, Eq, Debug)]
+pub struct Course {
+    /// The dimension, counted from 0.
+    pub dim: usize,
+    /// Whether the sweep goes from the greatest coordinate down.
+    pub is_descending: bool,
+}
+
+/// That of a sweep which comes to no region.
+pub const NOWHERE: Course = Course {
+    dim: 0,
+    is_descending: false,
+};
+
+/// The course of a plan that is a sweep, in a dimension that its boxes have. Any other plan has none.
+pub fn course_of(plan: &Plan) -> Option<Course>
+    ensures within { IfSome result (λ c. All (λ b. c.dim < length b.lo) plan.now.covering.boxes) }
+    ensures some { (dim : _) (is_descending : _) → plan.now.kind ≡ Sweep dim is_descending
+        → All (λ b. dim < length b.lo) plan.now.covering.boxes
+        → result ≡ Some (record { dim = dim; is_descending = is_descending }) }
+{
+    match plan.kind() {
+        Kind::Sweep { dim, is_descending } if have_dimension(plan.boxes(), dim) => {
+            Some(Course { dim, is_descending })
+        }
+        _ => None,
+    }
+}
+
+// Whether the boxes are of a space that has this dimension.
+fn have_dimension(boxes: &[ZBox], dim: usize) -> bool
+    ensures { IsTrue result ↔ All (λ b. dim < length b.lo) boxes.now }
+{
+    for zbox in boxes {
+        if dim >= zbox.lo().values().len() {
+            return false;
+        }
+    }
+    true
+}

@@ -1,0 +1,136 @@
+ghost use Rattle.std.specs.Prelude.{◌≡◌, ◌<◌, [], length, List, IfOk, OnOk, slice_index};
+ghost use Rattle.ub_plan.specs.Visits.{Event};
+ghost use Rattle.ub_query.specs.Posed.{IsPosed};
+ghost use Rattle.ub_query.specs.Shape.{asked};
+ghost use Rattle.ub_table.specs.declared.row.Row.{Row as RowView};
+ghost use Rattle.ub_tetris.specs.Effects.{Sweeps};
+ghost use Rattle.ub_tetris.specs.Sweep.{IsSweeping, HasStepped};
+ghost use Rattle.ub_tetris.specs.inner.Turns.{HoldsAlso, HasFetchedNext, IsDue, IsOnward, view_of};
+
+use crate::course::Course;
+use crate::event::{Awaited, is_past};
+use crate::fault::SweepFault;
+use crate::held::HeldRows;
+use std::alloc::{AllocError, Global};
+use ub_plan::Plan;
+use ub_query::Query;
+use ub_store::PageStore;
+use ub_table::{Row, Schema};
+use ub_tree::Tree;
+
+/// How far a sweep has come.
+#[derive(Drop)]
+pub struct State {
+    alloc: Global,
+    course: Course,
+    held: HeldRows,
+    // The regions that it comes to, in order, and how many of them were fetched.
+    queue: Vec<Awaited>,
+    fetched: usize,
+}
+
+impl State {
+    /// A sweep that awaits these regions.
+    pub fn new(alloc: Global, course: Course, queue: Vec<Awaited>) -> State
+        ensures course { result.course ≡ course }
+        ensures held { result.held ≡ [] }
+        ensures queue { result.queue ≡ queue }
+        ensures fetched { result.fetched ≡ 0 }
+    {
+        State {
+            alloc,
+            course,
+            held: HeldRows::new(alloc),
+            queue,
+            fetched: 0,
+        }
+    }
+
+    /// How many rows are held.
+    pub fn held(&self) -> usize
+        ensures { result ≡ length self.now.held }
+    {
+        self.held.len()
+    }
+
+    /// Fetches regions until none can hold a row before the first that is held, and takes that row.
+    pub fn step<S: PageStore>(
+        &mut self,
+        tree: &mut Tree<S>,
+        plan: &Plan,
+    ) -> Result<Option<Row>, SweepFault>
+        requires { IsPosed (length tree.old.schema.columns) plan.now.asked }
+        ensures next { (given rest : List RowView) (fetched unread : List Event)
+            → IsSweeping plan.now tree.old (view_of self.old) given rest fetched unread
+            → IfOk result
+            (HasStepped plan.now tree.new (view_of self.new) given rest fetched unread) }
+        ensures effect { Sweeps (view_of self.old) (view_of self.new) tree.old tree.new result }
+    {
+        while self.is_due() {
+            self.fetch(tree, plan.query())?;
+        }
+        Ok(self.held.take_first())
+    }
+
+    // Whether the next region can hold a row that isn't after the first of those held.
+    fn is_due(&self) -> bool
+        ensures { IsDue self.now result }
+    {
+        match (self.queue.get(self.fetched), self.held.first()) {
+            (None, _) => false,
+            (Some(_), None) => true,
+            (Some(awaited), Some(row)) => {
+                let last = coordinate(&row, self.course.dim);
+                !is_past(self.course.is_descending, last, awaited.value)
+            }
+        }
+    }
+
+    // Fetches the next region, and holds its selected rows.
+    fn fetch<S: PageStore>(&mut self, tree: &mut Tree<S>, query: &Query) -> Result<(), SweepFault>
+        requires posed { IsPosed (length tree.old.schema.columns) (asked query.now) }
+        requires some { self.old.fetched < length self.old.queue.items }
+        ensures onward { IsOnward self.old self.new }
+        ensures rows { OnOk result
+            (HasFetchedNext (asked query.now) tree.old tree.new self.old self.new) }
+        ensures effect { Sweeps (view_of self.old) (view_of self.new) tree.old tree.new result }
+    {
+        let region = self.queue[self.fetched].region;
+        self.fetched += 1;
+        let page = tree.read_region(&region)?;
+        hold_selected(
+            &mut self.held,
+            self.alloc,
+            tree.schema(),
+            query,
+            page.rows(),
+        )?;
+        Ok(())
+    }
+}
+
+// Holds the rows that the query selects.
+fn hold_selected(
+    held: &mut HeldRows,
+    alloc: Global,
+    schema: &Schema,
+    query: &Query,
+    rows: &[Row],
+) -> Result<(), AllocError>
+    requires { IsPosed (length schema.now.columns) (asked query.now) }
+    ensures { OnOk result (HoldsAlso schema.now (asked query.now) rows.now held.old held.new) }
+{
+    for row in rows {
+        if query.selects(schema, row) {
+            held.hold(alloc, schema, query.order.as_slice(), row)?;
+        }
+    }
+    Ok(())
+}
+
+// The coordinate of a row in a dimension; 0 in one that no row has.
+fn coordinate(row: &Row, dim: usize) -> u32
+    ensures { result ≡ slice_index row.now.dims dim }
+{
+    row.dims.get(dim).copied().unwrap_or(0)
+}

@@ -1,0 +1,102 @@
+use crate::awaiting::await_regions;
+use crate::course::{Course, NOWHERE, course_of};
+use crate::event::Awaited;
+use crate::fault::SweepFault;
+use crate::state::State;
+use std::alloc::Global;
+use std::marker::Model;
+use ub_plan::Plan;
+use ub_store::PageStore;
+use ub_table::Row;
+use ub_tree::Tree;
+
+/// A sweep over the regions of a tree, by a plan.
+///
+/// It borrows nothing: each call is given the tree and the plan that `new` was given, the tree as the sweep's last call left
+/// it.
+#[derive(Drop)]
+pub struct Sweep {
+    state: State,
+    is_failed: bool,
+}
+
+impl Model for Sweep {
+    ghost use Rattle.ub_tetris.specs.Sweep.{SweepView};
+    ghost use Rattle.ub_tetris.specs.inner.Turns.{view_by};
+
+    ghost Value = { SweepView };
+
+    ghost view = { λ s. view_by s.state s.is_failed };
+}
+
+impl Sweep {
+    ghost use Rattle.std.specs.Prelude.{◌≡◌, ℕ, Bool, List, length, IfOk};
+    ghost use Rattle.ub_plan.specs.Visits.{Event};
+    ghost use Rattle.ub_query.specs.Posed.{IsPosed};
+    ghost use Rattle.ub_table.specs.declared.row.Row.{Row as RowView};
+    ghost use Rattle.ub_tetris.specs.Effects.{Begins, FailsOnce, Sweeps};
+    ghost use Rattle.ub_tetris.specs.inner.Turns.{begun_view};
+    ghost use Rattle.ub_tetris.specs.Sweep.{HasBegun, HasStepped, IsStarted, IsSweeping, IsSwept};
+
+    /// Begins a sweep by a plan. The trace begins anew; no region is fetched. Of a plan that is no sweep it comes to no region.
+    ///
+    /// `Memory` where memory was refused; `Tree` where the tree refused.
+    pub fn new<S: PageStore>(
+        alloc: Global,
+        tree: &mut Tree<S>,
+        plan: &Plan,
+    ) -> Result<Sweep, SweepFault>
+        ensures begun { (dim : ℕ) (is_descending : Bool)
+            → IsSwept tree.old plan.now dim is_descending → IfOk result (HasBegun plan.now tree.new) }
+        ensures started { IfOk result (IsStarted tree.new) }
+        ensures effect { Begins tree.old tree.new result }
+    {
+        tree.begin();
+        let Some(course) = course_of(plan) else {
+            return Ok(Sweep::over(alloc, NOWHERE, Vec::new(alloc)));
+        };
+        let queue = await_regions(alloc, tree, plan.boxes(), course)?;
+        Ok(Sweep::over(alloc, course, queue))
+    }
+
+    // A sweep that comes to these regions.
+    fn over(alloc: Global, course: Course, queue: Vec<Awaited>) -> Sweep
+        ensures { result ≡ begun_view course queue.items }
+    {
+        Sweep {
+            state: State::new(alloc, course, queue),
+            is_failed: false,
+        }
+    }
+
+    /// The next row in the order asked; `None` after the last, however often it is asked.
+    ///
+    /// No region is fetched that can only hold rows after this one. `Memory` where memory was refused; `Tree` where the tree
+    /// refused; after either of them `Failed` each time.
+    pub fn next<S: PageStore>(
+        &mut self,
+        tree: &mut Tree<S>,
+        plan: &Plan,
+    ) -> Result<Option<Row>, SweepFault>
+        requires { IsPosed (length tree.old.schema.columns) plan.now.asked }
+        ensures next { (given rest : List RowView) (fetched unread : List Event)
+            → IsSweeping plan.now tree.old self.old given rest fetched unread
+            → IfOk result (HasStepped plan.now tree.new self.new given rest fetched unread) }
+        ensures once { FailsOnce self.old self.new tree.old tree.new result }
+        ensures effect { Sweeps self.old self.new tree.old tree.new result }
+    {
+        if self.is_failed {
+            return Err(SweepFault::Failed);
+        }
+        let found = self.state.step(tree, plan);
+        self.is_failed = found.is_err();
+        found
+    }
+
+    /// How many rows are held: they were fetched, and are still to be given.
+    pub fn held(&self) -> usize
+        ensures { result ≡ length self.now.held }
+    {
+        self.state.held()
+    }
+}
