@@ -3,6 +3,7 @@ use std::alloc::{AllocError, Global};
 use std::test::Fail;
 use std::{fs, process, str};
 use ub_script::Over;
+use ub_shell::HostFiles;
 use ub_shell::command::command;
 
 // The words of a command line, the program's name first.
@@ -19,7 +20,12 @@ fn words_of(alloc: Global, words: &[&str]) -> Result<Vec<String>, AllocError> {
 fn run(rt: &HostRuntime, words: &[&str]) -> Result<(Vec<u8>, u8), AllocError> {
     let words = words_of(rt.alloc(), words)?;
     let mut out = Over::new(Vec::new(rt.alloc()));
-    let status = command(rt, words.as_slice(), &mut out);
+    let status = command(
+        rt.alloc(),
+        &mut HostFiles::new(rt),
+        words.as_slice(),
+        &mut out,
+    );
     Ok((out.into_inner(), status))
 }
 

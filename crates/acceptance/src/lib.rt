@@ -7,11 +7,17 @@ mod boxes;
 #[cfg(test)]
 mod commands;
 #[cfg(test)]
+mod fetches;
+#[cfg(test)]
+mod files;
+#[cfg(test)]
 mod queries;
 #[cfg(test)]
 mod scripts;
 #[cfg(test)]
 mod statements;
+#[cfg(test)]
+mod sweeps;
 #[cfg(test)]
 mod tables;
 #[cfg(test)]

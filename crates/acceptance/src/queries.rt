@@ -23,11 +23,11 @@ const ORDERED: [(&str, &str); 13] = [
     ),
     (
         "SELECT x, y FROM t ORDER BY x LIMIT 1;",
-        "x,y\n0,2\n-- rows 1, pages 3\n",
+        "x,y\n0,2\n-- rows 1, pages 2\n",
     ),
     (
         "SELECT * FROM t ORDER BY x DESC, m LIMIT 1;",
-        "x,y,m\n3,0,5\n-- rows 1, pages 3\n",
+        "x,y,m\n3,0,5\n-- rows 1, pages 2\n",
     ),
     (
         "SELECT * FROM t ORDER BY x DESC, m LIMIT 2;",

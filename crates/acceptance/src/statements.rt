@@ -5,7 +5,7 @@ use std::str;
 use std::test::Fail;
 
 // Statements that are refused, each for one reason or, from `SELECT FROM # t` on, for two, the first of which is told.
-const REFUSED: [(&str, &str); 20] = [
+const REFUSED: [(&str, &str); 19] = [
     ("SELECT x FROM t WHERE x = 1 # 2;", "! BadByte at 28\n"),
     ("SELECT x FROM t WHERE x ! 1;", "! BadByte at 24\n"),
     ("SELECT FROM t;", "! Syntax at 7\n"),
@@ -40,12 +40,20 @@ const REFUSED: [(&str, &str); 20] = [
         "SELECT y, SUM(m) FROM t GROUP BY x ORDER BY COUNT(*);",
         "! NotGrouped at 7\n",
     ),
-    // Accepted, and not answered yet.
-    ("EXPLAIN SELECT x FROM t;", "! Syntax at 0\n"),
 ];
 
 // Queries of rows.
-const ANSWERED: [(&str, &str); 11] = [
+const ANSWERED: [(&str, &str); 13] = [
+    (
+        "EXPLAIN SELECT * FROM t WHERE x <= 2 OR y >= 2;",
+        "plan scan\ncover exact\nfilter no\nbox x 0..2, y 0..4294967295\n\
+          box x 3..4294967295, y 2..4294967295\npoints 18446744065119617030\nregions 3 of 3\n",
+    ),
+    (
+        "EXPLAIN SELECT x FROM t ORDER BY y DESC LIMIT 1;",
+        "plan sweep y desc\ncover exact\nfilter no\nbox x 0..4294967295, y 0..4294967295\n\
+          points 18446744073709551616\nregions 3 of 3\n",
+    ),
     (
         "SELECT * FROM t",
         "x,y,m\n1,1,10\n2,3,20\n3,0,5\n0,2,7\n2,3,1\n-- rows 5, pages 3\n",

@@ -1,4 +1,5 @@
-ghost use Rattle.std.specs.Prelude.{List, ℕ, Option, None};
+ghost use Rattle.std.specs.Prelude.{None};
+ghost use Rattle.ub_script.specs.Output.{out_facts};
 
 use crate::SMALL_TABLE;
 use std::str;
@@ -17,9 +18,7 @@ struct Narrow {
 }
 
 impl Out for Narrow {
-    ghost told = { λ _. None };
-
-    ghost failures = { λ n. n.failed };
+    ghost facts = { λ narrow. out_facts None narrow.failed };
 
     fn write(&mut self, bytes: &[u8]) -> Result<usize, OutFault> {
         match bytes.first() {

@@ -1,7 +1,10 @@
 ghost use Rattle.std.specs.Prelude.{◌≡◌, ◌+◌, ◌≤◌, length, take, drop};
 
+use crate::rows::push_row;
+use std::alloc::{AllocError, Global};
 use std::marker::Model;
-use ub_query::Cell;
+use ub_query::{Cell, Item};
+use ub_table::{Row, Schema};
 
 /// The rows of an answer: all cells in one vector, row after row. A contract sees the list of rows.
 #[derive(Drop)]
@@ -24,8 +27,11 @@ impl Model for Cells {
 }
 
 impl Cells {
-    ghost use Rattle.std.specs.Prelude.{◌≡◌, ◌==◌, ◌<◌, ◌*◌, Some, length, slice_get};
+    ghost use Rattle.std.specs.Prelude.{◌≡◌, ◌==◌, ◌≤◌, ◌<◌, ◌*◌, ◌++◌, ◌∷◌, [], Some, length, map, slice_get, is_ok, if◌then◌else◌};
+    ghost use Rattle.std.specs.List.{All, AllByRecursion};
     ghost use Rattle.ub_answer.specs.Cut.{cut};
+    ghost use Rattle.ub_query.specs.Cells as sql;
+    ghost use Rattle.ub_query.specs.Posed.{IsItemOver};
 
     /// So many rows of so many cells each, which stand one after the other.
     pub fn new(cells: Vec<Cell>, width: usize, count: usize) -> Cells
@@ -36,6 +42,40 @@ impl Cells {
             cells,
             width,
             count,
+        }
+    }
+
+    /// No rows. Takes no memory.
+    pub fn none(alloc: Global) -> Cells
+        ensures { result ≡ [] }
+    {
+        Cells {
+            cells: Vec::new(alloc),
+            width: 0,
+            count: 0,
+        }
+    }
+
+    /// Puts the cells of a row for some items after the rows that there are, which have as many cells each. Where memory is
+    /// refused the rows stay as they were.
+    pub fn push_row(&mut self, schema: &Schema, items: &[Item], row: &Row) -> Result<(), AllocError>
+        requires over { All (λ item. IsItemOver (length schema.now.columns) item) items.now }
+        requires some { 1 ≤ length items.now }
+        requires wide { AllByRecursion (λ cells. length cells ≡ length items.now) self.old }
+        ensures { self.new ≡ (if is_ok result
+            then self.old ++ map (sql.row_cell schema.now row.now) items.now ∷ [] else self.old) }
+    {
+        let whole = self.cells.as_slice().len();
+        match push_row(&mut self.cells, schema, items, row) {
+            Ok(()) => {
+                self.width = items.len();
+                self.count += 1;
+                Ok(())
+            }
+            Err(refused) => {
+                self.cells.truncate(whole);
+                Err(refused)
+            }
         }
     }
 

@@ -1,4 +1,4 @@
-ghost use Rattle.std.specs.Prelude.{◌≡◌, ◌+◌, ◌≤◌, ◌∷◌, ◌++◌, [], ℕ, List, Option, length, map, IfOk, OnOk, IfSome, IsTrue, Some, None};
+ghost use Rattle.std.specs.Prelude.{◌≡◌, ◌+◌, ◌≤◌, ◌∷◌, ◌++◌, [], ℕ, List, Option, length, map, take, IfOk, OnOk, IfSome, IsTrue, Some, None};
 ghost use Rattle.std.specs.List.{All};
 ghost use Rattle.std.specs.declared.cmp.Ordering.TheVariants.{Less};
 ghost use Rattle.std.specs.List.Sorted.{IsPermutation, IsSorted};
@@ -136,16 +136,17 @@ fn cells_of_rows(
     Ok(Cells::new(cells, items.len(), rows.len()))
 }
 
-// Puts the cells of a row after those that there are.
-fn push_row(
+/// Puts the cells of a row after those that there are; where memory is refused, some of them.
+pub fn push_row(
     cells: &mut Vec<Cell>,
     schema: &Schema,
     items: &[Item],
     row: &Row,
 ) -> Result<(), AllocError>
     requires { All (λ item. IsItemOver (length schema.now.columns) item) items.now }
-    ensures { OnOk result
+    ensures done { OnOk result
         (cells.new.items ≡ cells.old.items ++ map (sql.row_cell schema.now row.now) items.now) }
+    ensures front { take (length cells.old.items) cells.new.items ≡ cells.old.items }
 {
     for item in items {
         cells.push(row_cell(schema, row, *item))?;

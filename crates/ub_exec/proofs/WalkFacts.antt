@@ -59,7 +59,7 @@ module _ {X : Type 0} where
   pub take_next : (xs : List X) (k : ℕ) (x : X) → slice_get xs k ≡ Some x → take (suc k) xs ≡ take k xs ++ x ∷ []
   take_next xs k x at = take-suc xs k x (slice_get_within xs k x at) ∙ ap (λ (y : X). take k xs ++ y ∷ []) (get_or_from_slice_get xs k x x at)
 
-  take_all : (n : ℕ) (xs : List X) → length xs ≤ n → take n xs ≡ xs
+  pub take_all : (n : ℕ) (xs : List X) → length xs ≤ n → take n xs ≡ xs
   take_all zero [] h = refl
   take_all zero (x ∷ xs) h = absurd (omega arith)
   take_all (suc n) [] h = refl

@@ -1,6 +1,8 @@
 -- What carrying out a plan answers.
 use Rattle.std.specs.Prelude.{◌≡◌, List, []}
 use Rattle.ub_plan.specs.Plan.{PlanView, plan_of}
+use Rattle.ub_plan.specs.declared.planned.Kind.{Kind}
+use Rattle.ub_plan.specs.declared.planned.Kind.TheVariants.{Empty, Scan, Sweep}
 use Rattle.ub_query.specs.Meaning.{IsMeaning}
 use Rattle.ub_query.specs.Shape.{Asked}
 use Rattle.ub_query.specs.declared.cell.Cell.{Cell}
@@ -21,3 +23,9 @@ IsAnswer t q cells = (rows : List Row) → AreTableRows (regions t) rows
 -- the tree with an empty trace
 abbrev pub begun : TreeView → TreeView
 begun t = record t { trace = [] }
+
+-- the regions are read in the order of a dimension
+abbrev pub IsSwept : Kind → Type 0
+IsSwept Empty = ⊥
+IsSwept Scan = ⊥
+IsSwept (Sweep dim is_descending) = Unit {0}

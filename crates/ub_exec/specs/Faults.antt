@@ -3,6 +3,8 @@ use Rattle.std.specs.Prelude.{◌≡◌, ◌≢◌, ℕ, Result, Err, IfErr}
 use Rattle.ub_exec.specs.declared.fault.ExecFault.{ExecFault}
 use Rattle.ub_exec.specs.declared.fault.ExecFault.TheVariants.{Memory, Tree}
 use Rattle.ub_store.specs.Facts.{StoreFacts}
+use Rattle.ub_tetris.specs.declared.fault.SweepFault.{SweepFault}
+use Rattle.ub_tetris.specs.declared.fault.SweepFault.TheVariants as sweep
 use Rattle.ub_tree.specs.Effects.{IsReadFault, raised_by}
 use Rattle.ub_tree.specs.View.{TreeView}
 use Rattle.ub_tree.specs.declared.fault.TreeFault.{TreeFault}
@@ -12,6 +14,12 @@ use Rattle.ub_tree.specs.declared.fault.TreeFault.TheVariants.{Memory as no_memo
 abbrev pub fault_of_tree : TreeFault → ExecFault
 fault_of_tree no_memory = Memory
 fault_of_tree fault = Tree fault
+
+-- what a sweep's fault is here; that it has failed before is never answered
+abbrev pub IsSameFault : SweepFault → ExecFault → Type 0
+IsSameFault (sweep.Tree fault) (Tree other) = fault ≡ other
+IsSameFault sweep.Memory Memory = Unit {0}
+IsSameFault fault other = ⊥
 
 -- a fault of the tree as its reading calls answer it, but for want of memory
 abbrev pub IsGiven : TreeView → ExecFault → Type 0

@@ -1,3 +1,5 @@
 pub mod Answers
+pub mod Choice
 pub mod Faults
+pub mod Sweeping
 pub mod Visits

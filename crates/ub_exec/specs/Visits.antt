@@ -1,25 +1,20 @@
--- The regions that carrying out a plan fetches: those that its plan visits, each once, in the order of their keys.
-use Rattle.std.specs.Prelude.{◌≡◌, ◌++◌, Bool, ℕ, zero, suc, List, [], Option, Some, None, length, map}
+-- The regions that carrying out a plan fetches: those that its plan visits, each once, in their order.
+use Rattle.std.specs.Prelude.{◌≡◌, ◌++◌, Bool, List, [], Option, Some, None, length, map}
 use Rattle.std.specs.List.{AllByRecursion, Contains, filter}
 use Rattle.ub_bigmin.specs.Box.{Corners}
 use Rattle.ub_plan.specs.Plan.{PlanView}
 use Rattle.ub_plan.specs.Visits as plan
 use Rattle.ub_plan.specs.Visits.{AreThose, AreVisits}
 use Rattle.ub_region.specs.Regions.{rows_of}
-use Rattle.ub_store.specs.Facts.{raised}
 use Rattle.ub_table.specs.declared.row.Row.{Row}
+pub use Rattle.ub_tetris.specs.Effects.{fetches_then}
 use Rattle.ub_tree.specs.Effects.{HasNoted}
 use Rattle.ub_tree.specs.Placed.{Placed, regions_in}
 use Rattle.ub_tree.specs.Spans.{IsLater, Meets, First}
 use Rattle.ub_tree.specs.View.{TreeView, KeepsTrace, regions, spans_of}
 use Rattle.ub_tree.specs.declared.region.Region.{Region as Span}
 
--- a count of fetches after so many more
-abbrev pub fetches_then : ℕ → ℕ → ℕ
-fetches_then fetches zero = fetches
-fetches_then fetches (suc n) = raised fetches (suc n)
-
--- the regions that a plan visits were fetched, each once, in the order of their keys, and no others: their pages stand in the
+-- the regions that a plan visits were fetched, each once, in the order of the visits, and no others: their pages stand in the
 -- trace, after those that stood there
 pub record HasFetched (p : PlanView) (old new : TreeView) : Type 0 where
   pub visits : List plan.Span

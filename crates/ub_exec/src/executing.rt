@@ -1,14 +1,16 @@
-ghost use Rattle.std.specs.Prelude.{◌≡◌, ◌↔◌, [], Some, length, IsTrue, IfOk, OnOk};
-ghost use Rattle.ub_exec.specs.Answers.{IsReady, IsAnswer, begun};
+ghost use Rattle.std.specs.Prelude.{◌≡◌, ◌↔◌, Some, length, IsTrue, IfOk, OnOk};
+ghost use Rattle.ub_exec.specs.Answers.{IsReady, IsAnswer, IsSwept, begun};
 ghost use Rattle.ub_exec.specs.Faults.{ReadsTree};
 ghost use Rattle.ub_exec.specs.Visits.{HasFetched};
 ghost use Rattle.ub_query.specs.Posed.{IsPosed};
 
+use crate::choice::Choice;
 use crate::fault::ExecFault;
+use crate::sweeping::swept_rows;
 use crate::walking::walk;
 use std::alloc::Global;
 use ub_answer::{Cells, Gathering};
-use ub_plan::Plan;
+use ub_plan::{Kind, Plan};
 use ub_query::Query;
 use ub_store::PageStore;
 use ub_tree::Tree;
@@ -23,7 +25,7 @@ pub struct Answer {
 }
 
 /// The answer of a query by its plan, on the rows of a tree's table. The trace begins anew, and then has the pages of the
-/// regions that the plan visits, each once, in the order of their keys.
+/// regions that the plan visits, each once, in their order.
 ///
 /// `Memory` where memory was refused; `Tree` where the tree refused. On a sound tree it refuses only where its store failed in
 /// this call.
@@ -38,7 +40,6 @@ pub fn execute<S: PageStore>(
     ensures fetched { IfOk result (λ a. a.fetched ≡ length tree.new.trace) }
     ensures effect { ReadsTree tree.old tree.new result }
 {
-    tree.begin();
     let rows = result_rows(alloc, tree, plan)?;
     Ok(Answer {
         rows,
@@ -46,7 +47,7 @@ pub fn execute<S: PageStore>(
     })
 }
 
-// The rows of the result. LIMIT 0 asks for no row, and no region is fetched for it.
+// The rows of the result. The trace begins anew.
 fn result_rows<S: PageStore>(
     alloc: Global,
     tree: &mut Tree<S>,
@@ -54,15 +55,37 @@ fn result_rows<S: PageStore>(
 ) -> Result<Cells, ExecFault>
     requires { IsPosed (length tree.old.schema.columns) plan.now.asked }
     ensures rows { IsReady tree.old plan.now → IfOk result (λ cells. IsAnswer tree.old plan.now.asked cells) }
-    ensures pages { IsReady tree.old plan.now → OnOk result (HasFetched plan.now tree.old tree.new) }
+    ensures pages { IsReady tree.old plan.now → OnOk result (HasFetched plan.now (begun tree.old) tree.new) }
+    ensures effect { ReadsTree tree.old tree.new result }
+{
+    match plan.kind() {
+        Kind::Empty | Kind::Scan => {
+            tree.begin();
+            scanned_rows(alloc, tree, plan)
+        }
+        Kind::Sweep { .. } => swept_rows(alloc, tree, plan),
+    }
+}
+
+// The rows of the result by a scan. LIMIT 0 asks for no row, and no region is fetched for it.
+fn scanned_rows<S: PageStore>(
+    alloc: Global,
+    tree: &mut Tree<S>,
+    plan: &Plan,
+) -> Result<Cells, ExecFault>
+    requires { IsPosed (length tree.old.schema.columns) plan.now.asked }
+    ensures rows { IsReady tree.old plan.now → IfOk result (λ cells. IsAnswer tree.old plan.now.asked cells) }
+    ensures pages { IsReady tree.old plan.now → ¬ IsSwept plan.now.kind
+        → OnOk result (HasFetched plan.now tree.old tree.new) }
     ensures effect { ReadsTree tree.old tree.new result }
 {
     let query = plan.query();
     if asks_for_none(query) {
-        return Ok(no_rows(alloc, query));
+        return Ok(Cells::none(alloc));
     }
     let mut gathering = Gathering::new(alloc, tree.schema(), query);
-    walk(tree, plan.boxes(), query, &mut gathering)?;
+    let choice = Choice::of(plan, tree.schema());
+    walk(tree, plan, choice, &mut gathering)?;
     Ok(gathering.finish(tree.schema(), query)?)
 }
 
@@ -71,11 +94,4 @@ fn asks_for_none(query: &Query) -> bool
     ensures { IsTrue result ↔ (query.now.limit ≡ Some 0) }
 {
     matches!(query.limit, Some(0))
-}
-
-// A result of no rows.
-fn no_rows(alloc: Global, query: &Query) -> Cells
-    ensures { result ≡ [] }
-{
-    Cells::new(Vec::new(alloc), query.items.as_slice().len(), 0)
 }

@@ -4,6 +4,7 @@ ghost use Rattle.ub_exec.specs.declared.fault.ExecFault.TheVariants.{Memory};
 
 use std::alloc::AllocError;
 use thiserror::Error;
+use ub_tetris::SweepFault;
 use ub_tree::TreeFault;
 
 /// Why a plan was not carried out.
@@ -32,6 +33,23 @@ impl From<TreeFault> for ExecFault {
         match fault {
             TreeFault::Memory => ExecFault::Memory,
             fault => ExecFault::Tree(fault),
+        }
+    }
+}
+
+impl ExecFault {
+    ghost use Rattle.std.specs.Prelude.{◌≢◌};
+    ghost use Rattle.ub_exec.specs.Faults.{IsSameFault};
+
+    /// What the fault of a sweep is here, which hasn't failed before.
+    pub(crate) fn of_sweep(fault: SweepFault) -> ExecFault
+        requires { fault ≢ SweepFault.Failed }
+        ensures { IsSameFault fault result }
+    {
+        match fault {
+            SweepFault::Tree(fault) => ExecFault::Tree(fault),
+            SweepFault::Memory => ExecFault::Memory,
+            SweepFault::Failed => unreachable!(),
         }
     }
 }

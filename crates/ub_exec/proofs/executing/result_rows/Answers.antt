@@ -1,46 +1,33 @@
-use Rattle.std.proofs.Common.{◌≡◌, ◌≢◌, ◌∙◌, Bool, true, false, List, [], Some, ap, refl, subst, sym}
-use Rattle.std.specs.List.{filter}
-use Rattle.ub_answer.specs.Gathered.{IsGathered}
-use Rattle.ub_bigmin.specs.Box.{Corners}
-use Rattle.ub_exec.proofs.MeantFacts.{nothing_fetched, walk_fetched, answered}
-use Rattle.ub_exec.specs.Visits.{HasWalked}
-use Rattle.ub_plan.proofs.Laws.{limit_of_zero_means_nothing}
-use Rattle.ub_query.specs.Groups.{is_selected}
-use Rattle.ub_query.specs.Shape.{Asked, asked}
+use Rattle.std.proofs.Common.{◌≡◌, ◌⊎◌, inl, inr, IfOk, OnOk, subst, sym}
+use Rattle.ub_exec.proofs.KeptFacts.{Keeps-by, begun_traced, reads_then}
+use Rattle.ub_exec.specs.Answers.{IsReady, IsAnswer, IsSwept, begun}
+use Rattle.ub_exec.specs.Visits.{HasFetched}
+use Rattle.ub_plan.specs.Plan.{PlanView, plan_of}
+use Rattle.ub_plan.specs.declared.planned.Kind.{Kind}
+use Rattle.ub_plan.specs.declared.planned.Kind.TheVariants.{Empty, Scan, Sweep}
 use Rattle.ub_table.specs.declared.schema.Schema.{Schema}
 use Rattle.ub_tree.specs.View.{TreeView}
 use Rattle.ub_exec.proofs.executing.result_rows.Goals as goal
 
-is_some : (b : Bool) → b ≡ false → b ≡ true → ⊥
-is_some b f t = cc
+-- the plan is that of its query over the schema of the tree whose trace begins anew
+then : (t new : TreeView) (p : PlanView) → new ≡ begun t → IsReady t p → IsReady new p
+then t new p is ready =
+    let kept = Keeps-by t new (begun_traced t new is) in
+    record { sound = kept.sound ready.sound; planned = subst (λ (s : Schema). p ≡ plan_of s p.asked) (sym kept.regions.schema) ready.planned }
 
-pub returns-then-asks_for_none-clause-rows : goal.returns-then-asks_for_none-clause-rows
-returns-then-asks_for_none-clause-rows g c ready rows are =
-    let limit = sym (ap (λ (q : Asked). q.limit) c.query-query.ensures) ∙ c.asks_for_none.ensures.0 c.if-asks_for_none.true in
-    (limit_of_zero_means_nothing (record { schema = c.args.tree.now.schema; rows = rows }) c.args.plan.now.asked c.no_rows.result limit are.ascending).1 c.no_rows.ensures
+apart : (found kind : Kind) → found ≡ kind → (found ≡ Empty) ⊎ (found ≡ Scan) → ¬ IsSwept kind
+apart found Empty same either = λ swept. swept
+apart found Scan same either = λ swept. swept
+apart found (Sweep dim is_descending) same either = λ swept. elim either [
+  | inl e ↦ cc
+  | inr e ↦ cc
+]
 
-pub returns-then-asks_for_none-clause-pages : goal.returns-then-asks_for_none-clause-pages
-returns-then-asks_for_none-clause-pages g c ready =
-    let limit = sym (ap (λ (q : Asked). q.limit) c.query-query.ensures) ∙ c.asks_for_none.ensures.0 c.if-asks_for_none.true in
-    nothing_fetched _ _ _ ready.planned limit refl refl
-
-pub returns-clause-rows : goal.returns-clause-rows
-returns-clause-rows g c ready rows are =
-    let query = asked c.query-query.result.now in
-    let same : query ≡ c.args.plan.now.asked = c.query-query.ensures in
-    let some : c.args.plan.now.asked.limit ≢ Some 0 = λ none. absurd (is_some c.asks_for_none.result c.if-asks_for_none.false (c.asks_for_none.ensures.1 (ap (λ (q : Asked). q.limit) same ∙ none))) in
-    let begun = subst (λ (s : Schema). IsGathered s query [] c.new-gathering.result) c.schema.ensures c.new-gathering.ensures.gathered in
-    let (handed, held, walk) = c.in_ok-walk.ensures.rows [] begun in
-    let after : c.schema-2.result.now ≡ c.args.tree.now.schema = c.schema-2.ensures ∙ ap (λ (t : TreeView). t.schema) c.in_ok-walk.ensures.effect.same in
-    answered c.args.tree.now ready.sound rows are c.args.plan.now ready.planned some query same c.boxes.result.now c.boxes.ensures c.walk.new.tree handed (walk ready.sound) _
-    (λ table condition schema order numbers chosen.
-    c.in_ok-finish.ensures table condition (filter (is_selected c.args.tree.now.schema query.filter) handed) (schema ∙ sym after) order numbers chosen
-    (subst (λ (s : Schema). IsGathered s query (filter (is_selected c.args.tree.now.schema query.filter) handed) c.walk.new.taker) (sym after) held))
-
-pub returns-clause-pages : goal.returns-clause-pages
-returns-clause-pages g c ready =
-    let query = asked c.query-query.result.now in
-    let begun = subst (λ (s : Schema). IsGathered s query [] c.new-gathering.result) c.schema.ensures c.new-gathering.ensures.gathered in
-    let (handed, held, walk) = c.in_ok-walk.ensures.rows [] begun in
-    walk_fetched c.args.plan.now c.args.tree.now c.walk.new.tree handed ready.sound
-    (subst (λ (boxes : List Corners). HasWalked boxes c.args.tree.now c.walk.new.tree handed) c.boxes.ensures (walk ready.sound))
+pub returns-in-Empty : goal.returns-in-Empty
+returns-in-Empty g c = record {
+  rows = λ ready. subst (λ (t : TreeView). IfOk c.scanned_rows.result (λ cells. IsAnswer t c.args.plan.now.asked cells)) c.begin.ensures
+      (c.scanned_rows.ensures.rows (then c.args.tree.now c.begin.new.self c.args.plan.now c.begin.ensures ready));
+  pages = λ ready. subst (λ (t : TreeView). OnOk c.scanned_rows.result (HasFetched c.args.plan.now t c.scanned_rows.new.tree)) c.begin.ensures
+      (c.scanned_rows.ensures.pages (then c.args.tree.now c.begin.new.self c.args.plan.now c.begin.ensures ready) (apart c.kind.result c.args.plan.now.kind c.kind.ensures c.in-Empty.is));
+  effect = reads_then c.scanned_rows.result c.args.tree.now c.begin.new.self c.scanned_rows.new.tree (begun_traced c.args.tree.now c.begin.new.self c.begin.ensures) c.scanned_rows.ensures.effect;
+}

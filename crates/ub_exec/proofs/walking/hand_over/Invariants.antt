@@ -1,11 +1,10 @@
 use Rattle.std.proofs.Common.{◌++◌, List, take}
 use Rattle.std.specs.List.{filter}
-use Rattle.ub_query.specs.Groups.{is_selected}
-use Rattle.ub_query.specs.Shape.{asked}
+use Rattle.ub_exec.specs.Choice.{is_chosen}
 use Rattle.ub_table.specs.declared.row.Row.{Row as RowView}
 use Rattle.ub_exec.proofs.walking.hand_over.Given as goal
 
-abbrev pub invariant-loop-row : goal.invariant-loop-row
-invariant-loop-row g l =
-    (taken : List RowView) → g.T.Taker.HasTaken l.schema (asked l.query) taken l.initial.taker
-    → g.T.Taker.HasTaken l.schema (asked l.query) (taken ++ filter (is_selected l.schema (asked l.query).filter) (take l.row-index l.rows)) l.taker
+abbrev pub invariant-loop-place : goal.invariant-loop-place
+invariant-loop-place g l =
+    (taken : List RowView) → g.T.Taker.HasTaken l.schema l.plan.asked taken l.initial.taker
+    → g.T.Taker.HasTaken l.schema l.plan.asked (taken ++ filter (is_chosen l.fn.choice l.schema l.plan) (take l.place l.page.region.rows)) l.taker

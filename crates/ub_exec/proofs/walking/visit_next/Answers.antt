@@ -1,18 +1,35 @@
-use Rattle.std.proofs.Common.{◌≡◌, ◌∙◌, Contains, ap, subst, sym}
+use Rattle.std.proofs.Common.{◌≡◌, ◌∙◌, List, [], Some, None, Contains, ap, refl, subst, sym}
+use Rattle.std.proofs.lemmas.List.{append-nil}
+use Rattle.std.specs.Option.{option_copied}
+use Rattle.ub_bigmin.specs.Box.{Corners}
 use Rattle.ub_exec.proofs.KeptFacts.{Keeps-by, tree_fault, unchanged_trace, unchanged_traced}
 use Rattle.ub_exec.proofs.WalkFacts.{visited_by}
+use Rattle.ub_table.specs.declared.row.Row.{Row}
+use Rattle.ub_tree.specs.Spans.{First, IsLater, Meets}
 use Rattle.ub_tree.specs.View.{TreeView, spans_of}
 use Rattle.ub_exec.proofs.walking.visit_next.Goals as goal
+
+pub returns-in_default-clause-rows : goal.returns-in_default-clause-rows
+returns-in_default-clause-rows g c taken has = (
+  [],
+  subst (λ (rows : List Row). g.T.Taker.HasTaken c.args.tree.now.schema c.args.plan.now.asked rows c.args.taker.now) (sym (append-nil taken)) has,
+  λ sound. (
+    subst (λ (boxes : List Corners). First (λ s. IsLater (option_copied c.args.after) s × Meets boxes s) (spans_of c.args.tree.now) None) c.boxes.ensures.boxes (rw c.in_default.is at c.in_ok-region.ensures.found),
+    unchanged_trace c.args.tree.now c.next_meeting.new.self c.in_ok-region.ensures.effect.same,
+    refl,
+  ),
+)
 
 pub returns-clause-rows : goal.returns-clause-rows
 returns-clause-rows g c taken has =
     let same = c.in_ok-region.ensures.effect.same in
     let schema : c.schema.result.now ≡ c.args.tree.now.schema =
     c.schema.ensures ∙ ap (λ (t : TreeView). t.schema) c.in_ok-page.ensures.effect.same ∙ ap (λ (t : TreeView). t.schema) same in (
-      c.rows.result.now,
+      c.in_ok-page.page.region.rows,
       (rw schema at (c.in_ok-hand_over.ensures taken)) has,
-      λ sound. visited_by c.args.tree.now _ c.read_region.new.self _ _ c.in-Some.region c.in_ok-page.page.region _ sound (rw c.in-Some.is at c.in_ok-region.ensures.found)
-          (Keeps-by _ _ (unchanged_traced _ _ same)) (unchanged_trace _ _ same) c.in_ok-page.ensures.stands c.in_ok-page.ensures.first c.in_ok-page.ensures.effect.listed c.rows.ensures.rows,
+      λ sound. visited_by c.args.tree.now _ c.read_region.new.self _ _ c.in-Some.region c.in_ok-page.page.region _ sound
+          (subst (λ (boxes : List Corners). First (λ s. IsLater (option_copied c.args.after) s × Meets boxes s) (spans_of c.args.tree.now) (Some c.in-Some.region)) c.boxes.ensures.boxes (rw c.in-Some.is at c.in_ok-region.ensures.found))
+          (Keeps-by _ _ (unchanged_traced _ _ same)) (unchanged_trace _ _ same) c.in_ok-page.ensures.stands c.in_ok-page.ensures.first c.in_ok-page.ensures.effect.listed refl,
     )
 
 pub returns-in_err-page-clause-effect : goal.returns-in_err-page-clause-effect

@@ -1,0 +1,196 @@
+-- By what rows are told: which lie in the boxes, and what is asked of them.
+use Rattle.std.proofs.Common.{◌≡◌, ◌≢◌, ◌<◌, ◌+◌, ◌↔◌, ◌&&◌, inl, inr, ℕ, zero, suc, Bool, true, false, List, [], ◌∷◌, ◌++◌, Contains, Option, Some, None, IfSome, filter, take, length, slice_get, get_or, bit_or, max, ◌≤◌, ◌⊎◌, IsTrue, append_assoc, refl, sym, ap, ◌∙◌, subst, arith}
+use Rattle.std.proofs.lemmas.Nat.Bits.{bit_at_or, bit_at-lt, bit_at-zero, bit_at_ones}
+use Rattle.std.proofs.lemmas.List.{append-nil, take_more}
+use Rattle.std.proofs.lemmas.Option.{slice_get_within, get_or_from_slice_get}
+use Rattle.std.proofs.lemmas.List.Elements.{filter-append, Contains-append_cases, Contains-append_left, Contains-push}
+use Rattle.std.specs.Int.{bit_at}
+use Rattle.std.specs.List.{AllByRecursion}
+use Rattle.ub_bigmin.specs.Box.{Corners, IsInside}
+use Rattle.ub_boxes.specs.Laws.{point_of, IsInSome}
+use Rattle.ub_exec.specs.Choice.{IsFit, is_near, asked_by, is_chosen}
+use Rattle.ub_exec.proofs.WalkFacts.{take_all, there_is}
+use Rattle.ub_exec.specs.declared.choice.Choice.{Choice}
+use Rattle.ub_exec.specs.declared.choice.Choice.TheVariants.{Boxes, Condition}
+use Rattle.ub_plan.proofs.InsideFacts.{in_some, from_in_some}
+use Rattle.ub_plan.proofs.Laws.{plans_take_the_selected}
+use Rattle.ub_plan.specs.Plan.{PlanView, plan_of, residual_by, takes}
+use Rattle.ub_plan.specs.declared.planned.Kind.{Kind}
+use Rattle.ub_plan.specs.declared.planned.Kind.TheVariants.{Empty, Scan, Sweep}
+use Rattle.ub_query.proofs.Arranging.{contains_none, contains_cases, contains_here, contains_later}
+use Rattle.ub_query.specs.Groups.{is_selected}
+use Rattle.ub_query.specs.Posed.{IsPosed, IsPosedCondition, IsOver}
+use Rattle.ub_query.specs.Shape.{Shape}
+use Rattle.ub_region.specs.Regions.{AreRegions, rows_of}
+use Rattle.ub_table.specs.Region.{Region}
+use Rattle.ub_table.specs.declared.row.Row.{Row}
+use Rattle.ub_table.specs.declared.schema.Schema.{Schema}
+
+-- ---- what is asked of a row names columns of the table
+
+residual_over : (columns : ℕ) (kind : Kind) (exact : Bool) (condition : Option Shape) → IfSome condition (λ c. IsPosedCondition columns c) → IfSome (residual_by kind exact condition) (λ c. IsOver columns c)
+residual_over columns Empty exact condition h = tt
+residual_over columns Scan true condition h = tt
+residual_over columns Scan false None h = tt
+residual_over columns Scan false (Some c) h = h.over
+residual_over columns (Sweep dim is_descending) true condition h = tt
+residual_over columns (Sweep dim is_descending) false None h = tt
+residual_over columns (Sweep dim is_descending) false (Some c) h = h.over
+
+filter_over : (columns : ℕ) (condition : Option Shape) → IfSome condition (λ c. IsPosedCondition columns c) → IfSome condition (λ c. IsOver columns c)
+filter_over columns None h = tt
+filter_over columns (Some c) h = h.over
+
+pub asked_over : (columns : ℕ) (plan : PlanView) (choice : Choice) → IsPosed columns plan.asked → IfSome (asked_by choice plan) (λ c. IsOver columns c)
+asked_over columns plan Boxes posed = residual_over columns plan.kind plan.covering.exact plan.asked.filter posed.filter
+asked_over columns plan Condition posed = filter_over columns plan.asked.filter posed.filter
+
+-- ---- the bits of rows that lie in a box
+
+pub no_bit : (i : ℕ) → ¬ (bit_at 0 i ≡ 1)
+no_bit i e = let zero = bit_at-zero i in absurd (omega arith)
+
+-- a row lies in a box where its bit says so
+pub by_mask : (bit : ℕ) (rows : List Row) (i : ℕ) (row : Row) (dims : ℕ) (b : Corners) → slice_get rows i ≡ Some row
+    → (bit ≡ 1) ↔ ((r : Row) × (slice_get rows i ≡ Some r) × IsInside b (take dims r.dims)) → (bit ≡ 1) ↔ IsInside b (take dims row.dims)
+by_mask bit rows i row dims b at iff = (
+  λ one. let (r, there, inside) = iff.0 one in let same : r ≡ row = cc in subst (λ (x : Row). IsInside b (take dims x.dims)) same inside,
+  λ inside. iff.1 (row, at, inside),
+)
+
+-- one box more
+pub in_more : (boxes : List Corners) (k : ℕ) (next : Corners) (point : List ℕ) → k < length boxes → next ≡ get_or boxes k next
+    → IsInSome (take (k + 1) boxes) point ↔ (IsInSome (take k boxes) point ⊎ IsInside next point)
+in_more boxes k next point below at =
+    let front = take k boxes in
+    let whole : take (k + 1) boxes ≡ front ++ next ∷ [] = take_more boxes k next below ∙ ap (λ (b : Corners). front ++ b ∷ []) (sym at) in (
+      λ some. among (subst (λ (bs : List Corners). IsInSome bs point) whole some),
+      λ either. subst (λ (bs : List Corners). IsInSome bs point) (sym whole) (elim either [
+        | inl some ↦ (some.0, Contains-append_left front (next ∷ []) some.0 some.1, some.2)
+        | inr inside ↦ (next, Contains-push front next, inside)
+      ]),
+    )
+  where
+    among : IsInSome (take k boxes ++ next ∷ []) point → IsInSome (take k boxes) point ⊎ IsInside next point
+    among (c, there, inside) = elim (Contains-append_cases (take k boxes) (next ∷ []) c there) [
+      | inl before ↦ inl (c, before, inside)
+      | inr last ↦ inr (elim (contains_cases next [] c last) [
+        | inl same ↦ subst (λ (b : Corners). IsInside b point) (sym same) inside
+        | inr none ↦ absurd (contains_none c none)
+      ])
+    ]
+
+one_of : (a b : ℕ) → a < 2 → b < 2 → max a b ≡ 1 → (a ≡ 1) ⊎ (b ≡ 1)
+one_of zero b la lb e = inr (omega arith)
+one_of (suc zero) b la lb e = inl refl
+one_of (suc (suc a)) b la lb e = absurd (omega arith)
+
+left_one : (a b : ℕ) → b < 2 → a ≡ 1 → max a b ≡ 1
+left_one a zero lb e = rw e refl
+left_one a (suc zero) lb e = rw e refl
+left_one a (suc (suc b)) lb e = absurd (omega arith)
+
+right_one : (a b : ℕ) → a < 2 → b ≡ 1 → max a b ≡ 1
+right_one zero b la e = rw e refl
+right_one (suc zero) b la e = rw e refl
+right_one (suc (suc a)) b la e = absurd (omega arith)
+
+-- the bits joined
+pub more_bits : (mask more i : ℕ) (P Q R : Type 0) → (bit_at mask i ≡ 1) ↔ P → (bit_at more i ≡ 1) ↔ Q → R ↔ (P ⊎ Q) → (bit_at (bit_or mask more) i ≡ 1) ↔ R
+more_bits mask more i P Q R p q r =
+    let joined = bit_at_or mask more i in (
+      λ one. elim (one_of (bit_at mask i) (bit_at more i) (bit_at-lt mask i) (bit_at-lt more i) (sym joined ∙ one)) [
+        | inl a ↦ r.1 (inl (p.0 a))
+        | inr b ↦ r.1 (inr (q.0 b))
+      ],
+      λ h. elim (r.0 h) [
+        | inl a ↦ joined ∙ left_one (bit_at mask i) (bit_at more i) (bit_at-lt more i) (p.1 a)
+        | inr b ↦ joined ∙ right_one (bit_at mask i) (bit_at more i) (bit_at-lt mask i) (q.1 b)
+      ],
+    )
+
+-- in none of no boxes
+pub in_none : (i : ℕ) (boxes : List Corners) (point : List ℕ) → (bit_at 0 i ≡ 1) ↔ IsInSome (take 0 boxes) point
+in_none i boxes point = (λ e. absurd (no_bit i e), λ some. absurd (contains_none some.0 some.1))
+
+pub in_all : (bit : ℕ) (boxes : List Corners) (k : ℕ) (point : List ℕ) → length boxes ≤ k → (bit ≡ 1) ↔ IsInSome (take k boxes) point → (bit ≡ 1) ↔ IsInSome boxes point
+in_all bit boxes k point past iff = subst (λ (bs : List Corners). (bit ≡ 1) ↔ IsInSome bs point) (take_all k boxes past) iff
+
+next_taken : (rows : List Row) (i : ℕ) (row : Row) → slice_get rows i ≡ Some row → take (i + 1) rows ≡ take i rows ++ row ∷ []
+next_taken rows i row at = take_more rows i row (slice_get_within rows i row at) ∙ ap (λ (r : Row). take i rows ++ r ∷ []) (get_or_from_slice_get rows i row row at)
+
+-- ---- what is chosen
+
+pub near_by_boxes : (choice : Choice) (bit : ℕ) (schema : Schema) (dims : ℕ) (boxes others : List Corners) (row : Row) → choice ≡ Boxes → dims ≡ schema.dims → others ≡ boxes
+    → (bit ≡ 1) ↔ IsInSome others (take dims row.dims) → (bit ≡ 1) ↔ IsTrue (is_near choice schema boxes row)
+near_by_boxes choice bit schema dims boxes others row is same_dims same iff = rw is (
+  λ one. from_in_some (point_of schema row) boxes (there.0 one),
+  λ near. there.1 (in_some (point_of schema row) boxes near),
+)
+  where
+    there : (bit ≡ 1) ↔ IsInSome boxes (point_of schema row)
+    there = subst (λ (n : ℕ). (bit ≡ 1) ↔ IsInSome boxes (take n row.dims)) same_dims (subst (λ (bs : List Corners). (bit ≡ 1) ↔ IsInSome bs (take dims row.dims)) same iff)
+
+pub near_by_condition : (choice : Choice) (i : ℕ) (schema : Schema) (boxes : List Corners) (row : Row) → choice ≡ Condition → i < 64
+    → (bit_at 18446744073709551615 i ≡ 1) ↔ IsTrue (is_near choice schema boxes row)
+near_by_condition choice i schema boxes row is below = rw is (λ one. refl, λ near. bit_at_ones 64 i below)
+
+-- the boxes of a table's plan can be asked
+pub fit_boxes : (choice : Choice) (schema : Schema) (plan : PlanView) (dims : ℕ) (boxes : List Corners) → choice ≡ Boxes → dims ≡ schema.dims → boxes ≡ plan.covering.boxes → IsFit schema plan choice
+    → AllByRecursion (λ b. length b.lo ≡ dims) boxes
+fit_boxes choice schema plan dims boxes is same_dims same fit =
+    subst (λ (n : ℕ). AllByRecursion (λ b. length b.lo ≡ n) boxes) (sym same_dims) (subst (λ (bs : List Corners). AllByRecursion (λ b. length b.lo ≡ schema.dims) bs) (sym same) (rw is at fit))
+
+-- the rows of a page so far, and one more
+pub one_more : (f : Row → Bool) (taken rows : List Row) (i : ℕ) (row : Row) → slice_get rows i ≡ Some row → f row ≡ true → (taken ++ filter f (take i rows)) ++ row ∷ [] ≡ taken ++ filter f (take (i + 1) rows)
+one_more f taken rows i row at is =
+    append_assoc taken (filter f (take i rows)) (row ∷ []) ∙ ap (λ (rs : List Row). taken ++ rs) (sym (ap (filter f) (next_taken rows i row at) ∙ filter-append f (take i rows) (row ∷ []) ∙ ap (λ (rs : List Row). filter f (take i rows) ++ rs) (kept f row is)))
+  where
+    kept : (f : Row → Bool) (row : Row) → f row ≡ true → filter f (row ∷ []) ≡ row ∷ []
+    kept f row is = rw is refl
+
+pub none_more : (f : Row → Bool) (taken rows : List Row) (i : ℕ) (row : Row) → slice_get rows i ≡ Some row → f row ≡ false → taken ++ filter f (take i rows) ≡ taken ++ filter f (take (i + 1) rows)
+none_more f taken rows i row at is =
+    ap (λ (rs : List Row). taken ++ rs) (sym (ap (filter f) (next_taken rows i row at) ∙ filter-append f (take i rows) (row ∷ []) ∙ ap (λ (rs : List Row). filter f (take i rows) ++ rs) (left_out f row is) ∙ append-nil (filter f (take i rows))))
+  where
+    left_out : (f : Row → Bool) (row : Row) → f row ≡ false → filter f (row ∷ []) ≡ []
+    left_out f row is = rw is refl
+
+-- of rows on which two choices agree the same ones are chosen
+pub filter_same : (f g : Row → Bool) (rows : List Row) → ((row : Row) → Contains rows row → f row ≡ g row) → filter f rows ≡ filter g rows
+filter_same f g [] alike = refl
+filter_same f g (row ∷ rows) alike =
+    let rest = filter_same f g rows (λ r there. alike r (contains_later row rows r there)) in
+    let first = alike row (contains_here row rows) in
+    rw (first, rest) refl
+
+-- on the rows of a table's regions both choose the selected ones
+pub chosen_are_selected : (choice : Choice) (schema : Schema) (p : PlanView) (next : ℕ) (all : List Region) → p ≡ plan_of schema p.asked → p.asked.limit ≢ Some 0 → AreRegions schema next all
+    → (row : Row) → Contains (rows_of all) row → is_chosen choice schema p row ≡ is_selected schema p.asked.filter row
+chosen_are_selected Boxes schema p next all is some are row there =
+    subst (λ (x : PlanView). takes schema x row ≡ is_selected schema p.asked.filter row) (sym is) (plans_take_the_selected schema p.asked next all row some are there)
+chosen_are_selected Condition schema p next all is some are row there = refl
+
+-- a row is chosen that is near, and of which is true what is asked
+pub chosen : (choice : Choice) (schema : Schema) (plan : PlanView) (row : Row) (asked : Option Shape) → asked ≡ asked_by choice plan
+    → is_near choice schema plan.covering.boxes row ≡ true → true ≡ is_selected schema asked row → is_chosen choice schema plan row ≡ true
+chosen choice schema plan row asked is near holds = rw (near, sym is, sym holds) refl
+
+pub left_true : (choice : Choice) (schema : Schema) (plan : PlanView) (row : Row) (asked : Option Shape) → asked ≡ asked_by choice plan
+    → false ≡ is_selected schema asked row → is_chosen choice schema plan row ≡ false
+left_true choice schema plan row asked is fails = rw (sym is, sym fails) (and_false (is_near choice schema plan.covering.boxes row))
+  where
+    and_false : (b : Bool) → (b && false) ≡ false
+    and_false true = refl
+    and_false false = refl
+
+pub left_near : (choice : Choice) (schema : Schema) (plan : PlanView) (row : Row) → ¬ (is_near choice schema plan.covering.boxes row ≡ true) → is_chosen choice schema plan row ≡ false
+left_near choice schema plan row far = by_truth (is_near choice schema plan.covering.boxes row) refl
+  where
+    by_truth : (b : Bool) → is_near choice schema plan.covering.boxes row ≡ b → is_chosen choice schema plan row ≡ false
+    by_truth true e = absurd (far e)
+    by_truth false e = rw e refl
+
+-- of a place where no row is chosen
+pub none_more_at : (f : Row → Bool) (taken rows : List Row) (i : ℕ) → i < length rows → ((row : Row) → slice_get rows i ≡ Some row → f row ≡ false) → taken ++ filter f (take i rows) ≡ taken ++ filter f (take (i + 1) rows)
+none_more_at f taken rows i below none = let there = there_is rows i below in none_more f taken rows i there.0 there.1 (none there.0 there.1)

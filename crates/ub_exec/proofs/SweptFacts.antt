@@ -1,0 +1,246 @@
+-- What a sweep has given and fetched, turn by turn, and when it stops.
+use Rattle.std.proofs.Common.{◌≡◌, ◌≢◌, ◌<◌, ◌≤◌, ◌+◌, ◌∙◌, ℕ, zero, suc, Bool, true, false, List, [], ◌∷◌, ◌++◌, Option, Some, None, IfSome, Contains, filter, length, map, refl, sym, ap, subst, arith}
+use Rattle.std.proofs.lemmas.List.{length-append, length-map, map-append}
+use Rattle.std.proofs.lemmas.List.Sorted.{length_permutation}
+use Rattle.std.specs.List.{All, AllByRecursion}
+use Rattle.ub_answer.specs.Compare.{lines}
+use Rattle.ub_exec.proofs.KeptFacts.{Keeps}
+use Rattle.ub_exec.proofs.MeantFacts.{empty_where}
+use Rattle.ub_exec.specs.Answers.{IsAnswer, IsSwept, begun}
+use Rattle.ub_exec.specs.Sweeping.{HasNotedMore, turns_of}
+use Rattle.ub_exec.specs.Visits.{HasFetched, fetches_then}
+use Rattle.ub_plan.specs.Plan.{PlanView}
+use Rattle.ub_plan.specs.Visits.{Event, AreSweepVisits, AreVisitsBy, selected_rows}
+use Rattle.ub_plan.specs.declared.planned.Kind.{Kind}
+use Rattle.ub_plan.specs.declared.planned.Kind.TheVariants.{Empty, Scan, Sweep}
+use Rattle.ub_query.specs.Cells.{row_cell}
+use Rattle.ub_query.specs.Groups.{is_selected}
+use Rattle.ub_query.specs.Meaning.{IsMeaning}
+use Rattle.ub_query.specs.Shape.{Asked}
+use Rattle.ub_query.specs.declared.cell.Cell.{Cell}
+use Rattle.ub_region.specs.Regions.{AreTableRows}
+use Rattle.ub_table.specs.Region.{Region}
+use Rattle.ub_table.specs.declared.row.Row.{Row}
+use Rattle.ub_table.specs.declared.schema.Schema.{Schema}
+use Rattle.ub_tetris.proofs.MachineFacts.{IsSweepOver, stops, runs_out, stops_with_the_meaning, runs_out_with_the_meaning}
+use Rattle.ub_tetris.specs.Held.{rows_held}
+use Rattle.ub_tetris.specs.Machine.{IsUnderWay, IsRowAlong, regions_at}
+use Rattle.ub_tetris.specs.Sweep.{SweepView, IsSweeping, HasBegun, HasGiven, HasEnded}
+use Rattle.ub_tree.specs.Placed.{Placed, regions_in}
+use Rattle.ub_tree.specs.View.{TreeView, regions, tree_rows}
+
+-- ---- a kind that is a sweep
+
+pub swept_kind : (kind : Kind) → IsSwept kind → (dim : ℕ) × (is_descending : Bool) × (kind ≡ Sweep dim is_descending)
+swept_kind Empty h = absurd h
+swept_kind Scan h = absurd h
+swept_kind (Sweep dim is_descending) h = (dim, is_descending, refl)
+
+not_empty : (kind : Kind) → IsSwept kind → kind ≢ Empty
+not_empty Empty h = absurd h
+not_empty Scan h = absurd h
+not_empty (Sweep dim is_descending) h = λ e. cc
+
+-- ---- the last of some rows
+
+last_or : Row → List Row → Row
+last_or row [] = row
+last_or row (other ∷ rows) = last_or other rows
+
+last-push : (d : Row) (rows : List Row) (row : Row) → last_or d (rows ++ row ∷ []) ≡ row
+unfolding last_or
+last-push d [] row = refl
+last-push d (other ∷ rows) row = last-push other rows row
+
+same_last : (front other : List Row) (row last : Row) → front ++ row ∷ [] ≡ other ++ last ∷ [] → row ≡ last
+same_last front other row last e = sym (last-push row front row) ∙ ap (last_or row) e ∙ last-push row other last
+
+no_last : (front : List Row) (row : Row) → ¬ ([] ≡ front ++ row ∷ [])
+no_last front row e = let long = ap length e in let more = length-append front (row ∷ []) in absurd (omega arith)
+
+some_last : (rows : List Row) → 1 ≤ length rows → (front : List Row) × (row : Row) × (rows ≡ front ++ row ∷ [])
+some_last [] some = absurd (omega arith)
+some_last (row ∷ []) some = ([], row, refl)
+some_last (row ∷ other ∷ rows) some = let (front, last, is) = some_last (other ∷ rows) (omega arith) in (row ∷ front, last, ap (λ (rs : List Row). row ∷ rs) is)
+
+-- ---- turn by turn
+
+-- so many rows were given, and stand in the answer; no region was fetched whose event value is past the last of them
+pub record HasSwept (plan : PlanView) (t : TreeView) (s : SweepView) (turns : ℕ) (rows : List (List Cell)) : Type 0 where
+  pub given : List Row
+  pub rest : List Row
+  pub fetched : List Event
+  pub unread : List Event
+  pub sweeping : IsSweeping plan t s given rest fetched unread
+  pub count : turns ≡ length given
+  pub cells : rows ≡ lines t.schema plan.asked.items given
+  pub reached : (front : List Row) (row : Row) → given ≡ front ++ row ∷ [] → All (λ event. ¬ IsRowAlong s.dim s.is_descending row event.value) fetched
+
+pub HasSwept-none : (plan : PlanView) (t : TreeView) (s : SweepView) → HasBegun plan t s → HasSwept plan t s 0 []
+HasSwept-none plan t s begins = record {
+  given = [];
+  rest = begins.rest;
+  fetched = [];
+  unread = begins.unread;
+  sweeping = begins.sweeping;
+  count = refl;
+  cells = refl;
+  reached = λ front row e. absurd (no_last front row e);
+}
+
+pub HasSwept-more : (plan : PlanView) (t new : TreeView) (s new_s : SweepView) (turns : ℕ) (rows more : List (List Cell)) (row : Row) (swept : HasSwept plan t s turns rows)
+    → HasGiven plan new new_s swept.given swept.rest swept.fetched swept.unread row → new.schema ≡ t.schema
+    → more ≡ rows ++ map (row_cell new.schema row) plan.asked.items ∷ [] → HasSwept plan new new_s (turns + 1) more
+HasSwept-more plan t new s new_s turns rows more row swept gives same is =
+    let count = swept.count in
+    record {
+      given = swept.given ++ row ∷ [];
+      rest = gives.more;
+      fetched = swept.fetched ++ gives.read;
+      unread = gives.left;
+      sweeping = gives.sweeping;
+      count = omega (arith, length-append swept.given (row ∷ []));
+      cells = is ∙ ap (λ (cells : List (List Cell)). cells ++ map (row_cell new.schema row) plan.asked.items ∷ []) (swept.cells ∙ ap (λ (schema : Schema). lines schema plan.asked.items swept.given) (sym same))
+          ∙ sym (map-append (λ (r : Row). map (row_cell new.schema r) plan.asked.items) swept.given (row ∷ []));
+      reached = λ front last e. subst (λ (r : Row). All (λ event. ¬ IsRowAlong new_s.dim new_s.is_descending r event.value) (swept.fetched ++ gives.read)) (same_last swept.given front row last e) gives.reached;
+    }
+
+-- ---- no more rows are given than the tree has
+
+filter_few : (f : Row → Bool) (rows : List Row) → length (filter f rows) ≤ length rows
+filter_few f [] = omega arith
+filter_few f (row ∷ rows) = by_truth (f row) refl (filter_few f rows)
+  where
+    by_truth : (b : Bool) → f row ≡ b → length (filter f rows) ≤ length rows → length (filter f (row ∷ rows)) ≤ suc (length rows)
+    by_truth true e fewer = rw e (omega arith)
+    by_truth false e fewer = rw e (omega arith)
+
+pub given_few : (plan : PlanView) (t : TreeView) (s : SweepView) (given rest : List Row) (fetched unread : List Event) → IsSweeping plan t s given rest fetched unread → length given ≤ t.rows
+given_few plan t s given rest fetched unread sweeping =
+    let all = sweeping.swept.sound.rows_are in
+    let few = filter_few (is_selected t.schema plan.asked.filter) (tree_rows t) in
+    let same : length (selected_rows t.schema plan (regions t)) ≡ length (given ++ rest) = sym (length_permutation (selected_rows t.schema plan (regions t)) (given ++ rest) sweeping.under_way.rows.same) in
+    let parts = length-append given rest in
+    omega arith
+
+-- ---- when it stops
+
+-- the pages that were fetched are those of the visits
+pub visits_fetched : (plan : PlanView) (start t : TreeView) (s : SweepView) (given rest : List Row) (fetched unread : List Event) → Keeps start t → IsSweeping plan t s given rest fetched unread
+    → t.fetches ≡ fetches_then start.fetches (length t.trace)
+    → AreSweepVisits t.schema plan s.dim s.is_descending (regions t) (map (λ event. event.span) fetched) → HasFetched plan (begun start) t
+visits_fetched plan start t s given rest fetched unread kept sweeping fetches visits =
+    let noted = sweeping.noted in
+    let by_kind : AreVisitsBy plan.kind t.schema plan (regions t) (map (λ event. event.span) fetched) =
+    subst (λ (kind : Kind). AreVisitsBy kind t.schema plan (regions t) (map (λ event. event.span) fetched)) (sym sweeping.swept.kind) visits in
+    record {
+      visits = map (λ event. event.span) fetched;
+      visits_are = subst (λ (placed : List Placed). AreVisitsBy plan.kind start.schema plan (regions_in placed) (map (λ event. event.span) fetched)) kept.regions.placed
+          (subst (λ (schema : Schema). AreVisitsBy plan.kind schema plan (regions t) (map (λ event. event.span) fetched)) kept.regions.schema by_kind);
+      visited = noted.placed;
+      there = subst (λ (placed : List Placed). AllByRecursion (Contains placed) noted.placed) kept.regions.placed noted.there;
+      regions_are = noted.regions_are ∙ spans_at fetched;
+      trace_is = noted.trace_is;
+      fetches_are = fetches ∙ ap (fetches_then start.fetches) (ap length noted.trace_is ∙ length-map noted.placed (λ (p : Placed). p.page)
+          ∙ sym (length-map noted.placed (λ (p : Placed). p.region)) ∙ ap length noted.regions_are ∙ length-map fetched (λ (event : Event). event.span.region)
+          ∙ sym (length-map fetched (λ (event : Event). event.span)));
+    }
+  where
+    spans_at : (events : List Event) → regions_at events ≡ map (λ span. span.region) (map (λ (event : Event). event.span) events)
+    spans_at [] = refl
+    spans_at (event ∷ events) = ap (λ (rs : List Region). event.span.region ∷ rs) (spans_at events)
+
+over : (plan : PlanView) (t : TreeView) (s : SweepView) (given rest : List Row) (fetched unread : List Event) → IsSweeping plan t s given rest fetched unread
+    → IsSweepOver t.schema plan s.dim s.is_descending t.next (regions t)
+over plan t s given rest fetched unread sweeping = record { planned = sweeping.swept.planned; kind = sweeping.swept.kind; are = sweeping.swept.sound.regions_are }
+
+-- what was given is the answer on the tree as it was at the start
+answer_of : (plan : PlanView) (start t : TreeView) (cells lines_then : List (List Cell)) → Keeps start t → cells ≡ lines_then
+    → ((rows : List Row) → AreTableRows (regions t) rows → IsMeaning (record { schema = t.schema; rows = rows }) plan.asked lines_then) → IsAnswer start plan.asked cells
+answer_of plan start t cells lines_then kept is means rows are =
+    let at_t : AreTableRows (regions t) rows = subst (λ (placed : List Placed). AreTableRows (regions_in placed) rows) (sym kept.regions.placed) are in
+    subst (λ (schema : Schema). IsMeaning (record { schema = schema; rows = rows }) plan.asked cells) kept.regions.schema
+    (subst (λ (cs : List (List Cell)). IsMeaning (record { schema = t.schema; rows = rows }) plan.asked cs) (sym is) (means rows at_t))
+
+-- the limit is filled where there is no turn left
+filled : (limit : Option ℕ) (rows turns count : ℕ) → turns ≡ turns_of limit rows → turns ≡ count → count ≤ rows → limit ≡ Some count
+filled None rows turns count end same few = absurd (omega arith)
+filled (Some n) rows turns count end same few = let is : n ≡ count = omega arith in ap (λ (m : ℕ). Some m) is
+
+short : (limit : Option ℕ) (rows turns count : ℕ) → turns < turns_of limit rows → turns ≡ count → IfSome limit (λ n. count < n)
+short None rows turns count below same = tt
+short (Some n) rows turns count below same = omega arith
+
+module _ (plan : PlanView) (start t : TreeView) (s : SweepView) (turns : ℕ) (rows : List (List Cell)) (kept : Keeps start t) (fetches : t.fetches ≡ fetches_then start.fetches (length t.trace))
+    (swept : HasSwept plan t s turns rows) (kind : IsSwept plan.kind) (end : turns ≡ turns_of plan.asked.limit start.rows) where
+  -- no turn was left
+  is_filled : plan.asked.limit ≡ Some (length swept.given)
+  is_filled =
+      let few = given_few plan t s swept.given swept.rest swept.fetched swept.unread swept.sweeping in
+      filled plan.asked.limit start.rows turns (length swept.given) end swept.count (subst (λ (n : ℕ). length swept.given ≤ n) kept.regions.rows few)
+
+  has_some : 1 ≤ length swept.given
+  has_some = by_count (length swept.given) refl
+    where
+      by_count : (n : ℕ) → n ≡ length swept.given → 1 ≤ n
+      by_count zero e = absurd (not_empty plan.kind kind (empty_where t.schema plan swept.sweeping.swept.planned (is_filled ∙ ap (λ (m : ℕ). Some m) (sym e))))
+      by_count (suc n) e = omega arith
+
+  pub filled_fetched : HasFetched plan (begun start) t
+  filled_fetched =
+      let (front, row, is) = some_last swept.given has_some in
+      visits_fetched plan start t s swept.given swept.rest swept.fetched swept.unread kept swept.sweeping fetches
+      (stops t.schema plan s.dim s.is_descending (regions t) (rows_held s.held) front swept.rest swept.fetched swept.unread row
+      (subst (λ (given : List Row). IsUnderWay t.schema plan s.dim s.is_descending (regions t) (rows_held s.held) given swept.rest swept.fetched swept.unread) is swept.sweeping.under_way)
+      (is_filled ∙ ap (λ (given : List Row). Some (length given)) is) (swept.reached front row is))
+
+  pub filled_answered : IsAnswer start plan.asked rows
+  filled_answered =
+      answer_of plan start t rows _ kept swept.cells
+      (λ table are. stops_with_the_meaning t.schema plan s.dim s.is_descending t.next (regions t) table (rows_held s.held) swept.given swept.rest swept.fetched swept.unread
+      (over plan t s swept.given swept.rest swept.fetched swept.unread swept.sweeping) are swept.sweeping.under_way is_filled)
+
+-- it answered that no row is left
+module _ (plan : PlanView) (start mid t : TreeView) (s new_s : SweepView) (turns : ℕ) (rows : List (List Cell)) (kept : Keeps start t) (fetches : t.fetches ≡ fetches_then start.fetches (length t.trace))
+    (swept : HasSwept plan mid s turns rows) (same : t.schema ≡ mid.schema) (left : turns < turns_of plan.asked.limit start.rows)
+    (ends : HasEnded plan t new_s swept.given swept.rest swept.fetched swept.unread) where
+  is_short : IfSome plan.asked.limit (λ n. length swept.given < n)
+  is_short = short plan.asked.limit start.rows turns (length swept.given) left swept.count
+
+  pub ended_fetched : HasFetched plan (begun start) t
+  ended_fetched =
+      visits_fetched plan start t new_s swept.given [] (swept.fetched ++ swept.unread) [] kept ends.sweeping fetches
+      (runs_out t.schema plan new_s.dim new_s.is_descending (regions t) (rows_held new_s.held) swept.given (swept.fetched ++ swept.unread) ends.sweeping.under_way is_short)
+
+  pub ended_answered : IsAnswer start plan.asked rows
+  ended_answered =
+      answer_of plan start t rows _ kept (swept.cells ∙ ap (λ (schema : Schema). lines schema plan.asked.items swept.given) (sym same))
+      (λ table are. runs_out_with_the_meaning t.schema plan new_s.dim new_s.is_descending t.next (regions t) table (rows_held new_s.held) swept.given (swept.fetched ++ swept.unread) []
+      (over plan t new_s swept.given [] (swept.fetched ++ swept.unread) [] ends.sweeping) are ends.sweeping.under_way is_short)
+
+-- ---- what the loop keeps of the tree and the answer
+
+pub begun_fetches : (old new : TreeView) → new ≡ begun old → new.fetches ≡ fetches_then old.fetches (length new.trace)
+begun_fetches old new is = ap (λ (t : TreeView). t.fetches) is ∙ sym (ap (λ (t : TreeView). fetches_then old.fetches (length t.trace)) is)
+
+pub at_end : (turn end whole : ℕ) → end ≤ turn → turn ≤ end → end ≡ whole → turn ≡ whole
+at_end turn end whole past within is = omega arith
+
+-- how often the sweep is asked
+pub end_is : (query asked : Asked) (old new : TreeView) (end rows : ℕ) → end ≡ turns_of query.limit rows → rows ≡ new.rows → new ≡ begun old → query ≡ asked → end ≡ turns_of asked.limit old.rows
+end_is query asked old new end rows is counted same alike =
+    is ∙ ap (turns_of query.limit) (counted ∙ ap (λ (t : TreeView). t.rows) same) ∙ ap (λ (q : Asked). turns_of q.limit old.rows) alike
+
+noted_sum : (fetches a b : ℕ) → fetches_then (fetches_then fetches a) b ≡ fetches_then fetches (a + b)
+noted_sum fetches zero b = ap (fetches_then fetches) (let e : b ≡ 0 + b = omega arith in e)
+noted_sum fetches (suc a) zero = ap (fetches_then fetches) (let e : suc a ≡ suc a + 0 = omega arith in e)
+noted_sum fetches (suc a) (suc b) = let e : suc a + suc b ≡ suc (a + suc b) = omega arith in rw e (omega arith)
+
+pub noted_more : (start t new : TreeView) → t.fetches ≡ fetches_then start.fetches (length t.trace) → HasNotedMore t new → new.fetches ≡ fetches_then start.fetches (length new.trace)
+noted_more start t new is (noted, trace, fetches) =
+    fetches ∙ ap (λ (f : ℕ). fetches_then f (length noted)) is ∙ noted_sum start.fetches (length t.trace) (length noted)
+    ∙ ap (fetches_then start.fetches) (sym (length-append t.trace noted) ∙ ap length (sym trace))
+
+pub wide_more : (n : ℕ) (rows : List (List Cell)) (row : List Cell) → AllByRecursion (λ cells. length cells ≡ n) rows → length row ≡ n → AllByRecursion (λ cells. length cells ≡ n) (rows ++ row ∷ [])
+wide_more n [] row all is = (is, tt)
+wide_more n (other ∷ rows) row all is = (all.0, wide_more n rows row all.1 is)

@@ -1,0 +1,90 @@
+use Rattle.std.proofs.Common.{◌≡◌, ◌<◌, ◌∙◌, ◌++◌, ◌∷◌, [], ℕ, List, length, map, ap, subst, sym, arith}
+use Rattle.std.proofs.lemmas.List.{length-map}
+use Rattle.std.specs.List.{AllByRecursion}
+use Rattle.ub_exec.proofs.KeptFacts.{Keeps-by, Keeps-more, begun_traced, reads_by}
+use Rattle.ub_exec.proofs.SweptFacts.{HasSwept, HasSwept-none, HasSwept-more, swept_kind, begun_fetches, noted_more, wide_more, end_is, at_end, ended_fetched, ended_answered, filled_fetched, filled_answered}
+use Rattle.ub_query.specs.Cells.{row_cell}
+use Rattle.ub_query.specs.Shape.{Asked, asked}
+use Rattle.ub_query.specs.declared.cell.Cell.{Cell}
+use Rattle.ub_query.specs.declared.query.Item.{Item}
+use Rattle.ub_table.specs.declared.schema.Schema.{Schema}
+use Rattle.ub_exec.proofs.sweeping.swept_rows.Goals as goal
+
+pub loop-turn-init : goal.loop-turn-init
+loop-turn-init g c = record {
+  kept = Keeps-by c.args.tree.now c.begin_sweep.new.tree (begun_traced c.args.tree.now c.begin_sweep.new.tree c.in_ok-sweep.ensures.trace);
+  within = omega arith;
+  working = c.in_ok-sweep.ensures.working;
+  regions = c.in_ok-sweep.ensures.regions;
+  fetches = begun_fetches c.args.tree.now c.begin_sweep.new.tree c.in_ok-sweep.ensures.trace;
+  wide = subst (λ (rows : List (List Cell)). AllByRecursion (λ cells. length cells ≡ length c.args.plan.now.asked.items) rows) (sym c.none-rows.ensures) tt;
+  come = λ ready kind.
+      let (dim, is_descending, is) = swept_kind c.args.plan.now.kind kind in
+      subst (λ (rows : List (List Cell)). HasSwept c.args.plan.now c.begin_sweep.new.tree c.in_ok-sweep.sweep 0 rows) (sym c.none-rows.ensures)
+      (HasSwept-none c.args.plan.now c.begin_sweep.new.tree c.in_ok-sweep.sweep (c.in_ok-sweep.ensures.begun dim is_descending (record { sound = ready.sound; planned = ready.planned; kind = is })));
+}
+
+pub returns-in_err-row-clause-effect : goal.returns-in_err-row-clause-effect
+returns-in_err-row-clause-effect g c =
+    reads_by _ _ c.args.tree.now c.loop-turn.tree c.next_row.new.tree c.from_residual-in_err-row.ensures.1 c.loop-turn.invariant.kept.traced c.in_err-row.ensures.effect
+
+pub returns-in_default-clause-rows : goal.returns-in_default-clause-rows
+returns-in_default-clause-rows g c ready kind =
+    let inv = c.loop-turn.invariant in
+    let swept = inv.come ready kind in
+    let after = Keeps-by c.loop-turn.tree c.next_row.new.tree c.in_ok-row.ensures.effect.same in
+    let end = end_is (asked c.query-query.result.now) c.args.plan.now.asked c.args.tree.now c.begin_sweep.new.tree _ _ c.turns-turn-end.ensures c.rows.ensures c.in_ok-sweep.ensures.trace c.query-query.ensures in
+    ended_answered c.args.plan.now c.args.tree.now c.loop-turn.tree c.next_row.new.tree c.loop-turn.sweep c.next_row.new.sweep c.loop-turn._turn c.loop-turn.rows
+    (Keeps-more _ _ _ inv.kept after) (noted_more c.args.tree.now c.loop-turn.tree c.next_row.new.tree inv.fetches c.in_ok-row.ensures.noted)
+    swept after.regions.schema (subst (λ (n : ℕ). c.loop-turn._turn < n) end c.loop-turn-test.true)
+    (rw c.in_default.is at (c.in_ok-row.ensures.next swept.given swept.rest swept.fetched swept.unread swept.sweeping))
+
+pub returns-in_default-clause-pages : goal.returns-in_default-clause-pages
+returns-in_default-clause-pages g c ready kind =
+    let inv = c.loop-turn.invariant in
+    let swept = inv.come ready kind in
+    let after = Keeps-by c.loop-turn.tree c.next_row.new.tree c.in_ok-row.ensures.effect.same in
+    let end = end_is (asked c.query-query.result.now) c.args.plan.now.asked c.args.tree.now c.begin_sweep.new.tree _ _ c.turns-turn-end.ensures c.rows.ensures c.in_ok-sweep.ensures.trace c.query-query.ensures in
+    ended_fetched c.args.plan.now c.args.tree.now c.loop-turn.tree c.next_row.new.tree c.loop-turn.sweep c.next_row.new.sweep c.loop-turn._turn c.loop-turn.rows
+    (Keeps-more _ _ _ inv.kept after) (noted_more c.args.tree.now c.loop-turn.tree c.next_row.new.tree inv.fetches c.in_ok-row.ensures.noted)
+    swept after.regions.schema (subst (λ (n : ℕ). c.loop-turn._turn < n) end c.loop-turn-test.true)
+    (rw c.in_default.is at (c.in_ok-row.ensures.next swept.given swept.rest swept.fetched swept.unread swept.sweeping))
+
+pub push_row-requires-clause-wide : goal.push_row-requires-clause-wide
+push_row-requires-clause-wide g c =
+    let items : c.as_slice.result.now ≡ c.args.plan.now.asked.items = c.as_slice.ensures ∙ ap (λ (q : Asked). q.items) c.query-query.ensures in
+    subst (λ (items : List Item). AllByRecursion (λ cells. length cells ≡ length items) c.loop-turn.rows) (sym items) c.loop-turn.invariant.wide
+
+pub loop-turn-preserved : goal.loop-turn-preserved
+loop-turn-preserved g c =
+    let inv = c.loop-turn.invariant in
+    let after = Keeps-by c.loop-turn.tree c.next_row.new.tree c.in_ok-row.ensures.effect.same in
+    let items : c.as_slice.result.now ≡ c.args.plan.now.asked.items = c.as_slice.ensures ∙ ap (λ (q : Asked). q.items) c.query-query.ensures in
+    let pushed : c.push_row.new.self ≡ c.loop-turn.rows ++ map (row_cell c.next_row.new.tree.schema c.in-Some.row) c.args.plan.now.asked.items ∷ [] =
+    c.in_ok-push_row.ensures ∙ ap (λ (schema : Schema). c.loop-turn.rows ++ map (row_cell schema c.in-Some.row) c.as_slice.result.now ∷ []) c.schema.ensures
+    ∙ ap (λ (items : List Item). c.loop-turn.rows ++ map (row_cell c.next_row.new.tree.schema c.in-Some.row) items ∷ []) items in
+    record {
+      kept = Keeps-more _ _ _ inv.kept after;
+      within = let below = c.loop-turn-test.true in omega arith;
+      working = c.in_ok-row.ensures.working;
+      regions = c.in_ok-row.ensures.regions;
+      fetches = noted_more c.args.tree.now c.loop-turn.tree c.next_row.new.tree inv.fetches c.in_ok-row.ensures.noted;
+      wide = subst (λ (rows : List (List Cell)). AllByRecursion (λ cells. length cells ≡ length c.args.plan.now.asked.items) rows) (sym pushed)
+          (wide_more (length c.args.plan.now.asked.items) c.loop-turn.rows _ inv.wide (length-map c.args.plan.now.asked.items (row_cell c.next_row.new.tree.schema c.in-Some.row)));
+      come = λ ready kind.
+          let swept = inv.come ready kind in
+          HasSwept-more c.args.plan.now c.loop-turn.tree c.next_row.new.tree c.loop-turn.sweep c.next_row.new.sweep c.loop-turn._turn c.loop-turn.rows c.push_row.new.self c.in-Some.row swept
+          (rw c.in-Some.is at (c.in_ok-row.ensures.next swept.given swept.rest swept.fetched swept.unread swept.sweeping)) after.regions.schema pushed;
+    }
+
+pub returns-clause-rows : goal.returns-clause-rows
+returns-clause-rows g c ready kind =
+    let inv = c.loop-turn.invariant in
+    let end = end_is (asked c.query-query.result.now) c.args.plan.now.asked c.args.tree.now c.begin_sweep.new.tree _ _ c.turns-turn-end.ensures c.rows.ensures c.in_ok-sweep.ensures.trace c.query-query.ensures in
+    filled_answered c.args.plan.now c.args.tree.now c.loop-turn.tree c.loop-turn.sweep c.loop-turn._turn c.loop-turn.rows inv.kept inv.fetches (inv.come ready kind) kind (at_end _ _ _ c.loop-turn-test.false inv.within end)
+
+pub returns-clause-pages : goal.returns-clause-pages
+returns-clause-pages g c ready kind =
+    let inv = c.loop-turn.invariant in
+    let end = end_is (asked c.query-query.result.now) c.args.plan.now.asked c.args.tree.now c.begin_sweep.new.tree _ _ c.turns-turn-end.ensures c.rows.ensures c.in_ok-sweep.ensures.trace c.query-query.ensures in
+    filled_fetched c.args.plan.now c.args.tree.now c.loop-turn.tree c.loop-turn.sweep c.loop-turn._turn c.loop-turn.rows inv.kept inv.fetches (inv.come ready kind) kind (at_end _ _ _ c.loop-turn-test.false inv.within end)

@@ -1,0 +1,99 @@
+ghost use Rattle.std.specs.Prelude.{◌≡◌, ◌++◌, false, ℕ, List, length, IfOk, OnOk};
+ghost use Rattle.ub_exec.specs.Answers.{IsReady, IsAnswer, IsSwept, begun};
+ghost use Rattle.ub_exec.specs.Faults.{ReadsTree};
+ghost use Rattle.ub_exec.specs.Sweeping.{HasNotedMore, turns_of};
+ghost use Rattle.ub_exec.specs.Visits.{HasFetched};
+ghost use Rattle.ub_plan.specs.Visits.{Event};
+ghost use Rattle.ub_query.specs.Posed.{IsPosed};
+ghost use Rattle.ub_table.specs.declared.row.Row.{Row as RowView};
+ghost use Rattle.ub_tetris.specs.Sweep.{AreItsRegions, HasBegun, HasStepped, IsSweeping};
+ghost use Rattle.ub_tetris.specs.Sweep as sweep;
+
+use crate::fault::ExecFault;
+use std::alloc::Global;
+use ub_answer::Cells;
+use ub_plan::Plan;
+use ub_store::PageStore;
+use ub_table::Row;
+use ub_tetris::Sweep;
+use ub_tree::Tree;
+
+/// The rows of the result by a sweep, each put in as the sweep gives it. Once the limit is filled no more is asked of the sweep,
+/// so that no region is fetched for a row that isn't asked for. The trace begins anew.
+pub(crate) fn swept_rows<S: PageStore>(
+    alloc: Global,
+    tree: &mut Tree<S>,
+    plan: &Plan,
+) -> Result<Cells, ExecFault>
+    requires { IsPosed (length tree.old.schema.columns) plan.now.asked }
+    ensures rows { IsReady tree.old plan.now → IsSwept plan.now.kind
+        → IfOk result (λ cells. IsAnswer tree.old plan.now.asked cells) }
+    ensures pages { IsReady tree.old plan.now → IsSwept plan.now.kind
+        → OnOk result (HasFetched plan.now (begun tree.old) tree.new) }
+    ensures effect { ReadsTree tree.old tree.new result }
+{
+    let mut sweep = begin_sweep(alloc, tree, plan)?;
+    let query = plan.query();
+    let mut rows = Cells::none(alloc);
+    for _turn in 0..turns(query.limit, tree.rows()) {
+        let Some(row) = next_row(&mut sweep, tree, plan)? else {
+            return Ok(rows);
+        };
+        rows.push_row(tree.schema(), query.items.as_slice(), &row)?;
+    }
+    Ok(rows)
+}
+
+// How often a sweep is asked for a row: as often as the limit says, but no more than once past all rows, which on a sound tree
+// it answers with None at the latest.
+fn turns(limit: Option<u64>, rows: u32) -> u64
+    ensures { result ≡ turns_of limit rows }
+{
+    let all = u64::from(rows) + 1;
+    match limit {
+        None => all,
+        Some(most) => most.min(all),
+    }
+}
+
+// A sweep by the plan, which has given no row.
+fn begin_sweep<S: PageStore>(
+    alloc: Global,
+    tree: &mut Tree<S>,
+    plan: &Plan,
+) -> Result<Sweep, ExecFault>
+    ensures begun { (dim : ℕ) (is_descending : _) → sweep.IsSwept tree.old plan.now dim is_descending
+        → IfOk result (HasBegun plan.now tree.new) }
+    ensures working { IfOk result (λ s. s.is_failed ≡ false) }
+    ensures regions { IfOk result (AreItsRegions tree.new) }
+    ensures trace { OnOk result (tree.new ≡ begun tree.old) }
+    ensures effect { ReadsTree tree.old tree.new result }
+{
+    match Sweep::new(alloc, tree, plan) {
+        Ok(sweep) => Ok(sweep),
+        Err(fault) => Err(ExecFault::of_sweep(fault)),
+    }
+}
+
+// The next row of a sweep that hasn't failed.
+fn next_row<S: PageStore>(
+    sweep: &mut Sweep,
+    tree: &mut Tree<S>,
+    plan: &Plan,
+) -> Result<Option<Row>, ExecFault>
+    requires posed { IsPosed (length tree.old.schema.columns) plan.now.asked }
+    requires working { sweep.old.is_failed ≡ false }
+    requires regions { AreItsRegions tree.old sweep.old }
+    ensures next { (given rest : List RowView) (fetched unread : List Event)
+        → IsSweeping plan.now tree.old sweep.old given rest fetched unread
+        → IfOk result (HasStepped plan.now tree.new sweep.new given rest fetched unread) }
+    ensures working { OnOk result (sweep.new.is_failed ≡ false) }
+    ensures regions { AreItsRegions tree.new sweep.new }
+    ensures noted { HasNotedMore tree.old tree.new }
+    ensures effect { ReadsTree tree.old tree.new result }
+{
+    match sweep.next(tree, plan) {
+        Ok(found) => Ok(found),
+        Err(fault) => Err(ExecFault::of_sweep(fault)),
+    }
+}
