@@ -1,34 +1,58 @@
--- How told bytes grow.
-use Rattle.std.proofs.Common.{◌≡◌, ◌≤◌, ◌+◌, ◌-◌, ℕ, List, [], ◌++◌, Option, Some, None, length, take, drop, refl, sym, ap, ◌∙◌, append_assoc, arith}
-use Rattle.std.proofs.lemmas.List.{append-nil, length-drop, take_all}
-use Rattle.std.proofs.Math.Seq.{take-add}
-use Rattle.std.specs.Io.KnownBytes.{Appends, Keeps}
+-- How the bytes grow that an output has taken.
+use Rattle.std.proofs.Common.{◌≡◌, ◌≢◌, ◌≤◌, ◌+◌, ◌-◌, ◌==◌, ℕ, Bool, false, List, [], ◌++◌, Option, Some, None, length, take, drop, refl, sym, ap, subst, ◌∙◌, append_assoc, arith, inl, inr, Ok}
+use Rattle.std.proofs.lemmas.Bool.{cases_Bool, eqb-true}
+use Rattle.std.proofs.lemmas.List.{append-nil, length-append, length-drop, take_all}
+use Rattle.std.proofs.Math.Seq.{take-add, take-append-add}
+use Rattle.std.specs.Io.KnownBytes.{Appends}
+use Rattle.ub_script.specs.Output.{OutFacts, HasTaken, HasWritten, Puts, IsFrontOf, Takes}
 
-pub Appends-none : (o : Option (List ℕ)) → Appends o o []
+Appends-none : (o : Option (List ℕ)) → Appends o o []
 Appends-none None = tt
 Appends-none (Some xs) = sym (append-nil xs)
 
-pub Keeps-none : (o : Option (List ℕ)) → Keeps o o
-Keeps-none None = tt
-Keeps-none (Some xs) = refl
-
-pub Appends-more : (a b c : Option (List ℕ)) (xs ys : List ℕ) → Appends a b xs → Appends b c ys → Appends a c (xs ++ ys)
+Appends-more : (a b c : Option (List ℕ)) (xs ys : List ℕ) → Appends a b xs → Appends b c ys → Appends a c (xs ++ ys)
 Appends-more None b c xs ys h k = tt
 Appends-more (Some zs) None c xs ys h k = absurd h
 Appends-more (Some zs) (Some bs) None xs ys h k = k
 Appends-more (Some zs) (Some bs) (Some cs) xs ys h k = k ∙ ap (λ (s : List ℕ). s ++ ys) h ∙ append_assoc zs xs ys
 
-pub Appends-kept : (a b c : Option (List ℕ)) (xs : List ℕ) → Appends a b xs → Keeps b c → Appends a c xs
-Appends-kept None b c xs h k = tt
-Appends-kept (Some zs) None c xs h k = absurd h
-Appends-kept (Some zs) (Some bs) None xs h k = k
-Appends-kept (Some zs) (Some bs) (Some cs) xs h k = k ∙ h
+pub Puts-none : (o : OutFacts) → Puts [] o o
+Puts-none o = record { told = Appends-none o.told; failures = refl }
 
--- more of the bytes from a place on were told
-pub Appends-on : (a b c : Option (List ℕ)) (bytes : List ℕ) (place n : ℕ) → place ≤ length bytes → Appends a b (take place bytes)
-    → n ≤ length (take (length bytes - place) (drop place bytes)) → Appends b c (take n (take (length bytes - place) (drop place bytes)))
-    → (place + n ≤ length bytes) × Appends a c (take (place + n) bytes)
-Appends-on a b c bytes place n within h le k =
-    let whole : take (length bytes - place) (drop place bytes) ≡ drop place bytes = take_all (length bytes - place) (drop place bytes) (omega (arith, length-drop place bytes)) in
+pub Puts-same : (a b : OutFacts) → b ≡ a → Puts [] a b
+Puts-same a b same = subst (λ (o : OutFacts). Puts [] a o) (sym same) (Puts-none a)
+
+-- after some bytes more bytes are taken
+pub Puts-more : (a b c : OutFacts) (xs ys : List ℕ) (failed : Bool) → Puts xs a b → HasTaken ys failed b c → HasTaken (xs ++ ys) failed a c
+Puts-more a b c xs ys failed h k = record { told = Appends-more a.told b.told c.told xs ys h.told k.told; failures = rw h.failures at k.failures }
+
+-- a front of what comes after some bytes is a front with them
+pub front_after : (front bytes before : List ℕ) → IsFrontOf front bytes → IsFrontOf (before ++ front) (before ++ bytes)
+front_after front bytes before (count, fewer, is) =
+    (length before + count, rw (length-append before bytes) (omega (arith, fewer)), rw (is, take-append-add before bytes count) refl)
+
+-- what is left of the bytes from a place on
+rest : (bytes : List ℕ) (place : ℕ) → take (length bytes - place) (drop place bytes) ≡ drop place bytes
+rest bytes place = take_all (length bytes - place) (drop place bytes) (omega (arith, length-drop place bytes))
+
+-- more of the bytes from a place on were taken
+pub Puts-on : (a b c : OutFacts) (bytes : List ℕ) (place n : ℕ) (failed : Bool) → place ≤ length bytes → Puts (take place bytes) a b
+    → n ≤ length (take (length bytes - place) (drop place bytes)) → HasTaken (take n (take (length bytes - place) (drop place bytes))) failed b c
+    → (place + n ≤ length bytes) × HasTaken (take (place + n) bytes) failed a c
+Puts-on a b c bytes place n failed within h le k =
+    let whole = rest bytes place in
     let fits : place + n ≤ length bytes = omega (arith, rw whole at le, length-drop place bytes) in
-    (fits, rw (take-add place n bytes) (Appends-more a b c _ _ h (rw whole at k)))
+    (fits, rw (take-add place n bytes) (Puts-more a b c (take place bytes) (take n (drop place bytes)) failed h (rw whole at k)))
+
+-- what holds of the bytes that were taken
+pub takes_as : (Are Others : List ℕ → Type 0) (failed : Bool) (a b : OutFacts) → ((bytes : List ℕ) → Are bytes → Others bytes)
+    → Takes Are failed a b → Takes Others failed a b
+takes_as Are Others failed a b f (bytes, is, taken) = (bytes, f bytes is, taken)
+
+-- a call that takes some bytes of those that are left goes on
+pub Puts-step : (a b c : OutFacts) (bytes : List ℕ) (place n : ℕ) → place ≤ length bytes → Puts (take place bytes) a b → n ≢ 0
+    → HasWritten (take (length bytes - place) (drop place bytes)) (Ok n) b c → (place + n ≤ length bytes) × Puts (take (place + n) bytes) a c
+Puts-step a b c bytes place n within h some (le, k) = elim (cases_Bool (n == 0)) [
+  | inl none ↦ absurd (some (eqb-true n 0 none))
+  | inr more ↦ Puts-on a b c bytes place n false within h le (rw more at k)
+]

@@ -1,17 +1,15 @@
 -- What a tree keeps over several calls that read it.
-use Rattle.std.proofs.Common.{◌≡◌, ◌≢◌, ◌∙◌, ℕ, IsTrue, Result, Ok, Err, Bool, List, subst, sym, ap, refl}
+use Rattle.std.proofs.Common.{◌≡◌, ◌≢◌, ◌∙◌, ℕ, IsTrue, Result, Ok, Err, List, subst, sym, ap, refl}
 use Rattle.std.specs.Result.{IsErrAnd}
 use Rattle.ub_store.specs.declared.fault.StoreFault.TheVariants as store
 use Rattle.ub_tree.specs.Effects.{IsReadFault, IsPageRefused, IsPageMissing}
 use Rattle.ub_tree.specs.Placed.{Placed, regions_in}
-use Rattle.ub_tree.specs.View.{TreeView, IsSound, KeepsRegions}
+use Rattle.ub_tree.specs.View.{TreeView, IsSound, KeepsRegions, regions}
 use Rattle.ub_tree.specs.declared.fault.TreeFault.{TreeFault}
 use Rattle.ub_tree.specs.declared.fault.TreeFault.TheVariants.{Full, Page, Store, Failed as HasFailed, Memory}
 use Rattle.ub_script.specs.Faults.{IsGiven, Runs, counted}
-use Rattle.ub_lexer.specs.declared.token.Token.{Token}
 use Rattle.ub_region.specs.Regions.{AreTableRows}
-use Rattle.ub_script.specs.Run.{IsTableOf, IsAnswer, PagesOn, HasFetched, FetchesFor}
-use Rattle.ub_script.specs.Script.{Outcome, IsOutcome}
+use Rattle.ub_script.specs.Run.{IsTableOf}
 use Rattle.ub_script.specs.declared.fault.RunFault.{RunFault}
 use Rattle.ub_script.specs.declared.fault.RunFault.TheVariants as run
 use Rattle.ub_table.specs.Table.{Table}
@@ -100,19 +98,9 @@ runs_by {T = T} (Err f) e a b c is h runs = rw is (record {
   faults = given_before a b e h runs.faults;
 })
 
--- a statement's answer on the tree as it is after calls that only read
-pub answer_kept : (a b : TreeView) (table : Table) (source : List ℕ) (tokens : List Token) (text : List ℕ) (is_refused : Bool) → Keeps a b
-    → IsAnswer table (PagesOn b) source tokens text is_refused → IsAnswer table (PagesOn a) source tokens text is_refused
-answer_kept a b table source tokens text is_refused h is = subst (λ (t : TreeView). IsAnswer table (PagesOn t) source tokens text is_refused) h.traced is
-
--- the pages asked for by a statement on such a tree
-pub fetches_kept : (a b : TreeView) (source : List ℕ) (tokens : List Token) (n : ℕ) → Keeps a b → FetchesFor b source tokens n
-    → (outcome : Outcome) × IsOutcome a.schema source tokens outcome × HasFetched (PagesOn a) outcome b.fetches n
-fetches_kept a b source tokens n h is = (
-  is.outcome,
-  subst (λ (t : TreeView). IsOutcome t.schema source tokens is.outcome) h.traced is.heard,
-  subst (λ (t : TreeView). HasFetched (PagesOn t) is.outcome b.fetches n) h.traced is.fetched,
-)
+-- the regions of such a tree
+pub regions_kept : (a b : TreeView) → Keeps a b → regions b ≡ regions a
+regions_kept a b h = ap (λ (t : TreeView). regions t) h.traced
 
 -- on a sound tree a call that only reads is refused where its store fails, and for want of memory
 pub sound_fault : (old : TreeView) (fault : TreeFault) → IsSound old → IsReadFault old fault → fault ≢ Memory → fault ≡ Store store.Device

@@ -1,12 +1,12 @@
 -- A sound tree has a table, and no other.
-use Rattle.std.proofs.Common.{◌≡◌, ◌≢◌, Option, Result, Err, IfErr, ◌<◌, ◌≤◌, ◌⊎◌, ◌↔◌, inl, inr, ℕ, zero, suc, List, [], ◌∷◌, true, false, Ok, length, map, nat_eq, ◌∙◌, sym, ap, refl, arith, subst, add-one}
+use Rattle.std.proofs.Common.{◌≡◌, ◌≢◌, Result, Err, IfErr, ◌<◌, ◌≤◌, ◌⊎◌, ◌↔◌, inl, inr, ℕ, zero, suc, List, [], ◌∷◌, ◌++◌, true, false, length, map, nat_eq, ◌∙◌, sym, ap, refl, arith, subst, add-one}
 use Rattle.std.proofs.lemmas.Bool.{cases_lt, eq-eqb}
 use Rattle.std.proofs.lemmas.Map.Keys.{IsDistinct-head, IsDistinct-tail}
 use Rattle.std.specs.List.{AllByRecursion, Contains, IsDistinct}
 use Rattle.std.specs.List.Sorted.{IsStrictlyIncreasing}
-use Rattle.std.specs.Io.KnownBytes.{Keeps}
 use Rattle.ub_exec.specs.Answers.{begun, IsReady, IsAnswer as IsPlanAnswer}
-use Rattle.ub_exec.specs.Visits.{HasFetched as IsFetchedBy}
+use Rattle.ub_exec.specs.Visits.{HasFetched as IsFetchedBy, fetches_then}
+use Rattle.ub_plan.specs.Explained.{IsExplained}
 use Rattle.ub_plan.specs.Plan.{PlanView, plan_of}
 use Rattle.ub_plan.specs.Visits.{Span, AreVisits}
 use Rattle.ub_load.specs.LoadedTree.{IsLoadedTree}
@@ -20,8 +20,11 @@ use Rattle.ub_query.specs.Shape.{Asked}
 use Rattle.ub_query.specs.declared.cell.Cell.{Cell}
 use Rattle.std.proofs.lemmas.List.{length-map}
 use Rattle.ub_region.specs.Regions.{rows_of}
-use Rattle.ub_script.specs.Run.{IsTableOf, IsTextOf, ArePages, PagesOn, OnTree, OnText, HasRunOver, HasBegunOver, HasBrokenOver, HasRunOn, HasBegunOn, HasBrokenOn, HasRun, HasBegun, HasBroken}
-use Rattle.ub_script.specs.Text.{answer_text}
+use Rattle.ub_script.specs.Loop.{Makes}
+use Rattle.ub_script.specs.Run.{IsTableOf, FirstOver, FirstOn, FirstIn, IsWhole, IsStopped, IsCutOff, Ran, IsDone, IsBegun, IsBroken}
+use Rattle.ub_script.specs.Output.{OutFacts, Takes}
+use Rattle.ub_script.proofs.HeldFacts.{takes_as}
+use Rattle.ub_script.specs.Text.{ArePages, Reply, IsAskedReply, answer_text}
 use Rattle.ub_table.specs.Region.{Region}
 use Rattle.ub_table.specs.Table.{Table, IsInOrder}
 use Rattle.ub_table.specs.declared.row.Row.{Row}
@@ -202,24 +205,39 @@ pages_of p old new h =
     ap (λ (ns : List ℕ). length ns) h.trace_is ∙ length-map h.visited (λ (region : Placed). region.page) ∙ sym (length-map h.visited (λ (region : Placed). region.region))
     ∙ ap (λ (rs : List Region). length rs) h.regions_are ∙ length-map h.visits (λ (span : Span). span.region)
 
--- the text of what carrying out the plan of a query answers is the query's
-pub text_of_plan : (old new : TreeView) (table : Table) (schema : Schema) (trace : List ℕ) (p : PlanView) (q : Asked) (cells : List (List Cell)) (text : List ℕ)
-    → IsTableOf old table → schema ≡ old.schema → trace ≡ new.trace → p ≡ plan_of old.schema q → IsPlanAnswer old p.asked cells
-    → IsFetchedBy p (begun old) new → text ≡ answer_text schema q cells (length trace) → IsTextOf table (PagesOn old) (Ok q) text false
-text_of_plan old new table schema trace p q cells text is schema_is noted planned answer fetched e = record {
-  text_is = record {
-    rows = cells;
-    pages = length trace;
-    meant = subst (λ (s : Schema). IsMeaning (record { schema = s; rows = table.rows }) q cells) (sym is.schema_is) (subst (λ (asked : Asked). IsPlanAnswer old asked cells) (ap (λ (plan : PlanView). plan.asked) planned) answer table.rows is.rows_are);
-    fetched_are = record {
-      visits = fetched.visits;
-      visits_are = subst (λ (plan : PlanView). AreVisits old.schema plan (regions old) fetched.visits) planned fetched.visits_are;
-      pages_are = ap (λ (ns : List ℕ). length ns) noted ∙ pages_of p old new fetched;
-    };
-    text_is = e ∙ ap (λ (s : Schema). answer_text s q cells (length trace)) (schema_is ∙ sym is.schema_is);
-  };
-  refused_is = refl;
-}
+-- what carrying out the plan of a query answers is the reply to the query
+pub reply_of_plan : (old new : TreeView) (table : Table) (schema : Schema) (fetched : ℕ) (p : PlanView) (q : Asked) (cells : List (List Cell)) (text : List ℕ)
+    → IsTableOf old table → schema ≡ old.schema → fetched ≡ length new.trace → p ≡ plan_of old.schema q → IsPlanAnswer old p.asked cells
+    → IsFetchedBy p (begun old) new → text ≡ answer_text schema q cells fetched → Makes (IsAskedReply false table (regions old) q) text false old.fetches new.fetches
+reply_of_plan old new table schema fetched p q cells text is schema_is noted planned answer by e =
+    let pages : fetched ≡ length by.visits = noted ∙ pages_of p old new by in (
+      fetched,
+      record {
+        rows = cells;
+        meant = subst (λ (s : Schema). IsMeaning (record { schema = s; rows = table.rows }) q cells) (sym is.schema_is) (subst (λ (asked : Asked). IsPlanAnswer old asked cells) (ap (λ (plan : PlanView). plan.asked) planned) answer table.rows is.rows_are);
+        pages_are = subst (λ (s : Schema). ArePages s (regions old) q fetched) (sym is.schema_is) (record {
+          visits = by.visits;
+          visits_are = subst (λ (plan : PlanView). AreVisits old.schema plan (regions old) by.visits) planned by.visits_are;
+          pages_are = pages;
+        });
+        text_is = e ∙ ap (λ (s : Schema). answer_text s q cells fetched) (schema_is ∙ sym is.schema_is);
+        accepted = refl;
+      },
+      by.fetches_are ∙ ap (fetches_then old.fetches) (sym pages),
+    )
+
+-- how the plan of a query reads the tree's regions is the reply to an EXPLAIN of it
+pub reply_of_explain : (t : TreeView) (table : Table) (p : PlanView) (q : Asked) (text : List ℕ) (after : ℕ) → IsTableOf t table → p ≡ plan_of t.schema q → after ≡ t.fetches
+    → IsExplained t.schema p (regions t) text → Makes (IsAskedReply true table (regions t) q) text false t.fetches after
+reply_of_explain t table p q text after is planned kept explained = (
+  0,
+  record {
+    explained = subst (λ (s : Schema). IsExplained s (plan_of s q) (regions t) text) (sym is.schema_is) (rw planned at explained);
+    pages_are = refl;
+    accepted = refl;
+  },
+  kept,
+)
 
 -- the plan of a query over a sound tree's schema can be carried out
 pub ready_of : (t : TreeView) (p : PlanView) (q : Asked) → IsSound t → p ≡ plan_of t.schema q → IsReady t p
@@ -229,7 +247,7 @@ ready_of t p q sound planned = record {
 }
 
 -- what was run on the tree that a CSV text is loaded into was run on the text's table
-module _ (text : List ℕ) (dims page_rows : ℕ) (name : List ℕ) (t : TreeView) (loaded : IsLoadedTree text dims page_rows name t) (script : List ℕ) (old new : Option (List ℕ)) where
+module _ (text : List ℕ) (dims page_rows : ℕ) (name : List ℕ) (t : TreeView) (loaded : IsLoadedTree text dims page_rows name t) (script : List ℕ) where
   table : Table
   table = record { schema = t.schema; rows = loaded.rows }
 
@@ -237,25 +255,32 @@ module _ (text : List ℕ) (dims page_rows : ℕ) (name : List ℕ) (t : TreeVie
   unfolding table
   table_is = record { sound = loaded.sound; schema_is = refl; rows_are = loaded.table }
 
-  on_text : (Holds : Table → (Asked → ℕ → Type 0) → Type 0) → OnTree t Holds → OnText text dims page_rows name Holds
+  pub loaded_first : (replies : List Reply) (left : ℕ) → FirstOn t script replies left → FirstIn text dims page_rows name script replies left
   unfolding table
-  on_text Holds (found, is, run) = (
+  loaded_first replies left (found, is, first) = (
     table,
     loaded.loaded,
-    subst (λ (rs : List Region). Holds table (ArePages t.schema rs)) loaded.regions_are
-        (subst (λ (of_table : Table). Holds of_table (PagesOn t)) (rows_alike t found table is table_is) run),
+    subst (λ (rs : List Region). FirstOver table rs script replies left) loaded.regions_are
+        (subst (λ (of_table : Table). FirstOver of_table (regions t) script replies left) (rows_alike t found table is table_is) first),
   )
 
-  pub loaded_run : (s : Summary) → HasRunOn t script old new s → HasRun text dims page_rows name script old new s
-  loaded_run s h = on_text (λ of_table Pages. HasRunOver of_table Pages script old new s) h
+  pub loaded_done : (s : Summary) (old new : OutFacts) (before after : ℕ) → Ran (IsWhole (FirstOn t script) s) false old new before after
+      → Takes (IsDone text dims page_rows name script s) false old new
+  loaded_done s old new before after (bytes, pages, (replies, first, is, sum, counts), taken, fetched) =
+      (bytes, (pages, (replies, loaded_first replies 0 first, is, sum, counts)), taken)
 
-  pub loaded_begun : HasBegunOn t script old new → HasBegun text dims page_rows name script old new
-  loaded_begun h = on_text (λ of_table Pages. HasBegunOver of_table Pages script old new) h
+  loaded_begun : (bytes : List ℕ) → IsStopped (FirstOn t script) bytes → IsBegun text dims page_rows name script bytes
+  loaded_begun bytes (replies, left, first, is) = (replies, left, loaded_first replies (suc left) first, is)
 
-  pub loaded_broken : HasBrokenOn t script old new → HasBroken text dims page_rows name script old new
-  loaded_broken h = on_text (λ of_table Pages. HasBrokenOver of_table Pages script old new) h
+  pub loaded_broken : (old new : OutFacts) (before after : ℕ) → Ran (IsCutOff (FirstOn t script)) true old new before after
+      → Takes (IsBroken text dims page_rows name script) true old new
+  loaded_broken old new before after (bytes, pages, (replies, next, left, front, first, cut, is, sum), taken, fetched) =
+      (bytes, (pages, (replies, next, left, front, loaded_first (replies ++ next ∷ []) left first, cut, is, sum)), taken)
 
   -- a run that stopped for another reason than a failed write
-  pub loaded_stopped : (r : Result Summary RunFault) (fault : RunFault) → r ≡ Err fault → fault ≢ Write
-      → IfErr r (λ e. e ≢ Write → Keeps old new ⊎ HasBegunOn t script old new) → Keeps old new ⊎ HasBegun text dims page_rows name script old new
-  loaded_stopped r fault same differs h = elim (rw same at h differs) [ inl kept ↦ inl kept | inr begun ↦ inr (loaded_begun begun) ]
+  pub loaded_stopped : (old new : OutFacts) (r : Result Summary RunFault) (fault : RunFault) → r ≡ Err fault → fault ≢ Write
+      → IfErr r (λ e. e ≢ Write → (new ≡ old) ⊎ Takes (IsStopped (FirstOn t script)) false old new) → (new ≡ old) ⊎ Takes (IsBegun text dims page_rows name script) false old new
+  loaded_stopped old new r fault same differs h = elim (rw same at h differs) [
+    | inl kept ↦ inl kept
+    | inr begun ↦ inr (takes_as (IsStopped (FirstOn t script)) (IsBegun text dims page_rows name script) false old new loaded_begun begun)
+  ]

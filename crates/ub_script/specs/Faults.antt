@@ -2,8 +2,11 @@
 use Rattle.std.specs.Prelude.{◌≡◌, ◌≢◌, ℕ, Result, Err, IfErr}
 use Rattle.ub_exec.specs.declared.fault.ExecFault.{ExecFault}
 use Rattle.ub_exec.specs.declared.fault.ExecFault.TheVariants.{Memory as no_memory_to_read, Tree as of_tree}
+use Rattle.ub_plan.specs.declared.fault.PlanFault.{PlanFault}
+use Rattle.ub_plan.specs.declared.fault.PlanFault.TheVariants.{Memory as no_memory_to_explain, Tree as of_explain}
 use Rattle.ub_load.specs.declared.fault.LoadFault.{LoadFault}
 use Rattle.ub_load.specs.declared.fault.LoadFault.TheVariants.{Memory as no_memory_to_load}
+use Rattle.ub_store.specs.Facts.{raised}
 use Rattle.ub_tree.specs.Effects.{IsReadFault, raised_by}
 use Rattle.ub_tree.specs.View.{TreeView}
 use Rattle.ub_tree.specs.declared.fault.TreeFault.TheVariants.{Memory as no_memory}
@@ -19,12 +22,21 @@ abbrev pub fault_of_plan : ExecFault → RunFault
 fault_of_plan no_memory_to_read = Memory
 fault_of_plan (of_tree fault) = Tree fault
 
+abbrev pub fault_of_explain : PlanFault → RunFault
+fault_of_explain no_memory_to_explain = Memory
+fault_of_explain (of_explain fault) = Tree fault
+
 -- what a run over a tree can answer: a fault of the tree as its reading calls answer it
 abbrev pub IsGiven : TreeView → RunFault → Type 0
 IsGiven old Memory = Unit {0}
 IsGiven old Write = Unit {0}
 IsGiven old (Load fault) = ⊥
 IsGiven old (Tree fault) = IsReadFault old fault × (fault ≢ no_memory)
+
+-- a count of failed writes after a run with this result: Write raises it by one, and nothing else does
+abbrev pub failures_after : {A : Type 0} → Result A RunFault → ℕ → ℕ
+failures_after (Err Write) n = raised n 1
+failures_after _ n = n
 
 -- a count of failed reads after a run with this result
 abbrev pub counted : {A : Type 0} → Result A RunFault → ℕ → ℕ

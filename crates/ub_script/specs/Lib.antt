@@ -1,4 +1,4 @@
-pub mod Counts
+pub mod Output
 pub mod Faults
 pub mod Script
 pub mod Text

@@ -1,39 +1,29 @@
--- What is written by statements at given ranges of the tokens.
-use Rattle.std.specs.Prelude.{◌≤◌, ℕ, Bool, List, length, take, slice_range, Option}
-use Rattle.std.specs.Io.KnownBytes.{Appends}
+-- What is done for the statement at one range of the tokens.
+use Rattle.std.specs.Prelude.{◌≡◌, ℕ, Bool, List, slice_range}
+use Rattle.ub_exec.specs.Visits.{fetches_then}
 use Rattle.ub_lexer.specs.declared.token.Token.{Token}
-use Rattle.ub_query.specs.Shape.{Asked}
-use Rattle.ub_script.specs.Run.{IsTableOf, IsAnswer, AreAnswers, PagesOn}
-use Rattle.ub_script.specs.declared.script.Summary.{Summary}
+use Rattle.ub_script.specs.Output.{IsFrontOf}
+use Rattle.ub_script.specs.Run.{IsTableOf, IsAnswer}
+use Rattle.ub_script.specs.Text.{Reply, reply}
+use Rattle.ub_table.specs.Region.{Region}
 use Rattle.ub_table.specs.Table.{Table}
-use Rattle.ub_tree.specs.View.{TreeView}
+use Rattle.ub_tree.specs.View.{TreeView, regions}
 
--- what holds of the table of a tree, of which there is one (`run`)
-abbrev pub OfTable : TreeView → (Table → (Asked → ℕ → Type 0) → Type 0) → Type 0
-OfTable t Holds = (table : Table) → IsTableOf t table → Holds table (PagesOn t)
+-- what holds of the table of a tree, of which there is one (`run`), and of the regions that it is in
+abbrev pub OfTable : TreeView → (Table → List Region → Type 0) → Type 0
+OfTable t Holds = (table : Table) → IsTableOf t table → Holds table (regions t)
 
--- the statement at a range was answered: its text was written, whole
-abbrev pub IsWritten : Table → (Asked → ℕ → Type 0) → List ℕ → List Token → ℕ × ℕ → Option (List ℕ) → Option (List ℕ) → Bool → Type 0
-IsWritten table Pages source tokens range old new is_refused =
-    (text : List ℕ) × IsAnswer table Pages source (slice_range tokens range.0 range.1) text is_refused × Appends old new text
+-- a reply was made of which this holds: pages were fetched, and this is its text, and whether it is refused
+abbrev pub Makes : (Reply → Type 0) → List ℕ → Bool → ℕ → ℕ → Type 0
+Makes Is text is_refused fetches fetches_now =
+    (pages : ℕ) × Is (reply text pages is_refused) × (fetches_now ≡ fetches_then fetches pages)
 
--- of its text the first so many bytes were written
-abbrev pub IsBroken : Table → (Asked → ℕ → Type 0) → List ℕ → List Token → ℕ × ℕ → Option (List ℕ) → Option (List ℕ) → Type 0
-IsBroken table Pages source tokens range old new =
-    (text : List ℕ) × (is_refused : Bool) × (n : ℕ)
-    × IsAnswer table Pages source (slice_range tokens range.0 range.1) text is_refused × Appends old new (take n text)
+-- this is the text of the statement at a range, and so many pages are fetched for it
+abbrev pub IsAnswerAt : Table → List Region → List ℕ → List Token → ℕ × ℕ → Bool → List ℕ → ℕ → Type 0
+IsAnswerAt table regions source tokens range is_refused text pages =
+    IsAnswer table regions source (slice_range tokens range.0 range.1) (reply text pages is_refused)
 
--- this is the text of the first statements at these ranges, as many as the summary counts
-abbrev pub AreFirst : Table → (Asked → ℕ → Type 0) → List ℕ → List Token → List (ℕ × ℕ) → Summary → List ℕ → Type 0
-AreFirst table Pages source tokens ranges s text =
-    (s.statements ≤ length ranges) × AreAnswers table Pages source tokens (take s.statements ranges) text s.refused
-
--- the first statements were answered: their texts were written, whole
-abbrev pub HaveBegun : Table → (Asked → ℕ → Type 0) → List ℕ → List Token → List (ℕ × ℕ) → Option (List ℕ) → Option (List ℕ) → Summary → Type 0
-HaveBegun table Pages source tokens ranges old new s =
-    (text : List ℕ) × AreFirst table Pages source tokens ranges s text × Appends old new text
-
--- of their texts the first so many bytes were written
-abbrev pub HaveBroken : Table → (Asked → ℕ → Type 0) → List ℕ → List Token → List (ℕ × ℕ) → Option (List ℕ) → Option (List ℕ) → Summary → Type 0
-HaveBroken table Pages source tokens ranges old new s =
-    (bytes : ℕ) × (text : List ℕ) × AreFirst table Pages source tokens ranges s text × Appends old new (take bytes text)
+-- a front of its text, not all of it, and all of the pages
+abbrev pub IsCutAt : Table → List Region → List ℕ → List Token → ℕ × ℕ → List ℕ → ℕ → Type 0
+IsCutAt table regions source tokens range front pages =
+    (r : Reply) × IsAnswer table regions source (slice_range tokens range.0 range.1) r × IsFrontOf front r.text × (pages ≡ r.pages)

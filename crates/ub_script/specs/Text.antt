@@ -1,14 +1,18 @@
 -- The text of a statement's result: a title line, a line for each row of cells, and a line of counts; or why it is refused.
-use Rattle.std.specs.Prelude.{◌≡◌, ℕ, List, [], ◌∷◌, ◌++◌, length, map, codes, decimal, Ok, Err}
+use Rattle.std.specs.Prelude.{◌≡◌, ℕ, Bool, true, false, List, [], ◌∷◌, ◌++◌, length, map, codes, count_by, decimal, Ok, Err}
 use Rattle.std.specs.Fmt.{signed_decimal}
-use Rattle.std.specs.List.{flat_map, join_with_byte}
+use Rattle.std.specs.List.{flat_map, join_with_byte, sum_by}
 use Rattle.ub_parser.specs.declared.fault.SqlFault.{SqlFault}
 use Rattle.ub_parser.specs.declared.fault.SqlFault.TheVariants.{BadByte, Syntax, NumberTooLarge, TooDeep, TooMany, UnknownTable, UnknownColumn, NotGrouped, NotSelected, Memory}
+use Rattle.ub_plan.specs.Explained.{IsExplained}
+use Rattle.ub_plan.specs.Plan.{plan_of}
+use Rattle.ub_plan.specs.Visits.{Span, AreVisits}
 use Rattle.ub_query.specs.Meaning.{IsMeaning, titles}
 use Rattle.ub_query.specs.Shape.{Asked}
 use Rattle.ub_query.specs.declared.cell.Cell.{Cell}
 use Rattle.ub_query.specs.declared.cell.Cell.TheVariants.{Number, Null}
 use Rattle.ub_script.specs.Script.{Outcome}
+use Rattle.ub_table.specs.Region.{Region}
 use Rattle.ub_table.specs.Table.{Table}
 use Rattle.ub_table.specs.declared.schema.Schema.{Schema}
 
@@ -48,26 +52,51 @@ refused_text (NotGrouped at) = refusal_text (codes "NotGrouped") at
 refused_text (NotSelected at) = refusal_text (codes "NotSelected") at
 refused_text Memory = []
 
--- what a query writes: the rows of cells that it means on the table, and how many region pages are fetched for it
-pub record IsAnswerText (table : Table) (Pages : Asked → ℕ → Type 0) (q : Asked) (text : List ℕ) : Type 0 where
-  pub rows : List (List Cell)
+-- what is done for a statement: its text is written, so many region pages are fetched, and it may be refused
+pub record Reply : Type 0 where
+  pub text : List ℕ
   pub pages : ℕ
+  pub is_refused : Bool
+
+abbrev pub reply : List ℕ → ℕ → Bool → Reply
+reply text pages is_refused = record { text = text; pages = pages; is_refused = is_refused }
+
+-- so many regions of a table are visited by the plan of a query, and so many pages are fetched for it
+pub record ArePages (schema : Schema) (regions : List Region) (q : Asked) (pages : ℕ) : Type 0 where
+  pub visits : List Span
+  pub visits_are : AreVisits schema (plan_of schema q) regions visits
+  pub pages_are : pages ≡ length visits
+
+-- the reply to a query on a table in these regions: the rows of cells that it means, and how many pages are fetched for it
+pub record IsQueryReply (table : Table) (regions : List Region) (q : Asked) (r : Reply) : Type 0 where
+  pub rows : List (List Cell)
   pub meant : IsMeaning table q rows
-  pub fetched_are : Pages q pages
-  pub text_is : text ≡ answer_text table.schema q rows pages
+  pub pages_are : ArePages table.schema regions q r.pages
+  pub text_is : r.text ≡ answer_text table.schema q rows r.pages
+  pub accepted : r.is_refused ≡ false
 
--- what a statement writes, where for a query so many region pages are fetched as stated of it
-abbrev pub IsStatementText : Table → (Asked → ℕ → Type 0) → Outcome → List ℕ → Type 0
-IsStatementText table Pages (Ok q) text = IsAnswerText table Pages q text
-IsStatementText table Pages (Err fault) text = text ≡ refused_text fault
+-- the reply to an EXPLAIN of a query: how its plan reads the regions, of which none is fetched
+pub record IsExplainReply (table : Table) (regions : List Region) (q : Asked) (r : Reply) : Type 0 where
+  pub explained : IsExplained table.schema (plan_of table.schema q) regions r.text
+  pub pages_are : r.pages ≡ 0
+  pub accepted : r.is_refused ≡ false
 
--- what the statements with these outcomes write, in order
-abbrev pub AreTexts : Table → (Asked → ℕ → Type 0) → List Outcome → List (List ℕ) → Type 0
-AreTexts table Pages [] [] = Unit {0}
-AreTexts table Pages [] (text ∷ texts) = ⊥
-AreTexts table Pages (o ∷ os) [] = ⊥
-AreTexts table Pages (o ∷ os) (text ∷ texts) = IsStatementText table Pages o text × AreTexts table Pages os texts
+-- the reply to a query that is explained, or answered
+abbrev pub IsAskedReply : Bool → Table → List Region → Asked → Reply → Type 0
+IsAskedReply true table regions q r = IsExplainReply table regions q r
+IsAskedReply false table regions q r = IsQueryReply table regions q r
 
--- texts one after the other
-abbrev pub joined : List (List ℕ) → List ℕ
-joined texts = flat_map (λ text. text) texts
+-- the reply to a statement with this outcome; for a refused one no page is fetched
+abbrev pub IsReply : Table → List Region → Outcome → Reply → Type 0
+IsReply table regions (Ok t) r = IsAskedReply t.is_explained table regions t.asked r
+IsReply table regions (Err fault) r = r ≡ reply (refused_text fault) 0 true
+
+-- of several replies the texts, one after the other, the number of pages, and how many of them are refused
+abbrev pub texts_of : List Reply → List ℕ
+texts_of replies = flat_map (λ r. r.text) replies
+
+abbrev pub pages_of : List Reply → ℕ
+pages_of replies = sum_by (λ r. r.pages) replies
+
+abbrev pub refused_in : List Reply → ℕ
+refused_in replies = count_by (λ r. r.is_refused) replies

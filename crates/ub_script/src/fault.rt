@@ -1,12 +1,13 @@
 ghost use Rattle.std.specs.Prelude.{◌≡◌};
 ghost use Rattle.ub_script.specs.declared.fault.RunFault.TheVariants.{Memory, Write};
-ghost use Rattle.ub_script.specs.Faults.{fault_of_load, fault_of_plan};
+ghost use Rattle.ub_script.specs.Faults.{fault_of_explain, fault_of_load, fault_of_plan};
 
 use crate::output::OutFault;
 use std::alloc::AllocError;
 use thiserror::Error;
 use ub_exec::ExecFault;
 use ub_load::LoadFault;
+use ub_plan::PlanFault;
 use ub_tree::TreeFault;
 
 /// Why a script was not run to its end.
@@ -52,6 +53,17 @@ impl From<ExecFault> for RunFault {
         match fault {
             ExecFault::Memory => RunFault::Memory,
             ExecFault::Tree(fault) => RunFault::Tree(fault),
+        }
+    }
+}
+
+impl From<PlanFault> for RunFault {
+    ghost from_gives = { λ plan fault. fault ≡ fault_of_explain plan };
+
+    fn from(fault: PlanFault) -> RunFault {
+        match fault {
+            PlanFault::Memory => RunFault::Memory,
+            PlanFault::Tree(fault) => RunFault::Tree(fault),
         }
     }
 }

@@ -1,4 +1,4 @@
-ghost use Rattle.ub_script.specs.Laws.{QueriesFetchOneNumberOfPages, OutcomesHaveOneText, ScriptsHaveOneText};
+ghost use Rattle.ub_script.specs.Laws.{QueriesFetchOneNumberOfPages, OutcomesHaveOneReply, StatementsHaveOneReplyEach, ScriptsHaveOneEnd};
 
 // Each function here does nothing, and its clause is a law of the definitions in specs/. So the law is proved, and is read
 // beside the code.
@@ -8,12 +8,17 @@ pub fn queries_fetch_one_number_of_pages()
     ensures { QueriesFetchOneNumberOfPages }
 {}
 
-/// A statement has one text: what it is told says every byte of it.
-pub fn outcomes_have_one_text()
-    ensures { OutcomesHaveOneText }
+/// To a statement there is one reply: what it is told says every byte of its text, and how many pages are fetched.
+pub fn outcomes_have_one_reply()
+    ensures { OutcomesHaveOneReply }
 {}
 
-/// The statements of a script have one text each.
-pub fn scripts_have_one_text()
-    ensures { ScriptsHaveOneText }
+/// To the statements of a script there is one reply each.
+pub fn statements_have_one_reply_each()
+    ensures { StatementsHaveOneReplyEach }
+{}
+
+/// A script that is run to its end writes one text, fetches one number of pages, and has one summary.
+pub fn scripts_have_one_end()
+    ensures { ScriptsHaveOneEnd }
 {}

@@ -1,6 +1,5 @@
-ghost use Rattle.std.specs.Prelude.{◌≡◌, ◌<◌, ◌≤◌, ℕ, List, length, take, Option, Result, IfOk, OnOk, OnErr, MatchResult};
-ghost use Rattle.std.specs.Io.KnownBytes.{Appends, Keeps};
-ghost use Rattle.ub_script.specs.Counts.{Rose};
+ghost use Rattle.std.specs.Prelude.{◌≡◌, OnOk, OnErr};
+ghost use Rattle.ub_script.specs.Output.{OutFacts, out_facts, Breaks, HasWritten, Puts};
 
 use std::io::Write;
 use thiserror::Error;
@@ -12,24 +11,16 @@ pub struct OutFault {}
 
 /// What bytes can be written to, one piece after the other.
 ///
-/// A proof sees two things of it: `told`, the bytes that it has taken so far, where they can be known, and `failures`,
-/// how often a write failed, a count that stays at its greatest value.
+/// A proof sees the facts of it: the bytes that it has taken so far, where they can be known, and how often a write failed, a
+/// count that stays at its greatest value.
 pub trait Out {
-    ghost told: { Self → Option (List ℕ) };
-
-    ghost failures: { Self → ℕ };
+    ghost facts: { Self → OutFacts };
 
     /// Takes some of the bytes, from the first on, and says how many; or fails, and takes none.
     ///
-    /// To take none of one byte or more is counted as a failure too.
+    /// To take none of one byte or more is counted as a failure too. A call that fails is counted once, and no other is.
     fn write(&mut self, bytes: &[u8]) -> Result<usize, OutFault>
-        ensures within { IfOk result (λ n. n ≤ length bytes.now) }
-        ensures bytes { MatchResult result (λ n. Appends (told self.old) (told self.new) (take n bytes.now))
-            (λ _. Keeps (told self.old) (told self.new)) }
-        ensures counts { failures self.old ≤ failures self.new }
-        ensures failed { OnErr result (Rose (failures self.old) (failures self.new)) }
-        ensures stuck { IfOk result (λ n. n ≡ 0 → 0 < length bytes.now
-            → Rose (failures self.old) (failures self.new)) };
+        ensures { HasWritten bytes.now result (facts self.old) (facts self.new) };
 }
 
 /// An `Out` over any writer of `std`, whose failures it counts.
@@ -42,15 +33,14 @@ pub struct Over<W> {
 impl<W: Write> Over<W> {
     /// Writes go to this writer from now on; none has failed yet.
     pub fn new(inner: W) -> Over<W>
-        ensures told { ⟦<Over<W> as Out>⟧.told result ≡ W.contents inner }
-        ensures failures { ⟦<Over<W> as Out>⟧.failures result ≡ 0 }
+        ensures { ⟦<Over<W> as Out>⟧.facts result ≡ out_facts (W.contents inner) 0 }
     {
         Over { inner, failed: 0 }
     }
 
     /// The writer, with all that was written to it.
     pub fn into_inner(self) -> W
-        ensures { W.contents result ≡ ⟦<Over<W> as Out>⟧.told self }
+        ensures { W.contents result ≡ (⟦<Over<W> as Out>⟧.facts self).told }
     {
         let Over { inner, failed: _ } = self;
         inner
@@ -58,9 +48,7 @@ impl<W: Write> Over<W> {
 }
 
 impl<W: Write> Out for Over<W> {
-    ghost told = { λ over. W.contents over.inner };
-
-    ghost failures = { λ over. over.failed };
+    ghost facts = { λ over. out_facts (W.contents over.inner) over.failed };
 
     fn write(&mut self, bytes: &[u8]) -> Result<usize, OutFault> {
         match self.inner.write(bytes) {
@@ -78,12 +66,10 @@ impl<W: Write> Out for Over<W> {
     }
 }
 
-/// Writes all of the bytes; or fails, and a front of them was written.
+/// Writes all of the bytes; or fails, once, and a front of them was written, fewer than all.
 pub fn put_all<W: Out>(out: &mut W, bytes: &[u8]) -> Result<(), OutFault>
-    ensures whole { OnOk result (Appends (W.told out.old) (W.told out.new) bytes.now) }
-    ensures front { OnErr result ((n : ℕ) × Appends (W.told out.old) (W.told out.new) (take n bytes.now)) }
-    ensures failed { OnErr result (Rose (W.failures out.old) (W.failures out.new)) }
-    ensures counts { W.failures out.old ≤ W.failures out.new }
+    ensures whole { OnOk result (Puts bytes.now (W.facts out.old) (W.facts out.new)) }
+    ensures front { OnErr result (Breaks bytes.now (W.facts out.old) (W.facts out.new)) }
 {
     let mut at = 0usize;
     while at < bytes.len() {

@@ -1,6 +1,4 @@
-ghost use Rattle.std.specs.Prelude.{◌≡◌, ◌≢◌, ◌<◌, ◌≤◌, ◌⊎◌, true, Some, length, Ok, Err, All, slice_range, IfOk, OnOk, IfErr, IsErrOf};
-ghost use Rattle.std.specs.Io.KnownBytes.{Keeps as KeepsBytes};
-ghost use Rattle.ub_exec.specs.Faults.{ReadsTree};
+ghost use Rattle.std.specs.Prelude.{◌≡◌, ◌≢◌, ◌<◌, ◌≤◌, ◌⊎◌, true, false, Some, length, Ok, Err, All, IfOk, IfErr, IsErrOf};
 ghost use Rattle.ub_lexer.specs.Tokens.{AreSpelled};
 ghost use Rattle.ub_load.specs.LoadedTable.{records_of};
 ghost use Rattle.ub_load.specs.Refusals.{first_refusal};
@@ -10,23 +8,22 @@ ghost use Rattle.ub_query.specs.Posed.{IsPosed};
 ghost use Rattle.ub_query.specs.Shape.{asked};
 ghost use Rattle.ub_tree.specs.View.{IsSound};
 ghost use Rattle.ub_tree.specs.declared.fault.TreeFault.{TreeFault};
-ghost use Rattle.ub_script.specs.Counts.{Rose};
-ghost use Rattle.ub_script.specs.Run.{HasFetched, FetchesFor, FetchesAt, FetchesAll, PagesOn, IsTextOf, IsAnswer, IsRange, HasRunOn, HasBegunOn, HasBrokenOn, HasRun, HasBegun, HasBroken};
-ghost use Rattle.ub_script.specs.Faults.{Runs};
-ghost use Rattle.ub_script.specs.Loop.{OfTable, IsWritten, IsBroken, HaveBegun, HaveBroken};
-ghost use Rattle.ub_script.specs.Script.{answered};
-ghost use Rattle.ub_script.specs.Text.{refused_text};
+ghost use Rattle.ub_script.specs.Output.{Takes};
+ghost use Rattle.ub_script.specs.Run.{IsAnswer, IsRange, FirstAt, FirstOn, IsWhole, IsStopped, IsCutOff, Ran, IsDone, IsBegun, IsBroken};
+ghost use Rattle.ub_script.specs.Faults.{Runs, failures_after};
+ghost use Rattle.ub_script.specs.Loop.{OfTable, Makes, IsAnswerAt, IsCutAt};
+ghost use Rattle.ub_script.specs.Text.{IsAskedReply, IsReply, refused_text};
 ghost use Rattle.ub_script.specs.declared.script.Summary.{Summary};
 
 use crate::fault::RunFault;
 use crate::output::{Out, put_all};
 use crate::text::{answer_text, refused_text};
 use std::alloc::Global;
-use ub_exec::{ExecFault, execute};
+use ub_exec::execute;
 use ub_lexer::{Token, lex, statements};
 use ub_load::{LoadFault, load};
 use ub_parser::{Query, SqlFault, Statement, parse};
-use ub_plan::plan;
+use ub_plan::{explain, plan};
 use ub_store::{MemStore, PageStore, StoreFault};
 use ub_tree::{Tree, TreeFault};
 
@@ -57,26 +54,28 @@ pub fn try_text<W: Out>(
     requires some_rows { 2 ≤ page_rows }
     requires few_rows { page_rows ≤ 64 }
     ensures done { IfOk result (λ summary.
-        HasRun text.now dims page_rows name.now script.now (W.told out.old) (W.told out.new) summary) }
+        Takes (IsDone text.now dims page_rows name.now script.now summary) false
+        (W.facts out.old) (W.facts out.new)) }
 
     // Nothing is written, and the fault is the first thing that is wrong with the text, unless `csv` refused a record or
     // there is no room for another page.
     ensures load { (fault : LoadFault) → result ≡ Err (RunFault.Load fault)
-        → KeepsBytes (W.told out.old) (W.told out.new) × (fault ≢ LoadFault.Csv → fault ≢ LoadFault.Tree (TreeFault.Store StoreFault.BadSize)
+        → (W.facts out.new ≡ W.facts out.old) × (fault ≢ LoadFault.Csv
+        → fault ≢ LoadFault.Tree (TreeFault.Store StoreFault.BadSize)
         → first_refusal dims name.now (records_of text.now) ≡ Some fault) }
-    ensures failed { IsErrOf result RunFault.Write → Rose (W.failures out.old) (W.failures out.new) }
 
     // A front of the texts of the first statements is written, and nothing after the write that failed.
     ensures write { IsErrOf result RunFault.Write
-        → HasBroken text.now dims page_rows name.now script.now (W.told out.old) (W.told out.new) }
+        → Takes (IsBroken text.now dims page_rows name.now script.now) true
+        (W.facts out.old) (W.facts out.new) }
 
     // Nothing is written, or the texts of the first statements and no more.
-    ensures memory { IsErrOf result RunFault.Memory → KeepsBytes (W.told out.old) (W.told out.new)
-        ⊎ HasBegun text.now dims page_rows name.now script.now (W.told out.old) (W.told out.new) }
+    ensures memory { IsErrOf result RunFault.Memory → (W.facts out.new ≡ W.facts out.old)
+        ⊎ Takes (IsBegun text.now dims page_rows name.now script.now) false
+        (W.facts out.old) (W.facts out.new) }
     ensures of_tree { (fault : TreeFault) → result ≡ Err (RunFault.Load (LoadFault.Tree fault))
         → (fault ≡ TreeFault.Full) ⊎ (fault ≡ TreeFault.Store StoreFault.BadSize) }
     ensures tree { (fault : TreeFault) → ¬ (result ≡ Err (RunFault.Tree fault)) }
-    ensures counts { W.failures out.old ≤ W.failures out.new }
 {
     let mut tree = load(alloc, text, dims, page_rows, name, MemStore::new(alloc))?;
     run(alloc, &mut tree, script, out)
@@ -93,26 +92,26 @@ pub fn run<S: PageStore, W: Out>(
     script: &[u8],
     out: &mut W,
 ) -> Result<Summary, RunFault>
-    ensures done { IsSound tree.old
-        → IfOk result (λ summary. HasRunOn tree.old script.now (W.told out.old) (W.told out.new) summary) }
+    // The texts are written, and for each statement that is answered the regions are fetched that its plan visits, each once.
+    ensures done { IsSound tree.old → IfOk result (λ summary.
+        Ran (IsWhole (FirstOn tree.old script.now) summary) false
+        (W.facts out.old) (W.facts out.new) tree.old.fetches tree.new.fetches) }
 
-    ensures failed { IsErrOf result RunFault.Write → Rose (W.failures out.old) (W.failures out.new) }
-
-    // A front of the texts of the first statements is written, and nothing after the write that failed.
+    // The texts of the first statements are written, and of the next one's a front, and nothing after the write that failed.
     ensures write { IsSound tree.old → IsErrOf result RunFault.Write
-        → HasBrokenOn tree.old script.now (W.told out.old) (W.told out.new) }
+        → Ran (IsCutOff (FirstOn tree.old script.now)) true
+        (W.facts out.old) (W.facts out.new) tree.old.fetches tree.new.fetches }
 
-    // Nothing is written, or the texts of the first statements and no more.
-    ensures memory { IsSound tree.old → IfErr result (λ fault. fault ≢ RunFault.Write
-        → KeepsBytes (W.told out.old) (W.told out.new) ⊎ HasBegunOn tree.old script.now (W.told out.old) (W.told out.new)) }
+    // Nothing is written, or the texts of the first statements and no more; there is another one.
+    ensures begun { IsSound tree.old → IfErr result (λ fault. fault ≢ RunFault.Write
+        → (W.facts out.new ≡ W.facts out.old)
+        ⊎ Takes (IsStopped (FirstOn tree.old script.now)) false (W.facts out.old) (W.facts out.new)) }
+    ensures failures { (W.facts out.new).failures
+        ≡ failures_after result (W.facts out.old).failures }
 
     // The tree is read and no more. `Tree` only where, on a sound tree, the store failed in this call, and never over a
     // store that can't fail; `Load` never.
     ensures effect { Runs tree.old tree.new result }
-
-    // For each statement that is answered the regions are fetched that its plan visits, each once.
-    ensures fetches { IsSound tree.old → OnOk result (FetchesAll tree.old script.now tree.new.fetches) }
-    ensures counts { W.failures out.old ≤ W.failures out.new }
 {
     let tokens = lex(alloc, script)?;
     let ranges = statements(alloc, &tokens)?;
@@ -130,17 +129,18 @@ fn run_statements<S: PageStore, W: Out>(
 ) -> Result<Summary, RunFault>
     requires spelled { AreSpelled source.now tokens.now }
     requires ranges { All (λ range. IsRange tokens.now range) ranges.now }
-    ensures done { OfTable tree.old (λ table Pages. IfOk result (λ s. (s.statements ≡ length ranges.now)
-        × HaveBegun table Pages source.now tokens.now ranges.now (W.told out.old) (W.told out.new) s)) }
-    ensures begun { OfTable tree.old (λ table Pages. IfErr result (λ fault. fault ≢ RunFault.Write
-        → (s : Summary) × HaveBegun table Pages source.now tokens.now ranges.now (W.told out.old) (W.told out.new) s)) }
-    ensures write { OfTable tree.old (λ table Pages. IsErrOf result RunFault.Write → (s : Summary)
-        × HaveBroken table Pages source.now tokens.now ranges.now (W.told out.old) (W.told out.new) s) }
-    ensures failed { IsErrOf result RunFault.Write → Rose (W.failures out.old) (W.failures out.new) }
+    ensures done { OfTable tree.old (λ table regions. IfOk result (λ summary.
+        Ran (IsWhole (FirstAt table regions source.now tokens.now ranges.now) summary) false
+        (W.facts out.old) (W.facts out.new) tree.old.fetches tree.new.fetches)) }
+    ensures write { OfTable tree.old (λ table regions. IsErrOf result RunFault.Write
+        → Ran (IsCutOff (FirstAt table regions source.now tokens.now ranges.now)) true
+        (W.facts out.old) (W.facts out.new) tree.old.fetches tree.new.fetches) }
+    ensures begun { OfTable tree.old (λ table regions. IfErr result (λ fault. fault ≢ RunFault.Write
+        → Takes (IsStopped (FirstAt table regions source.now tokens.now ranges.now)) false
+        (W.facts out.old) (W.facts out.new))) }
+    ensures failures { (W.facts out.new).failures
+        ≡ failures_after result (W.facts out.old).failures }
     ensures effect { Runs tree.old tree.new result }
-    ensures fetches { IsSound tree.old
-        → OnOk result (FetchesAt tree.old source.now tokens.now ranges.now tree.new.fetches) }
-    ensures counts { W.failures out.old ≤ W.failures out.new }
 {
     let mut refused = 0u64;
     for range in ranges {
@@ -165,17 +165,17 @@ fn run_statement<S: PageStore, W: Out>(
 ) -> Result<bool, RunFault>
     requires spelled { AreSpelled source.now tokens.now }
     requires range { IsRange tokens.now range }
-    ensures done { OfTable tree.old (λ table Pages. IfOk result (λ is_refused.
-        IsWritten table Pages source.now tokens.now range (W.told out.old) (W.told out.new) is_refused)) }
+    ensures done { OfTable tree.old (λ table regions. IfOk result (λ is_refused.
+        Ran (IsAnswerAt table regions source.now tokens.now range is_refused) false
+        (W.facts out.old) (W.facts out.new) tree.old.fetches tree.new.fetches)) }
+    ensures write { OfTable tree.old (λ table regions. IsErrOf result RunFault.Write
+        → Ran (IsCutAt table regions source.now tokens.now range) true
+        (W.facts out.old) (W.facts out.new) tree.old.fetches tree.new.fetches) }
     ensures begun { IfErr result (λ fault. fault ≢ RunFault.Write
-        → KeepsBytes (W.told out.old) (W.told out.new)) }
-    ensures write { OfTable tree.old (λ table Pages. IsErrOf result RunFault.Write
-        → IsBroken table Pages source.now tokens.now range (W.told out.old) (W.told out.new)) }
-    ensures failed { IsErrOf result RunFault.Write → Rose (W.failures out.old) (W.failures out.new) }
+        → W.facts out.new ≡ W.facts out.old) }
+    ensures failures { (W.facts out.new).failures
+        ≡ failures_after result (W.facts out.old).failures }
     ensures effect { Runs tree.old tree.new result }
-    ensures fetches { IsSound tree.old → OnOk result
-        (FetchesFor tree.old source.now (slice_range tokens.now range.0 range.1) tree.new.fetches) }
-    ensures counts { W.failures out.old ≤ W.failures out.new }
 {
     let (from, to) = range;
     let answer = answer_to(alloc, tree, source, &tokens[from..to])?;
@@ -196,39 +196,37 @@ fn answer_to<S: PageStore>(
     tree: &mut Tree<S>,
     source: &[u8],
     tokens: &[Token],
-) -> Result<Answer, ExecFault>
+) -> Result<Answer, RunFault>
     requires some { 0 < length tokens.now }
     requires spelled { AreSpelled source.now tokens.now }
-    ensures answer { OfTable tree.old (λ table Pages. IfOk result (λ a.
-        IsAnswer table Pages source.now tokens.now a.text.items a.is_refused)) }
-    ensures effect { ReadsTree tree.old tree.new result }
-    ensures fetches { IsSound tree.old
-        → OnOk result (FetchesFor tree.old source.now tokens.now tree.new.fetches) }
+    ensures answer { OfTable tree.old (λ table regions. IfOk result (λ a.
+        Makes (IsAnswer table regions source.now tokens.now) a.text.items a.is_refused
+        tree.old.fetches tree.new.fetches)) }
+    ensures no_write { ¬ (IsErrOf result RunFault.Write) }
+    ensures effect { Runs tree.old tree.new result }
 {
     match parse(alloc, source, tokens, tree.schema()) {
-        Ok(statement) => answer_accepted(alloc, tree, &statement, tokens[0].from),
+        Ok(statement) => answer_accepted(alloc, tree, &statement),
         Err(fault) => refusal(alloc, fault),
     }
 }
 
-// Makes the text of an accepted statement, whose first token begins at this offset: a query is answered, and an EXPLAIN is
-// refused, so far, at its first token.
+// Makes the text of an accepted statement: a query is answered, or explained.
 fn answer_accepted<S: PageStore>(
     alloc: Global,
     tree: &mut Tree<S>,
     statement: &Statement,
-    at: usize,
-) -> Result<Answer, ExecFault>
+) -> Result<Answer, RunFault>
     requires { IsPosed (length tree.old.schema.columns) (told statement.now).asked }
-    ensures answer { OfTable tree.old (λ table Pages. IfOk result (λ a.
-        IsTextOf table Pages (answered (told statement.now) at) a.text.items a.is_refused)) }
-    ensures effect { ReadsTree tree.old tree.new result }
-    ensures fetches { IsSound tree.old → OnOk result (HasFetched (PagesOn tree.old)
-        (answered (told statement.now) at) tree.old.fetches tree.new.fetches) }
+    ensures answer { OfTable tree.old (λ table regions. IfOk result (λ a.
+        Makes (IsReply table regions (Ok (told statement.now))) a.text.items a.is_refused
+        tree.old.fetches tree.new.fetches)) }
+    ensures no_write { ¬ (IsErrOf result RunFault.Write) }
+    ensures effect { Runs tree.old tree.new result }
 {
     match statement {
         Statement::Select(query) => answer_query(alloc, tree, query),
-        Statement::Explain(_) => refusal(alloc, SqlFault::Syntax { at }),
+        Statement::Explain(query) => explain_query(alloc, tree, query),
     }
 }
 
@@ -237,31 +235,50 @@ fn answer_query<S: PageStore>(
     alloc: Global,
     tree: &mut Tree<S>,
     query: &Query,
-) -> Result<Answer, ExecFault>
+) -> Result<Answer, RunFault>
     requires { IsPosed (length tree.old.schema.columns) (asked query.now) }
-    ensures answer { OfTable tree.old (λ table Pages. IfOk result (λ a.
-        IsTextOf table Pages (Ok (asked query.now)) a.text.items a.is_refused)) }
-    ensures effect { ReadsTree tree.old tree.new result }
-    ensures fetches { IsSound tree.old → OnOk result (HasFetched (PagesOn tree.old)
-        (Ok (asked query.now)) tree.old.fetches tree.new.fetches) }
+    ensures answer { OfTable tree.old (λ table regions. IfOk result (λ a.
+        Makes (IsAskedReply false table regions (asked query.now)) a.text.items a.is_refused
+        tree.old.fetches tree.new.fetches)) }
+    ensures no_write { ¬ (IsErrOf result RunFault.Write) }
+    ensures effect { Runs tree.old tree.new result }
 {
     let plan = plan(alloc, query, tree.schema())?;
     let answer = execute(alloc, tree, &plan)?;
-    let pages = tree.trace().len();
     Ok(Answer {
-        text: answer_text(alloc, tree.schema(), query, &answer.rows, pages)?,
+        text: answer_text(alloc, tree.schema(), query, &answer.rows, answer.fetched)?,
+        is_refused: false,
+    })
+}
+
+// Makes the text of how a query's plan reads a tree, of which no region is fetched.
+fn explain_query<S: PageStore>(
+    alloc: Global,
+    tree: &mut Tree<S>,
+    query: &Query,
+) -> Result<Answer, RunFault>
+    requires { IsPosed (length tree.old.schema.columns) (asked query.now) }
+    ensures answer { OfTable tree.old (λ table regions. IfOk result (λ a.
+        Makes (IsAskedReply true table regions (asked query.now)) a.text.items a.is_refused
+        tree.old.fetches tree.new.fetches)) }
+    ensures no_write { ¬ (IsErrOf result RunFault.Write) }
+    ensures effect { Runs tree.old tree.new result }
+{
+    let plan = plan(alloc, query, tree.schema())?;
+    Ok(Answer {
+        text: explain(alloc, &plan, tree)?,
         is_refused: false,
     })
 }
 
 // What a refused statement writes; want of memory is no refusal.
-fn refusal(alloc: Global, fault: SqlFault) -> Result<Answer, ExecFault>
+fn refusal(alloc: Global, fault: SqlFault) -> Result<Answer, RunFault>
     ensures answer { IfOk result (λ a. (a.text.items ≡ refused_text fault) × (a.is_refused ≡ true)
         × (fault ≢ SqlFault.Memory)) }
-    ensures memory { IfErr result (λ fault. fault ≡ ExecFault.Memory) }
+    ensures memory { IfErr result (λ fault. fault ≡ RunFault.Memory) }
 {
     match fault {
-        SqlFault::Memory => Err(ExecFault::Memory),
+        SqlFault::Memory => Err(RunFault::Memory),
         fault => Ok(Answer {
             text: refused_text(alloc, &fault)?,
             is_refused: true,

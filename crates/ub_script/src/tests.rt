@@ -20,10 +20,9 @@ struct Narrow {
 
 impl Out for Narrow {
     ghost use Rattle.std.specs.Prelude.{Some};
+    ghost use Rattle.ub_script.specs.Output.{out_facts};
 
-    ghost told = { λ narrow. Some narrow.held.items };
-
-    ghost failures = { λ narrow. narrow.failed };
+    ghost facts = { λ narrow. out_facts (Some narrow.held.items) narrow.failed };
 
     fn write(&mut self, bytes: &[u8]) -> Result<usize, OutFault> {
         let Some(byte) = bytes.first() else {
@@ -86,7 +85,7 @@ fn writes_orders_limits_and_groups(rt: HostRuntime) -> Result<(), Fail> {
     assert_eq!(rt; summary.statements, 3);
     assert_eq!(rt;
         out.into_inner().as_slice(),
-        b"x,m\n2,1\n2,20\n-- rows 2, pages 3\n\
+        b"x,m\n2,1\n2,20\n-- rows 2, pages 2\n\
           COUNT(*),SUM(m)\n0,NULL\n-- rows 1, pages 1\n\
           x,MIN(m)\n1,10\n0,7\n3,5\n2,1\n-- rows 4, pages 3\n"
             .as_slice()

@@ -1,4 +1,5 @@
-ghost use Rattle.std.specs.Prelude.{◌≡◌, ◌<◌, [], ◌∷◌, ◌++◌, length, map, decimal, if◌then◌else◌, IfOk, OnOk};
+ghost use Rattle.std.specs.Prelude.{◌≡◌, ◌<◌, [], ◌∷◌, ◌++◌, length, map, decimal, codes, if◌then◌else◌, IfOk, OnOk};
+ghost use Rattle.std.specs.Fmt.{signed_decimal};
 ghost use Rattle.std.specs.List.{All, flat_map};
 ghost use Rattle.ub_query.specs.Cells as sql;
 ghost use Rattle.ub_query.specs.Posed.{IsItemOver};
@@ -39,7 +40,7 @@ pub fn answer_text(
     schema: &Schema,
     query: &Query,
     rows: &Cells,
-    pages: usize,
+    pages: u64,
 ) -> Result<Vec<u8>, AllocError>
     requires { All (λ item. IsItemOver (length schema.now.columns) item) query.now.items }
     ensures { IfOk result (λ text.
@@ -60,7 +61,7 @@ fn refusal_text(alloc: Global, name: &str, at: usize) -> Result<Vec<u8>, AllocEr
     let mut text = Vec::from_slice(alloc, b"! ")?;
     text.extend_from_slice(name.as_bytes())?;
     text.extend_from_slice(b" at ")?;
-    push_number(&mut text, at)?;
+    push_number(&mut text, at as u64)?;
     text.push(b'\n')?;
     Ok(text)
 }
@@ -88,12 +89,24 @@ fn push_title(text: &mut Vec<u8>, schema: &Schema, item: Item) -> Result<(), All
         Item::Column(column) => push_name(text, schema, column),
         Item::Count => text.extend_from_slice(b"COUNT(*)"),
         Item::Aggregate(aggregate, column) => {
-            text.extend_from_slice(keyword_of(aggregate))?;
-            text.extend_from_slice(b"(")?;
-            push_name(text, schema, column)?;
-            text.extend_from_slice(b")")
+            push_call(
+                text,
+                keyword_of(aggregate),
+                schema.columns()[column].bytes(),
+            )
         }
     }
+}
+
+// Puts a keyword, and in parentheses a name.
+fn push_call(text: &mut Vec<u8>, keyword: &[u8], name: &[u8]) -> Result<(), AllocError>
+    ensures { OnOk result (text.new.items
+        ≡ text.old.items ++ keyword.now ++ codes "(" ++ name.now ++ codes ")") }
+{
+    text.extend_from_slice(keyword)?;
+    text.extend_from_slice(b"(")?;
+    text.extend_from_slice(name)?;
+    text.extend_from_slice(b")")
 }
 
 // Puts the name of a column.
@@ -142,23 +155,31 @@ fn push_cell(text: &mut Vec<u8>, cell: Cell) -> Result<(), AllocError>
     ensures { OnOk result (text.new.items ≡ text.old.items ++ spec.cell_text cell) }
 {
     match cell {
-        Cell::Number(number) => text.extend_from_slice(Buffer::new().format(number).as_bytes()),
+        Cell::Number(number) => push_signed(text, number),
         Cell::Null => text.extend_from_slice(b"NULL"),
     }
 }
 
+// Puts a number in decimal, with a minus where it is below 0.
+fn push_signed(text: &mut Vec<u8>, number: i128) -> Result<(), AllocError>
+    ensures { OnOk result (text.new.items ≡ text.old.items ++ signed_decimal number) }
+{
+    text.extend_from_slice(Buffer::new().format(number).as_bytes())
+}
+
 // Puts the line that says how many rows were written and how many region pages were fetched for them.
-fn push_counts(text: &mut Vec<u8>, rows: usize, pages: usize) -> Result<(), AllocError>
+fn push_counts(text: &mut Vec<u8>, rows: usize, pages: u64) -> Result<(), AllocError>
     ensures { OnOk result (text.new.items ≡ text.old.items ++ spec.counts_line rows pages) }
 {
     text.extend_from_slice(b"-- rows ")?;
-    push_number(text, rows)?;
+    push_number(text, rows as u64)?;
     text.extend_from_slice(b", pages ")?;
     push_number(text, pages)?;
     text.extend_from_slice(b"\n")
 }
 
-fn push_number(text: &mut Vec<u8>, number: usize) -> Result<(), AllocError>
+// Puts a number in decimal.
+fn push_number(text: &mut Vec<u8>, number: u64) -> Result<(), AllocError>
     ensures { OnOk result (text.new.items ≡ text.old.items ++ decimal number) }
 {
     text.extend_from_slice(Buffer::new().format(number).as_bytes())

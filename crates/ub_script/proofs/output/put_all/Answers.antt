@@ -1,9 +1,12 @@
 use Rattle.std.proofs.Common.{arith}
-use Rattle.ub_script.proofs.HeldFacts.{Appends-on}
+use Rattle.ub_script.proofs.HeldFacts.{Puts-none, Puts-step}
 use Rattle.ub_script.proofs.output.put_all.Goals as goal
+
+pub loop-at-init : goal.loop-at-init
+loop-at-init g c = record { within = omega arith; put = Puts-none _ }
 
 pub loop-at-preserved : goal.loop-at-preserved
 loop-at-preserved g c =
     let inv = c.loop-at.invariant in
-    let on = Appends-on _ _ _ c.args.bytes.now c.loop-at.at c.in_ok-n.n inv.within inv.told c.in_ok-n.ensures.within c.in_ok-n.ensures.bytes in
-    record { within = on.0; told = on.1; counts = omega (arith, inv.counts, c.in_ok-n.ensures.counts) }
+    let on = Puts-step _ _ _ c.args.bytes.now c.loop-at.at c.in_ok-n.n inv.within inv.put c.if-n-eq0.false c.in_ok-n.ensures in
+    record { within = on.0; put = on.1 }

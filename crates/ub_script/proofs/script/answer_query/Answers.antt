@@ -1,7 +1,7 @@
 use Rattle.std.proofs.Common.{◌≡◌, ◌∙◌, ap}
 use Rattle.ub_plan.specs.Plan.{plan_of}
 use Rattle.ub_query.specs.Shape.{asked}
-use Rattle.ub_script.proofs.RowsFacts.{ready_of, text_of_plan}
+use Rattle.ub_script.proofs.RowsFacts.{ready_of, reply_of_plan}
 use Rattle.ub_table.specs.declared.schema.Schema.{Schema}
 use Rattle.ub_tree.specs.View.{TreeView}
 use Rattle.ub_script.proofs.script.answer_query.Goals as goal
@@ -10,6 +10,6 @@ pub returns-clause-answer : goal.returns-clause-answer
 returns-clause-answer g c table is =
     let planned : c.in_ok-plan.plan ≡ plan_of c.args.tree.now.schema (asked c.args.query.now) = c.in_ok-plan.ensures.plan ∙ ap (λ (s : Schema). plan_of s (asked c.args.query.now)) c.schema.ensures in
     let ready = ready_of c.args.tree.now c.in_ok-plan.plan (asked c.args.query.now) is.sound planned in
-    text_of_plan c.args.tree.now c.execute.new.tree table _ _ c.in_ok-plan.plan (asked c.args.query.now) c.in_ok-answer.answer.rows _ is
-    (c.schema-2.ensures ∙ ap (λ (t : TreeView). t.schema) c.in_ok-answer.ensures.effect.same) c.trace-pages.ensures planned
+    reply_of_plan c.args.tree.now c.execute.new.tree table _ c.in_ok-answer.answer.fetched c.in_ok-plan.plan (asked c.args.query.now) c.in_ok-answer.answer.rows _ is
+    (c.schema-2.ensures ∙ ap (λ (t : TreeView). t.schema) c.in_ok-answer.ensures.effect.same) c.in_ok-answer.ensures.fetched planned
     (c.in_ok-answer.ensures.rows ready) (c.in_ok-answer.ensures.pages ready) c.in_ok-answer_text.ensures

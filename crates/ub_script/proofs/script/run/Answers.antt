@@ -2,7 +2,7 @@ use Rattle.std.proofs.Common.{◌∙◌, sym, inr}
 use Rattle.ub_lexer.specs.Statements.{AreStatements}
 use Rattle.ub_lexer.specs.Tokens.{AreTokens}
 use Rattle.ub_script.proofs.RowsFacts.{table_there}
-use Rattle.ub_script.proofs.RunFacts.{All-ranges, run_whole, run_begun, run_broken, if_ok, if_err, on_ok, same_statements}
+use Rattle.ub_script.proofs.RunFacts.{All-ranges, on_tree, whole_as, cut_as, stopped_as, if_ok, if_err, same_statements}
 use Rattle.ub_script.proofs.script.run.Goals as goal
 
 pub run_statements-requires-clause-ranges : goal.run_statements-requires-clause-ranges
@@ -16,16 +16,16 @@ returns-clause-done g c sound =
     let ranges : AreStatements c.deref-2.result.now c.deref-3.result.now = same_statements _ _ _ _ (c.deref-2.ensures.value ∙ sym c.deref.ensures.value) c.deref-3.ensures.value c.in_ok-ranges.ensures.statements in
     let there = table_there c.args.tree.now sound in
     if_ok c.run_statements.result _ _
-    (λ s h. (there.0, there.1, run_whole there.0 _ _ _ _ _ _ tokens ranges s h))
+    (λ s h. whole_as _ _ (on_tree c.args.tree.now there.0 c.args.script.now _ _ there.1 tokens ranges) _ _ _ _ s h)
     (c.run_statements.ensures.done there.0 there.1)
 
-pub returns-clause-memory : goal.returns-clause-memory
-returns-clause-memory g c sound =
+pub returns-clause-begun : goal.returns-clause-begun
+returns-clause-begun g c sound =
     let tokens : AreTokens c.args.script.now c.deref-2.result.now = rw c.deref-2.ensures.value c.in_ok-tokens.ensures.tokens in
     let ranges : AreStatements c.deref-2.result.now c.deref-3.result.now = same_statements _ _ _ _ (c.deref-2.ensures.value ∙ sym c.deref.ensures.value) c.deref-3.ensures.value c.in_ok-ranges.ensures.statements in
     let there = table_there c.args.tree.now sound in
     if_err c.run_statements.result _ _
-    (λ e h differs. inr (there.0, there.1, run_begun there.0 _ _ _ _ _ _ tokens ranges (h differs)))
+    (λ e h differs. inr (stopped_as _ _ (on_tree c.args.tree.now there.0 c.args.script.now _ _ there.1 tokens ranges) _ _ 0 0 (h differs)))
     (c.run_statements.ensures.begun there.0 there.1)
 
 pub returns-clause-write : goal.returns-clause-write
@@ -33,10 +33,4 @@ returns-clause-write g c sound is =
     let tokens : AreTokens c.args.script.now c.deref-2.result.now = rw c.deref-2.ensures.value c.in_ok-tokens.ensures.tokens in
     let ranges : AreStatements c.deref-2.result.now c.deref-3.result.now = same_statements _ _ _ _ (c.deref-2.ensures.value ∙ sym c.deref.ensures.value) c.deref-3.ensures.value c.in_ok-ranges.ensures.statements in
     let there = table_there c.args.tree.now sound in
-    (there.0, there.1, run_broken there.0 _ _ _ _ _ _ tokens ranges (c.run_statements.ensures.write there.0 there.1 is))
-
-pub returns-clause-fetches : goal.returns-clause-fetches
-returns-clause-fetches g c sound =
-    let tokens : AreTokens c.args.script.now c.deref-2.result.now = rw c.deref-2.ensures.value c.in_ok-tokens.ensures.tokens in
-    let ranges : AreStatements c.deref-2.result.now c.deref-3.result.now = same_statements _ _ _ _ (c.deref-2.ensures.value ∙ sym c.deref.ensures.value) c.deref-3.ensures.value c.in_ok-ranges.ensures.statements in
-    on_ok c.run_statements.result _ _ (λ fetched. record { tokens = _; ranges = _; tokens_are = tokens; ranges_are = ranges; fetched = fetched }) (c.run_statements.ensures.fetches sound)
+    cut_as _ _ (on_tree c.args.tree.now there.0 c.args.script.now _ _ there.1 tokens ranges) _ _ _ _ (c.run_statements.ensures.write there.0 there.1 is)

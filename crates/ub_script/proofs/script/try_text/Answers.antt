@@ -3,26 +3,25 @@ use Rattle.std.proofs.lemmas.Result.{err_from_is_err_and}
 use Rattle.ub_load.specs.LoadedTable.{records_of}
 use Rattle.ub_load.specs.Refusals.{first_refusal}
 use Rattle.ub_script.proofs.LoadedFacts.{first_wrong, tree_wrong}
-use Rattle.ub_script.proofs.HeldFacts.{Keeps-none}
 use Rattle.ub_script.proofs.KeptFacts.{sound_fault}
-use Rattle.ub_script.proofs.RowsFacts.{loaded_run, loaded_broken, loaded_stopped}
+use Rattle.ub_script.proofs.RowsFacts.{loaded_done, loaded_broken, loaded_stopped}
 use Rattle.ub_script.proofs.RunFacts.{if_ok}
 use Rattle.ub_script.proofs.script.try_text.Goals as goal
 
 pub returns-clause-done : goal.returns-clause-done
 returns-clause-done g c =
     let loaded = c.in_ok-tree.ensures.loaded refl in
-    if_ok c.run.result _ _ (λ s h. loaded_run _ _ _ _ _ loaded _ _ _ s h) (c.run.ensures.done loaded.sound)
+    if_ok c.run.result _ _ (λ s h. loaded_done _ _ _ _ _ loaded _ s _ _ _ _ h) (c.run.ensures.done loaded.sound)
 
 pub returns-clause-write : goal.returns-clause-write
 returns-clause-write g c is =
     let loaded = c.in_ok-tree.ensures.loaded refl in
-    loaded_broken _ _ _ _ _ loaded _ _ _ (c.run.ensures.write loaded.sound is)
+    loaded_broken _ _ _ _ _ loaded _ _ _ _ _ (c.run.ensures.write loaded.sound is)
 
 pub returns-clause-memory : goal.returns-clause-memory
 returns-clause-memory g c is =
     let loaded = c.in_ok-tree.ensures.loaded refl in
-    loaded_stopped _ _ _ _ _ loaded _ _ _ c.run.result _ is (λ e. cc) (c.run.ensures.memory loaded.sound)
+    loaded_stopped _ _ _ _ _ loaded _ _ _ c.run.result _ is (λ e. cc) (c.run.ensures.begun loaded.sound)
 
 pub returns-clause-tree : goal.returns-clause-tree
 returns-clause-tree g c fault is =
@@ -36,7 +35,7 @@ returns-clause-tree g c fault is =
 pub returns-in_err-tree-clause-load : goal.returns-in_err-tree-clause-load
 returns-in_err-tree-clause-load g c fault is =
     let p = err_from_is_err_and c.from_residual.result c.from_residual.ensures.1 in
-    (Keeps-none (g.W.Out.told c.args.out.now), first_wrong c.from_residual.result p.0 c.in_err-tree.field-0.0 p.1 p.2 (first_refusal c.args.dims c.args.name.now (records_of c.args.text.now)) _ _ (λ fails. cc) (λ broken. broken refl) c.in_err-tree.ensures.refused fault is)
+    (refl, first_wrong c.from_residual.result p.0 c.in_err-tree.field-0.0 p.1 p.2 (first_refusal c.args.dims c.args.name.now (records_of c.args.text.now)) _ _ (λ fails. cc) (λ broken. broken refl) c.in_err-tree.ensures.refused fault is)
 
 pub returns-in_err-tree-clause-of_tree : goal.returns-in_err-tree-clause-of_tree
 returns-in_err-tree-clause-of_tree g c fault is =
