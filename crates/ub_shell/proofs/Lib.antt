@@ -1,3 +1,4 @@
 pub mod NextFacts
 pub mod EndFacts
+pub mod FileFacts
 pub mod Laws

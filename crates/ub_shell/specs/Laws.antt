@@ -1,22 +1,17 @@
 -- The laws of how a command ends. Each is what the function of its name in `law` ensures, and is proved in proofs/Laws.antt.
-use Rattle.std.specs.Prelude.{◌≡◌, ◌⊎◌, ℕ, List, codes}
-use Rattle.ub_words.specs.Asked.{AreLines}
+use Rattle.std.specs.Prelude.{◌⊎◌, ℕ, List}
 use Rattle.ub_words.specs.CommandLine.{AsksHelp, AsksHelpAlone, AsksNothing}
-use Rattle.ub_shell.specs.Ending.{Ends, HasEnded, Writing}
+use Rattle.ub_script.specs.Output.{OutFacts}
+use Rattle.ub_shell.specs.Files.{FilesFacts}
+use Rattle.ub_shell.specs.Ran.{HasEnded, HasHelped, HasNoMemory, HasRefused}
 use Rattle.ub_shell.specs.declared.status.Status.{Status}
-use Rattle.ub_shell.specs.declared.status.Status.TheVariants.{Done, CommandLine, Memory}
 
--- lines with this status, or the line that says that memory was refused
-abbrev pub AreLinesFor : Status → List ℕ → Status → Type 0
-AreLinesFor wanted bytes status =
-    ((status ≡ wanted) × AreLines bytes) ⊎ ((status ≡ Memory) × (bytes ≡ codes "! Memory\n"))
-
--- where the words ask for the help alone, lines are written and the status is 0; or memory was refused, or a write failed
+-- where the words ask for the help alone, only the help is written; or memory was refused
 abbrev pub OnlyHelpIsWritten : Type 0
-OnlyHelpIsWritten = (words : List (List ℕ)) (w : Writing) (status : Status) → AsksHelpAlone words → HasEnded words w status
-    → Ends (AreLinesFor Done) (λ _. ⊥) w status
+OnlyHelpIsWritten = (words : List (List ℕ)) (old new : FilesFacts) (out out_now : OutFacts) (status : Status) → AsksHelpAlone words
+    → HasEnded words old new out out_now status → HasHelped words old new out out_now status ⊎ HasNoMemory old new out out_now status
 
--- where the words ask for nothing, nor may be told the help, lines are written and the status is 2; or the same
+-- where the words ask for nothing, nor may be told the help, only that is told; or memory was refused
 abbrev pub WrongWordsAreTold : Type 0
-WrongWordsAreTold = (words : List (List ℕ)) (w : Writing) (status : Status) → AsksNothing words → ¬ (AsksHelp words) → HasEnded words w status
-    → Ends (AreLinesFor CommandLine) (λ _. ⊥) w status
+WrongWordsAreTold = (words : List (List ℕ)) (old new : FilesFacts) (out out_now : OutFacts) (status : Status) → AsksNothing words → ¬ (AsksHelp words)
+    → HasEnded words old new out out_now status → HasRefused words old new out out_now status ⊎ HasNoMemory old new out out_now status

@@ -3,6 +3,7 @@ use Rattle.std.specs.Prelude.{ℕ, ◌==◌, if◌then◌else◌, List, ◌++◌
 use Rattle.ub_load.specs.declared.fault.LoadFault.{LoadFault}
 use Rattle.ub_load.specs.declared.fault.LoadFault.TheVariants.{NoHeader, BadName, ColumnCount, BadNumber, OutOfRange, Csv, Tree}
 use Rattle.ub_load.specs.declared.fault.LoadFault.TheVariants as load
+use Rattle.ub_store.specs.declared.fault.StoreFault.{StoreFault}
 use Rattle.ub_store.specs.declared.fault.StoreFault.TheVariants as store
 use Rattle.ub_tree.specs.declared.fault.TreeFault.{TreeFault}
 use Rattle.ub_tree.specs.declared.fault.TreeFault.TheVariants as tree
@@ -25,12 +26,17 @@ status_code Memory = 5
 abbrev pub summary_status : Summary → Status
 summary_status s = if s.refused == 0 then Done else Refused
 
+-- how a run ends whose store refused
+abbrev pub store_fault_status : StoreFault → Status
+store_fault_status store.Memory = Memory
+store_fault_status store.Device = Device
+store_fault_status fault = Data
+
 -- how a run ends whose tree refused
 abbrev pub tree_fault_status : TreeFault → Status
 tree_fault_status tree.Memory = Memory
-tree_fault_status (tree.Store store.Memory) = Memory
 tree_fault_status tree.Failed = Device
-tree_fault_status (tree.Store store.Device) = Device
+tree_fault_status (tree.Store fault) = store_fault_status fault
 tree_fault_status fault = Data
 
 -- how a run ends whose table was refused
@@ -53,14 +59,18 @@ page_fault_word page.BadOrder = codes "BadOrder"
 page_fault_word page.OutOfRegion = codes "OutOfRegion"
 page_fault_word page.BadPadding = codes "BadPadding"
 
+-- the last line after a store refused
+abbrev pub store_fault_text : StoreFault → List ℕ
+store_fault_text store.NoPage = codes "! NoPage\n"
+store_fault_text store.BadSize = codes "! BadSize\n"
+store_fault_text store.Device = codes "! Device\n"
+store_fault_text store.Memory = codes "! Memory\n"
+
 -- the last line after a tree refused
 abbrev pub tree_fault_text : TreeFault → List ℕ
 tree_fault_text tree.Full = codes "! Full\n"
 tree_fault_text (tree.Page number fault) = codes "! " ++ page_fault_word fault ++ codes " page " ++ decimal number ++ codes "\n"
-tree_fault_text (tree.Store store.NoPage) = codes "! NoPage\n"
-tree_fault_text (tree.Store store.BadSize) = codes "! BadSize\n"
-tree_fault_text (tree.Store store.Device) = codes "! Device\n"
-tree_fault_text (tree.Store store.Memory) = codes "! Memory\n"
+tree_fault_text (tree.Store fault) = store_fault_text fault
 tree_fault_text tree.Failed = codes "! Device\n"
 tree_fault_text tree.Memory = codes "! Memory\n"
 

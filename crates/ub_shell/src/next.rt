@@ -3,7 +3,7 @@ ghost use Rattle.std.specs.Char.{is_ascii_digit};
 ghost use Rattle.std.specs.List.{list_all, slice_split};
 ghost use Rattle.std.specs.String.{string_bytes};
 ghost use Rattle.ub_shell.specs.Next.{IsPointText, AreNearest, IsNearest, IsNextAnswer, number_in, neighbour_line, next_fault_text, answer_text, answer_status};
-ghost use Rattle.ub_shell.specs.Ending.{between, Tells};
+ghost use Rattle.ub_shell.specs.Ending.{Tells};
 ghost use Rattle.ub_shell.specs.declared.next.Neighbours.{Neighbours};
 ghost use Rattle.ub_shell.specs.declared.next.NextFault.{NextFault};
 ghost use Rattle.ub_shell.specs.declared.next.NextFault.TheVariants.{Memory};
@@ -211,7 +211,7 @@ pub fn answer_status(answer: &Result<Neighbours, NextFault>) -> Status
 /// The command `next`: writes what is told of the words, and says how it ends; `Device` where a write fails.
 pub fn tell_next<W: Out>(alloc: Global, lo: &str, hi: &str, z: &str, out: &mut W) -> Status
     ensures { (answer : Result Neighbours NextFault) × IsNextAnswer lo.now hi.now z.now answer
-        × Tells (between W.told W.failures out.old out.new)
+        × Tells (W.facts out.old) (W.facts out.new)
         (answer_text answer) (answer_status answer) result }
 {
     let answer = neighbours_of(alloc, lo, hi, z);

@@ -1,12 +1,16 @@
 ghost use Rattle.std.specs.Prelude.{◌≡◌, ℕ, MatchResult, map, string_bytes};
-ghost use Rattle.ub_shell.specs.Ending.{between, since, words_fault_status, words_fault_text, HasEnded, Tells};
+ghost use Rattle.ub_script.specs.Output.{out_facts};
+ghost use Rattle.ub_shell.specs.Ending.{words_fault_status, words_fault_text, Tells};
+ghost use Rattle.ub_shell.specs.Ran.{HasEnded, HasNotRead};
 ghost use Rattle.ub_shell.specs.Status.{status_code};
 ghost use Rattle.ub_shell.specs.declared.status.Status.{Status};
 
 use crate::command::command;
+use crate::files::Files;
 use crate::status::{Status, tell, tell_memory};
+use std::alloc::Global;
 use std::io::Write;
-use std::rt::{Env, Files};
+use std::rt::Env;
 use std::{env, io};
 use ub_script::{Out, Over};
 
@@ -33,45 +37,49 @@ pub fn program_words<R: Env + AllocGlobal>(rt: &R) -> Result<Vec<String>, WordsF
     }
 }
 
-/// The whole program but for what touches the process: runs the command line of these words as `command` does, over a
-/// writer with no buffer before it, and gives the status and the writer back. Words that were not read are told.
-pub fn run_program<R: Files + AllocGlobal, W: Write>(
-    rt: &R,
+/// The whole program but for what touches the process: runs the command line of these words as `command` does, over these files
+/// and a writer with no buffer before it, and gives the status and the writer back. Words that were not read are told.
+pub fn run_program<F: Files, W: Write>(
+    alloc: Global,
+    files: &mut F,
     words: Result<Vec<String>, WordsFault>,
     to: W,
 ) -> (u8, W)
     ensures { (status : Status) × (failures : ℕ) × (result.0 ≡ status_code status)
         × MatchResult words
-        (λ all. HasEnded (map string_bytes all.items) (since W.contents to result.1 failures) status)
-        (λ fault. Tells (since W.contents to result.1 failures)
-        (words_fault_text fault) (words_fault_status fault) status) }
+        (λ all. HasEnded (map string_bytes all.items) (F.facts files.old) (F.facts files.new)
+        (out_facts (W.contents to) 0) (out_facts (W.contents result.1) failures) status)
+        (λ fault. HasNotRead fault (F.facts files.old) (F.facts files.new)
+        (out_facts (W.contents to) 0) (out_facts (W.contents result.1) failures) status) }
 {
     let mut out = Over::new(to);
-    let code = run_or_tell(rt, words, &mut out);
+    let code = run_or_tell(alloc, files, words, &mut out);
     (code, out.into_inner())
 }
 
 // Runs the command line of these words, or tells that they were not read.
-fn run_or_tell<R: Files + AllocGlobal, W: Out>(
-    rt: &R,
+fn run_or_tell<F: Files, W: Out>(
+    alloc: Global,
+    files: &mut F,
     words: Result<Vec<String>, WordsFault>,
     out: &mut W,
 ) -> u8
     ensures { (status : Status) × (result ≡ status_code status)
         × MatchResult words
-        (λ all. HasEnded (map string_bytes all.items) (between W.told W.failures out.old out.new) status)
-        (λ fault. Tells (between W.told W.failures out.old out.new)
-        (words_fault_text fault) (words_fault_status fault) status) }
+        (λ all. HasEnded (map string_bytes all.items) (F.facts files.old) (F.facts files.new)
+        (W.facts out.old) (W.facts out.new) status)
+        (λ fault. HasNotRead fault (F.facts files.old) (F.facts files.new)
+        (W.facts out.old) (W.facts out.new) status) }
 {
     match words {
-        Ok(words) => command(rt, words.as_slice(), out),
+        Ok(words) => command(alloc, files, words.as_slice(), out),
         Err(fault) => tell_no_words(fault, out).code(),
     }
 }
 
 // Ends a command line whose words were not read.
 fn tell_no_words<W: Out>(fault: WordsFault, out: &mut W) -> Status
-    ensures { Tells (between W.told W.failures out.old out.new)
+    ensures { Tells (W.facts out.old) (W.facts out.new)
         (words_fault_text fault) (words_fault_status fault) result }
 {
     match fault {
@@ -87,7 +95,8 @@ fn tell_no_words<W: Out>(fault: WordsFault, out: &mut W) -> Status
 #[cfg(test)]
 mod tests {
     use super::*;
-    use std::alloc::{AllocError, Global};
+    use crate::host::HostFiles;
+    use std::alloc::AllocError;
     use std::test::Fail;
 
     // The words of `ubq next 2,2 6,3 19`.
@@ -102,7 +111,12 @@ mod tests {
     #[test]
     fn gives_the_writer_back(rt: HostRuntime) -> Result<(), Fail> {
         let words = next_words(rt.alloc())?;
-        let (code, text) = run_program(&rt, Ok(words), Vec::new(rt.alloc()));
+        let (code, text) = run_program(
+            rt.alloc(),
+            &mut HostFiles::new(&rt),
+            Ok(words),
+            Vec::new(rt.alloc()),
+        );
         assert_eq!(rt; code, 0);
         assert_eq!(rt; text.as_slice(), b"next 36\nprev 15\n".as_slice());
         Ok(())
@@ -110,7 +124,12 @@ mod tests {
 
     #[test]
     fn tells_words_that_are_no_text(rt: HostRuntime) {
-        let (code, text) = run_program(&rt, Err(WordsFault::NotText), Vec::new(rt.alloc()));
+        let (code, text) = run_program(
+            rt.alloc(),
+            &mut HostFiles::new(&rt),
+            Err(WordsFault::NotText),
+            Vec::new(rt.alloc()),
+        );
         assert_eq!(rt; code, 2);
         assert_eq!(rt;
             text.as_slice(),
@@ -122,7 +141,12 @@ mod tests {
     fn ends_with_4_where_the_writer_is_full(rt: HostRuntime) -> Result<(), Fail> {
         let words = next_words(rt.alloc())?;
         let mut room = [0u8; 5];
-        let (code, _) = run_program(&rt, Ok(words), &mut room[..]);
+        let (code, _) = run_program(
+            rt.alloc(),
+            &mut HostFiles::new(&rt),
+            Ok(words),
+            &mut room[..],
+        );
         assert_eq!(rt; code, 4);
         assert_eq!(rt; room.as_slice(), b"next ".as_slice());
         Ok(())

@@ -1,7 +1,7 @@
 ghost use Rattle.std.specs.Prelude.{◌≡◌, ◌≤◌, IfOk, codes};
 ghost use Rattle.std.specs.String.{string_bytes};
-ghost use Rattle.ub_shell.specs.Status.{status_code, summary_status, load_fault_status, load_fault_text, page_fault_word, tree_fault_status, tree_fault_text};
-ghost use Rattle.ub_shell.specs.Ending.{between, Tells, TellsIfMemory};
+ghost use Rattle.ub_shell.specs.Status.{status_code, summary_status, load_fault_status, load_fault_text, page_fault_word, store_fault_status, store_fault_text, tree_fault_status, tree_fault_text};
+ghost use Rattle.ub_shell.specs.Ending.{Tells, TellsIfMemory};
 
 use std::alloc::{AllocError, Global};
 use ub_load::LoadFault;
@@ -54,14 +54,26 @@ pub fn summary_status(summary: Summary) -> Status
     }
 }
 
+/// How a run ends whose store refused: by the data, unless it failed or memory was refused.
+pub fn store_fault_status(fault: StoreFault) -> Status
+    ensures { result ≡ store_fault_status fault }
+{
+    match fault {
+        StoreFault::Memory => Status::Memory,
+        StoreFault::Device => Status::Device,
+        StoreFault::NoPage | StoreFault::BadSize => Status::Data,
+    }
+}
+
 /// How a run ends whose tree refused: by the data, unless its store failed or memory was refused.
 pub fn tree_fault_status(fault: TreeFault) -> Status
     ensures { result ≡ tree_fault_status fault }
 {
     match fault {
-        TreeFault::Memory | TreeFault::Store(StoreFault::Memory) => Status::Memory,
-        TreeFault::Failed | TreeFault::Store(StoreFault::Device) => Status::Device,
-        _ => Status::Data,
+        TreeFault::Memory => Status::Memory,
+        TreeFault::Failed => Status::Device,
+        TreeFault::Store(fault) => store_fault_status(fault),
+        TreeFault::Full | TreeFault::Page { .. } => Status::Data,
     }
 }
 
@@ -92,6 +104,18 @@ fn page_fault_word(fault: PageFault) -> &'static str
     }
 }
 
+// The line for what a store refused.
+fn store_fault_line(fault: StoreFault) -> &'static str
+    ensures { result.now ≡ store_fault_text fault }
+{
+    match fault {
+        StoreFault::NoPage => "! NoPage\n",
+        StoreFault::BadSize => "! BadSize\n",
+        StoreFault::Device => "! Device\n",
+        StoreFault::Memory => "! Memory\n",
+    }
+}
+
 /// The line for what a tree refused.
 pub fn tree_fault_line(alloc: Global, fault: TreeFault) -> Result<String, AllocError>
     ensures { IfOk result (λ line. string_bytes line ≡ tree_fault_text fault) }
@@ -102,10 +126,7 @@ pub fn tree_fault_line(alloc: Global, fault: TreeFault) -> Result<String, AllocE
             format!(in alloc; "! {word} page {page}\n")
         }
         TreeFault::Full => String::from_str(alloc, "! Full\n"),
-        TreeFault::Store(StoreFault::NoPage) => String::from_str(alloc, "! NoPage\n"),
-        TreeFault::Store(StoreFault::BadSize) => String::from_str(alloc, "! BadSize\n"),
-        TreeFault::Store(StoreFault::Device) => String::from_str(alloc, "! Device\n"),
-        TreeFault::Store(StoreFault::Memory) => String::from_str(alloc, "! Memory\n"),
+        TreeFault::Store(fault) => String::from_str(alloc, store_fault_line(fault)),
         TreeFault::Failed => String::from_str(alloc, "! Device\n"),
         TreeFault::Memory => String::from_str(alloc, "! Memory\n"),
     }
@@ -134,7 +155,7 @@ pub fn load_fault_line(alloc: Global, fault: LoadFault) -> Result<String, AllocE
 
 /// Writes the bytes, and ends with the status, or with `Device` where a write fails.
 pub fn tell<W: Out>(out: &mut W, bytes: &[u8], status: Status) -> Status
-    ensures { Tells (between W.told W.failures out.old out.new) bytes.now status result }
+    ensures { Tells (W.facts out.old) (W.facts out.new) bytes.now status result }
 {
     match put_all(out, bytes) {
         Ok(()) => status,
@@ -144,14 +165,26 @@ pub fn tell<W: Out>(out: &mut W, bytes: &[u8], status: Status) -> Status
 
 /// Writes the line that says that memory was refused.
 pub fn tell_memory<W: Out>(out: &mut W) -> Status
-    ensures { Tells (between W.told W.failures out.old out.new) (codes "! Memory\n") Status.Memory result }
+    ensures { Tells (W.facts out.old) (W.facts out.new) (codes "! Memory\n") Status.Memory result }
 {
     tell(out, b"! Memory\n", Status::Memory)
 }
 
+/// Writes the line for what a store refused.
+pub fn tell_store_fault<W: Out>(fault: StoreFault, out: &mut W) -> Status
+    ensures { Tells (W.facts out.old) (W.facts out.new)
+        (store_fault_text fault) (store_fault_status fault) result }
+{
+    tell(
+        out,
+        store_fault_line(fault).as_bytes(),
+        store_fault_status(fault),
+    )
+}
+
 /// Writes the line for a table that was refused.
 pub fn tell_load_fault<W: Out>(alloc: Global, fault: LoadFault, out: &mut W) -> Status
-    ensures { TellsIfMemory (between W.told W.failures out.old out.new)
+    ensures { TellsIfMemory (W.facts out.old) (W.facts out.new)
         (load_fault_text fault) (load_fault_status fault) result }
 {
     match load_fault_line(alloc, fault) {
@@ -162,7 +195,7 @@ pub fn tell_load_fault<W: Out>(alloc: Global, fault: LoadFault, out: &mut W) -> 
 
 /// Writes the line for what a tree refused.
 pub fn tell_tree_fault<W: Out>(alloc: Global, fault: TreeFault, out: &mut W) -> Status
-    ensures { TellsIfMemory (between W.told W.failures out.old out.new)
+    ensures { TellsIfMemory (W.facts out.old) (W.facts out.new)
         (tree_fault_text fault) (tree_fault_status fault) result }
 {
     match tree_fault_line(alloc, fault) {

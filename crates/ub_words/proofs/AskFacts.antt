@@ -11,7 +11,7 @@ use Rattle.clap.specs.declared.parser.matches.ArgMatches.{ArgMatches}
 use Rattle.clap.specs.declared.error.kind.ErrorKind.{ErrorKind}
 use Rattle.clap.specs.declared.error.kind.ErrorKind.TheVariants as kind
 use Rattle.clap.proofs.OnLiterals.{clap_on_literals}
-use Rattle.ub_words.specs.CommandLine.{AreNextWords, AsksHelpAlone, AsksNothing, IsNextGiven, IsTaken, IsTryGiven, ubq_app}
+use Rattle.ub_words.specs.CommandLine.{AreNextWords, AsksHelpAlone, AsksNothing, IsLoadGiven, IsNextGiven, IsRunGiven, IsTaken, IsTryGiven, standard_input, ubq_app}
 
 -- the program's command line is one whose matches `clap` tells
 pub ubq_is_simple : is_simple ubq_app ≡ true
@@ -47,40 +47,89 @@ pub no_help_refused : (words : List (List ℕ)) (k : ErrorKind) → IsAmong k (f
 no_help_refused words k among no_help no_version (inl help) = no_help (only_kind k _ _ among help)
 no_help_refused words k among no_help no_version (inr version) = no_version (only_kind k _ _ among version)
 
--- the words that ask for a `try` whose arguments were not all given ask for nothing
-pub nothing_by_try : (words : List (List ℕ)) (rows : List Row) → IsTaken words (Some (codes "try", rows))
-    → ((table script name : List ℕ) (dims page_rows : ℕ) → ¬ (IsTryGiven rows table script name dims page_rows)) → AsksNothing words
-nothing_by_try words rows taken none = record {
-  no_try = λ table script name dims page_rows asks.
-      let same = same_found _ _ _ _ (sym taken.1 ∙ asks.1.1) in
-      none table script name dims page_rows (subst (λ (r : List Row). IsTryGiven r table script name dims page_rows) (sym same.1) asks.2);
-  no_next = λ lo hi z asks. elim asks [
-    | inl by_clap ↦ let same = (same_found _ _ _ _ (sym taken.1 ∙ by_clap.1.1)).0 in cc
-    | inr by_place ↦ by_place.0 taken.0
-  ];
-  no_help = no_help_taken words taken.0;
-}
+-- the names of two commands
+apart : (name other : List ℕ) → bytes_eq name other ≡ false → name ≢ other
+apart name other unlike e = false≢true (sym unlike ∙ (bytes_eq-Decides name other).1 e)
 
-pub nothing_by_next : (words : List (List ℕ)) (rows : List Row) → IsTaken words (Some (codes "next", rows))
-    → ((lo hi z : List ℕ) → ¬ (IsNextGiven rows lo hi z)) → AsksNothing words
-nothing_by_next words rows taken none = record {
-  no_try = λ table script name dims page_rows asks. let same = (same_found _ _ _ _ (sym taken.1 ∙ asks.1.1)).0 in cc;
+pub load≢try : codes "load" ≢ codes "try"
+load≢try = apart (codes "load") (codes "try") refl
+
+pub run≢try : codes "run" ≢ codes "try"
+run≢try = apart (codes "run") (codes "try") refl
+
+pub load≢run : codes "load" ≢ codes "run"
+load≢run = apart (codes "load") (codes "run") refl
+
+pub try≢next : codes "try" ≢ codes "next"
+try≢next = apart (codes "try") (codes "next") refl
+
+pub load≢next : codes "load" ≢ codes "next"
+load≢next = apart (codes "load") (codes "next") refl
+
+pub run≢next : codes "run" ≢ codes "next"
+run≢next = apart (codes "run") (codes "next") refl
+
+-- words by which a command was found ask for nothing, if it is none of the four, or what was given for it is not enough
+pub nothing_by : (words : List (List ℕ)) (name : List ℕ) (rows : List Row) → IsTaken words (both name rows)
+    → (name ≡ codes "try" → (source script table : List ℕ) (dims page_rows : ℕ) → IsTryGiven rows source script table dims page_rows
+    → (source ≡ standard_input) × (script ≡ standard_input))
+    → (name ≡ codes "load" → (source table other : List ℕ) (dims page_rows : ℕ) → ¬ (IsLoadGiven rows source table other dims page_rows))
+    → (name ≡ codes "run" → (table script : List ℕ) → ¬ (IsRunGiven rows table script))
+    → (name ≡ codes "next" → (lo hi z : List ℕ) → ¬ (IsNextGiven rows lo hi z)) → AsksNothing words
+nothing_by words name rows taken by_try by_load by_run by_next = record {
+  no_try = λ source script table dims page_rows asks.
+      let same = same_found _ _ _ _ (sym taken.1 ∙ asks.1.1) in
+      asks.3 (by_try same.0 source script table dims page_rows (subst (λ (r : List Row). IsTryGiven r source script table dims page_rows) (sym same.1) asks.2));
+  no_load = λ source table other dims page_rows asks.
+      let same = same_found _ _ _ _ (sym taken.1 ∙ asks.1.1) in
+      by_load same.0 source table other dims page_rows (subst (λ (r : List Row). IsLoadGiven r source table other dims page_rows) (sym same.1) asks.2);
+  no_run = λ table script asks.
+      let same = same_found _ _ _ _ (sym taken.1 ∙ asks.1.1) in
+      by_run same.0 table script (subst (λ (r : List Row). IsRunGiven r table script) (sym same.1) asks.2);
   no_next = λ lo hi z asks. elim asks [
     | inl by_clap ↦
         let same = same_found _ _ _ _ (sym taken.1 ∙ by_clap.1.1) in
-        none lo hi z (subst (λ (r : List Row). IsNextGiven r lo hi z) (sym same.1) by_clap.2)
+        by_next same.0 lo hi z (subst (λ (r : List Row). IsNextGiven r lo hi z) (sym same.1) by_clap.2)
     | inr by_place ↦ by_place.0 taken.0
   ];
   no_help = no_help_taken words taken.0;
 }
 
--- so do words by which no command was found, or another one
-pub nothing_by_other : (words : List (List ℕ)) (found : Option (List ℕ × List Row)) → IsTaken words found
-    → ((rows : List Row) → found ≢ Some (codes "try", rows)) → ((rows : List Row) → found ≢ Some (codes "next", rows)) → AsksNothing words
-nothing_by_other words found taken other another = record {
-  no_try = λ table script name dims page_rows asks. other asks.0 (sym taken.1 ∙ asks.1.1);
+-- the words that ask for a `try` whose arguments were not all given ask for nothing, and so do those for two standard inputs
+pub nothing_by_try : (words : List (List ℕ)) (rows : List Row) → IsTaken words (both (codes "try") rows)
+    → ((source script name : List ℕ) (dims page_rows : ℕ) → IsTryGiven rows source script name dims page_rows
+    → (source ≡ standard_input) × (script ≡ standard_input)) → AsksNothing words
+nothing_by_try words rows taken none =
+    nothing_by words (codes "try") rows taken (λ e. none) (λ e. absurd (load≢try (sym e))) (λ e. absurd (run≢try (sym e))) (λ e. absurd (try≢next e))
+
+pub nothing_by_load : (words : List (List ℕ)) (rows : List Row) → IsTaken words (both (codes "load") rows)
+    → ((source table name : List ℕ) (dims page_rows : ℕ) → ¬ (IsLoadGiven rows source table name dims page_rows)) → AsksNothing words
+nothing_by_load words rows taken none =
+    nothing_by words (codes "load") rows taken (λ e. absurd (load≢try e)) (λ e. none) (λ e. absurd (load≢run e)) (λ e. absurd (load≢next e))
+
+pub nothing_by_run : (words : List (List ℕ)) (rows : List Row) → IsTaken words (both (codes "run") rows)
+    → ((table script : List ℕ) → ¬ (IsRunGiven rows table script)) → AsksNothing words
+nothing_by_run words rows taken none =
+    nothing_by words (codes "run") rows taken (λ e. absurd (run≢try e)) (λ e. absurd (load≢run (sym e))) (λ e. none) (λ e. absurd (run≢next e))
+
+pub nothing_by_next : (words : List (List ℕ)) (rows : List Row) → IsTaken words (both (codes "next") rows)
+    → ((lo hi z : List ℕ) → ¬ (IsNextGiven rows lo hi z)) → AsksNothing words
+nothing_by_next words rows taken none =
+    nothing_by words (codes "next") rows taken (λ e. absurd (try≢next (sym e))) (λ e. absurd (load≢next (sym e))) (λ e. absurd (run≢next (sym e))) (λ e. none)
+
+pub nothing_by_other : (words : List (List ℕ)) (name : List ℕ) (rows : List Row) → IsTaken words (both name rows)
+    → name ≢ codes "load" → name ≢ codes "run" → name ≢ codes "try" → name ≢ codes "next" → AsksNothing words
+nothing_by_other words name rows taken load run try next =
+    nothing_by words name rows taken (λ e. absurd (try e)) (λ e. absurd (load e)) (λ e. absurd (run e)) (λ e. absurd (next e))
+
+-- words by which no command was found
+pub nothing_by_none : (words : List (List ℕ)) (found : Option (List ℕ × List Row)) → None ≡ found → IsTaken words found → AsksNothing words
+nothing_by_none words found is taken = record {
+  no_try = λ source script table dims page_rows asks. let bad = is ∙ (sym taken.1 ∙ asks.1.1) in cc;
+  no_load = λ source table other dims page_rows asks. let bad = is ∙ (sym taken.1 ∙ asks.1.1) in cc;
+  no_run = λ table script asks. let bad = is ∙ (sym taken.1 ∙ asks.1.1) in cc;
   no_next = λ lo hi z asks. elim asks [
-    | inl by_clap ↦ another by_clap.0 (sym taken.1 ∙ by_clap.1.1)
+    | inl by_clap ↦ let bad = is ∙ (sym taken.1 ∙ by_clap.1.1) in cc
     | inr by_place ↦ by_place.0 taken.0
   ];
   no_help = no_help_taken words taken.0;
@@ -89,13 +138,26 @@ nothing_by_other words found taken other another = record {
 -- and words that are refused, but for three words after `next`
 pub nothing_by_refusal : (words : List (List ℕ)) → fault_of ubq_app words ≢ [] → ¬ (AsksHelpAlone words) → ((lo hi z : List ℕ) → ¬ (AreNextWords words lo hi z)) → AsksNothing words
 nothing_by_refusal words refused no_help none = record {
-  no_try = λ table script name dims page_rows asks. refused asks.1.0;
+  no_try = λ source script name dims page_rows asks. refused asks.1.0;
+  no_load = λ source table name dims page_rows asks. refused asks.1.0;
+  no_run = λ table script asks. refused asks.1.0;
   no_next = λ lo hi z asks. elim asks [
     | inl by_clap ↦ refused by_clap.1.0
     | inr by_place ↦ none lo hi z by_place.1
   ];
   no_help = no_help;
 }
+
+-- one text is given
+pub one_text : (o : Option (List ℕ)) (a b : List ℕ) → o ≡ Some a → o ≡ Some b → a ≡ b
+one_text o a b first second = ap (λ (t : Option (List ℕ)). unwrap_or t []) (sym first ∙ second)
+
+-- where both files are standard input, they are so however they were given
+pub two_inputs : (rows : List Row) (source script name : List ℕ) (dims page_rows : ℕ) → IsTryGiven rows source script name dims page_rows
+    → source ≡ standard_input → script ≡ standard_input
+    → (other path table : List ℕ) (d p : ℕ) → IsTryGiven rows other path table d p → (other ≡ standard_input) × (path ≡ standard_input)
+two_inputs rows source script name dims page_rows given first second other path table d p more =
+    (one_text _ _ _ more.data_is.path_is given.data_is.path_is ∙ first, one_text _ _ _ more.script_is given.script_is ∙ second)
 
 -- where a kind comes, some kind comes
 pub some_fault : (words : List (List ℕ)) (k : ErrorKind) → IsAmong k (fault_of ubq_app words) → fault_of ubq_app words ≢ []
@@ -118,15 +180,6 @@ refused_by app words e is has = subst (λ (a : App). HasKind (fault_of a words) 
 pub taken_as : (words : List (List ℕ)) (found : Option (List ℕ × List Row)) (name command : List ℕ) (rows : List Row) → both name rows ≡ found → name ≡ command
     → IsTaken words found → IsTaken words (both command rows)
 taken_as words found name command rows is same taken = (taken.0, taken.1 ∙ (sym is ∙ ap (λ (n : List ℕ). both n rows) same))
-
-pub nothing_by_name : (words : List (List ℕ)) (found : Option (List ℕ × List Row)) (name : List ℕ) (rows : List Row) → both name rows ≡ found
-    → name ≢ codes "next" → name ≢ codes "try" → IsTaken words found → AsksNothing words
-nothing_by_name words found name rows is other another taken =
-    nothing_by_other words found taken (λ more e. another (same_found _ _ _ _ (is ∙ e)).0) (λ more e. other (same_found _ _ _ _ (is ∙ e)).0)
-
-pub nothing_by_none : (words : List (List ℕ)) (found : Option (List ℕ × List Row)) → None ≡ found → IsTaken words found → AsksNothing words
-nothing_by_none words found is taken =
-    nothing_by_other words found taken (λ more e. let bad = is ∙ e in cc) (λ more e. let bad = is ∙ e in cc)
 
 abbrev pub pair_of : List ℕ → List Row → List ℕ × List Row
 pair_of name rows = (name, rows)

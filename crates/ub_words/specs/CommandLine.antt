@@ -34,10 +34,22 @@ name_rule = record (option_rule (codes "name")) { defaults = codes "t" ∷ [] }
 abbrev pub next_app : App
 next_app = with_rule (with_rule (with_rule (new_app (codes "next")) (word_rule (codes "LO"))) (word_rule (codes "HI"))) (word_rule (codes "Z"))
 
+-- a command with `DATA OTHER --dims D [--page-rows C] [--name T]`
+abbrev pub data_app : App → Rule → App
+data_app app other =
+    with_rule (with_rule (with_rule (with_rule (with_rule app (word_rule (codes "DATA"))) other) dims_rule) page_rows_rule) name_rule
+
+-- `load DATA TABLE --dims D [--page-rows C] [--name T]`
+abbrev pub load_app : App
+load_app = data_app (new_app (codes "load")) (word_rule (codes "TABLE"))
+
+-- `run TABLE SCRIPT`
+abbrev pub run_app : App
+run_app = with_rule (with_rule (new_app (codes "run")) (word_rule (codes "TABLE"))) (word_rule (codes "SCRIPT"))
+
 -- `try DATA SCRIPT --dims D [--page-rows C] [--name T]`
 abbrev pub try_app : App
-try_app = with_rule (with_rule (with_rule (with_rule (with_rule (new_app (codes "try"))
-    (word_rule (codes "DATA"))) (word_rule (codes "SCRIPT"))) dims_rule) page_rows_rule) name_rule
+try_app = data_app (new_app (codes "try")) (word_rule (codes "SCRIPT"))
 
 -- the program before its commands are added: it has a version, and wants a command
 abbrev pub bare_app : App
@@ -47,7 +59,7 @@ bare_app = record (new_app (codes "ubq")) {
 
 -- the whole command line
 unfoldable pub ubq_app : App
-ubq_app = with_subcommand (with_subcommand bare_app next_app.top) try_app.top
+ubq_app = with_subcommand (with_subcommand (with_subcommand (with_subcommand bare_app load_app.top) run_app.top) try_app.top) next_app.top
 
 -- an argument that `clap` reads so, and that no subcommand shares
 abbrev pub IsArgFor : Rule → Arg → Type 0
@@ -72,13 +84,28 @@ pub record IsNumberGiven (rows : List Row) (id : List ℕ) (least most number : 
   pub at_least : least ≤ number
   pub at_most : number ≤ most
 
--- what was given for the command `try`
-pub record IsTryGiven (rows : List Row) (table script name : List ℕ) (dims page_rows : ℕ) : Type 0 where
-  pub table_is : first_of (codes "DATA") rows ≡ Some table
-  pub script_is : first_of (codes "SCRIPT") rows ≡ Some script
+-- what was given for a command that makes a table of a CSV file: its path, the table's name, how many columns are dimensions,
+-- and how many rows a page holds
+pub record IsDataGiven (rows : List Row) (path name : List ℕ) (dims page_rows : ℕ) : Type 0 where
+  pub path_is : first_of (codes "DATA") rows ≡ Some path
   pub name_is : first_of (codes "name") rows ≡ Some name
   pub dims_are : IsNumberGiven rows (codes "dims") 1 4 dims
   pub page_rows_are : IsNumberGiven rows (codes "page-rows") 2 64 page_rows
+
+-- what was given for the command `try`
+pub record IsTryGiven (rows : List Row) (source script name : List ℕ) (dims page_rows : ℕ) : Type 0 where
+  pub data_is : IsDataGiven rows source name dims page_rows
+  pub script_is : first_of (codes "SCRIPT") rows ≡ Some script
+
+-- what was given for the command `load`
+pub record IsLoadGiven (rows : List Row) (source table name : List ℕ) (dims page_rows : ℕ) : Type 0 where
+  pub data_is : IsDataGiven rows source name dims page_rows
+  pub table_is : first_of (codes "TABLE") rows ≡ Some table
+
+-- what was given for the command `run`
+pub record IsRunGiven (rows : List Row) (table script : List ℕ) : Type 0 where
+  pub table_is : first_of (codes "TABLE") rows ≡ Some table
+  pub script_is : first_of (codes "SCRIPT") rows ≡ Some script
 
 -- what was given for the command `next`
 pub record IsNextGiven (rows : List Row) (lo hi z : List ℕ) : Type 0 where
@@ -90,10 +117,24 @@ pub record IsNextGiven (rows : List Row) (lo hi z : List ℕ) : Type 0 where
 abbrev pub AreNextWords : List (List ℕ) → List ℕ → List ℕ → List ℕ → Type 0
 AreNextWords words lo hi z = (program : List ℕ) × (words ≡ program ∷ codes "next" ∷ lo ∷ hi ∷ z ∷ [])
 
--- the words ask for a run of the script of this file on the table of this file
+-- the path that means standard input
+abbrev pub standard_input : List ℕ
+standard_input = codes "-"
+
+-- the words ask for a run of the script of this file on the table of the CSV text of this file; both are not standard input
 abbrev pub AsksTry : List (List ℕ) → List ℕ → List ℕ → List ℕ → ℕ → ℕ → Type 0
-AsksTry words table script name dims page_rows =
-    (rows : List Row) × IsTaken words (Some (codes "try", rows)) × IsTryGiven rows table script name dims page_rows
+AsksTry words source script name dims page_rows =
+    (rows : List Row) × IsTaken words (Some (codes "try", rows)) × IsTryGiven rows source script name dims page_rows
+    × ¬ ((source ≡ standard_input) × (script ≡ standard_input))
+
+-- the words ask for the CSV text of this file to be loaded into this table file
+abbrev pub AsksLoad : List (List ℕ) → List ℕ → List ℕ → List ℕ → ℕ → ℕ → Type 0
+AsksLoad words source table name dims page_rows =
+    (rows : List Row) × IsTaken words (Some (codes "load", rows)) × IsLoadGiven rows source table name dims page_rows
+
+-- the words ask for a run of the script of this file on this table file
+abbrev pub AsksRun : List (List ℕ) → List ℕ → List ℕ → Type 0
+AsksRun words table script = (rows : List Row) × IsTaken words (Some (codes "run", rows)) × IsRunGiven rows table script
 
 -- the words ask for the help or the version, as `clap` may answer them
 abbrev pub AsksHelp : List (List ℕ) → Type 0
@@ -110,8 +151,10 @@ AsksNext words lo hi z =
     ((rows : List Row) × IsTaken words (Some (codes "next", rows)) × IsNextGiven rows lo hi z)
     ⊎ ((fault_of ubq_app words ≢ []) × AreNextWords words lo hi z × ¬ (AsksHelpAlone words))
 
--- the words ask for neither command, nor for the help or the version
+-- the words ask for no command, nor for the help or the version
 pub record AsksNothing (words : List (List ℕ)) : Type 0 where
-  pub no_try : (table script name : List ℕ) (dims page_rows : ℕ) → ¬ (AsksTry words table script name dims page_rows)
+  pub no_try : (source script name : List ℕ) (dims page_rows : ℕ) → ¬ (AsksTry words source script name dims page_rows)
+  pub no_load : (source table name : List ℕ) (dims page_rows : ℕ) → ¬ (AsksLoad words source table name dims page_rows)
+  pub no_run : (table script : List ℕ) → ¬ (AsksRun words table script)
   pub no_next : (lo hi z : List ℕ) → ¬ (AsksNext words lo hi z)
   pub no_help : ¬ (AsksHelpAlone words)

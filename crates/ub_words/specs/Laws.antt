@@ -2,24 +2,28 @@
 use Rattle.std.specs.Prelude.{◌≡◌, ℕ, List}
 use Rattle.ub_words.specs.Asked.{IsAskedBy}
 use Rattle.ub_words.specs.CommandLine.{AsksHelpAlone}
+use Rattle.ub_words.specs.declared.given.DataWords.{DataWords}
 use Rattle.ub_words.specs.declared.words.Asked.{Asked}
-use Rattle.ub_words.specs.declared.words.Asked.TheVariants.{Try, Next, Help, Wrong}
+use Rattle.ub_words.specs.declared.words.Asked.TheVariants.{Try, Load, Run, Next, Help, Wrong}
+
+-- these name one CSV file, and make a table of it in one way
+abbrev pub IsSameData : DataWords → DataWords → Type 0
+IsSameData a b = (a.path.now ≡ b.path.now) × (a.name.now ≡ b.name.now) × (a.dims ≡ b.dims) × (a.page_rows ≡ b.page_rows)
 
 -- these ask for one thing, but for the text for words that ask for no command; `clap` may refuse some words in two ways,
 -- one of which is the help
 abbrev pub AreAlike : Asked → Asked → Type 0
-AreAlike (Try a) (Try b) =
-    (a.table.now ≡ b.table.now) × (a.script.now ≡ b.script.now) × (a.name.now ≡ b.name.now)
-    × (a.dims ≡ b.dims) × (a.page_rows ≡ b.page_rows)
-AreAlike (Try a) b = ⊥
+AreAlike (Try a) (Try b) = IsSameData a.source b.source × (a.script.now ≡ b.script.now)
+AreAlike (Load a) (Load b) = IsSameData a.source b.source × (a.table.now ≡ b.table.now)
+AreAlike (Run a) (Run b) = (a.table.now ≡ b.table.now) × (a.script.now ≡ b.script.now)
 AreAlike (Next a) (Next b) = (a.low.now ≡ b.low.now) × (a.high.now ≡ b.high.now) × (a.address.now ≡ b.address.now)
 AreAlike (Next a) (Help text) = Unit {0}
-AreAlike (Next a) b = ⊥
-AreAlike (Help text) (Try b) = ⊥
-AreAlike (Help text) b = Unit {0}
-AreAlike (Wrong text) (Try b) = ⊥
-AreAlike (Wrong text) (Next b) = ⊥
-AreAlike (Wrong text) b = Unit {0}
+AreAlike (Help text) (Next b) = Unit {0}
+AreAlike (Help text) (Help more) = Unit {0}
+AreAlike (Help text) (Wrong more) = Unit {0}
+AreAlike (Wrong text) (Help more) = Unit {0}
+AreAlike (Wrong text) (Wrong more) = Unit {0}
+AreAlike a b = ⊥
 
 -- the same words ask for one thing
 abbrev pub OneThingIsAsked : Type 0

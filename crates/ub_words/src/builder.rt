@@ -1,8 +1,45 @@
-ghost use Rattle.std.specs.Prelude.{IfOk};
-ghost use Rattle.ub_words.specs.CommandLine.{IsArgFor, IsCommandFor, dims_rule, next_app, option_rule, page_rows_rule, try_app, ubq_app, word_rule};
+ghost use Rattle.std.specs.Prelude.{IfOk, codes};
+ghost use Rattle.clap.specs.Words.{App, Rule};
+ghost use Rattle.ub_words.specs.CommandLine.{IsArgFor, IsCommandFor, data_app, dims_rule, load_app, next_app, option_rule, page_rows_rule, run_app, try_app, ubq_app, word_rule};
 
 use clap::{Arg, Command, value_parser};
 use std::alloc::{AllocError, Global};
+
+// What stands at the end of the program's help.
+const PROGRAM_HELP: &str = "\
+Example:
+  ubq load sales.csv sales.ub --dims 2
+  echo 'SELECT COUNT(*) FROM t WHERE day BETWEEN 1 AND 7;' | ubq run sales.ub -
+
+Statements are SELECT with WHERE, GROUP BY, ORDER BY and LIMIT; docs/SQL.md describes the language, and
+docs/TABLE_FILES.md what a table file promises. After a fault the last line tells it, as ! NoPage.
+
+Status:
+  0  all was done
+  1  a statement was refused, and the others were run
+  2  the command line was refused
+  3  the data were refused: a CSV file, or a table file that is none or is damaged
+  4  a file or the output failed
+  5  memory was refused";
+
+const LOAD_HELP: &str = "\
+Example: ubq load sales.csv sales.ub --dims 2 writes -- rows 1000, regions 24
+
+DATA is read before TABLE is touched. Where a row is refused TABLE holds no table, and `ubq run` says so.";
+
+const RUN_HELP: &str = "\
+Example: ubq run sales.ub script.sql, or a script from standard input: ubq run sales.ub -
+
+Each statement writes a title line, its rows, and -- rows R, pages P, or why it is refused, as ! Syntax at 7. TABLE is
+left as it was, byte for byte. docs/SQL.md describes the language.";
+
+const TRY_HELP: &str = "\
+Example: ubq try sales.csv script.sql --dims 2
+
+No file is written. Each statement writes what it does with `ubq run`. docs/SQL.md describes the language.";
+
+const NEXT_HELP: &str = "\
+Example: ubq next 2,2 6,3 19 writes next 36 and prev 15";
 
 // A word that is to be given at its place.
 fn word_arg<'a>(alloc: Global, id: &'a str, help: &'a str) -> Arg<'a>
@@ -38,6 +75,67 @@ fn page_rows_arg<'a>(alloc: Global) -> Arg<'a>
         .value_parser(value_parser!(u32).range(2..=64))
 }
 
+// The path of a CSV file, which is another command's argument beside this one, and how a table is made of it.
+fn with_data<'a>(
+    alloc: Global,
+    command: Command<'a>,
+    other: Arg<'a>,
+) -> Result<Command<'a>, AllocError>
+    ensures { (app : App) (rule : Rule) → IsCommandFor app command.entry → IsArgFor rule other.entry
+        → IfOk result (IsCommandFor (data_app app rule)) }
+{
+    let data =
+        "A CSV file with a header, the dimensions first and then the measures; - is standard input";
+    let name = "The name of the table in the statements";
+    command
+        .arg(word_arg(alloc, "DATA", data))?
+        .arg(other)?
+        .arg(dims_arg(alloc))?
+        .arg(page_rows_arg(alloc))?
+        .arg(option_arg(alloc, "name", "T", name).default_value("t"))
+}
+
+// A word for the file of a script.
+fn script_arg<'a>(alloc: Global) -> Arg<'a>
+    ensures { IsArgFor (word_rule (codes "SCRIPT")) result }
+{
+    let help = "A file of statements, each ended by a semicolon; - is standard input";
+    word_arg(alloc, "SCRIPT", help)
+}
+
+// The command `load` as `clap` reads it.
+fn load_command<'a>(alloc: Global) -> Result<Command<'a>, AllocError>
+    ensures { IfOk result (IsCommandFor load_app) }
+{
+    let table = "The table file to make; what it held is lost";
+    let command = Command::new(alloc, "load")
+        .about("Load a CSV file into a table file")
+        .after_help(LOAD_HELP);
+    with_data(alloc, command, word_arg(alloc, "TABLE", table))
+}
+
+// The command `run` as `clap` reads it.
+fn run_command<'a>(alloc: Global) -> Result<Command<'a>, AllocError>
+    ensures { IfOk result (IsCommandFor run_app) }
+{
+    let table = "A table file that `load` made";
+    Command::new(alloc, "run")
+        .about("Run a script of statements on a table file")
+        .after_help(RUN_HELP)
+        .arg(word_arg(alloc, "TABLE", table))?
+        .arg(script_arg(alloc))
+}
+
+// The command `try` as `clap` reads it.
+fn try_command<'a>(alloc: Global) -> Result<Command<'a>, AllocError>
+    ensures { IfOk result (IsCommandFor try_app) }
+{
+    let command = Command::new(alloc, "try")
+        .about("Run a script of statements on a CSV file, in memory")
+        .after_help(TRY_HELP);
+    with_data(alloc, command, script_arg(alloc))
+}
+
 // The command `next` as `clap` reads it.
 fn next_command<'a>(alloc: Global) -> Result<Command<'a>, AllocError>
     ensures { IfOk result (IsCommandFor next_app) }
@@ -47,25 +145,10 @@ fn next_command<'a>(alloc: Global) -> Result<Command<'a>, AllocError>
     let address = "The Z-address from which to look, as in 19";
     Command::new(alloc, "next")
         .about("Find the addresses of a box that are nearest to a Z-address, on either side")
+        .after_help(NEXT_HELP)
         .arg(word_arg(alloc, "LO", low))?
         .arg(word_arg(alloc, "HI", high))?
         .arg(word_arg(alloc, "Z", address))
-}
-
-// The command `try` as `clap` reads it.
-fn try_command<'a>(alloc: Global) -> Result<Command<'a>, AllocError>
-    ensures { IfOk result (IsCommandFor try_app) }
-{
-    let data = "A CSV file with a header: the dimensions first, then the measures";
-    let script = "A file of statements, each ended by a semicolon";
-    let name = "The name of the table in the statements";
-    Command::new(alloc, "try")
-        .about("Run a script of statements on the table of a CSV file, in memory")
-        .arg(word_arg(alloc, "DATA", data))?
-        .arg(word_arg(alloc, "SCRIPT", script))?
-        .arg(dims_arg(alloc))?
-        .arg(page_rows_arg(alloc))?
-        .arg(option_arg(alloc, "name", "T", name).default_value("t"))
 }
 
 // The whole command line.
@@ -74,8 +157,11 @@ pub(crate) fn program<'a>(alloc: Global) -> Result<Command<'a>, AllocError>
 {
     Command::new(alloc, "ubq")
         .version("0.1.0")
-        .about("Queries over points on the Z-curve")
+        .about("Queries in SQL over a table of points, kept as a UB-tree in one file")
+        .after_help(PROGRAM_HELP)
         .subcommand_required(true)
-        .subcommand(next_command(alloc)?)?
-        .subcommand(try_command(alloc)?)
+        .subcommand(load_command(alloc)?)?
+        .subcommand(run_command(alloc)?)?
+        .subcommand(try_command(alloc)?)?
+        .subcommand(next_command(alloc)?)
 }

@@ -1,22 +1,45 @@
 ghost use Rattle.std.specs.Prelude.{◌≡◌, ◌≤◌, ℕ, List, MatchOption, map, option_map, string_bytes};
 ghost use Rattle.clap.specs.Words.{first_of, found_of, rows_of, subcommand_rows_of};
-ghost use Rattle.ub_words.specs.CommandLine.{AreNextWords, IsNextGiven, IsNumberGiven, IsTryGiven};
+ghost use Rattle.ub_words.specs.CommandLine.{AreNextWords, IsDataGiven, IsLoadGiven, IsNextGiven, IsNumberGiven, IsRunGiven, IsTryGiven};
 
 use clap::ArgMatches;
 
-/// What a command line says that asks for a run of a script.
+/// The CSV file that a command line names, and how a table is made of it.
 #[derive(Clone, Copy)]
-pub struct TryWords<'a> {
-    /// The path of the CSV file.
-    pub table: &'a str,
-    /// The path of the script.
-    pub script: &'a str,
+pub struct DataWords<'a> {
+    /// The path of the CSV file; `-` is standard input.
+    pub path: &'a str,
     /// The table's name in the statements.
     pub name: &'a str,
     /// How many of the columns are dimensions, 1 to 4.
     pub dims: u32,
     /// How many rows a page holds at most, 2 to 64.
     pub page_rows: u32,
+}
+
+/// What a command line says that asks for a run of a script on the table of a CSV file.
+#[derive(Clone, Copy)]
+pub struct TryWords<'a> {
+    pub source: DataWords<'a>,
+    /// The path of the script; `-` is standard input, unless that is the CSV file.
+    pub script: &'a str,
+}
+
+/// What a command line says that asks for a CSV file to be loaded into a table file.
+#[derive(Clone, Copy)]
+pub struct LoadWords<'a> {
+    pub source: DataWords<'a>,
+    /// The path of the table file.
+    pub table: &'a str,
+}
+
+/// What a command line says that asks for a run of a script on a table file.
+#[derive(Clone, Copy)]
+pub struct RunWords<'a> {
+    /// The path of the table file.
+    pub table: &'a str,
+    /// The path of the script; `-` is standard input.
+    pub script: &'a str,
 }
 
 /// What a command line says that asks for the neighbours of an address in a box.
@@ -53,20 +76,59 @@ fn number_given(matches: &ArgMatches<'_>, id: &str, least: u32, most: u32) -> Op
     }
 }
 
-// What was given for the command `try`.
-pub(crate) fn try_words<'a>(matches: &ArgMatches<'a>) -> Option<TryWords<'a>>
+// What was given for the file DATA, and for the options that go with it.
+fn data_words<'a>(matches: &ArgMatches<'a>) -> Option<DataWords<'a>>
     ensures { MatchOption result
-        ((table script name : List ℕ) (dims page_rows : ℕ)
-        → ¬ (IsTryGiven (rows_of (found_of matches.now)) table script name dims page_rows))
-        (λ words. IsTryGiven (rows_of (found_of matches.now))
-        words.table.now words.script.now words.name.now words.dims words.page_rows) }
+        ((path name : List ℕ) (dims page_rows : ℕ)
+        → ¬ (IsDataGiven (rows_of (found_of matches.now)) path name dims page_rows))
+        (λ words. IsDataGiven (rows_of (found_of matches.now))
+        words.path.now words.name.now words.dims words.page_rows) }
 {
-    Some(TryWords {
-        table: text_given(matches, "DATA")?,
-        script: text_given(matches, "SCRIPT")?,
+    Some(DataWords {
+        path: text_given(matches, "DATA")?,
         name: text_given(matches, "name")?,
         dims: number_given(matches, "dims", 1, 4)?,
         page_rows: number_given(matches, "page-rows", 2, 64)?,
+    })
+}
+
+// What was given for the command `try`.
+pub(crate) fn try_words<'a>(matches: &ArgMatches<'a>) -> Option<TryWords<'a>>
+    ensures { MatchOption result
+        ((source script name : List ℕ) (dims page_rows : ℕ)
+        → ¬ (IsTryGiven (rows_of (found_of matches.now)) source script name dims page_rows))
+        (λ words. IsTryGiven (rows_of (found_of matches.now)) words.source.path.now words.script.now
+        words.source.name.now words.source.dims words.source.page_rows) }
+{
+    Some(TryWords {
+        source: data_words(matches)?,
+        script: text_given(matches, "SCRIPT")?,
+    })
+}
+
+// What was given for the command `load`.
+pub(crate) fn load_words<'a>(matches: &ArgMatches<'a>) -> Option<LoadWords<'a>>
+    ensures { MatchOption result
+        ((source table name : List ℕ) (dims page_rows : ℕ)
+        → ¬ (IsLoadGiven (rows_of (found_of matches.now)) source table name dims page_rows))
+        (λ words. IsLoadGiven (rows_of (found_of matches.now)) words.source.path.now words.table.now
+        words.source.name.now words.source.dims words.source.page_rows) }
+{
+    Some(LoadWords {
+        source: data_words(matches)?,
+        table: text_given(matches, "TABLE")?,
+    })
+}
+
+// What was given for the command `run`.
+pub(crate) fn run_words<'a>(matches: &ArgMatches<'a>) -> Option<RunWords<'a>>
+    ensures { MatchOption result
+        ((table script : List ℕ) → ¬ (IsRunGiven (rows_of (found_of matches.now)) table script))
+        (λ words. IsRunGiven (rows_of (found_of matches.now)) words.table.now words.script.now) }
+{
+    Some(RunWords {
+        table: text_given(matches, "TABLE")?,
+        script: text_given(matches, "SCRIPT")?,
     })
 }
 

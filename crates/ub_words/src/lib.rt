@@ -9,8 +9,8 @@ mod given;
 pub mod law;
 mod words;
 
-pub use given::{NextWords, TryWords};
-pub use words::{Asked, read_words};
+pub use given::{DataWords, LoadWords, NextWords, RunWords, TryWords};
+pub use words::{Asked, STANDARD_INPUT, read_words};
 
 #[cfg(test)]
 mod tests;

@@ -12,7 +12,10 @@ fn told(alloc: Global, words: &[&str]) -> Result<(bool, Vec<u8>), AllocError> {
     match read_words(alloc, all.as_slice())? {
         Asked::Help(text) => Ok((true, text)),
         Asked::Wrong(text) => Ok((false, text)),
-        Asked::Try(_) | Asked::Next(_) => Ok((false, Vec::new(alloc))),
+        Asked::Try(_) | Asked::Load(_) | Asked::Run(_) | Asked::Next(_) => Ok((
+            false,
+            Vec::new(alloc),
+        )),
     }
 }
 

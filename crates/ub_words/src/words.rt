@@ -1,19 +1,29 @@
-ghost use Rattle.std.specs.Prelude.{ℕ, List, Some, codes, map, string_bytes, IfOk};
+ghost use Rattle.std.specs.Prelude.{◌≡◌, ◌↔◌, ℕ, IsTrue, List, Some, codes, map, string_bytes, IfOk};
 ghost use Rattle.clap.specs.Words.{HasKind, fault_of, found_of, rows_of, subcommand_rows_of};
 ghost use Rattle.ub_words.specs.Asked.{AreLines, IsAskedBy};
-ghost use Rattle.ub_words.specs.CommandLine.{AsksNothing, IsTaken, ubq_app};
+ghost use Rattle.ub_words.specs.CommandLine.{AsksNothing, IsTaken, standard_input, ubq_app};
 
 use crate::builder::program;
-use crate::given::{NextWords, TryWords, command_found, next_words, three_after_next, try_words};
+use crate::given::{
+    LoadWords, NextWords, RunWords, TryWords, command_found, load_words, next_words, run_words,
+    three_after_next, try_words,
+};
 use clap::ArgMatches;
 use clap::error::ErrorKind;
 use std::alloc::{AllocError, Global};
+
+/// The path that means standard input.
+pub const STANDARD_INPUT: &str = "-";
 
 /// What the words of a command line ask for.
 #[derive(Drop)]
 pub enum Asked<'a> {
     /// A run of a script on the table of a CSV file.
     Try(TryWords<'a>),
+    /// A CSV file to be loaded into a table file.
+    Load(LoadWords<'a>),
+    /// A run of a script on a table file.
+    Run(RunWords<'a>),
     /// The addresses of a box that are nearest to one.
     Next(NextWords<'a>),
     /// The help or the version: this is its text.
@@ -38,27 +48,76 @@ fn asked_by_matches<'a>(alloc: Global, matches: &ArgMatches<'a>) -> Result<Asked
     ensures { (words : List (List ℕ)) → IsTaken words (subcommand_rows_of matches.now)
         → IfOk result (IsAskedBy words) }
 {
-    let Some((name, found)) = command_found(matches) else {
-        return no_command(alloc);
-    };
-    if name == "next" {
-        asked_by_next(alloc, found)
+    match command_found(matches) {
+        Some((name, found)) => asked_by_command(alloc, name, found),
+        None => no_command(alloc),
+    }
+}
+
+// What words ask for that name a command.
+fn asked_by_command<'a>(
+    alloc: Global,
+    name: &str,
+    found: &ArgMatches<'a>,
+) -> Result<Asked<'a>, AllocError>
+    ensures { (words : List (List ℕ)) → IsTaken words (Some (name.now, rows_of (found_of found.now)))
+        → IfOk result (IsAskedBy words) }
+{
+    if name == "load" {
+        asked_by_load(alloc, found)
+    } else if name == "run" {
+        asked_by_run(alloc, found)
     } else if name == "try" {
         asked_by_try(alloc, found)
+    } else if name == "next" {
+        asked_by_next(alloc, found)
     } else {
         no_command(alloc)
     }
 }
 
-// What words ask for that name the command `try`.
+// What words ask for that name the command `load`.
+fn asked_by_load<'a>(alloc: Global, found: &ArgMatches<'a>) -> Result<Asked<'a>, AllocError>
+    ensures { (words : List (List ℕ)) → IsTaken words (Some (codes "load", rows_of (found_of found.now)))
+        → IfOk result (IsAskedBy words) }
+{
+    match load_words(found) {
+        Some(asked) => Ok(Asked::Load(asked)),
+        None => no_command(alloc),
+    }
+}
+
+// What words ask for that name the command `run`.
+fn asked_by_run<'a>(alloc: Global, found: &ArgMatches<'a>) -> Result<Asked<'a>, AllocError>
+    ensures { (words : List (List ℕ)) → IsTaken words (Some (codes "run", rows_of (found_of found.now)))
+        → IfOk result (IsAskedBy words) }
+{
+    match run_words(found) {
+        Some(asked) => Ok(Asked::Run(asked)),
+        None => no_command(alloc),
+    }
+}
+
+// What words ask for that name the command `try`. There is one standard input, so that it can't be both files.
 fn asked_by_try<'a>(alloc: Global, found: &ArgMatches<'a>) -> Result<Asked<'a>, AllocError>
     ensures { (words : List (List ℕ)) → IsTaken words (Some (codes "try", rows_of (found_of found.now)))
         → IfOk result (IsAskedBy words) }
 {
     match try_words(found) {
+        Some(asked) if reads_input_twice(&asked) => {
+            wrong(alloc, "error: DATA and SCRIPT are both standard input")
+        }
         Some(asked) => Ok(Asked::Try(asked)),
         None => no_command(alloc),
     }
+}
+
+// Whether both files are standard input.
+fn reads_input_twice(asked: &TryWords<'_>) -> bool
+    ensures { IsTrue result ↔ ((asked.now.source.path.now ≡ standard_input)
+        × (asked.now.script.now ≡ standard_input)) }
+{
+    asked.source.path == STANDARD_INPUT && asked.script == STANDARD_INPUT
 }
 
 // What words ask for that name the command `next`.
@@ -76,7 +135,15 @@ fn asked_by_next<'a>(alloc: Global, found: &ArgMatches<'a>) -> Result<Asked<'a>,
 fn no_command<'a>(alloc: Global) -> Result<Asked<'a>, AllocError>
     ensures { (words : List (List ℕ)) → AsksNothing words → IfOk result (IsAskedBy words) }
 {
-    let text = Vec::from_slice(alloc, b"error: no such command\n")?;
+    wrong(alloc, "error: no such command")
+}
+
+// Words that ask for nothing, and what is told of them on a line.
+fn wrong<'a>(alloc: Global, message: &str) -> Result<Asked<'a>, AllocError>
+    ensures { (words : List (List ℕ)) → AsksNothing words → IfOk result (IsAskedBy words) }
+{
+    let mut text = Vec::from_slice(alloc, message.as_bytes())?;
+    text.push(b'\n')?;
     Ok(Asked::Wrong(text))
 }
 

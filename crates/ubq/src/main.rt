@@ -4,8 +4,9 @@
 
 use std::io;
 use std::process::ExitCode;
-use ub_shell::{program_words, run_program};
+use ub_shell::{HostFiles, program_words, run_program};
 
 fn main(rt: HostRuntime) -> ExitCode {
-    ExitCode::from(run_program(&rt, program_words(&rt), io::writer(&rt)).0)
+    let mut files = HostFiles::new(&rt);
+    ExitCode::from(run_program(rt.alloc(), &mut files, program_words(&rt), io::writer(&rt)).0)
 }

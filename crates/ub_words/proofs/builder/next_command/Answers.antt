@@ -7,7 +7,7 @@ use Rattle.ub_words.proofs.builder.next_command.Goals as goal
 
 pub returns : goal.returns
 returns c =
-    let bare : IsCommandFor (new_app (codes "next")) c.about.result = (search rules, search rules) in
+    let bare : IsCommandFor (new_app (codes "next")) c.after_help.result = (search rules, search rules) in
     let first = with_arg _ _ _ _ _ bare c.in_ok-arg.ensures c.word_arg.ensures in
     let second = with_arg _ _ _ _ _ first c.in_ok-arg-2.ensures c.word_arg-2.ensures in
     IfOk-weaker c.arg-3.result _ _ (λ r adds. with_arg _ _ r _ _ second adds c.word_arg-3.ensures) c.arg-3.ensures

@@ -8,5 +8,7 @@ pub returns : goal.returns
 unfolding ubq_app
 returns c =
     let bare : IsCommandFor bare_app c.subcommand_required.result = (search rules, search rules) in
-    let first = with_command _ _ _ _ _ bare c.in_ok-next_command.ensures c.in_ok-subcommand.ensures in
-    IfOk-weaker c.subcommand-2.result _ _ (λ r adds. with_command _ _ r _ _ first c.in_ok-try_command.ensures adds) c.subcommand-2.ensures
+    let first = with_command _ _ _ _ _ bare c.in_ok-load_command.ensures c.in_ok-subcommand.ensures in
+    let second = with_command _ _ _ _ _ first c.in_ok-run_command.ensures c.in_ok-subcommand-2.ensures in
+    let third = with_command _ _ _ _ _ second c.in_ok-try_command.ensures c.in_ok-subcommand-3.ensures in
+    IfOk-weaker c.subcommand-4.result _ _ (λ r adds. with_command _ _ r _ _ third c.in_ok-next_command.ensures adds) c.subcommand-4.ensures

@@ -1,16 +1,9 @@
 use Rattle.std.proofs.Common.{codes, rules}
-use Rattle.std.proofs.lemmas.Result.{IfOk-weaker}
 use Rattle.clap.specs.Words.{new_app}
-use Rattle.ub_words.specs.CommandLine.{IsArgFor, IsCommandFor, name_rule}
-use Rattle.ub_words.proofs.CommandFacts.{with_arg}
+use Rattle.ub_words.specs.CommandLine.{IsCommandFor}
 use Rattle.ub_words.proofs.builder.try_command.Goals as goal
 
 pub returns : goal.returns
 returns c =
-    let bare : IsCommandFor (new_app (codes "try")) c.about.result = (search rules, search rules) in
-    let name : IsArgFor name_rule c.default_value.result = (search rules, search rules) in
-    let first = with_arg _ _ _ _ _ bare c.in_ok-arg.ensures c.word_arg.ensures in
-    let second = with_arg _ _ _ _ _ first c.in_ok-arg-2.ensures c.word_arg-2.ensures in
-    let third = with_arg _ _ _ _ _ second c.in_ok-arg-3.ensures c.dims_arg.ensures in
-    let fourth = with_arg _ _ _ _ _ third c.in_ok-arg-4.ensures c.page_rows_arg.ensures in
-    IfOk-weaker c.arg-5.result _ _ (λ r adds. with_arg _ _ r _ _ fourth adds name) c.arg-5.ensures
+    let bare : IsCommandFor (new_app (codes "try")) c.after_help-command.result = (search rules, search rules) in
+    c.with_data.ensures _ _ bare c.script_arg.ensures

@@ -1,9 +1,5 @@
 use Rattle.ub_words.proofs.given.try_words.Goals as goal
 
-pub returns-in_err-number_given : goal.returns-in_err-number_given
-returns-in_err-number_given c =
-    rw c.from_residual-in_err-number_given.ensures (λ table script name dims page_rows given. c.in_err-number_given.ensures dims given.dims_are)
-
-pub returns-in_err-number_given-2 : goal.returns-in_err-number_given-2
-returns-in_err-number_given-2 c =
-    rw c.from_residual-in_err-number_given-2.ensures (λ table script name dims page_rows given. c.in_err-number_given-2.ensures page_rows given.page_rows_are)
+pub returns-in_err-data_words : goal.returns-in_err-data_words
+returns-in_err-data_words c =
+    rw c.from_residual.ensures (λ source script name dims page_rows given. c.in_err-data_words.ensures source name dims page_rows given.data_is)

@@ -4,25 +4,25 @@ use Rattle.ub_script.specs.declared.fault.RunFault.{RunFault}
 use Rattle.ub_script.specs.declared.fault.RunFault.TheVariants.{Load}
 use Rattle.ub_shell.specs.Ending.{trial}
 use Rattle.ub_shell.proofs.EndFacts.{broken_ends, memory_ends, refused_ends, run_ends}
-use Rattle.ub_shell.proofs.command.tell_try.Goals as goal
+use Rattle.ub_shell.proofs.trial.tell_try.Goals as goal
 
 pub returns-in-Ok : goal.returns-in-Ok
 returns-in-Ok g c =
-    rw c.summary_status.ensures (run_ends (trial c.args.text.now c.args.dims c.args.page_rows c.args.name.now c.args.script.now) _ c.in-Ok.summary c.in-Ok.ensures.done)
+    rw c.summary_status.ensures (run_ends (trial c.args.text.now c.args.dims c.args.page_rows c.args.name.now c.args.script.now) _ _ c.in-Ok.summary c.in-Ok.ensures.done)
 
 pub returns-in-Err-Memory : goal.returns-in-Err-Memory
 returns-in-Err-Memory g c =
-    memory_ends (trial c.args.text.now c.args.dims c.args.page_rows c.args.name.now c.args.script.now) _ _ _ _ _ _ _
-    (c.in-Err-Memory.ensures.memory (search rules)) c.try_text.ensures.counts c.tell_memory.ensures
+    memory_ends (trial c.args.text.now c.args.dims c.args.page_rows c.args.name.now c.args.script.now) _ _ _ _
+    (c.in-Err-Memory.ensures.memory (search rules)) c.tell_memory.ensures
 
 pub returns-in-Err-Write : goal.returns-in-Err-Write
 returns-in-Err-Write g c =
-    broken_ends (trial c.args.text.now c.args.dims c.args.page_rows c.args.name.now c.args.script.now) _
-    (c.in-Err-Write.ensures.write (search rules)) (c.in-Err-Write.ensures.failed (search rules))
+    broken_ends (trial c.args.text.now c.args.dims c.args.page_rows c.args.name.now c.args.script.now) _ _
+    (c.in-Err-Write.ensures.write (search rules))
 
 pub returns-in-Err-Load : goal.returns-in-Err-Load
 returns-in-Err-Load g c =
-    refused_ends (trial c.args.text.now c.args.dims c.args.page_rows c.args.name.now c.args.script.now) _ _ _ _ _ _ c.in-Err-Load.fault _
+    refused_ends (trial c.args.text.now c.args.dims c.args.page_rows c.args.name.now c.args.script.now) _ _ _ c.in-Err-Load.fault _
     (c.try_text.ensures.load c.in-Err-Load.fault (c.in-Err-Load.is ∙ ap (λ (f : RunFault). Err f) c.in-Err-Load.field-0-is))
     (λ of_tree same. c.try_text.ensures.of_tree of_tree (c.in-Err-Load.is ∙ ap (λ (f : RunFault). Err f) (c.in-Err-Load.field-0-is ∙ ap (λ (f : LoadFault). Load f) same)))
-    c.try_text.ensures.counts c.tell_load_fault.ensures
+    c.tell_load_fault.ensures

@@ -1,0 +1,230 @@
+-- What the commands that read and write files leave of them, and what they tell.
+use Rattle.std.specs.Prelude.{◌≡◌, ◌≢◌, ◌⊎◌, ◌++◌, ℕ, List, Result, Ok, Err, length, codes, decimal, true, false, IfErr, OnOk, IsOk}
+use Rattle.ub_load.specs.LoadedTree.{IsLoadedTree}
+use Rattle.ub_load.specs.Loading.{IsLoadFault}
+use Rattle.ub_load.specs.Refusals.{fault_of_tree}
+use Rattle.ub_load.specs.declared.fault.LoadFault.{LoadFault}
+use Rattle.ub_load.specs.declared.fault.LoadFault.TheVariants.{Tree}
+use Rattle.ub_script.specs.Output.{OutFacts, Takes}
+use Rattle.ub_script.specs.Run.{IsBegunOn, IsBrokenOn, IsDoneOn}
+use Rattle.ub_script.specs.declared.fault.RunFault.{RunFault}
+use Rattle.ub_script.specs.declared.fault.RunFault.TheVariants as ran
+use Rattle.ub_script.specs.declared.script.Summary.{Summary}
+use Rattle.ub_store.specs.Facts.{StoreFacts, IsHonest, raised}
+use Rattle.ub_store.specs.declared.fault.StoreFault.{StoreFault}
+use Rattle.ub_store.specs.declared.fault.StoreFault.TheVariants as store
+use Rattle.ub_table.specs.declared.schema.Schema.{Schema}
+use Rattle.ub_tree.specs.Closing.{IsCloseFault}
+use Rattle.ub_tree.specs.Effects.{IsReadFault}
+use Rattle.ub_tree.specs.Opened.{IsOpened, IsOpenFault, IsPassing}
+use Rattle.ub_tree.specs.Placed.{Placed}
+use Rattle.ub_tree.specs.Stored.{AreSoundPages}
+use Rattle.ub_tree.specs.View.{TreeView, IsSound}
+use Rattle.ub_tree.specs.declared.fault.TreeFault.{TreeFault}
+use Rattle.ub_tree.specs.declared.fault.TreeFault.TheVariants.{Store}
+use Rattle.ub_shell.specs.Ending.{HasTried, Tells, TellsIfMemory, trial}
+use Rattle.ub_shell.specs.Files.{FilesFacts, HoldsBut, IsLent, IsMade, IsText, IsTorn, OpensFile, PutsBack, ReadsFile, Returns, untold}
+use Rattle.ub_shell.specs.Status.{load_fault_status, load_fault_text, store_fault_status, store_fault_text, summary_status, tree_fault_status, tree_fault_text}
+use Rattle.ub_shell.specs.declared.status.Status.{Status}
+use Rattle.ub_shell.specs.declared.status.Status.TheVariants.{Done, CommandLine, Device, Memory}
+
+-- a file was not read, and that was told; the files hold what they did
+pub record IsUnread (old new : FilesFacts) (out out_now : OutFacts) (status : Status) : Type 0 where
+  pub fault : StoreFault
+  pub is : (fault ≡ store.Device) ⊎ (fault ≡ store.Memory)
+  pub files : ReadsFile {A = OutFacts} old new (Err fault)
+  pub tells : Tells out out_now (store_fault_text fault) (store_fault_status fault) status
+
+-- ---- a script on a CSV text
+
+-- both files were read and stay as they were, and the script that one holds was run on the table of the text that the other holds
+pub record IsTrialOf (source script name : List ℕ) (dims page_rows : ℕ) (old new : FilesFacts) (out out_now : OutFacts) (status : Status) : Type 0 where
+  pub text : List ℕ
+  pub asked : List ℕ
+  pub text_is : IsText (old.holds source) text
+  pub asked_is : IsText (old.holds script) asked
+  pub files : new ≡ old
+  pub tried : HasTried (trial text dims page_rows name asked) out out_now status
+
+-- that was done, or told that a file was not read
+abbrev pub TriesFiles : List ℕ → List ℕ → List ℕ → ℕ → ℕ → FilesFacts → FilesFacts → OutFacts → OutFacts → Status → Type 0
+TriesFiles source script name dims page_rows old new out out_now status =
+    IsTrialOf source script name dims page_rows old new out out_now status ⊎ IsUnread old new out out_now status
+
+-- ---- closing a table file
+
+-- the store of a tree was closed and put back at this path: a sound tree's as a closed table, and one that was not changed as it was
+pub record ClosesFile {A : Type 0} (path : List ℕ) (old new : FilesFacts) (t : TreeView) (result : Result A TreeFault) : Type 0 where
+  pub store : StoreFacts
+  pub back : PutsBack path old new store
+  pub closed : IsSound t → OnOk result (IsHonest store × AreSoundPages store.pages t.schema t.placed t.next)
+  pub unchanged : t.is_changed ≡ false → t.is_failed ≡ false → IsOk result × (store ≡ t.store)
+  pub refused : IfErr result (IsCloseFault t store)
+
+-- ---- a table file of a CSV text
+
+-- the line for a table that was loaded: how many rows and regions it has
+abbrev pub loaded_line : ℕ → ℕ → List ℕ
+loaded_line rows regions = codes "-- rows " ++ (decimal rows ++ (codes ", regions " ++ (decimal regions ++ codes "\n")))
+
+-- the table file of this path is a closed table, the one of this text, with so many rows and regions
+pub record IsFileOf (table text name : List ℕ) (dims page_rows rows regions : ℕ) (old new : FilesFacts) : Type 0 where
+  pub tree : TreeView
+  pub made : StoreFacts
+  pub left : StoreFacts
+  pub made_is : IsMade old made
+  pub loaded : IsHonest made → IsLoadedTree text dims page_rows name tree
+  pub closed : IsHonest made → IsHonest left × AreSoundPages left.pages tree.schema tree.placed tree.next
+  pub back : Returns table old new left
+  pub rows_are : rows ≡ tree.rows
+  pub regions_are : regions ≡ length tree.placed
+
+-- the table file can't be made
+abbrev pub IsUnmade : LoadFault → Type 0
+IsUnmade fault = fault ≡ Tree (Store store.Device)
+
+-- the text isn't loaded into the table file that was made
+abbrev pub IsUnloaded : List ℕ → List ℕ → ℕ → FilesFacts → LoadFault → Type 0
+IsUnloaded text name dims old fault = (made : StoreFacts) × IsMade old made × IsLoadFault dims name text made fault
+
+-- the table that was loaded isn't closed
+pub record IsUnclosed (text name : List ℕ) (dims page_rows : ℕ) (old : FilesFacts) (fault : LoadFault) : Type 0 where
+  pub tree : TreeView
+  pub made : StoreFacts
+  pub left : StoreFacts
+  pub of_tree : TreeFault
+  pub made_is : IsMade old made
+  pub loaded : IsHonest made → IsLoadedTree text dims page_rows name tree
+  pub refused : IsCloseFault tree left of_tree
+  pub fault_is : fault ≡ fault_of_tree of_tree
+
+-- the files after a call that used one table file: what it holds is not said; and how often that can't be opened or made
+pub record Uses (table : List ℕ) (old new : FilesFacts) : Type 0 where
+  pub same : new ≡ record old { holds = new.holds; failed_tables = new.failed_tables }
+  pub others : HoldsBut table old new
+
+-- a text isn't kept in the table file of this path for this reason
+pub record IsUnkept (table text name : List ℕ) (dims page_rows : ℕ) (old new : FilesFacts) (fault : LoadFault) : Type 0 where
+  pub why : IsUnmade fault × (new.failed_tables ≡ raised old.failed_tables 1)
+      ⊎ ((IsUnloaded text name dims old fault × (new.holds table ≡ untold) ⊎ IsUnclosed text name dims page_rows old fault) × (new.failed_tables ≡ old.failed_tables))
+  pub uses : Uses table old new
+
+-- a text was kept in the table file of this path, and it was told how many rows and regions it has; or why it wasn't kept
+abbrev pub KeepsText : List ℕ → List ℕ → List ℕ → ℕ → ℕ → FilesFacts → FilesFacts → OutFacts → OutFacts → Status → Type 0
+KeepsText table text name dims page_rows old new out out_now status =
+    ((rows regions : ℕ) × IsFileOf table text name dims page_rows rows regions old new
+    × TellsIfMemory out out_now (loaded_line rows regions) Done status)
+    ⊎ ((fault : LoadFault) × IsUnkept table text name dims page_rows old new fault
+    × TellsIfMemory out out_now (load_fault_text fault) (load_fault_status fault) status)
+
+-- the text of a file was read, and kept in the table file; or it was told why not
+pub record IsLoadOf (source table name : List ℕ) (dims page_rows : ℕ) (old new : FilesFacts) (out out_now : OutFacts) (status : Status) : Type 0 where
+  pub text : List ℕ
+  pub text_is : IsText (old.holds source) text
+  pub ended : KeepsText table text name dims page_rows old new out out_now status
+
+-- both paths are one text, and that was told; the files hold what they did
+pub record IsSameFile (source table : List ℕ) (old new : FilesFacts) (out out_now : OutFacts) (status : Status) : Type 0 where
+  pub same : source ≡ table
+  pub files : new ≡ old
+  pub tells : Tells out out_now (codes "! SameFile\n") CommandLine status
+
+-- the file at the first path was loaded into the table file of the second one; or it was told what kept it from that
+abbrev pub LoadsFile : List ℕ → List ℕ → List ℕ → ℕ → ℕ → FilesFacts → FilesFacts → OutFacts → OutFacts → Status → Type 0
+LoadsFile source table name dims page_rows old new out out_now status =
+    IsSameFile source table old new out out_now status
+    ⊎ ((source ≢ table) × (IsLoadOf source table name dims page_rows old new out out_now status ⊎ IsUnread old new out out_now status))
+
+-- ---- a script on a table file
+
+-- the script was run to its end, and the status says whether a statement of it was refused
+pub record HasRunWhole (t : TreeView) (script : List ℕ) (out out_now : OutFacts) (status : Status) : Type 0 where
+  pub summary : Summary
+  pub ended : status ≡ summary_status summary
+  pub failures : out_now.failures ≡ out.failures
+  pub ran : IsSound t → Takes (IsDoneOn t script summary) false out out_now
+
+-- a write failed, after which nothing was written
+pub record HasRunBroken (t : TreeView) (script : List ℕ) (out out_now : OutFacts) (status : Status) : Type 0 where
+  pub ended : status ≡ Device
+  pub failures : out_now.failures ≡ raised out.failures 1
+  pub ran : IsSound t → Takes (IsBrokenOn t script) true out out_now
+
+-- the tree refused or memory was; that was told after the texts of the first statements, or with nothing before it
+pub record HasRunRefused (t : TreeView) (script : List ℕ) (out out_now : OutFacts) (status : Status) : Type 0 where
+  pub fault : TreeFault
+  pub mid : OutFacts
+  pub is : IsReadFault t fault
+  pub failures : mid.failures ≡ out.failures
+  pub begun : IsSound t → (mid ≡ out) ⊎ Takes (IsBegunOn t script) false out mid
+  pub tells : TellsIfMemory mid out_now (tree_fault_text fault) (tree_fault_status fault) status
+
+-- what a script on a tree has written, and how it has ended
+abbrev pub HasRunTree : TreeView → List ℕ → OutFacts → OutFacts → Status → Type 0
+HasRunTree t script out out_now status =
+    HasRunWhole t script out out_now status ⊎ (HasRunBroken t script out out_now status ⊎ HasRunRefused t script out out_now status)
+
+-- what is told after a run to the end, by how the closing has ended
+abbrev pub TellsClosed : Summary → Result (Unit {0}) TreeFault → OutFacts → OutFacts → Status → Type 0
+TellsClosed summary (Ok done) out out_now status = (status ≡ summary_status summary) × (out_now ≡ out)
+TellsClosed summary (Err fault) out out_now status = TellsIfMemory out out_now (tree_fault_text fault) (tree_fault_status fault) status
+
+-- what is told after a run, by how it and the closing have ended: nothing after a write that failed
+abbrev pub TellsRan : Result Summary RunFault → Result (Unit {0}) TreeFault → OutFacts → OutFacts → Status → Type 0
+TellsRan (Ok summary) closed out out_now status = TellsClosed summary closed out out_now status
+TellsRan (Err ran.Memory) closed out out_now status = Tells out out_now (codes "! Memory\n") Memory status
+TellsRan (Err ran.Write) closed out out_now status = (status ≡ Device) × (out_now ≡ out)
+TellsRan (Err (ran.Load fault)) closed out out_now status =
+    TellsIfMemory out out_now (load_fault_text fault) (load_fault_status fault) status
+TellsRan (Err (ran.Tree fault)) closed out out_now status =
+    TellsIfMemory out out_now (tree_fault_text fault) (tree_fault_status fault) status
+
+-- the tree of these pages: where they are a closed table it is sound, with that table's regions
+pub record IsTreeOf (store : StoreFacts) (t : TreeView) : Type 0 where
+  pub opened : IsOpened store t
+  pub sound : (schema : Schema) (placed : List Placed) (next : ℕ) → IsHonest store → AreSoundPages store.pages schema placed next
+      → IsSound t × (t.schema ≡ schema) × (t.placed ≡ placed) × (t.next ≡ next)
+
+-- a script was run on the tree in a store
+pub record IsRunOn (store : StoreFacts) (script : List ℕ) (out out_now : OutFacts) (status : Status) : Type 0 where
+  pub tree : TreeView
+  pub tree_is : IsTreeOf store tree
+  pub ran : HasRunTree tree script out out_now status
+
+-- no tree was opened in a store, and that was told
+pub record IsUntold (store : StoreFacts) (out out_now : OutFacts) (status : Status) : Type 0 where
+  pub fault : TreeFault
+  pub is : IsOpenFault store fault
+  pub passing : (schema : Schema) (placed : List Placed) (next : ℕ) → IsHonest store → AreSoundPages store.pages schema placed next
+      → IsPassing fault
+  pub tells : TellsIfMemory out out_now (tree_fault_text fault) (tree_fault_status fault) status
+
+-- a script was asked of the table in a store, and the store was put back with the pages that it had
+pub record AsksStore (Back : StoreFacts → Type 0) (script : List ℕ) (store : StoreFacts) (out out_now : OutFacts) (status : Status) : Type 0 where
+  pub left : StoreFacts
+  pub back : Back left
+  pub pages : left.pages ≡ store.pages
+  pub asked : IsRunOn store script out out_now status ⊎ IsUntold store out out_now status
+
+-- the table file wasn't opened, and that was told; the files hold what they did
+pub record IsUnopened (table : List ℕ) (old new : FilesFacts) (out out_now : OutFacts) (status : Status) : Type 0 where
+  pub fault : StoreFault
+  pub is : (fault ≡ store.Device) ⊎ ((fault ≡ store.BadSize) × IsTorn (old.holds table))
+  pub files : OpensFile {A = OutFacts} table old new (Err fault)
+  pub tells : Tells out out_now (store_fault_text fault) (store_fault_status fault) status
+
+-- the store in the table file was asked
+pub record IsAskedOf (table script : List ℕ) (old new : FilesFacts) (out out_now : OutFacts) (status : Status) : Type 0 where
+  pub store : StoreFacts
+  pub lent : IsLent old table store
+  pub asks : AsksStore (λ left. Returns table old new left) script store out out_now status
+
+-- the script of a file was read, and the table file asked; or it was told that this one wasn't opened
+pub record IsRunOf (table script : List ℕ) (old new : FilesFacts) (out out_now : OutFacts) (status : Status) : Type 0 where
+  pub asked : List ℕ
+  pub asked_is : IsText (old.holds script) asked
+  pub ran : IsAskedOf table asked old new out out_now status ⊎ IsUnopened table old new out out_now status
+
+-- the script that the second path holds was run on the table file of the first one; or it was told what kept it from that
+abbrev pub RunsFile : List ℕ → List ℕ → FilesFacts → FilesFacts → OutFacts → OutFacts → Status → Type 0
+RunsFile table script old new out out_now status = IsRunOf table script old new out out_now status ⊎ IsUnread old new out out_now status

@@ -1,0 +1,83 @@
+-- How a command of the program has ended, by what its words ask for.
+use Rattle.std.specs.Prelude.{◌≡◌, ◌⊎◌, ℕ, List, Result, codes}
+use Rattle.ub_words.specs.Asked.{AreLines}
+use Rattle.ub_words.specs.CommandLine.{AsksHelp, AsksLoad, AsksNext, AsksNothing, AsksRun, AsksTry}
+use Rattle.ub_shell.specs.Commands.{LoadsFile, RunsFile, TriesFiles}
+use Rattle.ub_shell.specs.Ending.{Tells, words_fault_status, words_fault_text}
+use Rattle.ub_script.specs.Output.{OutFacts}
+use Rattle.ub_shell.specs.Files.{FilesFacts}
+use Rattle.ub_shell.specs.Next.{IsNextAnswer, answer_text, answer_status}
+use Rattle.ub_shell.specs.declared.next.Neighbours.{Neighbours}
+use Rattle.ub_shell.specs.declared.next.NextFault.{NextFault}
+use Rattle.ub_shell.specs.declared.program.WordsFault.{WordsFault}
+use Rattle.ub_shell.specs.declared.status.Status.{Status}
+use Rattle.ub_shell.specs.declared.status.Status.TheVariants.{Done, CommandLine, Memory}
+
+-- the words ask for the neighbours of an address, and are told them
+pub record HasFound (words : List (List ℕ)) (old new : FilesFacts) (out out_now : OutFacts) (status : Status) : Type 0 where
+  pub lo : List ℕ
+  pub hi : List ℕ
+  pub z : List ℕ
+  pub answer : Result Neighbours NextFault
+  pub asks : AsksNext words lo hi z
+  pub answers : IsNextAnswer lo hi z answer
+  pub tells : Tells out out_now (answer_text answer) (answer_status answer) status
+  pub files : new ≡ old
+
+-- the words ask for a script on a CSV file
+pub record HasTriedFiles (words : List (List ℕ)) (old new : FilesFacts) (out out_now : OutFacts) (status : Status) : Type 0 where
+  pub source : List ℕ
+  pub script : List ℕ
+  pub name : List ℕ
+  pub dims : ℕ
+  pub page_rows : ℕ
+  pub asks : AsksTry words source script name dims page_rows
+  pub tries : TriesFiles source script name dims page_rows old new out out_now status
+
+-- the words ask for a CSV file to be loaded into a table file
+pub record HasLoadedFile (words : List (List ℕ)) (old new : FilesFacts) (out out_now : OutFacts) (status : Status) : Type 0 where
+  pub source : List ℕ
+  pub table : List ℕ
+  pub name : List ℕ
+  pub dims : ℕ
+  pub page_rows : ℕ
+  pub asks : AsksLoad words source table name dims page_rows
+  pub loads : LoadsFile source table name dims page_rows old new out out_now status
+
+-- the words ask for a script on a table file
+pub record HasRunFile (words : List (List ℕ)) (old new : FilesFacts) (out out_now : OutFacts) (status : Status) : Type 0 where
+  pub table : List ℕ
+  pub script : List ℕ
+  pub asks : AsksRun words table script
+  pub runs : RunsFile table script old new out out_now status
+
+-- the words ask for the help or the version, and are told lines
+pub record HasHelped (words : List (List ℕ)) (old new : FilesFacts) (out out_now : OutFacts) (status : Status) : Type 0 where
+  pub asks : AsksHelp words
+  pub text : List ℕ
+  pub lines : AreLines text
+  pub tells : Tells out out_now text Done status
+  pub files : new ≡ old
+
+-- the words ask for nothing, and are told lines
+pub record HasRefused (words : List (List ℕ)) (old new : FilesFacts) (out out_now : OutFacts) (status : Status) : Type 0 where
+  pub asks : AsksNothing words
+  pub text : List ℕ
+  pub lines : AreLines text
+  pub tells : Tells out out_now text CommandLine status
+  pub files : new ≡ old
+
+-- the words weren't read for want of memory
+pub record HasNoMemory (old new : FilesFacts) (out out_now : OutFacts) (status : Status) : Type 0 where
+  pub tells : Tells out out_now (codes "! Memory\n") Memory status
+  pub files : new ≡ old
+
+-- how a command of the program has ended that was given these words: what it left of the files, what it wrote, and its status
+abbrev pub HasEnded : List (List ℕ) → FilesFacts → FilesFacts → OutFacts → OutFacts → Status → Type 0
+HasEnded words old new out out_now status =
+    HasLoadedFile words old new out out_now status ⊎ (HasRunFile words old new out out_now status ⊎ (HasTriedFiles words old new out out_now status
+    ⊎ (HasFound words old new out out_now status ⊎ (HasHelped words old new out out_now status ⊎ (HasRefused words old new out out_now status ⊎ HasNoMemory old new out out_now status)))))
+
+-- the words weren't read, which is told
+abbrev pub HasNotRead : WordsFault → FilesFacts → FilesFacts → OutFacts → OutFacts → Status → Type 0
+HasNotRead fault old new out out_now status = Tells out out_now (words_fault_text fault) (words_fault_status fault) status × (new ≡ old)

@@ -1,0 +1,74 @@
+ghost use Rattle.std.specs.Prelude.{◌≤◌};
+ghost use Rattle.ub_shell.specs.Commands.{TriesFiles};
+ghost use Rattle.ub_shell.specs.Ending.{trial, HasTried};
+
+use crate::files::Files;
+use crate::status::{
+    Status, summary_status, tell_load_fault, tell_memory, tell_store_fault, tell_tree_fault,
+};
+use std::alloc::Global;
+use ub_script::{Out, RunFault, try_text};
+use ub_words::TryWords;
+
+/// Reads a CSV file and then a script, and runs the script on the table of the text, as `tell_try` does. A file that can't be
+/// read is told, and nothing else is done.
+pub fn try_files<F: Files, W: Out>(
+    alloc: Global,
+    files: &mut F,
+    asked: TryWords<'_>,
+    out: &mut W,
+) -> Status
+    requires some_dims { 1 ≤ asked.source.dims }
+    requires few_dims { asked.source.dims ≤ 4 }
+    requires some_rows { 2 ≤ asked.source.page_rows }
+    requires few_rows { asked.source.page_rows ≤ 64 }
+    ensures { TriesFiles asked.entry.source.path.now asked.entry.script.now asked.entry.source.name.now
+        asked.entry.source.dims asked.entry.source.page_rows (F.facts files.old) (F.facts files.new)
+        (W.facts out.old) (W.facts out.new) result }
+{
+    let text = match files.read(asked.source.path) {
+        Ok(text) => text,
+        Err(fault) => return tell_store_fault(fault, out),
+    };
+    let script = match files.read(asked.script) {
+        Ok(script) => script,
+        Err(fault) => return tell_store_fault(fault, out),
+    };
+    tell_try(
+        alloc,
+        text.as_slice(),
+        asked.source.dims,
+        asked.source.page_rows,
+        asked.source.name.as_bytes(),
+        script.as_slice(),
+        out,
+    )
+}
+
+/// Runs a script on the table of a CSV text, and ends with what came of it: `Done` or `Refused` with the script's
+/// text written, by whether a statement was refused; `Data` where the text is no table and `Memory` where memory is
+/// refused, each with a last line that says so; `Device` where a write fails, and then nothing more is written.
+pub fn tell_try<W: Out>(
+    alloc: Global,
+    text: &[u8],
+    dims: u32,
+    page_rows: u32,
+    name: &[u8],
+    script: &[u8],
+    out: &mut W,
+) -> Status
+    requires some_dims { 1 ≤ dims }
+    requires few_dims { dims ≤ 4 }
+    requires some_rows { 2 ≤ page_rows }
+    requires few_rows { page_rows ≤ 64 }
+    ensures { HasTried (trial text.now dims page_rows name.now script.now)
+        (W.facts out.old) (W.facts out.new) result }
+{
+    match try_text(alloc, text, dims, page_rows, name, script, out) {
+        Ok(summary) => summary_status(summary),
+        Err(RunFault::Memory) => tell_memory(out),
+        Err(RunFault::Write) => Status::Device,
+        Err(RunFault::Load(fault)) => tell_load_fault(alloc, fault, out),
+        Err(RunFault::Tree(fault)) => tell_tree_fault(alloc, fault, out),
+    }
+}
