@@ -63,3 +63,16 @@ query "GROUP BY of 100 groups" 5 "SELECT kind, COUNT(*), SUM(amount) FROM t GROU
 query "ORDER BY with LIMIT 10" 5 "SELECT * FROM t ORDER BY amount DESC LIMIT 10;"
 query "ORDER BY a dimension in a box of a tenth, LIMIT 10" 5 "SELECT * FROM t WHERE x BETWEEN 200000 AND 686000 AND y BETWEEN 200000 AND 686000 AND z BETWEEN 200000 AND 686000 ORDER BY x LIMIT 10;"
 query "a box that no row can meet" 200 "SELECT * FROM t WHERE x BETWEEN 2000000 AND 3000000;"
+
+# The rows of boxes in the order of each dimension, and beside it the same rows by a scan, in the order of a measure: the first rows
+# of a sweep come from few pages. The boxes have about a hundredth, a tenth and all of the space.
+echo "in the order of a dimension, beside a scan in the order of a measure:"
+for box in "one hundredth|x BETWEEN 200000 AND 425000 AND y BETWEEN 200000 AND 425000 AND z BETWEEN 200000 AND 425000" \
+    "one tenth|x BETWEEN 200000 AND 686000 AND y BETWEEN 200000 AND 686000 AND z BETWEEN 200000 AND 686000" \
+    "all|x >= 0"; do
+    for limit in " LIMIT 1" " LIMIT 10" " LIMIT 1000" ""; do
+        for key in x y z amount; do
+            query "${box%%|*}, ORDER BY $key$limit" 3 "SELECT * FROM t WHERE ${box#*|} ORDER BY $key$limit;"
+        done
+    done
+done

@@ -1,6 +1,7 @@
 #!/usr/bin/env bash
 # Times, from outside: `next_in_box`, in nanoseconds a call for each number of dimensions, beside its body by bits, and without
-# the making of the boxes and addresses; the rows put into a tree, and the regions walked, in a second; and the boxes of a condition.
+# the making of the boxes and addresses; a page read and filtered; the rows put into a tree, and the regions walked, in a second;
+# and the boxes of a condition.
 # usage: bench/run.sh [CALLS]     (default 1000000)
 set -euo pipefail
 calls=${1:-1000000}
@@ -40,6 +41,13 @@ done
 # The event value of a box in spans like the regions of 200,000 rows.
 for dims in 1 2 3 4; do
     echo "least_value, $dims dimensions: $(($(jumps "$dims" events) / calls)) ns a call ($calls calls)"
+done
+
+# A page of 64 rows with one measure read and filtered by a box: into a region made anew, and into one that is held.
+pages=200000
+for dims in 1 2 3 4; do
+    echo "a region read and filtered, $dims dimensions: $(($(least out/bench pages "$dims" "$pages") / pages)) ns a page," \
+        "into one that is held $(($(least out/bench pages "$dims" "$pages" held) / pages)) ($pages pages)"
 done
 
 # Rows put into a UB-tree over a store in memory (two dimensions, 64 rows a page), and its regions walked.

@@ -9,3 +9,9 @@ SELECT zone, minutes, fare FROM trips
 WHERE day = 13 AND fare > 0
 ORDER BY minutes DESC, zone
 LIMIT 3;
+
+-- The first trips of the month from some zones: regions are read in the order of the days, and no more than are needed.
+SELECT day, zone, minutes FROM trips
+WHERE zone BETWEEN 2 AND 7
+ORDER BY day
+LIMIT 5;
