@@ -12,12 +12,11 @@ use Rattle.ub_exec.specs.Choice.{IsFit, is_near, asked_by, is_chosen}
 use Rattle.ub_exec.proofs.WalkFacts.{take_all, there_is}
 use Rattle.ub_exec.specs.declared.choice.Choice.{Choice}
 use Rattle.ub_exec.specs.declared.choice.Choice.TheVariants.{Boxes, Condition}
-use Rattle.ub_plan.proofs.InsideFacts.{in_some, from_in_some}
-use Rattle.ub_plan.proofs.Laws.{plans_take_the_selected}
+use Rattle.ub_plan.proofs.Laws.{in_some, from_in_some, plans_take_the_selected}
 use Rattle.ub_plan.specs.Plan.{PlanView, plan_of, residual_by, takes}
 use Rattle.ub_plan.specs.declared.planned.Kind.{Kind}
 use Rattle.ub_plan.specs.declared.planned.Kind.TheVariants.{Empty, Scan, Sweep}
-use Rattle.ub_query.proofs.Arranging.{contains_none, contains_cases, contains_here, contains_later}
+use Rattle.ub_query.proofs.Laws.{contains_none, contains_cases, contains_here, contains_later}
 use Rattle.ub_query.specs.Groups.{is_selected}
 use Rattle.ub_query.specs.Posed.{IsPosed, IsPosedCondition, IsOver}
 use Rattle.ub_query.specs.Shape.{Shape}

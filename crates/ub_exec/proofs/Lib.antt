@@ -1,4 +1,6 @@
+pub mod BreakFacts
 pub mod ChoiceFacts
+pub mod FirstFacts
 pub mod KeptFacts
 pub mod WalkFacts
 pub mod VisitFacts

@@ -17,8 +17,9 @@ use Rattle.ub_plan.specs.declared.planned.Kind.{Kind}
 use Rattle.ub_plan.specs.declared.planned.Kind.TheVariants.{Empty, Scan, Sweep}
 use Rattle.ub_plan.specs.Visits as plan
 use Rattle.ub_plan.proofs.Laws.{meeting_hold_the_tables}
-use Rattle.ub_plan.specs.Visits.{AreMeeting, AreThose, AreVisitsBy, fetched_rows}
-use Rattle.ub_query.proofs.Arranging.{all_at, contains_none, contains_cases}
+use Rattle.ub_plan.specs.Visits.{AreMeeting, AreVisitsBy, fetched_rows}
+use Rattle.ub_region.specs.Those.{AreThose}
+use Rattle.ub_query.proofs.Laws.{all_at, contains_none, contains_cases}
 use Rattle.ub_query.specs.Groups.{is_selected, selected}
 use Rattle.ub_query.specs.Meaning.{IsMeaning}
 use Rattle.ub_query.specs.Shape.{Asked, Shape}
@@ -70,7 +71,7 @@ none_meet (span ∷ spans) visits (inl are) = let within = are.0.1.1.1 in absurd
 none_meet (span ∷ spans) visits (inr are) = none_meet spans visits are.1
 
 -- the regions that meet the boxes are the visits of a plan that is no sweep
-scan_visits : (t : TreeView) (p : PlanView) (kind : Kind) (visits : List plan.Span) → p ≡ plan_of t.schema p.asked → p.kind ≡ kind → ¬ IsSwept kind
+pub scan_visits : (t : TreeView) (p : PlanView) (kind : Kind) (visits : List plan.Span) → p ≡ plan_of t.schema p.asked → p.kind ≡ kind → ¬ IsSwept kind
     → AreThose (λ span. plan.Meets p.covering.boxes span.from span.to) (plan.spans_of t.schema (regions t)) visits → AreVisitsBy kind t.schema p (regions t) visits
 scan_visits t p Empty visits is e apart are =
     none_meet (plan.spans_of t.schema (regions t)) visits

@@ -22,7 +22,7 @@ use Rattle.ub_region.specs.Regions.{AreTableRows}
 use Rattle.ub_table.specs.Region.{Region}
 use Rattle.ub_table.specs.declared.row.Row.{Row}
 use Rattle.ub_table.specs.declared.schema.Schema.{Schema}
-use Rattle.ub_tetris.proofs.MachineFacts.{IsSweepOver, stops, runs_out, stops_with_the_meaning, runs_out_with_the_meaning}
+use Rattle.ub_tetris.proofs.Laws.{IsSweepOver, stops, runs_out, stops_with_the_meaning, runs_out_with_the_meaning}
 use Rattle.ub_tetris.specs.Held.{rows_held}
 use Rattle.ub_tetris.specs.Machine.{IsUnderWay, IsRowAlong, regions_at}
 use Rattle.ub_tetris.specs.Sweep.{SweepView, IsSweeping, HasBegun, HasGiven, HasEnded}
@@ -150,7 +150,7 @@ visits_fetched plan start t s given rest fetched unread kept sweeping fetches vi
     spans_at [] = refl
     spans_at (event ∷ events) = ap (λ (rs : List Region). event.span.region ∷ rs) (spans_at events)
 
-over : (plan : PlanView) (t : TreeView) (s : SweepView) (given rest : List Row) (fetched unread : List Event) → IsSweeping plan t s given rest fetched unread
+pub over : (plan : PlanView) (t : TreeView) (s : SweepView) (given rest : List Row) (fetched unread : List Event) → IsSweeping plan t s given rest fetched unread
     → IsSweepOver t.schema plan s.dim s.is_descending t.next (regions t)
 over plan t s given rest fetched unread sweeping = record { planned = sweeping.swept.planned; kind = sweeping.swept.kind; are = sweeping.swept.sound.regions_are }
 
@@ -167,7 +167,7 @@ filled : (limit : Option ℕ) (rows turns count : ℕ) → turns ≡ turns_of li
 filled None rows turns count end same few = absurd (omega arith)
 filled (Some n) rows turns count end same few = let is : n ≡ count = omega arith in ap (λ (m : ℕ). Some m) is
 
-short : (limit : Option ℕ) (rows turns count : ℕ) → turns < turns_of limit rows → turns ≡ count → IfSome limit (λ n. count < n)
+pub short : (limit : Option ℕ) (rows turns count : ℕ) → turns < turns_of limit rows → turns ≡ count → IfSome limit (λ n. count < n)
 short None rows turns count below same = tt
 short (Some n) rows turns count below same = omega arith
 

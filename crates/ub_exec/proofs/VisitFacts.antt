@@ -4,9 +4,11 @@ use Rattle.std.specs.List.{AllByRecursion}
 use Rattle.ub_bigmin.specs.Box.{Corners}
 use Rattle.ub_exec.proofs.WalkFacts.{contains_at, keys_are, one_span}
 use Rattle.ub_exec.specs.Visits.{MeetsIn, AreMeeting}
+use Rattle.ub_plan.proofs.Laws.{meeting_of}
 use Rattle.ub_plan.specs.Visits as plan
-use Rattle.ub_plan.specs.Visits.{AreThose, spans_up_to}
-use Rattle.ub_query.proofs.Arranging.{all_weaker, contains_here, contains_later}
+use Rattle.ub_plan.specs.Visits.{spans_up_to}
+use Rattle.ub_region.specs.Those.{AreThose}
+use Rattle.ub_query.proofs.Laws.{all_weaker, contains_here, contains_later}
 use Rattle.ub_region.specs.Regions.{firsts_of}
 use Rattle.ub_region.specs.Spans.{span_end}
 use Rattle.ub_tree.specs.Placed.{Placed, regions_in, entry_of}
@@ -61,12 +63,10 @@ span_is last (q ∷ placed) zero p span at there =
     )
 span_is last (q ∷ placed) (suc k) p span at there = span_is last placed k p span at there
 
-pub visits_of : (t : TreeView) (sound : IsSound t) (boxes : List Corners) (visited : List Placed) → AreMeeting boxes t visited
-    → (visits : List plan.Span) × AreThose (λ span. plan.Meets boxes span.from span.to) (plan.spans_of t.schema (regions t)) visits × (map (λ s. s.region) visits ≡ regions_in visited)
-visits_of t sound boxes visited are =
-    in_step (MeetsIn t boxes) (λ span. plan.Meets boxes span.from span.to) (λ p. p.region) (λ s. s.region) t.placed (plan.spans_of t.schema (regions t)) visited
-    (spans_long (last_address t.schema.dims) t.placed)
-    (λ k p span at there.
+-- the span of a tree's region, and that of the region in the list, meet the boxes alike
+alike : (t : TreeView) → IsSound t → (boxes : List Corners) (k : ℕ) (p : Placed) (span : plan.Span) → slice_get t.placed k ≡ Some p
+    → slice_get (plan.spans_of t.schema (regions t)) k ≡ Some span → (MeetsIn t boxes p ↔ plan.Meets boxes span.from span.to) × (p.region ≡ span.region)
+alike t sound boxes k p span at there =
     let (own, own_at, begins, from, to, region) = span_is (last_address t.schema.dims) t.placed k p span at there in (
       (
         λ meets. let same = one_span t sound k own meets.0 own_at meets.1 (begins ∙ sym meets.2) in
@@ -74,5 +74,21 @@ visits_of t sound boxes visited are =
         λ meets. (own, contains_at (spans_of t) k own own_at, begins, rw (from, to) meets),
       ),
       region,
-    ))
+    )
+
+-- some of the tree's regions meet the boxes
+pub meeting_there : (t : TreeView) → IsSound t → (boxes : List Corners) → (visited : List Placed) × AreMeeting boxes t visited
+meeting_there t sound boxes =
+    let (meeting, are) = meeting_of t.schema boxes (regions t) in
+    let (visited, those, same) = in_step (λ span. plan.Meets boxes span.from span.to) (MeetsIn t boxes) (λ s. s.region) (λ p. p.region) (plan.spans_of t.schema (regions t)) t.placed meeting
+    (sym (spans_long (last_address t.schema.dims) t.placed))
+    (λ k span p there at. let (both, region) = alike t sound boxes k p span at there in ((both.1, both.0), sym region)) are in
+    (visited, those)
+
+pub visits_of : (t : TreeView) (sound : IsSound t) (boxes : List Corners) (visited : List Placed) → AreMeeting boxes t visited
+    → (visits : List plan.Span) × AreThose (λ span. plan.Meets boxes span.from span.to) (plan.spans_of t.schema (regions t)) visits × (map (λ s. s.region) visits ≡ regions_in visited)
+visits_of t sound boxes visited are =
+    in_step (MeetsIn t boxes) (λ span. plan.Meets boxes span.from span.to) (λ p. p.region) (λ s. s.region) t.placed (plan.spans_of t.schema (regions t)) visited
+    (spans_long (last_address t.schema.dims) t.placed)
+    (λ k p span at there. alike t sound boxes k p span at there)
     are

@@ -11,17 +11,17 @@ use Rattle.ub_bigmin.specs.Box.{Corners}
 use Rattle.ub_exec.proofs.KeptFacts.{Keeps}
 use Rattle.ub_exec.specs.Visits.{MeetsIn, AreMeeting, fetches_then, HasWalked, HasTurned}
 use Rattle.ub_page.specs.declared.directory.Entry.{Entry}
-use Rattle.ub_plan.specs.Visits.{AreThose}
-use Rattle.ub_region.proofs.KeyLists.{are_ascending_of}
+use Rattle.ub_region.specs.Those.{AreThose}
+use Rattle.ub_region.proofs.Laws.{are_ascending_of}
 use Rattle.ub_region.specs.Regions.{firsts_of, rows_of}
 use Rattle.ub_store.specs.Facts.{raised}
-use Rattle.ub_table.proofs.KeyFacts.{before_of, not_both_before, not_before_self, ascending_get}
+use Rattle.ub_table.proofs.Laws.{before_of, not_both_before, not_before_self, ascending_get}
 use Rattle.ub_table.specs.Keys.{IsBefore, are_ascending}
 use Rattle.ub_table.specs.Region.{Region}
 use Rattle.ub_table.specs.declared.row.Key.{Key}
 use Rattle.ub_table.specs.declared.row.Row.{Row}
 use Rattle.ub_table.specs.declared.schema.Schema.{Schema}
-use Rattle.ub_tree.proofs.SeekFacts.{region_first}
+use Rattle.ub_tree.proofs.Laws.{region_first}
 use Rattle.ub_tree.specs.Calls.{StandsAt}
 use Rattle.ub_tree.specs.Effects.{HasNoted}
 use Rattle.ub_tree.specs.Placed.{Placed, regions_in, entry_of}

@@ -1,10 +1,11 @@
 -- The regions that carrying out a plan fetches: those that its plan visits, each once, in their order.
-use Rattle.std.specs.Prelude.{◌≡◌, ◌++◌, Bool, List, [], Option, Some, None, length, map}
+use Rattle.std.specs.Prelude.{◌≡◌, ◌≤◌, ◌⊎◌, ◌++◌, ℕ, Bool, List, [], Option, Some, None, length, map, take}
 use Rattle.std.specs.List.{AllByRecursion, Contains, filter}
 use Rattle.ub_bigmin.specs.Box.{Corners}
 use Rattle.ub_plan.specs.Plan.{PlanView}
 use Rattle.ub_plan.specs.Visits as plan
-use Rattle.ub_plan.specs.Visits.{AreThose, AreVisits}
+use Rattle.ub_plan.specs.Visits.{AreVisits}
+use Rattle.ub_region.specs.Those.{AreThose}
 use Rattle.ub_region.specs.Regions.{rows_of}
 use Rattle.ub_table.specs.declared.row.Row.{Row}
 pub use Rattle.ub_tetris.specs.Effects.{fetches_then}
@@ -24,6 +25,18 @@ pub record HasFetched (p : PlanView) (old new : TreeView) : Type 0 where
   pub regions_are : regions_in visited ≡ map (λ span. span.region) visits
   pub trace_is : new.trace ≡ old.trace ++ map (λ region. region.page) visited
   pub fetches_are : new.fetches ≡ fetches_then old.fetches (length visits)
+
+-- carrying out was ended by a fault: of the regions that the plan visits so many were fetched, the first ones, each once, in
+-- their order, and no others
+pub record HasFetchedFirst (p : PlanView) (old new : TreeView) (count : ℕ) : Type 0 where
+  pub visits : List plan.Span
+  pub visits_are : AreVisits old.schema p (regions old) visits
+  pub few : count ≤ length visits
+  pub visited : List Placed
+  pub there : AllByRecursion (Contains old.placed) visited
+  pub regions_are : regions_in visited ≡ map (λ span. span.region) (take count visits)
+  pub trace_is : new.trace ≡ old.trace ++ map (λ region. region.page) visited
+  pub fetches_are : new.fetches ≡ fetches_then old.fetches count
 
 -- ---- what a walk does
 
@@ -53,6 +66,14 @@ pub record HasWalked (boxes : List Corners) (old new : TreeView) (rows : List Ro
   pub trace_is : new.trace ≡ old.trace ++ map (λ p. p.page) visited
   pub fetches_are : new.fetches ≡ fetches_then old.fetches (length visited)
 
+-- the first of them were read, each once, in the order of their keys, and no others
+pub record HasWalkedFirst (boxes : List Corners) (old new : TreeView) : Type 0 where
+  pub visited : List Placed
+  pub left : List Placed
+  pub visits : AreMeeting boxes old (visited ++ left)
+  pub trace_is : new.trace ≡ old.trace ++ map (λ p. p.page) visited
+  pub fetches_are : new.fetches ≡ fetches_then old.fetches (length visited)
+
 -- the region of this span was read; these are its rows
 pub record HasVisited (span : Span) (old new : TreeView) (rows : List Row) : Type 0 where
   pub region : Placed
@@ -67,3 +88,8 @@ HasTurned boxes after old new None rows =
     First (λ s. IsLater after s × Meets boxes s) (spans_of old) None × KeepsTrace old new × (rows ≡ [])
 HasTurned boxes after old new (Some span) rows =
     First (λ s. IsLater after s × Meets boxes s) (spans_of old) (Some span) × HasVisited span old new rows
+
+-- a turn was ended by a fault: no region was read, or the first region later than one that meets the boxes
+abbrev pub HasTurnedSome : List Corners → Option Span → TreeView → TreeView → Type 0
+HasTurnedSome boxes after old new =
+    KeepsTrace old new ⊎ ((span : Span) × (rows : List Row) × HasTurned boxes after old new (Some span) rows)

@@ -1,7 +1,7 @@
-ghost use Rattle.std.specs.Prelude.{◌≡◌, ◌↔◌, Some, length, IsTrue, IfOk, OnOk};
+ghost use Rattle.std.specs.Prelude.{◌≡◌, ◌↔◌, ℕ, Some, length, IsTrue, IfOk, OnErr, OnOk};
 ghost use Rattle.ub_exec.specs.Answers.{IsReady, IsAnswer, IsSwept, begun};
 ghost use Rattle.ub_exec.specs.Faults.{ReadsTree};
-ghost use Rattle.ub_exec.specs.Visits.{HasFetched};
+ghost use Rattle.ub_exec.specs.Visits.{HasFetched, HasFetchedFirst};
 ghost use Rattle.ub_query.specs.Posed.{IsPosed};
 
 use crate::choice::Choice;
@@ -27,7 +27,8 @@ pub struct Answer {
 /// The answer of a query by its plan, on the rows of a tree's table. The trace begins anew, and then has the pages of the
 /// regions that the plan visits, each once, in their order.
 ///
-/// `Memory` where memory was refused; `Tree` where the tree refused. On a sound tree it refuses only where its store failed in
+/// `Memory` where memory was refused; `Tree` where the tree refused: then so many of these regions were fetched, the first
+/// ones, and no page twice. On a sound tree it refuses only where its store failed in
 /// this call.
 pub fn execute<S: PageStore>(
     alloc: Global,
@@ -37,6 +38,8 @@ pub fn execute<S: PageStore>(
     requires { IsPosed (length tree.old.schema.columns) plan.now.asked }
     ensures rows { IsReady tree.old plan.now → IfOk result (λ a. IsAnswer tree.old plan.now.asked a.rows) }
     ensures pages { IsReady tree.old plan.now → OnOk result (HasFetched plan.now (begun tree.old) tree.new) }
+    ensures broken { IsReady tree.old plan.now → OnErr result ((count : ℕ)
+        × HasFetchedFirst plan.now (begun tree.old) tree.new count) }
     ensures fetched { IfOk result (λ a. a.fetched ≡ length tree.new.trace) }
     ensures effect { ReadsTree tree.old tree.new result }
 {
@@ -56,6 +59,8 @@ fn result_rows<S: PageStore>(
     requires { IsPosed (length tree.old.schema.columns) plan.now.asked }
     ensures rows { IsReady tree.old plan.now → IfOk result (λ cells. IsAnswer tree.old plan.now.asked cells) }
     ensures pages { IsReady tree.old plan.now → OnOk result (HasFetched plan.now (begun tree.old) tree.new) }
+    ensures broken { IsReady tree.old plan.now → OnErr result ((count : ℕ)
+        × HasFetchedFirst plan.now (begun tree.old) tree.new count) }
     ensures effect { ReadsTree tree.old tree.new result }
 {
     match plan.kind() {
@@ -77,6 +82,8 @@ fn scanned_rows<S: PageStore>(
     ensures rows { IsReady tree.old plan.now → IfOk result (λ cells. IsAnswer tree.old plan.now.asked cells) }
     ensures pages { IsReady tree.old plan.now → ¬ IsSwept plan.now.kind
         → OnOk result (HasFetched plan.now tree.old tree.new) }
+    ensures broken { IsReady tree.old plan.now → ¬ IsSwept plan.now.kind
+        → OnErr result ((count : ℕ) × HasFetchedFirst plan.now tree.old tree.new count) }
     ensures effect { ReadsTree tree.old tree.new result }
 {
     let query = plan.query();

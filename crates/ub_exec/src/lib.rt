@@ -10,8 +10,6 @@ mod executing;
 mod fault;
 mod sweeping;
 mod taker;
-#[cfg(test)]
-mod tests;
 mod walking;
 
 pub use executing::{Answer, execute};

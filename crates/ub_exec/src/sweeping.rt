@@ -1,13 +1,14 @@
-ghost use Rattle.std.specs.Prelude.{◌≡◌, ◌++◌, false, ℕ, List, length, IfOk, OnOk};
+ghost use Rattle.std.specs.Prelude.{◌≡◌, ◌++◌, false, ℕ, List, length, IfOk, OnErr, OnOk};
 ghost use Rattle.ub_exec.specs.Answers.{IsReady, IsAnswer, IsSwept, begun};
 ghost use Rattle.ub_exec.specs.Faults.{ReadsTree};
 ghost use Rattle.ub_exec.specs.Sweeping.{HasNotedMore, turns_of};
-ghost use Rattle.ub_exec.specs.Visits.{HasFetched};
+ghost use Rattle.ub_exec.specs.Visits.{HasFetched, HasFetchedFirst};
 ghost use Rattle.ub_plan.specs.Visits.{Event};
 ghost use Rattle.ub_query.specs.Posed.{IsPosed};
 ghost use Rattle.ub_table.specs.declared.row.Row.{Row as RowView};
-ghost use Rattle.ub_tetris.specs.Sweep.{AreItsRegions, HasBegun, HasStepped, IsSweeping};
+ghost use Rattle.ub_tetris.specs.Sweep.{AreItsRegions, HasBegun, HasBroken, HasStepped, IsSweeping};
 ghost use Rattle.ub_tetris.specs.Sweep as sweep;
+ghost use Rattle.ub_tree.specs.View.{KeepsTrace};
 
 use crate::fault::ExecFault;
 use std::alloc::Global;
@@ -30,6 +31,8 @@ pub(crate) fn swept_rows<S: PageStore>(
         → IfOk result (λ cells. IsAnswer tree.old plan.now.asked cells) }
     ensures pages { IsReady tree.old plan.now → IsSwept plan.now.kind
         → OnOk result (HasFetched plan.now (begun tree.old) tree.new) }
+    ensures broken { IsReady tree.old plan.now → IsSwept plan.now.kind → OnErr result ((count : ℕ)
+        × HasFetchedFirst plan.now (begun tree.old) tree.new count) }
     ensures effect { ReadsTree tree.old tree.new result }
 {
     let mut sweep = begin_sweep(alloc, tree, plan)?;
@@ -67,6 +70,7 @@ fn begin_sweep<S: PageStore>(
     ensures working { IfOk result (λ s. s.is_failed ≡ false) }
     ensures regions { IfOk result (AreItsRegions tree.new) }
     ensures trace { OnOk result (tree.new ≡ begun tree.old) }
+    ensures broken { OnErr result (KeepsTrace (begun tree.old) tree.new) }
     ensures effect { ReadsTree tree.old tree.new result }
 {
     match Sweep::new(alloc, tree, plan) {
@@ -87,6 +91,9 @@ fn next_row<S: PageStore>(
     ensures next { (given rest : List RowView) (fetched unread : List Event)
         → IsSweeping plan.now tree.old sweep.old given rest fetched unread
         → IfOk result (HasStepped plan.now tree.new sweep.new given rest fetched unread) }
+    ensures broken { (given rest : List RowView) (fetched unread : List Event)
+        → IsSweeping plan.now tree.old sweep.old given rest fetched unread
+        → OnErr result (HasBroken tree.new sweep.old rest fetched unread) }
     ensures working { OnOk result (sweep.new.is_failed ≡ false) }
     ensures regions { AreItsRegions tree.new sweep.new }
     ensures noted { HasNotedMore tree.old tree.new }

@@ -1,8 +1,8 @@
-ghost use Rattle.std.specs.Prelude.{◌≡◌, ◌++◌, List, length, option_copied, IfOk, OnOk};
+ghost use Rattle.std.specs.Prelude.{◌≡◌, ◌++◌, List, length, option_copied, IfOk, OnErr, OnOk};
 ghost use Rattle.std.specs.List.{filter};
 ghost use Rattle.ub_exec.specs.Choice.{IsFit, is_chosen};
 ghost use Rattle.ub_exec.specs.Faults.{ReadsTree};
-ghost use Rattle.ub_exec.specs.Visits.{Hands, HandsThese, HasTurned, HasWalked};
+ghost use Rattle.ub_exec.specs.Visits.{Hands, HandsThese, HasTurned, HasTurnedSome, HasWalked, HasWalkedFirst};
 ghost use Rattle.ub_query.specs.Posed.{IsPosed};
 ghost use Rattle.ub_table.specs.declared.row.Row.{Row as RowView};
 ghost use Rattle.ub_tree.specs.View.{IsSound};
@@ -30,11 +30,14 @@ pub(crate) fn walk<S: PageStore, T: Taker>(
     ensures rows { OnOk result (Hands (T.HasTaken tree.old.schema plan.now.asked)
         (is_chosen choice tree.old.schema plan.now) taker.old taker.new
         (λ rows. IsSound tree.old → HasWalked plan.now.covering.boxes tree.old tree.new rows)) }
+    ensures broken { (taken : List RowView) → T.HasTaken tree.old.schema plan.now.asked taken taker.old
+        → IsSound tree.old → OnErr result (HasWalkedFirst plan.now.covering.boxes tree.old tree.new) }
     ensures effect { ReadsTree tree.old tree.new result }
 {
+    let mut page = tree.empty_region();
     let mut after = None;
     for _turn in 0..tree.regions() {
-        after = visit_next(tree, plan, choice, after.as_ref(), taker)?;
+        after = visit_next(tree, plan, choice, after.as_ref(), &mut page, taker)?;
         if after.is_none() {
             return Ok(());
         }
@@ -42,13 +45,14 @@ pub(crate) fn walk<S: PageStore, T: Taker>(
     Ok(())
 }
 
-// Reads the next region that meets the boxes, later than the one given, and hands over its chosen rows; None where there is
-// no more.
+// Reads the next region that meets the boxes, later than the one given, into the page, and hands over its chosen rows; None
+// where there is no more.
 fn visit_next<S: PageStore, T: Taker>(
     tree: &mut Tree<S>,
     plan: &Plan,
     choice: Choice,
     after: Option<&Region>,
+    page: &mut RegionPage,
     taker: &mut T,
 ) -> Result<Option<Region>, ExecFault>
     requires posed { IsPosed (length tree.old.schema.columns) plan.now.asked }
@@ -57,13 +61,15 @@ fn visit_next<S: PageStore, T: Taker>(
         (is_chosen choice tree.old.schema plan.now) taker.old taker.new
         (λ rows. IsSound tree.old
         → HasTurned plan.now.covering.boxes (option_copied after.entry) tree.old tree.new found rows)) }
+    ensures broken { IsSound tree.old → OnErr result
+        (HasTurnedSome plan.now.covering.boxes (option_copied after.entry) tree.old tree.new) }
     ensures effect { ReadsTree tree.old tree.new result }
 {
     let Some(region) = tree.next_meeting(plan.boxes(), after)? else {
         return Ok(None);
     };
-    let page = tree.read_region(&region)?;
-    hand_over(taker, tree.schema(), plan, choice, &page)?;
+    tree.read_region(&region, page)?;
+    hand_over(taker, tree.schema(), plan, choice, page)?;
     Ok(Some(region))
 }
 

@@ -1,7 +1,6 @@
 -- The proofs of the laws.
 use Rattle.std.proofs.Common.{◌≡◌, ◌+◌, ℕ, Bool, true, false, List, [], ◌∷◌, length, take, slice_range, Ok, Err, refl, sym, ap, subst, arith, ◌∙◌}
-use Rattle.ub_lexer.proofs.Ranges.{same_statements}
-use Rattle.ub_lexer.proofs.Unique.{same_tokens}
+use Rattle.ub_lexer.proofs.Laws.{same_statements, same_tokens}
 use Rattle.ub_lexer.specs.Statements.{AreStatements}
 use Rattle.ub_lexer.specs.declared.token.Token.{Token}
 use Rattle.ub_plan.proofs.Laws.{explains_have_one_text, visits_are_one}
@@ -17,6 +16,7 @@ use Rattle.ub_script.specs.Script.{Outcome}
 use Rattle.ub_script.specs.Text.{Reply, reply, answer_text, IsAskedReply, IsExplainReply, IsQueryReply, IsReply, texts_of, pages_of}
 use Rattle.ub_table.specs.Region.{Region}
 use Rattle.ub_table.specs.Table.{Table}
+pub use Rattle.ub_script.proofs.HeldFacts.{Puts-more, front_after}
 
 pub queries_fetch_one_number_of_pages : QueriesFetchOneNumberOfPages
 queries_fetch_one_number_of_pages schema next regions q m n are h k =

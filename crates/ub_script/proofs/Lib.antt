@@ -5,4 +5,5 @@ pub mod KeptFacts
 pub mod LoadedFacts
 pub mod RowsFacts
 pub mod RunFacts
+pub mod StartFacts
 pub mod Laws

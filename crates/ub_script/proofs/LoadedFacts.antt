@@ -3,7 +3,7 @@ use Rattle.std.proofs.Common.{◌≡◌, ◌≢◌, ◌⊎◌, ◌∙◌, sym, O
 use Rattle.ub_load.specs.Loading.{IsToldOf}
 use Rattle.ub_load.specs.declared.fault.LoadFault.{LoadFault}
 use Rattle.ub_load.specs.declared.fault.LoadFault.TheVariants as load
-use Rattle.ub_load.proofs.ToldFacts.{told_sure, told_tree}
+use Rattle.ub_load.proofs.Laws.{told_sure, told_tree}
 use Rattle.ub_store.specs.declared.fault.StoreFault.TheVariants as store
 use Rattle.ub_tree.specs.declared.fault.TreeFault.{TreeFault}
 use Rattle.ub_tree.specs.declared.fault.TreeFault.TheVariants as tree

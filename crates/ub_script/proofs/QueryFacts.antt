@@ -8,7 +8,7 @@ use Rattle.ub_parser.specs.declared.fault.SqlFault.TheVariants.{Memory}
 use Rattle.ub_script.specs.Loop.{Makes}
 use Rattle.ub_script.specs.Run.{IsAnswer}
 use Rattle.ub_script.specs.Script.{IsOutcome, IsTheOutcome, Outcome}
-use Rattle.ub_script.specs.Text.{IsReply, refused_text}
+use Rattle.ub_script.specs.Text.{IsReply, Reply, refused_text, reply}
 use Rattle.ub_table.specs.Region.{Region}
 use Rattle.ub_table.specs.Table.{Table}
 use Rattle.ub_table.specs.declared.schema.Schema.{Schema}
@@ -36,17 +36,22 @@ module _ (schema : Schema) (source : List ℕ) (tokens : List Token) where
       only other (inl (f, is, e)) = e ∙ ap (λ (g : SqlFault). Err g) (one f (same f is))
       only other (inr (u, is, e)) = absurd (differs (none u is))
 
+-- a reply to what an accepted statement asks is its answer
+pub accepted_one : (table : Table) (regions : List Region) (source : List ℕ) (tokens : List Token) (schema : Schema) (t : Told) (r : Reply) → schema ≡ table.schema
+    → IsAccepted source schema tokens t → ((u : Told) → IsAccepted source schema tokens u → t ≡ u) → IsReply table regions (Ok t) r → IsAnswer table regions source tokens r
+accepted_one table regions source tokens schema t r same accepted only is = record {
+  outcome = Ok t;
+  heard = subst (λ (s : Schema). IsTheOutcome s source tokens (Ok t)) same (accepted_outcome schema source tokens t accepted only);
+  reply_is = is;
+}
+
 -- what is made of an accepted statement answers it
 pub accepted_answer : (table : Table) (regions : List Region) (source : List ℕ) (tokens : List Token) (schema : Schema) (t : Told) (text : List ℕ) (is_refused : Bool) (before after : ℕ)
     → schema ≡ table.schema → IsAccepted source schema tokens t → ((u : Told) → IsAccepted source schema tokens u → t ≡ u)
     → Makes (IsReply table regions (Ok t)) text is_refused before after → Makes (IsAnswer table regions source tokens) text is_refused before after
 accepted_answer table regions source tokens schema t text is_refused before after same accepted only (pages, is, fetched) = (
   pages,
-  record {
-    outcome = Ok t;
-    heard = subst (λ (s : Schema). IsTheOutcome s source tokens (Ok t)) same (accepted_outcome schema source tokens t accepted only);
-    reply_is = is;
-  },
+  accepted_one table regions source tokens schema t (reply text pages is_refused) same accepted only is,
   fetched,
 )
 

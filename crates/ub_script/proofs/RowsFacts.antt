@@ -23,7 +23,6 @@ use Rattle.ub_region.specs.Regions.{rows_of}
 use Rattle.ub_script.specs.Loop.{Makes}
 use Rattle.ub_script.specs.Run.{IsTableOf, FirstOver, FirstOn, FirstIn, IsWhole, IsStopped, IsCutOff, Ran, IsDone, IsBegun, IsBroken}
 use Rattle.ub_script.specs.Output.{OutFacts, Takes}
-use Rattle.ub_script.proofs.HeldFacts.{takes_as}
 use Rattle.ub_script.specs.Text.{ArePages, Reply, IsAskedReply, answer_text}
 use Rattle.ub_table.specs.Region.{Region}
 use Rattle.ub_table.specs.Table.{Table, IsInOrder}
@@ -269,8 +268,13 @@ module _ (text : List ℕ) (dims page_rows : ℕ) (name : List ℕ) (t : TreeVie
   loaded_done s old new before after (bytes, pages, (replies, first, is, sum, counts), taken, fetched) =
       (bytes, (pages, (replies, loaded_first replies 0 first, is, sum, counts)), taken)
 
-  loaded_begun : (bytes : List ℕ) → IsStopped (FirstOn t script) bytes → IsBegun text dims page_rows name script bytes
-  loaded_begun bytes (replies, left, first, is) = (replies, left, loaded_first replies (suc left) first, is)
+  loaded_begun : (old new : OutFacts) (before after : ℕ) → Ran (IsStopped (FirstOn t script)) false old new before after
+      → Takes (IsBegun text dims page_rows name script) false old new
+  loaded_begun old new before after (bytes, pages, (replies, left, more, first, is, sum, some), taken, fetched) = (
+    bytes,
+    (pages, (replies, left, more, loaded_first replies (suc left) first, is, sum, λ any. let (r, next, few) = some any in (r, loaded_first (replies ++ r ∷ []) left next, few))),
+    taken,
+  )
 
   pub loaded_broken : (old new : OutFacts) (before after : ℕ) → Ran (IsCutOff (FirstOn t script)) true old new before after
       → Takes (IsBroken text dims page_rows name script) true old new
@@ -278,9 +282,10 @@ module _ (text : List ℕ) (dims page_rows : ℕ) (name : List ℕ) (t : TreeVie
       (bytes, (pages, (replies, next, left, front, loaded_first (replies ++ next ∷ []) left first, cut, is, sum)), taken)
 
   -- a run that stopped for another reason than a failed write
-  pub loaded_stopped : (old new : OutFacts) (r : Result Summary RunFault) (fault : RunFault) → r ≡ Err fault → fault ≢ Write
-      → IfErr r (λ e. e ≢ Write → (new ≡ old) ⊎ Takes (IsStopped (FirstOn t script)) false old new) → (new ≡ old) ⊎ Takes (IsBegun text dims page_rows name script) false old new
-  loaded_stopped old new r fault same differs h = elim (rw same at h differs) [
-    | inl kept ↦ inl kept
-    | inr begun ↦ inr (takes_as (IsStopped (FirstOn t script)) (IsBegun text dims page_rows name script) false old new loaded_begun begun)
+  pub loaded_stopped : (old new : OutFacts) (before after : ℕ) (r : Result Summary RunFault) (fault : RunFault) → r ≡ Err fault → fault ≢ Write
+      → IfErr r (λ e. e ≢ Write → ((new ≡ old) × (after ≡ before)) ⊎ Ran (IsStopped (FirstOn t script)) false old new before after)
+      → (new ≡ old) ⊎ Takes (IsBegun text dims page_rows name script) false old new
+  loaded_stopped old new before after r fault same differs h = elim (rw same at h differs) [
+    | inl kept ↦ inl kept.0
+    | inr begun ↦ inr (loaded_begun old new before after begun)
   ]

@@ -9,8 +9,8 @@ use Rattle.ub_lexer.specs.Statements.{AreStatements}
 use Rattle.ub_lexer.specs.Tokens.{AreTokens}
 use Rattle.ub_lexer.specs.declared.token.Token.{Token}
 use Rattle.ub_script.specs.Faults.{failures_after}
-use Rattle.ub_script.specs.Loop.{IsAnswerAt, IsCutAt}
-use Rattle.ub_script.specs.Output.{OutFacts, Breaks, Puts, Takes}
+use Rattle.ub_script.specs.Loop.{IsAnswerAt, IsCutAt, Starts}
+use Rattle.ub_script.specs.Output.{OutFacts, Breaks, Puts}
 use Rattle.ub_script.specs.Run.{IsRange, IsAnswer, AreAnswers, FirstAt, FirstOn, IsTableOf, IsWhole, IsStopped, IsCutOff, Ran}
 use Rattle.ub_script.specs.Text.{Reply, reply, texts_of, pages_of, refused_in}
 use Rattle.ub_script.specs.declared.fault.RunFault.{RunFault}
@@ -44,6 +44,10 @@ pub other_err : {T : Type 0} (r : Result T RunFault) (fault : RunFault) (X : Typ
 other_err (Ok x) fault X h f = absurd h
 other_err (Err e) fault X h f = λ differs. f (subst (λ (e' : RunFault). e' ≢ Write) h differs)
 
+pub always_err : {T : Type 0} (r : Result T RunFault) (X : Type 0) → X → IfErr r (λ e. e ≢ Write → X)
+always_err (Ok x) X is = tt
+always_err (Err e) X is = λ differs. is
+
 -- what was done up to a place in the statements at these ranges
 pub record HasCome (table : Table) (regions : List Region) (source : List ℕ) (tokens : List Token) (ranges : List (ℕ × ℕ)) (i refused : ℕ) (old new : OutFacts) (before after : ℕ) : Type 0 where
   pub replies : List Reply
@@ -75,6 +79,14 @@ module _ (table : Table) (regions : List Region) (source : List ℕ) (tokens : L
     pages_more r n is =
         is ∙ ap (λ (x : ℕ). fetches_then x r.pages) come.fetched ∙ fetches_add f (pages_of come.replies) r.pages ∙ ap (fetches_then f) (sym (sum_by_push (λ (x : Reply). x.pages) come.replies r))
 
+    -- with this reply
+    first_more : (r : Reply) → IsAnswer table regions source (slice_range tokens (slice_index_or ranges i d).0 (slice_index_or ranges i d).1) r
+        → FirstAt table regions source tokens ranges (come.replies ++ r ∷ []) (length ranges - (i + 1))
+    first_more r answer = (
+      omega (arith, come.counted, length-append come.replies (r ∷ [])),
+      (let long : length (come.replies ++ r ∷ []) ≡ i + 1 = omega (arith, come.counted, length-append come.replies (r ∷ [])) in rw long (one_more r answer)),
+    )
+
     -- one more statement
     pub come_more : (next : ℕ) (is_refused : Bool) (n : ℕ)
         → Ran (IsAnswerAt table regions source tokens (slice_index_or ranges i d) is_refused) false b c m n → next ≡ refused + cond is_refused 1 0
@@ -100,10 +112,7 @@ module _ (table : Table) (regions : List Region) (source : List ℕ) (tokens : L
         r,
         length ranges - (i + 1),
         front,
-        (
-          omega (arith, come.counted, length-append come.replies (r ∷ [])),
-          (let long : length (come.replies ++ r ∷ []) ≡ i + 1 = omega (arith, come.counted, length-append come.replies (r ∷ [])) in rw long (one_more r answer)),
-        ),
+        first_more r answer,
         cut,
         refl,
         refl,
@@ -112,17 +121,23 @@ module _ (table : Table) (regions : List Region) (source : List ℕ) (tokens : L
       pages_more r n (fetched ∙ ap (fetches_then m) all),
     )
 
-    -- nothing was taken for the next statement
-    pub come_stopped : c ≡ b → Takes (IsStopped (FirstAt table regions source tokens ranges)) false a c
-    come_stopped kept = (
+    -- nothing was taken for the next statement, for which some pages were fetched, or none
+    pub come_stopped : (n : ℕ) → c ≡ b → Starts (IsAnswer table regions source (slice_range tokens (slice_index_or ranges i d).0 (slice_index_or ranges i d).1)) m n
+        → Ran (IsStopped (FirstAt table regions source tokens ranges)) false a c f n
+    come_stopped n kept (more, some, fetched) = (
       texts_of come.replies,
+      pages_of come.replies + more,
       (
         come.replies,
         length ranges - (i + 1),
+        more,
         (omega (arith, come.counted), rw come.counted come.answers),
         refl,
+        refl,
+        λ any. let (r, answer, few) = some any in (r, first_more r answer, few),
       ),
       subst (λ (o : OutFacts). Puts (texts_of come.replies) a o) (sym kept) come.taken,
+      fetched ∙ ap (λ (x : ℕ). fetches_then x more) come.fetched ∙ fetches_add f (pages_of come.replies) more,
     )
 
   -- all statements
@@ -157,8 +172,14 @@ module _ (First Other : List Reply → ℕ → Type 0) (give : (replies : List R
   cut_as (bytes, pages, (replies, next, left, front, first, cut, is, sum), taken, fetched) =
       (bytes, pages, (replies, next, left, front, give (replies ++ next ∷ []) left first, cut, is, sum), taken, fetched)
 
-  pub stopped_as : Takes (IsStopped First) false a b → Takes (IsStopped Other) false a b
-  stopped_as (bytes, (replies, left, first, is), taken) = (bytes, (replies, left, give replies (suc left) first, is), taken)
+  pub stopped_as : Ran (IsStopped First) false a b f n → Ran (IsStopped Other) false a b f n
+  stopped_as (bytes, pages, (replies, left, more, first, is, sum, some), taken, fetched) = (
+    bytes,
+    pages,
+    (replies, left, more, give replies (suc left) first, is, sum, λ any. let (r, next, few) = some any in (r, give (replies ++ r ∷ []) left next, few)),
+    taken,
+    fetched,
+  )
 
 -- what follows from what holds of the value holds of the value
 pub if_ok : {T E : Type 0} (r : Result T E) (P Q : T → Type 0) → ((x : T) → P x → Q x) → IfOk r P → IfOk r Q

@@ -29,7 +29,8 @@ IsRange tokens range = (range.0 < range.1) × (range.1 ≤ length tokens)
 -- ---- the replies to the statements of a script
 
 -- the reply to the statement of these tokens, on a table in these regions
-pub record IsAnswer (table : Table) (regions : List Region) (source : List ℕ) (tokens : List Token) (r : Reply) : Type 0 where
+pub record IsAnswer (table : Table) (regions : List Region) (source : List ℕ) (tokens : List Token) (r : Reply)
+    : Type 0 where
   pub outcome : Outcome
   pub heard : IsTheOutcome table.schema source tokens outcome
   pub reply_is : IsReply table regions outcome r
@@ -40,15 +41,18 @@ AreAnswers table regions source tokens [] [] = Unit {0}
 AreAnswers table regions source tokens [] (r ∷ replies) = ⊥
 AreAnswers table regions source tokens (range ∷ ranges) [] = ⊥
 AreAnswers table regions source tokens (range ∷ ranges) (r ∷ replies) =
-    IsAnswer table regions source (slice_range tokens range.0 range.1) r × AreAnswers table regions source tokens ranges replies
+    IsAnswer table regions source (slice_range tokens range.0 range.1) r
+    × AreAnswers table regions source tokens ranges replies
 
 -- these are the replies to the first statements at these ranges, and so many statements are left
 abbrev pub FirstAt : Table → List Region → List ℕ → List Token → List (ℕ × ℕ) → List Reply → ℕ → Type 0
 FirstAt table regions source tokens ranges replies left =
-    (length replies + left ≡ length ranges) × AreAnswers table regions source tokens (take (length replies) ranges) replies
+    (length replies + left ≡ length ranges)
+    × AreAnswers table regions source tokens (take (length replies) ranges) replies
 
 -- the same of the statements of a script
-pub record FirstOver (table : Table) (regions : List Region) (script : List ℕ) (replies : List Reply) (left : ℕ) : Type 0 where
+pub record FirstOver (table : Table) (regions : List Region) (script : List ℕ) (replies : List Reply) (left : ℕ)
+    : Type 0 where
   pub tokens : List Token
   pub ranges : List (ℕ × ℕ)
   pub tokens_are : AreTokens script tokens
@@ -57,7 +61,8 @@ pub record FirstOver (table : Table) (regions : List Region) (script : List ℕ)
 
 -- on the table of a tree, in the tree's regions
 abbrev pub FirstOn : TreeView → List ℕ → List Reply → ℕ → Type 0
-FirstOn t script replies left = (table : Table) × IsTableOf t table × FirstOver table (regions t) script replies left
+FirstOn t script replies left =
+    (table : Table) × IsTableOf t table × FirstOver table (regions t) script replies left
 
 -- on the table of a CSV text, in the regions of the tree that it is loaded into
 abbrev pub FirstIn : List ℕ → ℕ → ℕ → List ℕ → List ℕ → List Reply → ℕ → Type 0
@@ -73,39 +78,51 @@ summary_of replies = record { statements = length replies; refused = refused_in 
 -- all statements were answered
 abbrev pub IsWhole : (List Reply → ℕ → Type 0) → Summary → List ℕ → ℕ → Type 0
 IsWhole First summary bytes pages =
-    (replies : List Reply) × First replies 0 × (bytes ≡ texts_of replies) × (pages ≡ pages_of replies) × (summary ≡ summary_of replies)
+    (replies : List Reply) × First replies 0 × (bytes ≡ texts_of replies) × (pages ≡ pages_of replies)
+    × (summary ≡ summary_of replies)
 
--- the first statements were answered, and nothing was written for the next one
-abbrev pub IsStopped : (List Reply → ℕ → Type 0) → List ℕ → Type 0
-IsStopped First bytes = (replies : List Reply) × (left : ℕ) × First replies (suc left) × (bytes ≡ texts_of replies)
+-- so many pages are some of those of a reply of which this holds, or there are none
+abbrev pub AreSomeOf : (Reply → Type 0) → ℕ → Type 0
+AreSomeOf Is pages = 1 ≤ pages → (r : Reply) × Is r × (pages ≤ r.pages)
+
+-- the first statements were answered, and nothing was written for the next one, for which some of its pages were fetched, or
+-- none
+abbrev pub IsStopped : (List Reply → ℕ → Type 0) → List ℕ → ℕ → Type 0
+IsStopped First bytes pages =
+    (replies : List Reply) × (left : ℕ) × (more : ℕ) × First replies (suc left) × (bytes ≡ texts_of replies)
+    × (pages ≡ pages_of replies + more) × AreSomeOf (λ next. First (replies ++ next ∷ []) left) more
 
 -- the first statements were answered, and of the text of the next one a front was written, not all of it
 abbrev pub IsCutOff : (List Reply → ℕ → Type 0) → List ℕ → ℕ → Type 0
 IsCutOff First bytes pages =
-    (replies : List Reply) × (next : Reply) × (left : ℕ) × (front : List ℕ) × First (replies ++ next ∷ []) left × IsFrontOf front next.text
-    × (bytes ≡ texts_of replies ++ front) × (pages ≡ pages_of (replies ++ next ∷ []))
+    (replies : List Reply) × (next : Reply) × (left : ℕ) × (front : List ℕ) × First (replies ++ next ∷ []) left
+    × IsFrontOf front next.text × (bytes ≡ texts_of replies ++ front) × (pages ≡ pages_of (replies ++ next ∷ []))
 
 -- bytes were taken by an output and pages were fetched of which this holds, and a write failed or none did
 abbrev pub Ran : (List ℕ → ℕ → Type 0) → Bool → OutFacts → OutFacts → ℕ → ℕ → Type 0
 Ran Are failed old new fetches fetches_now =
-    (bytes : List ℕ) × (pages : ℕ) × Are bytes pages × HasTaken bytes failed old new × (fetches_now ≡ fetches_then fetches pages)
+    (bytes : List ℕ) × (pages : ℕ) × Are bytes pages × HasTaken bytes failed old new
+    × (fetches_now ≡ fetches_then fetches pages)
 
 -- what is written where a script is run on the table of a CSV text: to its end, up to a statement, or up to a failed write
 abbrev pub IsDone : List ℕ → ℕ → ℕ → List ℕ → List ℕ → Summary → List ℕ → Type 0
-IsDone text dims page_rows name script summary bytes = (pages : ℕ) × IsWhole (FirstIn text dims page_rows name script) summary bytes pages
+IsDone text dims page_rows name script summary bytes =
+    (pages : ℕ) × IsWhole (FirstIn text dims page_rows name script) summary bytes pages
 
 abbrev pub IsBegun : List ℕ → ℕ → ℕ → List ℕ → List ℕ → List ℕ → Type 0
-IsBegun text dims page_rows name script bytes = IsStopped (FirstIn text dims page_rows name script) bytes
+IsBegun text dims page_rows name script bytes =
+    (pages : ℕ) × IsStopped (FirstIn text dims page_rows name script) bytes pages
 
 abbrev pub IsBroken : List ℕ → ℕ → ℕ → List ℕ → List ℕ → List ℕ → Type 0
-IsBroken text dims page_rows name script bytes = (pages : ℕ) × IsCutOff (FirstIn text dims page_rows name script) bytes pages
+IsBroken text dims page_rows name script bytes =
+    (pages : ℕ) × IsCutOff (FirstIn text dims page_rows name script) bytes pages
 
 -- the same where it is run on the table of a tree
 abbrev pub IsDoneOn : TreeView → List ℕ → Summary → List ℕ → Type 0
 IsDoneOn t script summary bytes = (pages : ℕ) × IsWhole (FirstOn t script) summary bytes pages
 
 abbrev pub IsBegunOn : TreeView → List ℕ → List ℕ → Type 0
-IsBegunOn t script bytes = IsStopped (FirstOn t script) bytes
+IsBegunOn t script bytes = (pages : ℕ) × IsStopped (FirstOn t script) bytes pages
 
 abbrev pub IsBrokenOn : TreeView → List ℕ → List ℕ → Type 0
 IsBrokenOn t script bytes = (pages : ℕ) × IsCutOff (FirstOn t script) bytes pages

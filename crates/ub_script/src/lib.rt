@@ -15,6 +15,3 @@ pub use fault::RunFault;
 pub use output::{Out, OutFault, Over, put_all};
 pub use script::{Summary, run, try_text};
 pub use text::{answer_text, refused_text};
-
-#[cfg(test)]
-mod tests;

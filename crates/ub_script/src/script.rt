@@ -1,4 +1,4 @@
-ghost use Rattle.std.specs.Prelude.{◌≡◌, ◌≢◌, ◌<◌, ◌≤◌, ◌⊎◌, true, false, Some, length, Ok, Err, All, IfOk, IfErr, IsErrOf};
+ghost use Rattle.std.specs.Prelude.{◌≡◌, ◌≢◌, ◌<◌, ◌≤◌, ◌⊎◌, true, false, Some, length, Ok, Err, All, IfOk, IfErr, IsErrOf, OnErr, slice_range};
 ghost use Rattle.ub_lexer.specs.Tokens.{AreSpelled};
 ghost use Rattle.ub_load.specs.LoadedTable.{records_of};
 ghost use Rattle.ub_load.specs.Refusals.{first_refusal};
@@ -11,7 +11,7 @@ ghost use Rattle.ub_tree.specs.declared.fault.TreeFault.{TreeFault};
 ghost use Rattle.ub_script.specs.Output.{Takes};
 ghost use Rattle.ub_script.specs.Run.{IsAnswer, IsRange, FirstAt, FirstOn, IsWhole, IsStopped, IsCutOff, Ran, IsDone, IsBegun, IsBroken};
 ghost use Rattle.ub_script.specs.Faults.{Runs, failures_after};
-ghost use Rattle.ub_script.specs.Loop.{OfTable, Makes, IsAnswerAt, IsCutAt};
+ghost use Rattle.ub_script.specs.Loop.{OfTable, Makes, Starts, IsAnswerAt, IsCutAt};
 ghost use Rattle.ub_script.specs.Text.{IsAskedReply, IsReply, refused_text};
 ghost use Rattle.ub_script.specs.declared.script.Summary.{Summary};
 
@@ -102,10 +102,12 @@ pub fn run<S: PageStore, W: Out>(
         → Ran (IsCutOff (FirstOn tree.old script.now)) true
         (W.facts out.old) (W.facts out.new) tree.old.fetches tree.new.fetches }
 
-    // Nothing is written, or the texts of the first statements and no more; there is another one.
+    // Nothing is written and nothing fetched, or the texts of the first statements and no more. There is another one then,
+    // for which some of its regions were fetched, each once, or none.
     ensures begun { IsSound tree.old → IfErr result (λ fault. fault ≢ RunFault.Write
-        → (W.facts out.new ≡ W.facts out.old)
-        ⊎ Takes (IsStopped (FirstOn tree.old script.now)) false (W.facts out.old) (W.facts out.new)) }
+        → ((W.facts out.new ≡ W.facts out.old) × (tree.new.fetches ≡ tree.old.fetches))
+        ⊎ Ran (IsStopped (FirstOn tree.old script.now)) false
+        (W.facts out.old) (W.facts out.new) tree.old.fetches tree.new.fetches) }
     ensures failures { (W.facts out.new).failures
         ≡ failures_after result (W.facts out.old).failures }
 
@@ -136,8 +138,8 @@ fn run_statements<S: PageStore, W: Out>(
         → Ran (IsCutOff (FirstAt table regions source.now tokens.now ranges.now)) true
         (W.facts out.old) (W.facts out.new) tree.old.fetches tree.new.fetches) }
     ensures begun { OfTable tree.old (λ table regions. IfErr result (λ fault. fault ≢ RunFault.Write
-        → Takes (IsStopped (FirstAt table regions source.now tokens.now ranges.now)) false
-        (W.facts out.old) (W.facts out.new))) }
+        → Ran (IsStopped (FirstAt table regions source.now tokens.now ranges.now)) false
+        (W.facts out.old) (W.facts out.new) tree.old.fetches tree.new.fetches)) }
     ensures failures { (W.facts out.new).failures
         ≡ failures_after result (W.facts out.old).failures }
     ensures effect { Runs tree.old tree.new result }
@@ -173,6 +175,9 @@ fn run_statement<S: PageStore, W: Out>(
         (W.facts out.old) (W.facts out.new) tree.old.fetches tree.new.fetches) }
     ensures begun { IfErr result (λ fault. fault ≢ RunFault.Write
         → W.facts out.new ≡ W.facts out.old) }
+    ensures stopped { OfTable tree.old (λ table regions. IfErr result (λ fault. fault ≢ RunFault.Write
+        → Starts (IsAnswer table regions source.now (slice_range tokens.now range.0 range.1))
+        tree.old.fetches tree.new.fetches)) }
     ensures failures { (W.facts out.new).failures
         ≡ failures_after result (W.facts out.old).failures }
     ensures effect { Runs tree.old tree.new result }
@@ -202,6 +207,8 @@ fn answer_to<S: PageStore>(
     ensures answer { OfTable tree.old (λ table regions. IfOk result (λ a.
         Makes (IsAnswer table regions source.now tokens.now) a.text.items a.is_refused
         tree.old.fetches tree.new.fetches)) }
+    ensures stopped { OfTable tree.old (λ table regions. OnErr result
+        (Starts (IsAnswer table regions source.now tokens.now) tree.old.fetches tree.new.fetches)) }
     ensures no_write { ¬ (IsErrOf result RunFault.Write) }
     ensures effect { Runs tree.old tree.new result }
 {
@@ -221,6 +228,8 @@ fn answer_accepted<S: PageStore>(
     ensures answer { OfTable tree.old (λ table regions. IfOk result (λ a.
         Makes (IsReply table regions (Ok (told statement.now))) a.text.items a.is_refused
         tree.old.fetches tree.new.fetches)) }
+    ensures stopped { OfTable tree.old (λ table regions. OnErr result
+        (Starts (IsReply table regions (Ok (told statement.now))) tree.old.fetches tree.new.fetches)) }
     ensures no_write { ¬ (IsErrOf result RunFault.Write) }
     ensures effect { Runs tree.old tree.new result }
 {
@@ -240,6 +249,8 @@ fn answer_query<S: PageStore>(
     ensures answer { OfTable tree.old (λ table regions. IfOk result (λ a.
         Makes (IsAskedReply false table regions (asked query.now)) a.text.items a.is_refused
         tree.old.fetches tree.new.fetches)) }
+    ensures stopped { OfTable tree.old (λ table regions. OnErr result
+        (Starts (IsAskedReply false table regions (asked query.now)) tree.old.fetches tree.new.fetches)) }
     ensures no_write { ¬ (IsErrOf result RunFault.Write) }
     ensures effect { Runs tree.old tree.new result }
 {
@@ -261,6 +272,8 @@ fn explain_query<S: PageStore>(
     ensures answer { OfTable tree.old (λ table regions. IfOk result (λ a.
         Makes (IsAskedReply true table regions (asked query.now)) a.text.items a.is_refused
         tree.old.fetches tree.new.fetches)) }
+    ensures stopped { OfTable tree.old (λ table regions. OnErr result
+        (Starts (IsAskedReply true table regions (asked query.now)) tree.old.fetches tree.new.fetches)) }
     ensures no_write { ¬ (IsErrOf result RunFault.Write) }
     ensures effect { Runs tree.old tree.new result }
 {

@@ -9,7 +9,7 @@ use Rattle.ub_plan.specs.Plan.{PlanView, gives_groups, is_aggregate, kept_by, ki
 use Rattle.ub_plan.specs.Visits.{Event, IsAlong, IsEventBefore}
 use Rattle.ub_plan.specs.declared.planned.Kind.{Kind}
 use Rattle.ub_plan.specs.declared.planned.Kind.TheVariants.{Empty, Scan, Sweep}
-use Rattle.ub_query.proofs.Arranging.{Rising, Rising-from_adjacent, contains_cases, contains_none}
+use Rattle.ub_query.proofs.Laws.{Rising, Rising-from_adjacent, contains_cases, contains_none}
 use Rattle.ub_query.specs.Order.{IsRowBefore}
 use Rattle.ub_query.specs.Posed.{IsAggregate, IsGroupQuery}
 use Rattle.ub_query.specs.Shape.{Asked}

@@ -4,8 +4,8 @@ use Rattle.std.proofs.lemmas.Bool.{cases_lt}
 use Rattle.std.proofs.lemmas.List.Elements.{All-from_recursion, Contains-append_left, Contains-append_right, Contains-append_cases, filter-append}
 use Rattle.std.proofs.lemmas.List.Sums.{sum_by-cons, sum_by-append}
 use Rattle.std.specs.List.{All, flat_map, sum_by}
-use Rattle.ub_plan.specs.Visits.{AreThose}
-use Rattle.ub_query.proofs.Arranging.{Rising, all_at, contains_here, contains_later, contains_cases, contains_none, all_from_contains}
+use Rattle.ub_region.specs.Those.{AreThose}
+use Rattle.ub_query.proofs.Laws.{Rising, all_at, contains_here, contains_later, contains_cases, contains_none, all_from_contains}
 
 pub all_of : {E : Type 0} (P : E → Type 0) (xs : List E) → ((x : E) → Contains xs x → P x) → All P xs
 all_of P xs f = All-from_recursion P xs (all_from_contains P xs f)

@@ -5,7 +5,7 @@ use Rattle.std.specs.Result.{IsErrAnd}
 use Rattle.ub_bigmin.specs.Box.{Corners}
 use Rattle.ub_plan.specs.Plan.{PlanView, plan_of}
 use Rattle.ub_plan.specs.declared.planned.Kind.TheVariants.{Sweep}
-use Rattle.ub_query.proofs.Arranging.{all_permutation}
+use Rattle.ub_query.proofs.Laws.{all_permutation}
 use Rattle.ub_table.specs.declared.schema.Schema.{Schema}
 use Rattle.ub_tetris.proofs.BegunFacts.{begun}
 use Rattle.ub_tetris.proofs.BoxFacts.{have_dimension}

@@ -4,7 +4,7 @@ use Rattle.std.proofs.lemmas.List.{append-nil, length-append}
 use Rattle.std.proofs.lemmas.List.Elements.{Contains-append_right}
 use Rattle.std.specs.List.{AllByRecursion}
 use Rattle.std.specs.Result.{IsErrAnd}
-use Rattle.ub_query.proofs.Arranging.{contains_here}
+use Rattle.ub_query.proofs.Laws.{contains_here}
 use Rattle.ub_store.specs.Facts.{raised}
 use Rattle.ub_store.specs.declared.fault.StoreFault.TheVariants as store
 use Rattle.ub_tetris.specs.Effects.{Searches, Sweeps, IsSweepFault, IsAwaitedFault, fault_of_tree, fetches_then, read_store}
@@ -141,7 +141,7 @@ pub memory_swept : {T : Type 0} (r : Result T SweepFault) (s new_s : SweepView) 
 memory_swept (Ok x) s new_s a old new is one same noted = absurd is
 memory_swept (Err f) s new_s a old new is one same noted = rw is (swept_one (Err sweep.Memory) s new_s a old new one same (inr noted) tt (λ all. tt))
 
-either_noted : {A : Type 0} (result : Result A TreeFault) (old new : TreeView) (page : ℕ) → (KeepsTrace old new × ((result ≡ Err HasFailed) ⊎ (result ≡ Err Memory))) ⊎ HasNoted page old new
+pub either_noted : {A : Type 0} (result : Result A TreeFault) (old new : TreeView) (page : ℕ) → (KeepsTrace old new × ((result ≡ Err HasFailed) ⊎ (result ≡ Err Memory))) ⊎ HasNoted page old new
     → KeepsTrace old new ⊎ HasNoted page old new
 either_noted result old new page (inl kept) = inl kept.0
 either_noted result old new page (inr noted) = inr noted

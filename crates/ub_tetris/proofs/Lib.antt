@@ -3,6 +3,7 @@ pub mod ArrangeFacts
 pub mod BeginFacts
 pub mod BegunFacts
 pub mod BoxFacts
+pub mod BrokenFacts
 pub mod EffectFacts
 pub mod EventFacts
 pub mod FetchFacts
@@ -16,3 +17,4 @@ pub mod SortedFacts
 pub mod SpanFacts
 pub mod StepFacts
 pub mod StepsFacts
+pub mod Laws

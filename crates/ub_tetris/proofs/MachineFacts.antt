@@ -1,6 +1,6 @@
 -- What the steps of a sweep do, as lists alone: it begins, fetches a region, gives a row, and ends.
 use Rattle.std.specs.Prelude.{IfSome}
-use Rattle.std.proofs.Common.{◌≡◌, ◌≤◌, ◌<◌, ◌==◌, ℕ, List, [], ◌∷◌, ◌++◌, Bool, true, false, cond, not, if◌then◌else◌, Option, Some, None, length, map, filter, take, slice_index, Contains, IsPermutation, inl, inr, refl, sym, ap, ◌∙◌, append_assoc, subst, arith}
+use Rattle.std.proofs.Common.{◌≡◌, ◌≤◌, ◌<◌, ◌==◌, ℕ, zero, suc, List, [], ◌∷◌, ◌++◌, Bool, true, false, cond, not, if◌then◌else◌, Option, Some, None, length, map, filter, take, slice_index, Contains, IsPermutation, inl, inr, refl, sym, ap, ◌∙◌, append_assoc, subst, arith}
 use Rattle.std.proofs.lemmas.Bool.{cases_Bool, eq-eqb, eqb-true, lt-ltb, ltb-true, true≢false}
 use Rattle.std.proofs.lemmas.Grind.{flat_map-append}
 use Rattle.std.proofs.lemmas.List.{append-nil, length-map, map-append, take_all}
@@ -8,14 +8,11 @@ use Rattle.std.proofs.lemmas.List.Elements.{All-contains, All-nil, All-tail, Con
 use Rattle.std.proofs.lemmas.List.Sorted.{Contains-permutation, IsPermutation-append_left, IsPermutation-append_right, IsPermutation-pop_more, IsPermutation-refl, IsPermutation-sym, IsPermutation-trans, sum_by-IsPermutation}
 use Rattle.std.proofs.lemmas.List.Sums.{sum_by-append}
 use Rattle.std.proofs.Math.Seq.{take-append_seam}
-use Rattle.std.specs.List.{All, sum_by}
-use Rattle.ub_plan.proofs.ThoseFacts.{filter_none}
-use Rattle.ub_plan.proofs.SweepFacts.{arranged_of}
-use Rattle.ub_plan.proofs.VisitFacts.{Differ}
+use Rattle.std.specs.List.{All, AllByRecursion, sum_by}
+use Rattle.ub_plan.proofs.Laws.{filter_none, arranged_of, Differ}
 use Rattle.ub_plan.specs.Plan.{PlanView}
 use Rattle.ub_plan.specs.Visits.{AreArranged, AreEvents, AreSweepVisits, Event, IsAlong, coordinates, is_filled, is_past, last_of, reached, selected_rows}
-use Rattle.ub_query.proofs.Arranging.{Rising, Rising-from_adjacent, all_at, contains_cases, contains_here, contains_later, contains_none}
-use Rattle.ub_query.proofs.GroupFacts.{contains_filter, contains_from_filter}
+use Rattle.ub_query.proofs.Laws.{Rising, Rising-from_adjacent, all_at, all_weaker, contains_cases, contains_here, contains_later, contains_none, contains_filter, contains_from_filter}
 use Rattle.ub_query.specs.Cells.{row_cell}
 use Rattle.ub_query.specs.Groups.{is_selected, selected}
 use Rattle.ub_query.specs.Meaning.{IsMeaning, limited}
@@ -24,7 +21,7 @@ use Rattle.ub_region.specs.Regions.{AreTableRows, rows_of}
 use Rattle.ub_table.specs.Region.{Region}
 use Rattle.ub_table.specs.declared.row.Row.{Row}
 use Rattle.ub_table.specs.declared.schema.Schema.{Schema}
-use Rattle.ub_tetris.proofs.AlongFacts.{IsUpTo, along_before, along_up_to, led_asks, led_is_plain, led_plan, up_to_chain, values_rise}
+use Rattle.ub_tetris.proofs.AlongFacts.{IsUpTo, along_before, along_never, along_up_to, led_asks, led_is_plain, led_plan, up_to_chain, values_rise}
 use Rattle.ub_tetris.proofs.ArrangeFacts.{all_of, least_first, rising_apart, rising_right, rising_two, some_weight, weight_there}
 use Rattle.ub_tetris.proofs.NumberFacts.{asked-chain, asked-never, selected_differ, selected_of_table}
 use Rattle.ub_tetris.proofs.ReachFacts.{event_rows, fetched_weigh, from_fetched, in_fetched, row_in_event, row_is_past}
@@ -192,6 +189,29 @@ held_in_rest schema plan dim is_descending next regions held given rest fetched 
     (held_selected schema plan dim is_descending regions held given rest fetched unread row under here)
     (same_if_one row.number other weighs) in
     subst (λ (r : Row). Contains rest r) same there
+
+-- no row still to be given lies before the event value of a fetched region
+pub rest_past : (schema : Schema) (plan : PlanView) (dim : ℕ) (is_descending : Bool) (next : ℕ) (regions : List Region) (held given rest : List Row) (fetched unread : List Event) (row : Row)
+    → IsSweepOver schema plan dim is_descending next regions → IsUnderWay schema plan dim is_descending regions held given rest fetched unread
+    → Contains rest row → All (λ event. ¬ IsRowAlong dim is_descending row event.value) fetched
+rest_past schema plan dim is_descending next regions held given rest fetched unread row over under there =
+    let asked_up : Rising (IsRowBefore schema plan.asked.order) (given ++ rest) = Rising-from_adjacent (IsRowBefore schema plan.asked.order) (asked-chain schema plan.asked.order) (given ++ rest) under.rows.ordered in
+    let up : Rising (λ a b. IsUpTo is_descending a.value b.value) (fetched ++ unread) = values_rise is_descending (fetched ++ unread) under.events.ordered in
+    let (other, is_other, has, t) = row_in_event schema plan dim is_descending next regions (fetched ++ unread) row over under.events
+    (rest_selected schema plan dim is_descending regions held given rest fetched unread row under there) in
+    all_of (λ event. ¬ (IsRowAlong dim is_descending row event.value)) fetched
+    (λ event is_event along. elim (Contains-append_cases fetched unread other is_other) [
+      | inl was ↦ elim (Contains-append_cases given held row (Contains-permutation (selected_rows schema plan (regions_at fetched)) (given ++ held) row under.held_are (in_fetched schema plan fetched other row was has t))) [
+        | inl gone ↦ asked-never schema plan.asked.order row (rising_apart (IsRowBefore schema plan.asked.order) given rest row row asked_up gone there)
+        | inr kept ↦ All-contains (λ row. ¬ (IsRowAlong dim is_descending row event.value)) held row
+            (All-contains (λ event. All (λ row. ¬ (IsRowAlong dim is_descending row event.value)) held) fetched event under.held_past is_event) kept along
+      ]
+      | inr will ↦
+          let past : IsUpTo is_descending other.value (slice_index row.dims dim) =
+          row_is_past schema plan dim is_descending next regions (fetched ++ unread) other row over under.events is_other has t in
+          up_to_chain is_descending event.value other.value (slice_index row.dims dim)
+          (rising_apart (λ a b. IsUpTo is_descending a.value b.value) fetched unread event other up is_event will) past along
+    ])
 
 -- no row still to be given is before a held one that no held row is before and that lies before all unread event values
 none_before : (schema : Schema) (plan : PlanView) (dim : ℕ) (is_descending : Bool) (next : ℕ) (regions : List Region) (held held_then given rest : List Row) (fetched unread : List Event) (row : Row)
@@ -400,6 +420,125 @@ runs_out schema plan dim is_descending regions held given fetched under short =
       visits_are = ap (λ (events : List Event). map (λ (event : Event). event.span) events)
           (sym (reached_short plan.asked.limit dim is_descending given (fetched ++ []) short ∙ append-nil fetched));
     }
+
+-- ---- where it is broken off
+
+last_among : (P : ℕ → Type 0) (value : ℕ) (values : List ℕ) → P value → AllByRecursion P values → P (last_of (value ∷ values))
+last_among P value [] is all = is
+last_among P value (other ∷ values) is all = last_among P other values all.0 all.1
+
+coordinates_first : (dim : ℕ) (P : ℕ → Type 0) (rows : List Row) (n : ℕ) → AllByRecursion (λ row. P (slice_index row.dims dim)) rows → AllByRecursion P (coordinates dim (take n rows))
+coordinates_first dim P [] zero all = tt
+coordinates_first dim P [] (suc n) all = tt
+coordinates_first dim P (row ∷ rows) zero all = tt
+coordinates_first dim P (row ∷ rows) (suc n) all = (all.0, coordinates_first dim P rows n all.1)
+
+-- of rows of which one is asked for the last one doesn't lie before that one
+last_up_to : (dim : ℕ) (P : ℕ → Type 0) (given : List Row) (row : Row) (more : List Row) (n : ℕ) → length given < n → P (slice_index row.dims dim)
+    → AllByRecursion (λ other. P (slice_index other.dims dim)) more → P (last_of (coordinates dim (take n (given ++ row ∷ more))))
+last_up_to dim P [] row more zero below is all = absurd (omega arith)
+last_up_to dim P [] row more (suc n) below is all = last_among P (slice_index row.dims dim) (coordinates dim (take n more)) is (coordinates_first dim P more n all)
+last_up_to dim P (first ∷ given) row more zero below is all = absurd (omega arith)
+last_up_to dim P (first ∷ []) row more (suc zero) below is all = absurd (omega arith)
+last_up_to dim P (first ∷ []) row more (suc (suc n)) below is all = last_up_to dim P [] row more (suc n) (omega arith) is all
+last_up_to dim P (first ∷ second ∷ given) row more (suc zero) below is all = absurd (omega arith)
+last_up_to dim P (first ∷ second ∷ given) row more (suc (suc n)) below is all = last_up_to dim P (second ∷ given) row more (suc n) (omega arith) is all
+
+last_limited : (dim : ℕ) (P : ℕ → Type 0) (limit : Option ℕ) (given : List Row) (row : Row) (more : List Row) → IfSome limit (λ n. length given < n)
+    → is_filled limit (length (coordinates dim (limited limit (given ++ row ∷ more)))) ≡ true → P (slice_index row.dims dim)
+    → AllByRecursion (λ other. P (slice_index other.dims dim)) more → P (last_of (coordinates dim (limited limit (given ++ row ∷ more))))
+last_limited dim P None given row more short filled is all = absurd (true≢false (sym filled))
+last_limited dim P (Some n) given row more short filled is all = last_up_to dim P given row more n short is all
+
+reached_front : (is_descending : Bool) (limit : Option ℕ) (values : List ℕ) (front left : List Event)
+    → (is_filled limit (length values) ≡ true → All (λ event. ¬ (IsAlong is_descending (last_of values) event.value)) front)
+    → (later : List Event) × (reached is_descending limit values (front ++ left) ≡ front ++ later)
+reached_front is_descending limit values front left past = by_fill (is_filled limit (length values)) refl
+  where
+    filter_append_kept : (p : Event → Bool) (xs ys : List Event) → filter p xs ≡ xs → filter p (xs ++ ys) ≡ xs ++ filter p ys
+    filter_append_kept p xs ys kept = filter-append p xs ys ∙ ap (λ (zs : List Event). zs ++ filter p ys) kept
+
+    by_fill : (b : Bool) → is_filled limit (length values) ≡ b → (later : List Event) × (reached is_descending limit values (front ++ left) ≡ front ++ later)
+    by_fill false e = (left, rw e refl)
+    by_fill true e =
+        let p : Event → Bool = λ event. not (is_past is_descending (last_of values) event.value) in
+        let kept : filter p front ≡ front = filter_all p front
+        (λ event there. not_past is_descending (last_of values) event.value (All-contains (λ event. ¬ (IsAlong is_descending (last_of values) event.value)) front event (past e) there)) in
+        (filter p left, rw e (filter_append_kept p front left kept))
+
+-- regions none of which is past a row that is asked for are the first of the visits
+front_visits : (schema : Schema) (plan : PlanView) (dim : ℕ) (is_descending : Bool) (next : ℕ) (regions : List Region) (front left : List Event) (given : List Row) (row : Row) (more : List Row)
+    → IsSweepOver schema plan dim is_descending next regions → AreEvents schema plan.covering.boxes dim is_descending regions (front ++ left)
+    → AreArranged schema plan (selected_rows schema plan regions) (given ++ row ∷ more) → IfSome plan.asked.limit (λ n. length given < n)
+    → All (λ event. ¬ IsRowAlong dim is_descending row event.value) front
+    → (later : List Event) × AreSweepVisits schema plan dim is_descending regions (map (λ event. event.span) (front ++ later))
+front_visits schema plan dim is_descending next regions front left given row more over events rows short past =
+    let order = plan.asked.order in
+    let at : Row → ℕ = λ other. slice_index other.dims dim in
+    let up : Rising (IsRowBefore schema order) (row ∷ more) =
+    rising_right (IsRowBefore schema order) given (row ∷ more) (Rising-from_adjacent (IsRowBefore schema order) (asked-chain schema order) (given ++ row ∷ more) rows.ordered) in
+    let led = led_plan schema plan dim is_descending over.planned over.kind in
+    let after : AllByRecursion (λ other. IsUpTo is_descending (slice_index row.dims dim) (slice_index other.dims dim)) more =
+    all_weaker (λ other. IsRowBefore schema order row other) (λ other. IsUpTo is_descending (slice_index row.dims dim) (slice_index other.dims dim))
+    (λ other before along. asked-never schema order row (asked-chain schema order row other row before (along_before schema plan.asked dim is_descending other row led along))) more up.0 in
+    let values = coordinates dim (limited plan.asked.limit (given ++ row ∷ more)) in
+    let (later, is) = reached_front is_descending plan.asked.limit values front left
+    (λ filled. all_of (λ event. ¬ (IsAlong is_descending (last_of values) event.value)) front
+    (λ event there.
+    up_to_chain is_descending event.value (slice_index row.dims dim) (last_of values)
+    (All-contains (λ event. ¬ (IsRowAlong dim is_descending row event.value)) front event past there)
+    (last_limited dim (λ v. IsUpTo is_descending (slice_index row.dims dim) v) plan.asked.limit given row more short filled (along_never is_descending (slice_index row.dims dim)) after))) in (
+      later,
+      record {
+        events = front ++ left;
+        events_are = events;
+        arranged = given ++ row ∷ more;
+        arranged_are = rows;
+        visits_are = ap (λ (events : List Event). map (λ (event : Event). event.span) events) (sym is);
+      },
+    )
+
+-- a sweep that was ended by a fault has fetched the first of the visits: where that came after a row,
+pub broken_after : (schema : Schema) (plan : PlanView) (dim : ℕ) (is_descending : Bool) (next : ℕ) (regions : List Region) (held given rest : List Row) (fetched unread : List Event) (row : Row)
+    → IsSweepOver schema plan dim is_descending next regions → IsUnderWay schema plan dim is_descending regions held (given ++ row ∷ []) rest fetched unread
+    → IfSome plan.asked.limit (λ n. length given < n) → All (λ event. ¬ IsRowAlong dim is_descending row event.value) fetched
+    → (later : List Event) × AreSweepVisits schema plan dim is_descending regions (map (λ event. event.span) (fetched ++ later))
+broken_after schema plan dim is_descending next regions held given rest fetched unread row over under short past =
+    front_visits schema plan dim is_descending next regions fetched unread given row rest over under.events
+    (subst (λ (rows : List Row). AreArranged schema plan (selected_rows schema plan regions) rows) (append_assoc given (row ∷ []) rest) under.rows) short past
+
+-- and where it came while the next row was looked for
+pub broken_before : (schema : Schema) (plan : PlanView) (dim : ℕ) (is_descending : Bool) (next : ℕ) (regions : List Region) (held given rest : List Row) (fetched unread read left : List Event)
+    → IsSweepOver schema plan dim is_descending next regions → IsUnderWay schema plan dim is_descending regions held given rest fetched unread
+    → IfSome plan.asked.limit (λ n. length given < n) → unread ≡ read ++ left
+    → ((row : Row) (more : List Row) → rest ≡ row ∷ more → All (λ event. ¬ IsRowAlong dim is_descending row event.value) read)
+    → (later : List Event) × AreSweepVisits schema plan dim is_descending regions (map (λ event. event.span) ((fetched ++ read) ++ later))
+broken_before schema plan dim is_descending next regions held given rest fetched unread read left over under short parts past =
+    by_rest rest refl
+  where
+    events : AreEvents schema plan.covering.boxes dim is_descending regions ((fetched ++ read) ++ left)
+    events = subst (λ (events : List Event). AreEvents schema plan.covering.boxes dim is_descending regions events) (ap (λ (events : List Event). fetched ++ events) parts ∙ sym (append_assoc fetched read left)) under.events
+
+    by_rest : (rows : List Row) → rest ≡ rows → (later : List Event) × AreSweepVisits schema plan dim is_descending regions (map (λ event. event.span) ((fetched ++ read) ++ later))
+    by_rest [] is = (
+      left,
+      record {
+        events = (fetched ++ read) ++ left;
+        events_are = events;
+        arranged = given ++ [];
+        arranged_are = subst (λ (rows : List Row). AreArranged schema plan (selected_rows schema plan regions) (given ++ rows)) is under.rows;
+        visits_are = ap (λ (events : List Event). map (λ (event : Event). event.span) events) (sym (reached_short plan.asked.limit dim is_descending given ((fetched ++ read) ++ left) short));
+      },
+    )
+    by_rest (row ∷ more) is =
+        front_visits schema plan dim is_descending next regions (fetched ++ read) left given row more over events
+        (subst (λ (rows : List Row). AreArranged schema plan (selected_rows schema plan regions) (given ++ rows)) is under.rows) short
+        (all_of (λ event. ¬ (IsRowAlong dim is_descending row event.value)) (fetched ++ read)
+        (λ event there. elim (Contains-append_cases fetched read event there) [
+          | inl was ↦ All-contains (λ event. ¬ (IsRowAlong dim is_descending row event.value)) fetched event
+              (rest_past schema plan dim is_descending next regions held given rest fetched unread row over under (subst (λ (rows : List Row). Contains rows row) (sym is) (contains_here row more))) was
+          | inr now ↦ All-contains (λ event. ¬ (IsRowAlong dim is_descending row event.value)) read event (past row more is) now
+        ]))
 
 given_mean : (schema : Schema) (plan : PlanView) (dim : ℕ) (is_descending : Bool) (next : ℕ) (regions : List Region) (rows held given rest : List Row) (fetched unread : List Event)
     → IsSweepOver schema plan dim is_descending next regions → AreTableRows regions rows

@@ -9,16 +9,15 @@ use Rattle.std.specs.Ordering.{nat_cmp, ordering_then}
 use Rattle.std.specs.declared.cmp.Ordering.{Ordering}
 use Rattle.std.specs.declared.cmp.Ordering.TheVariants.{Less, Equal, Greater}
 use Rattle.ub_bigmin.specs.Box.{Corners}
-use Rattle.ub_plan.proofs.FoundFacts.{meeting_of}
-use Rattle.ub_plan.proofs.ThoseFacts.{Rising-those}
+use Rattle.ub_plan.proofs.Laws.{meeting_of, Rising-those}
 use Rattle.ub_plan.specs.Visits as plan
-use Rattle.ub_plan.specs.Visits.{AreEvents, AreThose, Event, IsAlong, IsEventBefore, IsEventValue, Span, spans_up_to}
-use Rattle.ub_query.proofs.Arranging.{Rising, Rising-map, Rising-mapped, Rising-one, Rising-from_adjacent, adjacent-from_Rising, all_permutation, an_arrangement, contains_cases, contains_here, contains_later, contains_none}
-use Rattle.ub_query.proofs.GroupFacts.{contains_from_map, contains_map}
-use Rattle.ub_region.proofs.KeyLists.{before_cases, before_or_same}
+use Rattle.ub_plan.specs.Visits.{AreEvents, Event, IsAlong, IsEventBefore, IsEventValue, Span, spans_up_to}
+use Rattle.ub_region.specs.Those.{AreThose}
+use Rattle.ub_query.proofs.Laws.{Rising, Rising-map, Rising-mapped, Rising-one, Rising-from_adjacent, adjacent-from_Rising, all_permutation, an_arrangement, contains_cases, contains_here, contains_later, contains_none, contains_from_map, contains_map}
+use Rattle.ub_region.proofs.Laws.{before_cases, before_or_same}
 use Rattle.ub_region.specs.Regions.{firsts_of}
 use Rattle.ub_region.specs.Spans.{span_end}
-use Rattle.ub_table.proofs.KeyFacts.{before_from, before_parts, before_trans, not_before_self}
+use Rattle.ub_table.proofs.Laws.{before_from, before_parts, before_trans, not_before_self}
 use Rattle.ub_table.specs.Keys.{IsBefore, is_same}
 use Rattle.ub_table.specs.Region.{Region}
 use Rattle.ub_table.specs.declared.row.Key.{Key}

@@ -9,8 +9,8 @@ use Rattle.std.specs.List.Sorted.{IsSorted}
 use Rattle.std.specs.Ordering.{is_lt, ordering_reverse}
 use Rattle.std.specs.declared.cmp.Ordering.{Ordering}
 use Rattle.std.specs.declared.cmp.Ordering.TheVariants.{Less, Equal, Greater}
-use Rattle.ub_query.proofs.Arranging.{Rising, Rising-from_adjacent}
-use Rattle.ub_region.proofs.KeyLists.{all_after, up_tail}
+use Rattle.ub_query.proofs.Laws.{Rising, Rising-from_adjacent}
+use Rattle.ub_region.proofs.Laws.{all_after, up_tail}
 use Rattle.ub_table.specs.Keys.{AreKeysAscending, IsBefore}
 use Rattle.ub_table.specs.declared.row.Key.{Key}
 

@@ -7,16 +7,16 @@ use Rattle.std.proofs.Math.Seq.{take-suc}
 use Rattle.std.specs.List.{AllByRecursion}
 use Rattle.ub_bigmin.specs.Box.{Corners, IsValueInSpan}
 use Rattle.ub_page.specs.declared.directory.Entry.{Entry}
-use Rattle.ub_plan.specs.Visits.{AreThose}
-use Rattle.ub_table.proofs.KeyFacts.{before_of, not_both_before, not_before_self, ascending_get}
+use Rattle.ub_region.specs.Those.{AreThose}
+use Rattle.ub_table.proofs.Laws.{before_of, not_both_before, not_before_self, ascending_get}
 use Rattle.ub_table.specs.Keys.{IsBefore, are_ascending}
 use Rattle.ub_table.specs.declared.row.Key.{Key}
-use Rattle.ub_region.proofs.KeyLists.{are_ascending_of}
+use Rattle.ub_region.proofs.Laws.{are_ascending_of}
 use Rattle.ub_region.specs.Regions.{firsts_of}
 use Rattle.ub_tetris.specs.declared.course.Course.{Course}
 use Rattle.ub_tetris.specs.declared.event.Awaited.{Awaited}
 use Rattle.ub_tetris.specs.inner.Events.{AreMet, AreValued, IsFirstOn, IsFirstValue, regions_awaited}
-use Rattle.ub_tree.proofs.SeekFacts.{region_first}
+use Rattle.ub_tree.proofs.Laws.{region_first}
 use Rattle.ub_tree.specs.Placed.{Placed, regions_in, entry_of}
 use Rattle.ub_tree.specs.Spans.{first_keys, regions_of, IsLater, Meets, First}
 use Rattle.ub_tree.specs.View.{TreeView, IsSound, regions, spans_of}

@@ -7,13 +7,12 @@ use Rattle.std.proofs.lemmas.List.Sorted.{Contains-permutation, IsPermutation-ma
 use Rattle.std.specs.List.{All, AllByRecursion}
 use Rattle.ub_plan.specs.Plan.{PlanView}
 use Rattle.ub_plan.specs.Visits.{Event, IsAlong, Span, is_past, spans_up_to}
-use Rattle.ub_query.proofs.Arranging.{Rising-map, all_at, all_permutation, contains_cases, contains_here, contains_later, contains_none}
-use Rattle.ub_query.proofs.GroupFacts.{contains_from_map, contains_map}
+use Rattle.ub_query.proofs.Laws.{Rising-map, all_at, all_permutation, contains_cases, contains_here, contains_later, contains_none, contains_from_map, contains_map}
 use Rattle.ub_query.specs.Groups.{is_selected}
 use Rattle.ub_query.specs.Order.{IsRowBefore}
 use Rattle.ub_query.specs.declared.query.SortKey.{SortKey}
 use Rattle.ub_region.specs.Regions.{firsts_of}
-use Rattle.ub_table.proofs.KeyFacts.{not_before_self}
+use Rattle.ub_table.proofs.Laws.{not_before_self}
 use Rattle.ub_table.specs.Keys.{AreKeysAscending, IsBefore}
 use Rattle.ub_table.specs.Region.{Region}
 use Rattle.ub_table.specs.declared.row.Key.{Key}
@@ -28,7 +27,7 @@ use Rattle.ub_tetris.proofs.ReachFacts.{event_span}
 use Rattle.ub_tetris.proofs.SortedFacts.{keys_rise}
 use Rattle.ub_tetris.specs.Held.{AreHeldBy, HeldRow, held_row, rows_held, values_by}
 use Rattle.ub_tetris.specs.Machine.{IsRowAlong, IsUnderWay, regions_at}
-use Rattle.ub_tetris.specs.Sweep.{AreAwaited, AwaitedRegion, HasEnded, HasGiven, HasStepped, IsAwaited, IsSweeping, SweepView}
+use Rattle.ub_tetris.specs.Sweep.{AreAwaited, AreNoted, AwaitedRegion, HasEnded, HasGiven, HasStepped, IsAwaited, IsSweeping, SweepView}
 use Rattle.ub_tetris.specs.declared.event.Awaited.{Awaited}
 use Rattle.ub_tetris.specs.declared.state.State.{State}
 use Rattle.ub_tetris.specs.inner.Kept.{IsFirstAmong, IsFirstOf, IsHeldBefore, TakesFirst}
@@ -89,6 +88,31 @@ contains_within : {E : Type 0} (xs : List E) (x : E) (ys : List E) → Contains 
 contains_within [] x ys = contains_here x ys
 contains_within (y ∷ xs) x ys = contains_later y (xs ++ x ∷ ys) x (contains_within xs x ys)
 
+-- the region on a page is that of the event
+pub event_region : (plan : PlanView) (t : TreeView) (s : SweepView) (given rest : List Row) (fetched left : List Event) (event : Event) (a : AwaitedRegion) (p : Placed)
+    → IsSweeping plan t s given rest fetched (event ∷ left) → IsAwaited t a event → Contains t.placed p → p.region.first ≡ a.region.first → p.region ≡ event.span.region
+event_region plan t s given rest fetched left event a p of is_awaited there first =
+    same_region (regions t) p.region event.span.region of.swept.sound.regions_are.ascending
+    (contains_map (λ (p : Placed). p.region) t.placed p there)
+    (span_region (last_address t.schema.dims) (regions t) event.span
+    (event_span t.schema plan.covering.boxes s.dim s.is_descending (regions t) (fetched ++ event ∷ left) event of.under_way.events (contains_within fetched event left)))
+    (first ∙ is_awaited.first)
+
+-- the page of one more region was noted
+pub noted_more : (t new : TreeView) (events : List Event) (event : Event) (p : Placed) → AreNoted t events → new.placed ≡ t.placed → Contains t.placed p → p.region ≡ event.span.region
+    → new.trace ≡ t.trace ++ p.page ∷ [] → AreNoted new (events ++ event ∷ [])
+noted_more t new events event p noted placed there same trace = record {
+  placed = noted.placed ++ p ∷ [];
+  there = subst (λ (all : List Placed). AllByRecursion (Contains all) (noted.placed ++ p ∷ [])) (sym placed) (all_pushed (Contains t.placed) noted.placed p noted.there there);
+  regions_are = map-append (λ (p : Placed). p.region) noted.placed (p ∷ [])
+      ∙ ap (λ (rs : List Region). rs ++ p.region ∷ []) noted.regions_are
+      ∙ ap (λ (r : Region). regions_at events ++ r ∷ []) same
+      ∙ sym (map-append (λ (event : Event). event.span.region) events (event ∷ []));
+  trace_is = trace
+      ∙ ap (λ (pages : List ℕ). pages ++ p.page ∷ []) noted.trace_is
+      ∙ sym (map-append (λ (p : Placed). p.page) noted.placed (p ∷ []));
+}
+
 module _ (plan : PlanView) (t : TreeView) (s : SweepView) (held_then : List HeldRow) (given rest : List Row) (fetched : List Event) (a : AwaitedRegion) (more : List AwaitedRegion) (trace : List ℕ) (count : ℕ) (p : Placed) where
   abbrev after : TreeView
   after = record t { trace = trace; fetches = count }
@@ -100,11 +124,7 @@ module _ (plan : PlanView) (t : TreeView) (s : SweepView) (held_then : List Held
       → IsSweeping plan after (record s { held = held_then; awaited = more }) given rest (fetched ++ event ∷ []) left
   fetched_next event left of is_awaited are_awaited past noted there page first holds =
       let chosen : List Row = filter (is_selected t.schema plan.asked.filter) p.region.rows in
-      let same : p.region ≡ event.span.region = same_region (regions t) p.region event.span.region of.swept.sound.regions_are.ascending
-      (contains_map (λ (p : Placed). p.region) t.placed p there)
-      (span_region (last_address t.schema.dims) (regions t) event.span
-      (event_span t.schema plan.covering.boxes s.dim s.is_descending (regions t) (fetched ++ event ∷ left) event of.under_way.events (contains_within fetched event left)))
-      (first ∙ is_awaited.first) in
+      let same : p.region ≡ event.span.region = event_region plan t s given rest fetched left event a p of is_awaited there first in
       let rows : rows_held (s.held ++ map (held_row t.schema plan.asked.order) chosen) ≡ rows_held s.held ++ chosen =
       map-append (λ (h : HeldRow). h.row) s.held (map (held_row t.schema plan.asked.order) chosen) ∙ ap (λ (rows : List Row). rows_held s.held ++ rows) (rows_of_held t.schema plan.asked.order chosen) in
       let holds_rows : IsPermutation (rows_held s.held ++ chosen) (rows_held held_then) =
@@ -118,18 +138,7 @@ module _ (plan : PlanView) (t : TreeView) (s : SweepView) (held_then : List Held
             (subst (λ (region : Region). IsPermutation (rows_held s.held ++ filter (is_selected t.schema plan.asked.filter) region.rows) (rows_held held_then)) same holds_rows);
         values = all_permutation (λ (h : HeldRow). h.values ≡ values_by t.schema plan.asked.order h.row) (s.held ++ map (held_row t.schema plan.asked.order) chosen) held_then holds
             (held_by_more t.schema plan.asked.order s.held chosen of.values);
-        noted = record {
-          placed = of.noted.placed ++ p ∷ [];
-          there = all_pushed (Contains t.placed) of.noted.placed p of.noted.there there;
-          regions_are = map-append (λ (p : Placed). p.region) of.noted.placed (p ∷ [])
-              ∙ ap (λ (rs : List Region). rs ++ p.region ∷ []) of.noted.regions_are
-              ∙ ap (λ (r : Region). regions_at fetched ++ r ∷ []) same
-              ∙ sym (map-append (λ (event : Event). event.span.region) fetched (event ∷ []));
-          trace_is = noted
-              ∙ ap (λ (pages : List ℕ). pages ++ a.region.page ∷ []) of.noted.trace_is
-              ∙ ap (λ (number : ℕ). map (λ (p : Placed). p.page) of.noted.placed ++ number ∷ []) (sym page)
-              ∙ sym (map-append (λ (p : Placed). p.page) of.noted.placed (p ∷ []));
-        };
+        noted = noted_more t after fetched event p of.noted refl there same (noted ∙ ap (λ (number : ℕ). t.trace ++ number ∷ []) (sym page));
         awaited = awaited_after t trace count more left are_awaited;
       }
 
@@ -145,7 +154,7 @@ entry_past plan t s given rest fetched unread h f of here there none along =
     (along_before t.schema plan.asked s.dim s.is_descending h.row f.row (led_plan t.schema plan s.dim s.is_descending of.swept.planned of.swept.kind) along))
 
 -- where the next region is due, no held row lies before its value
-due_past : (plan : PlanView) (t : TreeView) (s : State) (given rest : List Row) (fetched unread : List Event) (first : Option Row) (a : Awaited) → IsSweeping plan t (view_of s) given rest fetched unread
+pub due_past : (plan : PlanView) (t : TreeView) (s : State) (given rest : List Row) (fetched unread : List Event) (first : Option Row) (a : Awaited) → IsSweeping plan t (view_of s) given rest fetched unread
     → IsFirstOf s.held first → true ≡ is_due_by s.course (Some a) first → All (λ row. ¬ (IsRowAlong s.course.dim s.course.is_descending row a.value)) (rows_held s.held)
 due_past plan t s given rest fetched unread None a of none due =
     subst (λ (held : List HeldRow). All (λ row. ¬ (IsRowAlong s.course.dim s.course.is_descending row a.value)) (rows_held held)) (sym none)
@@ -182,7 +191,7 @@ not_due_before plan t s left given rest fetched unread (Some other) a row of (f,
           (entry_past plan t (view_of s) given rest fetched unread f g of there taken (all_at (λ (other : HeldRow). ¬ (IsHeldBefore other g)) left f least later)) along
     ])
 
-drop_next : {E : Type 0} (xs : List E) (i : ℕ) (x : E) → slice_get xs i ≡ Some x → drop i xs ≡ x ∷ drop (i + 1) xs
+pub drop_next : {E : Type 0} (xs : List E) (i : ℕ) (x : E) → slice_get xs i ≡ Some x → drop i xs ≡ x ∷ drop (i + 1) xs
 drop_next [] i x is = cc
 drop_next (y ∷ ys) zero x is = let same : y ≡ x = cc in ap (λ (z : _). z ∷ ys) same
 drop_next (y ∷ ys) (suc i) x is = rw add-one (rw add-one at (drop_next ys i x is))
@@ -199,10 +208,10 @@ view_onward : (s new_s : State) (a : Awaited) → slice_get s.queue.items s.fetc
     → record (view_of s) { held = new_s.held; awaited = awaited_of (drop (s.fetched + 1) s.queue.items) } ≡ view_of new_s
 view_onward s new_s a at (course, queue, fetched) = rw (course, queue, fetched) refl
 
-view_still : (s new_s : State) → (new_s.course ≡ s.course) × (new_s.queue ≡ s.queue) × (new_s.fetched ≡ s.fetched) → record (view_of s) { held = new_s.held } ≡ view_of new_s
+pub view_still : (s new_s : State) → (new_s.course ≡ s.course) × (new_s.queue ≡ s.queue) × (new_s.fetched ≡ s.fetched) → record (view_of s) { held = new_s.held } ≡ view_of new_s
 view_still s new_s (course, queue, fetched) = rw (course, queue, fetched) refl
 
-waiting : (t : TreeView) (a : AwaitedRegion) (more : List AwaitedRegion) (unread : List Event) → AreAwaited t (a ∷ more) unread
+pub waiting : (t : TreeView) (a : AwaitedRegion) (more : List AwaitedRegion) (unread : List Event) → AreAwaited t (a ∷ more) unread
     → (event : Event) × (left : List Event) × (unread ≡ event ∷ left) × IsAwaited t a event × AreAwaited t more left
 waiting t a more [] are = absurd are
 waiting t a more (event ∷ left) are = (event, left, refl, are.0, are.1)

@@ -1,16 +1,19 @@
 -- The turns of a sweep, one after the other.
-use Rattle.std.proofs.Common.{◌≡◌, ◌<◌, ◌+◌, ◌-◌, ◌++◌, ◌∷◌, ◌∙◌, ℕ, true, false, List, [], Option, Ok, length, refl, sym, ap, subst, arith, append_assoc}
+use Rattle.std.proofs.Common.{◌≡◌, ◌<◌, ◌≤◌, ◌+◌, ◌-◌, ◌++◌, ◌∷◌, ◌∙◌, ℕ, true, false, List, [], Option, Result, Ok, Err, length, refl, sym, ap, subst, arith, append_assoc}
 use Rattle.std.proofs.lemmas.List.{append-nil}
+use Rattle.std.specs.Prelude.{OnErr}
 use Rattle.ub_plan.specs.Plan.{PlanView}
 use Rattle.ub_plan.specs.Visits.{Event}
 use Rattle.ub_table.specs.declared.row.Row.{Row}
+use Rattle.ub_tetris.proofs.BrokenFacts.{at_end, broken_by, broken_for, rests_by}
 use Rattle.ub_tetris.proofs.EffectFacts.{Sweeps-none, sweeps_then, swept_traced}
+use Rattle.ub_tetris.proofs.FetchFacts.{due_within}
 use Rattle.ub_tetris.proofs.StepFacts.{fetch_step, last_step, chain_step}
-use Rattle.ub_tetris.specs.Effects.{Sweeps}
-use Rattle.ub_tetris.specs.Sweep.{IsSweeping, HasStepped}
+use Rattle.ub_tetris.specs.Effects.{Rests, Sweeps}
+use Rattle.ub_tetris.specs.Sweep.{IsSweeping, HasBroken, HasStepped}
 use Rattle.ub_tetris.specs.declared.state.State.{State}
 use Rattle.ub_tetris.specs.inner.Kept.{TakesFirst}
-use Rattle.ub_tetris.specs.inner.Turns.{HasFetchedNext, IsDue, IsOnward, view_of}
+use Rattle.ub_tetris.specs.inner.Turns.{HasAskedNext, HasFetchedNext, IsDue, IsOnward, view_of}
 use Rattle.ub_tree.specs.View.{TreeView}
 
 -- what has been fetched since a sweep began its step
@@ -18,17 +21,28 @@ pub record Fetches (plan : PlanView) (t now : TreeView) (s s_now : State) : Type
   pub effect : Sweeps {A = Unit {0}} (view_of s) (view_of s_now) t now (Ok tt)
   pub sweeping : (given rest : List Row) (fetched unread : List Event) → IsSweeping plan t (view_of s) given rest fetched unread
       → (read left : List Event) × (unread ≡ read ++ left) × IsSweeping plan now (view_of s_now) given rest (fetched ++ read) left
+  pub still : length s.queue.items ≤ s.fetched → (now ≡ t) × (s_now ≡ s)
+  pub course : s_now.course ≡ s.course
 
 pub Fetches-none : (plan : PlanView) (t : TreeView) (s : State) → Fetches plan t t s s
 Fetches-none plan t s = record {
   effect = Sweeps-none tt (view_of s) t;
   sweeping = λ given rest fetched unread is.
       ([], unread, refl, subst (λ (events : List Event). IsSweeping plan t (view_of s) given rest events unread) (sym (append-nil fetched)) is);
+  still = λ past. (refl, refl);
+  course = refl;
 }
 
 module _ (plan : PlanView) (t now : TreeView) (s s_now : State) (so_far : Fetches plan t now s s_now) where
   pub same_schema : now.schema ≡ t.schema
   same_schema = ap (λ (v : TreeView). v.schema) so_far.effect.same
+
+  -- a region is due only where one is awaited
+  none_due : {X : Type 0} → IsDue s_now true → length s.queue.items ≤ s.fetched → X
+  none_due due past =
+      let (same_tree, same) = so_far.still past in
+      let within : s.fetched < length s.queue.items = subst (λ (state : State). state.fetched < length state.queue.items) same (due_within s_now due) in
+      absurd (omega arith)
 
   -- one more region was fetched
   pub Fetches-more : (new : TreeView) (new_s : State) → IsDue s_now true → IsOnward s_now new_s → HasFetchedNext plan.asked now new s_now new_s
@@ -43,7 +57,20 @@ module _ (plan : PlanView) (t now : TreeView) (s s_now : State) (so_far : Fetche
           parts ∙ ap (λ (events : List Event). read ++ events) one ∙ sym (append_assoc read (event ∷ []) more),
           subst (λ (events : List Event). IsSweeping plan new (view_of new_s) given rest events more) (append_assoc fetched read (event ∷ [])) next,
         );
+    still = λ past. none_due due past;
+    course = onward.0 ∙ so_far.course;
   }
+
+  -- or asked for, and that was ended by a fault
+  pub step_broken : (new : TreeView) → IsDue s_now true → HasAskedNext now new s_now → new.placed ≡ now.placed
+      → (given rest : List Row) (fetched unread : List Event) → IsSweeping plan t (view_of s) given rest fetched unread → HasBroken new (view_of s) rest fetched unread
+  step_broken new due asked placed given rest fetched unread is =
+      let (read, left, parts, under) = so_far.sweeping given rest fetched unread is in
+      broken_for new s_now s rest fetched unread so_far.course (broken_by plan now new s_now given rest fetched read left unread under parts placed due asked)
+
+  -- which isn't so after the end
+  pub end_unbroken : {X : Type 0} → IsDue s_now true → (given : List Row) (fetched : List Event) → IsSweeping plan t (view_of s) given [] fetched [] → X
+  end_unbroken due given fetched is = none_due due (at_end plan t s given fetched is).0
 
   -- then the first row was taken
   pub step_ends : (new_s : State) (row : Option Row) → IsDue s_now false → TakesFirst s_now.held new_s.held row
@@ -52,6 +79,22 @@ module _ (plan : PlanView) (t now : TreeView) (s s_now : State) (so_far : Fetche
   step_ends new_s row none takes kept given rest fetched unread is =
       let (read, left, parts, under) = so_far.sweeping given rest fetched unread is in
       chain_step plan now (view_of new_s) given rest fetched read left unread row parts (last_step plan now s_now new_s given rest (fetched ++ read) left row under none takes kept)
+
+  -- after the end none is taken
+  pub step_rests : (new_s : State) (row : Option Row) → TakesFirst s_now.held new_s.held row
+      → (new_s.course ≡ s_now.course) × (new_s.queue ≡ s_now.queue) × (new_s.fetched ≡ s_now.fetched)
+      → (given : List Row) (fetched : List Event) → IsSweeping plan t (view_of s) given [] fetched [] → Rests (view_of s) (view_of new_s) t now (Ok row)
+  step_rests new_s row takes kept given fetched is =
+      let (past, empty) = at_end plan t s given fetched is in
+      let (same_tree, same) = so_far.still past in
+      subst (λ (tree : TreeView). Rests (view_of s) (view_of new_s) t tree (Ok row)) (sym same_tree)
+      (rests_by t s new_s row empty (subst (λ (state : State). TakesFirst state.held new_s.held row) same takes)
+      (subst (λ (state : State). (new_s.course ≡ state.course) × (new_s.queue ≡ state.queue) × (new_s.fetched ≡ state.fetched)) same kept))
+
+-- what holds where there is a fault
+pub on_err : {T E : Type 0} (r : Result T E) (P : Type 0) → P → OnErr r P
+on_err (Ok x) P p = tt
+on_err (Err e) P p = p
 
 -- fewer regions are awaited
 pub fewer : {X : Type 0} (queue new_queue : List X) (k n : ℕ) → new_queue ≡ queue → n ≡ k + 1 → k < length queue → length new_queue - n < length queue - k

@@ -1,6 +1,7 @@
 -- What the calls of a sweep can answer, and what they leave of the tree.
-use Rattle.std.specs.Prelude.{◌≡◌, ◌≢◌, ◌++◌, [], ℕ, zero, suc, Bool, true, false, IsTrue, List, Result, Err, IfErr, OnOk, Contains, length}
+use Rattle.std.specs.Prelude.{◌≡◌, ◌≢◌, ◌++◌, [], ℕ, zero, suc, Bool, true, false, IsTrue, List, Option, None, Result, Ok, Err, IfErr, OnOk, Contains, length}
 use Rattle.ub_store.specs.Facts.{StoreFacts, raised}
+use Rattle.ub_table.specs.declared.row.Row.{Row}
 use Rattle.ub_tetris.specs.Sweep.{AwaitedRegion, SweepView, AreItsRegions}
 use Rattle.ub_tetris.specs.declared.fault.SweepFault.{SweepFault}
 use Rattle.ub_tetris.specs.declared.fault.SweepFault.TheVariants.{Memory, Tree, Failed}
@@ -62,6 +63,12 @@ pub record FailsOnce {A : Type 0} (s new_s : SweepView) (old new : TreeView) (re
   pub fails : IfErr result (λ fault. new_s.is_failed ≡ true)
   pub works : OnOk result (new_s.is_failed ≡ false)
   pub stays : IsTrue s.is_failed → (result ≡ Err Failed) × (new_s ≡ s) × (new ≡ old)
+
+-- after the end nothing changes
+pub record Rests (s new_s : SweepView) (old new : TreeView) (result : Result (Option Row) SweepFault) : Type 0 where
+  pub none : result ≡ Ok None
+  pub sweep_is : new_s ≡ s
+  pub tree_is : new ≡ old
 
 -- a tree was searched and no more
 pub record Searches {A : Type 0} (old new : TreeView) (result : Result A SweepFault) : Type 0 where

@@ -80,6 +80,16 @@ abbrev pub HasStepped : PlanView → TreeView → SweepView → List Row → Lis
 HasStepped plan t s given rest fetched unread None = HasEnded plan t s given rest fetched unread
 HasStepped plan t s given rest fetched unread (Some row) = HasGiven plan t s given rest fetched unread row
 
+-- asking for the next row was ended by a fault: of the regions not yet fetched the first ones were fetched, each once and in
+-- order, none of them past the next row where there is one; their pages stand in the trace
+pub record HasBroken (t : TreeView) (s : SweepView) (rest : List Row) (fetched unread : List Event) : Type 0 where
+  pub read : List Event
+  pub left : List Event
+  pub parts : unread ≡ read ++ left
+  pub reached : (row : Row) (more : List Row) → rest ≡ row ∷ more
+      → All (λ event. ¬ IsRowAlong s.dim s.is_descending row event.value) read
+  pub noted : AreNoted t (fetched ++ read)
+
 -- a sweep that was begun over a tree: no row was given, and no region fetched
 pub record HasBegun (plan : PlanView) (t : TreeView) (s : SweepView) : Type 0 where
   pub rest : List Row

@@ -1,11 +1,11 @@
-ghost use Rattle.std.specs.Prelude.{◌≡◌, ◌<◌, [], length, List, IfOk, OnOk, slice_index};
+ghost use Rattle.std.specs.Prelude.{◌≡◌, ◌<◌, [], length, List, IfOk, OnErr, OnOk, slice_index};
 ghost use Rattle.ub_plan.specs.Visits.{Event};
 ghost use Rattle.ub_query.specs.Posed.{IsPosed};
 ghost use Rattle.ub_query.specs.Shape.{asked};
 ghost use Rattle.ub_table.specs.declared.row.Row.{Row as RowView};
-ghost use Rattle.ub_tetris.specs.Effects.{Sweeps};
-ghost use Rattle.ub_tetris.specs.Sweep.{IsSweeping, HasStepped};
-ghost use Rattle.ub_tetris.specs.inner.Turns.{HoldsAlso, HasFetchedNext, IsDue, IsOnward, view_of};
+ghost use Rattle.ub_tetris.specs.Effects.{Rests, Sweeps};
+ghost use Rattle.ub_tetris.specs.Sweep.{IsSweeping, HasBroken, HasStepped};
+ghost use Rattle.ub_tetris.specs.inner.Turns.{HoldsAlso, HasAskedNext, HasFetchedNext, IsDue, IsOnward, view_of};
 
 use crate::course::Course;
 use crate::event::{Awaited, is_past};
@@ -64,6 +64,12 @@ impl State {
             → IsSweeping plan.now tree.old (view_of self.old) given rest fetched unread
             → IfOk result
             (HasStepped plan.now tree.new (view_of self.new) given rest fetched unread) }
+        ensures broken { (given rest : List RowView) (fetched unread : List Event)
+            → IsSweeping plan.now tree.old (view_of self.old) given rest fetched unread
+            → OnErr result (HasBroken tree.new (view_of self.old) rest fetched unread) }
+        ensures rests { (given : List RowView) (fetched : List Event)
+            → IsSweeping plan.now tree.old (view_of self.old) given [] fetched []
+            → Rests (view_of self.old) (view_of self.new) tree.old tree.new result }
         ensures effect { Sweeps (view_of self.old) (view_of self.new) tree.old tree.new result }
     {
         while self.is_due() {
@@ -91,13 +97,15 @@ impl State {
         requires posed { IsPosed (length tree.old.schema.columns) (asked query.now) }
         requires some { self.old.fetched < length self.old.queue.items }
         ensures onward { IsOnward self.old self.new }
+        ensures asked { HasAskedNext tree.old tree.new self.old }
         ensures rows { OnOk result
             (HasFetchedNext (asked query.now) tree.old tree.new self.old self.new) }
         ensures effect { Sweeps (view_of self.old) (view_of self.new) tree.old tree.new result }
     {
         let region = self.queue[self.fetched].region;
         self.fetched += 1;
-        let page = tree.read_region(&region)?;
+        let mut page = tree.empty_region();
+        tree.read_region(&region, &mut page)?;
         hold_selected(
             &mut self.held,
             self.alloc,

@@ -30,13 +30,13 @@ impl Model for Sweep {
 }
 
 impl Sweep {
-    ghost use Rattle.std.specs.Prelude.{◌≡◌, ℕ, Bool, List, length, IfOk};
+    ghost use Rattle.std.specs.Prelude.{◌≡◌, ℕ, Bool, List, [], length, IfOk, OnErr};
     ghost use Rattle.ub_plan.specs.Visits.{Event};
     ghost use Rattle.ub_query.specs.Posed.{IsPosed};
     ghost use Rattle.ub_table.specs.declared.row.Row.{Row as RowView};
-    ghost use Rattle.ub_tetris.specs.Effects.{Begins, FailsOnce, Sweeps};
+    ghost use Rattle.ub_tetris.specs.Effects.{Begins, FailsOnce, Rests, Sweeps};
     ghost use Rattle.ub_tetris.specs.inner.Turns.{begun_view};
-    ghost use Rattle.ub_tetris.specs.Sweep.{HasBegun, HasStepped, IsStarted, IsSweeping, IsSwept};
+    ghost use Rattle.ub_tetris.specs.Sweep.{HasBegun, HasBroken, HasStepped, IsStarted, IsSweeping, IsSwept};
 
     /// Begins a sweep by a plan. The trace begins anew; no region is fetched. Of a plan that is no sweep it comes to no region.
     ///
@@ -71,7 +71,7 @@ impl Sweep {
 
     /// The next row in the order asked; `None` after the last, however often it is asked.
     ///
-    /// No region is fetched that can only hold rows after this one. `Memory` where memory was refused; `Tree` where the tree
+    /// No region is fetched that can only hold rows after this one, nor twice, also where it answers a fault. `Memory` where memory was refused; `Tree` where the tree
     /// refused; after either of them `Failed` each time.
     pub fn next<S: PageStore>(
         &mut self,
@@ -82,6 +82,12 @@ impl Sweep {
         ensures next { (given rest : List RowView) (fetched unread : List Event)
             → IsSweeping plan.now tree.old self.old given rest fetched unread
             → IfOk result (HasStepped plan.now tree.new self.new given rest fetched unread) }
+        ensures broken { (given rest : List RowView) (fetched unread : List Event)
+            → IsSweeping plan.now tree.old self.old given rest fetched unread
+            → OnErr result (HasBroken tree.new self.old rest fetched unread) }
+        ensures rests { (given : List RowView) (fetched : List Event)
+            → IsSweeping plan.now tree.old self.old given [] fetched []
+            → Rests self.old self.new tree.old tree.new result }
         ensures once { FailsOnce self.old self.new tree.old tree.new result }
         ensures effect { Sweeps self.old self.new tree.old tree.new result }
     {

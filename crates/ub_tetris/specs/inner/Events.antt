@@ -6,7 +6,7 @@ use Rattle.std.specs.Ordering.{nat_cmp, ordering_then}
 use Rattle.std.specs.declared.cmp.Ordering.{Ordering}
 use Rattle.ub_bigmin.specs.Box.{Corners, IsValueInSpan}
 use Rattle.ub_bigmin.specs.Extremes.{Least, Greatest}
-use Rattle.ub_plan.specs.Visits.{AreThose}
+use Rattle.ub_region.specs.Those.{AreThose}
 use Rattle.ub_tetris.specs.declared.course.Course.{Course}
 use Rattle.ub_tetris.specs.declared.event.Awaited.{Awaited}
 use Rattle.ub_tree.specs.Spans.{Meets}

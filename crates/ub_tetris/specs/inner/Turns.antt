@@ -1,5 +1,5 @@
 -- What the turns of a sweep do to its state: the next region is fetched, or the first row is taken.
-use Rattle.std.specs.Prelude.{◌≡◌, ◌++◌, ◌+◌, Bool, false, true, not, List, [], Option, Some, None, map, drop, slice_get, slice_index}
+use Rattle.std.specs.Prelude.{◌≡◌, ◌++◌, ◌+◌, ◌⊎◌, Bool, false, true, not, List, [], Option, Some, None, map, drop, slice_get, slice_index}
 use Rattle.std.specs.List.{filter, Contains}
 use Rattle.std.specs.List.Sorted.{IsPermutation}
 use Rattle.ub_plan.specs.Visits.{is_past}
@@ -15,7 +15,7 @@ use Rattle.ub_tetris.specs.declared.state.State.{State}
 use Rattle.ub_tetris.specs.inner.Kept.{IsFirstOf}
 use Rattle.ub_tree.specs.Effects.{HasNoted}
 use Rattle.ub_tree.specs.Placed.{Placed}
-use Rattle.ub_tree.specs.View.{TreeView, IsSound, spans_of}
+use Rattle.ub_tree.specs.View.{TreeView, IsSound, KeepsTrace, spans_of}
 
 -- what contracts see of a sweep in this state
 abbrev pub awaited_of : List Awaited → List AwaitedRegion
@@ -54,6 +54,12 @@ HoldsAlso schema q rows old new =
 -- one region more is behind
 abbrev pub IsOnward : State → State → Type 0
 IsOnward old new = (new.course ≡ old.course) × (new.queue ≡ old.queue) × (new.fetched ≡ old.fetched + 1)
+
+-- the region at the sweep's place was asked for: its page was noted, or the tree refused before
+pub record HasAskedNext (t new : TreeView) (s : State) : Type 0 where
+  pub next : Awaited
+  pub at : slice_get s.queue.items s.fetched ≡ Some next
+  pub noted : KeepsTrace t new ⊎ HasNoted next.region.page t new
 
 -- the region at the sweep's place was fetched, and its selected rows are held too
 pub record HasFetchedNext (q : Asked) (t new : TreeView) (s new_s : State) : Type 0 where

@@ -1,7 +1,8 @@
-use Rattle.std.proofs.Common.{◌≡◌, ◌⊎◌, inl, inr, IfOk, OnOk, subst, sym}
+use Rattle.std.proofs.Common.{◌≡◌, ◌⊎◌, inl, inr, ℕ, IfOk, OnOk, subst, sym}
+use Rattle.std.specs.Prelude.{OnErr}
 use Rattle.ub_exec.proofs.KeptFacts.{Keeps-by, begun_traced, reads_then}
 use Rattle.ub_exec.specs.Answers.{IsReady, IsAnswer, IsSwept, begun}
-use Rattle.ub_exec.specs.Visits.{HasFetched}
+use Rattle.ub_exec.specs.Visits.{HasFetched, HasFetchedFirst}
 use Rattle.ub_plan.specs.Plan.{PlanView, plan_of}
 use Rattle.ub_plan.specs.declared.planned.Kind.{Kind}
 use Rattle.ub_plan.specs.declared.planned.Kind.TheVariants.{Empty, Scan, Sweep}
@@ -29,5 +30,7 @@ returns-in-Empty g c = record {
       (c.scanned_rows.ensures.rows (then c.args.tree.now c.begin.new.self c.args.plan.now c.begin.ensures ready));
   pages = λ ready. subst (λ (t : TreeView). OnOk c.scanned_rows.result (HasFetched c.args.plan.now t c.scanned_rows.new.tree)) c.begin.ensures
       (c.scanned_rows.ensures.pages (then c.args.tree.now c.begin.new.self c.args.plan.now c.begin.ensures ready) (apart c.kind.result c.args.plan.now.kind c.kind.ensures c.in-Empty.is));
+  broken = λ ready. subst (λ (t : TreeView). OnErr c.scanned_rows.result ((count : ℕ) × HasFetchedFirst c.args.plan.now t c.scanned_rows.new.tree count)) c.begin.ensures
+      (c.scanned_rows.ensures.broken (then c.args.tree.now c.begin.new.self c.args.plan.now c.begin.ensures ready) (apart c.kind.result c.args.plan.now.kind c.kind.ensures c.in-Empty.is));
   effect = reads_then c.scanned_rows.result c.args.tree.now c.begin.new.self c.scanned_rows.new.tree (begun_traced c.args.tree.now c.begin.new.self c.begin.ensures) c.scanned_rows.ensures.effect;
 }

@@ -1,6 +1,7 @@
 use Rattle.std.proofs.Common.{◌≡◌, ◌≢◌, ◌∙◌, Bool, true, false, [], Some, ap, refl, subst, sym}
 use Rattle.std.specs.List.{filter}
 use Rattle.ub_answer.specs.Gathered.{IsGathered}
+use Rattle.ub_exec.proofs.FirstFacts.{all_fetched, on_err, walked_first}
 use Rattle.ub_exec.proofs.MeantFacts.{nothing_fetched, walk_fetched, answered}
 use Rattle.ub_exec.specs.Choice.{is_chosen}
 use Rattle.ub_plan.proofs.Laws.{limit_of_zero_means_nothing}
@@ -44,3 +45,17 @@ returns-clause-pages g c ready apart =
     let begun = subst (λ (q : Asked). IsGathered c.args.tree.now.schema q [] c.new-gathering.result) same (subst (λ (s : Schema). IsGathered s query [] c.new-gathering.result) c.schema.ensures c.new-gathering.ensures.gathered) in
     let (handed, held, walk) = c.in_ok-walk.ensures.rows [] begun in
     walk_fetched c.args.plan.now c.args.tree.now c.walk.new.tree handed ready.sound ready.planned apart (walk ready.sound)
+
+pub returns-in_err-walk-clause-broken : goal.returns-in_err-walk-clause-broken
+returns-in_err-walk-clause-broken g c ready apart =
+    let query = asked c.query-query.result.now in
+    let begun = subst (λ (q : Asked). IsGathered c.args.tree.now.schema q [] c.new-gathering.result) c.query-query.ensures (subst (λ (s : Schema). IsGathered s query [] c.new-gathering.result) c.schema.ensures c.new-gathering.ensures.gathered) in
+    on_err c.from_residual.result _ (walked_first c.args.plan.now c.args.tree.now c.walk.new.tree ready apart (c.in_err-walk.ensures.broken [] begun ready.sound))
+
+pub returns-in_err-finish-clause-broken : goal.returns-in_err-finish-clause-broken
+returns-in_err-finish-clause-broken g c ready apart =
+    let query = asked c.query-query.result.now in
+    let begun = subst (λ (q : Asked). IsGathered c.args.tree.now.schema q [] c.new-gathering.result) c.query-query.ensures (subst (λ (s : Schema). IsGathered s query [] c.new-gathering.result) c.schema.ensures c.new-gathering.ensures.gathered) in
+    let (handed, held, walk) = c.in_ok-walk.ensures.rows [] begun in
+    on_err c.from_residual-in_err-finish.result _
+    (all_fetched c.args.plan.now c.args.tree.now c.walk.new.tree (walk_fetched c.args.plan.now c.args.tree.now c.walk.new.tree handed ready.sound ready.planned apart (walk ready.sound)))

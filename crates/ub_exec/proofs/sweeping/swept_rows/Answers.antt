@@ -1,6 +1,8 @@
 use Rattle.std.proofs.Common.{◌≡◌, ◌<◌, ◌∙◌, ◌++◌, ◌∷◌, [], ℕ, List, length, map, ap, subst, sym, arith}
 use Rattle.std.proofs.lemmas.List.{length-map}
 use Rattle.std.specs.List.{AllByRecursion}
+use Rattle.ub_exec.proofs.BreakFacts.{ready_begun, swept_after, swept_before}
+use Rattle.ub_exec.proofs.FirstFacts.{none_fetched, on_err}
 use Rattle.ub_exec.proofs.KeptFacts.{Keeps-by, Keeps-more, begun_traced, reads_by}
 use Rattle.ub_exec.proofs.SweptFacts.{HasSwept, HasSwept-none, HasSwept-more, swept_kind, begun_fetches, noted_more, wide_more, end_is, at_end, ended_fetched, ended_answered, filled_fetched, filled_answered}
 use Rattle.ub_query.specs.Cells.{row_cell}
@@ -8,6 +10,8 @@ use Rattle.ub_query.specs.Shape.{Asked, asked}
 use Rattle.ub_query.specs.declared.cell.Cell.{Cell}
 use Rattle.ub_query.specs.declared.query.Item.{Item}
 use Rattle.ub_table.specs.declared.schema.Schema.{Schema}
+use Rattle.ub_exec.specs.Answers.{begun}
+use Rattle.ub_tree.specs.View.{TreeView}
 use Rattle.ub_exec.proofs.sweeping.swept_rows.Goals as goal
 
 pub loop-turn-init : goal.loop-turn-init
@@ -88,3 +92,31 @@ returns-clause-pages g c ready kind =
     let inv = c.loop-turn.invariant in
     let end = end_is (asked c.query-query.result.now) c.args.plan.now.asked c.args.tree.now c.begin_sweep.new.tree _ _ c.turns-turn-end.ensures c.rows.ensures c.in_ok-sweep.ensures.trace c.query-query.ensures in
     filled_fetched c.args.plan.now c.args.tree.now c.loop-turn.tree c.loop-turn.sweep c.loop-turn._turn c.loop-turn.rows inv.kept inv.fetches (inv.come ready kind) kind (at_end _ _ _ c.loop-turn-test.false inv.within end)
+
+pub returns-in_err-sweep-clause-broken : goal.returns-in_err-sweep-clause-broken
+returns-in_err-sweep-clause-broken g c ready kind =
+    on_err c.from_residual.result _ (none_fetched c.args.plan.now (begun c.args.tree.now) c.begin_sweep.new.tree (ready_begun c.args.tree.now c.args.plan.now ready) c.in_err-sweep.ensures.broken)
+
+pub returns-in_err-row-clause-broken : goal.returns-in_err-row-clause-broken
+returns-in_err-row-clause-broken g c ready kind =
+    let inv = c.loop-turn.invariant in
+    let swept = inv.come ready kind in
+    let end = end_is (asked c.query-query.result.now) c.args.plan.now.asked c.args.tree.now c.begin_sweep.new.tree _ _ c.turns-turn-end.ensures c.rows.ensures c.in_ok-sweep.ensures.trace c.query-query.ensures in
+    on_err c.from_residual-in_err-row.result _
+    (swept_before c.args.plan.now c.args.tree.now c.loop-turn.tree c.next_row.new.tree c.loop-turn.sweep c.loop-turn._turn c.loop-turn.rows inv.kept swept
+    (ap (λ (t : TreeView). t.placed) c.in_err-row.ensures.effect.same)
+    (noted_more c.args.tree.now c.loop-turn.tree c.next_row.new.tree inv.fetches c.in_err-row.ensures.noted)
+    (subst (λ (n : ℕ). c.loop-turn._turn < n) end c.loop-turn-test.true)
+    (c.in_err-row.ensures.broken swept.given swept.rest swept.fetched swept.unread swept.sweeping))
+
+pub returns-in_err-push_row-clause-broken : goal.returns-in_err-push_row-clause-broken
+returns-in_err-push_row-clause-broken g c ready kind =
+    let inv = c.loop-turn.invariant in
+    let swept = inv.come ready kind in
+    let after = Keeps-by c.loop-turn.tree c.next_row.new.tree c.in_ok-row.ensures.effect.same in
+    let end = end_is (asked c.query-query.result.now) c.args.plan.now.asked c.args.tree.now c.begin_sweep.new.tree _ _ c.turns-turn-end.ensures c.rows.ensures c.in_ok-sweep.ensures.trace c.query-query.ensures in
+    on_err c.from_residual-in_err-push_row.result _
+    (swept_after c.args.plan.now c.args.tree.now c.loop-turn.tree c.next_row.new.tree c.loop-turn.sweep c.next_row.new.sweep c.loop-turn._turn c.loop-turn.rows swept (Keeps-more _ _ _ inv.kept after)
+    (noted_more c.args.tree.now c.loop-turn.tree c.next_row.new.tree inv.fetches c.in_ok-row.ensures.noted)
+    (subst (λ (n : ℕ). c.loop-turn._turn < n) end c.loop-turn-test.true) c.in-Some.row
+    (rw c.in-Some.is at (c.in_ok-row.ensures.next swept.given swept.rest swept.fetched swept.unread swept.sweeping)))

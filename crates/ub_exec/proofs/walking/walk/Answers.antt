@@ -1,6 +1,7 @@
 use Rattle.std.proofs.Common.{◌++◌, ◌+◌, List, [], sym, subst, arith}
 use Rattle.std.proofs.lemmas.List.{append-nil}
 use Rattle.std.specs.List.{filter}
+use Rattle.ub_exec.proofs.FirstFacts.{on_err, turned_first}
 use Rattle.ub_exec.proofs.KeptFacts.{Keeps-by, Keeps-more, Keeps-none}
 use Rattle.ub_exec.proofs.WalkFacts.{HasCome-none, ended_by, turned_to, handed_more}
 use Rattle.ub_exec.specs.Choice.{is_chosen}
@@ -51,3 +52,11 @@ loop-turn-preserved g c =
                 (c.loop-turn._turn + 1) c.in_ok-after.after _ (omega arith) c.as_ref.ensures.value c.if-is_none.ensures (turn (inv.kept.sound sound)),
           );
     }
+
+pub returns-in_err-after-clause-broken : goal.returns-in_err-after-clause-broken
+returns-in_err-after-clause-broken g c taken has sound =
+    let inv = c.loop-turn.invariant in
+    let (rows, held, come) = inv.come taken has in
+    on_err c.from_residual.result _
+    (turned_first c.args.plan.now.covering.boxes c.loop-turn._turn c.args.tree.now c.loop-turn.tree c.visit_next.new.tree sound inv.kept c.loop-turn.after _ rows (come sound) c.as_ref.ensures.value
+    (c.in_err-after.ensures.broken (inv.kept.sound sound)))

@@ -25,7 +25,7 @@ returns-clause-begun g c sound =
     let ranges : AreStatements c.deref-2.result.now c.deref-3.result.now = same_statements _ _ _ _ (c.deref-2.ensures.value ∙ sym c.deref.ensures.value) c.deref-3.ensures.value c.in_ok-ranges.ensures.statements in
     let there = table_there c.args.tree.now sound in
     if_err c.run_statements.result _ _
-    (λ e h differs. inr (stopped_as _ _ (on_tree c.args.tree.now there.0 c.args.script.now _ _ there.1 tokens ranges) _ _ 0 0 (h differs)))
+    (λ e h differs. inr (stopped_as _ _ (on_tree c.args.tree.now there.0 c.args.script.now _ _ there.1 tokens ranges) _ _ _ _ (h differs)))
     (c.run_statements.ensures.begun there.0 there.1)
 
 pub returns-clause-write : goal.returns-clause-write

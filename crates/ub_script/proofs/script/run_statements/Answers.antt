@@ -40,7 +40,8 @@ returns-in_err-run_statement-clause-begun g c table is =
     let inv = c.loop-range.invariant in
     other_err _ _ _ c.from_residual.ensures.1
     (λ differs. come_stopped table _ c.args.source.now c.args.tokens.now c.args.ranges.now c.loop-range.range-index c.loop-range.refused _ _ _ _ _ (0, 0) c.loop-range-test.true
-    (inv.run table is) (c.in_err-run_statement.ensures.begun differs))
+    (inv.run table is) _ (c.in_err-run_statement.ensures.begun differs)
+    (rw (regions_kept _ _ inv.kept) at (c.in_err-run_statement.ensures.stopped table (table_kept _ _ table inv.kept is) differs)))
 
 pub returns-in_err-run_statement-clause-write : goal.returns-in_err-run_statement-clause-write
 returns-in_err-run_statement-clause-write g c table is same =

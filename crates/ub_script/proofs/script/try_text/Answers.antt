@@ -21,7 +21,7 @@ returns-clause-write g c is =
 pub returns-clause-memory : goal.returns-clause-memory
 returns-clause-memory g c is =
     let loaded = c.in_ok-tree.ensures.loaded refl in
-    loaded_stopped _ _ _ _ _ loaded _ _ _ c.run.result _ is (λ e. cc) (c.run.ensures.begun loaded.sound)
+    loaded_stopped _ _ _ _ _ loaded _ _ _ _ _ c.run.result _ is (λ e. cc) (c.run.ensures.begun loaded.sound)
 
 pub returns-clause-tree : goal.returns-clause-tree
 returns-clause-tree g c fault is =

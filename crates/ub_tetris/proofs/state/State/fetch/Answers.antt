@@ -1,31 +1,52 @@
-use Rattle.std.proofs.Common.{◌∙◌, ap, refl}
+use Rattle.std.proofs.Common.{◌∙◌, ap, inr, refl}
 use Rattle.ub_query.specs.Shape.{asked}
-use Rattle.ub_tetris.proofs.EffectFacts.{memory_swept, read_swept, tree_swept}
+use Rattle.ub_tetris.proofs.EffectFacts.{either_noted, memory_swept, read_swept, tree_swept}
 use Rattle.ub_tetris.proofs.FetchFacts.{has_fetched, next_at, next_awaited}
 use Rattle.ub_tetris.specs.inner.Turns.{view_of}
 use Rattle.ub_tree.specs.View.{TreeView}
 use Rattle.ub_tetris.proofs.state.State.fetch.Goals as goal
 
-pub returns-in_err-page-clause-effect : goal.returns-in_err-page-clause-effect
-returns-in_err-page-clause-effect g c =
+pub returns-in_err-read_region-clause-asked : goal.returns-in_err-read_region-clause-asked
+returns-in_err-read_region-clause-asked g c = record {
+  next = c.index.result.now;
+  at = next_at c.args.self.now.queue.items c.args.self.now.fetched c.index.result.now c.requires.some c.index.ensures;
+  noted = either_noted _ c.args.tree.now c.read_region.new.self _ c.in_err-read_region.ensures.effect.noted;
+}
+
+pub returns-in_err-hold_selected-clause-asked : goal.returns-in_err-hold_selected-clause-asked
+returns-in_err-hold_selected-clause-asked g c = record {
+  next = c.index.result.now;
+  at = next_at c.args.self.now.queue.items c.args.self.now.fetched c.index.result.now c.requires.some c.index.ensures;
+  noted = inr c.in_ok-read_region.ensures.effect.listed;
+}
+
+pub returns-clause-asked : goal.returns-clause-asked
+returns-clause-asked g c = record {
+  next = c.index.result.now;
+  at = next_at c.args.self.now.queue.items c.args.self.now.fetched c.index.result.now c.requires.some c.index.ensures;
+  noted = inr c.in_ok-read_region.ensures.effect.listed;
+}
+
+pub returns-in_err-read_region-clause-effect : goal.returns-in_err-read_region-clause-effect
+returns-in_err-read_region-clause-effect g c =
     tree_swept c.from_residual.result _ (view_of c.args.self.now) _ _ c.args.tree.now c.read_region.new.self c.from_residual.ensures.1
     (next_awaited c.args.self.now.queue.items c.args.self.now.fetched _ c.index.result.now refl (next_at c.args.self.now.queue.items c.args.self.now.fetched c.index.result.now c.requires.some c.index.ensures))
-    c.in_err-page.ensures.effect
+    c.in_err-read_region.ensures.effect
 
 pub returns-in_err-hold_selected-clause-effect : goal.returns-in_err-hold_selected-clause-effect
 returns-in_err-hold_selected-clause-effect g c =
     memory_swept c.from_residual-in_err-hold_selected.result (view_of c.args.self.now) _ _ c.args.tree.now c.read_region.new.self c.from_residual-in_err-hold_selected.ensures.1
     (next_awaited c.args.self.now.queue.items c.args.self.now.fetched _ c.index.result.now refl (next_at c.args.self.now.queue.items c.args.self.now.fetched c.index.result.now c.requires.some c.index.ensures))
-    c.in_ok-page.ensures.effect.same c.in_ok-page.ensures.effect.listed
+    c.in_ok-read_region.ensures.effect.same c.in_ok-read_region.ensures.effect.listed
 
 pub returns-clause-effect : goal.returns-clause-effect
 returns-clause-effect g c =
     read_swept tt (view_of c.args.self.now) _ _ c.args.tree.now c.read_region.new.self
     (next_awaited c.args.self.now.queue.items c.args.self.now.fetched _ c.index.result.now refl (next_at c.args.self.now.queue.items c.args.self.now.fetched c.index.result.now c.requires.some c.index.ensures))
-    c.in_ok-page.ensures.effect.same c.in_ok-page.ensures.effect.listed
+    c.in_ok-read_region.ensures.effect.same c.in_ok-read_region.ensures.effect.listed
 
 pub returns-clause-rows : goal.returns-clause-rows
 returns-clause-rows g c =
-    has_fetched (asked c.args.query.now) c.args.tree.now c.read_region.new.self c.args.self.now _ c.index.result.now c.in_ok-page.page.region c.schema.result.now c.rows.result.now
-    (next_at c.args.self.now.queue.items c.args.self.now.fetched c.index.result.now c.requires.some c.index.ensures) c.in_ok-page.ensures.effect.listed c.in_ok-page.ensures.stands
-    c.in_ok-page.ensures.first (c.schema.ensures ∙ ap (λ (t : TreeView). t.schema) c.in_ok-page.ensures.effect.same) c.rows.ensures.rows c.in_ok-hold_selected.ensures
+    has_fetched (asked c.args.query.now) c.args.tree.now c.read_region.new.self c.args.self.now _ c.index.result.now c.read_region.new.page.region c.schema.result.now c.rows.result.now
+    (next_at c.args.self.now.queue.items c.args.self.now.fetched c.index.result.now c.requires.some c.index.ensures) c.in_ok-read_region.ensures.effect.listed c.in_ok-read_region.ensures.stands
+    c.in_ok-read_region.ensures.first (c.schema.ensures ∙ ap (λ (t : TreeView). t.schema) c.in_ok-read_region.ensures.effect.same) c.rows.ensures.rows c.in_ok-hold_selected.ensures

@@ -2,8 +2,9 @@ use Rattle.std.proofs.Common.{Bool, Err, ap, refl, subst}
 use Rattle.ub_query.specs.Shape.{Asked}
 use Rattle.ub_tetris.proofs.EffectFacts.{sweeps_then, swept_by}
 use Rattle.ub_tetris.proofs.FetchFacts.{due_within}
-use Rattle.ub_tetris.proofs.StepsFacts.{Fetches-more, Fetches-none, fewer, step_ends}
+use Rattle.ub_tetris.proofs.StepsFacts.{Fetches-more, Fetches-none, end_unbroken, fewer, on_err, step_broken, step_ends, step_rests}
 use Rattle.ub_tetris.specs.inner.Turns.{HasFetchedNext, IsDue, view_of}
+use Rattle.ub_tree.specs.View.{TreeView}
 use Rattle.ub_tetris.proofs.state.State.step.Goals as goal
 
 pub loop-self-init : goal.loop-self-init
@@ -33,3 +34,19 @@ pub returns-clause-next : goal.returns-clause-next
 returns-clause-next g c given rest fetched unread is =
     step_ends c.args.plan.now c.args.tree.now c.loop-self.tree c.args.self.now c.loop-self.self c.loop-self.invariant _ c.take_first.result
     (subst (λ (due : Bool). IsDue c.loop-self.self due) c.loop-self-test.false c.is_due.ensures) c.take_first.ensures (refl, refl, refl) given rest fetched unread is
+
+pub returns-in_err-fetch-clause-broken : goal.returns-in_err-fetch-clause-broken
+returns-in_err-fetch-clause-broken g c given rest fetched unread is =
+    on_err c.from_residual.result _
+    (step_broken c.args.plan.now c.args.tree.now c.loop-self.tree c.args.self.now c.loop-self.self c.loop-self.invariant c.fetch.new.tree
+    (subst (λ (due : Bool). IsDue c.loop-self.self due) c.loop-self-test.true c.is_due.ensures) c.in_err-fetch.ensures.asked
+    (ap (λ (t : TreeView). t.placed) c.in_err-fetch.ensures.effect.same) given rest fetched unread is)
+
+pub returns-in_err-fetch-clause-rests : goal.returns-in_err-fetch-clause-rests
+returns-in_err-fetch-clause-rests g c given fetched is =
+    end_unbroken c.args.plan.now c.args.tree.now c.loop-self.tree c.args.self.now c.loop-self.self c.loop-self.invariant
+    (subst (λ (due : Bool). IsDue c.loop-self.self due) c.loop-self-test.true c.is_due.ensures) given fetched is
+
+pub returns-clause-rests : goal.returns-clause-rests
+returns-clause-rests g c given fetched is =
+    step_rests c.args.plan.now c.args.tree.now c.loop-self.tree c.args.self.now c.loop-self.self c.loop-self.invariant _ c.take_first.result c.take_first.ensures (refl, refl, refl) given fetched is

@@ -1,0 +1,17 @@
+use Rattle.std.proofs.Common.{[], subst, sym}
+use Rattle.std.specs.Prelude.{OnErr}
+use Rattle.ub_tetris.proofs.BrokenFacts.{rests_seen, same_view}
+use Rattle.ub_tetris.specs.Sweep.{HasBroken, IsSweeping, SweepView}
+use Rattle.ub_tetris.proofs.sweep.Sweep.next.Goals as goal
+
+pub returns-clause-broken : goal.returns-clause-broken
+returns-clause-broken g c given rest fetched unread is =
+    let same = same_view c.self.inside.state c.self.inside.is_failed c.args.self.now c.self.view_is c.if-self.false in
+    subst (λ (view : SweepView). OnErr c.step-found.result (HasBroken c.step-found.new.tree view rest fetched unread)) (sym same)
+    (c.step-found.ensures.broken given rest fetched unread (subst (λ (view : SweepView). IsSweeping c.args.plan.now c.args.tree.now view given rest fetched unread) same is))
+
+pub returns-clause-rests : goal.returns-clause-rests
+returns-clause-rests g c given fetched is =
+    let same = same_view c.self.inside.state c.self.inside.is_failed c.args.self.now c.self.view_is c.if-self.false in
+    rests_seen c.step-found.result c.self.inside.state c.step-found.new.self c.args.self.now c.is_err-self-inside.result c.args.tree.now c.step-found.new.tree same c.is_err-self-inside.ensures.value
+    (c.step-found.ensures.rests given fetched (subst (λ (view : SweepView). IsSweeping c.args.plan.now c.args.tree.now view given [] fetched []) same is))
