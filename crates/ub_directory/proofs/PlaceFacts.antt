@@ -6,7 +6,7 @@ use Rattle.std.proofs.lemmas.Option.{slice_get-map, slice_get_read}
 use Rattle.std.specs.Option.{option_map}
 use Rattle.ub_page.specs.declared.directory.Entry.{Entry}
 use Rattle.ub_region.specs.Regions.{place_of}
-use Rattle.ub_table.proofs.KeyFacts.{ascending_get, before_of, precedes_of, precedes_trans}
+use Rattle.ub_table.proofs.Laws.{ascending_get, before_of, precedes_of, precedes_trans}
 use Rattle.ub_table.specs.Keys.{IsBefore, precedes, is_same, are_ascending}
 use Rattle.ub_table.specs.declared.row.Key.{Key}
 use Rattle.ub_directory.specs.Slots.{first_keys}

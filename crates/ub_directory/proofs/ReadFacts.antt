@@ -13,7 +13,7 @@ use Rattle.ub_region.proofs.Laws.{all_more, all_append}
 use Rattle.ub_store.specs.Facts.{StoreFacts, IsHonest, IsPage, counted, page_count}
 use Rattle.ub_store.specs.View.{PagerView, SameTrace}
 use Rattle.ub_store.specs.declared.fault.StoreFault.{StoreFault}
-use Rattle.ub_table.proofs.KeyFacts.{precedes_of}
+use Rattle.ub_table.proofs.Laws.{precedes_of}
 use Rattle.ub_table.specs.Keys.{origin, precedes, is_same, are_ascending}
 use Rattle.ub_directory.specs.Reading.{read_store, Spells, AreFull, AreBegun, HasPart, IsReadUpTo, IsReadWhole, IsAskedFor, IsReadFault, IsSamePager, Opens}
 use Rattle.ub_directory.specs.Slots.{ArePlaces, first_keys}

@@ -8,7 +8,7 @@ use Rattle.ub_bigmin.specs.Extremes.{LeastFrom}
 use Rattle.ub_page.specs.declared.directory.Entry.{Entry}
 use Rattle.ub_region.specs.Regions.{place_of}
 use Rattle.ub_region.specs.Spans.{address_before, span_end}
-use Rattle.ub_table.proofs.KeyFacts.{before_from, before_parts, before_of, precedes_trans, not_before_self, not_both_before, ascending_get}
+use Rattle.ub_table.proofs.Laws.{before_from, before_parts, before_of, precedes_trans, not_before_self, not_both_before, ascending_get}
 use Rattle.ub_table.specs.Keys.{IsBefore, origin, precedes, are_ascending}
 use Rattle.ub_table.specs.declared.row.Key.{Key}
 use Rattle.ub_directory.specs.Slots.{first_keys, slots_of, Meets, IsLater, First}

@@ -1,5 +1,7 @@
 pub mod Slots
+pub mod View
 pub mod Chain
 pub mod Reading
+pub mod Searching
 pub mod Writing
 pub mod Inner

@@ -1,6 +1,7 @@
 -- Where the regions of a table stand: entries in the order of their first keys; and the span of each.
-use Rattle.std.specs.Prelude.{◌≡◌, ◌≤◌, ℕ, List, [], ◌∷◌, map, Option, Some, IfSome, All, IsTrue, slice_get}
+use Rattle.std.specs.Prelude.{◌≡◌, ◌≤◌, ℕ, suc, List, [], ◌∷◌, map, Option, Some, IfSome, All, IsTrue, slice_get}
 use Rattle.ub_bigmin.specs.Box.{Corners, HoldsAny}
+use Rattle.ub_directory.specs.declared.seat.Seat.{Seat}
 use Rattle.ub_directory.specs.declared.slot.Slot.{Slot}
 use Rattle.ub_page.specs.declared.directory.Entry.{Entry}
 use Rattle.ub_region.specs.Spans.{span_end}
@@ -15,6 +16,11 @@ first_keys entries = map (λ entry. entry.first) entries
 abbrev pub ArePlaces : ℕ → List Entry → Type 0
 ArePlaces last entries =
     (slice_get (first_keys entries) 0 ≡ Some origin) × All (λ entry. entry.first.z ≤ last) entries × IsTrue (are_ascending (first_keys entries))
+
+-- the region at a place of these entries, and where the next one begins
+pub record IsSeat (entries : List Entry) (place : ℕ) (seat : Seat) : Type 0 where
+  pub entry : slice_get entries place ≡ Some (record { first = seat.first; page = seat.page })
+  pub next : seat.next ≡ slice_get (first_keys entries) (suc place)
 
 -- the slots of these entries, each with its region's span, in a space that ends with this address
 abbrev pub slots_of : ℕ → List Entry → List Slot

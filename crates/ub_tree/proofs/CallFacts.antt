@@ -1,19 +1,22 @@
 -- What the calls of a tree find on a sound one, and why they are refused.
-use Rattle.std.proofs.Common.{◌⊎◌, inl, inr, ◌≡◌, ℕ, Bool, true, IsTrue, List, ◌∷◌, Some, Result, Ok, Err, IfErr, IsOk, sym, subst, refl, slice_get, length, map, ◌≤◌, ◌<◌, arith}
+use Rattle.std.proofs.Common.{◌⊎◌, inl, inr, ◌≡◌, ℕ, Bool, true, IsTrue, List, ◌∷◌, Some, Result, Ok, Err, IfErr, IsOk, OnOk, ap, sym, subst, refl, slice_get, length, map, ◌≤◌, ◌<◌, arith}
 use Rattle.std.proofs.lemmas.Option.{slice_get_read}
 use Rattle.std.specs.Result.{IsErrAnd, IsErrOf}
 use Rattle.std.specs.List.{Contains}
 use Rattle.ub_zaddr.specs.Address.{last_address}
 use Rattle.ub_page.specs.declared.directory.Entry.{Entry}
-use Rattle.ub_store.specs.Facts.{StoreFacts, IsHonest, IsPage, page_count, counted as counted_there}
+use Rattle.ub_store.specs.Facts.{StoreFacts, IsHonest, IsPage, Reads, page_count, counted as counted_there}
 use Rattle.ub_store.specs.View.{PagerView, SameTrace}
 use Rattle.ub_store.specs.declared.fault.StoreFault.{StoreFault}
 use Rattle.ub_table.specs.Keys.{are_ascending}
 use Rattle.ub_table.specs.declared.fault.PageFault.{PageFault}
 use Rattle.ub_table.specs.declared.schema.Schema.{Schema}
 use Rattle.ub_tree.specs.Change.{IsWriteFault}
-use Rattle.ub_tree.specs.Effects.{read_store, IsReadFault, IsRegionRefused, IsPageRefused, IsPageMissing, IsSpanFault, HasEnded}
-use Rattle.ub_tree.specs.Faults.{tree_fault}
+use Rattle.ub_tree.specs.Effects.{Searches, read_store, IsReadFault, IsRegionRefused, IsPageRefused, IsPageMissing, IsSpanFault, HasEnded}
+use Rattle.ub_directory.specs.Searching.{Searches as Looks}
+use Rattle.ub_directory.specs.declared.fault.DirectoryFault.{DirectoryFault}
+use Rattle.ub_directory.specs.declared.fault.DirectoryFault.TheVariants as directory
+use Rattle.ub_tree.specs.Faults.{tree_fault, opening_fault}
 use Rattle.ub_tree.specs.Spans.{first_keys, regions_of}
 use Rattle.ub_tree.specs.Tree.{known_pages, tree_view}
 use Rattle.ub_tree.specs.Placed.{Placed, ArePlaced, placed_of, entry_of}
@@ -37,6 +40,14 @@ tree_known schema entries chain next rows changed failed pager last span is up s
     subst (λ (pages : List (List ℕ)). ArePlaced schema (placed_of schema (known_pages pager.store) entries) (0 ∷ chain) pages) (sym known) sound.placed_are in
     let spans = spans_are schema (known_pages pager.store) entries last is in
     span_known schema entries (known_pages pager.store) next last (0 ∷ chain) span up sound.regions_are placed (rw (← spans) at there)
+
+-- a page of a store that was read is one of the store before
+pub page_still : {A : Type 0} (result : Result A StoreFault) (old new : StoreFacts) (n : ℕ) (page : List ℕ) → Reads old new result → IsPage new n page → IsPage old n page
+page_still result old new n page reads is = subst (λ (s : StoreFacts). IsPage s n page) reads.same is
+
+pub on_ok_by : {T E : Type 0} (r : Result T E) {P : Type 0} → P → OnOk r P
+on_ok_by (Ok x) p = p
+on_ok_by (Err e) p = tt
 
 -- what a tree's directory tells of a page that was refused, or isn't there
 pub refused_there : (schema : Schema) (entries : List Entry) (chain : List ℕ) (next rows : ℕ) (changed failed : Bool) (pager : PagerView) (e : Entry) (number : ℕ) (page : List ℕ) (fault : PageFault)
@@ -168,3 +179,22 @@ pub past_pages : (count number page : ℕ) → number < count → (count ≡ 0) 
 past_pages count number page there (inl none) = omega arith
 past_pages count number page there (inr (inl past)) = absurd (omega arith)
 past_pages count number page there (inr (inr past)) = past
+
+-- a search of the directory, as one of the tree
+module _ (schema : Schema) (entries : List Entry) (chain : List ℕ) (next rows : ℕ) (changed failed : Bool) (old new : PagerView) where
+  abbrev before : TreeView
+  before = tree_view schema entries chain next rows changed failed old
+
+  abbrev after : TreeView
+  after = tree_view schema entries chain next rows changed failed new
+
+  pub searched_there : {T : Type 0} (U : Type 0) (x : T) (y : U) → Looks {A = U} old new (Ok y) → Searches before after (Ok x)
+  searched_there U x y h = record { same = ap (λ (p : PagerView). tree_view schema entries chain next rows changed failed p) h.same; faults = tt }
+
+  pub search_refused : {T : Type 0} (U : Type 0) (r : Result T TreeFault) (e : DirectoryFault) → IsErrAnd r (λ x. x ≡ opening_fault e) → Looks {A = U} old new (Err e) → Searches before after r
+  search_refused U (Ok x) e is h = absurd is
+  search_refused U (Err f) (directory.Page n fault) is h = absurd h.faults
+  search_refused U (Err f) (directory.Store store.Memory) is h = rw is (record { same = ap (λ (p : PagerView). tree_view schema entries chain next rows changed failed p) h.same; faults = tt })
+  search_refused U (Err f) (directory.Store store.Device) is h = rw is (record { same = ap (λ (p : PagerView). tree_view schema entries chain next rows changed failed p) h.same; faults = h.faults })
+  search_refused U (Err f) (directory.Store store.NoPage) is h = absurd h.faults
+  search_refused U (Err f) (directory.Store store.BadSize) is h = absurd h.faults

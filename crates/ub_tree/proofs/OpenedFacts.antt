@@ -18,8 +18,7 @@ use Rattle.ub_region.proofs.Laws.{all_more, all_left, all_right, all_take, all_d
 use Rattle.ub_region.specs.Regions.{firsts_of}
 use Rattle.ub_store.specs.Facts.{StoreFacts, IsHonest, page_count}
 use Rattle.ub_store.specs.View.{PagerView, pager_view}
-use Rattle.ub_table.proofs.KeyFacts.{before_of}
-use Rattle.ub_table.proofs.SchemaFacts.{same_schema}
+use Rattle.ub_table.proofs.Laws.{before_of, same_schema}
 use Rattle.ub_table.specs.Keys.{origin, are_ascending}
 use Rattle.ub_table.specs.Region.{IsRegion}
 use Rattle.ub_table.specs.declared.fault.PageFault.TheVariants.{WrongKind, Unclean, BadCount, BadName, BadRow, BadOrder, OutOfRegion, BadPadding}
@@ -39,9 +38,7 @@ use Rattle.ub_tree.specs.declared.fault.TreeFault.TheVariants.{Full, Page, Store
 use Rattle.ub_tree.proofs.CallFacts.{known_is}
 use Rattle.ub_tree.proofs.StoredFacts.{IsTold, IsSpelled, placed_told}
 use Rattle.ub_tree.proofs.TreeFacts.{entries_back}
-use Rattle.ub_page.proofs.DirectoryFacts as directory
-use Rattle.ub_page.proofs.HeaderFacts as headers
-use Rattle.ub_page.proofs.RegionFacts as region_pages
+use Rattle.ub_page.proofs.PageLaws.{HasParts, header_not_refused, header_parts, listing_not_refused, listing_parts, region_parts, same_header}
 use Rattle.ub_store.specs.declared.fault.StoreFault.TheVariants as store
 use Rattle.ub_directory.specs.Reading.{IsReadFault}
 use Rattle.ub_directory.specs.declared.fault.DirectoryFault.{DirectoryFault}
@@ -120,9 +117,9 @@ begun_take (suc n) (e ∷ entries) h = (h.0, keys_up (suc n) (e ∷ entries) h.1
 headers_same : (pages : List (List ℕ)) (a b : Header) → slice_get pages 0 ≡ Some (header_page a) → IsHeader a → a.unclean ≡ false → slice_get pages 0 ≡ Some (header_page b) → IsHeader b → b.unclean ≡ false
     → AreSame a b
 headers_same pages a b at_a is_a clean_a at_b is_b clean_b =
-    let on_a = headers.parts a (header_page a) is_a refl in
-    let on_b = headers.parts b (header_page a) is_b (some_same (slice_get pages 0) (header_page a) (header_page b) at_a at_b) in
-    headers.same a b (sym on_a.numbers ∙ on_b.numbers) (sym on_a.name ∙ on_b.name) (sym on_a.columns ∙ on_b.columns) (clean_a ∙ sym clean_b)
+    let on_a = header_parts a (header_page a) is_a refl in
+    let on_b = header_parts b (header_page a) is_b (some_same (slice_get pages 0) (header_page a) (header_page b) at_a at_b) in
+    same_header a b (sym on_a.numbers ∙ on_b.numbers) (sym on_a.name ∙ on_b.name) (sym on_a.columns ∙ on_b.columns) (clean_a ∙ sym clean_b)
 
 module _ (dims : ℕ) (few : dims ≤ 4) (pages : List (List ℕ)) where
   -- the pages of this chain spell the entries, as parts of a directory in range
@@ -135,7 +132,7 @@ module _ (dims : ℕ) (few : dims ≤ 4) (pages : List (List ℕ)) where
   listings_same : (n m : ℕ) (a b : Listing) → n ≡ m → Spells dims pages n a → Spells dims pages m b → a ≡ b
   listings_same n m a b same at_a at_b =
       let page : directory_page a ≡ directory_page b = some_same (slice_get pages n) (directory_page a) (directory_page b) at_a.page (ap (slice_get pages) same ∙ at_b.page) in
-      sym (directory.parts a (directory_page a) dims few at_a.range refl).on ∙ (directory.parts b (directory_page a) dims few at_b.range page).on
+      sym (listing_parts a (directory_page a) dims few at_a.range refl).on ∙ (listing_parts b (directory_page a) dims few at_b.range page).on
 
   listed_some : (n : ℕ) (chain : List ℕ) (entries : List Entry) → AreListed (n ∷ chain) entries → 1 ≤ n
   listed_some n [] entries h = h.some
@@ -325,7 +322,7 @@ module _ (old : StoreFacts) (honest : IsHonest old) (small : page_count old < 2 
     never_part : (page : List ℕ) (fault : PageFault) → slice_get old.pages n ≡ Some page → IsPartFault a entries page fault → ⊥
     never_part page fault at (inl of_reader) =
         let f = fits_there in
-        directory.not_refused f.listing page a.schema.dims a.schema.counts.few_dims f.spells.range (some_same (slice_get old.pages n) page (directory_page f.listing) at f.spells.page) fault of_reader
+        listing_not_refused f.listing page a.schema.dims a.schema.counts.few_dims f.spells.range (some_same (slice_get old.pages n) page (directory_page f.listing) at f.spells.page) fault of_reader
     never_part page fault at (inr bad) =
         part_not_refused a.schema.dims a.schema.counts.few_dims old.pages entries (a.regions - length entries) n page fault fits_there at bad.0 bad.1 bad.2 bad.3
 
@@ -344,13 +341,13 @@ module _ (old : StoreFacts) (honest : IsHonest old) (small : page_count old < 2 
       absurd (omega arith)
   not_refused (Page n fault) (page, at, inl e) =
       let first : slice_get old.pages 0 ≡ Some page = ap (slice_get old.pages) (sym e.0) ∙ at honest in
-      absurd (headers.not_refused b page k.in_range k.clean (some_same (slice_get old.pages 0) page (header_page b) first k.spelled) fault e.1)
+      absurd (header_not_refused b page k.in_range k.clean (some_same (slice_get old.pages 0) page (header_page b) first k.spelled) fault e.1)
   not_refused (Page n fault) (page, at, inr r) = absurd (never_part r.0 r.1 r.2 n r.3 page fault (at honest) r.4)
 
 -- the first page of a table that is marked as changed is refused
 module _ (old : StoreFacts) (honest : IsHonest old) (schema : Schema) (mark : HasMark schema old.pages) where
-  mark_parts : headers.HasParts mark.1.0 mark.0
-  mark_parts = headers.parts mark.1.0 mark.0 mark.1.1.in_range mark.1.2
+  mark_parts : HasParts mark.1.0 mark.0
+  mark_parts = header_parts mark.1.0 mark.0 mark.1.1.in_range mark.1.2
 
   mark_state : number_at 1 5 mark.0 ≡ 1
   mark_state = ap (λ n. n.state) mark_parts.numbers ∙ rw mark.1.1.unclean refl
@@ -358,7 +355,7 @@ module _ (old : StoreFacts) (honest : IsHonest old) (schema : Schema) (mark : Ha
   pub never_clean : (h : Header) → slice_get old.pages 0 ≡ Some (header_page h) → IsHeader h → h.unclean ≡ false → ⊥
   never_clean h at is clean =
       let page = some_same (slice_get old.pages 0) mark.0 (header_page h) mark.2 at in
-      let state : number_at 1 5 mark.0 ≡ 0 = ap (λ n. n.state) (headers.parts h mark.0 is page).numbers ∙ rw clean refl in
+      let state : number_at 1 5 mark.0 ≡ 0 = ap (λ n. n.state) (header_parts h mark.0 is page).numbers ∙ rw clean refl in
       let on = mark_state in
       absurd (omega arith)
 
@@ -407,7 +404,7 @@ module _ (pages : List (List ℕ)) (small : length pages < 2 ^ 32) (schema : Sch
 
   told_each : (ps : List Placed) → AllByRecursion (IsRegion schema) (regions_in ps) → AllByRecursion (IsSpelled schema pages) ps → AllByRecursion (IsTold schema pages) ps
   told_each [] regions spelled = tt
-  told_each (p ∷ ps) regions spelled = ((spelled.0, (region_pages.parts schema p.region (region_page schema p.region) regions.0 refl).on), told_each ps regions.1 spelled.1)
+  told_each (p ∷ ps) regions spelled = ((spelled.0, (region_parts schema p.region (region_page schema p.region) regions.0 refl).on), told_each ps regions.1 spelled.1)
 
   firsts_same : (ps : List Placed) → firsts_of (regions_in ps) ≡ first_keys (map entry_of ps)
   firsts_same [] = refl

@@ -10,7 +10,7 @@ use Rattle.ub_region.proofs.Laws.{IsFilled, two_chain, all_drop, all_left, all_r
 use Rattle.ub_region.specs.Regions.{place_of, rows_of}
 use Rattle.ub_region.specs.Rows.{has_key, insert_row, cut, split}
 use Rattle.ub_store.specs.Facts.{IsHonest}
-use Rattle.ub_table.proofs.KeyFacts.{before_of, precedes_of, not_before_origin}
+use Rattle.ub_table.proofs.Laws.{before_of, precedes_of, not_before_origin}
 use Rattle.ub_table.specs.Keys.{IsBefore, AreKeysAscending, origin, precedes, is_same, is_before_next, are_ascending}
 use Rattle.ub_table.specs.Region.{Region, IsRegion, IsRow, AreFrom, key_of, keys_of, measures_of}
 use Rattle.ub_table.specs.declared.row.Key.{Key}

@@ -13,7 +13,7 @@ use Rattle.ub_region.specs.Regions.{AreRegions, change_from, firsts_of, fits_nex
 use Rattle.ub_region.specs.Rows.{has_key, remove_row}
 use Rattle.ub_store.specs.Facts.{IsHonest}
 use Rattle.ub_store.specs.View.{PagerView}
-use Rattle.ub_table.proofs.KeyFacts.{before_of, precedes_of}
+use Rattle.ub_table.proofs.Laws.{before_of, precedes_of}
 use Rattle.ub_table.specs.Keys.{IsBefore, precedes, is_same}
 use Rattle.ub_table.specs.Region.{Region, IsRegion, key_of}
 use Rattle.ub_table.specs.declared.row.Key.{Key}

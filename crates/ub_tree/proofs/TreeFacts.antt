@@ -9,7 +9,7 @@ use Rattle.ub_page.specs.Region.{region_on, region_page}
 use Rattle.ub_page.specs.declared.directory.Entry.{Entry}
 use Rattle.ub_region.specs.Regions.{AreRegions, AreApart, firsts_of, place_of}
 use Rattle.ub_region.specs.Spans.{span_end}
-use Rattle.ub_table.proofs.KeyFacts.{before_of, precedes_of, before_trans, not_both_before, not_before_self, ascending_get}
+use Rattle.ub_table.proofs.Laws.{before_of, precedes_of, before_trans, not_both_before, not_before_self, ascending_get}
 use Rattle.ub_table.specs.Keys.{IsBefore, AreKeysAscending, precedes, are_ascending}
 use Rattle.ub_table.specs.Region.{Region, IsRegion, key_of, keys_of}
 use Rattle.ub_table.specs.declared.row.Key.{Key}
@@ -168,16 +168,15 @@ module _ (dims : ℕ) (entries : List Entry) (region : Region) (place : ℕ) (en
   begins_there : slice_get (first_keys entries) (place_of region.first (first_keys entries)) ≡ Some region.first
   begins_there = rw (← is, ← first) (first_at entries place entry at)
 
-  pub held_before : (next : Entry) (b : Bool) → slice_get entries (place + 1) ≡ Some next
-      → (b ≡ true) ↔ AllByRecursion (λ k. IsBefore k next.first) (keys_of dims region.rows) → (b ≡ true) ↔ IsHeldBy dims (first_keys entries) region
+  pub held_before : (next : Key) (b : Bool) → slice_get (first_keys entries) (suc place) ≡ Some next
+      → (b ≡ true) ↔ AllByRecursion (λ k. IsBefore k next) (keys_of dims region.rows) → (b ≡ true) ↔ IsHeldBy dims (first_keys entries) region
   held_before next b after tells =
-      let there : slice_get (first_keys entries) (suc (place_of region.first (first_keys entries))) ≡ Some next.first = rw (← is) (first_at entries (suc place) next (rw add-one at after)) in
-      (λ t. (begins_there, rw there (tells.0 t)), λ h. tells.1 (if_some (λ next. AllByRecursion (λ key. IsBefore key next) (keys_of dims region.rows)) _ next.first there h.1))
+      let there : slice_get (first_keys entries) (suc (place_of region.first (first_keys entries))) ≡ Some next = rw (← is) after in
+      (λ t. (begins_there, rw there (tells.0 t)), λ h. tells.1 (if_some (λ next. AllByRecursion (λ key. IsBefore key next) (keys_of dims region.rows)) _ next there h.1))
 
-  pub held_last : length entries ≤ place + 1 → IsHeldBy dims (first_keys entries) region
+  pub held_last : slice_get (first_keys entries) (suc place) ≡ None → IsHeldBy dims (first_keys entries) region
   held_last past =
-      let long = length-map entries (λ (e : Entry). e.first) in
-      let none : slice_get (first_keys entries) (suc (place_of region.first (first_keys entries))) ≡ None = rw (← is) (slice_get_past (first_keys entries) (suc place) (omega arith)) in
+      let none : slice_get (first_keys entries) (suc (place_of region.first (first_keys entries))) ≡ None = rw (← is) past in
       (begins_there, rw none tt)
 
 pub length-placed : (schema : Schema) (pages : List (List ℕ)) (entries : List Entry) → length (placed_of schema pages entries) ≡ length entries

@@ -3,7 +3,7 @@ use Rattle.std.proofs.Common.{◌≡◌, ◌<◌, ◌≤◌, ◌+◌, ◌-◌, �
 use Rattle.std.proofs.lemmas.Bool.{cases_lt, cases_eq}
 use Rattle.std.proofs.lemmas.Option.{slice_get_read, slice_get_within, get_or_from_slice_get}
 use Rattle.ub_region.specs.Those.{AreThose}
-use Rattle.ub_table.proofs.KeyFacts.{not_both_before, not_before_self}
+use Rattle.ub_table.proofs.Laws.{not_both_before, not_before_self}
 use Rattle.ub_table.specs.Keys.{IsBefore}
 use Rattle.ub_tree.specs.Laws.{AreAnswers}
 use Rattle.ub_tree.specs.Spans.{IsLater}

@@ -15,6 +15,7 @@ use Rattle.ub_table.specs.declared.schema.Schema.{Schema}
 use Rattle.ub_tree.specs.Placed.{placed_of}
 use Rattle.ub_tree.specs.Stored.{HasMark}
 use Rattle.ub_tree.specs.View.{TreeView}
+use Rattle.ub_directory.specs.Slots.{ArePlaces}
 
 -- the pages of an honest store; of another one nothing is known
 abbrev pub known_pages : StoreFacts → List (List ℕ)
@@ -34,10 +35,11 @@ tree_view schema entries chain next rows is_changed is_failed pager = record {
   inner = record { chain = chain };
 }
 
--- what is true of a tree's parts: its places are those of its schema's space, and can be counted; the directory begins on a
--- page that isn't the first; there are fewer rows than the next number, which is at most one above the last
+-- what is true of a tree's parts: its directory is one of its schema's space, with regions in order that can be counted; it begins
+-- on a page that isn't the first; there are fewer rows than the next number, which is at most one above the last
 pub record IsTree (schema : Schema) (last : ℕ) (entries : List Entry) (chain : List ℕ) (next rows : ℕ) : Type 0 where
   pub last_is : last ≡ last_address schema.dims
+  pub places : ArePlaces last entries
   pub few : length entries < 2 ^ 32
   pub root : IfSome (slice_get chain 0) (λ n. 1 ≤ n)
   pub some_chain : 1 ≤ length chain

@@ -1,29 +1,27 @@
 ghost use Rattle.ub_zaddr.specs.Address.{last_address};
 ghost use Rattle.std.specs.Int.{w64};
-ghost use Rattle.std.specs.Prelude.{FitsSigned, map, ◌≡◌, ◌≢◌, ◌+◌, ◌-◌, ◌↔◌, pos, drop, replicate, ◌<◌, ◌≤◌, ◌⊎◌, ◌∷◌, ◌++◌, [], ℕ, suc, true, false, IsTrue, Some, Ok, Err, length, slice_get, IfOk, IfErr, IfSome, IsNone, OnOk, OnErr, IsErrOf, option_copied};
+ghost use Rattle.std.specs.Prelude.{FitsSigned, map, ◌≡◌, ◌+◌, ◌-◌, ◌↔◌, pos, replicate, ◌<◌, ◌≤◌, ◌⊎◌, ◌∷◌, ◌++◌, [], true, false, IsTrue, Some, Ok, Err, length, slice_get, IfOk, IfErr, IfSome, IsNone, OnOk};
 ghost use Rattle.std.specs.List.{insert, AllByRecursion};
 ghost use Rattle.ub_region.specs.Rows.{has_key, split};
 ghost use Rattle.ub_store.specs.Facts as facts;
-ghost use Rattle.ub_store.specs.Facts.{page_count, zero_page};
-ghost use Rattle.ub_store.specs.View.{SameTrace};
-ghost use Rattle.ub_table.specs.Keys.{is_before_next};
-ghost use Rattle.ub_table.specs.Region.{Region, IsRegion, measures_of};
+ghost use Rattle.ub_store.specs.Facts.{page_count};
+ghost use Rattle.ub_table.specs.Region.{IsRegion, measures_of};
 ghost use Rattle.ub_tree.specs.Change as spec;
-ghost use Rattle.ub_tree.specs.Change.{AreRowsAt, IsStored, Puts, IsElsewhereSame, placed_with, IsInserted, IsFresh, IsSplitAt, PutsTwo, HasRoom, Writes, split_of, regions_with, Marks};
-ghost use Rattle.ub_directory.specs.Writing.{WritesStore};
+ghost use Rattle.ub_tree.specs.Change.{AreRowsAt, IsStored, Puts, IsElsewhereSame, placed_with, IsInserted, IsFresh, IsSplitAt, HasRoom, Writes, split_of, regions_with};
 ghost use Rattle.ub_tree.specs.Effects.{Searches, Changes, Leaves};
-ghost use Rattle.ub_tree.specs.Spans.{ArePlaces, first_keys};
+ghost use Rattle.ub_tree.specs.Spans.{ArePlaces};
 ghost use Rattle.ub_tree.specs.Placed.{Placed, entry_of};
 ghost use Rattle.ub_tree.specs.Stored.{IsMarkPage};
-ghost use Rattle.ub_tree.specs.View.{IsSound, KeepsTrace, regions};
+ghost use Rattle.ub_tree.specs.View.{IsSound, regions};
 
 use crate::fault::TreeFault;
 use crate::header::mark_page;
-use crate::reading::region_on;
+use crate::order::{write_page, write_pages};
+use crate::reading::take_region;
 use crate::tree::Tree;
 use ub_page::{Entry, Page, write_region};
 use ub_region::{Halves, Rows, is_equal};
-use ub_store::{MAX_PAGES, PageStore, Pager, StoreFault};
+use ub_store::{MAX_PAGES, PageStore, StoreFault};
 use ub_table::{Key, MAX_ROW_NUMBER, PageFault, Row};
 use ub_zaddr::Shape;
 
@@ -42,10 +40,17 @@ impl<S: PageStore> Tree<S> {
             → rows ≡ p.region.rows) }
         ensures effect { Searches self.old self.new result }
     {
-        let entry = self.places.entries[place];
-        let page = self.pager.fetch(entry.page)?;
-        let region = region_on(&self.schema, &self.places, &entry.first, entry.page, &page)?;
-        Ok(Rows::from_slice(region.rows()))
+        let seat = self.directory.seat_at(place);
+        self.pager.bring(seat.page)?;
+        take_region(
+            &self.schema,
+            &self.directory,
+            &seat.first,
+            seat.page,
+            self.pager.cached(seat.page),
+            &mut self.held,
+        )?;
+        Ok(Rows::from_slice(self.held.rows()))
     }
 
     // The page of a header that marks the table as changed, unless it is marked already.
@@ -61,7 +66,7 @@ impl<S: PageStore> Tree<S> {
             self.next,
             self.rows,
             self.regions(),
-            self.chain[0],
+            self.directory.root(),
         ))
     }
 
@@ -84,13 +89,13 @@ impl<S: PageStore> Tree<S> {
         ensures effect { Writes self.old self.new result }
     {
         let mark = self.mark();
-        let entry = self.places.entries[place];
-        let page = write_region(&self.schema, entry.first, rows);
+        let seat = self.directory.seat_at(place);
+        let page = write_region(&self.schema, seat.first, rows);
         match write_page(
             &mut self.pager,
             &mut self.is_changed,
             mark.as_ref(),
-            entry.page,
+            seat.page,
             &page,
         ) {
             Ok(()) => Ok(()),
@@ -148,24 +153,24 @@ impl<S: PageStore> Tree<S> {
         ensures effect { Writes self.old self.new result }
     {
         let mark = self.mark();
-        let entry = self.places.entries[place];
-        let left = write_region(&self.schema, entry.first, halves.left.as_slice());
+        let seat = self.directory.seat_at(place);
+        let left = write_region(&self.schema, seat.first, halves.left.as_slice());
         let right = write_region(&self.schema, halves.first, halves.right.as_slice());
         let added = Entry {
             first: halves.first,
             page: number,
         };
-        self.places.insert_after(place, added)?;
+        self.directory.insert_after(place, added)?;
         match write_pages(
             &mut self.pager,
             &mut self.is_changed,
             mark.as_ref(),
             (number, &right),
-            (entry.page, &left),
+            (seat.page, &left),
         ) {
             Ok(()) => Ok(()),
             Err(fault) => {
-                self.places.remove(place + 1);
+                self.directory.remove(place + 1);
                 self.is_failed = true;
                 Err(TreeFault::Store(fault))
             }
@@ -254,11 +259,11 @@ impl<S: PageStore> Tree<S> {
         let row = row_of(self.next, dims, measures);
         let shape = self.schema.shape();
         let key = row.key(shape);
-        let place = self.places.place_of(&key);
+        let place = self.directory.place_of(&key);
         let mut rows = self.rows_at(place)?;
         if has_key(rows.as_slice(), shape, &key) {
             return Err(TreeFault::Page {
-                page: self.places.entries[place].page,
+                page: self.directory.seat_at(place).page,
                 fault: PageFault::BadOrder,
             });
         }
@@ -268,61 +273,6 @@ impl<S: PageStore> Tree<S> {
         self.rows += 1;
         Ok(row.number)
     }
-}
-
-// Puts two pages in their places, and before them the header, where one is given: then the table is marked as changed.
-fn write_pages<S: PageStore>(
-    pager: &mut Pager<S>,
-    is_changed: &mut bool,
-    header: Option<&Page>,
-    first: (u32, &Page),
-    second: (u32, &Page),
-) -> Result<(), StoreFault>
-    requires { IsNone header ↔ IsTrue is_changed.old }
-    ensures put { OnOk result (PutsTwo first.entry.0 first.entry.1.now second.entry.0
-        second.entry.1.now pager.old.store pager.new.store) }
-    ensures marks { Marks (option_copied header.entry)
-        (first.entry.0 ∷ second.entry.0 ∷ []) is_changed.old is_changed.new pager.old.store
-        pager.new.store }
-    ensures marked { OnOk result (IsTrue is_changed.new) }
-    ensures trace { SameTrace pager.old pager.new }
-    ensures effect { WritesStore pager.old.store pager.new.store result }
-    ensures missing { IsErrOf result StoreFault.NoPage → (page_count pager.old.store ≡ 0)
-        ⊎ (page_count pager.old.store ≤ first.entry.0)
-        ⊎ (page_count pager.old.store ≤ second.entry.0) }
-    ensures faults { IfErr result (λ fault. (fault ≡ StoreFault.Device)
-        ⊎ (fault ≡ StoreFault.NoPage)) }
-{
-    write_page(pager, is_changed, header, first.0, first.1)?;
-    write_page(pager, is_changed, None, second.0, second.1)
-}
-
-// Puts a page in the place of that of this number, and before it the header, where one is given: then the table is marked
-// as changed.
-fn write_page<S: PageStore>(
-    pager: &mut Pager<S>,
-    is_changed: &mut bool,
-    header: Option<&Page>,
-    n: u32,
-    page: &Page,
-) -> Result<(), StoreFault>
-    requires { IsNone header ↔ IsTrue is_changed.old }
-    ensures put { OnOk result (Puts n page.now pager.old.store pager.new.store) }
-    ensures marks { Marks (option_copied header.entry)
-        (n ∷ []) is_changed.old is_changed.new pager.old.store pager.new.store }
-    ensures marked { OnOk result (IsTrue is_changed.new) }
-    ensures trace { SameTrace pager.old pager.new }
-    ensures effect { WritesStore pager.old.store pager.new.store result }
-    ensures missing { IsErrOf result StoreFault.NoPage → (page_count pager.old.store ≡ 0)
-        ⊎ (page_count pager.old.store ≤ n) }
-    ensures faults { IfErr result (λ fault. (fault ≡ StoreFault.Device)
-        ⊎ (fault ≡ StoreFault.NoPage)) }
-{
-    if let Some(header) = header {
-        pager.put(0, header)?;
-        *is_changed = true;
-    }
-    pager.put(n, page)
 }
 
 // A row of this number.

@@ -1,4 +1,4 @@
-ghost use Rattle.std.specs.Prelude.{◌≡◌, ◌+◌, ◌/◌, ◌<◌, ◌^◌, [], ◌∷◌, Err, IfOk, IfErr, OnOk, OnErr};
+ghost use Rattle.std.specs.Prelude.{◌≡◌, ◌/◌, ◌<◌, [], ◌∷◌, Err, IfOk, IfErr, OnOk, OnErr};
 ghost use Rattle.ub_zaddr.specs.Address.{last_address};
 ghost use Rattle.ub_store.specs.Facts.{page_count, IsHonest};
 ghost use Rattle.ub_store.specs.View.{pager_view, SameTrace};
@@ -8,15 +8,15 @@ ghost use Rattle.ub_tree.specs.Effects.{written_store};
 ghost use Rattle.ub_tree.specs.Tree.{IsLaidOut};
 
 use crate::fault::TreeFault;
-use crate::header::mark_page;
+use crate::order::write_first_pages;
 use crate::tree::Tree;
 use std::alloc::{AllocError, Global};
 use std::num::NonZeroUsize;
-use ub_directory::{ORIGIN, Places};
-use ub_page::{Entry, write_region};
+use ub_directory::Directory;
+use ub_page::RegionPage;
 use ub_store::{PageStore, Pager, Rejected};
 use ub_table::Schema;
-use ub_zaddr::last;
+use ub_zaddr::{Shape, last};
 
 // How many pages the cache of a tree holds.
 const CACHE_PAGES: usize = 64;
@@ -41,20 +41,20 @@ impl<S: PageStore> Tree<S> {
         ensures left { IfErr result (λ r. S.facts r.store ≡ written_store {A = S} (Err r.fault)
             (S.facts store) (S.facts r.store)) }
     {
-        let mut pager = match pager_over(alloc, store) {
-            Ok(pager) => pager,
+        let (mut pager, held) = match pager_over(alloc, store) {
+            Ok(begun) => begun,
             Err(refused) => return Err(refused),
         };
         match lay_out(alloc, &mut pager, schema) {
-            Ok((places, chain)) => Ok(Tree {
+            Ok(directory) => Ok(Tree {
                 schema: schema.copy(),
-                places,
-                chain,
+                directory,
                 next: 1,
                 rows: 0,
                 is_changed: true,
                 is_failed: false,
                 pager,
+                held,
             }),
             Err(fault) => Err(Rejected {
                 store: pager.into_store(),
@@ -64,15 +64,25 @@ impl<S: PageStore> Tree<S> {
     }
 }
 
-/// A pager over the store, with the cache of a tree.
-pub fn pager_over<S: PageStore>(alloc: Global, store: S) -> Result<Pager<S>, Rejected<S, TreeFault>>
-    ensures made { IfOk result (λ pager. pager ≡ pager_view (S.facts store) [] 0) }
+/// A pager over the store, with the cache of a tree, and a region that the tree reads into.
+pub fn pager_over<S: PageStore>(
+    alloc: Global,
+    store: S,
+) -> Result<(Pager<S>, Box<RegionPage>), Rejected<S, TreeFault>>
+    ensures made { IfOk result (λ begun. begun.0 ≡ pager_view (S.facts store) [] 0) }
     ensures refused { IfErr result (λ refused. (refused.store ≡ store)
         × (refused.fault ≡ TreeFault.Memory)) }
 {
+    let held = match any_region(alloc) {
+        Ok(held) => held,
+        Err(_) => return Err(Rejected {
+            store,
+            fault: TreeFault::Memory,
+        }),
+    };
     let cache = NonZeroUsize::new(CACHE_PAGES).unwrap();
     match Pager::new(alloc, store, cache) {
-        Ok(pager) => Ok(pager),
+        Ok(pager) => Ok((pager, held)),
         Err(refused) => Err(Rejected {
             store: refused.store,
             fault: TreeFault::Memory,
@@ -80,17 +90,26 @@ pub fn pager_over<S: PageStore>(alloc: Global, store: S) -> Result<Pager<S>, Rej
     }
 }
 
-// The first pages of a table with no rows, and where its region and its directory stand.
+// A region, of whatever shape, in a box of its own.
+fn any_region(alloc: Global) -> Result<Box<RegionPage>, AllocError> {
+    match Shape::new(1) {
+        Ok(shape) => Ok(Box::new(alloc, RegionPage::empty(shape))?),
+        Err(_) => unreachable!(),
+    }
+}
+
+// The first pages of a table with no rows, and its directory: one region, on page 1.
 fn lay_out<S: PageStore>(
     alloc: Global,
     pager: &mut Pager<S>,
     schema: &Schema,
-) -> Result<(Places, Vec<u32>), TreeFault>
+) -> Result<Directory, TreeFault>
     requires { page_count pager.old.store ≡ 0 }
-    ensures places { IfOk result (λ made. (made.0.entries.items ≡ record {
-      first = origin;
-      page = 1;
-    } ∷ []) × (made.0.last ≡ last_address schema.now.dims) × (made.1.items ≡ 2 ∷ [])) }
+    ensures directory { IfOk result (λ made. made ≡ record {
+      entries = record { first = origin; page = 1 } ∷ [];
+      chain = 2 ∷ [];
+      last = last_address schema.now.dims;
+    }) }
     ensures pages { OnOk result (IsHonest pager.old.store
         → IsLaidOut schema.now pager.new.store.pages) }
     ensures first { OnErr result (IsHonest pager.old.store
@@ -99,47 +118,7 @@ fn lay_out<S: PageStore>(
     ensures left { pager.new.store ≡ written_store result pager.old.store pager.new.store }
     ensures refused { IfErr result (IsCreateFault pager.old.store) }
 {
-    let places = first_places(alloc, schema)?;
-    let mut chain = Vec::new(alloc);
-    chain.push(2).map_err(|_| TreeFault::Memory)?;
+    let directory = Directory::create(alloc, last(schema.shape()), 1, 2)?;
     write_first_pages(pager, schema)?;
-    Ok((places, chain))
-}
-
-// The one region of a table with no rows, on page 1.
-fn first_places(alloc: Global, schema: &Schema) -> Result<Places, AllocError>
-    ensures entries { IfOk result (λ places. places.entries.items ≡ record {
-      first = origin;
-      page = 1;
-    } ∷ []) }
-    ensures last { IfOk result (λ places. places.last ≡ last_address schema.now.dims) }
-{
-    let mut entries = Vec::new(alloc);
-    entries.push(Entry {
-        first: ORIGIN,
-        page: 1,
-    })?;
-    match Places::new(entries, last(schema.shape())) {
-        Some(places) => Ok(places),
-        None => unreachable!(),
-    }
-}
-
-// Three pages: first the header, marked unclean, and then the empty region, and one of zeros.
-fn write_first_pages<S: PageStore>(pager: &mut Pager<S>, schema: &Schema) -> Result<(), TreeFault>
-    requires { page_count pager.old.store ≡ 0 }
-    ensures pages { OnOk result (IsHonest pager.old.store
-        → IsLaidOut schema.now pager.new.store.pages) }
-    ensures first { OnErr result (IsHonest pager.old.store
-        → IsUncreated schema.now pager.new.store) }
-    ensures trace { SameTrace pager.old pager.new }
-    ensures left { pager.new.store ≡ written_store result pager.old.store pager.new.store }
-    ensures refused { IfErr result (IsCreateFault pager.old.store) }
-{
-    pager.extend()?;
-    pager.put(0, &mark_page(schema, 1, 0, 1, 2))?;
-    pager.extend()?;
-    pager.extend()?;
-    pager.put(1, &write_region(schema, ORIGIN, &[]))?;
-    Ok(())
+    Ok(directory)
 }

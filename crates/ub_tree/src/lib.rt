@@ -2,8 +2,8 @@
 // definitions stand in specs/: `Spans` (the addresses that a region covers, and which region a search asks for), `View` (what
 // contracts see of a tree, and when it is sound), `Effects` (what a call leaves), `Stored` (the pages of a closed table), `Opened`
 // (which pages are opened), `Closing`; the functions of `law` ensure the laws of a sound tree. The code: `creation` and `opening`
-// to begin, `tree` to search and read, `change` to put rows in, `removal` to take them out, `closing` to write the directory and
-// then the header; the header that marks a table as changed stands in `header`.
+// to begin, `tree` to search and read, `change` to put rows in, `removal` to take them out, `closing` to end; `order` says in which
+// order pages go out, and writes them; the header that marks a table as changed stands in `header`.
 //
 // What belongs here is what a tree does over a store, and in which order its pages go out. Where each region's page is, stands in
 // `ub_directory`; what regions are, in `ub_region`; how pages are spelled, and stores kept, in the other crates below.
@@ -17,6 +17,7 @@ pub mod fault;
 mod header;
 pub mod law;
 mod opening;
+mod order;
 mod reading;
 pub mod region;
 mod removal;

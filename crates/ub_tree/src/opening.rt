@@ -14,7 +14,7 @@ use crate::creation::pager_over;
 use crate::fault::TreeFault;
 use crate::tree::Tree;
 use std::alloc::Global;
-use ub_directory::read_table;
+use ub_directory::Directory;
 use ub_page::Header;
 use ub_store::{PageStore, Rejected};
 
@@ -45,12 +45,12 @@ impl<S: PageStore> Tree<S> {
     {
         // Its contract tells the proof how many pages there can be.
         let _pages = store.pages();
-        let mut pager = match pager_over(alloc, store) {
-            Ok(pager) => pager,
+        let (mut pager, held) = match pager_over(alloc, store) {
+            Ok(begun) => begun,
             Err(refused) => return Err(refused),
         };
-        match read_table(alloc, &mut pager) {
-            Ok((header, places, chain)) => {
+        match Directory::read(alloc, &mut pager) {
+            Ok((header, directory)) => {
                 let Header {
                     schema,
                     next,
@@ -59,13 +59,13 @@ impl<S: PageStore> Tree<S> {
                 } = header;
                 Ok(Tree {
                     schema,
-                    places,
-                    chain,
+                    directory,
                     next,
                     rows,
                     is_changed: false,
                     is_failed: false,
                     pager,
+                    held,
                 })
             }
             Err(fault) => Err(Rejected {

@@ -22,7 +22,7 @@ impl<S: PageStore> Tree<S> {
         ensures same { self.new ≡ record self.old { placed = remove self.old.placed (place + 1) } }
         ensures stored { IsStored self.old → IsStored self.new }
     {
-        self.places.remove(place + 1);
+        self.directory.remove(place + 1);
     }
 
     // Puts rows on the page of the region at a place, among them those of the next region, which is then no more. After a
@@ -56,7 +56,7 @@ impl<S: PageStore> Tree<S> {
             (regions self.old)) }
         ensures effect { Searches self.old self.new result }
     {
-        if self.places.entries.len() == place + 1 {
+        if self.directory.count() == place + 1 {
             return Ok(false);
         }
         let next = self.rows_at(place + 1)?;
@@ -131,7 +131,7 @@ impl<S: PageStore> Tree<S> {
         if self.is_failed {
             return Err(TreeFault::Failed);
         }
-        let place = self.places.place_of(&key);
+        let place = self.directory.place_of(&key);
         let mut rows = self.rows_at(place)?;
         if !rows.remove(self.schema.shape(), &key) {
             return Ok(false);

@@ -1,16 +1,17 @@
-ghost use Rattle.std.specs.Prelude.{◌≡◌, ◌≤◌, [], IsTrue, Err, length, IfOk, option_copied};
+ghost use Rattle.std.specs.Prelude.{◌≡◌, ◌≤◌, [], IsTrue, Err, length, IfOk, OnOk, option_copied};
 ghost use Rattle.std.specs.List.{Contains};
+ghost use Rattle.ub_page.specs.Region.{empty_region};
 ghost use Rattle.ub_tree.specs.Calls.{StandsAt};
 ghost use Rattle.ub_tree.specs.Effects.{Searches, ReadsRegion};
 ghost use Rattle.ub_tree.specs.Spans.{IsLater, Meets, First};
 ghost use Rattle.ub_tree.specs.View.{IsSound, spans_of};
 
 use crate::fault::TreeFault;
-use crate::reading::region_on;
+use crate::reading::take_region;
 use crate::region::{Region, first_of, region_in};
 use std::marker::Model;
 use ub_bigmin::ZBox;
-use ub_directory::Places;
+use ub_directory::Directory;
 use ub_page::RegionPage;
 use ub_store::{PageStore, Pager};
 use ub_table::Schema;
@@ -23,9 +24,7 @@ use ub_table::Schema;
 #[derive(Drop)]
 pub struct Tree<S: PageStore> {
     pub(crate) schema: Schema,
-    pub(crate) places: Places,
-    // The pages of the directory, in order.
-    pub(crate) chain: Vec<u32>,
+    pub(crate) directory: Directory,
     // The number that the next row gets.
     pub(crate) next: u32,
     pub(crate) rows: u32,
@@ -33,6 +32,8 @@ pub struct Tree<S: PageStore> {
     pub(crate) is_changed: bool,
     pub(crate) is_failed: bool,
     pub(crate) pager: Pager<S>,
+    // The region that the tree read last for itself.
+    pub(crate) held: Box<RegionPage>,
 }
 
 impl<S: PageStore> Model for Tree<S> {
@@ -42,9 +43,9 @@ impl<S: PageStore> Model for Tree<S> {
 
     ghost Value = { TreeView };
 
-    ghost view = { λ t. tree_view t.schema t.places.entries.items t.chain.items t.next t.rows t.is_changed t.is_failed t.pager };
+    ghost view = { λ t. tree_view t.schema t.directory.entries t.directory.chain t.next t.rows t.is_changed t.is_failed t.pager };
 
-    ghost invariant = { λ t. IsTree t.schema t.places.last t.places.entries.items t.chain.items t.next t.rows };
+    ghost invariant = { λ t. IsTree t.schema t.directory.last t.directory.entries t.directory.chain t.next t.rows };
 }
 
 impl<S: PageStore> Tree<S> {
@@ -59,7 +60,7 @@ impl<S: PageStore> Tree<S> {
     pub fn regions(&self) -> u32
         ensures { result ≡ length self.now.placed }
     {
-        self.places.entries.len() as u32
+        self.directory.count() as u32
     }
 
     /// How many rows there are.
@@ -101,7 +102,7 @@ impl<S: PageStore> Tree<S> {
         if self.has_failed() {
             return Err(TreeFault::Failed);
         }
-        let found = self.places.seek(z, first_of(after));
+        let found = self.directory.seek(&mut self.pager, z, first_of(after))?;
         Ok(region_in(found))
     }
 
@@ -120,32 +121,43 @@ impl<S: PageStore> Tree<S> {
         if self.has_failed() {
             return Err(TreeFault::Failed);
         }
-        let found = self.places.next_meeting(boxes, first_of(after));
+        let found = self
+            .directory
+            .next_meeting(&mut self.pager, boxes, first_of(after))?;
         Ok(region_in(found))
     }
 
-    /// What stands on the region's page, which is noted in the trace first. The page is checked against the directory: its
-    /// first key is the region's, with which a region of the directory begins, and each of its rows is before the next
-    /// region; otherwise OutOfRegion. Failed where the tree has failed; Page where the page is refused; Store where the
-    /// store failed in this call or has no such page; Memory where memory was refused, for the note or for the page.
-    pub fn read_region(&mut self, region: &Region) -> Result<RegionPage, TreeFault>
-        ensures dims { IfOk result (λ r. r.dims ≡ self.old.schema.dims) }
-        ensures first { IfOk result (λ r. r.region.first ≡ region.now.first) }
+    /// A region of no rows, for `read_region`. Takes no memory.
+    pub fn empty_region(&self) -> RegionPage
+        ensures { result ≡ empty_region self.now.schema.dims }
+    {
+        RegionPage::empty(self.schema.shape())
+    }
+
+    /// Takes in what stands on the region's page, which is noted in the trace first; so one `page` can take in each region of
+    /// a walk, and none moves. The page is checked against the directory: its first key is the region's, with which a region of
+    /// the directory begins, and each of its rows is before the next region; otherwise OutOfRegion. Failed where the tree has
+    /// failed; Page where the page is refused; Store where the store failed in this call or has no such page; Memory where
+    /// memory was refused, for the note or for the page. After a fault any region may stand in `page`.
+    pub fn read_region(&mut self, region: &Region, page: &mut RegionPage) -> Result<(), TreeFault>
+        ensures dims { OnOk result (page.new.dims ≡ self.old.schema.dims) }
+        ensures first { OnOk result (page.new.region.first ≡ region.now.first) }
         ensures stands { IsSound self.old → Contains (spans_of self.old) region.now
-            → IfOk result (λ r. StandsAt self.old.placed region.now.page r.region) }
+            → OnOk result (StandsAt self.old.placed region.now.page page.new.region) }
         ensures failed { IsTrue self.old.is_failed → result ≡ Err TreeFault.Failed }
         ensures effect { ReadsRegion region.now self.old self.new result }
     {
         if self.has_failed() {
             return Err(TreeFault::Failed);
         }
-        let page = self.pager.fetch_region(region.page)?;
-        region_on(
+        self.pager.bring_region(region.page)?;
+        take_region(
             &self.schema,
-            &self.places,
+            &self.directory,
             &region.first,
             region.page,
-            &page,
+            self.pager.cached(region.page),
+            page,
         )
     }
 }

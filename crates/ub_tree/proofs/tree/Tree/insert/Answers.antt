@@ -1,4 +1,5 @@
 use Rattle.std.proofs.Common.{◌≡◌, ◌≢◌, ◌<◌, ◌+◌, ◌^◌, ◌∙◌, ℕ, Err, sym, ap, subst, length, arith, inr, map, refl, true, false, Some, slice_get}
+use Rattle.ub_page.specs.declared.directory.Entry.{Entry}
 use Rattle.ub_region.proofs.Laws.{length-insert_row}
 use Rattle.ub_table.specs.declared.row.Row.{Row}
 use Rattle.ub_tree.specs.Change.{AreRowsAt, IsInserted, row_of}
@@ -39,7 +40,7 @@ pub returns-clause-effect : goal.returns-clause-effect
 returns-clause-effect g c =
     let after = c.store_rows.new.self in
     let u = c.self-3.inside in
-    let d : TreeView = tree_view u.schema u.places.entries.items u.chain.items (u.next + 1) (u.rows + 1) u.is_changed u.is_failed u.pager in
+    let d : TreeView = tree_view u.schema u.directory.entries u.directory.chain (u.next + 1) (u.rows + 1) u.is_changed u.is_failed u.pager in
     counted_anew {T = Unit {0}} {U = ℕ} tt _ c.args.self.now after d after.placed (after.rows + 1) (after.next + 1) (ap (λ (v : TreeView). record v { next = v.next + 1; rows = v.rows + 1 }) c.self-3.view_is)
     (then_changed {T = Unit {0}} _ c.args.self.now c.rows_at.new.self after c.in_ok-rows.ensures.effect.same c.in_ok-store_rows.ensures.effect)
 
@@ -50,7 +51,7 @@ returns-clause-inserted g c =
     let b = c.rows_at.new.self in
     let same : b ≡ a = c.in_ok-rows.ensures.effect.same in
     let row = c.row_of-row.result in
-    let at_view = ready t.schema t.places.entries.items t.chain.items t.next t.rows t.is_changed t.is_failed t.pager c.shape-shape.result c.place_of-place.result c.key-key.result row c.args.dims.now c.args.measures.now c.in_ok-rows.rows c.insert.new.self
+    let at_view = ready t.schema t.directory.entries t.directory.chain t.next t.rows t.is_changed t.is_failed t.pager c.shape-shape.result c.place_of-place.result c.key-key.result row c.args.dims.now c.args.measures.now c.in_ok-rows.rows c.insert.new.self
     c.row_of-row.ensures.row (rw (← c.self.view_is) at c.requires.dims) (rw (← c.self.view_is) at c.requires.measures) (words_of c.args.dims.now c.type_inv.dims) c.row_of-row.ensures.words
     c.self.invariant.fewer c.self.invariant.last_next c.if-self-eq-NEXT_END.false c.key-key.ensures c.shape-shape.ensures c.place_of-place.ensures.place c.place_of-place.ensures.within
     (rw (← c.self.view_is) at c.in_ok-rows.ensures.rows) c.insert.ensures in
@@ -58,11 +59,11 @@ returns-clause-inserted g c =
     subst (λ (v : TreeView). IsReady v row c.place_of-place.result c.insert.new.self) (c.self.view_is ∙ sym same) at_view in
     let after = c.store_rows.new.self in
     let u = c.self-3.inside in
-    let d : TreeView = tree_view u.schema u.places.entries.items u.chain.items (u.next + 1) (u.rows + 1) u.is_changed u.is_failed u.pager in
+    let d : TreeView = tree_view u.schema u.directory.entries u.directory.chain (u.next + 1) (u.rows + 1) u.is_changed u.is_failed u.pager in
     let stored = c.in_ok-store_rows.ensures.same in
     let not_last : a.next ≢ 16777216 = λ e. c.if-self-eq-NEXT_END.false (ap (λ (v : TreeView). v.next) c.self.view_is ∙ e) in
     let few : length after.placed < 2 ^ 32 = (let most = c.self-3.invariant.few in subst (λ (v : TreeView). length v.placed < 2 ^ 32) c.self-3.view_is
-    (let long = length-placed u.schema (known_pages u.pager.store) u.places.entries.items in omega arith)) in
+    (let long = length-placed u.schema (known_pages u.pager.store) u.directory.entries in omega arith)) in
     let number : row_of row.number c.args.dims.now c.args.measures.now ≡ row =
     ap (λ (n : ℕ). row_of n c.args.dims.now c.args.measures.now) (ap (λ (r : Row). r.number) c.row_of-row.ensures.row) ∙ sym c.row_of-row.ensures.row in
     λ sound. subst (λ (r : Row). IsInserted r a d) (sym number)
@@ -79,7 +80,7 @@ store_rows-requires-clause-room g c = λ over.
     let same : b ≡ a = c.in_ok-rows.ensures.effect.same in
     let row = c.row_of-row.result in
     let rows = c.in_ok-rows.rows in
-    let at_view = ready t.schema t.places.entries.items t.chain.items t.next t.rows t.is_changed t.is_failed t.pager c.shape-shape.result c.place_of-place.result c.key-key.result row c.args.dims.now c.args.measures.now c.in_ok-rows.rows c.insert.new.self
+    let at_view = ready t.schema t.directory.entries t.directory.chain t.next t.rows t.is_changed t.is_failed t.pager c.shape-shape.result c.place_of-place.result c.key-key.result row c.args.dims.now c.args.measures.now c.in_ok-rows.rows c.insert.new.self
     c.row_of-row.ensures.row (rw (← c.self.view_is) at c.requires.dims) (rw (← c.self.view_is) at c.requires.measures) (words_of c.args.dims.now c.type_inv.dims) c.row_of-row.ensures.words
     c.self.invariant.fewer c.self.invariant.last_next c.if-self-eq-NEXT_END.false c.key-key.ensures c.shape-shape.ensures c.place_of-place.ensures.place c.place_of-place.ensures.within
     (rw (← c.self.view_is) at c.in_ok-rows.ensures.rows) c.insert.ensures in
@@ -88,7 +89,7 @@ store_rows-requires-clause-room g c = λ over.
     let dims : c.shape-shape.result ≡ b.schema.dims = c.shape-shape.ensures ∙ ap (λ (v : TreeView). v.schema.dims) (c.self.view_is ∙ sym same) in
     let places : ArePlaces (last_address b.schema.dims) (map entry_of b.placed) =
     subst (λ (v : TreeView). ArePlaces (last_address v.schema.dims) (map entry_of v.placed)) (c.self.view_is ∙ sym same)
-    (rw (← c.self.invariant.last_is, entries_back t.schema (known_pages t.pager.store) t.places.entries.items) (t.places.begins, t.places.within, t.places.ascending)) in
+    (rw (← c.self.invariant.last_is, entries_back t.schema (known_pages t.pager.store) t.directory.entries) c.self.invariant.places) in
     let are = subst (λ (v : TreeView). AreRowsAt v.schema (map entry_of v.placed) c.place_of-place.result rows) (sym same) c.in_ok-rows.ensures.at in
     let none : has_key c.shape-shape.result c.key-key.result rows ≡ false = rw c.as_slice.ensures.rows at (sym c.has_key.ensures ∙ c.if-has_key.false) in
     room_ready b row c.place_of-place.result rows c.insert.new.self is_ready places are (rw (c.key-key.ensures, dims) at none) (c.insert.ensures ∙ ap (λ (d : ℕ). insert_row d row rows) dims) over
@@ -101,15 +102,15 @@ returns-then-has_key-clause-effect g c =
     let b = c.rows_at.new.self in
     let same : b ≡ a = c.in_ok-rows.ensures.effect.same in
     let rows = c.in_ok-rows.rows in
-    let e = c.index.result.now in
+    let e : Entry = record { first = c.seat_at.result.first; page = c.seat_at.result.page } in
     let p : Placed = placed_at u.schema (known_pages u.pager.store) e in
-    let count : length t.places.entries.items ≡ length a.placed = sym (length-placed t.schema (known_pages t.pager.store) t.places.entries.items) ∙ ap (λ (v : TreeView). length v.placed) c.self.view_is in
-    let count_u : length a.placed ≡ length u.places.entries.items = sym (ap (λ (v : TreeView). length v.placed) (c.self-2.view_is ∙ same)) ∙ length-placed u.schema (known_pages u.pager.store) u.places.entries.items in
+    let count : length t.directory.entries ≡ length a.placed = sym (length-placed t.schema (known_pages t.pager.store) t.directory.entries) ∙ ap (λ (v : TreeView). length v.placed) c.self.view_is in
+    let count_u : length a.placed ≡ length u.directory.entries = sym (ap (λ (v : TreeView). length v.placed) (c.self-2.view_is ∙ same)) ∙ length-placed u.schema (known_pages u.pager.store) u.directory.entries in
     let held = c.place_of-place.ensures.within in
-    let within : c.place_of-place.result < length u.places.entries.items = omega arith in
-    let at : slice_get u.places.entries.items c.place_of-place.result ≡ Some e = slice_get_read u.places.entries.items (length u.places.entries.items) c.place_of-place.result e refl within c.index.ensures in
+    let within : c.place_of-place.result < length u.directory.entries = omega arith in
+    let at : slice_get u.directory.entries c.place_of-place.result ≡ Some e = c.seat_at.ensures.entry in
     let there : slice_get a.placed c.place_of-place.result ≡ Some p =
-    subst (λ (v : TreeView). slice_get v.placed c.place_of-place.result ≡ Some p) (c.self-2.view_is ∙ same) (placed_get u.schema (known_pages u.pager.store) u.places.entries.items c.place_of-place.result e at) in
+    subst (λ (v : TreeView). slice_get v.placed c.place_of-place.result ≡ Some p) (c.self-2.view_is ∙ same) (placed_get u.schema (known_pages u.pager.store) u.directory.entries c.place_of-place.result e at) in
     let number : c.key-key.result.number ≡ a.next =
     ap (λ (k : Key). k.number) c.key-key.ensures ∙ ap (λ (r : Row). r.number) c.row_of-row.ensures.row ∙ ap (λ (v : TreeView). v.next) c.self.view_is in
     let dims : c.shape-shape.result ≡ a.schema.dims = c.shape-shape.ensures ∙ ap (λ (v : TreeView). v.schema.dims) c.self.view_is in

@@ -6,13 +6,13 @@ use Rattle.ub_tree.proofs.TreeFacts.{length-placed, region_get}
 use Rattle.ub_tree.proofs.ShrinkFacts.{join_last, join_with, length-regions}
 use Rattle.ub_tree.proofs.tree.Tree.join_next.Goals as goal
 
-pub returns-then-len-place-clause-joined : goal.returns-then-len-place-clause-joined
-returns-then-len-place-clause-joined g c = λ honest.
+pub returns-then-count-place-clause-joined : goal.returns-then-count-place-clause-joined
+returns-then-count-place-clause-joined g c = λ honest.
     let a = c.args.self.now in
     let t = c.self.inside in
-    let entries = length-placed t.schema (known_pages t.pager.store) t.places.entries.items in
-    let last = c.if-len-place.true in
-    let count = c.len.ensures in
+    let entries = length-placed t.schema (known_pages t.pager.store) t.directory.entries in
+    let last = c.if-count-place.true in
+    let count = c.count.ensures.count in
     let placed : length a.placed ≡ suc c.args.place = subst (λ (v : TreeView). length v.placed ≡ suc c.args.place) c.self.view_is (omega arith) in
     join_last a.schema.page_rows c.args.place c.args.rows.now (regions a) (length-regions a.placed ∙ placed)
 
@@ -20,11 +20,11 @@ pub returns-clause-joined : goal.returns-clause-joined
 returns-clause-joined g c = λ honest.
     let a = c.args.self.now in
     let t = c.self.inside in
-    let entries = length-placed t.schema (known_pages t.pager.store) t.places.entries.items in
-    let more = c.if-len-place.false in
-    let count = c.len.ensures in
+    let entries = length-placed t.schema (known_pages t.pager.store) t.directory.entries in
+    let more = c.if-count-place.false in
+    let count = c.count.ensures.count in
     let within = c.requires.place in
-    let placed : length a.placed ≡ length t.places.entries.items = subst (λ (v : TreeView). length v.placed ≡ length t.places.entries.items) c.self.view_is entries in
+    let placed : length a.placed ≡ length t.directory.entries = subst (λ (v : TreeView). length v.placed ≡ length t.directory.entries) c.self.view_is entries in
     let next = some_at a.placed (suc c.args.place) (omega arith) in
     let b = next.0 in
     let up : suc c.args.place ≡ c.args.place + 1 = omega arith in

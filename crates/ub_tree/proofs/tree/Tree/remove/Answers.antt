@@ -19,7 +19,7 @@ returns-then-not-remove-clause-removed g c =
     let key = c.args.key in
     let rows = c.in_ok-rows.rows in
     let same : b ≡ a = c.in_ok-rows.ensures.effect.same in
-    let held = holder t.schema t.places.entries.items t.chain.items t.next t.rows t.is_changed t.is_failed t.pager a key c.place_of-place.result rows c.self.view_is
+    let held = holder t.schema t.directory.entries t.directory.chain t.next t.rows t.is_changed t.is_failed t.pager a key c.place_of-place.result rows c.self.view_is
     c.place_of-place.ensures.place c.place_of-place.ensures.within c.in_ok-rows.ensures.rows in
     let dims : c.shape.result ≡ a.schema.dims = c.shape.ensures ∙ ap (λ (v : TreeView). v.schema.dims) (c.self-2.view_is ∙ same) in
     let found : has_key a.schema.dims key rows ≡ false = rw (← dims) (sym c.remove.ensures.found ∙ c.if-not-remove.true) in
@@ -33,7 +33,7 @@ returns-then-self-eq0-clause-effect g c =
     let key = c.args.key in
     let rows = c.in_ok-rows.rows in
     let same : b ≡ a = c.in_ok-rows.ensures.effect.same in
-    let held = holder t.schema t.places.entries.items t.chain.items t.next t.rows t.is_changed t.is_failed t.pager a key c.place_of-place.result rows c.self.view_is
+    let held = holder t.schema t.directory.entries t.directory.chain t.next t.rows t.is_changed t.is_failed t.pager a key c.place_of-place.result rows c.self.view_is
     c.place_of-place.ensures.place c.place_of-place.ensures.within c.in_ok-rows.ensures.rows in
     let dims : c.shape.result ≡ a.schema.dims = c.shape.ensures ∙ ap (λ (v : TreeView). v.schema.dims) (c.self-2.view_is ∙ same) in
     let found : has_key a.schema.dims key rows ≡ true = rw (← dims) (sym c.remove.ensures.found ∙ c.if-not-remove.false) in
@@ -56,7 +56,7 @@ pub returns-clause-effect : goal.returns-clause-effect
 returns-clause-effect g c =
     let u = c.self-3.inside in
     let mid = c.settle.new.self in
-    let d : TreeView = tree_view u.schema u.places.entries.items u.chain.items u.next (u.rows - 1) u.is_changed u.is_failed u.pager in
+    let d : TreeView = tree_view u.schema u.directory.entries u.directory.chain u.next (u.rows - 1) u.is_changed u.is_failed u.pager in
     counted_anew {T = Unit {0}} {U = Bool} tt _ c.args.self.now mid d mid.placed (mid.rows - 1) mid.next (ap (λ (v : TreeView). record v { rows = v.rows - 1 }) c.self-3.view_is)
     (then_changed {T = Unit {0}} _ c.args.self.now c.rows_at.new.self mid c.in_ok-rows.ensures.effect.same c.in_ok-settle.ensures.effect)
 
@@ -75,7 +75,7 @@ returns-clause-removed g c =
     let key = c.args.key in
     let rows = c.in_ok-rows.rows in
     let same : b ≡ a = c.in_ok-rows.ensures.effect.same in
-    let held = holder t.schema t.places.entries.items t.chain.items t.next t.rows t.is_changed t.is_failed t.pager a key c.place_of-place.result rows c.self.view_is
+    let held = holder t.schema t.directory.entries t.directory.chain t.next t.rows t.is_changed t.is_failed t.pager a key c.place_of-place.result rows c.self.view_is
     c.place_of-place.ensures.place c.place_of-place.ensures.within c.in_ok-rows.ensures.rows in
     let dims_b : c.shape.result ≡ b.schema.dims = c.shape.ensures ∙ ap (λ (v : TreeView). v.schema.dims) c.self-2.view_is in
     let dims : c.shape.result ≡ a.schema.dims = c.shape.ensures ∙ ap (λ (v : TreeView). v.schema.dims) (c.self-2.view_is ∙ same) in
@@ -83,8 +83,8 @@ returns-clause-removed g c =
     let left : c.remove.new.self ≡ remove_row b.schema.dims key rows = c.remove.ensures.rows ∙ ap (λ (d : ℕ). remove_row d key rows) dims_b in
     let after = c.settle.new.self in
     let u = c.self-3.inside in
-    let d : TreeView = tree_view u.schema u.places.entries.items u.chain.items u.next (u.rows - 1) u.is_changed u.is_failed u.pager in
+    let d : TreeView = tree_view u.schema u.directory.entries u.directory.chain u.next (u.rows - 1) u.is_changed u.is_failed u.pager in
     let few : length after.placed < 2 ^ 32 = (let most = c.self-3.invariant.few in subst (λ (v : TreeView). length v.placed < 2 ^ 32) c.self-3.view_is
-    (let long = length-placed u.schema (known_pages u.pager.store) u.places.entries.items in omega arith)) in
+    (let long = length-placed u.schema (known_pages u.pager.store) u.directory.entries in omega arith)) in
     shrunk a b after d key c.place_of-place.result rows held same found c.in_ok-settle.ensures.same c.in_ok-settle.ensures.effect.marked.marked few
     (ap (λ (v : TreeView). record v { rows = v.rows - 1 }) c.self-3.view_is) (rw left at c.in_ok-settle.ensures.written)

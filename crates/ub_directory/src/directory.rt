@@ -1,0 +1,217 @@
+ghost use Rattle.std.specs.Prelude.{◌≡◌, ℕ, List, ◌+◌, ◌<◌, ◌≤◌, ◌^◌, [], ◌∷◌, Some, IfOk, IfErr, OnOk, OnErr, length, slice_get};
+ghost use Rattle.std.specs.List.{insert, remove};
+ghost use Rattle.ub_zaddr.specs.Address.{last_address};
+ghost use Rattle.ub_page.specs.Header.{IsHeader};
+ghost use Rattle.ub_region.specs.Regions.{place_of};
+ghost use Rattle.ub_store.specs.Facts.{page_count, IsHonest};
+ghost use Rattle.ub_table.specs.Keys.{origin};
+ghost use Rattle.ub_directory.specs.Chain.{AreOwn, HasDirectory};
+ghost use Rattle.ub_directory.specs.Reading.{IsReadWhole, Opens};
+ghost use Rattle.ub_directory.specs.Searching.{Searches};
+ghost use Rattle.ub_directory.specs.Slots.{ArePlaces, IsSeat, first_keys, slots_of, Meets, IsLater, First};
+ghost use Rattle.ub_directory.specs.Writing.{IsUntouched, IsSaved, IsSaveFault, put_store};
+
+use crate::fault::DirectoryFault;
+use crate::places::{ORIGIN, Places};
+use crate::reading::read_table;
+use crate::seat::Seat;
+use crate::slot::Slot;
+use crate::writing::write_places;
+use std::alloc::{AllocError, Global};
+use std::marker::Model;
+use ub_bigmin::ZBox;
+use ub_page::{Entry, Header};
+use ub_store::{PageStore, Pager, StoreFault};
+use ub_table::Key;
+
+/// The directory of a table: where each of its regions begins, and on which page it stands; and the pages of a store that the
+/// directory itself has.
+#[derive(Drop)]
+pub struct Directory {
+    places: Places,
+    // Its pages, in order.
+    chain: Vec<u32>,
+}
+
+impl Model for Directory {
+    ghost use Rattle.ub_directory.specs.View.{DirectoryView};
+
+    ghost Value = { DirectoryView };
+
+    ghost view = { λ d. record { entries = d.places.entries.items; chain = d.chain.items; last = d.places.last } };
+}
+
+impl Directory {
+    /// The directory of a table with no rows, in a space with this last address: one region, which begins with the least key of
+    /// all, on this page. The directory itself has the page `root`. Nothing is written.
+    pub fn create(alloc: Global, last: u128, page: u32, root: u32) -> Result<Directory, AllocError>
+        ensures { IfOk result (λ d. d ≡ record {
+          entries = record { first = origin; page = page } ∷ [];
+          chain = root ∷ [];
+          last = last;
+        }) }
+    {
+        let mut entries = Vec::new(alloc);
+        entries.push(Entry {
+            first: ORIGIN,
+            page,
+        })?;
+        let mut chain = Vec::new(alloc);
+        chain.push(root)?;
+        match Places::new(entries, last) {
+            Some(places) => Ok(Directory { places, chain }),
+            None => unreachable!(),
+        }
+    }
+
+    /// The header of a closed table and its directory: its first page tells of the table, and the pages from the header's root on
+    /// of its regions. No other page is read, and none is written.
+    ///
+    /// Page comes where a page is refused: by its reader; as BadCount where a page of the directory has not as many entries as it
+    /// must (170, or on the last page the rest of those that the header counts), names no page and is not the last, or names one
+    /// and is; as BadOrder where its first entry does not begin after the last entry of the page before, or on the first page with
+    /// the least key of all. Store with NoPage comes where a page is named that the store does not have, with Device where the
+    /// store failed in this call, with Memory where memory was refused.
+    pub fn read<S: PageStore>(
+        alloc: Global,
+        pager: &mut Pager<S>,
+    ) -> Result<(Header, Directory), DirectoryFault>
+        ensures header { IfOk result (λ table. IsHeader table.0) }
+        ensures whole { IfOk result (λ table. IsReadWhole pager.old.store table.0 table.1.chain
+            table.1.entries) }
+        ensures last { IfOk result (λ table. table.1.last ≡ last_address table.0.schema.dims) }
+        ensures effect { Opens pager.old pager.new result }
+    {
+        let (header, places, chain) = read_table(alloc, pager)?;
+        Ok((header, Directory { places, chain }))
+    }
+
+    /// Writes the directory, on its pages and on new ones, syncs, and gives its first page.
+    ///
+    /// Device comes where the store failed in this call, NoPage where it has no page of the directory, BadSize where it can have no
+    /// more pages, Memory where memory was refused. The first page of the store, and those that hold no part of the directory, are
+    /// then as they were.
+    pub fn write<S: PageStore>(self, pager: &mut Pager<S>) -> Result<u32, StoreFault>
+        requires { length self.entries < 2 ^ 32 }
+        ensures written { (numbers : List ℕ) → IsHonest pager.old.store
+            → AreOwn (page_count pager.old.store) self.chain numbers
+            → IfOk result (λ root. HasDirectory numbers self.entries root pager.new.store.pages) }
+        ensures small { IfOk result (λ root. root < 2 ^ 32) }
+        ensures kept { (numbers : List ℕ) → IsHonest pager.old.store
+            → AreOwn (page_count pager.old.store) self.chain numbers
+            → IsUntouched numbers pager.old.store pager.new.store }
+        ensures saved { OnOk result (IsSaved (length self.entries)
+            (length self.chain) pager.old.store pager.new.store) }
+        ensures same { pager.new.store ≡ put_store result pager.old.store pager.new.store }
+        ensures refused { IfErr result (IsSaveFault self.chain pager.old.store pager.new.store) }
+    {
+        let Directory { places, chain } = self;
+        write_places(pager, chain, &places.entries)
+    }
+
+    /// How many regions there are.
+    pub fn count(&self) -> usize
+        ensures count { result ≡ length self.now.entries }
+        ensures some { 1 ≤ result }
+    {
+        self.places.entries.len()
+    }
+
+    /// The first of the directory's pages.
+    pub fn root(&self) -> u32
+        requires { 1 ≤ length self.now.chain }
+        ensures { slice_get self.now.chain 0 ≡ Some result }
+    {
+        self.chain[0]
+    }
+
+    /// The place of the region that holds a key: the last one that does not begin after it.
+    pub fn place_of(&self, key: &Key) -> usize
+        ensures place { result ≡ place_of key.now (first_keys self.now.entries) }
+        ensures within { result < length self.now.entries }
+    {
+        self.places.place_of(key)
+    }
+
+    /// The region at a place, and where the next one begins.
+    pub fn seat_at(&self, place: usize) -> Seat
+        requires { place < length self.now.entries }
+        ensures { IsSeat self.now.entries place result }
+    {
+        let entry = self.places.entries[place];
+        Seat {
+            first: entry.first,
+            page: entry.page,
+            next: self.next_after(place),
+        }
+    }
+
+    /// The region that holds a key: the last one that does not begin after it.
+    pub fn seat_of(&self, key: &Key) -> Seat
+        ensures { IsSeat self.now.entries (place_of key.now (first_keys self.now.entries)) result }
+    {
+        self.seat_at(self.place_of(key))
+    }
+
+    // Where the region after that at a place begins.
+    fn next_after(&self, place: usize) -> Option<Key>
+        requires { place < length self.now.entries }
+        ensures { result ≡ slice_get (first_keys self.now.entries) (place + 1) }
+    {
+        let entry = self.places.entries.get(place + 1)?;
+        Some(entry.first)
+    }
+
+    /// Puts an entry after the one at a place, where the entries stay in order. Refused memory leaves all as it was.
+    pub fn insert_after(&mut self, place: usize, entry: Entry) -> Result<(), AllocError>
+        requires place { place < length self.old.entries }
+        requires places { ArePlaces self.old.last (insert self.old.entries (place + 1) entry) }
+        ensures ok { OnOk result (self.new ≡ record self.old {
+          entries = insert self.old.entries (place + 1) entry;
+        }) }
+        ensures err { OnErr result (self.new ≡ self.old) }
+        ensures places { ArePlaces self.new.last self.new.entries }
+    {
+        self.places.insert_after(place, entry)
+    }
+
+    /// Takes out the entry at a place, but not the first one.
+    pub fn remove(&mut self, place: usize)
+        requires some { 1 ≤ place }
+        requires within { place < length self.old.entries }
+        ensures same { self.new ≡ record self.old { entries = remove self.old.entries place } }
+        ensures places { ArePlaces self.new.last self.new.entries }
+    {
+        self.places.remove(place);
+    }
+
+    /// The first region that begins after a key, if one is given, and whose span ends at z or later. `None` exactly where there is
+    /// none. Store with Device comes where the store failed in this call, with Memory where memory was refused.
+    pub fn seek<S: PageStore>(
+        &self,
+        pager: &mut Pager<S>,
+        z: u128,
+        after: Option<Key>,
+    ) -> Result<Option<Slot>, DirectoryFault>
+        ensures found { IfOk result (λ found. First (λ slot. IsLater after slot × (z ≤ slot.to))
+            (slots_of self.now.last self.now.entries) found) }
+        ensures effect { Searches pager.old pager.new result }
+    {
+        Ok(self.places.seek(z, after))
+    }
+
+    /// The first region that begins after a key, if one is given, and meets one of the boxes. `None` exactly where there is
+    /// none. Store with Device comes where the store failed in this call, with Memory where memory was refused.
+    pub fn next_meeting<S: PageStore>(
+        &self,
+        pager: &mut Pager<S>,
+        boxes: &[ZBox],
+        after: Option<Key>,
+    ) -> Result<Option<Slot>, DirectoryFault>
+        ensures found { IfOk result (λ found. First (λ slot. IsLater after slot × Meets boxes.now slot)
+            (slots_of self.now.last self.now.entries) found) }
+        ensures effect { Searches pager.old pager.new result }
+    {
+        Ok(self.places.next_meeting(boxes, after))
+    }
+}

@@ -1,0 +1,20 @@
+use Rattle.std.proofs.Common.{◌∙◌, ap, refl}
+use Rattle.ub_store.specs.Facts.{StoreFacts}
+use Rattle.ub_tree.proofs.CloseFacts.{on_err, unclosed_before, unclosed_of, closed_of}
+use Rattle.ub_tree.proofs.order.write_table.Goals as goal
+
+pub returns-in_err-write_clean-clause-left : goal.returns-in_err-write_clean-clause-left
+returns-in_err-write_clean-clause-left g c = λ numbers honest own.
+    on_err c.from_residual-in_err-write_clean.result _
+    (unclosed_of numbers c.args.directory.entries c.in_ok-root.root c.args.pager.now.store c.write.new.pager.store c.write_clean.new.pager.store (c.write.ensures.kept numbers honest own).kept
+    (c.in_ok-root.ensures.written numbers honest own) c.in_ok-root.ensures.saved.synced c.write_clean.ensures.kept (ap (λ (s : StoreFacts). s.honest) c.write.ensures.same ∙ honest))
+
+pub returns-in_err-root-clause-left : goal.returns-in_err-root-clause-left
+returns-in_err-root-clause-left g c = λ numbers honest own.
+    on_err c.from_residual.result _ (unclosed_before numbers c.args.directory.entries c.args.pager.now.store c.write.new.pager.store (c.write.ensures.kept numbers honest own))
+
+pub returns-clause-closed : goal.returns-clause-closed
+returns-clause-closed g c = λ numbers honest own.
+    closed_of numbers c.args.directory.entries c.args.pager.now.store c.write.new.pager.store c.write_clean.new.pager.store _ (c.write.ensures.kept numbers honest own).kept (c.in_ok-root.ensures.written numbers honest own)
+    c.write_clean.ensures.kept (ap (λ (s : StoreFacts). s.honest) c.write.ensures.same ∙ honest) (c.in_ok-write_clean.ensures.written (ap (λ (s : StoreFacts). s.honest) c.write.ensures.same ∙ honest)) refl c.count-regions.ensures.count (rw c.count-regions.ensures.count at c.count-regions.ensures.some) c.requires.few
+    c.requires.counts.0 c.requires.counts.1 c.in_ok-root.ensures.small c.levels_of.ensures (rw c.name.ensures at c.tell_name.ensures) (rw c.columns.ensures.columns at c.tell_names.ensures)

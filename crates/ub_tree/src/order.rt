@@ -1,0 +1,158 @@
+// In which order the pages of a tree go out.
+//
+// A table: first the header, marked as changed, and then the page of its one region.
+// A change: first the header, marked as changed, unless it is marked already: a table of which any other page was written is not
+// opened until it is closed again. Where a region is split, the page of the new region comes next, and then that of the old one,
+// which holds all their rows until it is written; where two are joined, the page that takes the rows of both.
+// Closing: the pages of the directory, the last one first, so that none names one that does not stand yet; a sync; the clean header;
+// and a sync. So the header that lasts names a directory that lasts.
+
+ghost use Rattle.std.specs.Prelude.{ℕ, List, ◌≡◌, ◌⊎◌, ◌↔◌, ◌+◌, ◌^◌, ◌<◌, ◌≤◌, [], ◌∷◌, length, slice_get, Some, IsTrue, IsNone, IfErr, OnOk, OnErr, IsErrOf, option_copied};
+ghost use Rattle.ub_page.specs.Header.{header_page};
+ghost use Rattle.ub_store.specs.Facts.{page_count, IsHonest};
+ghost use Rattle.ub_store.specs.View.{SameTrace};
+ghost use Rattle.ub_directory.specs.Chain.{AreOwn};
+ghost use Rattle.ub_directory.specs.Writing.{KeepsBut, IsSaved, WritesStore};
+ghost use Rattle.ub_tree.specs.Calls.{IsUncreated, IsCreateFault};
+ghost use Rattle.ub_tree.specs.Change.{Puts, PutsTwo, Marks};
+ghost use Rattle.ub_tree.specs.Closing.{IsClosed, IsUnclosed, IsSaveFault};
+ghost use Rattle.ub_tree.specs.Effects.{written_store};
+ghost use Rattle.ub_tree.specs.Tree.{IsLaidOut};
+
+use crate::fault::TreeFault;
+use crate::header::{mark_page, tell_name, tell_names};
+use ub_directory::{Directory, ORIGIN, levels_of};
+use ub_page::{Header, Page, write_header, write_region};
+use ub_store::{PageStore, Pager, StoreFault};
+use ub_table::{MAX_ROW_NUMBER, Schema};
+
+/// Three pages: first the header, marked unclean, and then the empty region, and one of zeros.
+pub fn write_first_pages<S: PageStore>(
+    pager: &mut Pager<S>,
+    schema: &Schema,
+) -> Result<(), TreeFault>
+    requires { page_count pager.old.store ≡ 0 }
+    ensures pages { OnOk result (IsHonest pager.old.store
+        → IsLaidOut schema.now pager.new.store.pages) }
+    ensures first { OnErr result (IsHonest pager.old.store
+        → IsUncreated schema.now pager.new.store) }
+    ensures trace { SameTrace pager.old pager.new }
+    ensures left { pager.new.store ≡ written_store result pager.old.store pager.new.store }
+    ensures refused { IfErr result (IsCreateFault pager.old.store) }
+{
+    pager.extend()?;
+    pager.put(0, &mark_page(schema, 1, 0, 1, 2))?;
+    pager.extend()?;
+    pager.extend()?;
+    pager.put(1, &write_region(schema, ORIGIN, &[]))?;
+    Ok(())
+}
+
+/// Puts two pages in their places, and before them the header, where one is given: then the table is marked as changed.
+pub fn write_pages<S: PageStore>(
+    pager: &mut Pager<S>,
+    is_changed: &mut bool,
+    header: Option<&Page>,
+    first: (u32, &Page),
+    second: (u32, &Page),
+) -> Result<(), StoreFault>
+    requires { IsNone header ↔ IsTrue is_changed.old }
+    ensures put { OnOk result (PutsTwo first.entry.0 first.entry.1.now second.entry.0
+        second.entry.1.now pager.old.store pager.new.store) }
+    ensures marks { Marks (option_copied header.entry)
+        (first.entry.0 ∷ second.entry.0 ∷ []) is_changed.old is_changed.new pager.old.store
+        pager.new.store }
+    ensures marked { OnOk result (IsTrue is_changed.new) }
+    ensures trace { SameTrace pager.old pager.new }
+    ensures effect { WritesStore pager.old.store pager.new.store result }
+    ensures missing { IsErrOf result StoreFault.NoPage → (page_count pager.old.store ≡ 0)
+        ⊎ (page_count pager.old.store ≤ first.entry.0)
+        ⊎ (page_count pager.old.store ≤ second.entry.0) }
+    ensures faults { IfErr result (λ fault. (fault ≡ StoreFault.Device)
+        ⊎ (fault ≡ StoreFault.NoPage)) }
+{
+    write_page(pager, is_changed, header, first.0, first.1)?;
+    write_page(pager, is_changed, None, second.0, second.1)
+}
+
+/// Puts a page in the place of that of this number, and before it the header, where one is given: then the table is marked
+/// as changed.
+pub fn write_page<S: PageStore>(
+    pager: &mut Pager<S>,
+    is_changed: &mut bool,
+    header: Option<&Page>,
+    n: u32,
+    page: &Page,
+) -> Result<(), StoreFault>
+    requires { IsNone header ↔ IsTrue is_changed.old }
+    ensures put { OnOk result (Puts n page.now pager.old.store pager.new.store) }
+    ensures marks { Marks (option_copied header.entry)
+        (n ∷ []) is_changed.old is_changed.new pager.old.store pager.new.store }
+    ensures marked { OnOk result (IsTrue is_changed.new) }
+    ensures trace { SameTrace pager.old pager.new }
+    ensures effect { WritesStore pager.old.store pager.new.store result }
+    ensures missing { IsErrOf result StoreFault.NoPage → (page_count pager.old.store ≡ 0)
+        ⊎ (page_count pager.old.store ≤ n) }
+    ensures faults { IfErr result (λ fault. (fault ≡ StoreFault.Device)
+        ⊎ (fault ≡ StoreFault.NoPage)) }
+{
+    if let Some(header) = header {
+        pager.put(0, header)?;
+        *is_changed = true;
+    }
+    pager.put(n, page)
+}
+
+/// Writes the directory, on its pages and on new ones, and then a clean header.
+pub fn write_table<S: PageStore>(
+    pager: &mut Pager<S>,
+    directory: Directory,
+    schema: Schema,
+    next: u32,
+    rows: u32,
+) -> Result<(), TreeFault>
+    requires few { length directory.entries < 2 ^ 32 }
+    requires counts { (rows < next) × (next ≤ MAX_ROW_NUMBER + 1) }
+    ensures closed { (numbers : List ℕ) → IsHonest pager.old.store
+        → AreOwn (page_count pager.old.store) directory.chain numbers
+        → OnOk result (IsClosed schema next rows numbers directory.entries pager.old.store
+        pager.new.store) }
+    ensures left { (numbers : List ℕ) → IsHonest pager.old.store
+        → AreOwn (page_count pager.old.store) directory.chain numbers
+        → OnErr result (IsUnclosed numbers directory.entries pager.old.store pager.new.store) }
+    ensures saved { OnOk result (IsSaved (length directory.entries)
+        (length directory.chain) pager.old.store pager.new.store) }
+    ensures same { pager.new.store ≡ written_store result pager.old.store pager.new.store }
+    ensures refused { IfErr result (IsSaveFault directory.chain pager.old.store pager.new.store) }
+{
+    tell_names(schema.columns());
+    tell_name(schema.name());
+    let regions = directory.count();
+    let root = directory.write(pager)?;
+    let header = Header {
+        schema,
+        next,
+        rows,
+        regions: regions as u32,
+        root,
+        levels: levels_of(regions) as u32,
+        unclean: false,
+    };
+    write_clean(pager, &header)?;
+    Ok(())
+}
+
+// Writes the header, once what was written before lasts.
+fn write_clean<S: PageStore>(pager: &mut Pager<S>, header: &Header) -> Result<(), StoreFault>
+    ensures written { IsHonest pager.old.store
+        → OnOk result (slice_get pager.new.store.pages 0 ≡ Some (header_page header.now)) }
+    ensures synced { OnOk result (pager.new.store.synced ≡ pager.new.store.pages) }
+    ensures kept { KeepsBut (0 ∷ []) pager.old.store pager.new.store }
+    ensures effect { WritesStore pager.old.store pager.new.store result }
+    ensures missing { IsErrOf result StoreFault.NoPage → page_count pager.old.store ≡ 0 }
+    ensures faults { IfErr result (λ fault. (fault ≡ StoreFault.Device)
+        ⊎ (fault ≡ StoreFault.NoPage)) }
+{
+    pager.put(0, &write_header(header))?;
+    pager.sync()
+}
