@@ -10,7 +10,7 @@ use Rattle.std.specs.declared.cmp.Ordering.TheVariants.{Less, Equal, Greater}
 use Rattle.ub_answer.proofs.CompareFacts.{keys_total}
 use Rattle.ub_answer.specs.Groups.{values_cmp, same_taken, same_item, cell_from, Entry, entry_cmp}
 use Rattle.ub_answer.specs.declared.groups.Values.{Values}
-use Rattle.ub_query.proofs.Arranging.{contains_cases}
+use Rattle.ub_query.proofs.Laws.{contains_cases}
 use Rattle.ub_query.specs.Groups.{are_same}
 use Rattle.ub_query.specs.Order.{AreBelow}
 use Rattle.ub_query.specs.declared.cell.Cell.{Cell}

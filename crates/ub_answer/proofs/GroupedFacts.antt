@@ -1,34 +1,33 @@
 -- The groups that are held, from one row to the next, and what they mean in the end.
-use Rattle.std.proofs.Common.{◌≡◌, ◌≢◌, ◌<◌, ◌≤◌, ◌+◌, ◌==◌, inl, inr, ℕ, zero, suc, ℤ, Bool, true, false, cond, List, [], ◌∷◌, ◌++◌, length, map, take, filter, Option, Some, None, MatchOption, IsPermutation, Contains, BTreeMap, slice_index_or, slice_get, unwrap_or, append-nil, refl, sym, ap, subst, arith, ◌∙◌}
+use Rattle.std.proofs.Common.{◌≡◌, ◌≢◌, ◌<◌, ◌≤◌, ◌+◌, ◌==◌, inl, inr, ℕ, zero, suc, ℤ, Bool, true, false, ◌&&◌, cond, List, [], ◌∷◌, ◌++◌, length, map, take, filter, Option, Some, None, MatchOption, IsPermutation, Contains, slice_index_or, slice_get, append-nil, refl, sym, ap, subst, arith, ◌∙◌}
 use Rattle.std.proofs.lemmas.Bool.{cases_Bool, true≢false, eqb-true, eq-eqb}
-use Rattle.std.proofs.lemmas.Cmp.{eq_by_cmp_equiv, on_total}
+use Rattle.std.proofs.lemmas.Cmp.{eq_by_cmp_equiv, int_eq_equiv, lists_equiv, on_equiv, on_total}
 use Rattle.std.proofs.lemmas.List.{length-append, length-map, get_or_default}
 use Rattle.std.proofs.lemmas.List.Elements.{filter-append, recursion_from_All}
 use Rattle.std.proofs.lemmas.List.Sorted.{IsPermutation-map, IsPermutation-sym, Contains-permutation}
 use Rattle.std.proofs.lemmas.List.Sums.{length-filter, count_by-le-length}
 use Rattle.std.proofs.lemmas.Map.Entries.{lookup_from_place, place_from_lookup}
-use Rattle.std.proofs.lemmas.Map.Keys.{IsDistinct-from_sorted}
 use Rattle.std.proofs.lemmas.Option.{slice_get_read}
-use Rattle.std.specs.BTreeMap.{IsEmpty, IsOrdered, get, keys, is_at}
-use Rattle.std.specs.List.{All, AllByRecursion, flat_map}
+use Rattle.std.specs.Cmp.{IsEquivalence}
+use Rattle.std.specs.Cmp.Lexicographic.{pointwise}
+use Rattle.std.specs.List.{All, AllByRecursion, IsDistinct, flat_map}
 use Rattle.std.specs.List.Sorted.{IsSorted}
-use Rattle.std.specs.Map.{lookup}
-use Rattle.std.specs.Ordering.{is_eq, is_lt, eq_by_cmp}
+use Rattle.std.specs.Map.{keys_of}
+use Rattle.std.specs.Ordering.{int_eq, is_eq, is_lt, eq_by_cmp}
 use Rattle.std.specs.declared.cmp.Ordering.{Ordering}
 use Rattle.std.specs.declared.cmp.Ordering.TheVariants.{Less}
 use Rattle.ub_answer.proofs.CompareFacts.{keys-less, keys-equal, not_equal}
 use Rattle.ub_answer.proofs.CutFacts.{cut-pieces}
-use Rattle.ub_answer.proofs.EntryFacts.{values_total, entries_total, equal-are_same, less-are-below, cell_from-is}
+use Rattle.ub_answer.proofs.EntryFacts.{entries_total, equal-are_same, less-are-below, cell_from-is}
 use Rattle.ub_answer.proofs.FirstFacts.{from_distinct, rising_permutation, up_from_sorted, strictly_from_up}
 use Rattle.ub_answer.proofs.PermutedFacts.{cell-permuted}
 use Rattle.ub_answer.proofs.TallyFacts.{IsOfGroup, are-shown-next, shown-none, shown-list}
 use Rattle.ub_answer.specs.Compare.{keys_cmp}
 use Rattle.ub_answer.specs.Cut.{cut}
-use Rattle.ub_answer.specs.Groups.{values_cmp, IsGroupAt, HoldsGroups, AddsRow, Entry, entry_of, entry_cmp, cell_from}
+use Rattle.ub_answer.specs.Groups.{values_cmp, values_eq, cells_at, IsGroupAt, HoldsGroups, AddsRow, Entry, entry_of, entry_cmp, cell_from}
 use Rattle.ub_answer.specs.Tally.{AreOfNone, of_none, with_row, IsNarrow, IsShown, AreShown, many}
 use Rattle.ub_answer.specs.declared.groups.Values.{Values}
-use Rattle.ub_query.proofs.Arranging.{Rising, Rising-map, Rising-mapped, Rising-both, adjacent-from_Rising, contains_cases, contains_none, all_permutation, all_from_contains, all_weaker}
-use Rattle.ub_query.proofs.GroupFacts.{are_same-true, are_same-itself, contains_map, contains_filter, contains_from_filter, grouping_from, whole_groups, cells-alike, IsWhole}
+use Rattle.ub_query.proofs.Laws.{Rising, Rising-map, Rising-mapped, Rising-both, adjacent-from_Rising, contains_cases, contains_none, all_permutation, all_from_contains, all_weaker, are_same-true, are_same-itself, contains_map, contains_filter, contains_from_filter, grouping_from, whole_groups, cells-alike, IsWhole}
 use Rattle.ub_query.specs.Cells.{Group, group_cell, value_among}
 use Rattle.ub_query.specs.Groups.{selected, values_of, are_same, rows_with, IsGrouping, AreGroups}
 use Rattle.ub_query.specs.Meaning.{IsGroupMeaning, limited}
@@ -69,12 +68,23 @@ of_own_group schema row columns (Column column) here = among-own schema row colu
 of_own_group schema row columns Count here = tt
 of_own_group schema row columns (Aggregate taken column) here = tt
 
+-- ---- the same values
+
+alike : (xs ys : List ℤ) → pointwise int_eq xs ys ≡ are_same xs ys
+alike [] [] = refl
+alike [] (y ∷ ys) = refl
+alike (x ∷ xs) [] = refl
+alike (x ∷ xs) (y ∷ ys) = ap (λ (b : Bool). int_eq x y && b) (alike xs ys)
+
+values_equiv : IsEquivalence values_eq
+values_equiv = on_equiv (λ (v : Values). v.all.items) (lists_equiv int_eq_equiv)
+
 -- ---- from one row to the next
 
-pub holds-none : (schema : Schema) (columns : List ℕ) (items : List Item) (groups : BTreeMap Values (List Cell)) → IsEmpty groups
+pub holds-none : (schema : Schema) (columns : List ℕ) (items : List Item) (groups : List Entry) → groups ≡ []
     → HoldsGroups schema columns items [] groups
 holds-none schema columns items groups empty few key =
-    subst (λ (es : List Entry). IsGroupAt schema columns items (record { values = key.all.items; rows = [] }) (lookup (is_at (values_cmp key)) es)) (sym empty) refl
+    subst (λ (es : List Entry). IsGroupAt schema columns items (record { values = key.all.items; rows = [] }) (cells_at es key)) (sym empty) refl
 
 append-some : (rows : List Row) (row : Row) → rows ++ row ∷ [] ≢ []
 append-some [] row e = cc
@@ -100,37 +110,37 @@ added schema columns items w rows row (Some b) before after few at was narrow of
     subst (λ (cells : List Cell). IsShown schema columns (record { values = w; rows = rows }) (slice_index_or items k d) (slice_index_or cells k e)) (sym was) (at.2 k d e below))
     is
 
-pub group-next : (schema : Schema) (columns : List ℕ) (items : List Item) (taken : List Row) (row : Row) (values : Values) (old new : BTreeMap Values (List Cell))
+pub group-next : (schema : Schema) (columns : List ℕ) (items : List Item) (taken : List Row) (row : Row) (values : Values) (old new : List Entry)
     → values.all.items ≡ values_of schema columns row → All (λ item. IsGrouped columns item) items → AddsRow schema items row values old new
     → HoldsGroups schema columns items taken old → HoldsGroups schema columns items (taken ++ row ∷ []) new
 group-next schema columns items taken row values old new own grouped adds held few key =
     let less : length taken < many = let long = length-append taken (row ∷ []) in omega arith in
     let w = key.all.items in
     let p : Row → Bool = λ r. are_same (values_of schema columns r) w in
-    let compared : is_eq (values_cmp values key) ≡ p row = equal-are_same values.all.items w ∙ ap (λ (vs : List ℤ). are_same vs w) own in
+    let compared : values_eq values key ≡ p row = alike values.all.items w ∙ ap (λ (vs : List ℤ). are_same vs w) own in
     let more : rows_with schema columns (taken ++ row ∷ []) w ≡ rows_with schema columns taken w ++ filter p (row ∷ []) = filter-append p taken (row ∷ []) in
     elim (cases_Bool (p row)) [
       | inl is ↦
           let same : values_of schema columns row ≡ w = are_same-true (values_of schema columns row) w is in
-          let at : get values_cmp new key ≡ Some adds.after =
-          adds.groups key ∙ ap (λ (b : Bool). cond b (Some adds.after) (get values_cmp old key)) (compared ∙ is) in
+          let at : cells_at new key ≡ Some adds.after =
+          adds.groups key ∙ ap (λ (b : Bool). cond b (Some adds.after) (cells_at old key)) (compared ∙ is) in
           let rows = rows_with schema columns taken w in
           let whole : rows_with schema columns (taken ++ row ∷ []) w ≡ rows ++ row ∷ [] = more ∙ ap (λ (b : Bool). rows ++ cond b (row ∷ []) []) is in
           let short : length rows < many = let a = length-filter p taken in let b = count_by-le-length p taken in omega arith in
           let of : All (λ item. IsOfGroup schema columns w row item) items =
           λ k d below. subst (λ (vs : List ℤ). IsOfGroup schema columns vs row (slice_index_or items k d)) same (of_own_group schema row columns (slice_index_or items k d) (grouped k d below)) in
-          let here : IsGroupAt schema columns items (record { values = w; rows = rows }) (get values_cmp old values) =
-          subst (λ (vs : List ℤ). IsGroupAt schema columns items (record { values = vs; rows = rows_with schema columns taken vs }) (get values_cmp old values)) (own ∙ same) (held less values) in
-          let shown = added schema columns items w rows row (get values_cmp old values) adds.before adds.after short here adds.was adds.narrow of adds.cells in
+          let here : IsGroupAt schema columns items (record { values = w; rows = rows }) (cells_at old values) =
+          subst (λ (vs : List ℤ). IsGroupAt schema columns items (record { values = vs; rows = rows_with schema columns taken vs }) (cells_at old values)) (own ∙ same) (held less values) in
+          let shown = added schema columns items w rows row (cells_at old values) adds.before adds.after short here adds.was adds.narrow of adds.cells in
           subst (λ (o : Option (List Cell)). IsGroupAt schema columns items (record { values = w; rows = rows_with schema columns (taken ++ row ∷ []) w }) o) (sym at)
           (subst (λ (rs : List Row). IsGroupAt schema columns items (record { values = w; rows = rs }) (Some adds.after)) (sym whole) (append-some rows row, adds.long, shown))
       | inr apart ↦
-          let at : get values_cmp new key ≡ get values_cmp old key =
-          adds.groups key ∙ ap (λ (b : Bool). cond b (Some adds.after) (get values_cmp old key)) (compared ∙ apart) in
+          let at : cells_at new key ≡ cells_at old key =
+          adds.groups key ∙ ap (λ (b : Bool). cond b (Some adds.after) (cells_at old key)) (compared ∙ apart) in
           let rows = rows_with schema columns taken w in
           let whole : rows_with schema columns (taken ++ row ∷ []) w ≡ rows = more ∙ ap (λ (b : Bool). rows ++ cond b (row ∷ []) []) apart ∙ append-nil rows in
           subst (λ (o : Option (List Cell)). IsGroupAt schema columns items (record { values = w; rows = rows_with schema columns (taken ++ row ∷ []) w }) o) (sym at)
-          (subst (λ (rs : List Row). IsGroupAt schema columns items (record { values = w; rows = rs }) (get values_cmp old key)) (sym whole) (held less key))
+          (subst (λ (rs : List Row). IsGroupAt schema columns items (record { values = w; rows = rs }) (cells_at old key)) (sym whole) (held less key))
     ]
 
 -- ---- lists
@@ -201,11 +211,11 @@ from_place (x ∷ es) zero e is = (0, omega arith, let same : x ≡ e = cc in sa
 from_place (x ∷ es) (suc i) e is = let (k, within, at) = from_place es i e is in (suc k, omega arith, at)
 
 -- each entry is found by its values
-found : (groups : BTreeMap Values (List Cell)) → IsOrdered values_cmp groups → All (λ (e : Entry). get values_cmp groups e.0 ≡ Some e.1) groups.entries
+found : (groups : List Entry) → IsDistinct values_eq (keys_of groups) → All (λ (e : Entry). cells_at groups e.0 ≡ Some e.1) groups
 found groups ordered k d below =
-    let e : Entry = slice_index_or groups.entries k d in
-    lookup_from_place (eq_by_cmp_equiv values_total) groups.entries k e.0 e.1 (IsDistinct-from_sorted values_cmp (keys groups) ordered)
-    (slice_get_read groups.entries (length groups.entries) k e refl below (get_or_default groups.entries k d e below))
+    let e : Entry = slice_index_or groups k d in
+    lookup_from_place values_equiv groups k e.0 e.1 ordered
+    (slice_get_read groups (length groups) k e refl below (get_or_default groups k d e below))
 
 module _ (schema : Schema) (columns : List ℕ) (items : List Item) (order : List SortKey) (rows taken : List Row) (same : IsPermutation rows taken) where
   -- the group of an entry
@@ -216,11 +226,11 @@ module _ (schema : Schema) (columns : List ℕ) (items : List Item) (order : Lis
   abbrev Holds : Entry → Type 0
   Holds e = IsGroupAt schema columns items (record { values = e.0.all.items; rows = rows_with schema columns taken e.0.all.items }) (Some e.1)
 
-  all_hold : (groups : BTreeMap Values (List Cell)) → IsOrdered values_cmp groups → length taken < many → HoldsGroups schema columns items taken groups
-      → AllByRecursion Holds groups.entries
+  all_hold : (groups : List Entry) → IsDistinct values_eq (keys_of groups) → length taken < many → HoldsGroups schema columns items taken groups
+      → AllByRecursion Holds groups
   all_hold groups ordered few held =
-      recursion_from_All Holds groups.entries (λ k d below.
-      let e : Entry = slice_index_or groups.entries k d in
+      recursion_from_All Holds groups (λ k d below.
+      let e : Entry = slice_index_or groups k d in
       subst (λ (o : Option (List Cell)). IsGroupAt schema columns items (record { values = e.0.all.items; rows = rows_with schema columns taken e.0.all.items }) o)
       (found groups ordered k d below) (held few e.0))
 
@@ -256,47 +266,46 @@ module _ (schema : Schema) (columns : List ℕ) (items : List Item) (order : Lis
       first_of (r ∷ rs) some = (r, (0, omega arith, refl))
 
   -- an entry for each row
-  entry_there : (groups : BTreeMap Values (List Cell)) → length taken < many → HoldsGroups schema columns items taken groups → (row : Row) → Contains rows row
-      → Contains (map (λ g. g.values) (map group_of groups.entries)) (values_of schema columns row)
-  entry_there groups few held row here = by_entry (get values_cmp groups (key_of (values_of schema columns row))) refl (held few (key_of (values_of schema columns row)))
+  entry_there : (groups : List Entry) → length taken < many → HoldsGroups schema columns items taken groups → (row : Row) → Contains rows row
+      → Contains (map (λ g. g.values) (map group_of groups)) (values_of schema columns row)
+  entry_there groups few held row here = by_entry (cells_at groups (key_of (values_of schema columns row))) refl (held few (key_of (values_of schema columns row)))
     where
-      by_entry : (o : Option (List Cell)) → get values_cmp groups (key_of (values_of schema columns row)) ≡ o
+      by_entry : (o : Option (List Cell)) → cells_at groups (key_of (values_of schema columns row)) ≡ o
           → IsGroupAt schema columns items (record { values = values_of schema columns row; rows = rows_with schema columns taken (values_of schema columns row) }) o
-          → Contains (map (λ g. g.values) (map group_of groups.entries)) (values_of schema columns row)
+          → Contains (map (λ g. g.values) (map group_of groups)) (values_of schema columns row)
       by_entry None is at =
           let p : Row → Bool = λ r. are_same (values_of schema columns r) (values_of schema columns row) in
           let passes : p row ≡ true = are_same-itself (values_of schema columns row) in
           absurd (contains_none row (subst (λ (rs : List Row). Contains rs row) at (contains_filter p taken row (Contains-permutation rows taken row same here) passes)))
       by_entry (Some cells) is at =
-          let (i, k, place, test) = place_from_lookup (is_at (values_cmp (key_of (values_of schema columns row)))) groups.entries cells is in
+          let (i, k, place, test) = place_from_lookup (values_eq (key_of (values_of schema columns row))) groups cells is in
           let equal : values_of schema columns row ≡ k.all.items =
-          are_same-true (values_of schema columns row) k.all.items (sym (equal-are_same (values_of schema columns row) k.all.items) ∙ test) in
-          let among : Contains groups.entries (k, cells) = from_place groups.entries i (k, cells) place in
-          subst (λ (vs : List ℤ). Contains (map (λ g. g.values) (map group_of groups.entries)) vs) (sym equal)
-          (contains_map (λ (g : Group). g.values) (map group_of groups.entries) (group_of (k, cells)) (contains_map group_of groups.entries (k, cells) among))
+          are_same-true (values_of schema columns row) k.all.items (sym (alike (values_of schema columns row) k.all.items) ∙ test) in
+          let among : Contains groups (k, cells) = from_place groups i (k, cells) place in
+          subst (λ (vs : List ℤ). Contains (map (λ g. g.values) (map group_of groups)) vs) (sym equal)
+          (contains_map (λ (g : Group). g.values) (map group_of groups) (group_of (k, cells)) (contains_map group_of groups (k, cells) among))
 
   -- ---- the groups, and their order
 
-  apart_entries : (groups : BTreeMap Values (List Cell)) → IsOrdered values_cmp groups → Rising (λ (a b : Entry). is_eq (values_cmp a.0 b.0) ≡ false) groups.entries
+  apart_entries : (groups : List Entry) → IsDistinct values_eq (keys_of groups) → Rising (λ (a b : Entry). values_eq a.0 b.0 ≡ false) groups
   apart_entries groups ordered =
-      Rising-map (λ x y. is_eq (values_cmp x y) ≡ false) (λ (e : Entry). e.0) groups.entries
-      (from_distinct (eq_by_cmp values_cmp) (keys groups) (IsDistinct-from_sorted values_cmp (keys groups) ordered))
+      Rising-map (λ x y. values_eq x y ≡ false) (λ (e : Entry). e.0) groups (from_distinct values_eq (keys_of groups) ordered)
 
-  differ : (a b : Entry) → is_eq (values_cmp a.0 b.0) ≡ false → (group_of a).values ≢ (group_of b).values
+  differ : (a b : Entry) → values_eq a.0 b.0 ≡ false → (group_of a).values ≢ (group_of b).values
   differ a b apart e =
-      true≢false (sym (equal-are_same a.0.all.items b.0.all.items ∙ ap (λ (vs : List ℤ). are_same a.0.all.items vs) (sym e) ∙ are_same-itself a.0.all.items) ∙ apart)
+      true≢false (sym (alike a.0.all.items b.0.all.items ∙ ap (λ (vs : List ℤ). are_same a.0.all.items vs) (sym e) ∙ are_same-itself a.0.all.items) ∙ apart)
 
-  grouping : (groups : BTreeMap Values (List Cell)) → IsOrdered values_cmp groups → length taken < many → HoldsGroups schema columns items taken groups
-      → IsGrouping schema columns rows (map group_of groups.entries)
+  grouping : (groups : List Entry) → IsDistinct values_eq (keys_of groups) → length taken < many → HoldsGroups schema columns items taken groups
+      → IsGrouping schema columns rows (map group_of groups)
   grouping groups ordered few held =
-      grouping_from schema columns rows (map group_of groups.entries)
-      (Rising-mapped (λ a b. a.values ≢ b.values) group_of groups.entries
-      (Rising-both (λ (a b : Entry). is_eq (values_cmp a.0 b.0) ≡ false) (λ a b. (group_of a).values ≢ (group_of b).values) Holds (λ a b p q h. differ a b h)
-      groups.entries (all_hold groups ordered few held) (apart_entries groups ordered)))
-      (all_to_map (λ g. Contains (map (values_of schema columns) rows) g.values) group_of groups.entries
-      (all_weaker Holds (λ e. Contains (map (values_of schema columns) rows) (group_of e).values) (λ e h. some_row e h) groups.entries (all_hold groups ordered few held)))
-      (all_from_contains (λ row. Contains (map (λ g. g.values) (map group_of groups.entries)) (values_of schema columns row)) rows (λ row here. entry_there groups few held row here))
-      (all_to_map (λ g. g.rows ≡ rows_with schema columns rows g.values) group_of groups.entries (all_trivial groups.entries))
+      grouping_from schema columns rows (map group_of groups)
+      (Rising-mapped (λ a b. a.values ≢ b.values) group_of groups
+      (Rising-both (λ (a b : Entry). values_eq a.0 b.0 ≡ false) (λ a b. (group_of a).values ≢ (group_of b).values) Holds (λ a b p q h. differ a b h)
+      groups (all_hold groups ordered few held) (apart_entries groups ordered)))
+      (all_to_map (λ g. Contains (map (values_of schema columns) rows) g.values) group_of groups
+      (all_weaker Holds (λ e. Contains (map (values_of schema columns) rows) (group_of e).values) (λ e h. some_row e h) groups (all_hold groups ordered few held)))
+      (all_from_contains (λ row. Contains (map (λ g. g.values) (map group_of groups)) (values_of schema columns row)) rows (λ row here. entry_there groups few held row here))
+      (all_to_map (λ g. g.rows ≡ rows_with schema columns rows g.values) group_of groups (all_trivial groups))
     where
       all_trivial : (es : List Entry) → AllByRecursion (λ e. (group_of e).rows ≡ rows_with schema columns rows (group_of e).values) es
       all_trivial [] = tt
@@ -324,37 +333,38 @@ module _ (schema : Schema) (columns : List ℕ) (items : List Item) (order : Lis
       (λ h. less-are-below a.0.all.items b.0.all.items (p.1.values ∙ sym q.1.values) h) (cells-alike schema columns (group_of a) (group_of b) p.1 q.1) shown_less)
 
   -- no two entries are alike in the order asked
-  apart_order : (groups : BTreeMap Values (List Cell)) → IsOrdered values_cmp groups → length taken < many → HoldsGroups schema columns items taken groups
-      → Rising (λ a b. is_eq (entry_cmp items order a b) ≡ false) groups.entries
+  apart_order : (groups : List Entry) → IsDistinct values_eq (keys_of groups) → length taken < many → HoldsGroups schema columns items taken groups
+      → Rising (λ a b. is_eq (entry_cmp items order a b) ≡ false) groups
   apart_order groups ordered few held =
-      Rising-both (λ (a b : Entry). is_eq (values_cmp a.0 b.0) ≡ false) (λ a b. is_eq (entry_cmp items order a b) ≡ false) Holds
+      Rising-both (λ (a b : Entry). values_eq a.0 b.0 ≡ false) (λ a b. is_eq (entry_cmp items order a b) ≡ false) Holds
       (λ a b p q h. not_equal (entry_cmp items order a b) (λ e.
-      true≢false (sym (ap is_eq (keys-equal (λ (e : Entry) item. cell_from 0 items e.1 item) (λ a b. values_cmp a.0 b.0) order a b e)) ∙ h)))
-      groups.entries (all_hold groups ordered few held) (apart_entries groups ordered)
+      true≢false (sym (ap is_eq (keys-equal (λ (e : Entry) item. cell_from 0 items e.1 item) (λ a b. values_cmp a.0 b.0) order a b e)) ∙ equal-are_same a.0.all.items b.0.all.items
+      ∙ sym (alike a.0.all.items b.0.all.items) ∙ h)))
+      groups (all_hold groups ordered few held) (apart_entries groups ordered)
 
   -- the groups in the order asked
-  arranged_groups : (groups : BTreeMap Values (List Cell)) (refs sorted : List (Bor Values × Bor (List Cell))) → IsOrdered values_cmp groups → length taken < many
-      → HoldsGroups schema columns items taken groups → All (λ key. Contains items key.item) order → map entry_of refs ≡ groups.entries → IsPermutation refs sorted
+  arranged_groups : (groups : List Entry) (refs sorted : List (Bor Values × Bor (List Cell))) → IsDistinct values_eq (keys_of groups) → length taken < many
+      → HoldsGroups schema columns items taken groups → All (λ key. Contains items key.item) order → map entry_of refs ≡ groups → IsPermutation refs sorted
       → IsSorted (λ a b. entry_cmp items order (entry_of a) (entry_of b)) sorted
-      → IsArrangement (IsGroupBefore schema columns order) (map group_of groups.entries) (map group_of (map entry_of sorted))
+      → IsArrangement (IsGroupBefore schema columns order) (map group_of groups) (map group_of (map entry_of sorted))
       × AllByRecursion (λ r. Holds (entry_of r)) sorted
   arranged_groups groups refs sorted ordered few held listed are moved up =
       let entries : List Entry = map entry_of sorted in
       let total = on_total (λ (r : Bor Values × Bor (List Cell)). entry_of r) (entries_total items order) in
-      let perm : IsPermutation groups.entries entries = subst (λ (es : List Entry). IsPermutation es entries) are (IsPermutation-map entry_of refs sorted moved) in
-      let apart = rising_permutation (eq_by_cmp (entry_cmp items order)) (eq_by_cmp_equiv (entries_total items order)).symm groups.entries entries perm
+      let perm : IsPermutation groups entries = subst (λ (es : List Entry). IsPermutation es entries) are (IsPermutation-map entry_of refs sorted moved) in
+      let apart = rising_permutation (eq_by_cmp (entry_cmp items order)) (eq_by_cmp_equiv (entries_total items order)).symm groups entries perm
       (apart_order groups ordered few held) in
       let rising_up : Rising (λ (a b : Entry). is_lt (entry_cmp items order b a) ≡ false) entries =
       Rising-mapped (λ (a b : Entry). is_lt (entry_cmp items order b a) ≡ false) entry_of sorted
       (up_from_sorted (λ a b. entry_cmp items order (entry_of a) (entry_of b)) total sorted up) in
       let rising = strictly_from_up (entry_cmp items order) (entries_total items order) entries rising_up apart in
-      let whole = all_of_map (λ g. IsWhole columns g) group_of groups.entries (whole_groups schema columns rows (map group_of groups.entries) (grouping groups ordered few held)) in
-      let holds = all_and Holds (λ e. IsWhole columns (group_of e)) groups.entries (all_hold groups ordered few held) whole in
-      let each : AllByRecursion HoldsWhole entries = all_permutation HoldsWhole groups.entries entries perm holds in
+      let whole = all_of_map (λ g. IsWhole columns g) group_of groups (whole_groups schema columns rows (map group_of groups) (grouping groups ordered few held)) in
+      let holds = all_and Holds (λ e. IsWhole columns (group_of e)) groups (all_hold groups ordered few held) whole in
+      let each : AllByRecursion HoldsWhole entries = all_permutation HoldsWhole groups entries perm holds in
       let before = Rising-both (λ (a b : Entry). entry_cmp items order a b ≡ Less) (λ a b. IsGroupBefore schema columns order (group_of a) (group_of b)) HoldsWhole
       (λ a b p q h. before_entry listed a b p q h) entries each rising in (
         record {
-          same = IsPermutation-map group_of groups.entries entries perm;
+          same = IsPermutation-map group_of groups entries perm;
           ordered = adjacent-from_Rising (IsGroupBefore schema columns order) (map group_of entries) (Rising-mapped (IsGroupBefore schema columns order) group_of entries before);
         },
         all_of_map Holds entry_of sorted (all_weaker HoldsWhole Holds (λ e h. h.0) entries each),
@@ -378,10 +388,10 @@ are_groups : (schema : Schema) (columns : List ℕ) (rows : List Row) (groups : 
 are_groups schema [] rows groups some is = absurd (some refl)
 are_groups schema (column ∷ columns) rows groups some is = is
 
-pub grouped_meaning : (table : Table) (q : Asked) (taken : List Row) (groups : BTreeMap Values (List Cell)) (refs sorted shown : List (Bor Values × Bor (List Cell)))
+pub grouped_meaning : (table : Table) (q : Asked) (taken : List Row) (groups : List Entry) (refs sorted shown : List (Bor Values × Bor (List Cell)))
     (items : List Item) (order : List SortKey) (cells : List (List Cell)) → items ≡ q.items → order ≡ q.order → length q.items ≤ 8
     → q.group ≢ [] → length taken < many → All (λ key. Contains q.items key.item) q.order → IsPermutation (selected table q.filter) taken
-    → HoldsGroups table.schema q.group q.items taken groups → IsOrdered values_cmp groups → map entry_of refs ≡ groups.entries → IsPermutation refs sorted
+    → HoldsGroups table.schema q.group q.items taken groups → IsDistinct values_eq (keys_of groups) → map entry_of refs ≡ groups → IsPermutation refs sorted
     → IsSorted (λ a b. entry_cmp items order (entry_of a) (entry_of b)) sorted → shown ≡ limited q.limit sorted
     → cells ≡ cut (length shown) (length items) (flat_map (λ r. take (length items) r.1.now) shown) → IsGroupMeaning table q cells
 grouped_meaning table q taken groups refs sorted shown items order cells items_are order_are fits some few listed same held ordered are moved up shown_are is =
@@ -391,9 +401,9 @@ grouped_meaning table q taken groups refs sorted shown items order cells items_a
     (subst (λ (ks : List SortKey). IsSorted (λ a b. entry_cmp items ks (entry_of a) (entry_of b)) sorted) order_are up) in
     let (arrangement, all) = arranged_groups table.schema q.group q.items q.order rows taken same groups refs sorted ordered few held listed are moved up_q in
     record {
-      groups = map (group_of table.schema q.group q.items q.order rows taken same) groups.entries;
+      groups = map (group_of table.schema q.group q.items q.order rows taken same) groups;
       arranged = map (group_of table.schema q.group q.items q.order rows taken same) (map entry_of sorted);
-      grouped = are_groups table.schema q.group rows (map (group_of table.schema q.group q.items q.order rows taken same) groups.entries) some
+      grouped = are_groups table.schema q.group rows (map (group_of table.schema q.group q.items q.order rows taken same) groups) some
           (grouping table.schema q.group q.items q.order rows taken same groups ordered few held);
       ordered = arrangement;
       cells =
@@ -403,10 +413,8 @@ grouped_meaning table q taken groups refs sorted shown items order cells items_a
           ∙ cut_cells table.schema q.group q.items q.order rows taken same q.limit sorted fits all;
     }
 
--- what an entry gives where there is none, and where there is one
-pub was_there : (items : List Item) (o : Option (List Cell)) (before none : List Cell) (held : Option (List Cell)) → before ≡ unwrap_or held none → held ≡ o
-    → AreOfNone items none → MatchOption o (AreOfNone items before) (λ b. before ≡ b)
-was_there items None before none held is same at =
-    let e : before ≡ none = is ∙ ap (λ (h : Option (List Cell)). unwrap_or h none) same in
-    subst (λ (cells : List Cell). AreOfNone items cells) (sym e) at
-was_there items (Some b) before none held is same at = is ∙ ap (λ (h : Option (List Cell)). unwrap_or h none) same
+-- the cells of a group that isn't there yet
+pub was_none : (items : List Item) (o : Option (List Cell)) (cells : List Cell) → None ≡ o → AreOfNone items cells
+    → MatchOption o (AreOfNone items cells) (λ before. cells ≡ before)
+was_none items None cells none at = at
+was_none items (Some before) cells none at = cc

@@ -7,8 +7,7 @@ use Rattle.std.proofs.lemmas.List.Elements.{All-contains}
 use Rattle.std.proofs.lemmas.List.Sorted.{IsPermutation-sym, Contains-permutation, sum_by-IsPermutation}
 use Rattle.std.proofs.lemmas.List.Sums.{sum_by-cons, length-filter}
 use Rattle.std.specs.List.{sum_by}
-use Rattle.ub_query.proofs.GroupFacts.{contains_map, contains_from_map, contains_filter, contains_from_filter}
-use Rattle.ub_query.proofs.Laws.{min_is_least, max_is_greatest}
+use Rattle.ub_query.proofs.Laws.{contains_map, contains_from_map, contains_filter, contains_from_filter, min_is_least, max_is_greatest}
 use Rattle.ub_query.specs.Cells.{group_cell, total, least_of, greatest_of, taken_of}
 use Rattle.ub_query.specs.Truth.{value_in}
 use Rattle.ub_query.specs.declared.cell.Cell.TheVariants.{Number}

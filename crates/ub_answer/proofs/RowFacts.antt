@@ -9,8 +9,7 @@ use Rattle.ub_answer.proofs.CompareFacts.{rows_total, row-before, rows-apart}
 use Rattle.ub_answer.proofs.FirstFacts.{first_of_held}
 use Rattle.ub_answer.specs.Compare.{row_cmp}
 use Rattle.ub_answer.specs.Held.{HoldsFirst}
-use Rattle.ub_query.proofs.Arranging.{Rising, Rising-from_pairs, Rising-map, Rising-both, adjacent-from_Rising}
-use Rattle.ub_query.proofs.Laws.{selected_are_in_order}
+use Rattle.ub_query.proofs.Laws.{Rising, Rising-from_pairs, Rising-map, Rising-both, adjacent-from_Rising, selected_are_in_order}
 use Rattle.ub_query.specs.Cells.{row_cell}
 use Rattle.ub_query.specs.Groups.{selected}
 use Rattle.ub_query.specs.Meaning.{IsRowMeaning, limited}

@@ -15,7 +15,7 @@ use Rattle.ub_table.specs.declared.schema.Schema.{Schema}
 abbrev pub HasTaken : Schema → Asked → List Row → Taker → Type 0
 HasTaken schema q taken (Rows rows) = (¬ IsGroupQuery q) × HoldsRows schema q.order q.limit taken rows.rows.items rows.last
 HasTaken schema q taken (Totals totals) = IsGroupQuery q × (q.group ≡ []) × HoldsTotals schema q.items taken totals.tally
-HasTaken schema q taken (Groups groups) = (q.group ≢ []) × HoldsGroups schema q.group q.items taken groups.groups
+HasTaken schema q taken (Groups groups) = (q.group ≢ []) × HoldsGroups schema q.group q.items taken groups.groups.entries
 
 -- the gathering has taken just these rows, for this query
 unfoldable pub IsGathered : Schema → Asked → List Row → Gathering → Type 0

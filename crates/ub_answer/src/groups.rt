@@ -1,5 +1,5 @@
 ghost use Rattle.std.specs.Prelude.{◌≡◌, ◌≢◌, ◌+◌, ◌<◌, ◌≤◌, ◌∷◌, ◌++◌, [], ℕ, List, Option, length, map, take, IfOk, OnOk};
-ghost use Rattle.std.specs.BTreeMap.{IsEmpty, IsOrdered};
+ghost use Rattle.std.specs.HashMap.{IsUnique};
 ghost use Rattle.std.specs.List.{All, Contains, flat_map};
 ghost use Rattle.std.specs.List.Sorted.{IsPermutation, IsSorted};
 ghost use Rattle.ub_answer.specs.Groups as spec;
@@ -18,12 +18,12 @@ use crate::values::value_in;
 use smallvec::SmallVec;
 use std::alloc::{AllocError, Global};
 use std::cmp::Ordering;
-use std::collections::BTreeMap;
+use std::collections::HashMap;
 use ub_query::{Aggregate, Cell, Item, Query, SortKey};
 use ub_table::{Row, Schema};
 
 /// The values that the rows of a group share, in the order of the group columns.
-#[derive(PartialEq, Eq, PartialOrd, Ord, Drop)]
+#[derive(PartialEq, Eq, PartialOrd, Ord, Hash, Drop)]
 pub struct Values {
     all: SmallVec<i64, 8>,
 }
@@ -31,16 +31,16 @@ pub struct Values {
 /// What a query with GROUP BY shows of the rows taken: one entry for each group. No row is held.
 #[derive(Drop)]
 pub struct GroupTaker {
-    groups: BTreeMap<Values, Tally>,
+    groups: HashMap<Values, Tally>,
 }
 
 impl GroupTaker {
     /// No row is taken yet. Takes no memory.
     pub fn new(alloc: Global) -> GroupTaker
-        ensures { IsEmpty result.groups }
+        ensures { result.groups.entries ≡ [] }
     {
         GroupTaker {
-            groups: BTreeMap::new(alloc),
+            groups: HashMap::new(alloc),
         }
     }
 
@@ -56,9 +56,9 @@ impl GroupTaker {
         requires few { length query.now.items ≤ MAX_ITEMS }
         requires columns { All (λ column. column < length schema.now.columns) query.now.group }
         ensures { (taken : List _) → All (λ item. IsGrouped query.now.group item) query.now.items
-            → spec.HoldsGroups schema.now query.now.group query.now.items taken self.old.groups
+            → spec.HoldsGroups schema.now query.now.group query.now.items taken self.old.groups.entries
             → OnOk result (spec.HoldsGroups schema.now query.now.group query.now.items
-            (taken ++ row.now ∷ []) self.new.groups) }
+            (taken ++ row.now ∷ []) self.new.groups.entries) }
     {
         let values = values_of(alloc, schema, query.group.as_slice(), row)?;
         add_to_group(
@@ -77,7 +77,7 @@ impl GroupTaker {
             → query.now.group ≢ [] → length taken < many
             → All (λ key. Contains query.now.items key.item) query.now.order
             → IsPermutation (selected table filter) taken
-            → spec.HoldsGroups table.schema query.now.group query.now.items taken self.groups
+            → spec.HoldsGroups table.schema query.now.group query.now.items taken self.groups.entries
             → IfOk result
             (λ cells. IsGroupMeaning table (record (asked query.now) { filter = filter }) cells) }
     {
@@ -107,7 +107,7 @@ fn values_of(
 
 // Takes one more row into the group of these values.
 fn add_to_group(
-    groups: &mut BTreeMap<Values, Tally>,
+    groups: &mut HashMap<Values, Tally>,
     values: Values,
     schema: &Schema,
     items: &[Item],
@@ -115,20 +115,26 @@ fn add_to_group(
 ) -> Result<(), AllocError>
     requires over { All (λ item. IsItemOver (length schema.now.columns) item) items.now }
     requires few { length items.now ≤ MAX_ITEMS }
-    ensures { OnOk result (spec.AddsRow schema.now items.now row.now values groups.old groups.new) }
+    ensures { OnOk result (spec.AddsRow schema.now items.now row.now values
+        groups.old.entries groups.new.entries) }
 {
-    let tally = groups.entry(values)?.or_insert(tally_of_none(items));
-    add_row(tally, schema, items, row);
+    if let Some(tally) = groups.get_mut(&values) {
+        add_row(tally, schema, items, row);
+        return Ok(());
+    }
+    let mut tally = tally_of_none(items);
+    add_row(&mut tally, schema, items, row);
+    groups.insert(values, tally)?;
     Ok(())
 }
 
-// The groups, in the order of their values.
+// The groups, each once.
 fn entries_of(
     alloc: Global,
-    groups: &BTreeMap<Values, Tally>,
+    groups: &HashMap<Values, Tally>,
 ) -> Result<Vec<(&Values, &Tally)>, AllocError>
     ensures entries { IfOk result (λ v. map spec.entry_of v.items ≡ groups.now.entries) }
-    ensures ordered { IsOrdered spec.values_cmp groups.now }
+    ensures unique { IsUnique spec.values_eq groups.now }
 {
     groups.iter().collect(alloc)
 }

@@ -18,6 +18,3 @@ mod values;
 
 pub use cells::Cells;
 pub use gathering::Gathering;
-
-#[cfg(test)]
-mod tests;

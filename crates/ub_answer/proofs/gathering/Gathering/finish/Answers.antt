@@ -29,4 +29,4 @@ returns-in-Groups c table filter taken of order numbered moved held =
     let h = subst (λ (t : Taker). HasTaken c.args.schema.now (asked c.args.query.now) taken t) c.in-Groups.is held in
     IfOk-weaker c.finish-in-Groups.result _ _ (λ cells means. inl (inl h.0, means))
     (c.finish-in-Groups.ensures table filter taken h.0 (few_taken table filter taken order numbered moved) (c.requires.selected (inl h.0)) moved
-    (subst (λ (s : Schema). HoldsGroups s c.args.query.now.group c.args.query.now.items taken c.in-Groups.groups.groups) (sym of) h.1))
+    (subst (λ (s : Schema). HoldsGroups s c.args.query.now.group c.args.query.now.items taken c.in-Groups.groups.groups.entries) (sym of) h.1))

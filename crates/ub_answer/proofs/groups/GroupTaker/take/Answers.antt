@@ -10,8 +10,8 @@ pub returns : goal.returns
 returns c taken grouped held =
     let own = c.in_ok-values.ensures ∙ ap (λ (columns : List ℕ). values_of c.args.schema.now columns c.args.row.now) c.as_slice.ensures in
     on_ok_weaker c.add_to_group.result
-    (λ adds. group-next c.args.schema.now c.args.query.now.group c.args.query.now.items taken c.args.row.now c.in_ok-values.values c.args.self.now.groups
-    c.add_to_group.new.groups own grouped
-    (subst (λ (items : List Item). AddsRow c.args.schema.now items c.args.row.now c.in_ok-values.values c.args.self.now.groups c.add_to_group.new.groups)
+    (λ adds. group-next c.args.schema.now c.args.query.now.group c.args.query.now.items taken c.args.row.now c.in_ok-values.values c.args.self.now.groups.entries
+    c.add_to_group.new.groups.entries own grouped
+    (subst (λ (items : List Item). AddsRow c.args.schema.now items c.args.row.now c.in_ok-values.values c.args.self.now.groups.entries c.add_to_group.new.groups.entries)
     c.as_slice-2.ensures adds) held)
     c.add_to_group.ensures
