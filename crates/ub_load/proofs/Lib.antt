@@ -6,3 +6,4 @@ pub mod HeaderFacts
 pub mod ToldFacts
 pub mod LoadFacts
 pub mod PutFacts
+pub mod Laws

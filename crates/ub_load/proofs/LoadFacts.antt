@@ -1,13 +1,11 @@
 -- What has been read of a text: the records so far, and the tree that holds the rows of those after the header.
-use Rattle.std.proofs.Common.{Bor, ◌≡◌, ◌≤◌, ◌<◌, ◌+◌, ℕ, false, List, [], ◌∷◌, ◌++◌, length, map, Option, Some, None, Ok, refl, sym, ap, subst, ◌∙◌, arith, append_assoc, length-append, inl, inr}
+use Rattle.std.proofs.Common.{Bool, Bor, ◌≡◌, ◌≤◌, ◌+◌, ℕ, false, List, [], ◌∷◌, ◌++◌, length, map, Option, Some, None, true, refl, sym, ap, subst, ◌∙◌, arith, append_assoc, length-append, inl, inr}
 use Rattle.std.proofs.lemmas.List.{map-append, length-map}
 use Rattle.std.proofs.lemmas.List.FromFn.{length-enumerate_from}
 use Rattle.std.specs.List.{enumerate_from, flat_map}
 use Rattle.csv.proofs.ReadFacts.{rows-more, rows-end}
-use Rattle.csv.specs.Reading.{Reached, Ready, RowStep, builder_config, builder_names_headers, builder_trim, default_config, names_headers, owned_rows_left, owned_rows_reader, reader_config, reader_headers, reader_state, reader_trim, source_of, strip_bom, with_names_headers}
+use Rattle.csv.specs.Reading.{ReadRecord, Reached, Ready, builder_config, builder_names_headers, builder_trim, default_config, names_headers, reader_config, reader_headers, reader_state, reader_trim, source_of, strip_bom, took_first, with_names_headers}
 use Rattle.csv.specs.declared.reader.ReaderBuilder.{ReaderBuilder}
-use Rattle.csv.specs.Records.{Row as Fields, fields_of}
-use Rattle.csv.specs.declared.iter.ByteRecordsIntoIter.{ByteRecordsIntoIter}
 use Rattle.csv.specs.declared.parser.State.TheVariants as st
 use Rattle.csv.specs.declared.reader.Reader.{Reader}
 use Rattle.csv.specs.declared.reader.Trim.TheVariants as trim
@@ -39,23 +37,37 @@ abbrev pub bytes_of : Source → Option (List ℕ)
 bytes_of s = Some s.now
 
 -- a reader of the text has given these records, and reads on
-pub record IsAt (text : List ℕ) (taken : List (List (List ℕ))) (rdr : Reader Source) (left : ℕ) : Type 0 where
+pub record IsAt (text : List ℕ) (taken : List (List (List ℕ))) (rdr : Reader Source) : Type 0 where
   pub trim : rdr.trim ≡ trim.None
   pub ready : Ready rdr
-  pub turns : 0 < left
   pub config : rdr.config ≡ default_config
   pub rest : List ℕ
   pub source : source_of bytes_of rdr ≡ Some rest
   pub reached : Reached default_config st.StartRecord (strip_bom text) taken rdr.state rest
 
-pub at_next : {text : List ℕ} {taken : List (List (List ℕ))} {a : Reader Source} {n : ℕ} → IsAt text taken a n → (b : Reader Source) (m : ℕ) (row : Fields) → RowStep bytes_of a b m (Some (Ok row))
-    → IsAt text (taken ++ fields_of row ∷ []) b m
-at_next {text} {taken} {a} {n} is b m row s =
-    let more = rows-more bytes_of a b (fields_of row) default_config st.StartRecord (strip_bom text) is.rest taken is.config is.source is.reached s.0 in
+-- the next record was read, or that there is none
+abbrev pub Took : Reader Source → Reader Source → List (List ℕ) → Type 0
+Took a b fields = ReadRecord bytes_of a b true fields × (took_first b ≡ true)
+
+abbrev pub TookNone : Reader Source → Reader Source → List (List ℕ) → Type 0
+TookNone a b fields = ReadRecord bytes_of a b false fields
+
+-- which is what a call tells that succeeds
+pub took : {text : List ℕ} {taken : List (List (List ℕ))} {a : Reader Source} → IsAt text taken a → (b : Reader Source) (found : Bool) (fields : List (List ℕ)) → found ≡ true
+    → (reader_trim a ≡ trim.None → Ready a → ReadRecord bytes_of a b found fields) → (reader_trim a ≡ trim.None → took_first b ≡ true) → Took a b fields
+took is b found fields e reads first = (rw e at (reads is.trim is.ready), first is.trim)
+
+pub took_none : {text : List ℕ} {taken : List (List (List ℕ))} {a : Reader Source} → IsAt text taken a → (b : Reader Source) (found : Bool) (fields : List (List ℕ)) → found ≡ false
+    → (reader_trim a ≡ trim.None → Ready a → ReadRecord bytes_of a b found fields) → TookNone a b fields
+took_none is b found fields e reads = rw e at (reads is.trim is.ready)
+
+pub at_next : {text : List ℕ} {taken : List (List (List ℕ))} {a : Reader Source} → IsAt text taken a → (b : Reader Source) (fields : List (List ℕ)) → Took a b fields
+    → IsAt text (taken ++ fields ∷ []) b
+at_next {text} {taken} {a} is b fields s =
+    let more = rows-more bytes_of a b fields default_config st.StartRecord (strip_bom text) is.rest taken is.config is.source is.reached s.0 in
     record {
       trim = s.0.3 ∙ is.trim;
       ready = inl s.1;
-      turns = s.2;
       config = s.0.2 ∙ is.config;
       rest = more.0;
       source = more.1;
@@ -63,12 +75,12 @@ at_next {text} {taken} {a} {n} is b m row s =
     }
 
 -- at the end, these are all
-pub at_end : {text : List ℕ} {taken : List (List (List ℕ))} {a : Reader Source} {n : ℕ} → IsAt text taken a n → (b : Reader Source) (m : ℕ) → RowStep bytes_of a b m None → taken ≡ records_of text
-at_end {text} {taken} {a} is b m s =
-    AreRecords-records default_config (strip_bom text) taken (a.state, is.rest, is.reached, rows-end bytes_of a b [] default_config is.rest is.config is.source s)
+pub at_end : {text : List ℕ} {taken : List (List (List ℕ))} {a : Reader Source} → IsAt text taken a → (b : Reader Source) (fields : List (List ℕ)) → TookNone a b fields → taken ≡ records_of text
+at_end {text} {taken} {a} is b fields s =
+    AreRecords-records default_config (strip_bom text) taken (a.state, is.rest, is.reached, rows-end bytes_of a b fields default_config is.rest is.config is.source s)
 
 -- and before, the first ones
-pub at_front : {text : List ℕ} {taken : List (List (List ℕ))} {a : Reader Source} {n : ℕ} → IsAt text taken a n → (rest : List (List (List ℕ))) × (taken ++ rest ≡ records_of text)
+pub at_front : {text : List ℕ} {taken : List (List (List ℕ))} {a : Reader Source} → IsAt text taken a → (rest : List (List (List ℕ))) × (taken ++ rest ≡ records_of text)
 at_front {text} {taken} {a} is = Reached-front default_config (strip_bom text) is.rest a.state taken is.reached
 
 length-rows_of : (dims : ℕ) (taken : List (List (List ℕ))) → length (rows_of dims taken) ≡ length taken
@@ -117,10 +129,10 @@ holds_more dims c rows row t u h dims_are page_rows_are good put =
 
 -- the header and the records before the row of this number have been read, with nothing wrong in them; the tree works, and
 -- where its store is honest it holds their rows
-pub record IsLoading (text : List ℕ) (dims page_rows : ℕ) (name : List ℕ) (store : StoreFacts) (number : ℕ) (t : TreeView) (rdr : Reader Source) (left : ℕ) : Type 0 where
+pub record IsLoading (text : List ℕ) (dims page_rows : ℕ) (name : List ℕ) (store : StoreFacts) (number : ℕ) (t : TreeView) (rdr : Reader Source) : Type 0 where
   pub header : List (List ℕ)
   pub taken : List (List (List ℕ))
-  pub at : IsAt text (header ∷ taken) rdr left
+  pub at : IsAt text (header ∷ taken) rdr
   pub number_is : number ≡ 1 + length taken
   pub few : number ≤ 16777216
   pub fine : first_of (header_refusals dims name (map trimmed header)) ≡ None
@@ -134,10 +146,10 @@ pub record IsLoading (text : List ℕ) (dims page_rows : ℕ) (name : List ℕ) 
   pub holds : IsHonest store → HoldsRows dims page_rows (rows_of dims taken) t
 
 -- before the first record
-pub loading_none : {text : List ℕ} {header : List (List ℕ)} {a : Reader Source} {n : ℕ} → IsAt text (header ∷ []) a n
+pub loading_none : {text : List ℕ} {header : List (List ℕ)} {a : Reader Source} → IsAt text (header ∷ []) a
     → (dims page_rows : ℕ) (name : List ℕ) (store : StoreFacts) (schema : Schema) (t : TreeView) → first_of (header_refusals dims name (map trimmed header)) ≡ None
     → (schema.name ≡ name) × (schema.columns ≡ map trimmed header) × (schema.dims ≡ dims) × (schema.page_rows ≡ page_rows) → IsCreated store schema t
-    → IsLoading text dims page_rows name store 1 t a n
+    → IsLoading text dims page_rows name store 1 t a
 loading_none {text} {header} is dims page_rows name store schema t fine parts made =
     let same : t.schema ≡ schema = made.schema_is in
     record {
@@ -167,21 +179,21 @@ width_is : (t : TreeView) (header : List (List ℕ)) → t.schema.columns ≡ ma
 width_is t header e = ap length e ∙ length-map header trimmed
 
 -- one more record
-pub loading_more : {text : List ℕ} {dims page_rows : ℕ} {name : List ℕ} {store : StoreFacts} {number : ℕ} {t : TreeView} {a : Reader Source} {n : ℕ}
-    → IsLoading text dims page_rows name store number t a n → (u : TreeView) (b : Reader Source) (m : ℕ) (r : Fields) → RowStep bytes_of a b m (Some (Ok r))
-    → HasTaken (number, fields_of r) t u → IsLoading text dims page_rows name store (number + 1) u b m
-loading_more {text} {dims} {page_rows} {name} {store} {number} {t} is u b m r s taken =
+pub loading_more : {text : List ℕ} {dims page_rows : ℕ} {name : List ℕ} {store : StoreFacts} {number : ℕ} {t : TreeView} {a : Reader Source}
+    → IsLoading text dims page_rows name store number t a → (u : TreeView) (b : Reader Source) (r : List (List ℕ)) → Took a b r
+    → HasTaken (number, r) t u → IsLoading text dims page_rows name store (number + 1) u b
+loading_more {text} {dims} {page_rows} {name} {store} {number} {t} is u b r s taken =
     let wide = width_is t is.header is.columns_are in
     let least : number ≤ 16777215 = taken.number in
-    let fine : first_of (record_refusals t.schema.dims (length t.schema.columns) (number, fields_of r)) ≡ None = taken.accepted in
+    let fine : first_of (record_refusals t.schema.dims (length t.schema.columns) (number, r)) ≡ None = taken.accepted in
     record {
       header = is.header;
-      taken = is.taken ++ fields_of r ∷ [];
-      at = at_next is.at b m r s;
-      number_is = (let count = is.number_is in let long = length-append is.taken (fields_of r ∷ []) in omega arith);
+      taken = is.taken ++ r ∷ [];
+      at = at_next is.at b r s;
+      number_is = (let count = is.number_is in let long = length-append is.taken (r ∷ []) in omega arith);
       few = omega arith;
       fine = is.fine;
-      accepted = flat-more (record_refusals dims (length is.header)) 1 number is.taken (fields_of r) is.number_is is.accepted (rw (is.dims_are, wide) at fine);
+      accepted = flat-more (record_refusals dims (length is.header)) 1 number is.taken (r) is.number_is is.accepted (rw (is.dims_are, wide) at fine);
       name_is = ap (λ (s : Schema). s.name) taken.schema ∙ is.name_is;
       columns_are = ap (λ (s : Schema). s.columns) taken.schema ∙ is.columns_are;
       dims_are = ap (λ (s : Schema). s.dims) taken.schema ∙ is.dims_are;
@@ -194,36 +206,36 @@ loading_more {text} {dims} {page_rows} {name} {store} {number} {t} is u b m r s 
         fetches_are = taken.trace.1 ∙ is.at_work.fetches_are;
       };
       holds = λ honest.
-          let row = row_of t.schema.dims (number, fields_of r) in
+          let row = row_of t.schema.dims (number, r) in
           let before = is.holds honest in
           let more = holds_more dims page_rows (rows_of dims is.taken) row t u before is.dims_are is.page_rows_are taken.row (taken.inserted before.sound) in
-          let same : rows_of dims is.taken ++ row ∷ [] ≡ rows_of dims (is.taken ++ fields_of r ∷ []) =
-          rw (is.dims_are, is.number_is) (sym (rows_of-more dims is.taken (fields_of r))) in
+          let same : rows_of dims is.taken ++ row ∷ [] ≡ rows_of dims (is.taken ++ r ∷ []) =
+          rw (is.dims_are, is.number_is) (sym (rows_of-more dims is.taken (r))) in
           subst (λ (rows : List Row). HoldsRows dims page_rows rows u) same more;
     }
 
 -- a record that is refused is the first thing wrong in the text
-pub refused_here : {text : List ℕ} {dims page_rows : ℕ} {name : List ℕ} {store : StoreFacts} {number : ℕ} {t : TreeView} {a : Reader Source} {n : ℕ}
-    → IsLoading text dims page_rows name store number t a n → (b : Reader Source) (m : ℕ) (r : Fields) → RowStep bytes_of a b m (Some (Ok r)) → (f : LoadFault)
-    → first_of (record_refusals t.schema.dims (length t.schema.columns) (number, fields_of r)) ≡ Some f → first_refusal dims name (records_of text) ≡ Some f
+pub refused_here : {text : List ℕ} {dims page_rows : ℕ} {name : List ℕ} {store : StoreFacts} {number : ℕ} {t : TreeView} {a : Reader Source}
+    → IsLoading text dims page_rows name store number t a → (b : Reader Source) (r : List (List ℕ)) → Took a b r → (f : LoadFault)
+    → first_of (record_refusals t.schema.dims (length t.schema.columns) (number, r)) ≡ Some f → first_refusal dims name (records_of text) ≡ Some f
 unfolding refusals
-refused_here {text} {dims} {page_rows} {name} {store} {number} {t} is b m r s f bad =
+refused_here {text} {dims} {page_rows} {name} {store} {number} {t} is b r s f bad =
     let wide = width_is t is.header is.columns_are in
-    let front = at_front (at_next is.at b m r s) in
-    let whole : is.header ∷ (is.taken ++ fields_of r ∷ front.0) ≡ records_of text = ap (λ rs. is.header ∷ rs) (sym (append_assoc is.taken (fields_of r ∷ []) front.0)) ∙ front.1 in
+    let front = at_front (at_next is.at b r s) in
+    let whole : is.header ∷ (is.taken ++ r ∷ front.0) ≡ records_of text = ap (λ rs. is.header ∷ rs) (sym (append_assoc is.taken (r ∷ []) front.0)) ∙ front.1 in
     ap (first_refusal dims name) (sym whole)
     ∙ first-skip (header_refusals dims name (map trimmed is.header)) _ is.fine
-    ∙ flat-refused (record_refusals dims (length is.header)) 1 number is.taken front.0 (fields_of r) f is.number_is is.accepted (rw (is.dims_are, wide) at bad)
+    ∙ flat-refused (record_refusals dims (length is.header)) 1 number is.taken front.0 (r) f is.number_is is.accepted (rw (is.dims_are, wide) at bad)
 
 -- what is told of a record is told of the text
-pub told_record : {text : List ℕ} {dims page_rows : ℕ} {name : List ℕ} {store : StoreFacts} {number : ℕ} {t : TreeView} {a : Reader Source} {n : ℕ}
-    → IsLoading text dims page_rows name store number t a n → (b : Reader Source) (m : ℕ) (r : Fields) → RowStep bytes_of a b m (Some (Ok r)) → (f : LoadFault)
-    → IsTakeFault (number, fields_of r) t f → IsLoadFault dims name text store f
-told_record is b m r s f h =
-    inr (told_after (refused_here is b m r s) (λ can. rw is.at_work.can_fail at can) (λ broken honest. broken (is.holds honest).sound) f h)
+pub told_record : {text : List ℕ} {dims page_rows : ℕ} {name : List ℕ} {store : StoreFacts} {number : ℕ} {t : TreeView} {a : Reader Source}
+    → IsLoading text dims page_rows name store number t a → (b : Reader Source) (r : List (List ℕ)) → Took a b r → (f : LoadFault)
+    → IsTakeFault (number, r) t f → IsLoadFault dims name text store f
+told_record is b r s f h =
+    inr (told_after (refused_here is b r s) (λ can. rw is.at_work.can_fail at can) (λ broken honest. broken (is.holds honest).sound) f h)
 
 -- a header that is refused is the first thing wrong
-pub refused_header : {text : List ℕ} {header : List (List ℕ)} {a : Reader Source} {n : ℕ} → IsAt text (header ∷ []) a n → (dims : ℕ) (name : List ℕ) (f : LoadFault)
+pub refused_header : {text : List ℕ} {header : List (List ℕ)} {a : Reader Source} → IsAt text (header ∷ []) a → (dims : ℕ) (name : List ℕ) (f : LoadFault)
     → first_of (header_refusals dims name (map trimmed header)) ≡ Some f → first_refusal dims name (records_of text) ≡ Some f
 unfolding refusals
 refused_header {text} {header} is dims name f bad =
@@ -231,23 +243,23 @@ refused_header {text} {header} is dims name f bad =
     ap (first_refusal dims name) (sym front.1) ∙ first-here (header_refusals dims name (map trimmed header)) _ f bad
 
 -- so is that there is no header
-pub refused_empty : {text : List ℕ} {a : Reader Source} {n : ℕ} → IsAt text [] a n → (b : Reader Source) (m : ℕ) → RowStep bytes_of a b m None → (dims : ℕ) (name : List ℕ)
+pub refused_empty : {text : List ℕ} {a : Reader Source} → IsAt text [] a → (b : Reader Source) (fields : List (List ℕ)) → TookNone a b fields → (dims : ℕ) (name : List ℕ)
     → first_refusal dims name (records_of text) ≡ Some NoHeader
 unfolding refusals
-refused_empty is b m s dims name = ap (first_refusal dims name) (sym (at_end is b m s)) ∙ refl
+refused_empty is b fields s dims name = ap (first_refusal dims name) (sym (at_end is b fields s)) ∙ refl
 
 -- at the end nothing is wrong, and all rows are in the tree
-pub all_loaded : {text : List ℕ} {dims page_rows : ℕ} {name : List ℕ} {store : StoreFacts} {number : ℕ} {t : TreeView} {a : Reader Source} {n : ℕ}
-    → IsLoading text dims page_rows name store number t a n → (b : Reader Source) (m : ℕ) → RowStep bytes_of a b m None → IsHonest store → IsLoadedTree text dims page_rows name t
+pub all_loaded : {text : List ℕ} {dims page_rows : ℕ} {name : List ℕ} {store : StoreFacts} {number : ℕ} {t : TreeView} {a : Reader Source}
+    → IsLoading text dims page_rows name store number t a → (b : Reader Source) (fields : List (List ℕ)) → TookNone a b fields → IsHonest store → IsLoadedTree text dims page_rows name t
 unfolding refusals
-all_loaded {text} {dims} {page_rows} {name} is b m s honest =
+all_loaded {text} {dims} {page_rows} {name} is b fields s honest =
     let h = is.holds honest in
     record {
       rows = rows_of dims is.taken;
       loaded = record {
         header = is.header;
         rest = is.taken;
-        records = sym (at_end is.at b m s);
+        records = sym (at_end is.at b fields s);
         accepted = first-skip (header_refusals dims name (map trimmed is.header)) _ is.fine ∙ is.accepted;
         name_is = is.name_is;
         columns_are = is.columns_are;
@@ -262,18 +274,16 @@ all_loaded {text} {dims} {page_rows} {name} is b m s honest =
     }
 
 -- a fresh reader of a text with no header row
-pub at_start : (text : Source) (fresh b : ReaderBuilder) (rdr : Reader Source) (it : ByteRecordsIntoIter Source)
+pub at_start : (text : Source) (fresh b : ReaderBuilder) (rdr : Reader Source)
     → builder_config fresh ≡ default_config → builder_trim fresh ≡ trim.None → b ≡ with_names_headers fresh false
     → reader_config rdr ≡ builder_config b → names_headers rdr ≡ builder_names_headers b → reader_trim rdr ≡ builder_trim b → reader_headers rdr ≡ None → reader_state rdr ≡ st.StartRecord
-    → source_of bytes_of rdr ≡ Some (strip_bom text.now) → owned_rows_reader it ≡ rdr → 0 < owned_rows_left it
-    → IsAt text.now [] it.rdr it.left
+    → source_of bytes_of rdr ≡ Some (strip_bom text.now) → IsAt text.now [] rdr
 unfolding Reached
-at_start text fresh b rdr it config trimming is rconfig rnames rtrim rheaders rstate rsource iter turns = rw iter (record {
+at_start text fresh b rdr config trimming is rconfig rnames rtrim rheaders rstate rsource = record {
   trim = rw is at rtrim ∙ trimming;
   ready = inr (inr (rw is at rnames, rheaders));
-  turns = turns;
   config = rw is at rconfig ∙ config;
   rest = strip_bom text.now;
   source = rsource;
   reached = (sym rstate, refl);
-})
+}

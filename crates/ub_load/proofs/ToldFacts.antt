@@ -3,8 +3,6 @@ use Rattle.std.proofs.Common.{◌⊎◌, ◌≡◌, ◌≢◌, ◌+◌, ◌==◌
 use Rattle.std.specs.Prelude.{IfSome, IsTrue, nat_lt, ◌&&◌, ◌||◌, not, if◌then◌else◌}
 use Rattle.std.specs.List.{AllByRecursion, enumerate_from, list_any}
 use Rattle.std.specs.Str.{bytes_eq}
-use Rattle.csv.specs.declared.error.ErrorKind.{ErrorKind}
-use Rattle.csv.specs.declared.error.ErrorKind.TheVariants as kind
 use Rattle.std.proofs.lemmas.Bool.{cases_Bool}
 use Rattle.ub_store.specs.Facts.{StoreFacts}
 use Rattle.ub_store.specs.declared.fault.StoreFault.TheVariants as store
@@ -14,8 +12,8 @@ use Rattle.ub_tree.specs.View.{TreeView, IsSound, KeepsTrace}
 use Rattle.ub_tree.specs.declared.fault.TreeFault.{TreeFault}
 use Rattle.ub_tree.specs.declared.fault.TreeFault.TheVariants as tree
 use Rattle.ub_load.specs.Field.{trimmed, is_number, number_of, fits_column}
-use Rattle.ub_load.specs.Loading.{IsLoadFault, IsNewFault, IsToldOf}
-use Rattle.ub_load.specs.Refusals.{content_refusal, content_refusals, fault_of, fault_of_tree, field_refusal, first_of, header_refusals, name_refusal}
+use Rattle.ub_load.specs.Loading.{IsNewFault, IsToldOf}
+use Rattle.ub_load.specs.Refusals.{content_refusal, content_refusals, fault_of_tree, field_refusal, first_of, header_refusals, name_refusal}
 use Rattle.ub_load.specs.declared.fault.LoadFault.{LoadFault}
 use Rattle.ub_load.specs.declared.fault.LoadFault.TheVariants.{NoHeader, Csv, Tree, Memory, BadName, BadNumber, OutOfRange, ColumnCount}
 use Rattle.ub_table.specs.Name.{is_name}
@@ -97,15 +95,6 @@ told_put first t u works last tree.Memory h = tt
 pub frame_keeps : (t u : TreeView) → u ≡ record t { placed = u.placed; rows = u.rows; next = u.next; is_changed = u.is_changed; is_failed = u.is_failed; store = u.store }
     → (u.schema ≡ t.schema) × KeepsTrace t u
 frame_keeps t u e = (ap (λ (v : TreeView). v.schema) e, (ap (λ (v : TreeView). v.trace) e, ap (λ (v : TreeView). v.fetches) e))
-
--- what `csv` refuses
-pub told_csv : (dims : ℕ) (name text : List ℕ) (facts : StoreFacts) (k : ErrorKind) (f : LoadFault) → f ≡ fault_of k → IsLoadFault dims name text facts f
-told_csv dims name text facts kind.OutOfMemory f e = rw e (inr tt)
-told_csv dims name text facts (kind.Io x) f e = inl e
-told_csv dims name text facts (kind.UnequalLengths pos expected len) f e = inl e
-told_csv dims name text facts (kind.Utf8 pos why) f e = inl e
-told_csv dims name text facts (kind.Serialize why) f e = inl e
-told_csv dims name text facts (kind.Deserialize pos why) f e = inl e
 
 -- over an honest store that can't fail: what is told is the first thing wrong, unless memory was refused or there is no room
 pub told_sure : {first : Option LoadFault} {F B : Type 0} → ¬ F → ¬ B → (f : LoadFault) → IsToldOf first F B f → f ≢ Memory → f ≢ Tree (tree.Store store.BadSize) → first ≡ Some f

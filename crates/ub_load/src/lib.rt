@@ -11,6 +11,3 @@ pub mod table;
 
 pub use fault::LoadFault;
 pub use table::load;
-
-#[cfg(test)]
-mod tests;

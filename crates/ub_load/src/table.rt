@@ -49,19 +49,18 @@ pub fn load<S: PageStore>(
     ensures working { IfOk result (IsAtWork (S.facts store)) }
     ensures refused { IfErr result (IsLoadFault dims name.now text.now (S.facts store)) }
 {
-    let mut records = ReaderBuilder::new()
+    let mut reader = ReaderBuilder::new()
         .has_headers(false)
-        .from_reader(alloc, text)
-        .into_byte_records();
-    let Some(header) = records.next() else {
+        .from_reader(alloc, text);
+    // Each record is read into the place of the one before.
+    let mut fields = ByteRecord::new(alloc);
+    if !reader.read_byte_record(&mut fields)? {
         return Err(LoadFault::NoHeader);
-    };
-    let header = header?;
-    let schema = read_schema(&header, dims, page_rows, name)?;
+    }
+    let schema = read_schema(&fields, dims, page_rows, name)?;
     let mut tree = new_tree(alloc, store, &schema)?;
     let mut number = 1;
-    for fields in records {
-        let fields = fields?;
+    while reader.read_byte_record(&mut fields)? {
         load_record(&mut tree, &fields, number)?;
         number += 1;
     }

@@ -7,7 +7,7 @@ use Rattle.ub_load.specs.declared.fault.LoadFault.TheVariants as load
 use Rattle.ub_store.specs.declared.fault.StoreFault.TheVariants as store
 use Rattle.ub_tree.specs.declared.fault.TreeFault.{TreeFault}
 use Rattle.ub_tree.specs.declared.fault.TreeFault.TheVariants as tree
-use Rattle.ub_script.proofs.HeldFacts.{Puts-more, front_after}
+use Rattle.ub_script.proofs.Laws.{Puts-more, front_after}
 use Rattle.ub_script.specs.Output.{OutFacts, Puts, Takes}
 use Rattle.ub_script.specs.Run.{IsBegun, IsBroken, IsDone}
 use Rattle.ub_script.specs.declared.script.Summary.{Summary}

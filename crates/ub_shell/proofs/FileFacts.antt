@@ -4,11 +4,14 @@ use Rattle.std.proofs.lemmas.Bool.{false≢true}
 use Rattle.std.specs.Prelude.{IfErr, IfOk, IsErrOf, IsOk}
 use Rattle.ub_script.specs.Faults.{IsGiven, failures_after}
 use Rattle.ub_script.specs.Output.{OutFacts, Takes}
-use Rattle.ub_script.specs.Run.{FirstOn, IsBegunOn, IsBrokenOn, IsCutOff, IsDoneOn, IsWhole, Ran}
+use Rattle.ub_script.specs.Run.{FirstOn, IsBegunOn, IsBrokenOn, IsCutOff, IsDoneOn, IsStopped, IsWhole, Ran}
 use Rattle.ub_script.specs.declared.fault.RunFault.{RunFault}
 use Rattle.ub_script.specs.declared.fault.RunFault.TheVariants.{Memory, Write, Load, Tree}
 use Rattle.ub_script.specs.declared.script.Summary.{Summary}
-use Rattle.ub_store.specs.Facts.{StoreFacts}
+use Rattle.ub_store.specs.Facts.{StoreFacts, IsHonest}
+use Rattle.ub_store.specs.declared.fault.StoreFault.{StoreFault}
+use Rattle.ub_store.specs.declared.fault.StoreFault.TheVariants.{Device as store_device}
+use Rattle.ub_tree.specs.Stored.{AreSoundPages}
 use Rattle.ub_tree.specs.View.{TreeView, IsSound}
 use Rattle.ub_tree.specs.declared.fault.TreeFault.{TreeFault}
 use Rattle.ub_tree.specs.declared.fault.TreeFault.TheVariants as tree
@@ -20,7 +23,8 @@ use Rattle.ub_words.specs.declared.given.RunWords.{RunWords}
 use Rattle.ub_words.specs.declared.given.TryWords.{TryWords}
 use Rattle.ub_words.specs.declared.words.Asked.{Asked}
 use Rattle.ub_words.specs.declared.words.Asked.TheVariants as asked
-use Rattle.ub_shell.specs.Commands.{AsksStore, HasRunTree, IsAskedOf, IsUnopened, LoadsFile, RunsFile, TellsRan, TriesFiles, Uses}
+use Rattle.ub_shell.specs.Commands.{AsksStore, HasRunTree, IsAskedOf, IsCopied, IsFileOf, IsTable, IsUnopened, LoadsFile, RunsFile, TellsRan, TriesFiles, WritesFile}
+use Rattle.ub_shell.specs.Copying.{Copies}
 use Rattle.ub_shell.specs.Ending.{HasTried, Tells, trial}
 use Rattle.ub_shell.specs.Files.{FilesFacts, IsLent, IsText, LendsFile, OpensFile, PutsBack, Returns}
 use Rattle.ub_shell.specs.Next.{IsNextAnswer, answer_text, answer_status}
@@ -41,13 +45,37 @@ put_after path old lent new a store lends back = record {
   held = back.held lends.away;
 }
 
--- the same, where nothing is to be told of what the file holds
-pub used_after : {A : Type 0} (path : List ℕ) (old lent new : FilesFacts) (a : A) (store : StoreFacts) → LendsFile path old lent (Ok a)
-    → PutsBack path lent new store → (new.failed_tables ≡ old.failed_tables) × Uses path old new
-used_after path old lent new a store lends back =
-    let all = put_after path old lent new a store lends back in
-    let same : new.failed_tables ≡ old.failed_tables = ap (λ (f : FilesFacts). f.failed_tables) all.same in
-    (same, record { same = all.same ∙ ap (λ (n : ℕ). record old { holds = new.holds; failed_tables = n }) (sym same); others = all.others })
+left_honest : {A : Type 0} (pages : List (List ℕ)) (made left : StoreFacts) (r : Result A StoreFault) → Copies pages made left r → IsHonest made → IsHonest left
+left_honest pages made left r is honest = rw (ap (λ (f : StoreFacts). f.honest) is.frame) honest
+
+never_both : {A E : Type 0} (a : A) (e : E) (r : Result A E) (P : Type 0) → r ≡ Ok a → r ≡ Err e → P
+never_both a e r P h k = cc
+
+-- a table whose pages were copied into the table file stands there
+file_written : (table text name : List ℕ) (dims page_rows rows regions : ℕ) (pages : List (List ℕ)) (old new : FilesFacts) (r : Result (Unit {0}) StoreFault) (w : IsCopied table pages old new r)
+    → IsTable text name dims page_rows rows regions pages → (w.left.synced ≡ w.left.pages) → (IsHonest w.made → w.left.pages ≡ pages) → IsFileOf table text name dims page_rows rows regions old new
+file_written table text name dims page_rows rows regions pages old new r w is synced copied = record {
+  tree = is.tree;
+  made = w.made;
+  left = w.left;
+  made_is = w.made_is;
+  loaded = is.loaded;
+  closed = λ honest. (
+    left_honest pages w.made w.left r w.copies honest,
+    subst (λ (ps : List (List ℕ)). AreSoundPages ps is.tree.schema is.tree.placed is.tree.next) (sym (copied honest)) is.closed,
+  );
+  synced = synced;
+  back = w.back;
+  rows_are = is.rows_are;
+  regions_are = is.regions_are;
+}
+
+pub file_kept : (table text name : List ℕ) (dims page_rows rows regions : ℕ) (pages : List (List ℕ)) (old new : FilesFacts) (u : Unit {0})
+    → IsTable text name dims page_rows rows regions pages → WritesFile table pages old new (Ok u) → IsFileOf table text name dims page_rows rows regions old new
+file_kept table text name dims page_rows rows regions pages old new u is = elim [
+  | inl w ↦ file_written table text name dims page_rows rows regions pages old new (Ok u) w is w.copies.synced w.copies.copied
+  | inr unmade ↦ never_both u store_device (Ok u) (IsFileOf table text name dims page_rows rows regions old new) refl unmade.0
+]
 
 -- ---- a script on a CSV text
 
@@ -74,11 +102,16 @@ broken_on : (t : TreeView) (script : List ℕ) (out mid : OutFacts) (before afte
     → Ran (IsCutOff (FirstOn t script)) true out mid before after → Takes (IsBrokenOn t script) true out mid
 broken_on t script out mid before after (bytes, pages, is, taken, fetched) = (bytes, (pages, is), taken)
 
+begun_on : (t : TreeView) (script : List ℕ) (out mid : OutFacts) (before after : ℕ)
+    → ((mid ≡ out) × (after ≡ before)) ⊎ Ran (IsStopped (FirstOn t script)) false out mid before after → (mid ≡ out) ⊎ Takes (IsBegunOn t script) false out mid
+begun_on t script out mid before after (inl kept) = inl kept.0
+begun_on t script out mid before after (inr (bytes, pages, is, taken, fetched)) = inr (bytes, (pages, is), taken)
+
 -- what is told of a run that left a mark on the output is what the command has written
 pub run_ended : (t : TreeView) (script : List ℕ) (out mid out_now : OutFacts) (before after : ℕ) (status : Status) (r : Result Summary RunFault) (closed : Result (Unit {0}) TreeFault)
     → (IsSound t → IfOk r (λ summary. Ran (IsWhole (FirstOn t script) summary) false out mid before after))
     → (IsSound t → IsErrOf r Write → Ran (IsCutOff (FirstOn t script)) true out mid before after)
-    → (IsSound t → IfErr r (λ f. f ≢ Write → (mid ≡ out) ⊎ Takes (IsBegunOn t script) false out mid))
+    → (IsSound t → IfErr r (λ f. f ≢ Write → ((mid ≡ out) × (after ≡ before)) ⊎ Ran (IsStopped (FirstOn t script)) false out mid before after))
     → mid.failures ≡ failures_after r out.failures → IfErr r (IsGiven t) → IsOk closed
     → TellsRan r closed mid out_now status → HasRunTree t script out out_now status
 run_ended t script out mid out_now before after status (Ok summary) (Ok u) done write begun counted given ok told = inl (record {
@@ -93,7 +126,7 @@ run_ended t script out mid out_now before after status (Err Memory) closed done 
   mid = mid;
   is = tt;
   failures = counted;
-  begun = λ sound. begun sound (λ e. cc);
+  begun = λ sound. begun_on t script out mid before after (begun sound (λ e. cc));
   tells = inl told;
 }))
 run_ended t script out mid out_now before after status (Err Write) closed done write begun counted given ok told = inr (inl (record {
@@ -107,7 +140,7 @@ run_ended t script out mid out_now before after status (Err (Tree fault)) closed
   mid = mid;
   is = given.0;
   failures = counted;
-  begun = λ sound. begun sound (λ e. cc);
+  begun = λ sound. begun_on t script out mid before after (begun sound (λ e. cc));
   tells = told;
 }))
 

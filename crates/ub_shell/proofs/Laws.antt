@@ -1,6 +1,6 @@
 -- The laws of how a command ends, as specs/Laws.antt states them.
 use Rattle.std.proofs.Common.{ℕ, List, inl, inr}
-use Rattle.ub_words.proofs.AskFacts.{no_help_taken}
+use Rattle.ub_words.proofs.Laws.{no_help_taken}
 use Rattle.ub_words.specs.CommandLine.{AsksHelpAlone, AsksNext}
 use Rattle.ub_shell.specs.Laws.{OnlyHelpIsWritten, WrongWordsAreTold}
 

@@ -1,29 +1,32 @@
 -- What the commands that read and write files leave of them, and what they tell.
-use Rattle.std.specs.Prelude.{◌≡◌, ◌≢◌, ◌⊎◌, ◌++◌, ℕ, List, Result, Ok, Err, length, codes, decimal, true, false, IfErr, OnOk, IsOk}
+use Rattle.std.specs.Prelude.{◌≡◌, ◌≢◌, ◌⊎◌, ◌++◌, ℕ, List, [], Result, Ok, Err, length, codes, decimal, true, false, IfErr, OnOk, IsOk}
 use Rattle.ub_load.specs.LoadedTree.{IsLoadedTree}
 use Rattle.ub_load.specs.Loading.{IsLoadFault}
 use Rattle.ub_load.specs.Refusals.{fault_of_tree}
 use Rattle.ub_load.specs.declared.fault.LoadFault.{LoadFault}
 use Rattle.ub_load.specs.declared.fault.LoadFault.TheVariants.{Tree}
+use Rattle.ub_load.specs.declared.fault.LoadFault.TheVariants as load
 use Rattle.ub_script.specs.Output.{OutFacts, Takes}
 use Rattle.ub_script.specs.Run.{IsBegunOn, IsBrokenOn, IsDoneOn}
 use Rattle.ub_script.specs.declared.fault.RunFault.{RunFault}
 use Rattle.ub_script.specs.declared.fault.RunFault.TheVariants as ran
 use Rattle.ub_script.specs.declared.script.Summary.{Summary}
-use Rattle.ub_store.specs.Facts.{StoreFacts, IsHonest, raised}
+use Rattle.ub_store.specs.Facts.{StoreFacts, IsHonest, memory_facts, raised}
 use Rattle.ub_store.specs.declared.fault.StoreFault.{StoreFault}
 use Rattle.ub_store.specs.declared.fault.StoreFault.TheVariants as store
 use Rattle.ub_table.specs.declared.schema.Schema.{Schema}
 use Rattle.ub_tree.specs.Closing.{IsCloseFault}
 use Rattle.ub_tree.specs.Effects.{IsReadFault}
+use Rattle.ub_tree.specs.Faults.{tree_fault}
 use Rattle.ub_tree.specs.Opened.{IsOpened, IsOpenFault, IsPassing}
 use Rattle.ub_tree.specs.Placed.{Placed}
 use Rattle.ub_tree.specs.Stored.{AreSoundPages}
 use Rattle.ub_tree.specs.View.{TreeView, IsSound}
 use Rattle.ub_tree.specs.declared.fault.TreeFault.{TreeFault}
 use Rattle.ub_tree.specs.declared.fault.TreeFault.TheVariants.{Store}
+use Rattle.ub_shell.specs.Copying.{Copies}
 use Rattle.ub_shell.specs.Ending.{HasTried, Tells, TellsIfMemory, trial}
-use Rattle.ub_shell.specs.Files.{FilesFacts, HoldsBut, IsLent, IsMade, IsText, IsTorn, OpensFile, PutsBack, ReadsFile, Returns, untold}
+use Rattle.ub_shell.specs.Files.{FilesFacts, HoldsBut, IsLent, IsMade, IsText, IsTorn, LendsFile, OpensFile, PutsBack, ReadsFile, Returns}
 use Rattle.ub_shell.specs.Status.{load_fault_status, load_fault_text, store_fault_status, store_fault_text, summary_status, tree_fault_status, tree_fault_text}
 use Rattle.ub_shell.specs.declared.status.Status.{Status}
 use Rattle.ub_shell.specs.declared.status.Status.TheVariants.{Done, CommandLine, Device, Memory}
@@ -67,46 +70,76 @@ pub record ClosesFile {A : Type 0} (path : List ℕ) (old new : FilesFacts) (t :
 abbrev pub loaded_line : ℕ → ℕ → List ℕ
 loaded_line rows regions = codes "-- rows " ++ (decimal rows ++ (codes ", regions " ++ (decimal regions ++ codes "\n")))
 
--- the table file of this path is a closed table, the one of this text, with so many rows and regions
+-- a table in a store in memory, closed: the one of this text, with so many rows and regions
+pub record IsTable (text name : List ℕ) (dims page_rows rows regions : ℕ) (pages : List (List ℕ)) : Type 0 where
+  pub tree : TreeView
+  pub loaded : IsLoadedTree text dims page_rows name tree
+  pub closed : AreSoundPages pages tree.schema tree.placed tree.next
+  pub rows_are : rows ≡ tree.rows
+  pub regions_are : regions ≡ length tree.placed
+
+-- a table file was made at this path, and a copying of these pages into it has ended so
+pub record IsCopied (table : List ℕ) (pages : List (List ℕ)) (old new : FilesFacts) (result : Result (Unit {0}) StoreFault) : Type 0 where
+  pub made : StoreFacts
+  pub left : StoreFacts
+  pub made_is : IsMade old made
+  pub copies : Copies pages made left result
+  pub back : Returns table old new left
+
+-- that is so, or the table file can't be made
+abbrev pub WritesFile : List ℕ → List (List ℕ) → FilesFacts → FilesFacts → Result (Unit {0}) StoreFault → Type 0
+WritesFile table pages old new result =
+    IsCopied table pages old new result ⊎ ((result ≡ Err store.Device) × LendsFile table old new result)
+
+-- the table file of this path is a closed table, the one of this text, with so many rows and regions; all its pages last
 pub record IsFileOf (table text name : List ℕ) (dims page_rows rows regions : ℕ) (old new : FilesFacts) : Type 0 where
   pub tree : TreeView
   pub made : StoreFacts
   pub left : StoreFacts
   pub made_is : IsMade old made
-  pub loaded : IsHonest made → IsLoadedTree text dims page_rows name tree
+  pub loaded : IsLoadedTree text dims page_rows name tree
   pub closed : IsHonest made → IsHonest left × AreSoundPages left.pages tree.schema tree.placed tree.next
+  pub synced : left.synced ≡ left.pages
   pub back : Returns table old new left
   pub rows_are : rows ≡ tree.rows
   pub regions_are : regions ≡ length tree.placed
+
+-- the text isn't loaded into memory
+abbrev pub IsUnloaded : List ℕ → List ℕ → ℕ → LoadFault → Type 0
+IsUnloaded text name dims fault = IsLoadFault dims name text (memory_facts []) fault
+
+-- the table that was loaded isn't closed there: memory was refused, or it would have more pages than a store
+pub record IsUnclosed (text name : List ℕ) (dims page_rows : ℕ) (fault : LoadFault) : Type 0 where
+  pub tree : TreeView
+  pub loaded : IsLoadedTree text dims page_rows name tree
+  pub refused : (fault ≡ load.Memory) ⊎ (fault ≡ Tree (Store store.BadSize))
 
 -- the table file can't be made
 abbrev pub IsUnmade : LoadFault → Type 0
 IsUnmade fault = fault ≡ Tree (Store store.Device)
 
--- the text isn't loaded into the table file that was made
-abbrev pub IsUnloaded : List ℕ → List ℕ → ℕ → FilesFacts → LoadFault → Type 0
-IsUnloaded text name dims old fault = (made : StoreFacts) × IsMade old made × IsLoadFault dims name text made fault
-
--- the table that was loaded isn't closed
-pub record IsUnclosed (text name : List ℕ) (dims page_rows : ℕ) (old : FilesFacts) (fault : LoadFault) : Type 0 where
-  pub tree : TreeView
-  pub made : StoreFacts
-  pub left : StoreFacts
-  pub of_tree : TreeFault
-  pub made_is : IsMade old made
-  pub loaded : IsHonest made → IsLoadedTree text dims page_rows name tree
-  pub refused : IsCloseFault tree left of_tree
-  pub fault_is : fault ≡ fault_of_tree of_tree
+-- the table's pages aren't copied into the table file that was made
+pub record IsUnwritten (table text name : List ℕ) (dims page_rows : ℕ) (old new : FilesFacts) (fault : LoadFault) : Type 0 where
+  pub rows : ℕ
+  pub regions : ℕ
+  pub pages : List (List ℕ)
+  pub of_store : StoreFault
+  pub table_is : IsTable text name dims page_rows rows regions pages
+  pub refused : (of_store ≡ store.Device) ⊎ (of_store ≡ store.Memory)
+  pub copied : IsCopied table pages old new (Err of_store)
+  pub fault_is : fault ≡ fault_of_tree (tree_fault of_store)
 
 -- the files after a call that used one table file: what it holds is not said; and how often that can't be opened or made
 pub record Uses (table : List ℕ) (old new : FilesFacts) : Type 0 where
   pub same : new ≡ record old { holds = new.holds; failed_tables = new.failed_tables }
   pub others : HoldsBut table old new
 
--- a text isn't kept in the table file of this path for this reason
+-- a text isn't kept in the table file of this path for this reason; where it holds no table, or none that can be closed, the files hold
+-- what they did
 pub record IsUnkept (table text name : List ℕ) (dims page_rows : ℕ) (old new : FilesFacts) (fault : LoadFault) : Type 0 where
-  pub why : IsUnmade fault × (new.failed_tables ≡ raised old.failed_tables 1)
-      ⊎ ((IsUnloaded text name dims old fault × (new.holds table ≡ untold) ⊎ IsUnclosed text name dims page_rows old fault) × (new.failed_tables ≡ old.failed_tables))
+  pub why : ((IsUnloaded text name dims fault ⊎ IsUnclosed text name dims page_rows fault) × (new ≡ old))
+      ⊎ ((IsUnmade fault × (new.failed_tables ≡ raised old.failed_tables 1))
+      ⊎ (IsUnwritten table text name dims page_rows old new fault × (new.failed_tables ≡ old.failed_tables)))
   pub uses : Uses table old new
 
 -- a text was kept in the table file of this path, and it was told how many rows and regions it has; or why it wasn't kept

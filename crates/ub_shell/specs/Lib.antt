@@ -1,5 +1,7 @@
 pub mod Files
 pub mod Host
+pub mod Copying
+pub mod Memory
 pub mod Next
 pub mod Status
 pub mod Ending

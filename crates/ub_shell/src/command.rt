@@ -17,7 +17,7 @@ use ub_words::{Asked, read_words};
 /// `out`. The result is the status with which the program ends: 0 all was done, 1 a statement was refused, 2 the
 /// command line was, 3 the data were, 4 a file or the output failed, 5 memory was refused. After a fault the last line
 /// tells it, but for a failed write, after which nothing is written. Where the words ask for the help, only the help is
-/// written. A file that was opened is put back, but for a table file whose loading was refused.
+/// written. A table file that was opened or made is put back, and none is made before the table to be loaded stands in memory.
 pub fn command<F: Files, W: Out>(alloc: Global, files: &mut F, words: &[String], out: &mut W) -> u8
     ensures { (status : Status) × (result ≡ status_code status)
         × HasEnded (map string_bytes words.now) (F.facts files.old) (F.facts files.new)

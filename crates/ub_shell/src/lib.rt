@@ -8,10 +8,12 @@
 
 pub mod closing;
 pub mod command;
+pub mod copying;
 pub mod files;
 pub mod host;
 pub mod law;
 pub mod loading;
+pub mod memory;
 pub mod next;
 pub mod program;
 pub mod running;
@@ -20,5 +22,6 @@ pub mod trial;
 
 pub use files::Files;
 pub use host::HostFiles;
+pub use memory::MemFiles;
 pub use program::{WordsFault, program_words, run_program};
 pub use ub_script::{Out, OutFault, Over, RunFault, Summary, put_all, run, try_text};

@@ -1,16 +1,16 @@
-ghost use Rattle.std.specs.Prelude.{◌≡◌, ◌≤◌, ◌↔◌, IsTrue, IfOk, IfErr};
+ghost use Rattle.std.specs.Prelude.{◌≡◌, ◌≤◌, ◌↔◌, ◌⊎◌, length, IsTrue, IfOk, IfErr};
 ghost use Rattle.std.specs.String.{string_bytes};
-ghost use Rattle.ub_shell.specs.Commands.{loaded_line, IsFileOf, IsUnkept, KeepsText, LoadsFile};
+ghost use Rattle.ub_shell.specs.Commands.{loaded_line, IsFileOf, IsTable, IsUnclosed, IsUnkept, IsUnloaded, KeepsText, LoadsFile, WritesFile};
 ghost use Rattle.ub_shell.specs.Ending.{TellsIfMemory};
 ghost use Rattle.ub_shell.specs.declared.status.Status.{Status};
 
-use crate::closing::close_table;
+use crate::copying::copy_pages;
 use crate::files::Files;
 use crate::status::{Status, tell, tell_load_fault, tell_memory, tell_store_fault};
 use std::alloc::{AllocError, Global};
 use ub_load::{LoadFault, load};
 use ub_script::Out;
-use ub_store::StoreFault;
+use ub_store::{MemStore, StoreFault};
 use ub_tree::TreeFault;
 use ub_words::LoadWords;
 
@@ -21,10 +21,17 @@ struct Counts {
     regions: u32,
 }
 
-/// Reads a CSV file, makes the table file anew, loads the text's table into it and closes it, and tells how many rows and
-/// regions it has. Two equal paths are refused before anything is touched, and the table file is not touched where the CSV file
-/// can't be read. After another refusal the table file holds no table that can be opened, unless it is the old one, or the new
-/// one with its last sync failed.
+// A table that was loaded, closed in memory.
+#[derive(Drop)]
+struct Loaded {
+    store: MemStore,
+    counts: Counts,
+}
+
+/// Reads a CSV file, loads the text's table into memory, makes the table file anew with its pages, and tells how many rows and
+/// regions it has. The table file is not touched before the table stands in memory: not where both paths are equal, nor where the
+/// CSV file can't be read or holds no table. After a fault of the table file it holds no table that can be opened, unless it is
+/// the old one, or the new one with its first page or its last sync failed.
 pub fn load_file<F: Files, W: Out>(
     alloc: Global,
     files: &mut F,
@@ -77,7 +84,7 @@ fn keep_text<F: Files, W: Out>(
     }
 }
 
-// Makes the table file anew, loads the text's table into it, and closes it.
+// Loads the text's table into memory, makes the table file anew and copies the table's pages into it.
 fn load_text<F: Files>(
     alloc: Global,
     files: &mut F,
@@ -94,29 +101,53 @@ fn load_text<F: Files>(
     ensures refused { IfErr result (IsUnkept asked.entry.table.now text.now asked.entry.source.name.now
         asked.entry.source.dims asked.entry.source.page_rows (F.facts files.old) (F.facts files.new)) }
 {
-    let store = match files.create(asked.table) {
-        Ok(store) => store,
-        Err(fault) => return Err(LoadFault::Tree(TreeFault::Store(fault))),
-    };
-    let tree = match load(
+    let Loaded { mut store, counts } = load_pages(alloc, text, asked)?;
+    match write_pages(files, asked.table, &mut store) {
+        Ok(()) => Ok(counts),
+        Err(fault) => Err(LoadFault::from(TreeFault::from(fault))),
+    }
+}
+
+// Loads the text's table into memory, and closes it there.
+fn load_pages(alloc: Global, text: &[u8], asked: LoadWords<'_>) -> Result<Loaded, LoadFault>
+    requires some_dims { 1 ≤ asked.source.dims }
+    requires few_dims { asked.source.dims ≤ 4 }
+    requires some_rows { 2 ≤ asked.source.page_rows }
+    requires few_rows { asked.source.page_rows ≤ 64 }
+    ensures loaded { IfOk result (λ l. IsTable text.now asked.entry.source.name.now
+        asked.entry.source.dims asked.entry.source.page_rows l.counts.rows l.counts.regions l.store) }
+    ensures refused { IfErr result (λ fault. IsUnloaded text.now asked.entry.source.name.now asked.entry.source.dims fault
+        ⊎ IsUnclosed text.now asked.entry.source.name.now asked.entry.source.dims asked.entry.source.page_rows fault) }
+{
+    let tree = load(
         alloc,
         text,
         asked.source.dims,
         asked.source.page_rows,
         asked.source.name.as_bytes(),
-        store,
-    ) {
-        Ok(tree) => tree,
-        Err(fault) => return Err(fault),
-    };
+        MemStore::new(alloc),
+    )?;
     let counts = Counts {
         rows: tree.rows(),
         regions: tree.regions(),
     };
-    match close_table(files, asked.table, tree) {
-        Ok(()) => Ok(counts),
-        Err(fault) => Err(LoadFault::from(fault)),
+    match tree.close() {
+        Ok(store) => Ok(Loaded { store, counts }),
+        Err(refused) => Err(LoadFault::from(refused.fault)),
     }
+}
+
+// Makes the table file anew, with these pages.
+fn write_pages<F: Files>(files: &mut F, path: &str, pages: &mut MemStore) -> Result<(), StoreFault>
+    requires some { 1 ≤ length pages.old }
+    ensures faults { IfErr result (λ fault.
+        (fault ≡ StoreFault.Device) ⊎ (fault ≡ StoreFault.Memory)) }
+    ensures effect { WritesFile path.now pages.old (F.facts files.old) (F.facts files.new) result }
+{
+    let mut store = files.create(path)?;
+    let copied = copy_pages(pages, &mut store);
+    files.put_back(path, store);
+    copied
 }
 
 // Writes the line for a table that was loaded.

@@ -1,4 +1,4 @@
-ghost use Rattle.std.specs.Prelude.{◌≡◌, ◌≤◌, IfOk, codes};
+ghost use Rattle.std.specs.Prelude.{◌≡◌, IfOk, MatchResult, codes};
 ghost use Rattle.std.specs.String.{string_bytes};
 ghost use Rattle.ub_shell.specs.Status.{status_code, summary_status, load_fault_status, load_fault_text, page_fault_word, store_fault_status, store_fault_text, tree_fault_status, tree_fault_text};
 ghost use Rattle.ub_shell.specs.Ending.{Tells, TellsIfMemory};
@@ -182,15 +182,24 @@ pub fn tell_store_fault<W: Out>(fault: StoreFault, out: &mut W) -> Status
     )
 }
 
+/// Writes a line and ends with the status, or tells that the memory for the line was refused.
+pub fn tell_line<W: Out>(line: Result<String, AllocError>, status: Status, out: &mut W) -> Status
+    ensures { MatchResult line
+        (λ text. Tells (W.facts out.old) (W.facts out.new) (string_bytes text) status result)
+        (λ _. Tells (W.facts out.old) (W.facts out.new) (codes "! Memory\n") Status.Memory result) }
+{
+    match line {
+        Ok(line) => tell(out, line.as_bytes(), status),
+        Err(_) => tell_memory(out),
+    }
+}
+
 /// Writes the line for a table that was refused.
 pub fn tell_load_fault<W: Out>(alloc: Global, fault: LoadFault, out: &mut W) -> Status
     ensures { TellsIfMemory (W.facts out.old) (W.facts out.new)
         (load_fault_text fault) (load_fault_status fault) result }
 {
-    match load_fault_line(alloc, fault) {
-        Ok(line) => tell(out, line.as_bytes(), load_fault_status(fault)),
-        Err(_) => tell_memory(out),
-    }
+    tell_line(load_fault_line(alloc, fault), load_fault_status(fault), out)
 }
 
 /// Writes the line for what a tree refused.
@@ -198,26 +207,5 @@ pub fn tell_tree_fault<W: Out>(alloc: Global, fault: TreeFault, out: &mut W) -> 
     ensures { TellsIfMemory (W.facts out.old) (W.facts out.new)
         (tree_fault_text fault) (tree_fault_status fault) result }
 {
-    match tree_fault_line(alloc, fault) {
-        Ok(line) => tell(out, line.as_bytes(), tree_fault_status(fault)),
-        Err(_) => tell_memory(out),
-    }
-}
-
-#[cfg(test)]
-mod tests {
-    use super::*;
-    use std::test::Fail;
-
-    #[test]
-    fn faults_have_lines(rt: HostRuntime) -> Result<(), Fail> {
-        let alloc = rt.alloc();
-        let table = load_fault_line(alloc, LoadFault::BadName(0))?;
-        assert_eq!(rt; table.as_str(), "! BadName table\n");
-        let column = load_fault_line(alloc, LoadFault::BadName(3))?;
-        assert_eq!(rt; column.as_str(), "! BadName column 3\n");
-        let field = load_fault_line(alloc, LoadFault::OutOfRange { row: 12, column: 2 })?;
-        assert_eq!(rt; field.as_str(), "! OutOfRange row 12 column 2\n");
-        Ok(())
-    }
+    tell_line(tree_fault_line(alloc, fault), tree_fault_status(fault), out)
 }

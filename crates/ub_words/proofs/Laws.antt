@@ -6,8 +6,9 @@ use Rattle.clap.specs.declared.error.kind.ErrorKind.TheVariants as kind
 use Rattle.ub_words.specs.CommandLine.{AsksHelp, AsksLoad, AsksNext, AsksRun, AsksTry, IsDataGiven, IsLoadGiven, IsNextGiven, IsRunGiven, IsTaken, IsTryGiven, ubq_app}
 use Rattle.ub_words.specs.Laws.{HelpIsHelp, OneThingIsAsked}
 use Rattle.ub_words.specs.declared.words.Asked.TheVariants.{Try, Load, Run, Next, Help, Wrong}
-use Rattle.ub_words.proofs.AskFacts.{load≢next, load≢run, load≢try, no_help_taken, one_text, run≢next, run≢try, same_found, try≢next}
+use Rattle.ub_words.proofs.AskFacts.{load≢next, load≢run, load≢try, one_text, run≢next, run≢try, same_found, try≢next}
 use Rattle.ub_words.proofs.GivenFacts.{number_only}
+pub use Rattle.ub_words.proofs.AskFacts.{no_help_taken}
 
 -- what was given for the file DATA is one thing
 one_data : (rows : List Row) (t n u m : List ℕ) (d p e q : ℕ) → IsDataGiven rows t n d p → IsDataGiven rows u m e q

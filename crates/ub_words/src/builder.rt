@@ -11,8 +11,9 @@ Example:
   ubq load sales.csv sales.ub --dims 2
   echo 'SELECT COUNT(*) FROM t WHERE day BETWEEN 1 AND 7;' | ubq run sales.ub -
 
-Statements are SELECT with WHERE, GROUP BY, ORDER BY and LIMIT; docs/SQL.md describes the language, and
-docs/TABLE_FILES.md what a table file promises. After a fault the last line tells it, as ! NoPage.
+Statements are SELECT with WHERE, GROUP BY, ORDER BY and LIMIT, and EXPLAIN before one tells how it would be answered.
+docs/SQL.md describes the language, and docs/TABLE_FILES.md what a table file promises. After a fault the last line tells
+it, as ! NoPage.
 
 Status:
   0  all was done
@@ -25,21 +26,55 @@ Status:
 const LOAD_HELP: &str = "\
 Example: ubq load sales.csv sales.ub --dims 2 writes -- rows 1000, regions 24
 
-DATA is read before TABLE is touched. Where a row is refused TABLE holds no table, and `ubq run` says so.";
+DATA is read before TABLE is touched; where DATA is refused TABLE stays as it was. docs/SQL.md describes the statements
+for `ubq run`, and docs/TABLE_FILES.md what a table file promises.
+
+Status:
+  0  TABLE holds the rows of DATA
+  2  the command line was refused, or DATA and TABLE are one path
+  3  DATA was refused, as ! BadNumber row 2 column 1
+  4  a file or the output failed
+  5  memory was refused";
 
 const RUN_HELP: &str = "\
 Example: ubq run sales.ub script.sql, or a script from standard input: ubq run sales.ub -
 
-Each statement writes a title line, its rows, and -- rows R, pages P, or why it is refused, as ! Syntax at 7. TABLE is
-left as it was, byte for byte. docs/SQL.md describes the language.";
+Each statement writes a title line, its rows, and -- rows R, pages P, or why it is refused, as ! Syntax at 7. EXPLAIN
+before it writes how it would be answered, and reads no page of rows. TABLE is left as it was, byte for byte. docs/SQL.md
+describes the language.
+
+Status:
+  0  all statements were answered
+  1  a statement was refused, and the others were run
+  2  the command line was refused
+  3  TABLE is no table file, or is damaged
+  4  a file or the output failed
+  5  memory was refused";
 
 const TRY_HELP: &str = "\
 Example: ubq try sales.csv script.sql --dims 2
 
-No file is written. Each statement writes what it does with `ubq run`. docs/SQL.md describes the language.";
+No file is written. Each statement writes what it does with `ubq run`, and so does EXPLAIN. docs/SQL.md describes the
+language.
+
+Status:
+  0  all statements were answered
+  1  a statement was refused, and the others were run
+  2  the command line was refused, or DATA and SCRIPT are both standard input
+  3  DATA was refused, as ! BadNumber row 2 column 1
+  4  a file or the output failed
+  5  memory was refused";
 
 const NEXT_HELP: &str = "\
-Example: ubq next 2,2 6,3 19 writes next 36 and prev 15";
+Example: ubq next 2,2 6,3 19 writes next 36 and prev 15
+
+The first is the least address of the box from Z on, the second the greatest one up to Z; none says that there is none.
+
+Status:
+  0  both were told
+  2  the command line was refused, or a word of it, as ! BadPoint
+  4  the output failed
+  5  memory was refused";
 
 // A word that is to be given at its place.
 fn word_arg<'a>(alloc: Global, id: &'a str, help: &'a str) -> Arg<'a>

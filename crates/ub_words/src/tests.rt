@@ -36,6 +36,9 @@ fn help_has_known_lines(rt: HostRuntime) {
     assert!(rt; has_line(alloc, &["--help"], true, "Usage: ubq <COMMAND>"));
     let usage = "Usage: ubq try [OPTIONS] --dims <D> <DATA> <SCRIPT>";
     assert!(rt; has_line(alloc, &["try", "--help"], true, usage));
+    for command in ["load", "run", "try", "next"] {
+        assert!(rt; has_line(alloc, &[command, "--help"], true, "  5  memory was refused"));
+    }
 }
 
 #[test]
@@ -43,6 +46,10 @@ fn wrong_words_are_told(rt: HostRuntime) {
     let alloc = rt.alloc();
     let no_command = "error: 'ubq' requires a subcommand but one was not provided";
     assert!(rt; has_line(alloc, &[], false, no_command));
+    for words in [&[][..], &["ask"][..]] {
+        assert!(rt; has_line(alloc, words, false, "Usage: ubq <COMMAND>"));
+        assert!(rt; has_line(alloc, words, false, "For more information, try '--help'."));
+    }
     let five = "error: invalid value '5' for '--dims <D>': 5 is not in 1..=4";
     assert!(rt; has_line(alloc, &["try", "a", "b", "--dims", "5"], false, five));
 }

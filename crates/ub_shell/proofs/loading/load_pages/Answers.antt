@@ -1,0 +1,13 @@
+use Rattle.std.proofs.Common.{refl}
+use Rattle.ub_shell.proofs.loading.load_pages.Goals as goal
+
+pub returns-in-Ok-clause-loaded : goal.returns-in-Ok-clause-loaded
+returns-in-Ok-clause-loaded c =
+    let loaded = rw c.as_bytes.ensures.value at (c.in_ok-tree.ensures.loaded refl) in
+    record {
+      tree = c.in_ok-tree.tree;
+      loaded = loaded;
+      closed = (c.in-Ok.ensures.closed loaded.sound).1;
+      rows_are = c.rows.ensures;
+      regions_are = c.regions.ensures;
+    }
