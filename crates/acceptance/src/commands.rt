@@ -1,36 +1,10 @@
 use crate::SMALL_TABLE;
-use std::alloc::{AllocError, Global};
+use crate::files::{ends, outcome};
 use std::test::Fail;
-use std::{fs, process, str};
-use ub_script::Over;
-use ub_shell::HostFiles;
-use ub_shell::command::command;
-
-// The words of a command line, the program's name first.
-fn words_of(alloc: Global, words: &[&str]) -> Result<Vec<String>, AllocError> {
-    let mut all = Vec::new(alloc);
-    all.push(String::from_str(alloc, "ubq")?)?;
-    for word in words {
-        all.push(String::from_str(alloc, word)?)?;
-    }
-    Ok(all)
-}
-
-// What a command line writes, and its status.
-fn run(rt: &HostRuntime, words: &[&str]) -> Result<(Vec<u8>, u8), AllocError> {
-    let words = words_of(rt.alloc(), words)?;
-    let mut out = Over::new(Vec::new(rt.alloc()));
-    let status = command(
-        rt.alloc(),
-        &mut HostFiles::new(rt),
-        words.as_slice(),
-        &mut out,
-    );
-    Ok((out.into_inner(), status))
-}
+use std::{fs, process};
 
 #[test]
-fn finds_the_nearest_addresses(rt: HostRuntime) -> Result<(), Fail> {
+fn finds_the_nearest_addresses(rt: HostRuntime) {
     let greatest = "340282366920938463463374607431768211455";
     let all = "4294967295,4294967295,4294967295,4294967295";
     let cases = [
@@ -40,6 +14,7 @@ fn finds_the_nearest_addresses(rt: HostRuntime) -> Result<(), Fail> {
         ("2,2", "6,3", "46", "next none\nprev 45\n", 0),
         ("2,2", "6,3", "11", "next 12\nprev none\n", 0),
         ("02,2", "6,03", "0012", "next 12\nprev 12\n", 0),
+        ("02,2", "6,3", "19", "next 36\nprev 15\n", 0),
         (
             "0,0,0,0",
             all,
@@ -48,50 +23,67 @@ fn finds_the_nearest_addresses(rt: HostRuntime) -> Result<(), Fail> {
             0,
         ),
         ("2,2", "6", "0", "! BadPoint\n", 2),
+        ("2,2", "6", "19", "! BadPoint\n", 2),
         ("2,+2", "6,3", "0", "! BadPoint\n", 2),
+        ("+2,2", "6,3", "19", "! BadPoint\n", 2),
         ("2,2", "6,4294967296", "0", "! BadPoint\n", 2),
         ("1,1,1,1,1", "2,2,2,2,2", "0", "! BadPoint\n", 2),
         ("2,4", "6,3", "0", "! EmptyBox\n", 2),
+        ("7,2", "6,3", "19", "! EmptyBox\n", 2),
+        ("5", "9", "4294967296", "! TooLarge\n", 2),
         ("2,2", "6,3", "18446744073709551616", "! TooLarge\n", 2),
     ];
     for (lo, hi, z, want, want_status) in cases {
-        let (bytes, status) = run(&rt, &["next", lo, hi, z])?;
-        assert_eq!(rt; str::from_utf8(bytes.as_slice())?, want);
-        assert_eq!(rt; status, want_status);
+        let words = ["next", lo, hi, z];
+        assert!(rt;
+            ends(&rt, words.as_slice(), want, want_status),
+            "{lo} {hi} {z}"
+        );
     }
-    Ok(())
+}
+
+// The status that a command line ends with.
+fn status_of(rt: &HostRuntime, words: &[&str]) -> Option<u8> {
+    match outcome(rt, words) {
+        Ok((_, status)) => Some(status),
+        Err(_) => None,
+    }
 }
 
 #[test]
-fn tells_wrong_command_lines(rt: HostRuntime) -> Result<(), Fail> {
-    let (_, no_words) = run(&rt, &[])?;
-    assert_eq!(rt; no_words, 2);
-    let (_, no_dims) = run(&rt, &["try", "a", "b"])?;
-    assert_eq!(rt; no_dims, 2);
-    let (_, five) = run(&rt, &["try", "a", "b", "--dims", "5"])?;
-    assert_eq!(rt; five, 2);
-    let (text, help) = run(&rt, &["--help"])?;
-    assert_eq!(rt; help, 0);
-    assert!(rt; !text.is_empty());
-    let (version, status) = run(&rt, &["--version"])?;
-    assert_eq!(rt; str::from_utf8(version.as_slice())?, "ubq 0.1.0\n");
-    assert_eq!(rt; status, 0);
-    let (missing, device) = run(
-        &rt,
-        &["try", "/no/such/file", "/no/such/script", "--dims", "2"],
-    )?;
-    assert_eq!(rt; str::from_utf8(missing.as_slice())?, "! Device\n");
-    assert_eq!(rt; device, 4);
-    Ok(())
+fn refuses_wrong_command_lines(rt: HostRuntime) {
+    let no_dims = ["try", "a", "b"];
+    let five = ["try", "a", "b", "--dims", "5"];
+    assert!(rt; status_of(&rt, &[]) == Some(2));
+    assert!(rt; status_of(&rt, no_dims.as_slice()) == Some(2));
+    assert!(rt; status_of(&rt, five.as_slice()) == Some(2));
 }
 
-// Runs `ubq try` on two files with these texts, which it writes and takes away.
-fn try_files(
+// Whether a text is written for a command line, and it ends with status 0.
+fn writes_a_text(rt: &HostRuntime, words: &[&str]) -> bool {
+    match outcome(rt, words) {
+        Ok((text, status)) => !text.is_empty() && status == 0,
+        Err(_) => false,
+    }
+}
+
+#[test]
+fn tells_help_version_and_missing_files(rt: HostRuntime) {
+    let missing = ["try", "/no/such/file", "/no/such/script", "--dims", "2"];
+    assert!(rt; writes_a_text(&rt, &["--help"]));
+    assert!(rt; ends(&rt, &["--version"], "ubq 0.1.0\n", 0));
+    assert!(rt; ends(&rt, missing.as_slice(), "! Device\n", 4));
+}
+
+// Whether `ubq try` on two files with these texts, which are written and taken away, writes this and ends with this status.
+fn tries(
     rt: &HostRuntime,
     csv: &str,
     script: &str,
     page_rows: &str,
-) -> Result<(Vec<u8>, u8), Fail> {
+    want: &str,
+    status: u8,
+) -> Result<bool, Fail> {
     let id = process::id(rt.process());
     let data_path = format!(in rt.alloc(); "/tmp/hablozen-{id}.csv")?;
     let script_path = format!(in rt.alloc(); "/tmp/hablozen-{id}.sql")?;
@@ -106,10 +98,10 @@ fn try_files(
         "--page-rows",
         page_rows,
     ];
-    let end = run(rt, &words)?;
+    let is_so = ends(rt, words.as_slice(), want, status);
     fs::remove_file(rt, data_path.as_str())?;
     fs::remove_file(rt, script_path.as_str())?;
-    Ok(end)
+    Ok(is_so)
 }
 
 #[test]
@@ -147,9 +139,7 @@ fn tries_a_script_on_a_file(rt: HostRuntime) -> Result<(), Fail> {
         ("x,y,m\n1,2\n", worked, "2", "! Csv\n", 3),
     ];
     for (csv, script, page_rows, want, want_status) in cases {
-        let (bytes, status) = try_files(&rt, csv, script, page_rows)?;
-        assert_eq!(rt; str::from_utf8(bytes.as_slice())?, want);
-        assert_eq!(rt; status, want_status);
+        assert!(rt; tries(&rt, csv, script, page_rows, want, want_status)?);
     }
     Ok(())
 }

@@ -40,7 +40,7 @@ fn remove(rt: &HostRuntime, paths: &Paths) {
 }
 
 // Whether a command line writes these bytes and ends with this status.
-fn ends(rt: &HostRuntime, words: &[&str], want: &str, status: u8) -> bool {
+pub(crate) fn ends(rt: &HostRuntime, words: &[&str], want: &str, status: u8) -> bool {
     match outcome(rt, words) {
         Ok((bytes, code)) => code == status && bytes.as_slice() == want.as_bytes(),
         Err(_) => false,
@@ -48,7 +48,7 @@ fn ends(rt: &HostRuntime, words: &[&str], want: &str, status: u8) -> bool {
 }
 
 // What a command line writes, and its status.
-fn outcome(rt: &HostRuntime, words: &[&str]) -> Result<(Vec<u8>, u8), AllocError> {
+pub(crate) fn outcome(rt: &HostRuntime, words: &[&str]) -> Result<(Vec<u8>, u8), AllocError> {
     let words = words_of(rt.alloc(), words)?;
     let mut out = Over::new(Vec::new(rt.alloc()));
     let code = command(
@@ -61,7 +61,7 @@ fn outcome(rt: &HostRuntime, words: &[&str]) -> Result<(Vec<u8>, u8), AllocError
 }
 
 // The words of a command line, the program's name first.
-fn words_of(alloc: Global, words: &[&str]) -> Result<Vec<String>, AllocError> {
+pub(crate) fn words_of(alloc: Global, words: &[&str]) -> Result<Vec<String>, AllocError> {
     let mut all = Vec::new(alloc);
     all.push(String::from_str(alloc, "ubq")?)?;
     for word in words {
@@ -175,10 +175,10 @@ fn makes_the_table_anew(rt: HostRuntime) -> Result<(), Fail> {
     ];
     assert!(rt; ends(&rt, words.as_slice(), "-- rows 1, regions 1\n", 0));
     assert!(rt; runs(&rt, &paths, "COUNT(*)\n1\n-- rows 1, pages 1\n", 0));
-    // Refused at its last row: the file is marked as changed, and no table.
+    // Refused at its last row: the table stays as it was.
     fs::write(&rt, paths.data.as_str(), "x,y,m\n1,2,3\n4,a,5\n")?;
     assert!(rt; ends(&rt, words.as_slice(), "! BadNumber row 2 column 2\n", 3));
-    assert!(rt; runs(&rt, &paths, "! Unclean page 0\n", 3));
+    assert!(rt; runs(&rt, &paths, "COUNT(*)\n1\n-- rows 1, pages 1\n", 0));
     remove(&rt, &paths);
     Ok(())
 }

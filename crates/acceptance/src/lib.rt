@@ -3,13 +3,25 @@
 #![tactic(auto)]
 
 #[cfg(test)]
+mod answers;
+#[cfg(test)]
 mod boxes;
 #[cfg(test)]
 mod commands;
 #[cfg(test)]
+mod faults;
+#[cfg(test)]
 mod fetches;
 #[cfg(test)]
 mod files;
+#[cfg(test)]
+mod loads;
+#[cfg(test)]
+mod memory;
+#[cfg(test)]
+mod plans;
+#[cfg(test)]
+mod program;
 #[cfg(test)]
 mod queries;
 #[cfg(test)]

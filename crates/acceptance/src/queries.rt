@@ -1,7 +1,5 @@
 use crate::SMALL_TABLE;
-use crate::scripts::{run, run_on};
-use std::str;
-use std::test::Fail;
+use crate::scripts::told;
 
 // Queries in an order, and the first rows of a result.
 const ORDERED: [(&str, &str); 13] = [
@@ -169,45 +167,38 @@ const ELSEWHERE: [(&str, u32, &str, &str); 8] = [
 ];
 
 #[test]
-fn orders_and_limits_rows(rt: HostRuntime) -> Result<(), Fail> {
+fn orders_and_limits_rows(rt: HostRuntime) {
     for (script, want) in ORDERED {
-        let (bytes, end) = run(rt.alloc(), SMALL_TABLE, script);
-        assert_eq!(rt; str::from_utf8(bytes.as_slice())?, want, "{script}");
-        assert_eq!(rt; end?.refused, 0);
+        assert!(rt;
+            told(rt.alloc(), SMALL_TABLE, 2, script, want).is_some(),
+            "{script}"
+        );
     }
-    Ok(())
 }
 
 #[test]
-fn takes_aggregates_and_groups(rt: HostRuntime) -> Result<(), Fail> {
+fn takes_aggregates_and_groups(rt: HostRuntime) {
     for (script, want) in GROUPED {
-        let (bytes, end) = run(rt.alloc(), SMALL_TABLE, script);
-        assert_eq!(rt; str::from_utf8(bytes.as_slice())?, want, "{script}");
-        assert_eq!(rt; end?.refused, 0);
+        assert!(rt;
+            told(rt.alloc(), SMALL_TABLE, 2, script, want).is_some(),
+            "{script}"
+        );
     }
-    Ok(())
 }
 
 #[test]
-fn answers_on_other_tables(rt: HostRuntime) -> Result<(), Fail> {
+fn answers_on_other_tables(rt: HostRuntime) {
     for (csv, dims, script, want) in ELSEWHERE {
-        let (bytes, end) = run_on(rt.alloc(), csv, dims, script);
-        assert_eq!(rt; str::from_utf8(bytes.as_slice())?, want, "{script}");
-        assert_eq!(rt; end?.refused, 0);
+        assert!(rt;
+            told(rt.alloc(), csv, dims, script, want).is_some(),
+            "{script}"
+        );
     }
-    Ok(())
 }
 
 #[test]
-fn groups_after_a_refused_statement(rt: HostRuntime) -> Result<(), Fail> {
+fn groups_after_a_refused_statement(rt: HostRuntime) {
     let script = "SELECT y, SUM(m) FROM t GROUP BY x; SELECT x, SUM(m) FROM t GROUP BY x;";
-    let (bytes, end) = run(rt.alloc(), SMALL_TABLE, script);
-    assert_eq!(rt;
-        str::from_utf8(bytes.as_slice())?,
-        "! NotGrouped at 7\nx,SUM(m)\n0,7\n1,10\n2,21\n3,5\n-- rows 4, pages 3\n"
-    );
-    let summary = end?;
-    assert_eq!(rt; summary.statements, 2);
-    assert_eq!(rt; summary.refused, 1);
-    Ok(())
+    let want = "! NotGrouped at 7\nx,SUM(m)\n0,7\n1,10\n2,21\n3,5\n-- rows 4, pages 3\n";
+    assert!(rt; told(rt.alloc(), SMALL_TABLE, 2, script, want) == Some(2));
 }

@@ -1,6 +1,4 @@
 use std::alloc::Global;
-use std::str;
-use std::test::Fail;
 use ub_load::LoadFault;
 use ub_script::{Over, RunFault, Summary, try_text};
 
@@ -23,12 +21,27 @@ fn is_refused(alloc: Global, csv: &[u8], want: LoadFault) -> bool {
 }
 
 #[test]
-fn refuses_what_is_no_table(rt: HostRuntime) -> Result<(), Fail> {
-    let cases: [(&[u8], LoadFault); 9] = [
+fn refuses_what_is_no_table(rt: HostRuntime) {
+    let cases: [(&[u8], LoadFault); 18] = [
         (b"", LoadFault::NoHeader),
+        (b"\r\n\n", LoadFault::NoHeader),
+        (b"x\n1\n", LoadFault::ColumnCount),
         (b"x,y,a,b,c,d,e\n", LoadFault::ColumnCount),
+        (b"a,b,c,d,e,f,g\n", LoadFault::ColumnCount),
+        (b"x,select\n1,a\n", LoadFault::BadName(2)),
         (b"x,select\n", LoadFault::BadName(2)),
+        (b"x,x\n", LoadFault::BadName(2)),
         (b"x,y,x\n", LoadFault::BadName(3)),
+        (b"x,y\n\t1,2\n", LoadFault::BadNumber { row: 1, column: 1 }),
+        (b"x,y\n1,\n", LoadFault::BadNumber { row: 1, column: 2 }),
+        (
+            b"x,y,m\n0,-1,0\n",
+            LoadFault::OutOfRange { row: 1, column: 2 },
+        ),
+        (
+            b"x,y,m\n0,0,99999999999999999999999999999999999999999\n",
+            LoadFault::OutOfRange { row: 1, column: 3 },
+        ),
         (
             b"x,y,m\n1,2,3\n4,a,5\n",
             LoadFault::BadNumber { row: 2, column: 2 },
@@ -50,11 +63,16 @@ fn refuses_what_is_no_table(rt: HostRuntime) -> Result<(), Fail> {
     for (csv, want) in cases {
         assert!(rt; is_refused(rt.alloc(), csv, want));
     }
-    Ok(())
+}
+
+// Whether all rows of a CSV text are written so.
+fn shows(alloc: Global, csv: &[u8], want: &str) -> bool {
+    let (bytes, end) = run(alloc, csv);
+    end.is_ok() && bytes.as_slice() == want.as_bytes()
 }
 
 #[test]
-fn reads_signs_spaces_quotes_and_line_ends(rt: HostRuntime) -> Result<(), Fail> {
+fn reads_signs_spaces_quotes_and_line_ends(rt: HostRuntime) {
     let cases: [(&[u8], &str); 3] = [
         (
             b"x, y ,m\r\n 1,\"2\",-9223372036854775808\r\n",
@@ -67,9 +85,6 @@ fn reads_signs_spaces_quotes_and_line_ends(rt: HostRuntime) -> Result<(), Fail> 
         (b"x,y,m\n", "x,y,m\n-- rows 0, pages 1\n"),
     ];
     for (csv, want) in cases {
-        let (bytes, end) = run(rt.alloc(), csv);
-        end?;
-        assert_eq!(rt; str::from_utf8(bytes.as_slice())?, want);
+        assert!(rt; shows(rt.alloc(), csv, want), "{want}");
     }
-    Ok(())
 }

@@ -1,8 +1,25 @@
-// Tests of pages, by their public calls alone. The values come from worked rows and hand arithmetic, never from the program's
+// Tests of addresses, tables, regions, pages, stores and files, by their public calls alone. A module is named after the crate
+// that it tests; `page` has two more beside it. The values come from worked rows and hand arithmetic, never from the program's
 // own output.
 #![tactic(auto)]
 
 #[cfg(test)]
-mod masks;
+mod bigmin;
 #[cfg(test)]
-mod regions;
+mod file;
+#[cfg(test)]
+mod page;
+#[cfg(test)]
+mod page_masks;
+#[cfg(test)]
+mod page_regions;
+#[cfg(test)]
+mod region;
+#[cfg(test)]
+mod samples;
+#[cfg(test)]
+mod store;
+#[cfg(test)]
+mod table;
+#[cfg(test)]
+mod zaddr;

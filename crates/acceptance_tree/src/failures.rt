@@ -12,7 +12,7 @@ const DEVICE: Option<TreeFault> = Some(TreeFault::Store(StoreFault::Device));
 type FaultyTree = Tree<FaultyStore<MemStore>>;
 
 // The tree of a closed table of three regions, over a store that fails at its k-th call.
-pub fn opened_until(rt: &HostRuntime, k: u64) -> Result<FaultyTree, Fail> {
+pub(crate) fn opened_until(rt: &HostRuntime, k: u64) -> Result<FaultyTree, Fail> {
     match Tree::open(rt.alloc(), FaultyStore::new(closed(table_s(rt)?)?, k)) {
         Ok(tree) => Ok(tree),
         Err(refused) => Err(refused.fault.into()),

@@ -7,6 +7,8 @@ mod failures;
 #[cfg(test)]
 mod openings;
 #[cfg(test)]
+mod plans;
+#[cfg(test)]
 mod sweep;
 #[cfg(test)]
 mod trees;

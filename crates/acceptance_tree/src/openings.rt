@@ -105,7 +105,7 @@ fn opens_a_closed_table(rt: HostRuntime) -> Result<(), Fail> {
 }
 
 // Why a row isn't put into a tree of the plane.
-pub fn refused_row<S: PageStore>(tree: &mut Tree<S>) -> Option<TreeFault> {
+pub(crate) fn refused_row<S: PageStore>(tree: &mut Tree<S>) -> Option<TreeFault> {
     if tree.schema().dims() != 2 || tree.schema().measures() != 1 {
         return None;
     }
@@ -147,10 +147,11 @@ fn refuses_a_page_of_another_region(rt: HostRuntime) -> Result<(), Fail> {
     ];
     let mut tree = opened(&rt, &pages)?;
     let first = tree.seek(0, None)?.ok_or("no region")?;
-    assert_eq!(rt; tree.read_region(&first).err(), None);
+    let mut page = tree.empty_region();
+    assert_eq!(rt; tree.read_region(&first, &mut page).err(), None);
     let second = tree.seek(10, None)?.ok_or("no region")?;
     assert_eq!(rt;
-        tree.read_region(&second).err(),
+        tree.read_region(&second, &mut page).err(),
         page_fault(1, PageFault::OutOfRegion)
     );
     Ok(())
@@ -224,7 +225,8 @@ fn reads_the_header_and_the_directory_alone(rt: HostRuntime) -> Result<(), Fail>
     assert_eq!(rt; tree.seek(0, after.as_ref())?, None);
     let last = after.ok_or("no region")?;
     assert_eq!(rt; (last.from, tree.trace().len()), (170, 0));
-    assert_eq!(rt; tree.read_region(&last).err(), device);
+    let mut page = tree.empty_region();
+    assert_eq!(rt; tree.read_region(&last, &mut page).err(), device);
     Ok(())
 }
 

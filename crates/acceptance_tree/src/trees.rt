@@ -8,16 +8,16 @@ use ub_table::{Key, Name, PageFault, Schema};
 use ub_tree::{Region, Tree, TreeFault};
 use ub_zaddr::{Point, Shape};
 
-pub type MemTree = Tree<MemStore>;
+pub(crate) type MemTree = Tree<MemStore>;
 
 // Two dimensions, one measure, two rows on a page.
-pub fn plane() -> Result<Schema, Fail> {
+pub(crate) fn plane() -> Result<Schema, Fail> {
     let columns = [Name::new(b"x")?, Name::new(b"y")?, Name::new(b"m")?];
     Ok(Schema::new(Name::new(b"t")?, &columns, 2, 2)?)
 }
 
 // The box of two dimensions between two corners.
-pub fn rectangle(lo: [u32; 2], hi: [u32; 2]) -> Result<ZBox, Fail> {
+pub(crate) fn rectangle(lo: [u32; 2], hi: [u32; 2]) -> Result<ZBox, Fail> {
     let shape = Shape::new(2)?;
     let zbox = ZBox::new(shape, &Point::new(shape, &lo)?, &Point::new(shape, &hi)?);
     Ok(zbox.ok_or("an empty box")?)
@@ -30,7 +30,7 @@ fn empty(rt: &HostRuntime) -> Result<MemTree, Fail> {
     }
 }
 
-pub fn put<S: PageStore>(tree: &mut Tree<S>, x: u32, y: u32, m: i64) -> Result<u32, Fail> {
+pub(crate) fn put<S: PageStore>(tree: &mut Tree<S>, x: u32, y: u32, m: i64) -> Result<u32, Fail> {
     if tree.schema().dims() != 2 || tree.schema().measures() != 1 {
         return Err("another schema".into());
     }
@@ -38,7 +38,7 @@ pub fn put<S: PageStore>(tree: &mut Tree<S>, x: u32, y: u32, m: i64) -> Result<u
 }
 
 // The rows (1,1), (2,3), (3,0), (0,2) and (2,3), whose addresses are 3, 13, 10, 4 and 13.
-pub fn table_s(rt: &HostRuntime) -> Result<MemTree, Fail> {
+pub(crate) fn table_s(rt: &HostRuntime) -> Result<MemTree, Fail> {
     let mut tree = empty(rt)?;
     for (x, y, m) in [(1, 1, 10), (2, 3, 20), (3, 0, 5), (0, 2, 7), (2, 3, 1)] {
         put(&mut tree, x, y, m)?;
@@ -47,9 +47,13 @@ pub fn table_s(rt: &HostRuntime) -> Result<MemTree, Fail> {
 }
 
 // The span of the first region whose span ends at z or later, and the numbers of its first and last row.
-pub fn spans_to<S: PageStore>(tree: &mut Tree<S>, z: u128) -> Result<(u128, u128, u32, u32), Fail> {
+pub(crate) fn spans_to<S: PageStore>(
+    tree: &mut Tree<S>,
+    z: u128,
+) -> Result<(u128, u128, u32, u32), Fail> {
     let region = tree.seek(z, None)?.ok_or("no region")?;
-    let page = tree.read_region(&region)?;
+    let mut page = tree.empty_region();
+    tree.read_region(&region, &mut page)?;
     let first = page.rows().first().ok_or("no row")?;
     let last = page.rows().last().ok_or("no row")?;
     Ok((region.from, region.to, first.number, last.number))
@@ -71,21 +75,22 @@ fn notes_region_pages(rt: HostRuntime) -> Result<(), Fail> {
     let mut tree = table_s(&rt)?;
     assert!(rt; tree.trace().is_empty());
     let region = tree.seek(0, None)?.ok_or("no region")?;
-    tree.read_region(&region)?;
+    let mut page = tree.empty_region();
+    tree.read_region(&region, &mut page)?;
     assert!(rt; tree.trace() == [1].as_slice());
     tree.begin();
     assert!(rt; tree.trace().is_empty());
     let elsewhere = Region { page: 9, ..region };
     assert!(rt;
         matches!(
-            tree.read_region(&elsewhere).err(),
+            tree.read_region(&elsewhere, &mut page).err(),
             Some(TreeFault::Store(_))
         )
     );
     Ok(())
 }
 
-pub fn closed(tree: MemTree) -> Result<MemStore, Fail> {
+pub(crate) fn closed(tree: MemTree) -> Result<MemStore, Fail> {
     match tree.close() {
         Ok(store) => Ok(store),
         Err(refused) => Err(refused.fault.into()),

@@ -42,12 +42,14 @@ fn put(tree: &mut Tree<MemStore>, point: &[u32; 2]) -> Result<u32, TreeFault> {
 
 // Reads each region in order, and counts their rows.
 fn walk(tree: &mut Tree<MemStore>) -> Result<u64, TreeFault> {
+    let mut page = tree.empty_region();
     let mut after: Option<Region> = None;
     let mut read = 0u64;
     tree.begin();
     for _ in 0..tree.regions() {
         if let Some(region) = tree.seek(0, after.as_ref())? {
-            read = read.wrapping_add(tree.read_region(&region)?.len() as u64);
+            tree.read_region(&region, &mut page)?;
+            read = read.wrapping_add(page.len() as u64);
             after = Some(region);
         }
     }

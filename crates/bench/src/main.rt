@@ -11,6 +11,10 @@
 // `bench pages D N [held]` reads a page of 64 rows with D dimensions and one measure N times, filters it by a box each time, and
 // prints a checksum of the masks; with `held` one region takes all of them in.
 //
+// `bench held N` puts N rows of three dimensions in random order into a tree over a store in memory, and prints for cubes of a hundredth,
+// a tenth and all of the space what a sweep comes to with LIMIT 1, 10, 1000 and none: its rows, its pages, those that meet the
+// cube, the most rows that it held, and its nanoseconds, the least of some runs; and what a scan of the same regions comes to.
+//
 // `bench boxes N` makes the boxes of a condition of 64 comparisons and 4096 cells N times, and prints how many they were.
 #![tactic(auto)]
 
@@ -19,7 +23,9 @@ mod conditions;
 mod events;
 mod fill;
 mod generator;
+mod held;
 mod pages;
+mod telling;
 
 use addresses::{interleaved, spread_out};
 use conditions::boxes_of_many_cells;
@@ -28,6 +34,7 @@ use fill::fill_and_walk;
 use generator::Generator;
 use pages::read_and_filter;
 use std::{env, io};
+use telling::tell;
 use ub_bigmin::ZBox;
 use ub_bigmin::laws::next_by_bits;
 use ub_zaddr::{Point, Shape, last};
@@ -106,6 +113,11 @@ fn main(rt: HostRuntime) -> io::Result<()> {
             Err(fault) => println!(rt; "! {fault}")?,
         }
         return Ok(());
+    }
+    if let Some(word) = &first
+        && word.as_str() == "held"
+    {
+        return tell(&rt, number(words.next()).unwrap_or(1000));
     }
     if let Some(word) = &first
         && word.as_str() == "boxes"

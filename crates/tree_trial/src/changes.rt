@@ -34,13 +34,14 @@ fn are_there(model: &Model, first: &Key, rows: &[Row]) -> bool {
 
 /// Whether the tree has the regions and the rows of the model.
 pub fn is_like<S: PageStore>(tree: &mut Tree<S>, model: &Model) -> Result<bool, TreeFault> {
+    let mut page = tree.empty_region();
     let mut after: Option<Region> = None;
     let mut first = Some(ORIGIN);
     for _ in 0..tree.regions() {
         let Some(region) = tree.seek(0, after.as_ref())? else {
             return Ok(false);
         };
-        let page = tree.read_region(&region)?;
+        tree.read_region(&region, &mut page)?;
         if first != Some(region.first) || !are_there(model, &region.first, page.rows()) {
             return Ok(false);
         }
@@ -112,11 +113,13 @@ fn with_rows(rows: &[Row], sum: u128) -> u128 {
 
 // The checksum of all rows, region after region.
 fn checksum(tree: &mut Tree<MemStore>) -> Result<u128, Trouble> {
+    let mut page = tree.empty_region();
     let mut after: Option<Region> = None;
     let mut sum = 0u128;
     for _ in 0..tree.regions() {
         let region = tree.seek(0, after.as_ref())?.ok_or(Trouble::Wrong)?;
-        sum = with_rows(tree.read_region(&region)?.rows(), sum);
+        tree.read_region(&region, &mut page)?;
+        sum = with_rows(page.rows(), sum);
         after = Some(region);
     }
     Ok(sum)

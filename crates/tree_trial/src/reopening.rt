@@ -26,11 +26,13 @@ fn reopened(alloc: Global, rows: u32) -> Result<Tree<MemStore>, Trouble> {
 
 // How many rows the tree's regions have.
 fn rows_read(tree: &mut Tree<MemStore>) -> Result<usize, Trouble> {
+    let mut page = tree.empty_region();
     let mut after: Option<Region> = None;
     let mut read = 0usize;
     for _ in 0..tree.regions() {
         let region = tree.seek(0, after.as_ref())?.ok_or(Trouble::Wrong)?;
-        read = read.wrapping_add(tree.read_region(&region)?.len());
+        tree.read_region(&region, &mut page)?;
+        read = read.wrapping_add(page.len());
         after = Some(region);
     }
     Ok(read)

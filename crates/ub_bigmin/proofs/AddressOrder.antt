@@ -2,7 +2,7 @@
 use Rattle.std.proofs.Common.{◌≡◌, ◌≤◌, ◌<◌, ◌*◌, ◌^◌, ℕ, List, length, slice_index, ap, ◌∙◌, sym, arith}
 use Rattle.std.specs.Int.{bit_at}
 use Rattle.ub_zaddr.specs.Address.{address, place, IsAtMost, IsPoint}
-use Rattle.ub_zaddr.proofs.AddressFacts.{address-order, address-bit, address-lt}
+use Rattle.ub_zaddr.proofs.Laws.{address-order, address-bit, address-lt}
 use Rattle.ub_bigmin.proofs.PointFacts.{IsPoint-below}
 
 pub address-mono : (d : ℕ) (p q : List ℕ) → IsPoint d q → IsAtMost p q → address p ≤ address q

@@ -8,7 +8,7 @@ use Rattle.std.proofs.lemmas.List.Elements.{All-get_or}
 use Rattle.std.proofs.lemmas.Nat.{pow_pos, shr-shr}
 use Rattle.std.proofs.lemmas.Nat.Bits.{same_from_bits, bit_at_above}
 use Rattle.ub_zaddr.specs.Address.{address, place, IsAtMost, IsPoint}
-use Rattle.ub_zaddr.proofs.AddressFacts.{is_place}
+use Rattle.ub_zaddr.proofs.Laws.{is_place}
 use Rattle.ub_bigmin.specs.Box.{Corners, IsInside, Holds, IsBox}
 use Rattle.ub_bigmin.specs.Cells.{prefix, IsInCell, free_below, HasPrefixes, IsPrefixOf, least_with, greatest_with, IsMet, least_beside, greatest_beside, IsInPart, IsLeastPoint, IsGreatestPoint, IsFloor, IsLift, IsSink, IsTop}
 use Rattle.ub_bigmin.proofs.CutFacts.{shr_halves}

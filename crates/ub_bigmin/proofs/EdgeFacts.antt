@@ -2,7 +2,7 @@
 use Rattle.std.proofs.Common.{◌≡◌, ◌≤◌, ◌<◌, ◌/◌, ◌^◌, ℕ, List, length, slice_index, slice_set, refl, sym, ap, ◌∙◌, subst, arith, inl, inr, Option, Some, None, get_or-set_same}
 use Rattle.std.proofs.lemmas.Bool.{cases_lt}
 use Rattle.ub_zaddr.specs.Address.{address, last_address, IsAtMost, IsPoint}
-use Rattle.ub_zaddr.proofs.AddressFacts.{address-one_to_one}
+use Rattle.ub_zaddr.proofs.Laws.{address-one_to_one}
 use Rattle.ub_bigmin.specs.Box.{Corners, IsBox, IsInside, Holds}
 use Rattle.ub_bigmin.specs.Extremes.{LeastFrom, GreatestUpTo, Least, Greatest}
 use Rattle.ub_bigmin.specs.Halves.{IsPart, IsValueOf}

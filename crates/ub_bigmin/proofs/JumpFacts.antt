@@ -7,7 +7,7 @@ use Rattle.std.proofs.lemmas.Bool.{cases_lt, cases_eq}
 use Rattle.std.proofs.lemmas.Nat.{shr-shr}
 use Rattle.std.proofs.lemmas.Nat.Bits.{bit_at-lt}
 use Rattle.ub_zaddr.specs.Address.{address, place, IsPoint}
-use Rattle.ub_zaddr.proofs.AddressFacts.{is_place}
+use Rattle.ub_zaddr.proofs.Laws.{is_place}
 use Rattle.ub_bigmin.specs.Box.{Corners, IsInside, Holds, IsBox}
 use Rattle.ub_bigmin.specs.Cells.{prefix, IsInCell, IsLeastPoint, IsGreatestPoint}
 use Rattle.ub_bigmin.specs.Extremes.{IsLeastFrom, IsGreatestUpTo}

@@ -13,3 +13,4 @@ pub mod WordFacts
 pub mod JumpFacts
 pub mod NeedFacts
 pub mod NextFacts
+pub mod BoxLaws

@@ -2,7 +2,7 @@
 use Rattle.std.proofs.Common.{◌≡◌, ◌<◌, ◌*◌, ℕ, List, length, sym, ◌∙◌, arith, Some, None, subst}
 use Rattle.std.proofs.lemmas.Nat.{pow_pos}
 use Rattle.ub_zaddr.specs.Address.{address, last_address, IsPoint}
-use Rattle.ub_zaddr.proofs.AddressFacts.{address-one_to_one}
+use Rattle.ub_zaddr.proofs.Laws.{address-one_to_one}
 use Rattle.ub_bigmin.specs.Box.{Corners, IsBox, Holds}
 use Rattle.ub_bigmin.specs.Extremes.{IsLeastFrom, IsGreatestUpTo}
 use Rattle.ub_bigmin.specs.Jumps.{AreNeeds, HasNoJump, IsLowestJump, IsNearestPoint}

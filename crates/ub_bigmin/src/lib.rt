@@ -13,6 +13,3 @@ mod zbox;
 
 pub use several::{greatest_value, least_value, next_in_any};
 pub use zbox::ZBox;
-
-#[cfg(test)]
-mod tests;

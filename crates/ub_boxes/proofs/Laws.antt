@@ -17,6 +17,7 @@ use Rattle.ub_query.specs.Truth.{value_in}
 use Rattle.ub_table.specs.declared.row.Row.{Row}
 use Rattle.ub_table.specs.declared.schema.Schema.{Schema}
 use Rattle.ub_zaddr.specs.Address.{IsPoint}
+pub use Rattle.ub_boxes.proofs.GridFacts.{length-sides}
 
 pub boxes_are_apart : BoxesAreApart
 boxes_are_apart schema filter = elim (cases_Bool (is_wide schema filter)) [

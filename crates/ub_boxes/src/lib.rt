@@ -18,6 +18,3 @@ mod truths;
 pub use cover::{Cover, MAX_CELLS};
 pub use covering::boxes;
 pub use size::{points, total};
-
-#[cfg(test)]
-mod tests;

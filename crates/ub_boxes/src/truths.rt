@@ -6,10 +6,10 @@ use ub_query::Cond;
 use ub_table::Schema;
 
 // What a condition can be at a point.
-#[derive(Clone, Copy, PartialEq, Eq, Debug)]
-pub(crate) struct Truths {
-    pub(crate) can_be_true: bool,
-    pub(crate) can_be_false: bool,
+#[derive(Clone, Copy)]
+struct Truths {
+    can_be_true: bool,
+    can_be_false: bool,
 }
 
 impl Truths {
@@ -70,7 +70,7 @@ fn coordinate(schema: &Schema, point: &[u32], column: usize) -> Option<i128>
 }
 
 // What a condition can be at a point. Calls itself no deeper than the condition is high.
-pub(crate) fn can_be(condition: &Cond, schema: &Schema, point: &[u32]) -> Truths
+fn can_be(condition: &Cond, schema: &Schema, point: &[u32]) -> Truths
     requires { length point.now ≡ schema.now.dims }
     ensures { result ≡ spec.can_be schema.now point.now (shape condition.now) }
 {

@@ -10,8 +10,6 @@ pub mod host;
 pub mod medium;
 pub mod memory;
 pub mod store;
-#[cfg(test)]
-mod tests;
 
 pub use host::HostFile;
 pub use medium::{Medium, PAGE_BYTES};

@@ -25,7 +25,7 @@ impl<M: Medium> Model for FileStore<M> {
 }
 
 // Whether so many bytes are the pages of a store.
-pub(crate) fn is_store_size(length: u64) -> bool
+fn is_store_size(length: u64) -> bool
     ensures size { IsTrue result ↔ IsStoreSize length }
 {
     length % PAGE_BYTES == 0 && length / PAGE_BYTES <= u64::from(MAX_PAGES)

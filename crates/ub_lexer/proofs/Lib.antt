@@ -3,3 +3,4 @@ pub mod Rows
 pub mod Spans
 pub mod Unique
 pub mod Ranges
+pub mod Laws

@@ -46,18 +46,3 @@ pub fn statements(alloc: Global, tokens: &[Token]) -> Result<Vec<(usize, usize)>
     push_range(&mut ranges, from, tokens.len())?;
     Ok(ranges)
 }
-
-#[cfg(test)]
-mod tests {
-    use super::*;
-    use crate::lexer::lex;
-    use std::test::Fail;
-
-    #[test]
-    fn finds_statements(rt: HostRuntime) -> Result<(), Fail> {
-        let tokens = lex(rt.alloc(), b";;a;b c")?;
-        let ranges = statements(rt.alloc(), &tokens)?;
-        assert_eq!(rt; ranges.as_slice(), [(2, 3), (4, 6)].as_slice());
-        Ok(())
-    }
-}

@@ -9,7 +9,7 @@ use Rattle.ub_page.specs.declared.header.Header.{Header}
 use Rattle.ub_page.specs.declared.header.Numbers.{Numbers}
 use Rattle.ub_page.proofs.BytesFacts.{length-number_bytes, read_at, layout_read, length-layout, AllFit}
 use Rattle.ub_page.proofs.DraftFacts.{of_front}
-use Rattle.ub_table.proofs.NameFacts.{name_block, length-name}
+use Rattle.ub_table.proofs.Laws.{name_block, length-name}
 use Rattle.ub_table.specs.Block.{IsNameBlock}
 use Rattle.ub_table.specs.Name.{IsName}
 use Rattle.ub_table.specs.declared.fault.PageFault.TheVariants.{WrongKind, Unclean, BadCount, BadName, BadRow, BadOrder, OutOfRegion, BadPadding}

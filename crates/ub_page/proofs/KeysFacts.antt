@@ -2,7 +2,7 @@
 use Rattle.std.proofs.Common.{◌≡◌, ◌<◌, ◌↔◌, Bool, true, false, not, IsTrue, ℕ, List, [], ◌∷◌, length, get_or, refl, arith}
 use Rattle.std.specs.List.{AllByRecursion}
 use Rattle.ub_page.specs.Columns.{IsKeyNumbered}
-use Rattle.ub_table.proofs.KeyFacts.{before_trans}
+use Rattle.ub_table.proofs.Laws.{before_trans}
 use Rattle.ub_table.specs.Keys.{precedes, IsBefore, AreKeysAscending}
 use Rattle.ub_table.specs.Region.{keys_of, AreFrom, IsNumbered}
 use Rattle.ub_table.specs.declared.row.Key.{Key}

@@ -9,3 +9,4 @@ pub mod MaskFacts
 pub mod PlacesFacts
 pub mod RegionFacts
 pub mod SpelledFacts
+pub mod PageLaws

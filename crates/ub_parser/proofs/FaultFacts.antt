@@ -6,7 +6,7 @@ use Rattle.ub_syntax.specs.Grammar.{lexemes, IsStatement}
 use Rattle.ub_syntax.specs.Limits.{past_limits}
 use Rattle.ub_syntax.specs.Stop.{IsRefusedAt, IsTooDeepAt}
 use Rattle.ub_syntax.specs.Tree.{Select}
-use Rattle.ub_syntax.proofs.OneVerdict.{deep_alone, deep_no_statement}
+use Rattle.ub_syntax.proofs.Laws.{deep_alone, deep_no_statement}
 use Rattle.ub_parser.specs.Refusals.{IsFirst, IsTooLarge, IsMisfit, IsFault, IsFirstMisfit, IsFirstFault, rank}
 use Rattle.ub_parser.specs.declared.fault.SqlFault.{SqlFault}
 use Rattle.ub_parser.specs.declared.fault.SqlFault.TheVariants.{BadByte, Syntax, NumberTooLarge, TooDeep, TooMany, UnknownTable, UnknownColumn, NotGrouped, NotSelected, Memory}

@@ -10,7 +10,7 @@ use Rattle.ub_syntax.specs.Tree.{Select}
 use Rattle.ub_syntax.specs.declared.syntax.Item.{Item}
 use Rattle.ub_syntax.specs.declared.syntax.Selection.{Selection}
 use Rattle.ub_syntax.specs.declared.syntax.Selection.TheVariants.{All as Star, Listed}
-use Rattle.ub_syntax.proofs.OneVerdict.{one_refusal, one_depth}
+use Rattle.ub_syntax.proofs.Laws.{one_refusal, one_depth}
 use Rattle.ub_parser.specs.Known.{IsUnknown}
 use Rattle.ub_parser.specs.Refusals.{IsFirst, IsFault, IsFirstFault, IsMisfit, IsNotGrouped, IsTooLarge, IsUngrouped, IsUnselected, names, rank}
 use Rattle.ub_parser.specs.declared.fault.SqlFault.{SqlFault}

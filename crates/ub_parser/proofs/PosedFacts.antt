@@ -10,7 +10,7 @@ use Rattle.std.specs.Option.{option_map}
 use Rattle.std.specs.Str.{bytes_eq}
 use Rattle.ub_lexer.specs.Tokens.{text_of}
 use Rattle.ub_lexer.specs.declared.token.Token.{Token}
-use Rattle.ub_query.proofs.GroupFacts.{contains_map, contains_from_map}
+use Rattle.ub_query.proofs.Laws.{contains_map, contains_from_map}
 use Rattle.ub_query.specs.Posed.{IsOver, IsLiteral, AreLiterals, IsPosedCondition, IsPosed, IsGroupQuery, IsGrouped, greatest_number, nesting, comparisons as count, IsAggregate as IsTaken}
 use Rattle.ub_query.specs.contracts.query.ItemPartialEq.TheImpl.{eq-value}
 use Rattle.ub_query.specs.declared.query.Item.{Item as Asked}

@@ -41,32 +41,3 @@ fn is_too_large(source: &[u8], token: &Token) -> bool
 {
     token.kind == TokenKind::Number && number(source, token).is_none()
 }
-
-#[cfg(test)]
-mod tests {
-    use super::*;
-    use std::alloc::Global;
-    use std::test::Fail;
-    use ub_lexer::lex;
-
-    // What is told of the bytes and of the numbers of a source.
-    fn told(alloc: Global, source: &[u8]) -> Result<(Option<SqlFault>, Option<SqlFault>), Fail> {
-        let tokens = lex(alloc, source)?;
-        Ok((bad_byte(&tokens), number_too_large(source, &tokens)))
-    }
-
-    #[test]
-    fn tells_the_first(rt: HostRuntime) -> Result<(), Fail> {
-        let (byte, number) = told(
-            rt.alloc(),
-            b"x ? 18446744073709551615 ? 018446744073709551616 99999999999999999999",
-        )?;
-        assert_eq!(rt; byte, Some(SqlFault::BadByte { at: 2 }));
-        assert_eq!(rt; number, Some(SqlFault::NumberTooLarge { at: 27 }));
-        assert_eq!(rt;
-            told(rt.alloc(), b"x <= -18446744073709551615")?,
-            (None, None)
-        );
-        Ok(())
-    }
-}

@@ -9,10 +9,9 @@ use Rattle.ub_plan.proofs.FoundFacts.{meeting_of}
 use Rattle.ub_plan.proofs.ThoseFacts.{those_one, those_have, Rising-those}
 use Rattle.ub_plan.proofs.ValueFacts.{event_value, one_value}
 use Rattle.ub_plan.specs.Visits.{Span, Meets, Event, IsAlong, IsEventBefore, IsEventValue, AreEvents, spans_of, spans_up_to}
-use Rattle.ub_query.proofs.Arranging.{Rising, Rising-map, Rising-both, Rising-from_adjacent, Rising-one, all_permutation, an_arrangement}
-use Rattle.ub_query.proofs.GroupFacts.{contains_map, contains_from_map}
+use Rattle.ub_query.proofs.Laws.{Rising, Rising-map, Rising-both, Rising-from_adjacent, Rising-one, all_permutation, an_arrangement, contains_map, contains_from_map}
 use Rattle.ub_region.specs.Regions.{AreRegions, firsts_of}
-use Rattle.ub_table.proofs.KeyFacts.{before_trans, not_before_self}
+use Rattle.ub_table.proofs.Laws.{before_trans, not_before_self}
 use Rattle.ub_table.specs.Keys.{IsBefore, AreKeysAscending}
 use Rattle.ub_table.specs.Region.{Region}
 use Rattle.ub_table.specs.declared.schema.Schema.{Schema}

@@ -3,8 +3,9 @@ use Rattle.std.proofs.Common.{◌≡◌, ◌≤◌, ◌<◌, ◌+◌, ◌-◌, n
 use Rattle.std.proofs.lemmas.Bool.{cases_Bool, cases_lt, eqb-true, eqb-false}
 use Rattle.ub_bigmin.specs.Box.{Corners, IsInside, IsValueInSpan}
 use Rattle.ub_plan.proofs.InsideFacts.{at_each}
-use Rattle.ub_plan.specs.Visits.{Span, Meets, AreThose, AreMeeting, spans_of}
-use Rattle.ub_query.proofs.Arranging.{contains_here, contains_later, contains_cases, contains_none}
+use Rattle.ub_plan.specs.Visits.{Span, Meets, AreMeeting, spans_of}
+use Rattle.ub_region.specs.Those.{AreThose}
+use Rattle.ub_query.proofs.Laws.{contains_here, contains_later, contains_cases, contains_none}
 use Rattle.ub_table.specs.Region.{Region}
 use Rattle.ub_table.specs.declared.schema.Schema.{Schema}
 use Rattle.ub_zaddr.specs.Address.{IsAtMost, address}

@@ -5,7 +5,7 @@ use Rattle.std.specs.List.{list_any}
 use Rattle.ub_bigmin.specs.Box.{Corners, IsInside}
 use Rattle.ub_boxes.specs.Laws.{IsInSome}
 use Rattle.ub_plan.specs.Plan.{are_at_most, is_inside}
-use Rattle.ub_query.proofs.Arranging.{contains_here, contains_later, contains_cases, contains_none}
+use Rattle.ub_query.proofs.Laws.{contains_here, contains_later, contains_cases, contains_none}
 use Rattle.ub_zaddr.specs.Address.{IsAtMost}
 
 pub at_each : (x y : ℕ) (xs ys : List ℕ) → x ≤ y → ((i : ℕ) → i < length xs → slice_index xs i ≤ slice_index ys i)

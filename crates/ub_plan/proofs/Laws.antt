@@ -1,10 +1,8 @@
 -- The laws of plans, as specs/Laws.antt states them.
 use Rattle.std.proofs.Common.{◌≡◌, ◌∙◌, ℕ, List, length, ap, refl, sym, subst}
 use Rattle.ub_plan.proofs.EventFacts.{events_one}
-use Rattle.ub_plan.proofs.FoundFacts.{meeting_of}
 use Rattle.ub_plan.proofs.MeaningFacts.{zero_means_none, none_means_zero}
 use Rattle.ub_plan.proofs.SideFacts.{each_dimension}
-use Rattle.ub_plan.proofs.SpanFacts.{rows_are_points}
 use Rattle.ub_plan.proofs.SweepFacts.{visits_of, visits_one}
 use Rattle.ub_plan.proofs.TakeFacts.{row_is_taken}
 use Rattle.ub_plan.proofs.ThoseFacts.{those_one}
@@ -15,7 +13,13 @@ use Rattle.ub_plan.specs.Plan.{kind_of, plan_of}
 use Rattle.ub_plan.specs.Visits.{Span, Meets, spans_of}
 use Rattle.ub_query.specs.Meaning.{IsMeaning}
 use Rattle.ub_query.specs.declared.cell.Cell.{Cell}
-use Rattle.ub_region.proofs.ChainFacts.{chain_of}
+use Rattle.ub_region.proofs.Laws.{chain_of}
+pub use Rattle.ub_plan.proofs.FoundFacts.{meeting_of}
+pub use Rattle.ub_plan.proofs.InsideFacts.{from_in_some, in_some}
+pub use Rattle.ub_plan.proofs.SpanFacts.{of_some_span, of_span, rows_are_points}
+pub use Rattle.ub_plan.proofs.SweepFacts.{arranged_of}
+pub use Rattle.ub_plan.proofs.ThoseFacts.{Rising-those, filter_none, parts_back}
+pub use Rattle.ub_plan.proofs.VisitFacts.{Differ, rows_differ}
 
 pub selected_rows_are_met : SelectedRowsAreMet
 selected_rows_are_met schema q next regions meeting row limit are those c t = row_is_met schema q next regions meeting row limit are those c t

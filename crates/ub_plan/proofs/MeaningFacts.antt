@@ -1,7 +1,6 @@
 -- What a query means depends on its selected rows alone.
 use Rattle.std.proofs.Common.{◌≡◌, ◌<◌, ℕ, List, [], ◌∷◌, map, Option, Some, None, Contains, inl, inr, refl, ap, ◌∙◌, subst}
-use Rattle.ub_query.proofs.Arranging.{Rising-one}
-use Rattle.ub_query.proofs.Laws.{rows-rising, numbers-never, numbers-chain, queries_have_a_meaning}
+use Rattle.ub_query.proofs.Laws.{Rising-one, rows-rising, numbers-never, numbers-chain, queries_have_a_meaning}
 use Rattle.ub_query.specs.Cells.{Group, row_cell, group_cell}
 use Rattle.ub_query.specs.Groups.{selected, AreGroups}
 use Rattle.ub_query.specs.Meaning.{IsMeaning, limited}

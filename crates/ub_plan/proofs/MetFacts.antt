@@ -9,14 +9,15 @@ use Rattle.std.specs.Option.{is_some}
 use Rattle.ub_bigmin.specs.Box.{Corners}
 use Rattle.ub_plan.specs.Explained.{AreMet}
 use Rattle.ub_plan.specs.Visits as plan
-use Rattle.ub_plan.specs.Visits.{AreThose, spans_up_to}
-use Rattle.ub_region.proofs.KeyLists.{are_ascending_of}
+use Rattle.ub_plan.specs.Visits.{spans_up_to}
+use Rattle.ub_region.specs.Those.{AreThose}
+use Rattle.ub_region.proofs.Laws.{are_ascending_of}
 use Rattle.ub_region.specs.Regions.{firsts_of}
 use Rattle.ub_region.specs.Spans.{span_end}
-use Rattle.ub_table.proofs.KeyFacts.{before_of, not_both_before, not_before_self, ascending_get}
+use Rattle.ub_table.proofs.Laws.{before_of, not_both_before, not_before_self, ascending_get}
 use Rattle.ub_table.specs.Keys.{IsBefore, are_ascending}
 use Rattle.ub_table.specs.declared.row.Key.{Key}
-use Rattle.ub_tree.proofs.SeekFacts.{region_first}
+use Rattle.ub_tree.proofs.Laws.{region_first}
 use Rattle.ub_tree.specs.Placed.{Placed, regions_in, entry_of}
 use Rattle.ub_tree.specs.Spans.{first_keys, regions_of, IsLater, Meets, First}
 use Rattle.ub_tree.specs.View.{TreeView, IsSound, regions, spans_of}

@@ -5,7 +5,7 @@ use Rattle.std.proofs.lemmas.List.{length-replicate}
 use Rattle.std.proofs.lemmas.List.Elements.{Contains-append_cases}
 use Rattle.std.specs.List.{flat_map}
 use Rattle.ub_bigmin.specs.Box.{Corners}
-use Rattle.ub_boxes.proofs.GridFacts.{length-sides}
+use Rattle.ub_boxes.proofs.Laws.{length-sides}
 use Rattle.ub_boxes.specs.Boxes.{beside, boxes_of, boxes_on, cover_of, is_wide, nowhere, runs, space}
 use Rattle.ub_boxes.specs.Cuts.{greatest}
 use Rattle.ub_boxes.specs.Grid.{grid}
@@ -14,8 +14,7 @@ use Rattle.ub_plan.specs.Explained.{sides}
 use Rattle.ub_plan.specs.Plan.{kept_by, kind_of, plan_of}
 use Rattle.ub_plan.specs.declared.planned.Kind.{Kind}
 use Rattle.ub_plan.specs.declared.planned.Kind.TheVariants.{Empty, Scan, Sweep}
-use Rattle.ub_query.proofs.Arranging.{contains_here, contains_later, contains_cases, contains_none}
-use Rattle.ub_query.proofs.GroupFacts.{contains_from_map}
+use Rattle.ub_query.proofs.Laws.{contains_here, contains_later, contains_cases, contains_none, contains_from_map}
 use Rattle.ub_query.specs.Shape.{Shape, Asked}
 use Rattle.ub_table.specs.declared.schema.Schema.{Schema}
 

@@ -4,12 +4,11 @@ use Rattle.std.proofs.lemmas.Bool.{cases_lt}
 use Rattle.std.proofs.lemmas.List.{length-take-le}
 use Rattle.std.proofs.lemmas.List.Elements.{All-take, Contains-append_cases, Contains-append_left, Contains-append_right}
 use Rattle.ub_plan.specs.Visits.{Span, spans_up_to}
-use Rattle.ub_query.proofs.Arranging.{all_at, contains_here, contains_later, contains_cases, contains_none}
-use Rattle.ub_region.proofs.ChainFacts.{IsBelow, IsChain, row_first}
-use Rattle.ub_region.proofs.RowFacts.{all_of_keys}
+use Rattle.ub_query.proofs.Laws.{all_at, contains_here, contains_later, contains_cases, contains_none}
+use Rattle.ub_region.proofs.Laws.{IsBelow, IsChain, row_first, all_of_keys}
 use Rattle.ub_region.specs.Regions.{firsts_of, rows_of}
 use Rattle.ub_region.specs.Spans.{address_before, span_end}
-use Rattle.ub_table.proofs.KeyFacts.{before_from, before_parts}
+use Rattle.ub_table.proofs.Laws.{before_from, before_parts}
 use Rattle.ub_table.specs.Keys.{IsBefore}
 use Rattle.ub_table.specs.Region.{Region, IsRow, key_of, measures_of}
 use Rattle.ub_table.specs.declared.row.Key.{Key}

@@ -8,9 +8,7 @@ use Rattle.ub_plan.specs.Plan.{PlanView}
 use Rattle.ub_plan.specs.Visits.{Span, Event, Meets, AreArranged, AreSweepVisits, AreVisitsBy, coordinates, reached, selected_rows, spans_of}
 use Rattle.ub_plan.specs.declared.planned.Kind.{Kind}
 use Rattle.ub_plan.specs.declared.planned.Kind.TheVariants.{Empty, Scan, Sweep}
-use Rattle.ub_query.proofs.Arranging.{Rising-both, Rising-filter, all_from_contains, an_arrangement}
-use Rattle.ub_query.proofs.Laws.{numbers-chain, rows_have_one_arrangement}
-use Rattle.ub_query.proofs.OrderFacts.{AreAlike, before-chain, before-sides}
+use Rattle.ub_query.proofs.Laws.{Rising-both, Rising-filter, all_from_contains, an_arrangement, numbers-chain, rows_have_one_arrangement, AreAlike, before-chain, before-sides}
 use Rattle.ub_query.specs.Cells.{row_cell}
 use Rattle.ub_query.specs.Groups.{is_selected}
 use Rattle.ub_query.specs.Meaning.{limited}

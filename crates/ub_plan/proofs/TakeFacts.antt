@@ -11,13 +11,13 @@ use Rattle.ub_plan.specs.Plan.{PlanView, gives_groups, kind_asked, kind_by, kind
 use Rattle.ub_plan.specs.Visits.{Span, Meets, spans_of}
 use Rattle.ub_plan.specs.declared.planned.Kind.{Kind}
 use Rattle.ub_plan.specs.declared.planned.Kind.TheVariants.{Empty, Scan, Sweep}
-use Rattle.ub_query.proofs.Arranging.{contains_none}
+use Rattle.ub_query.proofs.Laws.{contains_none}
 use Rattle.ub_query.specs.Groups.{is_selected}
 use Rattle.ub_query.specs.Shape.{Shape, Asked}
 use Rattle.ub_query.specs.declared.query.Item.{Item}
 use Rattle.ub_query.specs.declared.query.Item.TheVariants.{Column, Count, Aggregate}
 use Rattle.ub_query.specs.declared.query.SortKey.{SortKey}
-use Rattle.ub_region.proofs.ChainFacts.{IsChain}
+use Rattle.ub_region.proofs.Laws.{IsChain}
 use Rattle.ub_table.specs.Region.{Region}
 use Rattle.ub_table.specs.declared.row.Row.{Row}
 use Rattle.ub_table.specs.declared.schema.Schema.{Schema}

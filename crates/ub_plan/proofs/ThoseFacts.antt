@@ -3,8 +3,8 @@ use Rattle.std.proofs.Common.{◌≡◌, List, [], ◌∷◌, ◌++◌, Bool, tr
 use Rattle.std.proofs.lemmas.Bool.{cases_Bool}
 use Rattle.std.proofs.lemmas.List.Elements.{filter-append, Contains-append_cases, Contains-append_left, Contains-append_right}
 use Rattle.std.specs.List.{AllByRecursion, flat_map}
-use Rattle.ub_plan.specs.Visits.{AreThose}
-use Rattle.ub_query.proofs.Arranging.{Rising, contains_here, contains_later, contains_none}
+use Rattle.ub_region.specs.Those.{AreThose}
+use Rattle.ub_query.proofs.Laws.{Rising, contains_here, contains_later, contains_none}
 
 -- there is only one list of them
 pub those_one : {E : Type 0} (P : E → Type 0) (xs us vs : List E) → AreThose P xs us → AreThose P xs vs → us ≡ vs

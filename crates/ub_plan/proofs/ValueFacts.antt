@@ -5,7 +5,7 @@ use Rattle.std.proofs.lemmas.Bool.{cases_lt}
 use Rattle.ub_bigmin.specs.Box.{Corners, IsValueInSpan}
 use Rattle.ub_plan.proofs.FoundFacts.{value_or_not}
 use Rattle.ub_plan.specs.Visits.{Span, Meets, IsEventValue}
-use Rattle.ub_query.proofs.Arranging.{contains_cases, contains_none}
+use Rattle.ub_query.proofs.Laws.{contains_cases, contains_none}
 use Rattle.ub_zaddr.specs.Address.{IsAtMost}
 
 -- ---- least and greatest

@@ -10,12 +10,10 @@ use Rattle.ub_plan.proofs.TakeFacts.{row_is_taken, row_meets}
 use Rattle.ub_plan.proofs.ThoseFacts.{filter_none, filter_same, parts_among, parts_back, those_parts}
 use Rattle.ub_plan.specs.Plan.{plan_of, takes}
 use Rattle.ub_plan.specs.Visits.{Span, Meets, AreMeeting, fetched_rows, selected_rows, spans_of, spans_up_to}
-use Rattle.ub_query.proofs.Arranging.{Rising, Rising-filter, Rising-from_adjacent, Rising-one, an_arrangement}
-use Rattle.ub_query.proofs.GroupFacts.{contains_filter, contains_from_filter}
-use Rattle.ub_query.proofs.Laws.{rows-rising, numbers-never, numbers-chain, selected_are_in_order}
+use Rattle.ub_query.proofs.Laws.{Rising, Rising-filter, Rising-from_adjacent, Rising-one, an_arrangement, contains_filter, contains_from_filter, rows-rising, numbers-never, numbers-chain, selected_are_in_order}
 use Rattle.ub_query.specs.Groups.{is_selected, selected}
 use Rattle.ub_query.specs.Shape.{Asked}
-use Rattle.ub_region.proofs.ChainFacts.{chain_of}
+use Rattle.ub_region.proofs.Laws.{chain_of}
 use Rattle.ub_region.specs.Regions.{AreRegions, AreTableRows, rows_of}
 use Rattle.ub_table.specs.Region.{Region}
 use Rattle.ub_table.specs.Table.{IsInOrder}

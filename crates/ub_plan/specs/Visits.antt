@@ -12,6 +12,7 @@ use Rattle.ub_query.specs.Groups.{is_selected}
 use Rattle.ub_query.specs.Meaning.{limited}
 use Rattle.ub_query.specs.Order.{IsArrangement, IsRowBefore}
 use Rattle.ub_region.specs.Regions.{firsts_of, rows_of}
+use Rattle.ub_region.specs.Those.{AreThose}
 use Rattle.ub_region.specs.Spans.{span_end}
 use Rattle.ub_table.specs.Keys.{IsBefore}
 use Rattle.ub_table.specs.Region.{Region}
@@ -38,12 +39,6 @@ spans_of schema regions = spans_up_to (last_address schema.dims) regions
 -- some address from one to another lies in one of the boxes
 abbrev pub Meets : List Corners → ℕ → ℕ → Type 0
 Meets boxes from to = (z : ℕ) × HoldsAny boxes z × (from ≤ z) × (z ≤ to)
-
--- the elements of a list that have a property, in their order
-abbrev pub AreThose : {E : Type 0} → (E → Type 0) → List E → List E → Type 0
-AreThose P [] those = those ≡ []
-AreThose P (x ∷ xs) those =
-    (P x × (rest : List _) × (those ≡ x ∷ rest) × AreThose P xs rest) ⊎ ((¬ (P x)) × AreThose P xs those)
 
 -- the regions that meet some boxes, in the order of their first keys, each once
 abbrev pub AreMeeting : Schema → List Corners → List Region → List Span → Type 0

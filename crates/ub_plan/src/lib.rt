@@ -19,8 +19,3 @@ pub use planning::plan;
 pub use ub_bigmin::ZBox;
 pub use ub_query::{Cond, Query};
 pub use ub_table::Schema;
-
-#[cfg(test)]
-mod explain_tests;
-#[cfg(test)]
-mod tests;

@@ -6,9 +6,9 @@ use Rattle.std.proofs.lemmas.Int.{ints, fold-int_min_bounds, fold-int_min_reache
 use Rattle.std.proofs.lemmas.List.Elements.{All-cons}
 use Rattle.std.proofs.lemmas.List.Kept.{AllPairs-from_increasing}
 use Rattle.std.proofs.lemmas.List.Sorted.{IsPermutation-refl}
-use Rattle.ub_query.proofs.Arranging.{Rising, Rising-from_pairs, Rising-filter, Rising-map, Rising-mapped, adjacent-from_Rising, Rising-both, one_arrangement, an_arrangement, contains_here, contains_later, contains_cases, contains_none}
-use Rattle.ub_query.proofs.GroupFacts.{some_groups, same_groups, whole_groups, cells-alike, IsWhole}
-use Rattle.ub_query.proofs.OrderFacts.{AreAlike, before-never, before-chain, before-sides, lists-never, lists-chain, lists-sides}
+use Rattle.ub_query.proofs.Arranging.{one_arrangement}
+use Rattle.ub_query.proofs.GroupFacts.{some_groups, same_groups}
+use Rattle.ub_query.proofs.OrderFacts.{lists-never, lists-chain, lists-sides}
 use Rattle.ub_query.specs.Cells.{Group, row_cell, group_cell}
 use Rattle.ub_query.specs.Groups.{selected, is_selected}
 use Rattle.ub_query.specs.Laws.{PosedIsLow, MinIsLeast, MaxIsGreatest, RowsHaveAnArrangement, RowsHaveOneArrangement, SelectedAreInOrder, RowsInOrderAreArranged, RowsFallIntoGroups, GroupsHaveAnArrangement, GroupsHaveOneArrangement, PlainQueriesMean, QueriesHaveAMeaning, QueriesHaveOneMeaning}
@@ -23,6 +23,9 @@ use Rattle.ub_query.specs.declared.query.SortKey.{SortKey}
 use Rattle.ub_table.specs.Table.{Table, IsInOrder}
 use Rattle.ub_table.specs.declared.row.Row.{Row}
 use Rattle.ub_table.specs.declared.schema.Schema.{Schema}
+pub use Rattle.ub_query.proofs.Arranging.{Rising, Rising-both, Rising-filter, Rising-from_adjacent, Rising-from_pairs, Rising-map, Rising-mapped, Rising-one, adjacent-from_Rising, all_at, all_from_contains, all_permutation, all_weaker, an_arrangement, contains_cases, contains_here, contains_later, contains_none}
+pub use Rattle.ub_query.proofs.GroupFacts.{IsWhole, are_same-itself, are_same-true, cells-alike, contains_filter, contains_from_filter, contains_from_map, contains_map, grouping_from, whole_groups}
+pub use Rattle.ub_query.proofs.OrderFacts.{AreAlike, before-chain, before-never, before-sides}
 
 -- each AND and each OR on the way to a comparison has a comparison more on its other side
 height-le : (c : Shape) → (1 ≤ comparisons c) × (height c ≤ comparisons c + nesting c)

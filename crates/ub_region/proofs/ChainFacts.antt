@@ -7,7 +7,7 @@ use Rattle.ub_table.specs.Region.{Region, IsRegion, IsRow, IsFirst, key_of, keys
 use Rattle.ub_table.specs.declared.row.Key.{Key}
 use Rattle.ub_table.specs.declared.row.Row.{Row}
 use Rattle.ub_table.specs.declared.schema.Schema.{Schema}
-use Rattle.ub_zaddr.proofs.AddressFacts.{address-le}
+use Rattle.ub_zaddr.proofs.Laws.{address-le}
 use Rattle.ub_region.specs.Regions.{firsts_of, rows_of, AreApart}
 
 -- a region is before those that follow, if there are any

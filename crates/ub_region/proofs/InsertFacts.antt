@@ -7,7 +7,7 @@ use Rattle.std.proofs.lemmas.List.Sorted.{IsPermutation-sym, IsPermutation-trans
 use Rattle.std.proofs.lemmas.Map.Keys.{IsDistinct-IsPermutation, IsDistinct-cons}
 use Rattle.std.specs.List.{AllByRecursion}
 use Rattle.std.specs.List.Sorted.{IsPermutation}
-use Rattle.ub_table.proofs.KeyFacts.{before_from, before_parts, before_of, precedes_of, not_before_self, not_before_origin}
+use Rattle.ub_table.proofs.Laws.{before_from, before_parts, before_of, precedes_of, not_before_self, not_before_origin}
 use Rattle.ub_table.specs.Keys.{IsBefore, AreKeysAscending, origin, precedes}
 use Rattle.ub_table.specs.Region.{Region, IsRegion, IsRow, IsFirst, AreFrom, key_of, keys_of, measures_of}
 use Rattle.ub_table.specs.declared.row.Key.{Key}

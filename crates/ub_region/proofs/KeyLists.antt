@@ -3,7 +3,7 @@ use Rattle.std.proofs.Common.{◌≡◌, ◌≢◌, ◌<◌, ◌⊎◌, inl, inr
 use Rattle.std.proofs.lemmas.Bool.{cases_lt, cases_Bool, and_parts, and_from}
 use Rattle.std.proofs.lemmas.List.Elements.{All-from_recursion}
 use Rattle.std.specs.List.{AllByRecursion}
-use Rattle.ub_table.proofs.KeyFacts.{before_from, before_of, precedes_of, before_trans, not_both_before, not_before_self}
+use Rattle.ub_table.proofs.Laws.{before_from, before_of, precedes_of, before_trans, not_both_before, not_before_self}
 use Rattle.ub_table.specs.Keys.{IsBefore, AreKeysAscending, precedes, are_ascending}
 use Rattle.ub_table.specs.declared.row.Key.{Key}
 

@@ -7,7 +7,7 @@ use Rattle.std.proofs.lemmas.List.Sorted.{IsPermutation-trans, IsPermutation-mid
 use Rattle.std.proofs.lemmas.Map.Keys.{IsDistinct-IsPermutation, IsDistinct-tail}
 use Rattle.std.specs.List.{AllByRecursion}
 use Rattle.std.specs.List.Sorted.{IsPermutation}
-use Rattle.ub_table.proofs.KeyFacts.{before_of, precedes_of, before_trans}
+use Rattle.ub_table.proofs.Laws.{before_of, precedes_of, before_trans}
 use Rattle.ub_table.specs.Keys.{IsBefore, precedes, is_same}
 use Rattle.ub_table.specs.Region.{Region, IsRegion, IsRow, key_of, keys_of, measures_of}
 use Rattle.ub_table.specs.declared.row.Key.{Key}

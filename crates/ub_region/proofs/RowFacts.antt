@@ -4,7 +4,7 @@ use Rattle.std.proofs.lemmas.Bool.{cases_Bool}
 use Rattle.std.proofs.lemmas.List.Sorted.{IsPermutation-refl, IsPermutation-cons, IsPermutation-trans, IsPermutation-middle}
 use Rattle.std.specs.List.{AllByRecursion}
 use Rattle.std.specs.List.Sorted.{IsPermutation}
-use Rattle.ub_table.proofs.KeyFacts.{before_of, precedes_of}
+use Rattle.ub_table.proofs.Laws.{before_of, precedes_of}
 use Rattle.ub_table.specs.Keys.{IsBefore, AreKeysAscending, precedes, is_same}
 use Rattle.ub_table.specs.Region.{key_of, keys_of}
 use Rattle.ub_table.specs.declared.row.Key.{Key}

@@ -7,7 +7,7 @@ use Rattle.ub_region.proofs.KeyLists.{all_both, all_more}
 use Rattle.ub_region.proofs.RowFacts.{all_of_keys}
 use Rattle.ub_region.specs.Regions.{firsts_of}
 use Rattle.ub_region.specs.Spans.{address_before, span_end}
-use Rattle.ub_table.proofs.KeyFacts.{before_from, before_parts}
+use Rattle.ub_table.proofs.Laws.{before_from, before_parts}
 use Rattle.ub_table.specs.Keys.{IsBefore}
 use Rattle.ub_table.specs.Region.{Region, IsRegion, IsRow, key_of, measures_of}
 use Rattle.ub_table.specs.declared.row.Key.{Key}

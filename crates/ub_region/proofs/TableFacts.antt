@@ -9,7 +9,7 @@ use Rattle.std.proofs.lemmas.Map.Keys.{IsDistinct-IsPermutation, IsDistinct-head
 use Rattle.std.proofs.Math.Seq.{get_or-append_seam}
 use Rattle.std.specs.List.{All, AllByRecursion, Contains}
 use Rattle.std.specs.List.Sorted.{IsStrictlyIncreasing}
-use Rattle.ub_bigmin.proofs.EventFacts.{contains_one, one_contains}
+use Rattle.ub_bigmin.proofs.BoxLaws.{contains_one, one_contains}
 use Rattle.ub_table.specs.Region.{Region, IsRow, measures_of}
 use Rattle.ub_table.specs.declared.row.Key.{Key}
 use Rattle.ub_table.specs.declared.row.Row.{Row}

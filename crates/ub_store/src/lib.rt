@@ -12,8 +12,6 @@ pub mod faulty;
 pub mod memory;
 pub mod pager;
 pub mod store;
-#[cfg(test)]
-mod tests;
 
 pub use fault::{Rejected, StoreFault};
 pub use faulty::FaultyStore;

@@ -16,3 +16,4 @@ pub mod Verdicts
 pub mod Marking
 pub mod Counting
 pub mod OneVerdict
+pub mod Laws

@@ -2,3 +2,4 @@ pub mod DistinctFacts
 pub mod KeyFacts
 pub mod NameFacts
 pub mod SchemaFacts
+pub mod Laws

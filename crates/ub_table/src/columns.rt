@@ -74,22 +74,3 @@ impl Columns {
         &self.names[..self.len]
     }
 }
-
-#[cfg(test)]
-mod tests {
-    use super::*;
-    use std::test::Fail;
-
-    #[test]
-    fn holds_columns_in_order(rt: HostRuntime) -> Result<(), Fail> {
-        let x = Name::new(b"x")?;
-        let y = Name::new(b"y")?;
-        let mut columns = Columns::new(x);
-        assert!(rt; columns.len() < MAX_COLUMNS);
-        columns.push(y);
-        assert_eq!(rt; columns.len(), 2);
-        assert!(rt; columns.as_slice() == [x, y].as_slice());
-        assert!(rt; Columns::from_slice(&[x, y]).as_slice() == columns.as_slice());
-        Ok(())
-    }
-}

@@ -126,32 +126,3 @@ fn padded(text: &[u8]) -> [u8; MAX_NAME_LEN]
     bytes[..text.len()].copy_from_slice(text);
     bytes
 }
-
-#[cfg(test)]
-mod tests {
-    use super::*;
-
-    fn keeps(text: &str) -> bool {
-        match Name::new(text.as_bytes()) {
-            Ok(name) => name.bytes() == text.as_bytes(),
-            Err(_) => false,
-        }
-    }
-
-    #[test]
-    fn takes_names(rt: HostRuntime) {
-        for text in ["t", "_a9", "selects", "abcdefghijklmnopqrstuvwxyz_01234"] {
-            assert!(rt; keeps(text), "{text}");
-        }
-    }
-
-    #[test]
-    fn refuses_other_texts(rt: HostRuntime) {
-        for text in ["", "9a", "a-b", "abcdefghijklmnopqrstuvwxyz_012345"] {
-            assert!(rt; !keeps(text), "{text}");
-        }
-        for text in ["select", "SeLeCt", "values", "BY"] {
-            assert!(rt; is_keyword(text.as_bytes()) && !keeps(text), "{text}");
-        }
-    }
-}

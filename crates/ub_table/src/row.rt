@@ -69,28 +69,3 @@ impl Key {
         self.z < other.z || (self.z == other.z && self.number < other.number)
     }
 }
-
-#[cfg(test)]
-mod tests {
-    use super::*;
-
-    #[test]
-    fn orders_keys_and_reads_columns(rt: HostRuntime) {
-        let low = Key { z: 1, number: 9 };
-        let high = Key {
-            z: 1 << 100,
-            number: 1,
-        };
-        assert!(rt; low.is_before(&high) && !high.is_before(&low));
-        assert!(rt; Key { z: 1, number: 8 }.is_before(&low) && !low.is_before(&low));
-        let row = Row {
-            number: 1,
-            dims: [3, 4, 0, 0],
-            measures: [-5, 6, 0, 0],
-        };
-        assert_eq!(rt; row.column_value(2, 0), 3);
-        assert_eq!(rt; row.column_value(2, 1), 4);
-        assert_eq!(rt; row.column_value(2, 2), -5);
-        assert_eq!(rt; row.column_value(2, 3), 6);
-    }
-}

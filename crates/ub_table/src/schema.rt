@@ -138,34 +138,3 @@ fn are_distinct(columns: &[Name]) -> bool
     }
     true
 }
-
-#[cfg(test)]
-mod tests {
-    use super::*;
-    use std::test::Fail;
-
-    #[test]
-    fn takes_schemas(rt: HostRuntime) -> Result<(), Fail> {
-        let columns = [Name::new(b"x")?, Name::new(b"y")?, Name::new(b"m")?];
-        let schema = Schema::new(Name::new(b"t")?, &columns, 2, 2)?;
-        assert!(rt; schema.name().bytes() == b"t".as_slice());
-        assert!(rt; schema.columns() == columns.as_slice());
-        assert_eq!(rt;
-            (schema.dims(), schema.measures(), schema.page_rows()),
-            (2, 1, 2)
-        );
-        Ok(())
-    }
-
-    fn fault_of(columns: &[Name], dims: u32, page_rows: u32) -> Option<PageFault> {
-        Schema::new(*columns.first()?, columns, dims, page_rows).err()
-    }
-
-    #[test]
-    fn refuses_counts_before_names(rt: HostRuntime) -> Result<(), Fail> {
-        let x = Name::new(b"x")?;
-        assert!(rt; fault_of(&[x, x], 2, 65) == Some(PageFault::BadCount));
-        assert!(rt; fault_of(&[x, x], 2, 64) == Some(PageFault::BadName));
-        Ok(())
-    }
-}

@@ -4,3 +4,4 @@ mod Linear
 mod MovedFacts
 mod SpreadFacts
 mod TurnFacts
+pub mod Laws

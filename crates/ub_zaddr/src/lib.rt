@@ -11,8 +11,6 @@ mod point;
 mod shape;
 mod spacing;
 mod tables;
-#[cfg(test)]
-mod tests;
 
 pub use address::{interleave, last, spread};
 pub use fault::ZFault;

@@ -1,20 +1,8 @@
 // Regions that are written and read, and pages that are refused.
+use crate::samples::{plane, row};
 use std::test::Fail;
 use ub_page::{Page, RegionPage, write_region};
 use ub_table::{Key, Name, PageFault, Row, Schema};
-
-fn plane() -> Result<Schema, PageFault> {
-    let columns = [Name::new(b"x")?, Name::new(b"y")?, Name::new(b"m")?];
-    Schema::new(Name::new(b"t")?, &columns, 2, 2)
-}
-
-fn row(number: u32, x: u32, y: u32, m: i64) -> Row {
-    Row {
-        number,
-        dims: [x, y, 0, 0],
-        measures: [m, 0, 0, 0],
-    }
-}
 
 // Two rows from the address 0 on.
 fn low_page() -> Page {

@@ -1,8 +1,10 @@
+// The addresses of boxes that are nearest to one, the coordinates that boxes have within a span, and one way of a jump beside
+// the other.
 ghost use Rattle.std.specs.Prelude.{◌≡◌, ◌<◌, length, IfOk};
 
-use crate::laws::{next_by_bits, next_by_words, prev_by_bits, prev_by_words};
-use crate::{ZBox, greatest_value, least_value, next_in_any};
 use std::test::Fail;
+use ub_bigmin::laws::{next_by_bits, next_by_words, prev_by_bits, prev_by_words};
+use ub_bigmin::{ZBox, greatest_value, least_value, next_in_any};
 use ub_zaddr::{Point, Shape, ZFault, interleave};
 
 // The box of two dimensions between two corners.

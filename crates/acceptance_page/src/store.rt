@@ -5,15 +5,10 @@ ghost use Rattle.std.specs.Prelude.{◌≡◌, ◌≢◌, ◌<◌, [], Err, Some
 ghost use Rattle.ub_store.specs.Facts.{memory_facts, IsHonest};
 ghost use Rattle.ub_store.specs.Faulty.{faulty_facts, faulty_view};
 
-use crate::Page;
-use crate::fault::StoreFault;
-use crate::faulty::FaultyStore;
-use crate::memory::MemStore;
-use crate::pager::Pager;
-use crate::store::PageStore;
 use std::alloc::Global;
 use std::num::NonZeroUsize;
 use std::test::Fail;
+use ub_store::{FaultyStore, MemStore, Page, PageStore, Pager, StoreFault};
 
 // Over memory a page that is there is read, unless the failure is due.
 fn read_in_memory(store: &mut FaultyStore<MemStore>, n: u32) -> Result<Page, StoreFault>

@@ -1,8 +1,6 @@
-use crate::address::{interleave, last, spread};
-use crate::fault::ZFault;
-use crate::point::Point;
-use crate::shape::Shape;
+// Addresses of points, and the points of addresses.
 use std::test::Fail;
+use ub_zaddr::{Point, Shape, ZFault, interleave, last, spread};
 
 // The address of a point.
 fn address_of(dims: u32, values: &[u32]) -> Result<u128, ZFault> {

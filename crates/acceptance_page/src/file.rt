@@ -1,15 +1,13 @@
 // The store on a medium in memory and on a file of the system, by hand values.
 
 ghost use Rattle.std.specs.Prelude.{◌≡◌, ◌<◌, IfOk};
-ghost use Rattle.ub_store.specs.Facts.{IsHonest};
+ghost use Rattle.ub_store.specs.Facts.{IsHonest, raised};
 
-use crate::host::{create_store, open_store};
-use crate::medium::Medium;
-use crate::memory::MemMedium;
-use crate::store::{FileStore, is_store_size};
 use std::alloc::{AllocError, Global};
 use std::test::Fail;
 use std::{fs, process};
+use ub_file::host::{create_store, open_store};
+use ub_file::{FileStore, Medium, MemMedium};
 use ub_store::{Page, PageStore, StoreFault};
 
 // The store on a medium of so many pages of zeros and bytes after them, that fails at its k-th call.
@@ -25,13 +23,78 @@ fn open_zeros(
     Ok(FileStore::open(MemMedium::new(pages, rest, k)).map_err(|refused| refused.fault))
 }
 
+// A medium of so many bytes that can't be had: all its other calls fail.
+#[derive(Drop)]
+struct Measured {
+    bytes: u64,
+    reads: u64,
+    writes: u64,
+}
+
+impl Measured {
+    fn failed_write(&mut self) -> StoreFault
+        ensures counted { self.new ≡ record self.old { writes = raised self.old.writes 1 } }
+        ensures fault { result ≡ StoreFault.Device }
+    {
+        self.writes = self.writes.saturating_add(1);
+        StoreFault::Device
+    }
+}
+
+#[tactic(auto, using(ub_file::proofs::HostFacts::length_unknown))]
+impl Medium for Measured {
+    ghost use Rattle.std.specs.Prelude.{◌%◌, false};
+    ghost use Rattle.ub_file.specs.Host.{host_facts};
+
+    ghost facts = { λ m. host_facts m.bytes m.bytes m.reads m.writes };
+
+    ghost rest = { λ m. m.bytes % 4096 };
+
+    ghost needs_memory = { false };
+
+    fn length(&self) -> u64 {
+        self.bytes
+    }
+
+    fn read_page(&mut self, _: u32) -> Result<Page, StoreFault> {
+        self.reads = self.reads.saturating_add(1);
+        Err(StoreFault::Device)
+    }
+
+    fn write_page(&mut self, _: u32, _: &Page) -> Result<(), StoreFault> {
+        Err(self.failed_write())
+    }
+
+    fn grow(&mut self) -> Result<(), StoreFault> {
+        Err(self.failed_write())
+    }
+
+    fn empty(&mut self) -> Result<(), StoreFault> {
+        Err(self.failed_write())
+    }
+
+    fn sync(&mut self) -> Result<(), StoreFault> {
+        Err(self.failed_write())
+    }
+}
+
+// Whether a medium of so many bytes is a store.
+fn is_store(bytes: u64) -> bool {
+    let medium = Measured {
+        bytes,
+        reads: 0,
+        writes: 0,
+    };
+    FileStore::open(medium).is_ok()
+}
+
 #[test]
 fn takes_whole_pages_alone(rt: HostRuntime) -> Result<(), Fail> {
     for length in [0, 4096, 8192, 17592186040320] {
-        assert!(rt; is_store_size(length), "{length}");
+        assert!(rt; is_store(length), "{length}");
     }
     for length in [1, 100, 2048, 4095, 4097, 17592186040321, 17592186044416] {
-        assert!(rt; !is_store_size(length), "{length}");
+        assert!(rt; !is_store(length), "{length}");
     }
     assert_eq!(rt;
         open_zeros(rt.alloc(), 0, 1, 0)?.err(),

@@ -1,41 +1,13 @@
-ghost use Rattle.std.specs.Prelude.{◌≡◌, IfOk};
-
-use crate::truths::can_be;
-use crate::{Cover, boxes, points, total};
+// The boxes of conditions, and what conditions can be at points.
+use crate::samples::{both, compare, either, neither, table};
 use std::alloc::{AllocError, Global};
 use std::test::Fail;
+use ub_bigmin::ZBox;
+use ub_boxes::{Cover, boxes, points, total};
 use ub_query::{Cond, Operator};
-use ub_table::{Name, PageFault, Schema};
+use ub_table::{Name, Schema};
 
 const MOST: u32 = 4_294_967_295;
-
-// A table t of the dimensions x and y and the measure m.
-fn table() -> Result<Schema, PageFault>
-    ensures { IfOk result (λ schema. schema.dims ≡ 2) }
-{
-    let columns = [Name::new(b"x")?, Name::new(b"y")?, Name::new(b"m")?];
-    Schema::new(Name::new(b"t")?, &columns, 2, 2)
-}
-
-fn compare(column: usize, operator: Operator, value: i128) -> Cond {
-    Cond::Compare {
-        column,
-        operator,
-        value,
-    }
-}
-
-fn both(alloc: Global, a: Cond, b: Cond) -> Result<Cond, AllocError> {
-    Ok(Cond::And(Box::new(alloc, a)?, Box::new(alloc, b)?))
-}
-
-fn either(alloc: Global, a: Cond, b: Cond) -> Result<Cond, AllocError> {
-    Ok(Cond::Or(Box::new(alloc, a)?, Box::new(alloc, b)?))
-}
-
-fn neither(alloc: Global, a: Cond) -> Result<Cond, AllocError> {
-    Ok(Cond::Not(Box::new(alloc, a)?))
-}
 
 // The condition, or that a column has an even number from 2 to twice a count.
 fn or_even(alloc: Global, first: Cond, column: usize, count: u8) -> Result<Cond, AllocError> {
@@ -193,18 +165,59 @@ fn makes_boxes_of_as_many_cells_as_may_be(rt: HostRuntime) -> Result<(), Fail> {
     Ok(())
 }
 
-// What a condition can be at a point, as a letter: true, false or both.
-fn letter(condition: &Cond, schema: &Schema, point: &[u32; 2]) -> u8
-    requires { schema.now.dims ≡ 2 }
-{
-    let truths = can_be(condition, schema, point);
-    match (truths.can_be_true, truths.can_be_false) {
+// Whether a cover has a point.
+fn has_point(cover: &Cover, point: &[u32]) -> bool {
+    cover.boxes().iter().any(|space| is_in(space, point))
+}
+
+fn is_in(space: &ZBox, point: &[u32]) -> bool {
+    let is_low = space
+        .lo()
+        .values()
+        .iter()
+        .zip(point)
+        .all(|(lo, x)| *lo <= *x);
+    let is_high = space
+        .hi()
+        .values()
+        .iter()
+        .zip(point)
+        .all(|(hi, x)| *x <= *hi);
+    is_low && is_high
+}
+
+// What a condition can be at a point, as a letter: true, false or both. It can be true where its cover has the point, and false
+// where that of its negation has it.
+fn letter(trues: &Cover, falses: &Cover, point: &[u32]) -> u8 {
+    match (has_point(trues, point), has_point(falses, point)) {
         (true, false) => b't',
         (false, true) => b'f',
         (true, true) => b'b',
         (false, false) => b'-',
     }
 }
+
+// Whether a condition can be these at those points.
+fn can_be(
+    alloc: Global,
+    condition: &Cond,
+    schema: &Schema,
+    points: &[[u32; 2]],
+    wanted: &[u8],
+) -> Result<bool, AllocError> {
+    let negation = neither(alloc, condition.copy(alloc)?)?;
+    let trues = boxes(alloc, Some(condition), schema)?;
+    let falses = boxes(alloc, Some(&negation), schema)?;
+    for (point, wanted) in points.iter().zip(wanted) {
+        if letter(&trues, &falses, point) != *wanted {
+            return Ok(false);
+        }
+    }
+    Ok(true)
+}
+
+// Points on a line, at which a comparison of x turns or not.
+const LINE: [[u32; 2]; 4] = [[0, 9], [2, 9], [3, 9], [MOST, 9]];
 
 // Corners of the cells that x = 3 and y < 5 make.
 const CORNERS: [[u32; 2]; 16] = [
@@ -225,18 +238,6 @@ const CORNERS: [[u32; 2]; 16] = [
     [MOST, 5],
     [MOST, MOST],
 ];
-
-// Whether a condition can be these at those corners.
-fn can_be_there(condition: &Cond, schema: &Schema, expected: &[u8; 16]) -> bool
-    requires { schema.now.dims ≡ 2 }
-{
-    for (corner, expected) in CORNERS.iter().zip(expected) {
-        if letter(condition, schema, corner) != *expected {
-            return false;
-        }
-    }
-    true
-}
 
 #[test]
 fn knows_comparisons(rt: HostRuntime) -> Result<(), Fail> {
@@ -262,10 +263,7 @@ fn knows_comparisons(rt: HostRuntime) -> Result<(), Fail> {
         (Operator::AtLeast, 4_294_967_295, b"ffft"),
     ] {
         let condition = compare(0, operator, value);
-        assert!(rt; letter(&condition, &schema, &[0, 9]) == expected[0]);
-        assert!(rt; letter(&condition, &schema, &[2, 9]) == expected[1]);
-        assert!(rt; letter(&condition, &schema, &[3, 9]) == expected[2]);
-        assert!(rt; letter(&condition, &schema, &[MOST, 9]) == expected[3]);
+        assert!(rt; can_be(rt.alloc(), &condition, &schema, &LINE, expected)?);
     }
     Ok(())
 }
@@ -287,13 +285,13 @@ fn knows_dimensions(rt: HostRuntime) -> Result<(), Fail> {
     let schema = table()?;
     let alloc = rt.alloc();
     let all = both(alloc, low_x(), low_y())?;
-    assert!(rt; can_be_there(&all, &schema, b"ttffttffffffffff"));
+    assert!(rt; can_be(alloc, &all, &schema, &CORNERS, b"ttffttffffffffff")?);
     let not_all = neither(alloc, all)?;
-    assert!(rt; can_be_there(&not_all, &schema, b"ffttfftttttttttt"));
+    assert!(rt; can_be(alloc, &not_all, &schema, &CORNERS, b"ffttfftttttttttt")?);
     let any = either(alloc, low_x(), low_y())?;
-    assert!(rt; can_be_there(&any, &schema, b"ttttttttttffttff"));
+    assert!(rt; can_be(alloc, &any, &schema, &CORNERS, b"ttttttttttffttff")?);
     let none = neither(alloc, any)?;
-    assert!(rt; can_be_there(&none, &schema, b"ffffffffffttfftt"));
+    assert!(rt; can_be(alloc, &none, &schema, &CORNERS, b"ffffffffffttfftt")?);
     Ok(())
 }
 
@@ -301,13 +299,13 @@ fn knows_dimensions(rt: HostRuntime) -> Result<(), Fail> {
 fn knows_no_measures(rt: HostRuntime) -> Result<(), Fail> {
     let schema = table()?;
     let alloc = rt.alloc();
-    assert!(rt; can_be_there(&high_m(), &schema, b"bbbbbbbbbbbbbbbb"));
+    assert!(rt; can_be(alloc, &high_m(), &schema, &CORNERS, b"bbbbbbbbbbbbbbbb")?);
     let not_high = neither(alloc, high_m())?;
-    assert!(rt; can_be_there(&not_high, &schema, b"bbbbbbbbbbbbbbbb"));
+    assert!(rt; can_be(alloc, &not_high, &schema, &CORNERS, b"bbbbbbbbbbbbbbbb")?);
     let no_row = both(alloc, high_m(), not_high)?;
-    assert!(rt; can_be_there(&no_row, &schema, b"bbbbbbbbbbbbbbbb"));
+    assert!(rt; can_be(alloc, &no_row, &schema, &CORNERS, b"bbbbbbbbbbbbbbbb")?);
     let each_row = neither(alloc, no_row)?;
-    assert!(rt; can_be_there(&each_row, &schema, b"bbbbbbbbbbbbbbbb"));
+    assert!(rt; can_be(alloc, &each_row, &schema, &CORNERS, b"bbbbbbbbbbbbbbbb")?);
     Ok(())
 }
 
@@ -316,12 +314,12 @@ fn knows_dimensions_beside_measures(rt: HostRuntime) -> Result<(), Fail> {
     let schema = table()?;
     let alloc = rt.alloc();
     let all = both(alloc, low_x(), high_m())?;
-    assert!(rt; can_be_there(&all, &schema, b"bbbbbbbbffffffff"));
+    assert!(rt; can_be(alloc, &all, &schema, &CORNERS, b"bbbbbbbbffffffff")?);
     let not_all = neither(alloc, all)?;
-    assert!(rt; can_be_there(&not_all, &schema, b"bbbbbbbbtttttttt"));
+    assert!(rt; can_be(alloc, &not_all, &schema, &CORNERS, b"bbbbbbbbtttttttt")?);
     let any = either(alloc, low_x(), high_m())?;
-    assert!(rt; can_be_there(&any, &schema, b"ttttttttbbbbbbbb"));
+    assert!(rt; can_be(alloc, &any, &schema, &CORNERS, b"ttttttttbbbbbbbb")?);
     let none = neither(alloc, any)?;
-    assert!(rt; can_be_there(&none, &schema, b"ffffffffbbbbbbbb"));
+    assert!(rt; can_be(alloc, &none, &schema, &CORNERS, b"ffffffffbbbbbbbb")?);
     Ok(())
 }

@@ -1,0 +1,33 @@
+-- What the proofs of crates above use of pages: what the page of a value tells of it, and that a page of a value is not refused.
+use Rattle.std.proofs.Common.{◌≡◌, ℕ, ◌≤◌, List, Bool, false}
+use Rattle.ub_page.proofs.DirectoryFacts as directory
+use Rattle.ub_page.proofs.HeaderFacts as headers
+use Rattle.ub_page.proofs.RegionFacts as regions
+use Rattle.ub_page.specs.Directory.{Listing, IsListing, IsDirectoryFault, directory_page}
+use Rattle.ub_page.specs.Header.{AreSame, IsHeader, IsHeaderFault, header_page, numbers_of}
+use Rattle.ub_page.specs.Region.{region_page}
+use Rattle.ub_page.specs.declared.header.Header.{Header}
+use Rattle.ub_table.specs.Region.{Region, IsRegion}
+use Rattle.ub_table.specs.declared.fault.PageFault.{PageFault}
+use Rattle.ub_table.specs.declared.schema.Schema.{Schema}
+pub use Rattle.ub_page.proofs.DirectoryFacts.{HasListing}
+pub use Rattle.ub_page.proofs.HeaderFacts.{HasParts}
+pub use Rattle.ub_page.proofs.RegionFacts.{HasRegion}
+
+pub listing_parts : (listing : Listing) (page : List ℕ) (d : ℕ) → d ≤ 4 → IsListing d listing → page ≡ directory_page listing → HasListing listing page
+listing_parts = directory.parts
+
+pub listing_not_refused : (listing : Listing) (page : List ℕ) (d : ℕ) → d ≤ 4 → IsListing d listing → page ≡ directory_page listing → (e : PageFault) → IsDirectoryFault d page e → ⊥
+listing_not_refused = directory.not_refused
+
+pub header_parts : (h : Header) (page : List ℕ) → IsHeader h → page ≡ header_page h → HasParts h page
+header_parts = headers.parts
+
+pub header_not_refused : (h : Header) (page : List ℕ) → IsHeader h → h.unclean ≡ false → page ≡ header_page h → (e : PageFault) → IsHeaderFault page e → ⊥
+header_not_refused = headers.not_refused
+
+pub same_header : (a b : Header) → numbers_of a ≡ numbers_of b → a.schema.name ≡ b.schema.name → a.schema.columns ≡ b.schema.columns → a.unclean ≡ b.unclean → AreSame a b
+same_header = headers.same
+
+pub region_parts : (schema : Schema) (region : Region) (page : List ℕ) → IsRegion schema region → page ≡ region_page schema region → HasRegion schema region page
+region_parts = regions.parts
