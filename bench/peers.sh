@@ -1,8 +1,9 @@
 #!/usr/bin/env bash
-# The same rows and queries in ubq and in SQLite, side by side in one run: the time of a query, and the pages that it reads. SQLite has the
-# rows three times: under one covering index over the dimensions, under an index for each dimension, and in its R*Tree. A time is that of a
-# process which asks the query many times, less that of one which asks nothing, each the least of some runs; pages are those of one query in a
-# new process (of ubq the region pages that it tells, of SQLite the misses of its page cache, less those of an empty query).
+# The same rows and queries in ubq and in SQLite, side by side in one run, as a table in Markdown: the time of a query, and the pages that it
+# reads, of 4096 bytes in each. SQLite has the rows three times: under one covering index over the dimensions, under an index for each
+# dimension, and in its R*Tree. A time is that of a process which asks the query many times, less that of one which asks nothing, each the
+# least of some runs; pages are those of one query in a new process (of ubq the region pages that it tells, of SQLite the misses of its page
+# cache, less those of a query of no table).
 # usage: bench/peers.sh [ROWS]     (default 200000; needs the program sqlite3)
 set -euo pipefail
 rows=${1:-200000}
@@ -12,16 +13,7 @@ trap 'rm -rf "$work"' EXIT
 runs=3
 command -v sqlite3 > /dev/null || { echo "peers.sh: no sqlite3 on the path" >&2; exit 2; }
 
-awk -v n="$rows" 'BEGIN {
-    print "x,y,z,kind,amount"
-    a = 1
-    for (i = 0; i < n; i++) {
-        a = (a * 16807) % 2147483647; x = int(a / 64) % 1048576
-        a = (a * 16807) % 2147483647; y = int(a / 64) % 1048576
-        a = (a * 16807) % 2147483647; z = int(a / 64) % 1048576
-        print x "," y "," z "," i % 100 "," a % 100000
-    }
-}' > "$work/data.csv"
+bash "$top/bench/table.sh" "$rows" > "$work/data.csv"
 "$top/bin/ubq" --version > /dev/null
 program=$top/crates/ubq/out/ubq
 
@@ -60,8 +52,11 @@ echo "bytes: ubq $(stat -c %s "$work/table.ub"), covering index $(stat -c %s "$w
 
 # ---- one query in each
 : > "$work/empty.sql"
-sqlite_pages() { # DATABASE QUERY: how many pages its cache missed
+sqlite_misses() { # DATABASE QUERY: how many pages its cache missed
     sqlite3 "$1" "PRAGMA cache_size = -262144;" ".stats on" "$2" | awk '/Page cache misses/ { misses = $NF } END { print misses + 0 }'
+}
+sqlite_pages() { # DATABASE QUERY: the same, less what a query of no table misses
+    echo $(($(sqlite_misses "$1" "$2") - $(sqlite_misses "$1" "SELECT 1;")))
 }
 sqlite_time() { # DATABASE QUERY TIMES: microseconds a query
     local i none all
@@ -72,8 +67,26 @@ sqlite_time() { # DATABASE QUERY TIMES: microseconds a query
     all=$(microseconds sqlite3 "$1" ".read $work/many.sql")
     echo $(((all - none) / $3))
 }
-compare() { # NAME TIMES ITEMS BOX REST: BOX as pairs of bounds for x, y and z, or -
-    local name=$1 times=$2 items=$3 rest=$5 i where="" spatial="" column low high
+cell() { # MICROSECONDS PAGES: both as a table shows them
+    awk -v us="$1" -v pages="$2" 'BEGIN {
+        if (us < 0) us = 0
+        if (us < 1000) time = us " µs"; else time = sprintf("%.3g ms", us / 1000)
+        print time ", " pages
+    }'
+}
+ubq_time() { # QUERY TIMES: microseconds a query
+    local i none all
+    for ((i = 0; i < $2; i++)); do echo "$1"; done > "$work/many.sql"
+    none=$(microseconds "$program" run "$work/table.ub" "$work/empty.sql")
+    all=$(microseconds "$program" run "$work/table.ub" "$work/many.sql")
+    echo $(((all - none) / $2))
+}
+ubq_pages() { # QUERY: how many region pages it fetched
+    echo "$1" > "$work/one.sql"
+    "$program" run "$work/table.ub" "$work/one.sql" | sed -n 's/^-- .*pages \([0-9]*\).*/\1/p' | tail -n 1
+}
+compare() { # NAME TIMES ITEMS BOX REST: BOX as pairs of bounds for x, y and z, or -; a row of the table
+    local name=$1 times=$2 items=$3 rest=$5 where="" spatial="" column low high
     set -- $4
     for column in x y z; do
         low=$1 high=$2; shift 2
@@ -85,17 +98,14 @@ compare() { # NAME TIMES ITEMS BOX REST: BOX as pairs of bounds for x, y and z, 
     local query="SELECT $items FROM t ${where:+WHERE $where} $rest;"
     local of_boxes
     of_boxes=$(echo "SELECT $items FROM r ${spatial:+WHERE $spatial} $rest;" | sed -E 's/\b([xyz])\b/\10/g')
-    for ((i = 0; i < times; i++)); do echo "$query"; done > "$work/many.sql"
-    echo "$query" > "$work/one.sql"
-    local none all told
-    none=$(microseconds "$program" run "$work/table.ub" "$work/empty.sql")
-    all=$(microseconds "$program" run "$work/table.ub" "$work/many.sql")
-    told=$("$program" run "$work/table.ub" "$work/one.sql" | tail -1)
-    echo "$name: ubq $(((all - none) / times)) us (${told#-- });" \
-        "covering index $(sqlite_time "$work/covering.db" "$query" "$times") us, pages $(sqlite_pages "$work/covering.db" "$query");" \
-        "an index a dimension $(sqlite_time "$work/single.db" "$query" "$times") us, pages $(sqlite_pages "$work/single.db" "$query");" \
-        "R*Tree $(sqlite_time "$work/rtree.db" "$of_boxes" "$times") us, pages $(sqlite_pages "$work/rtree.db" "$of_boxes")"
+    echo "| $name | $(cell "$(ubq_time "$query" "$times")" "$(ubq_pages "$query")")" \
+        "| $(cell "$(sqlite_time "$work/covering.db" "$query" "$times")" "$(sqlite_pages "$work/covering.db" "$query")")" \
+        "| $(cell "$(sqlite_time "$work/single.db" "$query" "$times")" "$(sqlite_pages "$work/single.db" "$query")")" \
+        "| $(cell "$(sqlite_time "$work/rtree.db" "$of_boxes" "$times")" "$(sqlite_pages "$work/rtree.db" "$of_boxes")") |"
 }
+echo
+echo "| Query (time, pages) | ubq | SQLite, covering index | SQLite, index a dimension | SQLite, R*Tree |"
+echo "|---|---|---|---|---|"
 compare "a small box" 200 "x, y, z" "400000 438000 400000 438000 400000 438000" ""
 compare "a box of a hundredth" 50 "SUM(amount)" "300000 526000 300000 526000 300000 526000" ""
 compare "a box of a tenth" 20 "SUM(amount)" "200000 686000 200000 686000 200000 686000" ""

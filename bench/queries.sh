@@ -10,17 +10,7 @@ work=$(mktemp -d)
 trap 'rm -rf "$work"' EXIT
 repeats=3
 
-# Coordinates below 2^20, and two measures: one of 100 values, one of many.
-awk -v n="$rows" 'BEGIN {
-    print "x,y,z,kind,amount"
-    a = 1
-    for (i = 0; i < n; i++) {
-        a = (a * 16807) % 2147483647; x = int(a / 64) % 1048576
-        a = (a * 16807) % 2147483647; y = int(a / 64) % 1048576
-        a = (a * 16807) % 2147483647; z = int(a / 64) % 1048576
-        print x "," y "," z "," i % 100 "," a % 100000
-    }
-}' > "$work/data.csv"
+bash "$top/bench/table.sh" "$rows" > "$work/data.csv"
 "$top/bin/ubq" --version > /dev/null
 program=$top/crates/ubq/out/ubq
 
@@ -46,10 +36,10 @@ pages=$(sed -n 's/.*pages //p' "$work/answer")
 query() { # a name, how many times, and the statement
     local time found read
     for ((i = 0; i < $2; i++)); do echo "$3"; done > "$work/script.sql"
-    time=$(least "$work/script.sql")
+    time=$(($(least "$work/script.sql") - empty))
     found=$(sed -n 's/^-- rows \([0-9]*\),.*/\1/p' "$work/answer" | tail -n 1)
     read=$(sed -n 's/.*pages //p' "$work/answer" | tail -n 1)
-    echo "$1: $(((time - empty) / $2 / 1000)) us, rows $found, pages $read of $pages, floor $(((found + 63) / 64))"
+    echo "$1: $(((time > 0 ? time : 0) / $2 / 1000)) us, rows $found, pages $read of $pages, floor $(((found + 63) / 64))"
 }
 
 query "a point's neighbourhood" 1000 "SELECT * FROM t WHERE x BETWEEN 500000 AND 505000 AND y BETWEEN 500000 AND 505000 AND z BETWEEN 500000 AND 505000;"

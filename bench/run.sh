@@ -1,10 +1,11 @@
 #!/usr/bin/env bash
 # Times, from outside: `next_in_box`, in nanoseconds a call for each number of dimensions, beside its body by bits, and without
 # the making of the boxes and addresses; a page read and filtered; the rows put into a tree, and the regions walked, in a second;
-# and the boxes of a condition.
-# usage: bench/run.sh [CALLS]     (default 1000000)
+# sweeps beside a scan of the same regions; and the boxes of a condition.
+# usage: bench/run.sh [CALLS [ROWS]]     (default 1000000, and 200000 for the sweeps)
 set -euo pipefail
 calls=${1:-1000000}
+swept=${2:-200000}
 top=$(cd "$(dirname "$0")/.." && pwd)
 cd "$top/crates/bench"
 rt run -- 1 > /dev/null 2>&1 || { echo "bench/run.sh: crate bench does not build: see rt check there" >&2; exit 1; }
@@ -62,6 +63,10 @@ for rows in 10000 100000; do
     echo "ub_tree, $rows rows: $((rows * 1000000000 / fill)) rows put in a second," \
         "$((regions * walks * 1000000000 / (walked - fill + 1))) regions walked a second"
 done
+
+# Sweeps of three cubes of a tree of three dimensions in random order, and a scan of the same regions: the program times them itself.
+echo "sweeps beside a scan, $swept rows of three dimensions in random order:"
+out/bench held "$swept"
 
 # The boxes of a condition of 64 comparisons and 4096 cells.
 boxes() {

@@ -3,9 +3,10 @@
 #
 #     tests/faces.sh
 #
-# A crate of this repository may import another one's definitions (`specs/`) and the one proof file `Laws`. It prints each line
-# that imports another crate's other proofs, or its `specs/inner`, and each that names a field `inner` in a crate that declares
-# none. The status is 1 where there is such a line.
+# A crate of this repository may import another one's definitions (`specs/`) and the one proof file `Laws` (of `ub_bigmin` and
+# `ub_page`, which have a module `laws`, it is `BoxLaws` and `PageLaws`). It prints each line that imports another crate's other
+# proofs, or its `specs/inner`, and each that names a field `inner` in a crate over the tree that declares none. The status is 1
+# where there is such a line.
 set -u
 
 crates=$(cd "$(dirname "$(readlink -f "${BASH_SOURCE[0]}")")/../crates" && pwd)
@@ -20,8 +21,9 @@ lines() {
 broken=$(
     for crate in ${names//|/ }; do
         lines "$crate" 'Rattle\.' | grep -E "Rattle\.($names)\.(proofs|specs\.inner)\b" |
-            grep -vE "Rattle\.$crate\.|\.proofs\.Laws\b"
-        if ! lines "$crate" '^ *\(pub \|abbrev \)*inner *:' | grep -q .; then
+            grep -vE "Rattle\.$crate\.|\.proofs\.(Box|Page)?Laws\b"
+        if grep -Eq "^$crate:.* ub_(tree|directory)( |\$)" ../crates.txt &&
+            ! lines "$crate" '^ *\(pub \|abbrev \)*inner *:' | grep -q .; then
             lines "$crate" '\.inner\b' | grep -v 'specs\.inner'
         fi
     done

@@ -1,7 +1,7 @@
 #!/usr/bin/env bash
 # Runs the real program (`bin/ubq`, or the one that is named) in a folder for scratch, by hand: loading and asking table files,
-# the files that it refuses, standard input, and what it does where nothing can be written. The last line says how many are
-# right; the status is 1 where one is not.
+# the files that it refuses, standard input, and what it does where nothing can be written. What can't be tried on this machine
+# is named as skipped. The last line says how many are right; the status is 1 where one is not.
 #
 #   tests/program.sh [PROGRAM]
 set -u
@@ -14,6 +14,8 @@ cd "$room" || exit 2
 
 right=0
 wrong=0
+# What the program is run by: by nothing, or as another user.
+as=()
 judge() { # what holds, and whether it does
     if [ "$2" = yes ]; then
         right=$((right + 1))
@@ -24,30 +26,22 @@ judge() { # what holds, and whether it does
     fi
 }
 
-# What is tried, the status that is wanted and the text that is wanted, and then the words.
+# What is tried, the status that is wanted, whether `all` that is written is wanted or a `line` of it, which, and then the words.
 try() {
-    local what=$1 status=$2 text=$3 code
-    shift 3
-    "$ubq" "$@" >out 2>err
+    local what=$1 status=$2 part=$3 wanted=$4 code is=no
+    shift 4
+    "${as[@]}" "$ubq" "$@" >out 2>err
     code=$?
-    if [ "$code" -eq "$status" ] && printf -- "$text" | cmp -s - out && [ ! -s err ]; then
-        judge "$what" yes
-    else
-        judge "$what (status $code)" no
-    fi
+    case $part in
+    all) printf -- "$wanted" | cmp -s - out && is=yes ;;
+    line) grep -qxF -- "$wanted" out && is=yes ;;
+    esac
+    if [ "$code" -ne "$status" ] || [ -s err ]; then is=no; fi
+    judge "$what (status $code)" "$is"
 }
 
-# The same, where a line of what is written is wanted.
-try_line() {
-    local what=$1 status=$2 line=$3 code
-    shift 3
-    "$ubq" "$@" >out 2>err
-    code=$?
-    if [ "$code" -eq "$status" ] && grep -qxF -- "$line" out; then
-        judge "$what" yes
-    else
-        judge "$what (status $code)" no
-    fi
+skip() { # what can't be tried, and why
+    echo "skipped: $1: $2"
 }
 
 holds() { # what holds, and a command that shows it
@@ -63,63 +57,92 @@ printf ';; -- nothing' >nothing.sql
 row1='x,y,m\n2,3,20\n3,0,5\n2,3,1\n-- rows 3, pages 3\n'
 
 # ---- a table file
-try 'load tells rows and regions' 0 '-- rows 5, regions 3\n' load s.csv s.ub --dims 2 --page-rows 2
+try 'load tells rows and regions' 0 all '-- rows 5, regions 3\n' load s.csv s.ub --dims 2 --page-rows 2
 cp s.ub before.ub
-try 'run asks it' 0 "$row1" run s.ub row1.sql
-try 'run asks it again' 0 "$row1" run s.ub row1.sql
-try 'run of nothing writes nothing' 0 '' run s.ub nothing.sql
+try 'run asks it' 0 all "$row1" run s.ub row1.sql
+try 'run asks it again' 0 all "$row1" run s.ub row1.sql
+try 'run of nothing writes nothing' 0 all '' run s.ub nothing.sql
 holds 'the table file is as it was' cmp -s before.ub s.ub
-try 'a refused statement' 1 '! UnknownTable at 14\n' run s.ub <(printf 'SELECT * FROM u;')
-try 'a script from standard input' 0 "$row1" run s.ub - <row1.sql
-try 'data from standard input' 0 '-- rows 5, regions 3\n' load - piped.ub --dims 2 --page-rows 2 <s.csv
+try 'a refused statement' 1 all '! UnknownTable at 14\n' run s.ub <(printf 'SELECT * FROM u;')
+try 'a script from standard input' 0 all "$row1" run s.ub - <row1.sql
+try 'data from standard input' 0 all '-- rows 5, regions 3\n' load - piped.ub --dims 2 --page-rows 2 <s.csv
 holds 'it is the same table file' cmp -s s.ub piped.ub
-try 'the table has the name that was given' 0 '-- rows 5, regions 1\n' load s.csv named.ub --dims 2 --name sales
-try 'and is asked by it' 0 'COUNT(*)\n5\n-- rows 1, pages 1\n' run named.ub <(printf 'SELECT COUNT(*) FROM sales;')
-try 'try answers the same' 0 "$row1" try s.csv row1.sql --dims 2 --page-rows 2
-try 'try takes data from standard input' 0 "$row1" try - row1.sql --dims 2 --page-rows 2 <s.csv
-try 'try takes a script from standard input' 0 "$row1" try s.csv - --dims 2 --page-rows 2 <row1.sql
-try 'but not both' 2 'error: DATA and SCRIPT are both standard input\n' try - - --dims 2 <s.csv
+try 'the table has the name that was given' 0 all '-- rows 5, regions 1\n' load s.csv named.ub --dims 2 --name sales
+try 'and is asked by it' 0 all 'COUNT(*)\n5\n-- rows 1, pages 1\n' run named.ub <(printf 'SELECT COUNT(*) FROM sales;')
+try 'try answers the same' 0 all "$row1" try s.csv row1.sql --dims 2 --page-rows 2
+try 'try takes data from standard input' 0 all "$row1" try - row1.sql --dims 2 --page-rows 2 <s.csv
+try 'try takes a script from standard input' 0 all "$row1" try s.csv - --dims 2 --page-rows 2 <row1.sql
+try 'but not both' 2 all 'error: DATA and SCRIPT are both standard input\n' try - - --dims 2 <s.csv
 
 # ---- files that are refused
 : >none.ub
-try 'a file of no bytes' 3 '! NoPage\n' run none.ub row1.sql
-head -c 100 s.ub >cut.ub
-try 'a file cut to 100 bytes' 3 '! BadSize\n' run cut.ub row1.sql
+try 'a file of no bytes' 3 all '! NoPage\n' run none.ub row1.sql
+for size in 1 100 4095 4097 20479; do
+    head -c $size s.ub >cut.ub
+    try "a file cut to $size bytes" 3 all '! BadSize\n' run cut.ub row1.sql
+done
+for pages in 1 2 3 4; do
+    head -c $((4096 * pages)) s.ub >cut.ub
+    try "a file cut to $pages of its 5 pages" 3 all '! NoPage\n' run cut.ub row1.sql
+done
+{ cat s.ub && printf x; } >cut.ub
+try 'a file with a byte more' 3 all '! BadSize\n' run cut.ub row1.sql
 { printf '\0' && tail -c +2 s.ub; } >kind.ub
-try 'a file whose first byte is 0' 3 '! WrongKind page 0\n' run kind.ub row1.sql
-try 'no table file' 4 '! Device\n' run missing.ub row1.sql
-try 'no script' 4 '! Device\n' run s.ub missing.sql
+try 'a file whose first byte is 0' 3 all '! WrongKind page 0\n' run kind.ub row1.sql
+try 'no table file' 4 all '! Device\n' run missing.ub row1.sql
+try 'no script' 4 all '! Device\n' run s.ub missing.sql
 mkdir folder
-try 'a folder for a table file' 4 '! Device\n' run folder row1.sql
-try 'a folder to load into' 4 '! Device\n' load s.csv folder --dims 2
-try 'a folder for data' 4 '! Device\n' load folder new.ub --dims 2
+try 'a folder for a table file' 4 all '! Device\n' run folder row1.sql
+try 'a folder to load into' 4 all '! Device\n' load s.csv folder --dims 2
+try 'a folder for data' 4 all '! Device\n' load folder new.ub --dims 2
 holds 'nothing was made' test ! -e new.ub
-try 'no data: the table file stays' 4 '! Device\n' load missing.csv s.ub --dims 2
+try 'no data: the table file stays' 4 all '! Device\n' load missing.csv s.ub --dims 2
 holds 'byte for byte' cmp -s before.ub s.ub
-try 'data and table of one name' 2 '! SameFile\n' load s.csv s.csv --dims 2
+try 'data and table of one name' 2 all '! SameFile\n' load s.csv s.csv --dims 2
 holds 'the data are as they were' test "$(head -c 5 s.csv)" = x,y,m
-chmod a-w s.ub
-try 'a table file that can be read alone' 0 "$row1" run s.ub row1.sql
-chmod u+w s.ub
+# A file that can only be read. Where this is the superuser, whom that doesn't bind, it is another user who tries it.
+if [ "$(id -u)" -eq 0 ]; then as=(setpriv --reuid=65534 --regid=65534 --clear-groups); fi
+if "${as[@]}" "$ubq" --version >out 2>err; then
+    chmod a+rx .
+    chmod a=r s.ub
+    try 'a table file that can only be read' 0 all "$row1" run s.ub row1.sql
+    try 'and is not loaded into' 4 all '! Device\n' load s.csv s.ub --dims 2
+    holds 'it is as it was' cmp -s before.ub s.ub
+    chmod a= s.ub
+    try 'a table file that can not be read either' 4 all '! Device\n' run s.ub row1.sql
+    chmod u=rw s.ub
+else
+    skip 'a table file that can only be read' "no other user can run $ubq"
+fi
+as=()
 printf 'x,y,m\n1,2,3\n4,a,5\n' >bad.csv
-try 'data refused at the last row' 3 '! BadNumber row 2 column 2\n' load bad.csv s.ub --dims 2
-try 'and then there is no table' 3 '! Unclean page 0\n' run s.ub row1.sql
-try 'until it is loaded again' 0 '-- rows 5, regions 3\n' load s.csv s.ub --dims 2 --page-rows 2
+try 'data refused at the last row' 3 all '! BadNumber row 2 column 2\n' load bad.csv s.ub --dims 2
+try 'and the table is as it was' 0 all "$row1" run s.ub row1.sql
+{ echo x,y,m && seq 300 | awk '{ print $1 % 16 "," $1 ",1" }' && echo 4,4294967296,1; } >bad.csv
+try 'data of 300 rows refused at the last one' 3 all '! OutOfRange row 301 column 2\n' load bad.csv s.ub --dims 2
+try 'leave it as it was too' 0 all "$row1" run s.ub row1.sql
+holds 'byte for byte, after refused data' cmp -s before.ub s.ub
+try 'it is loaded again' 0 all '-- rows 5, regions 3\n' load s.csv s.ub --dims 2 --page-rows 2
 holds 'the same as before' cmp -s before.ub s.ub
-try 'a table of one row over a larger one' 0 '-- rows 1, regions 1\n' load <(printf 'x,m\n7,7\n') s.ub --dims 1
-try 'holds that row alone' 0 'COUNT(*)\n1\n-- rows 1, pages 1\n' run s.ub count.sql
+try 'a table of one row over a larger one' 0 all '-- rows 1, regions 1\n' load <(printf 'x,m\n7,7\n') s.ub --dims 1
+try 'holds that row alone' 0 all 'COUNT(*)\n1\n-- rows 1, pages 1\n' run s.ub count.sql
 
 # ---- command lines
-try_line 'five dimensions' 2 "error: invalid value '5' for '--dims <D>': 5 is not in 1..=4" load s.csv s.ub --dims 5
-try_line 'no dimensions' 2 'Usage: ubq load --dims <D> <DATA> <TABLE>' load s.csv s.ub
-try_line 'the help' 0 'Usage: ubq <COMMAND>' --help
-try_line 'the help of load' 0 'Usage: ubq load [OPTIONS] --dims <D> <DATA> <TABLE>' load --help
-try_line 'the help of run' 0 'Usage: ubq run <TABLE> <SCRIPT>' run --help
-try 'the version' 0 'ubq 0.1.0\n' --version
+try 'no words' 2 line 'Usage: ubq <COMMAND>'
+try 'no words: where the help is' 2 line "For more information, try '--help'."
+try 'no such command' 2 line 'Usage: ubq <COMMAND>' ask
+try 'no such command: where the help is' 2 line "For more information, try '--help'." ask
+try 'five dimensions' 2 line "error: invalid value '5' for '--dims <D>': 5 is not in 1..=4" load s.csv s.ub --dims 5
+try 'no dimensions' 2 line 'Usage: ubq load --dims <D> <DATA> <TABLE>' load s.csv s.ub
+try 'the help' 0 line 'Usage: ubq <COMMAND>' --help
+try 'the help of load' 0 line 'Usage: ubq load [OPTIONS] --dims <D> <DATA> <TABLE>' load --help
+try 'the help of run' 0 line 'Usage: ubq run <TABLE> <SCRIPT>' run --help
+try 'the version' 0 all 'ubq 0.1.0\n' --version
 
 # ---- where nothing can be written
 if [ -e /dev/full ]; then
-    try 'a full device for a table file' 4 '! Device\n' load s.csv /dev/full --dims 2
+    try 'a full device for a table file' 4 all '! Device\n' load s.csv /dev/full --dims 2
+    try 'and as one that is asked: it has no bytes' 3 all '! NoPage\n' run /dev/full row1.sql
     "$ubq" run before.ub row1.sql >/dev/full 2>err
     holds 'a full device for what is written' test $? -eq 4
     "$ubq" load s.csv late.ub --dims 2 --page-rows 2 >/dev/full 2>err
