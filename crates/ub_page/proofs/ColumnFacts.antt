@@ -1,6 +1,6 @@
 -- What the columns of a region hold at an index.
 use Rattle.std.proofs.Common.{◌≡◌, ◌<◌, ◌≤◌, ◌+◌, ◌-◌, ◌*◌, ℕ, ℤ, pos, zero, suc, List, [], ◌∷◌, length, map, take, replicate, get_or, Some, refl, sym, ap, arith, inl, inr, ◌∙◌}
-use Rattle.std.proofs.Math.Seq.{take-append_seam}
+use Rattle.std.proofs.Math.Seq.{get_or-take, take-append_seam}
 use Rattle.std.proofs.lemmas.Bool.{cases_order}
 use Rattle.std.proofs.lemmas.List.{get_or_append_left, get_or-append_right, get_or-replicate, length-append, length-replicate}
 use Rattle.std.proofs.lemmas.List.FromFn.{length-map-range_with_len, get_or-map-range_with_len}
@@ -90,7 +90,7 @@ pub record AreRead (dims measures count : ℕ) (page : List ℕ) (keys : List Ke
   pub few_dims : dims ≤ 4
   pub few_measures : measures ≤ 4
   pub few : count ≤ 64
-  pub keys_are : keys ≡ block 64 blank_key (key_in dims page points) count
+  pub keys_are : take count keys ≡ map (key_in dims page points) (range_with_len 0 count)
   pub points_are : points ≡ block 4 blank_dims (λ d. block 64 0 (λ i. number_at 4 (24 + 4 * count + 4 * (count * d + i)) page) count) dims
   pub values_are : values
       ≡ block 4 blank_measures (λ m. block 64 (pos 0) (λ i. cast_signed w64 (number_at 8 (24 + 4 * count + 4 * (count * dims) + 8 * (count * m + i)) page)) count) measures
@@ -98,7 +98,7 @@ pub record AreRead (dims measures count : ℕ) (page : List ℕ) (keys : List Ke
 -- the same with each number under the name that the code has for it
 pub are_read : (dims measures count used many shape : ℕ) (page : List ℕ) (keys : List Key) (points : List (List ℕ)) (values : List (List ℤ)) → dims ≤ 4 → measures ≤ 4 → count ≤ 64
     → used ≡ dims → many ≡ measures → shape ≡ dims
-    → keys ≡ block 64 blank_key (key_in shape page points) count
+    → take count keys ≡ map (key_in shape page points) (range_with_len 0 count)
     → points ≡ block 4 blank_dims (λ d. block 64 0 (λ i. number_at 4 (24 + 4 * count + 4 * (count * d + i)) page) count) used
     → values ≡ block 4 blank_measures (λ m. block 64 (pos 0) (λ i. cast_signed w64 (number_at 8 (24 + 4 * count + 4 * (count * used) + 8 * (count * m + i)) page)) count) many
     → AreRead dims measures count page keys points values
@@ -114,7 +114,8 @@ are_read dims measures count used many shape page keys points values few_dims fe
 number_read : (dims measures count : ℕ) (page : List ℕ) (keys : List Key) (points : List (List ℕ)) (values : List (List ℤ)) → AreRead dims measures count page keys points values
     → (i : ℕ) → i < count → get_or keys i blank_key ≡ key_in dims page points i
 number_read dims measures count page keys points values read i less =
-    ap (λ (ks : List Key). get_or ks i blank_key) read.keys_are ∙ block_at 64 blank_key (key_in dims page points) count i blank_key less
+    sym (get_or-take count keys i blank_key less) ∙ ap (λ (ks : List Key). get_or ks i blank_key) read.keys_are
+    ∙ get_or-map-range_with_len (key_in dims page points) 0 count i i blank_key less (omega arith)
 
 row_read : (dims measures count : ℕ) (page : List ℕ) (keys : List Key) (points : List (List ℕ)) (values : List (List ℤ)) → AreRead dims measures count page keys points values
     → (i : ℕ) → i < count → row_in keys points values i ≡ row_on dims measures count page i
@@ -138,7 +139,7 @@ rows_read dims measures count page keys points values read =
 pub keys_read : (dims measures count : ℕ) (page : List ℕ) (keys : List Key) (points : List (List ℕ)) (values : List (List ℤ)) → AreRead dims measures count page keys points values
     → take count keys ≡ keys_of dims (map (row_in keys points values) (range_with_len 0 count))
 keys_read dims measures count page keys points values read =
-    ap (take count) read.keys_are ∙ take_block 64 blank_key (key_in dims page points) count
+    read.keys_are
     ∙ all_same (key_in dims page points) (λ i. key_of dims (row_in keys points values i)) count
     (λ i less. let number : number_at 4 (24 + 4 * i) page ≡ (get_or keys i blank_key).number
     = sym (ap (λ (key : Key). key.number) (number_read dims measures count page keys points values read i less)) in rw number refl)

@@ -78,3 +78,14 @@ blank_from place page b long test =
     let blank : take (4096 - place) (drop place (replicate 4096 0)) ≡ replicate (4096 - place) 0
     = ap (take (4096 - place)) (drop-replicate place 4096 0) ∙ take_whole (4096 - place) (replicate (4096 - place) 0) (omega (arith, length-replicate {A = ℕ} (4096 - place) 0)) in
     (λ yes. sym all ∙ test.0 yes ∙ blank, λ same. test.1 (all ∙ same ∙ sym blank))
+
+-- what a write over some bytes leaves
+pub put_over : (place n : ℕ) (target bytes buf : List ℕ) → place ≤ length target → buf ≡ bytes ++ drop n (mid_of place (length target - place) target)
+    → put_mid place (length target - place) target buf ≡ (take place target ++ bytes) ++ drop (place + n) target
+put_over place n target bytes buf le e =
+    let left : length (drop place target) ≤ length target - place = rw length-drop (omega arith) in
+    let none : post_of place (length target - place) target ≡ [] = drop_all (length target - place) (drop place target) left in
+    let whole : mid_of place (length target - place) target ≡ drop place target = take_whole (length target - place) (drop place target) left in
+    rw (none, e, whole)
+    (ap (λ (xs : List ℕ). take place target ++ xs) (append-nil _) ∙ ap (λ (xs : List ℕ). take place target ++ (bytes ++ xs)) (drop-drop n place target)
+    ∙ sym (append_assoc (take place target) bytes (drop (place + n) target)))

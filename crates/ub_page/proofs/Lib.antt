@@ -9,4 +9,5 @@ pub mod MaskFacts
 pub mod PlacesFacts
 pub mod RegionFacts
 pub mod SpelledFacts
+pub mod SpellingFacts
 pub mod PageLaws

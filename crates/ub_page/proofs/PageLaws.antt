@@ -1,5 +1,5 @@
 -- What the proofs of crates above use of pages: what the page of a value tells of it, and that a page of a value is not refused.
-use Rattle.std.proofs.Common.{◌≡◌, ℕ, ◌≤◌, List, Bool, false}
+use Rattle.std.proofs.Common.{◌≡◌, ℕ, ◌≤◌, List, false}
 use Rattle.ub_page.proofs.DirectoryFacts as directory
 use Rattle.ub_page.proofs.HeaderFacts as headers
 use Rattle.ub_page.proofs.RegionFacts as regions

@@ -1,8 +1,16 @@
 -- Places that are filled one after the other.
-use Rattle.std.proofs.Common.{◌≡◌, ◌<◌, ◌+◌, ◌-◌, ℕ, suc, List, [], ◌∷◌, ◌++◌, length, map, set, replicate, sym, ap, arith, ◌∙◌, append_assoc}
+use Rattle.std.proofs.Common.{◌≡◌, ◌<◌, ◌+◌, ◌-◌, ℕ, suc, List, [], ◌∷◌, ◌++◌, length, map, set, take, replicate, sym, ap, arith, ◌∙◌, append_assoc}
 use Rattle.std.specs.List.{range_with_len}
 use Rattle.std.proofs.Math.Seq.{set-append_seam}
+use Rattle.std.proofs.lemmas.List.{take_more_set}
 use Rattle.std.proofs.lemmas.List.FromFn.{length-map-range_with_len, map-range_with_len_more}
+
+-- one value more, whatever stands in the places after it
+pub first_more : {A : Type 0} (f : ℕ → A) (xs : List A) (n : ℕ) (x : A) → n < length xs → take n xs ≡ map f (range_with_len 0 n) → x ≡ f n
+    → take (n + 1) (set xs n x) ≡ map f (range_with_len 0 (n + 1))
+first_more {A} f xs n x less is value =
+    take_more_set xs n x less ∙ ap (λ (ys : List A). ys ++ x ∷ []) is ∙ ap (λ (y : A). map f (range_with_len 0 n) ++ y ∷ []) value
+    ∙ sym (map-range_with_len_more f 0 n n (omega arith))
 
 -- one value more
 pub block_more : {A : Type 0} (total : ℕ) (rest : A) (f : ℕ → A) (n : ℕ) → n < total

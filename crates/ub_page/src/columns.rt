@@ -1,9 +1,10 @@
 // The rows of a region's page in columns of host order: their keys, dimensions and measures, each column in 64 places. The
-// places that no row uses are blank.
-ghost use Rattle.std.specs.Prelude.{◌≡◌, ◌+◌, ◌*◌, ◌<◌, ◌≤◌, ◌-◌, pos};
+// places of dimensions and measures that no row uses are blank; in those of keys anything stands.
+ghost use Rattle.std.specs.Prelude.{◌≡◌, ◌+◌, ◌*◌, ◌<◌, ◌≤◌, ◌-◌, pos, length, map, take};
+ghost use Rattle.std.specs.List.{range_with_len};
 ghost use Rattle.std.specs.Int.{w64, cast_signed};
 ghost use Rattle.ub_page.specs.Bytes.{number_at};
-ghost use Rattle.ub_page.specs.Columns.{block, blank_dims, blank_measures, blank_key, blank_row, point_in, values_in, key_in, row_in};
+ghost use Rattle.ub_page.specs.Columns.{block, blank_dims, blank_measures, point_in, values_in, key_in, row_in};
 
 use crate::page::{Page, i64_at, u32_at};
 use ub_table::{Key, MAX_ROWS, Row};
@@ -18,77 +19,88 @@ pub type Dims = [[u32; MAX_ROWS]; 4];
 /// The first measure of each row, then the second, and so on.
 pub type Measures = [[i64; MAX_ROWS]; 4];
 
-/// The dimensions of so many rows, the first of which begin at a place of the page.
-pub fn read_dims(page: &Page, dims: usize, place: usize, count: usize) -> Dims
+/// Puts in the columns the dimensions of so many rows, the first of which begin at a place of the
+/// page.
+pub fn read_dims(columns: &mut Dims, page: &Page, dims: usize, place: usize, count: usize)
     requires dims { dims ≤ 4 }
     requires place { place ≤ 280 }
     requires count { count ≤ MAX_ROWS }
-    ensures { result ≡ block 4 blank_dims (λ d. block MAX_ROWS 0
+    ensures { columns.new ≡ block 4 blank_dims (λ d. block MAX_ROWS 0
         (λ i. number_at 4 (place + 4 * (count * d + i)) page.now) count) dims }
 {
-    let mut columns = [[0; MAX_ROWS]; 4];
+    *columns = [[0; MAX_ROWS]; 4];
     for dim in 0..dims {
-        columns[dim] = read_dim(page, dim, place, count);
+        read_dim(&mut columns[dim], page, dim, place, count);
     }
-    columns
 }
 
 // One dimension of them.
-fn read_dim(page: &Page, dim: usize, place: usize, count: usize) -> [u32; MAX_ROWS]
+fn read_dim(column: &mut [u32; MAX_ROWS], page: &Page, dim: usize, place: usize, count: usize)
     requires dim { dim < 4 }
     requires place { place ≤ 280 }
     requires count { count ≤ MAX_ROWS }
-    ensures { result
+    ensures { column.new
         ≡ block MAX_ROWS 0 (λ i. number_at 4 (place + 4 * (count * dim + i)) page.now) count }
 {
-    let mut column = [0; MAX_ROWS];
+    *column = [0; MAX_ROWS];
     for i in 0..count {
         column[i] = u32_at(page, place + 4 * (count * dim + i));
     }
-    column
 }
 
-/// The measures of so many rows, the first of which begin at a place of the page.
-pub fn read_measures(page: &Page, measures: usize, place: usize, count: usize) -> Measures
+/// Puts in the columns the measures of so many rows, the first of which begin at a place of the
+/// page.
+pub fn read_measures(
+    columns: &mut Measures,
+    page: &Page,
+    measures: usize,
+    place: usize,
+    count: usize,
+)
     requires measures { measures ≤ 4 }
     requires place { place ≤ 1304 }
     requires count { count ≤ MAX_ROWS }
-    ensures { result ≡ block 4 blank_measures (λ m. block MAX_ROWS (pos 0)
+    ensures { columns.new ≡ block 4 blank_measures (λ m. block MAX_ROWS (pos 0)
         (λ i. cast_signed w64 (number_at 8 (place + 8 * (count * m + i)) page.now)) count)
         measures }
 {
-    let mut columns = [[0; MAX_ROWS]; 4];
+    *columns = [[0; MAX_ROWS]; 4];
     for measure in 0..measures {
-        columns[measure] = read_measure(page, measure, place, count);
+        read_measure(&mut columns[measure], page, measure, place, count);
     }
-    columns
 }
 
 // One measure of them.
-fn read_measure(page: &Page, measure: usize, place: usize, count: usize) -> [i64; MAX_ROWS]
+fn read_measure(
+    column: &mut [i64; MAX_ROWS],
+    page: &Page,
+    measure: usize,
+    place: usize,
+    count: usize,
+)
     requires measure { measure < 4 }
     requires place { place ≤ 1304 }
     requires count { count ≤ MAX_ROWS }
-    ensures { result ≡ block MAX_ROWS (pos 0)
+    ensures { column.new ≡ block MAX_ROWS (pos 0)
         (λ i. cast_signed w64 (number_at 8 (place + 8 * (count * measure + i)) page.now)) count }
 {
-    let mut column = [0; MAX_ROWS];
+    *column = [0; MAX_ROWS];
     for i in 0..count {
         column[i] = i64_at(page, place + 8 * (count * measure + i));
     }
-    column
 }
 
-/// The keys of so many rows with these dimensions: the address of each is made here, once for a page.
-pub fn read_keys(page: &Page, shape: Shape, dims: &Dims, count: usize) -> Keys
+/// Puts in the first places the keys of so many rows with these dimensions: the address of each is
+/// made here, once for a page.
+pub fn read_keys(keys: &mut Keys, page: &Page, shape: Shape, dims: &Dims, count: usize)
     requires { count ≤ MAX_ROWS }
-    ensures { result ≡ block MAX_ROWS blank_key (key_in shape page.now dims.now) count }
+    ensures keys { take count keys.new
+        ≡ map (key_in shape page.now dims.now) (range_with_len 0 count) }
+    ensures long { length keys.new ≡ MAX_ROWS }
 {
-    let mut keys = [Key { z: 0, number: 0 }; MAX_ROWS];
     for i in 0..count {
         keys[i] = read_key(page, shape, dims, i);
     }
-    keys
 }
 
 // The key of the row at an index.
@@ -137,19 +149,20 @@ pub fn row_at(keys: &Keys, dims: &Dims, measures: &Measures, i: usize) -> Row
     }
 }
 
-/// So many rows of the columns, and blank ones after them.
-pub fn rows_of(keys: &Keys, dims: &Dims, measures: &Measures, count: usize) -> [Row; MAX_ROWS]
+/// Puts so many rows of the columns in the first places.
+pub fn make_rows(
+    rows: &mut [Row; MAX_ROWS],
+    keys: &Keys,
+    dims: &Dims,
+    measures: &Measures,
+    count: usize,
+)
     requires { count ≤ MAX_ROWS }
-    ensures { result ≡ block MAX_ROWS blank_row (row_in keys.now dims.now measures.now) count }
+    ensures rows { take count rows.new
+        ≡ map (row_in keys.now dims.now measures.now) (range_with_len 0 count) }
+    ensures long { length rows.new ≡ MAX_ROWS }
 {
-    let blank = Row {
-        number: 0,
-        dims: [0; 4],
-        measures: [0; 4],
-    };
-    let mut rows = [blank; MAX_ROWS];
     for i in 0..count {
         rows[i] = row_at(keys, dims, measures, i);
     }
-    rows
 }

@@ -1,9 +1,12 @@
-ghost use Rattle.std.specs.Prelude.{◌≡◌, ◌+◌, ◌<◌, ◌≤◌, ◌^◌, [], ◌∷◌, ◌++◌, length, drop};
+ghost use Rattle.std.specs.Prelude.{◌≡◌, ◌+◌, ◌*◌, ◌<◌, ◌≤◌, ◌^◌, [], ◌∷◌, ◌++◌, length, drop};
 ghost use Rattle.ub_page.specs.Bytes.{number_bytes, padded};
+ghost use Rattle.ub_page.specs.Region.{column, dim_of, measure_of};
 
 use crate::page::Page;
+use crate::spelling::{write_dim, write_measure, write_numbers};
 use byteorder::{BigEndian, ByteOrder};
 use std::marker::Model;
+use ub_table::Row;
 
 // A page that is being written from its front: the bytes so far, and zeros after them.
 #[derive(Drop)]
@@ -97,6 +100,38 @@ impl Draft {
     {
         copy_to_front(&mut self.page[self.len..], bytes);
         self.len += bytes.len();
+    }
+
+    // Puts the numbers of all rows.
+    pub(crate) fn put_numbers(&mut self, rows: &[Row])
+        requires { length self.old + 4 * length rows.now ≤ 4096 }
+        ensures bytes { self.new ≡ self.old ++ column 4 (λ row. row.number) rows.now }
+        ensures len { length self.new ≡ length self.old + 4 * length rows.now }
+    {
+        write_numbers(&mut self.page[self.len..], rows);
+        self.len += 4 * rows.len();
+    }
+
+    // Puts one dimension of all rows.
+    pub(crate) fn put_dim(&mut self, rows: &[Row], dim: usize)
+        requires dim { dim < 4 }
+        requires room { length self.old + 4 * length rows.now ≤ 4096 }
+        ensures bytes { self.new ≡ self.old ++ column 4 (dim_of dim) rows.now }
+        ensures len { length self.new ≡ length self.old + 4 * length rows.now }
+    {
+        write_dim(&mut self.page[self.len..], rows, dim);
+        self.len += 4 * rows.len();
+    }
+
+    // Puts one measure of all rows, in two's complement.
+    pub(crate) fn put_measure(&mut self, rows: &[Row], measure: usize)
+        requires measure { measure < 4 }
+        requires room { length self.old + 8 * length rows.now ≤ 4096 }
+        ensures bytes { self.new ≡ self.old ++ column 8 (measure_of measure) rows.now }
+        ensures len { length self.new ≡ length self.old + 8 * length rows.now }
+    {
+        write_measure(&mut self.page[self.len..], rows, measure);
+        self.len += 8 * rows.len();
     }
 
     // The page, all bytes that are not written being zero.

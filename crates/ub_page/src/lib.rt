@@ -14,6 +14,7 @@ pub mod header;
 pub mod laws;
 pub mod page;
 pub mod region;
+mod spelling;
 
 pub use directory::{Directory, Entry, read_directory, write_directory};
 pub use header::{Header, read_header, write_header};

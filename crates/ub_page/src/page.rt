@@ -67,7 +67,8 @@ pub(crate) fn is_blank_from(page: &Page, place: usize) -> bool
     requires { place ≤ 4096 }
     ensures { IsTrue result ↔ (drop place page.now ≡ replicate (4096 - place) 0) }
 {
-    are_equal(&page[place..], &[0; 4096][place..])
+    let blank: &Page = &[0; 4096];
+    are_equal(&page[place..], &blank[place..])
 }
 
 // Whether two texts are the same, byte for byte.

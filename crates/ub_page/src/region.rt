@@ -3,11 +3,13 @@ ghost use Rattle.std.specs.Int.{bit_at};
 ghost use Rattle.std.specs.List.{AllByRecursion};
 ghost use Rattle.ub_page.specs.Bytes.{number_at};
 ghost use Rattle.ub_page.specs.Columns.{end_with, IsKeyNumbered};
-ghost use Rattle.ub_page.specs.Region.{column, columns, dim_of, measure_of, region_page, region_on, empty_region, IsRegionKind, HasCounts, HasRows, HasOrder, HasFirst, IsRegionFault, IsRowInside};
+ghost use Rattle.ub_page.specs.Region.{columns, dim_of, measure_of, region_page, region_on, empty_region, IsRegionKind, HasCounts, HasRows, HasOrder, HasFirst, IsRegionFault, IsRowInside};
 ghost use Rattle.ub_table.specs.Keys.{AreKeysAscending};
 ghost use Rattle.ub_table.specs.Region.{Region, keys_of, IsNumbered, IsFirst, AreFrom, IsRegion};
 
-use crate::columns::{Dims, Keys, Measures, read_dims, read_keys, read_measures, row_at, rows_of};
+use crate::columns::{
+    Dims, Keys, Measures, make_rows, read_dims, read_keys, read_measures, row_at,
+};
 use crate::draft::Draft;
 use crate::laws::mask_between;
 use crate::page::{Page, is_blank_from, u8_at, u32_at, u128_at};
@@ -180,15 +182,16 @@ impl RegionPage {
             z: u128_at(page, 4),
             number: u32_at(page, 20),
         };
-        self.dims = read_dims(page, used, place, len);
-        self.measures = read_measures(
+        read_dims(&mut self.dims, page, used, place, len);
+        read_measures(
+            &mut self.measures,
             page,
             schema.measures() as usize,
             place + 4 * (len * used),
             len,
         );
-        self.keys = read_keys(page, self.shape, &self.dims, len);
-        self.rows = rows_of(&self.keys, &self.dims, &self.measures, len);
+        read_keys(&mut self.keys, page, self.shape, &self.dims, len);
+        make_rows(&mut self.rows, &self.keys, &self.dims, &self.measures, len);
         self.len = len;
     }
 
@@ -265,21 +268,10 @@ pub fn write_region(schema: &Schema, first: Key, rows: &[Row]) -> Page
     draft.put_u8(rows.len() as u8);
     draft.put_u128(first.z);
     draft.put_u32(first.number);
-    put_numbers(&mut draft, rows);
+    draft.put_numbers(rows);
     put_dims(&mut draft, rows, schema.dims() as usize);
     put_measures(&mut draft, rows, schema.measures() as usize);
     draft.finish()
-}
-
-// The numbers of all rows.
-fn put_numbers(draft: &mut Draft, rows: &[Row])
-    requires { length draft.old + 4 * length rows.now ≤ 4096 }
-    ensures bytes { draft.new ≡ draft.old ++ column 4 (λ row. row.number) rows.now }
-    ensures len { length draft.new ≡ length draft.old + 4 * length rows.now }
-{
-    for row in rows {
-        draft.put_u32(row.number);
-    }
 }
 
 // The first dimension of all rows, then the second, and so on.
@@ -290,19 +282,7 @@ fn put_dims(draft: &mut Draft, rows: &[Row], dims: usize)
     ensures len { length draft.new ≡ length draft.old + 4 * (length rows.now * dims) }
 {
     for dim in 0..dims {
-        put_dim(draft, rows, dim);
-    }
-}
-
-// One dimension of all rows.
-fn put_dim(draft: &mut Draft, rows: &[Row], dim: usize)
-    requires dim { dim < 4 }
-    requires room { length draft.old + 4 * length rows.now ≤ 4096 }
-    ensures bytes { draft.new ≡ draft.old ++ column 4 (dim_of dim) rows.now }
-    ensures len { length draft.new ≡ length draft.old + 4 * length rows.now }
-{
-    for row in rows {
-        draft.put_u32(row.dims[dim]);
+        draft.put_dim(rows, dim);
     }
 }
 
@@ -313,19 +293,7 @@ fn put_measures(draft: &mut Draft, rows: &[Row], measures: usize)
     ensures { draft.new ≡ draft.old ++ columns 8 measure_of measures rows.now }
 {
     for measure in 0..measures {
-        put_measure(draft, rows, measure);
-    }
-}
-
-// One measure of all rows, in two's complement.
-fn put_measure(draft: &mut Draft, rows: &[Row], measure: usize)
-    requires measure { measure < 4 }
-    requires room { length draft.old + 8 * length rows.now ≤ 4096 }
-    ensures bytes { draft.new ≡ draft.old ++ column 8 (measure_of measure) rows.now }
-    ensures len { length draft.new ≡ length draft.old + 8 * length rows.now }
-{
-    for row in rows {
-        draft.put_u64(row.measures[measure].cast_unsigned());
+        draft.put_measure(rows, measure);
     }
 }
 

@@ -2,6 +2,7 @@ pub mod ChainFacts
 pub mod InsertFacts
 pub mod KeyLists
 pub mod Laws
+pub mod PlaceFacts
 pub mod RemoveFacts
 pub mod RowFacts
 pub mod SpanFacts

@@ -55,10 +55,10 @@ impl PageStore for MemStore {
         ensures page { result ≡ ok_or (slice_get self.old n) StoreFault.NoPage }
         ensures kept { self.new ≡ self.old }
     {
-        self.pages
-            .get(n as usize)
-            .copied()
-            .ok_or(StoreFault::NoPage)
+        match self.pages.get(n as usize) {
+            Some(page) => Ok(*page),
+            None => Err(StoreFault::NoPage),
+        }
     }
 
     /// Puts a page in the place of that of this number. NoPage comes where there is none, and no other fault does.

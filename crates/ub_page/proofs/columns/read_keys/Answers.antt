@@ -1,8 +1,13 @@
-use Rattle.std.proofs.Common.{arith}
-use Rattle.ub_page.specs.Columns.{blank_key, key_in}
-use Rattle.ub_page.proofs.PlacesFacts.{block_more}
+use Rattle.std.proofs.Common.{arith, ◌∙◌}
+use Rattle.std.proofs.lemmas.List.{length-set}
+use Rattle.ub_page.specs.Columns.{key_in}
+use Rattle.ub_page.proofs.PlacesFacts.{first_more}
 use Rattle.ub_page.proofs.columns.read_keys.Goals as goal
 
 pub loop-i-preserved : goal.loop-i-preserved
 loop-i-preserved c =
-    rw (c.read_key.ensures, c.loop-i.invariant) (block_more 64 blank_key (key_in c.args.shape c.args.page.now c.args.dims.now) c.loop-i.i (omega arith))
+    let long = c.loop-i.invariant.long in
+    record {
+      first = first_more (key_in c.args.shape c.args.page.now c.args.dims.now) c.loop-i.keys c.loop-i.i c.read_key.result (omega arith) c.loop-i.invariant.first c.read_key.ensures;
+      long = length-set c.loop-i.keys c.loop-i.i c.read_key.result ∙ long;
+    }

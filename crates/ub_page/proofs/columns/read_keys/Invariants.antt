@@ -1,6 +1,10 @@
-use Rattle.std.proofs.Common.{◌≡◌}
-use Rattle.ub_page.specs.Columns.{block, blank_key, key_in}
+use Rattle.std.proofs.Common.{◌≡◌, length, map, take}
+use Rattle.std.specs.List.{range_with_len}
+use Rattle.ub_page.specs.Columns.{key_in}
 use Rattle.ub_page.proofs.columns.read_keys.Given as goal
 
 abbrev pub invariant-loop-i : goal.invariant-loop-i
-invariant-loop-i l = l.keys ≡ block 64 blank_key (key_in l.shape l.page l.dims) l.i
+invariant-loop-i l = record {
+  first : take l.i l.keys ≡ map (key_in l.shape l.page l.dims) (range_with_len 0 l.i);
+  long : length l.keys ≡ 64;
+}
