@@ -21,7 +21,7 @@ pub slot_entry : (last : ℕ) (entries : List Entry) (i : ℕ) (r : Slot) → sl
     → (entry : Entry) × (slice_get entries i ≡ Some entry) × (entry.first ≡ r.first) × (r.from ≡ r.first.z)
 slot_entry last [] i r at = cc
 slot_entry last (e ∷ entries) zero r at =
-    let whole : Slot = slot_with (span_end last (first_keys entries)) e in
+    let whole : Slot = slot_with (span_end last (first_keys entries)) (slice_get (first_keys entries) 0) e in
     let same : whole ≡ r = cc in
     (e, refl, ap (λ (q : Slot). q.first) same, subst (λ (q : Slot). q.from ≡ q.first.z) same refl)
 slot_entry last (e ∷ entries) (suc i) r at = slot_entry last entries i r at
@@ -29,7 +29,7 @@ slot_entry last (e ∷ entries) (suc i) r at = slot_entry last entries i r at
 pub slot_first : (last : ℕ) (entries : List Entry) (i : ℕ) (r : Slot) → slice_get (slots_of last entries) i ≡ Some r → slice_get (first_keys entries) i ≡ Some r.first
 slot_first last [] i r at = cc
 slot_first last (e ∷ entries) zero r at =
-    let whole : Slot = slot_with (span_end last (first_keys entries)) e in
+    let whole : Slot = slot_with (span_end last (first_keys entries)) (slice_get (first_keys entries) 0) e in
     let same : whole ≡ r = cc in
     ap (λ (q : Slot). Some q.first) same
 slot_first last (e ∷ entries) (suc i) r at = slot_first last entries i r at
@@ -91,13 +91,13 @@ pub reaches : (last z : ℕ) (entries : List Entry) → are_ascending (first_key
     → (z ≤ r.to) ↔ (place_of (record { z = z; number = 0 }) (first_keys entries) ≤ i)
 reaches last z [] up le i r at = cc
 reaches last z (e ∷ []) up le zero r at =
-    let whole : Slot = slot_with last e in
+    let whole : Slot = slot_with last None e in
     let same : whole ≡ r = cc in
     let end : last ≡ r.to = ap (λ (q : Slot). q.to) same in
     (λ x. omega arith, λ x. omega arith)
 reaches last z (e ∷ []) up le (suc i) r at = cc
 reaches last z (e ∷ next ∷ entries) up le zero r at =
-    let whole : Slot = slot_with (address_before next.first.z next.first.number) e in
+    let whole : Slot = slot_with (address_before next.first.z next.first.number) (Some next.first) e in
     let same : whole ≡ r = cc in
     let end : address_before next.first.z next.first.number ≡ r.to = ap (λ (q : Slot). q.to) same in
     let is = ends_from z e.first next.first (and_parts _ _ up).0 in
@@ -140,13 +140,13 @@ begins_by z first (next ∷ firsts) (suc i) found le is at = elim (cases_Bool (p
 pub ends_by_last : (last : ℕ) (entries : List Entry) → All (λ entry. entry.first.z ≤ last) entries → (i : ℕ) (r : Slot) → slice_get (slots_of last entries) i ≡ Some r → r.to ≤ last
 ends_by_last last [] within i r at = cc
 ends_by_last last (e ∷ []) within zero r at =
-    let whole : Slot = slot_with last e in
+    let whole : Slot = slot_with last None e in
     let same : whole ≡ r = cc in
     let end : last ≡ r.to = ap (λ (q : Slot). q.to) same in
     omega arith
 ends_by_last last (e ∷ []) within (suc i) r at = cc
 ends_by_last last (e ∷ next ∷ entries) within zero r at =
-    let whole : Slot = slot_with (address_before next.first.z next.first.number) e in
+    let whole : Slot = slot_with (address_before next.first.z next.first.number) (Some next.first) e in
     let same : whole ≡ r = cc in
     let end : address_before next.first.z next.first.number ≡ r.to = ap (λ (q : Slot). q.to) same in
     let small : next.first.z ≤ last = within 1 next (omega arith) in

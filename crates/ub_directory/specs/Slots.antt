@@ -1,7 +1,7 @@
 -- Where the regions of a table stand: entries in the order of their first keys; and the span of each.
-use Rattle.std.specs.Prelude.{◌≡◌, ◌≤◌, ℕ, suc, List, [], ◌∷◌, map, Option, Some, IfSome, All, IsTrue, slice_get}
+use Rattle.std.specs.Prelude.{◌≡◌, ◌+◌, ◌≤◌, ◌<◌, ℕ, suc, List, [], ◌∷◌, map, Option, Some, None, IfSome, All, IsTrue, length, slice_get}
 use Rattle.ub_bigmin.specs.Box.{Corners, HoldsAny}
-use Rattle.ub_directory.specs.declared.seat.Seat.{Seat}
+use Rattle.ub_directory.specs.View.{SeatView}
 use Rattle.ub_directory.specs.declared.slot.Slot.{Slot}
 use Rattle.ub_page.specs.declared.directory.Entry.{Entry}
 use Rattle.ub_region.specs.Spans.{span_end}
@@ -17,16 +17,33 @@ abbrev pub ArePlaces : ℕ → List Entry → Type 0
 ArePlaces last entries =
     (slice_get (first_keys entries) 0 ≡ Some origin) × All (λ entry. entry.first.z ≤ last) entries × IsTrue (are_ascending (first_keys entries))
 
--- the region at a place of these entries, and where the next one begins
-pub record IsSeat (entries : List Entry) (place : ℕ) (seat : Seat) : Type 0 where
-  pub entry : slice_get entries place ≡ Some (record { first = seat.first; page = seat.page })
-  pub next : seat.next ≡ slice_get (first_keys entries) (suc place)
+-- the seat of one of these entries
+pub record IsSeat (entries : List Entry) (seat : SeatView) : Type 0 where
+  pub within : seat.index < length entries
+  pub entry : slice_get entries seat.index ≡ Some (record { first = seat.first; page = seat.page })
+  pub next : seat.next ≡ slice_get (first_keys entries) (suc seat.index)
+
+-- the seat of the entry after that of a seat, or none where it has the last one
+abbrev pub IsSeatAfter : List Entry → SeatView → Option SeatView → Type 0
+IsSeatAfter entries seat None = length entries ≡ seat.index + 1
+IsSeatAfter entries seat (Some next) = IsSeat entries next × (next.index ≡ seat.index + 1)
+
+-- the seat of the entry before that of a seat, or none where it has the first one
+abbrev pub IsSeatBefore : List Entry → SeatView → Option SeatView → Type 0
+IsSeatBefore entries seat None = seat.index ≡ 0
+IsSeatBefore entries seat (Some before) = IsSeat entries before × (seat.index ≡ before.index + 1)
 
 -- the slots of these entries, each with its region's span, in a space that ends with this address
 abbrev pub slots_of : ℕ → List Entry → List Slot
 slots_of last [] = []
 slots_of last (entry ∷ entries) =
-    record { first = entry.first; from = entry.first.z; to = span_end last (first_keys entries); page = entry.page } ∷ slots_of last entries
+    record {
+      first = entry.first;
+      next = slice_get (first_keys entries) 0;
+      from = entry.first.z;
+      to = span_end last (first_keys entries);
+      page = entry.page;
+    } ∷ slots_of last entries
 
 -- some address of the span lies in one of the boxes
 abbrev pub Meets : List Corners → Slot → Type 0

@@ -1,4 +1,4 @@
-ghost use Rattle.std.specs.Prelude.{◌≡◌, ℕ, List, ◌+◌, ◌<◌, ◌≤◌, ◌^◌, [], ◌∷◌, Some, IfOk, IfErr, OnOk, OnErr, length, slice_get};
+ghost use Rattle.std.specs.Prelude.{◌≡◌, ℕ, List, ◌+◌, ◌<◌, ◌≤◌, ◌^◌, [], ◌∷◌, Some, IfOk, IfErr, OnOk, length, slice_get};
 ghost use Rattle.std.specs.List.{insert, remove};
 ghost use Rattle.ub_zaddr.specs.Address.{last_address};
 ghost use Rattle.ub_page.specs.Header.{IsHeader};
@@ -8,10 +8,11 @@ ghost use Rattle.ub_table.specs.Keys.{origin};
 ghost use Rattle.ub_directory.specs.Chain.{AreOwn, HasDirectory};
 ghost use Rattle.ub_directory.specs.Reading.{IsReadWhole, Opens};
 ghost use Rattle.ub_directory.specs.Searching.{Searches};
-ghost use Rattle.ub_directory.specs.Slots.{ArePlaces, IsSeat, first_keys, slots_of, Meets, IsLater, First};
+ghost use Rattle.ub_directory.specs.Slots.{ArePlaces, IsSeat, IsSeatAfter, IsSeatBefore, first_keys, slots_of, Meets, IsLater, First};
 ghost use Rattle.ub_directory.specs.Writing.{IsUntouched, IsSaved, IsSaveFault, put_store};
 
 use crate::fault::DirectoryFault;
+use crate::pending::{Adding, Dropping};
 use crate::places::{ORIGIN, Places};
 use crate::reading::read_table;
 use crate::seat::Seat;
@@ -34,11 +35,17 @@ pub struct Directory {
 }
 
 impl Model for Directory {
+    ghost use Rattle.std.specs.Prelude.{◌-◌, vec_len, vec_capacity};
     ghost use Rattle.ub_directory.specs.View.{DirectoryView};
 
     ghost Value = { DirectoryView };
 
-    ghost view = { λ d. record { entries = d.places.entries.items; chain = d.chain.items; last = d.places.last } };
+    ghost view = { λ d. record {
+      entries = d.places.entries.items;
+      chain = d.chain.items;
+      last = d.places.last;
+      room = vec_capacity d.places.entries - vec_len d.places.entries;
+    } };
 }
 
 impl Directory {
@@ -49,6 +56,7 @@ impl Directory {
           entries = record { first = origin; page = page } ∷ [];
           chain = root ∷ [];
           last = last;
+          room = d.room;
         }) }
     {
         let mut entries = Vec::new(alloc);
@@ -125,64 +133,144 @@ impl Directory {
         self.chain[0]
     }
 
-    /// The place of the region that holds a key: the last one that does not begin after it.
-    pub fn place_of(&self, key: &Key) -> usize
-        ensures place { result ≡ place_of key.now (first_keys self.now.entries) }
-        ensures within { result < length self.now.entries }
+    /// The region that holds a key: the last one that does not begin after it. Store with Device
+    /// comes where the store failed in this call, with Memory where memory was refused.
+    pub fn seat_of<S: PageStore>(
+        &self,
+        pager: &mut Pager<S>,
+        key: &Key,
+    ) -> Result<Seat, DirectoryFault>
+        ensures seat { IfOk result (IsSeat self.now.entries) }
+        ensures index { IfOk result (λ seat. seat.index ≡
+            place_of key.now (first_keys self.now.entries)) }
+        ensures effect { Searches pager.old pager.new result }
     {
-        self.places.place_of(key)
+        Ok(self.seat_at(self.places.index_of(key)))
     }
 
-    /// The region at a place, and where the next one begins.
-    pub fn seat_at(&self, place: usize) -> Seat
-        requires { place < length self.now.entries }
-        ensures { IsSeat self.now.entries place result }
+    /// The region after that of a seat, if there is one. Store with Device comes where the store
+    /// failed in this call, with Memory where memory was refused.
+    pub fn after<S: PageStore>(
+        &self,
+        pager: &mut Pager<S>,
+        seat: &Seat,
+    ) -> Result<Option<Seat>, DirectoryFault>
+        requires { IsSeat self.now.entries seat.now }
+        ensures after { IfOk result (IsSeatAfter self.now.entries seat.now) }
+        ensures effect { Searches pager.old pager.new result }
     {
-        let entry = self.places.entries[place];
+        let count = self.count();
+        let index = seat.index + 1;
+        if index == count {
+            return Ok(None);
+        }
+        Ok(Some(self.seat_at(index)))
+    }
+
+    /// The region before that of a seat, if there is one. Store with Device comes where the store
+    /// failed in this call, with Memory where memory was refused.
+    pub fn before<S: PageStore>(
+        &self,
+        pager: &mut Pager<S>,
+        seat: &Seat,
+    ) -> Result<Option<Seat>, DirectoryFault>
+        requires { IsSeat self.now.entries seat.now }
+        ensures before { IfOk result (IsSeatBefore self.now.entries seat.now) }
+        ensures effect { Searches pager.old pager.new result }
+    {
+        if seat.index == 0 {
+            return Ok(None);
+        }
+        Ok(Some(self.seat_at(seat.index - 1)))
+    }
+
+    // The seat of the region of an index.
+    fn seat_at(&self, index: usize) -> Seat
+        requires { index < length self.now.entries }
+        ensures seat { IsSeat self.now.entries result }
+        ensures index { result.index ≡ index }
+    {
+        let entry = self.places.entries[index];
         Seat {
+            index,
             first: entry.first,
             page: entry.page,
-            next: self.next_after(place),
+            next: self.places.first_at(index + 1),
         }
     }
 
-    /// The region that holds a key: the last one that does not begin after it.
-    pub fn seat_of(&self, key: &Key) -> Seat
-        ensures { IsSeat self.now.entries (place_of key.now (first_keys self.now.entries)) result }
-    {
-        self.seat_at(self.place_of(key))
-    }
-
-    // Where the region after that at a place begins.
-    fn next_after(&self, place: usize) -> Option<Key>
-        requires { place < length self.now.entries }
-        ensures { result ≡ slice_get (first_keys self.now.entries) (place + 1) }
-    {
-        let entry = self.places.entries.get(place + 1)?;
-        Some(entry.first)
-    }
-
-    /// Puts an entry after the one at a place, where the entries stay in order. Refused memory leaves all as it was.
-    pub fn insert_after(&mut self, place: usize, entry: Entry) -> Result<(), AllocError>
-        requires place { place < length self.old.entries }
-        requires places { ArePlaces self.old.last (insert self.old.entries (place + 1) entry) }
-        ensures ok { OnOk result (self.new ≡ record self.old {
-          entries = insert self.old.entries (place + 1) entry;
+    /// Makes ready to put an entry with this first key after that of a seat, where the entries stay
+    /// in order: takes the memory for it. Store with Device comes where the store failed in this
+    /// call, with Memory where memory was refused; the directory is then as it was.
+    pub fn prepare_add<S: PageStore>(
+        &mut self,
+        pager: &mut Pager<S>,
+        seat: &Seat,
+        first: Key,
+    ) -> Result<Adding, DirectoryFault>
+        requires seat { IsSeat self.old.entries seat.now }
+        ensures adding { IfOk result (λ adding. adding ≡ record {
+          index = seat.now.index + 1;
+          first = first;
         }) }
-        ensures err { OnErr result (self.new ≡ self.old) }
-        ensures places { ArePlaces self.new.last self.new.entries }
+        ensures room { OnOk result (1 ≤ self.new.room) }
+        ensures same { self.new ≡ record self.old { room = self.new.room } }
+        ensures effect { Searches pager.old pager.new result }
     {
-        self.places.insert_after(place, entry)
+        self.places.reserve()?;
+        Ok(Adding {
+            index: seat.index + 1,
+            first,
+        })
     }
 
-    /// Takes out the entry at a place, but not the first one.
-    pub fn remove(&mut self, place: usize)
-        requires some { 1 ≤ place }
-        requires within { place < length self.old.entries }
-        ensures same { self.new ≡ record self.old { entries = remove self.old.entries place } }
+    /// Puts an entry in for which all is ready, with this page. It takes no memory.
+    pub fn commit_add(&mut self, adding: Adding, page: u32)
+        requires room { 1 ≤ self.old.room }
+        requires within { adding.index ≤ length self.old.entries }
+        requires places { ArePlaces self.old.last (insert self.old.entries adding.index (record {
+          first = adding.first;
+          page = page;
+        })) }
+        ensures same { self.new ≡ record self.old {
+          entries = insert self.old.entries adding.index (record {
+            first = adding.first;
+            page = page;
+          });
+          room = self.new.room;
+        } }
         ensures places { ArePlaces self.new.last self.new.entries }
     {
-        self.places.remove(place);
+        let Adding { index, first } = adding;
+        self.places.insert(index, Entry { first, page });
+    }
+
+    /// Makes ready to take out the entry of a seat, but not the first one. Store with Device comes
+    /// where the store failed in this call, with Memory where memory was refused.
+    pub fn prepare_drop<S: PageStore>(
+        &self,
+        pager: &mut Pager<S>,
+        seat: &Seat,
+    ) -> Result<Dropping, DirectoryFault>
+        requires some { 1 ≤ seat.now.index }
+        requires seat { IsSeat self.now.entries seat.now }
+        ensures dropping { IfOk result (λ dropping. dropping ≡ record { index = seat.now.index }) }
+        ensures effect { Searches pager.old pager.new result }
+    {
+        Ok(Dropping { index: seat.index })
+    }
+
+    /// Takes an entry out for which all is ready. It takes no memory.
+    pub fn commit_drop(&mut self, dropping: Dropping)
+        requires some { 1 ≤ dropping.index }
+        requires within { dropping.index < length self.old.entries }
+        ensures same { self.new ≡ record self.old {
+          entries = remove self.old.entries dropping.index;
+          room = self.new.room;
+        } }
+        ensures places { ArePlaces self.new.last self.new.entries }
+    {
+        self.places.remove(dropping.index);
     }
 
     /// The first region that begins after a key, if one is given, and whose span ends at z or later. `None` exactly where there is

@@ -1,4 +1,4 @@
-ghost use Rattle.std.specs.Prelude.{◌≡◌, ℕ, ◌+◌, ◌-◌, ◌<◌, ◌≤◌, ◌↔◌, max, Some, None, IsTrue, All, Bool, if◌then◌else◌, nat_le, nat_lt, length, slice_get, IsSome, IfSome, OnOk, OnErr};
+ghost use Rattle.std.specs.Prelude.{◌≡◌, ℕ, ◌+◌, ◌-◌, ◌<◌, ◌≤◌, ◌↔◌, max, Some, None, IsTrue, All, Bool, if◌then◌else◌, nat_le, nat_lt, length, slice_get, vec_len, vec_capacity, IsSome, IfSome, OnOk};
 ghost use Rattle.std.specs.List.{insert, remove};
 ghost use Rattle.ub_bigmin.specs.Box.{Corners};
 ghost use Rattle.ub_region.specs.Regions.{place_of};
@@ -41,33 +41,40 @@ impl Places {
         }
     }
 
-    /// Puts an entry after the one at a place, where the entries stay in order. Refused memory leaves all as it was.
-    pub fn insert_after(&mut self, place: usize, entry: Entry) -> Result<(), AllocError>
-        requires place { place < length self.old.entries.items }
-        requires places { ArePlaces self.old.last
-            (insert self.old.entries.items (place + 1) entry) }
+    /// Takes memory for one entry more. Refused memory leaves all as it was.
+    pub fn reserve(&mut self) -> Result<(), AllocError>
         ensures last { self.new.last ≡ self.old.last }
-        ensures ok { OnOk result (self.new.entries.items ≡ insert self.old.entries.items
-            (place + 1) entry) }
-        ensures err { OnErr result (self.new.entries.items ≡ self.old.entries.items) }
+        ensures entries { self.new.entries.items ≡ self.old.entries.items }
+        ensures room { OnOk result (vec_len self.new.entries < vec_capacity self.new.entries) }
     {
-        self.entries.insert(place + 1, entry)?;
-        Ok(())
+        self.entries.reserve(1)
     }
 
-    /// Takes out the entry at a place, but not the first one.
-    pub fn remove(&mut self, place: usize)
-        requires some { 1 ≤ place }
-        requires within { place < length self.old.entries.items }
+    /// Puts an entry in at an index, where the entries stay in order, into memory that was taken
+    /// before.
+    pub fn insert(&mut self, index: usize, entry: Entry)
+        requires room { vec_len self.old.entries < vec_capacity self.old.entries }
+        requires index { index ≤ length self.old.entries.items }
+        requires places { ArePlaces self.old.last (insert self.old.entries.items index entry) }
         ensures last { self.new.last ≡ self.old.last }
-        ensures entries { self.new.entries.items ≡ remove self.old.entries.items place }
+        ensures entries { self.new.entries.items ≡ insert self.old.entries.items index entry }
     {
-        self.entries.remove(place);
+        self.entries.insert(index, entry).unwrap();
     }
 
-    /// The place of the region that holds a key: the last one that does not begin after it.
-    pub fn place_of(&self, key: &Key) -> usize
-        ensures place { result ≡ place_of key.now (first_keys self.now.entries.items) }
+    /// Takes out the entry of an index, but not the first one.
+    pub fn remove(&mut self, index: usize)
+        requires some { 1 ≤ index }
+        requires within { index < length self.old.entries.items }
+        ensures last { self.new.last ≡ self.old.last }
+        ensures entries { self.new.entries.items ≡ remove self.old.entries.items index }
+    {
+        self.entries.remove(index);
+    }
+
+    /// The index of the region that holds a key: the last one that does not begin after it.
+    pub fn index_of(&self, key: &Key) -> usize
+        ensures index { result ≡ place_of key.now (first_keys self.now.entries.items) }
         ensures within { result < length self.now.entries.items }
     {
         self.count_up_to(key) - 1
@@ -94,17 +101,27 @@ impl Places {
         low
     }
 
-    /// The slot at a place, if there is one.
+    /// Where the region of an index begins, if there is one.
+    pub fn first_at(&self, i: usize) -> Option<Key>
+        ensures { result ≡ slice_get (first_keys self.now.entries.items) i }
+    {
+        let entry = self.entries.get(i)?;
+        Some(entry.first)
+    }
+
+    /// The slot of an index, if there is one.
     pub fn slot_at(&self, i: usize) -> Option<Slot>
         ensures { result ≡ slice_get (slots_of self.now.last self.now.entries.items) i }
     {
         let entry = self.entries.get(i)?;
-        let to = match self.entries.get(i + 1) {
-            Some(next) => end_before(&next.first),
+        let next = self.first_at(i + 1);
+        let to = match next {
+            Some(next) => end_before(&next),
             None => self.last,
         };
         Some(Slot {
             first: entry.first,
+            next,
             from: entry.first.z,
             to,
             page: entry.page,
@@ -132,7 +149,7 @@ impl Places {
         self.reach(z, start)
     }
 
-    // The place of the first region that begins after the key, or of the first of all.
+    // The index of the first region that begins after the key, or of the first of all.
     fn start(&self, after: Option<Key>) -> usize
         ensures { (i : ℕ) (slot : Slot)
             → slice_get (slots_of self.now.last self.now.entries.items) i ≡ Some slot
@@ -144,8 +161,8 @@ impl Places {
         }
     }
 
-    // The first region at this place or later whose span ends at z or later. It is the one that holds the least key of
-    // the address z, or a later one.
+    // The first region of this index or a later one whose span ends at z or later. It is the one
+    // that holds the least key of the address z, or a later one.
     fn reach(&self, z: u128, start: usize) -> Option<Slot>
         ensures { result ≡ (if nat_le z self.now.last then slice_get
             (slots_of self.now.last self.now.entries.items)
@@ -158,7 +175,7 @@ impl Places {
             return None;
         }
         let least = Key { z, number: 0 };
-        self.slot_at(start.max(self.place_of(&least)))
+        self.slot_at(start.max(self.index_of(&least)))
     }
 }
 
@@ -245,8 +262,8 @@ mod tests {
         assert_eq!(rt; span(all.slot_at(1)), Some((10, 12)));
         assert_eq!(rt; span(all.slot_at(2)), Some((13, last)));
         assert_eq!(rt; all.slot_at(3), None);
-        assert_eq!(rt; all.place_of(&Key { z: 13, number: 5 }), 2);
-        assert_eq!(rt; all.place_of(&Key { z: 12, number: 9 }), 1);
+        assert_eq!(rt; all.index_of(&Key { z: 13, number: 5 }), 2);
+        assert_eq!(rt; all.index_of(&Key { z: 12, number: 9 }), 1);
         assert_eq!(rt; span(all.seek(12, None)), Some((10, 12)));
         assert_eq!(rt; all.seek(last + 1, None), None);
         Ok(())
@@ -286,7 +303,8 @@ mod tests {
         entries.push(Entry { first, page: 1 })?;
         let mut all = Places::new(entries, 99).ok_or("not in order")?;
         let first = Key { z: 10, number: 0 };
-        all.insert_after(0, Entry { first, page: 2 })?;
+        all.reserve()?;
+        all.insert(1, Entry { first, page: 2 });
         assert_eq!(rt; span(all.slot_at(0)), Some((0, 9)));
         all.remove(1);
         assert_eq!(rt; span(all.slot_at(0)), Some((0, 99)));

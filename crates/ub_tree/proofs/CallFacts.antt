@@ -1,19 +1,21 @@
 -- What the calls of a tree find on a sound one, and why they are refused.
-use Rattle.std.proofs.Common.{◌⊎◌, inl, inr, ◌≡◌, ℕ, Bool, true, IsTrue, List, ◌∷◌, Some, Result, Ok, Err, IfErr, IsOk, OnOk, ap, sym, subst, refl, slice_get, length, map, ◌≤◌, ◌<◌, arith}
+use Rattle.std.proofs.Common.{◌⊎◌, inl, inr, ◌≡◌, ℕ, suc, Bool, IsTrue, List, ◌∷◌, Some, Result, Ok, Err, IfErr, IsOk, OnOk, ap, sym, subst, refl, slice_get, length, map, drop, ◌≤◌, ◌<◌, ◌∙◌, arith}
 use Rattle.std.proofs.lemmas.Option.{slice_get_read}
 use Rattle.std.specs.Result.{IsErrAnd, IsErrOf}
 use Rattle.std.specs.List.{Contains}
 use Rattle.ub_zaddr.specs.Address.{last_address}
 use Rattle.ub_page.specs.declared.directory.Entry.{Entry}
+use Rattle.ub_region.specs.Spans.{span_end}
 use Rattle.ub_store.specs.Facts.{StoreFacts, IsHonest, IsPage, Reads, page_count, counted as counted_there}
 use Rattle.ub_store.specs.View.{PagerView, SameTrace}
 use Rattle.ub_store.specs.declared.fault.StoreFault.{StoreFault}
-use Rattle.ub_table.specs.Keys.{are_ascending}
 use Rattle.ub_table.specs.declared.fault.PageFault.{PageFault}
 use Rattle.ub_table.specs.declared.schema.Schema.{Schema}
-use Rattle.ub_tree.specs.Change.{IsWriteFault}
+use Rattle.ub_tree.specs.Change.{IsSeatIn, IsWriteFault}
 use Rattle.ub_tree.specs.Effects.{Searches, read_store, IsReadFault, IsRegionRefused, IsPageRefused, IsPageMissing, IsSpanFault, HasEnded}
 use Rattle.ub_directory.specs.Searching.{Searches as Looks}
+use Rattle.ub_directory.specs.Slots.{IsSeat}
+use Rattle.ub_directory.specs.View.{SeatView}
 use Rattle.ub_directory.specs.declared.fault.DirectoryFault.{DirectoryFault}
 use Rattle.ub_directory.specs.declared.fault.DirectoryFault.TheVariants as directory
 use Rattle.ub_tree.specs.Faults.{tree_fault, opening_fault}
@@ -24,6 +26,7 @@ use Rattle.ub_tree.specs.View.{TreeView, IsSound, spans_of}
 use Rattle.ub_tree.specs.declared.fault.TreeFault.{TreeFault}
 use Rattle.ub_tree.specs.declared.fault.TreeFault.TheVariants.{Page, Store}
 use Rattle.ub_tree.specs.declared.region.Region.{Region as Span}
+use Rattle.ub_tree.proofs.SpanFacts.{region_is, region_with}
 use Rattle.ub_tree.proofs.TreeFacts.{IsKnownAt, entry_known, IsKnown, span_known, spans_are, entries_back, span_entry, contained_at}
 use Rattle.ub_store.specs.declared.fault.StoreFault.TheVariants as store
 
@@ -31,15 +34,15 @@ pub known_is : (facts : StoreFacts) → IsHonest facts → known_pages facts ≡
 known_is facts honest = rw honest refl
 
 pub tree_known : (schema : Schema) (entries : List Entry) (chain : List ℕ) (next rows : ℕ) (changed failed : Bool) (pager : PagerView) (last : ℕ) (span : Span)
-    → last ≡ last_address schema.dims → are_ascending (first_keys entries) ≡ true
+    → last ≡ last_address schema.dims
     → IsSound (tree_view schema entries chain next rows changed failed pager) → Contains (spans_of (tree_view schema entries chain next rows changed failed pager)) span
     → (p : Placed) × IsKnown schema entries (known_pages pager.store) span p
-tree_known schema entries chain next rows changed failed pager last span is up sound there =
+tree_known schema entries chain next rows changed failed pager last span is sound there =
     let known = known_is pager.store sound.honest in
     let placed : ArePlaced schema (placed_of schema (known_pages pager.store) entries) (0 ∷ chain) (known_pages pager.store) =
     subst (λ (pages : List (List ℕ)). ArePlaced schema (placed_of schema (known_pages pager.store) entries) (0 ∷ chain) pages) (sym known) sound.placed_are in
     let spans = spans_are schema (known_pages pager.store) entries last is in
-    span_known schema entries (known_pages pager.store) next last (0 ∷ chain) span up sound.regions_are placed (rw (← spans) at there)
+    span_known schema entries (known_pages pager.store) next last (0 ∷ chain) span sound.regions_are placed (rw (← spans) at there)
 
 -- a page of a store that was read is one of the store before
 pub page_still : {A : Type 0} (result : Result A StoreFault) (old new : StoreFacts) (n : ℕ) (page : List ℕ) → Reads old new result → IsPage new n page → IsPage old n page
@@ -50,12 +53,14 @@ on_ok_by (Ok x) p = p
 on_ok_by (Err e) p = tt
 
 -- what a tree's directory tells of a page that was refused, or isn't there
-pub refused_there : (schema : Schema) (entries : List Entry) (chain : List ℕ) (next rows : ℕ) (changed failed : Bool) (pager : PagerView) (e : Entry) (number : ℕ) (page : List ℕ) (fault : PageFault)
-    → Contains entries e → e.page ≡ number → IsPage pager.store number page → IsRegionRefused schema (first_keys entries) e.first page fault
+pub refused_there : (schema : Schema) (entries : List Entry) (chain : List ℕ) (next rows : ℕ) (changed failed : Bool) (pager : PagerView) (i : ℕ) (e : Entry) (number : ℕ) (page : List ℕ) (fault : PageFault)
+    → slice_get entries i ≡ Some e → e.page ≡ number → IsPage pager.store number page → IsRegionRefused schema e.first (slice_get (first_keys entries) (suc i)) page fault
     → IsPageRefused (tree_view schema entries chain next rows changed failed pager) number fault
-refused_there schema entries chain next rows changed failed pager e number page fault there is at refused =
-    let back = sym (entries_back schema (known_pages pager.store) entries) in
-    (e, subst (λ (es : List Entry). Contains es e) back there, is, page, at, subst (λ (es : List Entry). IsRegionRefused schema (first_keys es) e.first page fault) back refused)
+refused_there schema entries chain next rows changed failed pager i e number page fault at same is refused =
+    let last = last_address schema.dims in
+    let span : Span = region_with (span_end last (first_keys (drop (suc i) entries))) (slice_get (first_keys entries) (suc i)) e in
+    let there = contained_at (λ (_ : Span). Unit {0}) (regions_of last entries) i span (region_is last entries i e at) in
+    (span, subst (λ (es : List Entry). Contains (regions_of last es) span) (sym (entries_back schema (known_pages pager.store) entries)) there, same, page, is, refused)
 
 pub missing_there : (schema : Schema) (entries : List Entry) (chain : List ℕ) (next rows : ℕ) (changed failed : Bool) (pager : PagerView) (e : Entry)
     → Contains entries e → length pager.store.pages ≤ e.page → IsPageMissing (tree_view schema entries chain next rows changed failed pager)
@@ -149,13 +154,13 @@ pub searched_tree : {T : Type 0} (r : Result T TreeFault) (schema : Schema) (ent
 searched_tree r schema entries chain next rows changed failed old new same trace = rw (same, trace.0, trace.1) refl
 
 pub tree_entry_known : (schema : Schema) (entries : List Entry) (chain : List ℕ) (next rows : ℕ) (changed failed : Bool) (pager : PagerView) (place : ℕ) (e : Entry)
-    → are_ascending (first_keys entries) ≡ true → IsSound (tree_view schema entries chain next rows changed failed pager) → slice_get entries place ≡ Some e
-    → IsKnownAt schema entries (known_pages pager.store) e
-tree_entry_known schema entries chain next rows changed failed pager place e up sound at =
+    → IsSound (tree_view schema entries chain next rows changed failed pager) → slice_get entries place ≡ Some e
+    → IsKnownAt schema entries (known_pages pager.store) place e
+tree_entry_known schema entries chain next rows changed failed pager place e sound at =
     let known = known_is pager.store sound.honest in
     let placed : ArePlaced schema (placed_of schema (known_pages pager.store) entries) (0 ∷ chain) (known_pages pager.store) =
     subst (λ (pages : List (List ℕ)). ArePlaced schema (placed_of schema (known_pages pager.store) entries) (0 ∷ chain) pages) (sym known) sound.placed_are in
-    entry_known schema entries (known_pages pager.store) next (0 ∷ chain) place e up sound.regions_are placed at
+    entry_known schema entries (known_pages pager.store) next (0 ∷ chain) place e sound.regions_are placed at
 
 pub write_refused : {U : Type 0} (fault : StoreFault) (old new : TreeView) → (fault ≡ store.Device) ⊎ (fault ≡ store.NoPage)
     → (IsErrOf {T = U} (Err fault) store.Device → IsTrue old.store.can_fail) → (IsErrOf {T = U} (Err fault) store.NoPage → (¬ (IsSound old)) × IsPageMissing old) → HasEnded (Store fault) old new
@@ -179,6 +184,31 @@ pub past_pages : (count number page : ℕ) → number < count → (count ≡ 0) 
 past_pages count number page there (inl none) = omega arith
 past_pages count number page there (inr (inl past)) = absurd (omega arith)
 past_pages count number page there (inr (inr past)) = past
+
+-- the entries of a tree's regions are those of its directory, and a seat among either is one among the other
+pub entries_are : (schema : Schema) (entries : List Entry) (chain : List ℕ) (next rows : ℕ) (changed failed : Bool) (pager : PagerView) (v : TreeView)
+    → tree_view schema entries chain next rows changed failed pager ≡ v → map entry_of v.placed ≡ entries
+entries_are schema entries chain next rows changed failed pager v view =
+    sym (ap (λ (t : TreeView). map entry_of t.placed) view) ∙ entries_back schema (known_pages pager.store) entries
+
+pub seated : (schema : Schema) (entries : List Entry) (chain : List ℕ) (next rows : ℕ) (changed failed : Bool) (pager : PagerView) (v : TreeView) (seat : SeatView)
+    → tree_view schema entries chain next rows changed failed pager ≡ v → IsSeatIn v seat → IsSeat entries seat
+seated schema entries chain next rows changed failed pager v seat view h =
+    subst (λ (es : List Entry). IsSeat es seat) (entries_are schema entries chain next rows changed failed pager v view) h
+
+pub same_seat : (a b : TreeView) (seat : SeatView) → b ≡ a → IsSeatIn a seat → IsSeatIn b seat
+same_seat a b seat same h = subst (λ (v : TreeView). IsSeatIn v seat) (sym same) h
+
+-- a search after one that changed nothing, and the answers of searches as those of others
+pub then_searched : {T : Type 0} (r : Result T TreeFault) (a b c : TreeView) → b ≡ a → Searches b c r → Searches a c r
+then_searched r a b c same h = subst (λ (v : TreeView). Searches v c r) same h
+
+pub still_searched : {T U : Type 0} (x : T) (y : U) (a c : TreeView) → Searches {A = U} a c (Ok y) → Searches {A = T} a c (Ok x)
+still_searched x y a c h = record { same = h.same; faults = tt }
+
+pub missed_by : {T U : Type 0} (r : Result T TreeFault) (e : TreeFault) (a c : TreeView) → IsErrAnd r (λ x. x ≡ e) → Searches {A = U} a c (Err e) → Searches a c r
+missed_by (Ok x) e a c is h = absurd is
+missed_by (Err f) e a c is h = rw is (record { same = h.same; faults = h.faults })
 
 -- a search of the directory, as one of the tree
 module _ (schema : Schema) (entries : List Entry) (chain : List ℕ) (next rows : ℕ) (changed failed : Bool) (old new : PagerView) where

@@ -1,5 +1,5 @@
 -- Table S of two dimensions and at most two rows on a page: five rows inserted, and two removed again.
-use Rattle.std.proofs.Common.{◌≡◌, ℕ, List, [], ◌∷◌, refl, replicate}
+use Rattle.std.proofs.Common.{◌≡◌, ℕ, List, [], ◌∷◌, Option, Some, None, refl, replicate}
 use Rattle.std.specs.Prelude.{pos}
 use Rattle.ub_zaddr.specs.Address.{address, last_address}
 use Rattle.ub_page.specs.declared.directory.Entry.{Entry}
@@ -44,15 +44,15 @@ one_address = refl
 abbrev entry : Key → ℕ → Entry
 entry first page = record { first = first; page = page }
 
-abbrev place : Key → ℕ → ℕ → ℕ → Place
-place first from to page = record { first = first; from = from; to = to; page = page }
+abbrev place : Key → Option Key → ℕ → ℕ → ℕ → Place
+place first next from to page = record { first = first; next = next; from = from; to = to; page = page }
 
 five_spans : regions_of (last_address 2) (entry origin 1 ∷ entry (key 10 0) 3 ∷ entry (key 13 0) 2 ∷ [])
-    ≡ place origin 0 9 1 ∷ place (key 10 0) 10 12 3 ∷ place (key 13 0) 13 (last_address 2) 2 ∷ []
+    ≡ place origin (Some (key 10 0)) 0 9 1 ∷ place (key 10 0) (Some (key 13 0)) 10 12 3 ∷ place (key 13 0) None 13 (last_address 2) 2 ∷ []
 unfolding key
 five_spans = refl
 
 -- two spans share an address
-one_address_spans : regions_of (last_address 2) (entry origin 1 ∷ entry (key 63 3) 2 ∷ []) ≡ place origin 0 63 1 ∷ place (key 63 3) 63 (last_address 2) 2 ∷ []
+one_address_spans : regions_of (last_address 2) (entry origin 1 ∷ entry (key 63 3) 2 ∷ []) ≡ place origin (Some (key 63 3)) 0 63 1 ∷ place (key 63 3) None 63 (last_address 2) 2 ∷ []
 unfolding key
 one_address_spans = refl

@@ -39,7 +39,7 @@ record HasSpan (last i : ℕ) (placed : List Placed) (span : Span) (p : Placed) 
 has_span : (last : ℕ) (placed : List Placed) (i : ℕ) (span : Span) → slice_get (regions_of last (map entry_of placed)) i ≡ Some span → (p : Placed) × HasSpan last i placed span p
 has_span last [] i span at = cc
 has_span last (p ∷ placed) zero span at =
-    let whole : Span = record { first = p.region.first; from = p.region.first.z; to = span_end last (first_keys (map entry_of placed)); page = p.page } in
+    let whole : Span = record { first = p.region.first; next = slice_get (first_keys (map entry_of placed)) 0; from = p.region.first.z; to = span_end last (first_keys (map entry_of placed)); page = p.page } in
     let same : whole ≡ span = cc in (
       p,
       record {

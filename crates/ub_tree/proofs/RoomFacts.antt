@@ -23,7 +23,7 @@ use Rattle.ub_tree.specs.Spans.{first_keys, ArePlaces}
 use Rattle.ub_tree.specs.Tree.{IsHeldBy}
 use Rattle.ub_tree.specs.View.{TreeView, IsSound, regions}
 use Rattle.ub_directory.proofs.Laws.{first_at, same_key}
-use Rattle.ub_tree.proofs.TreeFacts.{contained_at, place_at, region_get}
+use Rattle.ub_tree.proofs.TreeFacts.{contained_at, region_get}
 
 abbrev inserted_at : List Entry → ℕ → Entry → List Entry
 inserted_at es place x = take (suc place) es ++ x ∷ drop (suc place) es
@@ -52,9 +52,6 @@ room_of last es place a x places at h = rw add-one (
       (All-cons (λ (e : Entry). e.first.z ≤ last) x (drop (suc place) es) h.0 (All-drop (λ (e : Entry). e.first.z ≤ last) (suc place) es places.1)),
   up_room es place a x at places.2 h.1 h.2,
 )
-
-pub room_moved : (dims last place : ℕ) (es items : List Entry) (x : Entry) → last ≡ last_address dims → es ≡ items → ArePlaces last (insert items (place + 1) x) → ArePlaces (last_address dims) (insert es (place + 1) x)
-room_moved dims last place es items x is same h = rw (same, ← is) h
 
 -- a key stands before the key of a place, if there is one
 abbrev IsBeforeAt : Key → List Key → ℕ → Type 0
@@ -195,13 +192,12 @@ room_for schema entries place e row rows new are places at good is none made ove
     ))
 
 -- the rows of a page that was read
-pub rows_at_place : (schema : Schema) (entries : List Entry) (place : ℕ) (e : Entry) (region : Region) (rows : List Row) → are_ascending (first_keys entries) ≡ true → slice_get entries place ≡ Some e
-    → IsRegion schema region → region.first ≡ e.first → IsHeldBy schema.dims (first_keys entries) region → rows ≡ region.rows → AreRowsAt schema entries place rows
-rows_at_place schema entries place e region rows up at is first held same = λ f at_f.
+pub rows_at_place : (schema : Schema) (entries : List Entry) (place : ℕ) (e : Entry) (next : Option Key) (region : Region) (rows : List Row) → slice_get entries place ≡ Some e
+    → next ≡ slice_get (first_keys entries) (suc place) → IsRegion schema region → IsHeldBy schema.dims e.first next region → rows ≡ region.rows → AreRowsAt schema entries place rows
+rows_at_place schema entries place e next region rows at after is held same = λ f at_f.
     let one : f ≡ e = cc in
-    let place_is : place_of region.first (first_keys entries) ≡ place = place_at (first_keys entries) up place region.first (first_at entries place e at ∙ ap (λ (k : Key). Some k) (sym first)) in
-    let begins : f.first ≡ region.first = ap (λ (x : Entry). x.first) one ∙ sym first in
-    rw (same, begins) (is, subst (λ (i : ℕ). IfSome (slice_get (first_keys entries) (suc i)) (λ next. AllByRecursion (λ key. IsBefore key next) (keys_of schema.dims region.rows))) place_is held.1)
+    let begins : f.first ≡ region.first = ap (λ (x : Entry). x.first) one ∙ sym held.0 in
+    rw (same, begins, ← after) (is, held.1)
 
 -- no row of a sound tree has the number that is next
 number_free : (dims : ℕ) (key : Key) (rows : List Row) → AllByRecursion (λ row. row.number < key.number) rows → has_key dims key rows ≡ true → ⊥

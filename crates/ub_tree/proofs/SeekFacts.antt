@@ -9,7 +9,7 @@ use Rattle.ub_tree.specs.declared.region.Region.{Region}
 pub region_first : (last : ℕ) (entries : List Entry) (i : ℕ) (r : Region) → slice_get (regions_of last entries) i ≡ Some r → slice_get (first_keys entries) i ≡ Some r.first
 region_first last [] i r at = cc
 region_first last (e ∷ entries) zero r at =
-    let whole : Region = region_with (span_end last (first_keys entries)) e in
+    let whole : Region = region_with (span_end last (first_keys entries)) (slice_get (first_keys entries) 0) e in
     let same : whole ≡ r = cc in
     ap (λ (q : Region). Some q.first) same
 region_first last (e ∷ entries) (suc i) r at = region_first last entries i r at

@@ -12,23 +12,22 @@ use Rattle.ub_region.specs.Joins.{put_rows, JoinsNext, JoinsBefore}
 use Rattle.ub_region.specs.Regions.{AreRegions, change_from, firsts_of, fits_next, is_small, join_before, join_first, place_of, remove, remove_first, rows_of, settle}
 use Rattle.ub_region.specs.Rows.{has_key, remove_row}
 use Rattle.ub_store.specs.Facts.{IsHonest}
-use Rattle.ub_store.specs.View.{PagerView}
 use Rattle.ub_table.proofs.Laws.{before_of, precedes_of}
 use Rattle.ub_table.specs.Keys.{IsBefore, precedes, is_same}
 use Rattle.ub_table.specs.Region.{Region, IsRegion, key_of}
 use Rattle.ub_table.specs.declared.row.Key.{Key}
 use Rattle.ub_table.specs.declared.row.Row.{Row}
 use Rattle.ub_table.specs.declared.schema.Schema.{Schema}
-use Rattle.ub_tree.specs.Change.{IsStored, placed_with, regions_with}
-use Rattle.ub_tree.specs.Placed.{Placed, ArePlaced, placed_of, regions_in}
+use Rattle.ub_directory.specs.View.{SeatView}
+use Rattle.ub_tree.specs.Change.{IsSeatIn, IsStored, placed_with, regions_with}
+use Rattle.ub_tree.specs.Placed.{Placed, ArePlaced, entry_of, placed_of, regions_in}
 use Rattle.ub_tree.specs.Spans.{first_keys}
-use Rattle.ub_tree.specs.Tree.{known_pages, tree_view}
 use Rattle.ub_tree.specs.Stored.{HasMark}
 use Rattle.ub_tree.specs.View.{TreeView, IsSound, regions, tree_rows}
 use Rattle.ub_tree.specs.declared.fault.TreeFault.{TreeFault}
-use Rattle.ub_tree.proofs.GrowFacts.{regions_placed, some_at}
+use Rattle.ub_tree.proofs.GrowFacts.{firsts_placed, regions_placed, some_at}
 use Rattle.ub_tree.proofs.StoredFacts.{IsSpelled, parted, numbers_of}
-use Rattle.ub_tree.proofs.TreeFacts.{firsts_back, length-placed, region_get, placed_at}
+use Rattle.ub_tree.proofs.TreeFacts.{region_get, placed_at}
 use Rattle.ub_tree.specs.Removal.{IsRemoved}
 
 -- the row of a key taken from the region at a place
@@ -128,6 +127,33 @@ join_one c (suc place) rows new fit a rs some at lt is made =
 
 pub length-regions : (placed : List Placed) → length (regions_in placed) ≡ length placed
 length-regions placed = length-map placed (λ (p : Placed). p.region)
+
+-- the same, of the rows that were read of the next region, or of the one before
+pub joins_next : (a s m : TreeView) (i n : ℕ) (rows new more : List Row) (fit : Bool) (c : ℕ) → s ≡ a → m ≡ s → n ≡ i + 1 → n < length a.placed
+    → (IsHonest s.store → (p : Placed) → slice_get s.placed n ≡ Some p → more ≡ p.region.rows) → c ≡ m.schema.page_rows → fit ≡ nat_le (length rows + length more) c
+    → new ≡ (if fit then rows ++ more else rows) → IsHonest a.store → JoinsNext a.schema.page_rows i rows new fit (regions a)
+joins_next a s m i n rows new more fit c one two is lt read count fits made honest =
+    let up : n ≡ suc i = omega arith in
+    let next = some_at a.placed n lt in
+    let b = next.0 in
+    let at : slice_get a.placed (suc i) ≡ Some b = ap (slice_get a.placed) (sym up) ∙ next.1 in
+    let same : more ≡ b.region.rows = subst (λ (v : TreeView). IsHonest v.store → (p : Placed) → slice_get v.placed n ≡ Some p → more ≡ p.region.rows) one read honest b next.1 in
+    let count_a : c ≡ a.schema.page_rows = count ∙ ap (λ (v : TreeView). v.schema.page_rows) (two ∙ one) in
+    join_with a.schema.page_rows i rows new fit b.region (regions a) (region_get a.placed (suc i) b at) (rw (← same, ← count_a) fits) (rw (← same) made)
+
+pub joins_one : (a s m : TreeView) (i n : ℕ) (rows new more : List Row) (fit : Bool) (c : ℕ) → s ≡ a → m ≡ s → i ≡ n + 1 → i < length a.placed
+    → (IsHonest s.store → (p : Placed) → slice_get s.placed n ≡ Some p → more ≡ p.region.rows) → c ≡ m.schema.page_rows → fit ≡ nat_le (length more + length rows) c
+    → new ≡ (if fit then more ++ rows else rows) → IsHonest a.store → JoinsBefore a.schema.page_rows i rows new fit (regions a)
+joins_one a s m i n rows new more fit c one two is lt read count fits made honest =
+    let down : n ≡ i - 1 = omega arith in
+    let before = some_at a.placed n (omega arith) in
+    let b = before.0 in
+    let at : slice_get a.placed (i - 1) ≡ Some b = ap (slice_get a.placed) (sym down) ∙ before.1 in
+    let same : more ≡ b.region.rows = subst (λ (v : TreeView). IsHonest v.store → (p : Placed) → slice_get v.placed n ≡ Some p → more ≡ p.region.rows) one read honest b before.1 in
+    let count_a : c ≡ a.schema.page_rows = count ∙ ap (λ (v : TreeView). v.schema.page_rows) (two ∙ one) in
+    let long = length-regions a.placed in
+    let some : i ≢ 0 = (λ none. absurd (omega arith)) in
+    join_one a.schema.page_rows i rows new fit b.region (regions a) some (region_get a.placed (i - 1) b at) (omega arith) (rw (← same, ← count_a) fits) (rw (← same) made)
 
 -- the entry at a place taken out
 map_removed : {X Y : Type 0} (f : X → Y) (i : ℕ) (xs : List X) → map f (remove_at_place xs i) ≡ remove_at_place (map f xs) i
@@ -307,12 +333,11 @@ pub record IsHolder (a : TreeView) (key : Key) (place : ℕ) (rows : List Row) :
   pub within : place < length a.placed
   pub rows_are : IsHonest a.store → (p : Placed) → slice_get a.placed place ≡ Some p → rows ≡ p.region.rows
 
-pub holder : (schema : Schema) (entries : List Entry) (chain : List ℕ) (next count : ℕ) (changed failed : Bool) (pager : PagerView) (a : TreeView) (key : Key) (place : ℕ) (rows : List Row)
-    → tree_view schema entries chain next count changed failed pager ≡ a → place ≡ place_of key (first_keys entries) → place < length entries
-    → (IsHonest a.store → (p : Placed) → slice_get a.placed place ≡ Some p → rows ≡ p.region.rows) → IsHolder a key place rows
-holder schema entries chain next count changed failed pager a key place rows view is lt read = record {
-  is = subst (λ (v : TreeView). place ≡ place_of key (firsts_of (regions v))) view (is ∙ ap (place_of key) (sym (firsts_back schema (known_pages pager.store) entries)));
-  within = subst (λ (v : TreeView). place < length v.placed) view (let long = length-placed schema (known_pages pager.store) entries in omega arith);
+pub holder : (a : TreeView) (key : Key) (seat : SeatView) (rows : List Row) → IsSeatIn a seat → seat.index ≡ place_of key (first_keys (map entry_of a.placed))
+    → (IsHonest a.store → (p : Placed) → slice_get a.placed seat.index ≡ Some p → rows ≡ p.region.rows) → IsHolder a key seat.index rows
+holder a key seat rows stands is read = record {
+  is = is ∙ ap (place_of key) (firsts_placed a.placed);
+  within = (let lt = stands.within in let long = length-map a.placed entry_of in omega arith);
   rows_are = read;
 }
 

@@ -1,19 +1,27 @@
 -- The spans of a tree's regions, by its entries, and by the slots of its directory.
-use Rattle.std.proofs.Common.{◌≡◌, ℕ, zero, suc, List, [], ◌∷◌, Option, Some, None, length, refl, ap, subst, sym, slice_get, Contains, ◌↔◌}
+use Rattle.std.proofs.Common.{◌≡◌, ℕ, zero, suc, List, [], ◌∷◌, Option, Some, None, length, drop, refl, ap, subst, sym, slice_get, Contains, ◌↔◌}
 use Rattle.std.proofs.lemmas.Option.{slice_get_read, slice_get_within, get_or_from_slice_get}
 use Rattle.std.specs.Option.{option_map}
 use Rattle.ub_directory.specs.Slots as slots
 use Rattle.ub_directory.specs.declared.slot.Slot.{Slot}
 use Rattle.ub_page.specs.declared.directory.Entry.{Entry}
+use Rattle.ub_region.specs.Spans.{span_end}
 use Rattle.ub_table.specs.Keys.{IsBefore}
 use Rattle.ub_table.specs.declared.row.Key.{Key}
 use Rattle.ub_tree.specs.Faults.{region_of}
-use Rattle.ub_tree.specs.Spans.{First, IsLater, regions_of}
+use Rattle.ub_tree.specs.Spans.{First, IsLater, first_keys, regions_of}
 use Rattle.ub_tree.specs.declared.region.Region.{Region}
 
--- the region of the entry at a place
-abbrev pub region_with : ℕ → Entry → Region
-region_with to entry = record { first = entry.first; from = entry.first.z; to = to; page = entry.page }
+-- the region of an entry, with where the next one begins
+abbrev pub region_with : ℕ → Option Key → Entry → Region
+region_with to next entry = record { first = entry.first; next = next; from = entry.first.z; to = to; page = entry.page }
+
+-- the region of an index
+pub region_is : (last : ℕ) (entries : List Entry) (i : ℕ) (entry : Entry) → slice_get entries i ≡ Some entry
+    → slice_get (regions_of last entries) i ≡ Some (region_with (span_end last (first_keys (drop (suc i) entries))) (slice_get (first_keys entries) (suc i)) entry)
+region_is last [] i entry at = cc
+region_is last (e ∷ entries) zero entry at = let same : e ≡ entry = cc in rw same refl
+region_is last (e ∷ entries) (suc i) entry at = region_is last entries i entry at
 
 slot_there : (last : ℕ) (entries : List Entry) (i : ℕ) (r : Region) → slice_get (regions_of last entries) i ≡ Some r
     → (slot : Slot) × (slice_get (slots.slots_of last entries) i ≡ Some slot) × (region_of slot ≡ r)
@@ -24,7 +32,7 @@ slot_there last (e ∷ entries) (suc i) r at = slot_there last entries i r at
 region_there : (last : ℕ) (entries : List Entry) (i : ℕ) (slot : Slot) → slice_get (slots.slots_of last entries) i ≡ Some slot → slice_get (regions_of last entries) i ≡ Some (region_of slot)
 region_there last [] i slot at = cc
 region_there last (e ∷ entries) zero slot at =
-    let whole : Slot = record { first = e.first; from = e.first.z; to = _; page = e.page } in
+    let whole : Slot = record { first = e.first; next = slice_get (first_keys entries) 0; from = e.first.z; to = _; page = e.page } in
     let same : whole ≡ slot = cc in ap (λ (s : Slot). Some (region_of s)) same
 region_there last (e ∷ entries) (suc i) slot at = region_there last entries i slot at
 

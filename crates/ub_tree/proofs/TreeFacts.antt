@@ -1,16 +1,17 @@
 -- A tree's regions, by its entries and the pages of its store.
-use Rattle.std.proofs.Common.{◌≡◌, ◌≢◌, ◌<◌, ◌≤◌, ◌+◌, ◌-◌, ◌↔◌, inl, inr, add-one, ℕ, zero, suc, Bool, true, false, List, [], ◌∷◌, Option, Some, None, IfSome, length, map, ◌∙◌, sym, ap, subst, refl, arith, slice_get, slice_index_or}
-use Rattle.std.proofs.lemmas.Bool.{cases_Bool, cases_eq}
+use Rattle.std.proofs.Common.{◌≡◌, ◌≢◌, ◌<◌, ◌-◌, ◌↔◌, ℕ, zero, suc, Bool, true, List, [], ◌∷◌, Option, Some, None, IfSome, length, map, ◌∙◌, sym, ap, subst, refl, arith, slice_get, slice_index_or}
 use Rattle.std.proofs.lemmas.List.{length-map}
-use Rattle.std.proofs.lemmas.Option.{slice_get_past, slice_get_read, slice_get_within, get_or_from_slice_get}
+use Rattle.std.proofs.lemmas.Option.{slice_get_read, slice_get_within, get_or_from_slice_get}
 use Rattle.std.specs.List.{All, AllByRecursion, Contains}
 use Rattle.ub_zaddr.specs.Address.{last_address}
 use Rattle.ub_page.specs.Region.{region_on, region_page}
+use Rattle.ub_directory.specs.Slots.{IsSeat}
+use Rattle.ub_directory.specs.View.{SeatView}
 use Rattle.ub_page.specs.declared.directory.Entry.{Entry}
-use Rattle.ub_region.specs.Regions.{AreRegions, AreApart, firsts_of, place_of}
+use Rattle.ub_region.specs.Regions.{AreRegions, AreApart, firsts_of}
 use Rattle.ub_region.specs.Spans.{span_end}
-use Rattle.ub_table.proofs.Laws.{before_of, precedes_of, before_trans, not_both_before, not_before_self, ascending_get}
-use Rattle.ub_table.specs.Keys.{IsBefore, AreKeysAscending, precedes, are_ascending}
+use Rattle.ub_table.proofs.Laws.{before_of, precedes_of, before_trans}
+use Rattle.ub_table.specs.Keys.{IsBefore, AreKeysAscending, precedes}
 use Rattle.ub_table.specs.Region.{Region, IsRegion, key_of, keys_of}
 use Rattle.ub_table.specs.declared.row.Key.{Key}
 use Rattle.ub_table.specs.declared.row.Row.{Row}
@@ -20,7 +21,6 @@ use Rattle.ub_tree.specs.Tree.{IsHeldBy}
 use Rattle.ub_tree.specs.Placed.{Placed, ArePlaced, placed_of, regions_in, entry_of}
 use Rattle.ub_tree.specs.View.{spans_in}
 use Rattle.ub_tree.specs.declared.region.Region.{Region as Span}
-use Rattle.ub_directory.proofs.Laws.{place_is, first_at}
 use Rattle.ub_tree.proofs.SpanFacts.{region_with}
 
 -- the region of an entry, with the rows of its page
@@ -76,28 +76,6 @@ apart_next dims (a ∷ []) (suc i) r apart at = tt
 apart_next dims (a ∷ b ∷ regions) zero r apart at = let same : a ≡ r = cc in rw (← same) apart.0
 apart_next dims (a ∷ b ∷ regions) (suc i) r apart at = apart_next dims (b ∷ regions) i r apart.1 at
 
--- in ascending keys, a key is at the place that holds it
-pub place_at : (firsts : List Key) → are_ascending firsts ≡ true → (i : ℕ) (first : Key) → slice_get firsts i ≡ Some first → place_of first firsts ≡ i
-place_at firsts up i first at = place_is first firsts i (slice_get_within firsts i first at) (record {
-  below = λ j f lt at_j. below j f lt at_j;
-  above = λ j f le at_j. ascending_get firsts up i j (omega arith) first f at at_j;
-})
-  where
-    not_before : (f : Key) → ¬ (IsBefore first f) → precedes first f ≡ false
-    not_before f never = elim (cases_Bool (precedes first f)) [
-      | inl t ↦ absurd (never (before_of first f t))
-      | inr n ↦ n
-    ]
-
-    below : (j : ℕ) (f : Key) → j < suc i → slice_get firsts j ≡ Some f → precedes first f ≡ false
-    below j f lt at_j = elim (cases_eq j i) [
-      | inl e ↦
-          let there : slice_get firsts i ≡ Some f = ap (slice_get firsts) (sym e) ∙ at_j in
-          let same : first ≡ f = cc in
-          not_before f (subst (λ (k : Key). ¬ (IsBefore first k)) same (not_before_self first))
-      | inr ne ↦ not_before f (not_both_before f first (before_of f first (ascending_get firsts up j i (omega arith) f first at_j at)))
-    ]
-
 -- what is known of the region of a span, on a sound tree
 pub record IsKnown (schema : Schema) (entries : List Entry) (pages : List (List ℕ)) (span : Span) (p : Placed) : Type 0 where
   pub there : Contains (placed_of schema pages entries) p
@@ -105,29 +83,27 @@ pub record IsKnown (schema : Schema) (entries : List Entry) (pages : List (List 
   pub first : p.region.first ≡ span.first
   pub spelled : slice_get pages span.page ≡ Some (region_page schema p.region)
   pub region : IsRegion schema p.region
-  pub held : IsHeldBy schema.dims (first_keys entries) p.region
+  pub held : IsHeldBy schema.dims span.first span.next p.region
 
 pub span_entry : (last : ℕ) (entries : List Entry) (i : ℕ) (r : Span) → slice_get (regions_of last entries) i ≡ Some r
-    → (entry : Entry) × (slice_get entries i ≡ Some entry) × (entry.first ≡ r.first) × (entry.page ≡ r.page)
+    → (entry : Entry) × (slice_get entries i ≡ Some entry) × (entry.first ≡ r.first) × (entry.page ≡ r.page) × (r.next ≡ slice_get (first_keys entries) (suc i))
 span_entry last [] i r at = cc
 span_entry last (e ∷ entries) zero r at =
-    let whole : Span = region_with (span_end last (first_keys entries)) e in
+    let whole : Span = region_with (span_end last (first_keys entries)) (slice_get (first_keys entries) 0) e in
     let same : whole ≡ r = cc in
-    (e, refl, ap (λ (q : Span). q.first) same, ap (λ (q : Span). q.page) same)
+    (e, refl, ap (λ (q : Span). q.first) same, ap (λ (q : Span). q.page) same, sym (ap (λ (q : Span). q.next) same))
 span_entry last (e ∷ entries) (suc i) r at = span_entry last entries i r at
 
 pub span_known : (schema : Schema) (entries : List Entry) (pages : List (List ℕ)) (next last : ℕ) (reserved : List ℕ) (span : Span)
-    → are_ascending (first_keys entries) ≡ true → AreRegions schema next (regions_in (placed_of schema pages entries))
+    → AreRegions schema next (regions_in (placed_of schema pages entries))
     → ArePlaced schema (placed_of schema pages entries) reserved pages → Contains (regions_of last entries) span
     → (p : Placed) × IsKnown schema entries pages span p
-span_known schema entries pages next last reserved span up regions placed found =
+span_known schema entries pages next last reserved span regions placed found =
     let at : slice_get (regions_of last entries) found.0 ≡ Some span = slice_get_read (regions_of last entries) (length (regions_of last entries)) found.0 span refl found.1 (sym found.2) in
     let entry = span_entry last entries found.0 span at in
     let e = entry.0 in
     let there = placed_get schema pages entries found.0 e entry.1 in
     let region = region_get (placed_of schema pages entries) found.0 (placed_at schema pages e) there in
-    let first = first_at entries found.0 e entry.1 in
-    let place : place_of e.first (first_keys entries) ≡ found.0 = place_at (first_keys entries) up found.0 e.first first in
     let spelled = all_get (λ p. slice_get pages p.page ≡ Some (region_page schema p.region)) (placed_of schema pages entries) found.0 (placed_at schema pages e) placed.spelled there in
     let apart = apart_next schema.dims (regions_in (placed_of schema pages entries)) found.0 (placed_at schema pages e).region regions.apart region in (
       placed_at schema pages e,
@@ -137,7 +113,11 @@ span_known schema entries pages next last reserved span up regions placed found 
         first = entry.2;
         spelled = ap (slice_get pages) (sym entry.3) ∙ spelled;
         region = each_get (IsRegion schema) (regions_in (placed_of schema pages entries)) found.0 (placed_at schema pages e).region regions.each region;
-        held = rw place (first, rw (← firsts_back schema pages entries) apart);
+        held = (
+          entry.2,
+          subst (λ (o : Option Key). IfSome o (λ end. AllByRecursion (λ key. IsBefore key end) (keys_of schema.dims (placed_at schema pages e).region.rows)))
+              (sym entry.4) (rw (← firsts_back schema pages entries) apart),
+        );
       },
     )
 
@@ -163,44 +143,46 @@ last_tells key end dims len rows b up is some at tells =
     let all = all_before key (keys_of dims rows) (len - 1) end up (omega arith) at in
     (λ t. all.0 (before_of end key (sym tells ∙ t)), λ h. tells ∙ precedes_of end key (all.1 h))
 
-module _ (dims : ℕ) (entries : List Entry) (region : Region) (place : ℕ) (entry : Entry) (is : place ≡ place_of region.first (first_keys entries))
-    (at : slice_get entries place ≡ Some entry) (first : entry.first ≡ region.first) where
-  begins_there : slice_get (first_keys entries) (place_of region.first (first_keys entries)) ≡ Some region.first
-  begins_there = rw (← is, ← first) (first_at entries place entry at)
+-- a region whose rows are before the next one's first key
+pub held_before : (dims : ℕ) (first next : Key) (region : Region) (b : Bool) → region.first ≡ first
+    → (b ≡ true) ↔ AllByRecursion (λ k. IsBefore k next) (keys_of dims region.rows) → (b ≡ true) ↔ IsHeldBy dims first (Some next) region
+held_before dims first next region b same tells = (λ t. (same, tells.0 t), λ h. tells.1 h.1)
 
-  pub held_before : (next : Key) (b : Bool) → slice_get (first_keys entries) (suc place) ≡ Some next
-      → (b ≡ true) ↔ AllByRecursion (λ k. IsBefore k next) (keys_of dims region.rows) → (b ≡ true) ↔ IsHeldBy dims (first_keys entries) region
-  held_before next b after tells =
-      let there : slice_get (first_keys entries) (suc (place_of region.first (first_keys entries))) ≡ Some next = rw (← is) after in
-      (λ t. (begins_there, rw there (tells.0 t)), λ h. tells.1 (if_some (λ next. AllByRecursion (λ key. IsBefore key next) (keys_of dims region.rows)) _ next there h.1))
+-- the region of a seat
+pub seat_within : (placed : List Placed) (seat : SeatView) → IsSeat (map entry_of placed) seat → seat.index < length placed
+seat_within placed seat h = (let lt = h.within in let long = length-map placed entry_of in omega arith)
 
-  pub held_last : slice_get (first_keys entries) (suc place) ≡ None → IsHeldBy dims (first_keys entries) region
-  held_last past =
-      let none : slice_get (first_keys entries) (suc (place_of region.first (first_keys entries))) ≡ None = rw (← is) past in
-      (begins_there, rw none tt)
+pub seat_placed : (placed : List Placed) (seat : SeatView) → IsSeat (map entry_of placed) seat → (p : Placed) × (slice_get placed seat.index ≡ Some p) × (p.page ≡ seat.page)
+seat_placed placed seat h = by_index placed seat.index h.entry
+  where
+    by_index : (ps : List Placed) (i : ℕ) → slice_get (map entry_of ps) i ≡ Some (record { first = seat.first; page = seat.page }) → (p : Placed) × (slice_get ps i ≡ Some p) × (p.page ≡ seat.page)
+    by_index [] i at = cc
+    by_index (p ∷ ps) zero at =
+        let entry : Entry = record { first = seat.first; page = seat.page } in
+        let same : entry_of p ≡ entry = cc in
+        (p, refl, ap (λ (e : Entry). e.page) same)
+    by_index (p ∷ ps) (suc i) at = by_index ps i at
 
 pub length-placed : (schema : Schema) (pages : List (List ℕ)) (entries : List Entry) → length (placed_of schema pages entries) ≡ length entries
 length-placed schema pages entries = length-map entries (placed_at schema pages)
 
--- what is known of the region of an entry, on a sound tree
-pub record IsKnownAt (schema : Schema) (entries : List Entry) (pages : List (List ℕ)) (e : Entry) : Type 0 where
+-- what is known of the region of an index and its entry, on a sound tree
+pub record IsKnownAt (schema : Schema) (entries : List Entry) (pages : List (List ℕ)) (i : ℕ) (e : Entry) : Type 0 where
   pub spelled : slice_get pages e.page ≡ Some (region_page schema (placed_at schema pages e).region)
   pub region : IsRegion schema (placed_at schema pages e).region
-  pub held : IsHeldBy schema.dims (first_keys entries) (placed_at schema pages e).region
+  pub held : IsHeldBy schema.dims e.first (slice_get (first_keys entries) (suc i)) (placed_at schema pages e).region
 
 pub entry_known : (schema : Schema) (entries : List Entry) (pages : List (List ℕ)) (next : ℕ) (reserved : List ℕ) (i : ℕ) (e : Entry)
-    → are_ascending (first_keys entries) ≡ true → AreRegions schema next (regions_in (placed_of schema pages entries))
-    → ArePlaced schema (placed_of schema pages entries) reserved pages → slice_get entries i ≡ Some e → IsKnownAt schema entries pages e
-entry_known schema entries pages next reserved i e up regions placed at =
+    → AreRegions schema next (regions_in (placed_of schema pages entries))
+    → ArePlaced schema (placed_of schema pages entries) reserved pages → slice_get entries i ≡ Some e → IsKnownAt schema entries pages i e
+entry_known schema entries pages next reserved i e regions placed at =
     let there = placed_get schema pages entries i e at in
     let region = region_get (placed_of schema pages entries) i (placed_at schema pages e) there in
-    let first = first_at entries i e at in
-    let place : place_of e.first (first_keys entries) ≡ i = place_at (first_keys entries) up i e.first first in
     let apart = apart_next schema.dims (regions_in (placed_of schema pages entries)) i (placed_at schema pages e).region regions.apart region in
     record {
       spelled = all_get (λ p. slice_get pages p.page ≡ Some (region_page schema p.region)) (placed_of schema pages entries) i (placed_at schema pages e) placed.spelled there;
       region = each_get (IsRegion schema) (regions_in (placed_of schema pages entries)) i (placed_at schema pages e).region regions.each region;
-      held = rw place (first, rw (← firsts_back schema pages entries) apart);
+      held = (refl, rw (← firsts_back schema pages entries) apart);
     }
 
 pub rows_read : (schema : Schema) (pages : List (List ℕ)) (entries : List Entry) (place : ℕ) (e : Entry) (page : List ℕ) (rows : List Row) (region : Region) (p : Placed)

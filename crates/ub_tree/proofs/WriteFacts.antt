@@ -4,7 +4,7 @@ use Rattle.std.proofs.lemmas.Bool.{eq-eqb}
 use Rattle.std.proofs.lemmas.List.Elements.{recursion_from_All}
 use Rattle.std.proofs.lemmas.Map.Keys.{IsDistinct-head}
 use Rattle.std.proofs.lemmas.Option.{slice_get_within}
-use Rattle.std.specs.List.{AllByRecursion, Contains, IsDistinct, insert, remove}
+use Rattle.std.specs.List.{AllByRecursion, Contains, IsDistinct, insert}
 use Rattle.std.specs.Result.{IsErrAnd}
 use Rattle.ub_page.specs.Region.{region_on, region_page}
 use Rattle.ub_page.specs.declared.directory.Entry.{Entry}
@@ -12,7 +12,7 @@ use Rattle.ub_region.proofs.Laws.{all_right}
 use Rattle.ub_region.specs.Regions.{AreRegions, rows_of}
 use Rattle.ub_tree.specs.declared.fault.TreeFault.{TreeFault}
 use Rattle.ub_tree.specs.declared.fault.TreeFault.TheVariants.{Full, Page, Store, Failed as HasFailed, Memory}
-use Rattle.ub_store.specs.Facts.{StoreFacts, IsHonest, Appends, page_count}
+use Rattle.ub_store.specs.Facts.{StoreFacts, IsHonest, Appends, page_count, zero_page}
 use Rattle.ub_store.specs.View.{PagerView, SameTrace}
 use Rattle.ub_store.specs.declared.fault.StoreFault.{StoreFault}
 use Rattle.ub_table.specs.Region.{Region, IsRegion}
@@ -20,6 +20,7 @@ use Rattle.ub_table.specs.declared.row.Key.{Key}
 use Rattle.ub_table.specs.declared.row.Row.{Row}
 use Rattle.ub_table.specs.declared.schema.Schema.{Schema}
 use Rattle.ub_tree.specs.Change.{IsStored, IsFresh, IsWriteFault, Writes, Puts, PutsTwo, Marks, PutsMark, placed_with}
+use Rattle.ub_directory.specs.Searching.{Searches as Looks}
 use Rattle.ub_directory.specs.Writing.{put_store}
 use Rattle.ub_tree.specs.Effects.{written_store, IsPageMissing, KeepsUnless, IsMarkedFirst, Leaves, HasEnded, IsLeft, Works, Changes, Searches}
 use Rattle.ub_tree.specs.Faults.{tree_fault}
@@ -218,6 +219,40 @@ module _ (schema : Schema) (entries : List Entry) (chain : List ℕ) (next rows 
       fresh_of : (pages : List (List ℕ)) → pages ≡ old.store.pages → ArePlaced schema (placed_of schema pages entries) (0 ∷ chain) old.store.pages → IsDistinct nat_eq (n ∷ ((0 ∷ chain) ++ numbers_of (placed_of schema pages entries)))
       fresh_of pages is_old placed_are = rw is_old (fresh_number schema entries chain old.store.pages n (rw is_old at placed_are) (omega arith))
 
+-- a directory was made ready, and then a page was added: the tree is then as it was but for that page
+module _ (schema : Schema) (entries : List Entry) (chain : List ℕ) (next rows : ℕ) (changed failed : Bool) (old ready new : PagerView) (U : Type 0) (x : U) (looked : Looks {A = U} old ready (Ok x))
+    (added : Appends zero_page ready.store new.store) (left : new.store ≡ record ready.store { pages = new.store.pages; synced = new.store.synced }) (trace : SameTrace ready new) where
+  abbrev at_first : TreeView
+  at_first = tree_view schema entries chain next rows changed failed old
+
+  abbrev at_last : TreeView
+  at_last = tree_view schema entries chain next rows changed failed new
+
+  still : tree_view schema entries chain next rows changed failed ready ≡ at_first
+  still = ap (λ (p : PagerView). tree_view schema entries chain next rows changed failed p) looked.same
+
+  longer : IsExtended ready.store new.store
+  longer = extended_appends zero_page ready.store new.store (ap (λ (s : StoreFacts). s.honest) left) added
+
+  pub ready_leaves : Leaves at_first at_last
+  ready_leaves = subst (λ (v : TreeView). Leaves v at_last) still (extended_leaves schema entries chain next rows changed failed ready new longer left trace)
+
+  pub ready_stored : IsStored at_first → IsStored at_last × (at_last.placed ≡ at_first.placed)
+  ready_stored = subst (λ (v : TreeView). IsStored v → IsStored at_last × (at_last.placed ≡ v.placed)) still (extended_stored schema entries chain next rows changed failed ready new longer)
+
+  pub ready_fresh : (n : ℕ) → n ≡ length ready.store.pages → IsStored at_first → IsFresh n at_last
+  ready_fresh n is = subst (λ (v : TreeView). IsStored v → IsFresh n at_last) still (extended_fresh schema entries chain next rows changed failed ready new longer n is)
+
+  pub ready_number : (n : ℕ) → n ≡ length ready.store.pages → n < length new.store.pages
+  ready_number n is = let count = added.0 in omega arith
+
+  -- no sound tree has it as its first page
+  pub ready_later : (n : ℕ) → n ≡ length ready.store.pages → 1 ≤ length chain → IsSound at_last → n ≢ 0
+  ready_later n is some sound first =
+      let more = second_page at_last chain refl some sound in
+      let count = added.0 in
+      absurd (omega arith)
+
 -- a store that was extended or written, by the fault of the store and by that of the tree
 pub put_is : (U V : Type 0) (fault : StoreFault) (old new : StoreFacts) → put_store {A = U} (Err fault) old new ≡ written_store {A = V} (Err (Store fault)) old new
 put_is U V store.Device old new = refl
@@ -377,13 +412,6 @@ halves_missing t count n page found sound is there at (inl none) = omega arith
 halves_missing t count n page found sound is there at (inr (inl past)) = omega arith
 halves_missing t count n page found sound is there at (inr (inr past)) = let lt = slice_get_within t.store.pages page found at in omega arith
 
--- what was put in and taken out again
-pub put_and_taken : {X : Type 0} (xs : List X) (i : ℕ) (x : X) → i ≤ length xs → remove (insert xs i x) i ≡ xs
-put_and_taken [] zero x le = refl
-put_and_taken [] (suc i) x le = absurd (omega arith)
-put_and_taken (y ∷ xs) zero x le = refl
-put_and_taken (y ∷ xs) (suc i) x le = ap (λ ys. y ∷ ys) (put_and_taken xs i x (omega arith))
-
 -- a call that only writes, after pages were added
 module _ (a b c : TreeView) (grown : Leaves a b) where
   more_unless : (changed : Bool) → b.store.honest ≡ a.store.honest → KeepsUnless changed b.store c.store → KeepsUnless changed a.store c.store
@@ -393,15 +421,6 @@ module _ (a b c : TreeView) (grown : Leaves a b) where
 
   honest_b : b.store.honest ≡ a.store.honest
   honest_b = ap (λ (v : TreeView). v.store.honest) grown.same
-
-  more_leaves : Leaves b c → Leaves a c
-  more_leaves h = record {
-    same = h.same ∙ ap (λ (v : TreeView). record v { placed = c.placed; store = record v.store { pages = c.store.pages; synced = c.store.synced } }) grown.same;
-    entries = h.entries ∙ grown.entries;
-    more = (let first = grown.more in let second = h.more in omega arith);
-    pages = λ honest m lt. (let more = grown.more in h.pages (honest_b ∙ honest) m (omega arith) ∙ grown.pages honest m lt);
-    sound = λ sound. (let first = grown.sound sound in let second = h.sound first.1 in (second.0 ∙ first.0, second.1));
-  }
 
   more_ended : (fault : TreeFault) → HasEnded fault b c → HasEnded fault a c
   more_ended fault h = record {
@@ -415,7 +434,7 @@ module _ (a b c : TreeView) (grown : Leaves a b) where
   more_faults : (fault : TreeFault) → IsWriteFault b c fault → IsLeft a c fault
   more_faults Full h = absurd h
   more_faults HasFailed h = absurd h
-  more_faults Memory h = more_leaves h
+  more_faults Memory h = absurd h
   more_faults (Page page fault) h = absurd h
   more_faults (Store store.Device) h = (subst (λ (v : TreeView). IsTrue v.store.can_fail) grown.same h.0, inr (more_ended (Store store.Device) h.1))
   more_faults (Store store.NoPage) h = ((λ sound. h.0 (grown.sound sound).1), more_missing h.1, inr (more_ended (Store store.NoPage) h.2))
@@ -458,12 +477,6 @@ changed_by r a c w = grown_then a a c (same_leaves a) r w
 -- a refusal after which all is as it was
 pub unchanged : {T : Type 0} (e : TreeFault) (a : TreeView) → IsLeft a a e → Changes {A = T} a a (Err e)
 unchanged e a left = record { frame = refl; marked = same_marked a; done = tt; left = left }
-
--- memory was refused before anything was written
-pub no_memory : {T : Type 0} (r : Result T TreeFault) (a c : TreeView) → IsErrAnd r (λ e. e ≡ Memory) → c ≡ a → Writes a c r
-no_memory (Ok x) a c is same = absurd is
-no_memory {T} (Err e) a c is same =
-    rw is (subst (λ (v : TreeView). Writes {A = T} a v (Err Memory)) (sym same) (record { frame = refl; marked = same_marked a; done = tt; faults = same_leaves a }))
 
 -- the same refusal of another call
 pub left_by : {T U : Type 0} (r : Result T TreeFault) (e : TreeFault) (a c : TreeView) → IsErrAnd r (λ x. x ≡ e) → Changes {A = U} a c (Err e) → Changes a c r

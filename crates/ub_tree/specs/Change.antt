@@ -1,5 +1,5 @@
 -- What a change of one region does to a tree.
-use Rattle.std.specs.Prelude.{IfSome, ◌≡◌, ◌≢◌, ◌<◌, ◌+◌, ◌-◌, ◌++◌, ℕ, ℤ, pos, suc, Bool, true, false, List, [], ◌∷◌, Option, Some, MatchOption, IsTrue, Result, IfErr, OnOk, length, map, take, drop, replicate, slice_get}
+use Rattle.std.specs.Prelude.{IfSome, ◌≡◌, ◌≢◌, ◌<◌, ◌+◌, ◌-◌, ◌++◌, ℕ, ℤ, pos, suc, Bool, true, false, List, [], ◌∷◌, Option, Some, MatchOption, IsTrue, Result, Err, IfErr, OnOk, length, map, take, drop, replicate, slice_get}
 use Rattle.std.specs.Bool.{nat_eq}
 use Rattle.std.specs.List.{AllByRecursion, IsDistinct, insert as insert_at}
 use Rattle.ub_region.specs.Regions.{AreTableRows, insert, split_region}
@@ -7,19 +7,23 @@ use Rattle.ub_region.specs.Rows.{Halves}
 use Rattle.ub_zaddr.specs.Address.{last_address}
 use Rattle.ub_tree.specs.Spans.{ArePlaces, first_keys}
 use Rattle.ub_store.specs.Facts.{StoreFacts, IsHonest, page_count}
+use Rattle.ub_store.specs.View.{PagerView}
 use Rattle.ub_page.specs.declared.directory.Entry.{Entry}
 use Rattle.ub_table.specs.Keys.{IsBefore}
 use Rattle.ub_table.specs.Region.{Region, IsRegion, keys_of}
 use Rattle.ub_table.specs.declared.row.Key.{Key}
 use Rattle.ub_table.specs.declared.row.Row.{Row}
 use Rattle.ub_table.specs.declared.schema.Schema.{Schema}
-use Rattle.ub_tree.specs.Effects.{written_store, IsPageMissing, KeepsUnless, IsMarkedFirst, Leaves, HasEnded}
+use Rattle.ub_tree.specs.Effects.{written_store, IsPageMissing, KeepsUnless, IsMarkedFirst, HasEnded, Changes}
 use Rattle.ub_tree.specs.Placed.{Placed, ArePlaced, entry_of}
+use Rattle.ub_tree.specs.Tree.{tree_view}
 use Rattle.ub_tree.specs.View.{TreeView, IsSound, regions}
 use Rattle.ub_tree.specs.declared.fault.TreeFault.{TreeFault}
-use Rattle.ub_tree.specs.declared.fault.TreeFault.TheVariants.{Store, Memory}
+use Rattle.ub_tree.specs.declared.fault.TreeFault.TheVariants.{Store}
 use Rattle.ub_store.specs.declared.fault.StoreFault.TheVariants as store
 use Rattle.ub_directory.specs.Inner.{reserved}
+use Rattle.ub_directory.specs.Slots.{IsSeat}
+use Rattle.ub_directory.specs.View.{SeatView}
 
 -- a row of this number with these coordinates and measures
 abbrev pub row_of : ℕ → List ℕ → List ℤ → Row
@@ -68,7 +72,6 @@ placed_with place news placed = take place placed ++ news ++ drop (suc place) pl
 
 -- what a call within that only writes can answer, and what it leaves then
 abbrev pub IsWriteFault : TreeView → TreeView → TreeFault → Type 0
-IsWriteFault old new Memory = Leaves old new
 IsWriteFault old new (Store store.Device) = IsTrue old.store.can_fail × HasEnded (Store store.Device) old new
 IsWriteFault old new (Store store.NoPage) = (¬ (IsSound old)) × IsPageMissing old × HasEnded (Store store.NoPage) old new
 IsWriteFault old new _ = ⊥
@@ -79,6 +82,12 @@ pub record Writes {A : Type 0} (old new : TreeView) (result : Result A TreeFault
   pub marked : IsMarkedFirst old new
   pub done : OnOk result (new.is_failed ≡ old.is_failed)
   pub faults : IfErr result (IsWriteFault old new)
+
+-- what an extension of the store can answer a tree, and what it leaves of it then, whatever its other parts are
+abbrev pub IsExtensionFault : Bool → Bool → PagerView → PagerView → TreeFault → Type 0
+IsExtensionFault was now old new fault =
+    (schema : Schema) (entries : List Entry) (chain : List ℕ) (next rows : ℕ) (changed : Bool)
+    → Changes {A = TreeFault} (tree_view schema entries chain next rows changed was old) (tree_view schema entries chain next rows changed now new) (Err fault)
 
 -- a row was put into a sound tree, with the number that was next; the table gains that row as its last
 pub record IsInserted (row : Row) (old new : TreeView) : Type 0 where
@@ -93,6 +102,10 @@ pub record IsInserted (row : Row) (old new : TreeView) : Type 0 where
 -- no page of the tree has this number
 abbrev pub IsFresh : ℕ → TreeView → Type 0
 IsFresh n t = IsDistinct nat_eq (n ∷ (reserved t.inner ++ map (λ p. p.page) t.placed))
+
+-- the seat of a region of the tree
+abbrev pub IsSeatIn : TreeView → SeatView → Type 0
+IsSeatIn t seat = IsSeat (map entry_of t.placed) seat
 
 -- the rows are those of a region which begins as that at a place does, and they stand before the next region
 abbrev pub AreRowsAt : Schema → List Entry → ℕ → List Row → Type 0

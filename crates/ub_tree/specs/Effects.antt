@@ -1,5 +1,5 @@
 -- What the calls of a tree leave, in a few words: a call that searches, one that reads regions, one that changes the tree.
-use Rattle.std.specs.Prelude.{◌+◌, ◌≡◌, ◌≢◌, ◌<◌, ◌≤◌, ◌⊎◌, ◌++◌, ℕ, Bool, true, false, [], ◌∷◌, IsTrue, Result, Ok, Err, IfErr, OnOk, length, map, slice_get, List}
+use Rattle.std.specs.Prelude.{◌+◌, ◌≡◌, ◌≢◌, ◌<◌, ◌≤◌, ◌⊎◌, ◌++◌, ℕ, Bool, true, false, [], ◌∷◌, IsTrue, Result, Ok, Err, IfErr, OnOk, length, map, slice_get, List, Option}
 use Rattle.std.specs.List.{Contains}
 use Rattle.ub_store.specs.Facts.{StoreFacts, IsHonest, IsPage, page_count, raised}
 use Rattle.ub_table.specs.declared.row.TheConstants.{MAX_ROW_NUMBER}
@@ -11,7 +11,6 @@ use Rattle.ub_table.specs.declared.fault.PageFault.TheVariants.{BadCount, BadOrd
 use Rattle.ub_table.specs.declared.row.Key.{Key}
 use Rattle.ub_table.specs.declared.row.Row.{Row}
 use Rattle.ub_table.specs.declared.schema.Schema.{Schema}
-use Rattle.ub_tree.specs.Spans.{first_keys}
 use Rattle.ub_tree.specs.Tree.{IsHeldBy}
 use Rattle.ub_tree.specs.Placed.{Placed, entry_of}
 use Rattle.ub_tree.specs.Stored.{HasMark}
@@ -38,19 +37,19 @@ read_store result old = record old { failed_reads = counted result old.failed_re
 abbrev pub written_store : {A : Type 0} → Result A TreeFault → StoreFacts → StoreFacts → StoreFacts
 written_store result old new = record old { pages = new.pages; synced = new.synced; failed_writes = counted result old.failed_writes }
 
--- why a page is refused where a region is due that begins with this key, in a directory of regions with these first keys: its
--- reader refuses it, or it tells of a region that begins with another key or that the directory doesn't hold
-abbrev pub IsRegionRefused : Schema → List Key → Key → List ℕ → PageFault → Type 0
-IsRegionRefused schema firsts first page fault =
+-- why a page is refused where a region is due that begins with this key, and the next one, if there is one, with that: its
+-- reader refuses it, or it tells of a region that begins with another key or has rows that are not before the next one
+abbrev pub IsRegionRefused : Schema → Key → Option Key → List ℕ → PageFault → Type 0
+IsRegionRefused schema first next page fault =
     IsRegionFault schema page fault
     ⊎ ((fault ≡ OutOfRegion) × (region : Region) × IsRegion schema region × (page ≡ region_page schema region)
-    × (¬ ((region.first ≡ first) × IsHeldBy schema.dims firsts region)))
+    × (¬ (IsHeldBy schema.dims first next region)))
 
--- the page of this number is refused, on which the directory has a region
+-- the page of this number is refused, on which the tree has a region
 abbrev pub IsPageRefused : TreeView → ℕ → PageFault → Type 0
 IsPageRefused t number fault =
-    (entry : Entry) × Contains (map entry_of t.placed) entry × (entry.page ≡ number) × (page : List ℕ) × IsPage t.store number page
-    × IsRegionRefused t.schema (first_keys (map entry_of t.placed)) entry.first page fault
+    (span : Span) × Contains (spans_of t) span × (span.page ≡ number) × (page : List ℕ) × IsPage t.store number page
+    × IsRegionRefused t.schema span.first span.next page fault
 
 -- the directory has a region on a page that the store doesn't have
 abbrev pub IsPageMissing : TreeView → Type 0
@@ -81,13 +80,13 @@ pub record Reads {A : Type 0} (old new : TreeView) (result : Result A TreeFault)
 abbrev pub HasNoted : ℕ → TreeView → TreeView → Type 0
 HasNoted page old new = (new.trace ≡ old.trace ++ page ∷ []) × (new.fetches ≡ raised old.fetches 1)
 
--- what the reading of a region answers, also of one that isn't the tree's
+-- what the reading of a region answers, also of one that isn't the tree's: then by what that one says
 abbrev pub IsSpanFault : Span → TreeView → TreeFault → Type 0
 IsSpanFault span old Failed = IsTrue old.is_failed
 IsSpanFault span old Memory = Unit {0}
 IsSpanFault span old (Page number fault) =
     (number ≡ span.page) × (page : List ℕ) × IsPage old.store number page
-    × IsRegionRefused old.schema (first_keys (map entry_of old.placed)) span.first page fault
+    × IsRegionRefused old.schema span.first span.next page fault
 IsSpanFault span old (Store store.Device) = IsTrue old.store.can_fail
 IsSpanFault span old (Store store.NoPage) = page_count old.store ≤ span.page
 IsSpanFault span old _ = ⊥

@@ -20,4 +20,4 @@ opening_fault (directory.Store fault) = tree_fault fault
 
 -- the region of a slot
 abbrev pub region_of : Slot → Region
-region_of slot = record { first = slot.first; from = slot.from; to = slot.to; page = slot.page }
+region_of slot = record { first = slot.first; next = slot.next; from = slot.from; to = slot.to; page = slot.page }

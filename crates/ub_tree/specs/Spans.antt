@@ -1,5 +1,5 @@
 -- The spans of a UB-tree's regions (Bayer 1997), and which regions a search asks for.
-use Rattle.std.specs.Prelude.{◌≤◌, ℕ, List, [], ◌∷◌, Option, IfSome}
+use Rattle.std.specs.Prelude.{◌≤◌, ℕ, List, [], ◌∷◌, Option, IfSome, slice_get}
 use Rattle.ub_bigmin.specs.Box.{Corners, HoldsAny}
 use Rattle.ub_page.specs.declared.directory.Entry.{Entry}
 use Rattle.ub_table.specs.Keys.{IsBefore}
@@ -12,7 +12,13 @@ pub use Rattle.ub_directory.specs.Slots.{ArePlaces, first_keys}
 abbrev pub regions_of : ℕ → List Entry → List Region
 regions_of last [] = []
 regions_of last (entry ∷ entries) =
-    record { first = entry.first; from = entry.first.z; to = span_end last (first_keys entries); page = entry.page } ∷ regions_of last entries
+    record {
+      first = entry.first;
+      next = slice_get (first_keys entries) 0;
+      from = entry.first.z;
+      to = span_end last (first_keys entries);
+      page = entry.page;
+    } ∷ regions_of last entries
 
 -- some address of the region's span lies in one of the boxes
 abbrev pub Meets : List Corners → Region → Type 0

@@ -1,11 +1,10 @@
 -- A tree's parts, as contracts see them together.
-use Rattle.std.specs.Prelude.{◌+◌, ◌≡◌, ◌≤◌, ◌<◌, ◌^◌, ℕ, suc, length, slice_get, Bool, if◌then◌else◌, List, [], Some, IfSome}
+use Rattle.std.specs.Prelude.{◌+◌, ◌≡◌, ◌≤◌, ◌<◌, ◌^◌, ℕ, length, slice_get, Bool, if◌then◌else◌, List, [], Option, Some, IfSome}
 use Rattle.std.specs.List.{AllByRecursion}
 use Rattle.ub_table.specs.declared.row.TheConstants.{MAX_ROW_NUMBER}
 use Rattle.ub_zaddr.specs.Address.{last_address}
 use Rattle.ub_page.specs.Region.{region_on, region_page}
 use Rattle.ub_page.specs.declared.directory.Entry.{Entry}
-use Rattle.ub_region.specs.Regions.{place_of}
 use Rattle.ub_store.specs.Facts.{StoreFacts}
 use Rattle.ub_store.specs.View.{PagerView}
 use Rattle.ub_table.specs.Keys.{IsBefore, origin}
@@ -46,13 +45,11 @@ pub record IsTree (schema : Schema) (last : ℕ) (entries : List Entry) (chain :
   pub fewer : rows < next
   pub last_next : next ≤ MAX_ROW_NUMBER + 1
 
--- the last of the regions with these first keys that does not begin after the region's first key begins with it, and the
--- region's rows are before the next one
-abbrev pub IsHeldBy : ℕ → List Key → Region → Type 0
-IsHeldBy dims firsts region =
-    let place = place_of region.first firsts in
-    (slice_get firsts place ≡ Some region.first)
-    × IfSome (slice_get firsts (suc place)) (λ next. AllByRecursion (λ key. IsBefore key next) (keys_of dims region.rows))
+-- the region begins with this first key, and its rows are before the next region's, where there is one
+abbrev pub IsHeldBy : ℕ → Key → Option Key → Region → Type 0
+IsHeldBy dims first next region =
+    (region.first ≡ first)
+    × IfSome next (λ end. AllByRecursion (λ key. IsBefore key end) (keys_of dims region.rows))
 
 -- a region with no rows that begins with the least key of all
 abbrev pub empty_region : Region

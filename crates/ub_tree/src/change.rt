@@ -1,15 +1,14 @@
-ghost use Rattle.ub_zaddr.specs.Address.{last_address};
 ghost use Rattle.std.specs.Int.{w64};
-ghost use Rattle.std.specs.Prelude.{FitsSigned, map, ◌≡◌, ◌+◌, ◌-◌, ◌↔◌, pos, replicate, ◌<◌, ◌≤◌, ◌⊎◌, ◌∷◌, ◌++◌, [], true, false, IsTrue, Some, Ok, Err, length, slice_get, IfOk, IfErr, IfSome, IsNone, OnOk};
-ghost use Rattle.std.specs.List.{insert, AllByRecursion};
+ghost use Rattle.std.specs.Prelude.{FitsSigned, map, ◌≡◌, ◌+◌, ◌-◌, ◌↔◌, pos, replicate, ◌<◌, ◌≤◌, ◌⊎◌, ◌∷◌, ◌++◌, [], true, false, IsTrue, Some, Ok, Err, length, slice_get, IfOk, IfErr, IfSome, IsNone, IsSome, OnOk};
+ghost use Rattle.std.specs.List.{AllByRecursion};
 ghost use Rattle.ub_region.specs.Rows.{has_key, split};
 ghost use Rattle.ub_store.specs.Facts as facts;
-ghost use Rattle.ub_store.specs.Facts.{page_count};
+ghost use Rattle.ub_store.specs.Facts.{page_count, zero_page, Appends};
+ghost use Rattle.ub_store.specs.View.{SameTrace};
 ghost use Rattle.ub_table.specs.Region.{IsRegion, measures_of};
 ghost use Rattle.ub_tree.specs.Change as spec;
-ghost use Rattle.ub_tree.specs.Change.{AreRowsAt, IsStored, Puts, IsElsewhereSame, placed_with, IsInserted, IsFresh, IsSplitAt, HasRoom, Writes, split_of, regions_with};
-ghost use Rattle.ub_tree.specs.Effects.{Searches, Changes, Leaves};
-ghost use Rattle.ub_tree.specs.Spans.{ArePlaces};
+ghost use Rattle.ub_tree.specs.Change.{AreRowsAt, IsStored, IsSeatIn, Puts, IsElsewhereSame, placed_with, IsInserted, IsSplitAt, HasRoom, IsExtensionFault, Writes, split_of, regions_with};
+ghost use Rattle.ub_tree.specs.Effects.{Searches, Changes};
 ghost use Rattle.ub_tree.specs.Placed.{Placed, entry_of};
 ghost use Rattle.ub_tree.specs.Stored.{IsMarkPage};
 ghost use Rattle.ub_tree.specs.View.{IsSound, regions};
@@ -19,9 +18,10 @@ use crate::header::mark_page;
 use crate::order::{write_page, write_pages};
 use crate::reading::take_region;
 use crate::tree::Tree;
-use ub_page::{Entry, Page, write_region};
-use ub_region::{Halves, Rows, is_equal};
-use ub_store::{MAX_PAGES, PageStore, StoreFault};
+use ub_directory::Seat;
+use ub_page::{Page, write_region};
+use ub_region::{Halves, Rows, is_key_of};
+use ub_store::{MAX_PAGES, PageStore, Pager, StoreFault};
 use ub_table::{Key, MAX_ROW_NUMBER, PageFault, Row};
 use ub_zaddr::Shape;
 
@@ -29,28 +29,48 @@ use ub_zaddr::Shape;
 const NEXT_END: u32 = MAX_ROW_NUMBER + 1;
 
 impl<S: PageStore> Tree<S> {
-    // The rows of the region at a place.
-    pub(crate) fn rows_at(&mut self, place: usize) -> Result<Rows, TreeFault>
-        requires { place < length self.old.placed }
+    // The rows of the region of a seat.
+    pub(crate) fn rows_at(&mut self, seat: &Seat) -> Result<Rows, TreeFault>
+        requires { IsSeatIn self.old seat.now }
         ensures few { IfOk result (λ rows. length rows ≤ self.old.schema.page_rows) }
         ensures at { IfOk result (λ rows. AreRowsAt self.old.schema
-            (map entry_of self.old.placed) place rows) }
+            (map entry_of self.old.placed) seat.now.index rows) }
         ensures rows { facts.IsHonest self.old.store
-            → IfOk result (λ rows. (p : Placed) → slice_get self.old.placed place ≡ Some p
+            → IfOk result (λ rows. (p : Placed) → slice_get self.old.placed seat.now.index ≡ Some p
             → rows ≡ p.region.rows) }
         ensures effect { Searches self.old self.new result }
     {
-        let seat = self.directory.seat_at(place);
-        self.pager.bring(seat.page)?;
+        let mut rows = Rows::new();
+        match self.put_rows_at(seat, &mut rows) {
+            Ok(()) => Ok(rows),
+            Err(fault) => Err(fault),
+        }
+    }
+
+    // Puts the rows of the region of a seat where there are none, so that no rows move.
+    fn put_rows_at(&mut self, seat: &Seat, rows: &mut Rows) -> Result<(), TreeFault>
+        requires seat { IsSeatIn self.old seat.now }
+        requires none { rows.old ≡ [] }
+        ensures few { OnOk result (length rows.new ≤ self.old.schema.page_rows) }
+        ensures at { OnOk result
+            (AreRowsAt self.old.schema (map entry_of self.old.placed) seat.now.index rows.new) }
+        ensures rows { facts.IsHonest self.old.store
+            → OnOk result ((p : Placed) → slice_get self.old.placed seat.now.index ≡ Some p
+            → rows.new ≡ p.region.rows) }
+        ensures effect { Searches self.old self.new result }
+    {
+        let number = seat.page();
+        self.pager.bring(number)?;
         take_region(
             &self.schema,
-            &self.directory,
-            &seat.first,
-            seat.page,
-            self.pager.cached(seat.page),
+            &seat.first(),
+            seat.next(),
+            number,
+            self.pager.cached(number),
             &mut self.held,
         )?;
-        Ok(Rows::from_slice(self.held.rows()))
+        rows.extend(self.held.rows());
+        Ok(())
     }
 
     // The page of a header that marks the table as changed, unless it is marked already.
@@ -61,6 +81,14 @@ impl<S: PageStore> Tree<S> {
         if self.is_changed {
             return None;
         }
+        self.first_mark()
+    }
+
+    // That page, which there is.
+    fn first_mark(&self) -> Option<Page>
+        ensures page { IfSome result (λ page. IsMarkPage self.now.schema page) }
+        ensures some { IsSome result }
+    {
         Some(mark_page(
             &self.schema,
             self.next,
@@ -70,16 +98,16 @@ impl<S: PageStore> Tree<S> {
         ))
     }
 
-    // Puts these rows on the page of the region at a place. After a fault the tree has failed.
-    pub(crate) fn rewrite(&mut self, place: usize, rows: &[Row]) -> Result<(), TreeFault>
-        requires place { place < length self.old.placed }
+    // Puts these rows on the page of the region of a seat. After a fault the tree has failed.
+    pub(crate) fn rewrite(&mut self, seat: &Seat, rows: &[Row]) -> Result<(), TreeFault>
+        requires seat { IsSeatIn self.old seat.now }
         requires few { length rows.now ≤ 64 }
         ensures same { OnOk result (IsElsewhereSame self.old self.new) }
         ensures written { IsStored self.old → (p : Placed)
-            → slice_get self.old.placed place ≡ Some p
+            → slice_get self.old.placed seat.now.index ≡ Some p
             → IsRegion self.old.schema (record { first = p.region.first; rows = rows.now })
             → OnOk result (IsStored self.new
-            × (self.new.placed ≡ placed_with place (record {
+            × (self.new.placed ≡ placed_with seat.now.index (record {
               page = p.page;
               region = record { first = p.region.first; rows = rows.now };
             } ∷ []) self.old.placed)) }
@@ -89,13 +117,12 @@ impl<S: PageStore> Tree<S> {
         ensures effect { Writes self.old self.new result }
     {
         let mark = self.mark();
-        let seat = self.directory.seat_at(place);
-        let page = write_region(&self.schema, seat.first, rows);
+        let page = write_region(&self.schema, seat.first(), rows);
         match write_page(
             &mut self.pager,
             &mut self.is_changed,
             mark.as_ref(),
-            seat.page,
+            seat.page(),
             &page,
         ) {
             Ok(()) => Ok(()),
@@ -106,90 +133,22 @@ impl<S: PageStore> Tree<S> {
         }
     }
 
-    // Adds a page of zeros. After a failure of the device the tree has failed.
-    fn extend(&mut self) -> Result<u32, TreeFault>
-        ensures number { IfOk result (λ n. n + 1 ≡ page_count self.new.store) }
-        ensures later { IfOk result (λ n. IsSound self.new → 1 ≤ n) }
-        ensures grown { IsStored self.old
-            → IfOk result (λ n. IsStored self.new × (self.new.placed ≡ self.old.placed)
-            × IsFresh n self.new) }
-        ensures leaves { OnOk result (Leaves self.old self.new) }
-        ensures effect { Changes self.old self.new result }
-    {
-        match self.pager.extend() {
-            Ok(n) => Ok(n),
-            Err(StoreFault::Device) => {
-                self.is_failed = true;
-                Err(TreeFault::Store(StoreFault::Device))
-            }
-            Err(fault) => Err(TreeFault::from(fault)),
-        }
-    }
-
-    // Puts these halves of the rows of the region at a place on its page and on one that no region has. After a write that
-    // failed the tree has failed.
-    fn write_halves(&mut self, place: usize, halves: &Halves, number: u32) -> Result<(), TreeFault>
-        requires place { place < length self.old.placed }
-        requires count { length self.old.placed < 4294967295 }
-        requires page { (number < page_count self.old.store) × (IsSound self.old → 1 ≤ number) }
-        requires few { (length halves.now.left ≤ 64) × (length halves.now.right ≤ 64) }
-        requires room { ArePlaces (last_address self.old.schema.dims)
-            (insert (map entry_of self.old.placed) (place + 1) (record {
-              first = halves.now.first;
-              page = number;
-            })) }
-        ensures same { OnOk result (IsElsewhereSame self.old self.new) }
-        ensures written { IsStored self.old → IsFresh number self.old → (p : Placed)
-            → slice_get self.old.placed place ≡ Some p
-            → IsRegion self.old.schema (record { first = p.region.first; rows = halves.now.left })
-            → IsRegion self.old.schema
-            (record { first = halves.now.first; rows = halves.now.right })
-            → OnOk result (IsStored self.new
-            × IsSplitAt place p (record {
-              left = halves.now.left;
-              first = halves.now.first;
-              right = halves.now.right;
-            }) self.old self.new) }
-        ensures effect { Writes self.old self.new result }
-    {
-        let mark = self.mark();
-        let seat = self.directory.seat_at(place);
-        let left = write_region(&self.schema, seat.first, halves.left.as_slice());
-        let right = write_region(&self.schema, halves.first, halves.right.as_slice());
-        let added = Entry {
-            first: halves.first,
-            page: number,
-        };
-        self.directory.insert_after(place, added)?;
-        match write_pages(
-            &mut self.pager,
-            &mut self.is_changed,
-            mark.as_ref(),
-            (number, &right),
-            (seat.page, &left),
-        ) {
-            Ok(()) => Ok(()),
-            Err(fault) => {
-                self.directory.remove(place + 1);
-                self.is_failed = true;
-                Err(TreeFault::Store(fault))
-            }
-        }
-    }
-
-    // Puts these halves of the rows of the region at a place on its page and on a new one.
-    fn split(&mut self, place: usize, halves: &Halves) -> Result<(), TreeFault>
-        requires place { place < length self.old.placed }
-        requires room { HasRoom place halves.now.first self.old }
+    // Puts these halves of the rows of the region of a seat on its page and on a new one. All that
+    // can be refused comes before the first page is written, and what the directory needs before the
+    // store has a page more. After a failure of the device that isn't the directory's, or a write
+    // that found no page, the tree has failed.
+    fn split(&mut self, seat: &Seat, halves: &Halves) -> Result<(), TreeFault>
+        requires seat { IsSeatIn self.old seat.now }
+        requires room { HasRoom seat.now.index halves.now.first self.old }
         requires few { (length halves.now.left ≤ 64) × (length halves.now.right ≤ 64) }
         ensures same { OnOk result (IsElsewhereSame self.old self.new) }
         ensures written { IsStored self.old → (p : Placed)
-            → slice_get self.old.placed place ≡ Some p
+            → slice_get self.old.placed seat.now.index ≡ Some p
             → IsRegion self.old.schema (record { first = p.region.first; rows = halves.now.left })
             → IsRegion self.old.schema
             (record { first = halves.now.first; rows = halves.now.right })
             → OnOk result (IsStored self.new
-            × IsSplitAt place p (record {
+            × IsSplitAt seat.now.index p (record {
               left = halves.now.left;
               first = halves.now.first;
               right = halves.now.right;
@@ -199,35 +158,78 @@ impl<S: PageStore> Tree<S> {
         if self.regions() == MAX_PAGES {
             return Err(TreeFault::Store(StoreFault::BadSize));
         }
-        let number = self.extend()?;
-        self.write_halves(place, halves, number)
+        let mark = self.mark();
+        let left = write_region(&self.schema, seat.first(), halves.left.as_slice());
+        let right = write_region(&self.schema, halves.first, halves.right.as_slice());
+        let adding = self
+            .directory
+            .prepare_add(&mut self.pager, seat, halves.first)?;
+        let number = add_page(&mut self.pager, &mut self.is_failed)?;
+        match write_pages(
+            &mut self.pager,
+            &mut self.is_changed,
+            mark.as_ref(),
+            (number, &right),
+            (seat.page(), &left),
+        ) {
+            Ok(()) => {
+                self.directory.commit_add(adding, number);
+                Ok(())
+            }
+            Err(cause) => {
+                self.is_failed = true;
+                Err(TreeFault::Store(cause))
+            }
+        }
     }
 
-    // Puts the rows of the region at a place, of which there may be one more than a page holds, on its page, or on that and
-    // a new one.
-    fn store_rows(&mut self, place: usize, rows: &Rows) -> Result<(), TreeFault>
-        requires place { place < length self.old.placed }
+    // Puts the rows of the region of a seat, of which there may be one more than a page holds, on
+    // its page, or on that and a new one.
+    fn store_rows(&mut self, seat: &Seat, rows: &Rows) -> Result<(), TreeFault>
+        requires seat { IsSeatIn self.old seat.now }
         requires most { length rows.now ≤ self.old.schema.page_rows + 1 }
         requires room { self.old.schema.page_rows < length rows.now
-            → HasRoom place (split self.old.schema.dims self.old.schema.page_rows rows.now).first
-            self.old }
+            → HasRoom seat.now.index
+            (split self.old.schema.dims self.old.schema.page_rows rows.now).first self.old }
         ensures same { OnOk result (IsElsewhereSame self.old self.new) }
         ensures written { IsStored self.old → (p : Placed)
-            → slice_get self.old.placed place ≡ Some p
+            → slice_get self.old.placed seat.now.index ≡ Some p
             → AllByRecursion (IsRegion self.old.schema)
             (split_of self.old.schema p.region.first rows.now)
             → OnOk result (IsStored self.new
-            × (regions self.new ≡ regions_with place
+            × (regions self.new ≡ regions_with seat.now.index
             (split_of self.old.schema p.region.first rows.now) (regions self.old))) }
         ensures effect { Changes self.old self.new result }
     {
         let page_rows = self.schema.page_rows();
         let slice = rows.as_slice();
         if slice.len() <= page_rows as usize {
-            return self.rewrite(place, slice);
+            return self.rewrite(seat, slice);
         }
+        self.split_rows(seat, rows)
+    }
+
+    // Puts the rows of the region of a seat, of which there is one more than a page holds, on its
+    // page and a new one. The halves stand in this function alone, since a function clears the room
+    // of its values wherever it is entered.
+    fn split_rows(&mut self, seat: &Seat, rows: &Rows) -> Result<(), TreeFault>
+        requires seat { IsSeatIn self.old seat.now }
+        requires over { length rows.now ≡ self.old.schema.page_rows + 1 }
+        requires room { HasRoom seat.now.index
+            (split self.old.schema.dims self.old.schema.page_rows rows.now).first self.old }
+        ensures same { OnOk result (IsElsewhereSame self.old self.new) }
+        ensures written { IsStored self.old → (p : Placed)
+            → slice_get self.old.placed seat.now.index ≡ Some p
+            → AllByRecursion (IsRegion self.old.schema)
+            (split_of self.old.schema p.region.first rows.now)
+            → OnOk result (IsStored self.new
+            × (regions self.new ≡ regions_with seat.now.index
+            (split_of self.old.schema p.region.first rows.now) (regions self.old))) }
+        ensures effect { Changes self.old self.new result }
+    {
+        let page_rows = self.schema.page_rows();
         let halves = rows.split(self.schema.shape(), page_rows);
-        self.split(place, &halves)
+        self.split(seat, &halves)
     }
 
     /// Puts a row in, with these coordinates and measures, and gives its number: one more than the last row got.
@@ -259,19 +261,43 @@ impl<S: PageStore> Tree<S> {
         let row = row_of(self.next, dims, measures);
         let shape = self.schema.shape();
         let key = row.key(shape);
-        let place = self.directory.place_of(&key);
-        let mut rows = self.rows_at(place)?;
+        let seat = self.seat_of(&key)?;
+        let mut rows = Rows::new();
+        self.put_rows_at(&seat, &mut rows)?;
         if has_key(rows.as_slice(), shape, &key) {
             return Err(TreeFault::Page {
-                page: self.directory.seat_at(place).page,
+                page: seat.page(),
                 fault: PageFault::BadOrder,
             });
         }
-        rows.insert(shape, row);
-        self.store_rows(place, &rows)?;
+        rows.insert_sorted(shape, row);
+        self.store_rows(&seat, &rows)?;
         self.next += 1;
         self.rows += 1;
         Ok(row.number)
+    }
+}
+
+// Adds a page of zeros for a tree, and gives its number. After a failure of the device the tree has failed.
+fn add_page<S: PageStore>(pager: &mut Pager<S>, is_failed: &mut bool) -> Result<u32, TreeFault>
+    ensures number { IfOk result (λ n. n ≡ page_count pager.old.store) }
+    ensures added { OnOk result (Appends zero_page pager.old.store pager.new.store) }
+    ensures left { OnOk result (pager.new.store ≡ record pager.old.store {
+      pages = pager.new.store.pages;
+      synced = pager.new.store.synced;
+    }) }
+    ensures working { OnOk result (is_failed.new ≡ is_failed.old) }
+    ensures trace { SameTrace pager.old pager.new }
+    ensures refused { IfErr result
+        (IsExtensionFault is_failed.old is_failed.new pager.old pager.new) }
+{
+    match pager.extend() {
+        Ok(n) => Ok(n),
+        Err(StoreFault::Device) => {
+            *is_failed = true;
+            Err(TreeFault::Store(StoreFault::Device))
+        }
+        Err(fault) => Err(TreeFault::from(fault)),
     }
 }
 
@@ -314,7 +340,7 @@ fn four_measures(measures: &[i64]) -> [i64; 4]
 fn has_key(rows: &[Row], shape: Shape, key: &Key) -> bool
     ensures { result ≡ has_key shape key.now rows.now }
 {
-    rows.iter().any(|row| is_equal(key, &row.key(shape)))
+    rows.iter().any(|row| is_key_of(key, row, shape))
 }
 
 // Each measure is a number of 64 bits: it tells this to the proof alone.

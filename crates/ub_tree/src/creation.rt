@@ -109,6 +109,7 @@ fn lay_out<S: PageStore>(
       entries = record { first = origin; page = 1 } ∷ [];
       chain = 2 ∷ [];
       last = last_address schema.now.dims;
+      room = made.room;
     }) }
     ensures pages { OnOk result (IsHonest pager.old.store
         → IsLaidOut schema.now pager.new.store.pages) }

@@ -1,8 +1,10 @@
-// The UB-tree (Bayer 1997) over a store: each row stands in the region that holds its key, and each region on a page. The
-// definitions stand in specs/: `Spans` (the addresses that a region covers, and which region a search asks for), `View` (what
-// contracts see of a tree, and when it is sound), `Effects` (what a call leaves), `Stored` (the pages of a closed table), `Opened`
-// (which pages are opened), `Closing`; the functions of `law` ensure the laws of a sound tree. The code: `creation` and `opening`
-// to begin, `tree` to search and read, `change` to put rows in, `removal` to take them out, `closing` to end; `order` says in which
+// The UB-tree (Bayer 1997) over a store: each row stands in the region that holds its key, and each
+// region on a page. The definitions stand in specs/: `Spans` (the addresses that a region covers,
+// and which region a search asks for), `View` (what contracts see of a tree, and when it is sound),
+// `Effects` (what a call leaves), `Stored` (the pages of a closed table), `Opened` (which pages are
+// opened), `Closing`; the functions of `law` ensure the laws of a sound tree. The code: `creation`
+// and `opening` to begin, `tree` to search and read, `change` to put rows in, `removal` to take
+// them out, `closing` to end; `seats` asks the directory where a region is; `order` says in which
 // order pages go out, and writes them; the header that marks a table as changed stands in `header`.
 //
 // What belongs here is what a tree does over a store, and in which order its pages go out. Where each region's page is, stands in
@@ -21,6 +23,7 @@ mod order;
 mod reading;
 pub mod region;
 mod removal;
+mod seats;
 pub mod tree;
 
 pub use fault::TreeFault;

@@ -1,26 +1,24 @@
-ghost use Rattle.std.specs.Prelude.{◌≡◌, ◌+◌, ◌↔◌, Ok, Err, Some, MatchOption, IsOk, OnOk, IfErr, IsTrue, length, slice_get};
+ghost use Rattle.std.specs.Prelude.{◌≡◌, ◌↔◌, IsOk, OnOk, IfErr, IsTrue};
 ghost use Rattle.std.specs.List.{AllByRecursion};
 ghost use Rattle.ub_page.specs.Region as spec;
 ghost use Rattle.ub_page.specs.Region.{region_page};
-ghost use Rattle.ub_region.specs.Regions.{place_of};
 ghost use Rattle.ub_table.specs.Keys.{IsBefore, AreKeysAscending};
 ghost use Rattle.ub_table.specs.Region.{Region, IsRegion, keys_of};
 ghost use Rattle.ub_tree.specs.Effects.{IsRegionRefused};
-ghost use Rattle.ub_tree.specs.Spans.{first_keys};
 ghost use Rattle.ub_tree.specs.Tree.{IsHeldBy};
 
 use crate::fault::TreeFault;
-use ub_directory::Directory;
 use ub_page::{Page, RegionPage};
 use ub_region::is_equal;
 use ub_table::{Key, PageFault, Schema};
 
-/// Takes in the region that stands on the page of this number, where it begins at that key, and the directory has a region
-/// there whose next region begins after the rows. After a fault any region may stand there.
+/// Takes in the region that stands on the page of this number, where it begins with that key, and
+/// its rows are before the next region's first key, if there is one. After a fault any region may
+/// stand there.
 pub fn take_region(
     schema: &Schema,
-    directory: &Directory,
     first: &Key,
+    next: Option<Key>,
     number: u32,
     page: &Page,
     region: &mut RegionPage,
@@ -29,22 +27,19 @@ pub fn take_region(
     ensures on { OnOk result (region.new.region ≡ spec.region_on schema.now page.now) }
     ensures region { OnOk result (IsRegion schema.now region.new.region) }
     ensures first { OnOk result (region.new.region.first ≡ first.now) }
-    ensures held { OnOk result (IsHeldBy schema.now.dims
-        (first_keys directory.now.entries) region.new.region) }
+    ensures held { OnOk result (IsHeldBy schema.now.dims first.now next region.new.region) }
     ensures exact { (r : Region) → IsRegion schema.now r
-        → page.now ≡ region_page schema.now r → r.first ≡ first.now
-        → IsHeldBy schema.now.dims (first_keys directory.now.entries) r
+        → page.now ≡ region_page schema.now r → IsHeldBy schema.now.dims first.now next r
         → IsOk result × (region.new ≡ record { dims = schema.now.dims; region = r }) }
     ensures refused { IfErr result (λ fault. (of_page : PageFault)
         × (fault ≡ TreeFault.Page number of_page)
-        × IsRegionRefused schema.now
-        (first_keys directory.now.entries) first.now page.now of_page) }
+        × IsRegionRefused schema.now first.now next page.now of_page) }
 {
     region.fill(schema, page).map_err(|fault| TreeFault::Page {
         page: number,
         fault,
     })?;
-    if is_equal(&region.first(), first) && is_held(directory, region) {
+    if is_held(region, first, next) {
         Ok(())
     } else {
         Err(TreeFault::Page {
@@ -54,18 +49,16 @@ pub fn take_region(
     }
 }
 
-// Whether a region of the directory begins with the page's first key, and the next region after its rows.
-fn is_held(directory: &Directory, region: &RegionPage) -> bool
+// Whether the page's region begins with this key, and the next one, if there is one, after its
+// rows.
+fn is_held(region: &RegionPage, first: &Key, next: Option<Key>) -> bool
     requires { AreKeysAscending (keys_of region.now.dims region.now.region.rows) }
-    ensures { IsTrue result ↔ IsHeldBy region.now.dims
-        (first_keys directory.now.entries) region.now.region }
+    ensures { IsTrue result ↔ IsHeldBy region.now.dims first.now next region.now.region }
 {
-    let first = region.first();
-    let seat = directory.seat_of(&first);
-    if !is_equal(&seat.first, &first) {
+    if !is_equal(&region.first(), first) {
         return false;
     }
-    match seat.next {
+    match next {
         Some(next) => is_all_before(region, &next),
         None => true,
     }

@@ -10,6 +10,8 @@ use ub_table::Key;
 pub struct Region {
     /// The region's first key: no row of it is before.
     pub first: Key,
+    /// The first key of the next region, if there is one: each row of this one is before it.
+    pub next: Option<Key>,
     /// The first address of the span: that of the first key.
     pub from: u128,
     /// The last address of the span. The next region's span can begin with the same address.
@@ -25,6 +27,7 @@ pub(crate) fn region_in(slot: Option<Slot>) -> Option<Region>
     let slot = slot?;
     Some(Region {
         first: slot.first,
+        next: slot.next,
         from: slot.from,
         to: slot.to,
         page: slot.page,

@@ -1,116 +1,131 @@
-ghost use Rattle.std.specs.Prelude.{◌≡◌, ◌+◌, ◌-◌, ◌<◌, ◌≤◌, false, true, IsTrue, Err, Some, length, slice_get, IfOk, IfErr, OnOk, IsErrOf};
+ghost use Rattle.std.specs.Prelude.{◌≡◌, ◌+◌, ◌-◌, ◌<◌, ◌≤◌, false, true, IsTrue, Err, Some, length, slice_get, is_some, IfOk, IfErr, IfSome, OnOk, IsErrOf};
 ghost use Rattle.std.specs.List.{remove, AllByRecursion};
 ghost use Rattle.ub_region.specs.Joins.{JoinsNext, JoinsBefore, put_rows};
 ghost use Rattle.ub_region.specs.Regions.{settle};
 ghost use Rattle.ub_store.specs.Facts as facts;
 ghost use Rattle.ub_table.specs.Region.{Region, IsRegion};
-ghost use Rattle.ub_tree.specs.Change.{IsStored, IsElsewhereSame};
+ghost use Rattle.ub_tree.specs.Change.{IsStored, IsSeatIn, IsElsewhereSame};
 ghost use Rattle.ub_tree.specs.Effects.{Searches, Changes};
 ghost use Rattle.ub_tree.specs.Removal.{IsRemoved, IsNotFull};
 ghost use Rattle.ub_tree.specs.View.{IsSound, regions};
 
 use crate::fault::TreeFault;
 use crate::tree::Tree;
+use ub_directory::{Dropping, Seat};
 use ub_region::Rows;
 use ub_store::PageStore;
 use ub_table::{Key, PageFault, Row};
 
 impl<S: PageStore> Tree<S> {
-    // Takes the region after that at a place out of the directory. Its page stays in the store.
-    fn forget_next(&mut self, place: usize)
-        requires { place + 1 < length self.old.placed }
-        ensures same { self.new ≡ record self.old { placed = remove self.old.placed (place + 1) } }
+    // Takes a region out of the directory for which all is ready. Its page stays in the store.
+    fn forget(&mut self, dropping: Dropping)
+        requires { (1 ≤ dropping.index) × (dropping.index < length self.old.placed) }
+        ensures same { self.new ≡ record self.old {
+          placed = remove self.old.placed dropping.index;
+        } }
         ensures stored { IsStored self.old → IsStored self.new }
     {
-        self.directory.remove(place + 1);
+        self.directory.commit_drop(dropping);
     }
 
-    // Puts rows on the page of the region at a place, among them those of the next region, which is then no more. After a
-    // fault the tree has failed.
-    fn join_at(&mut self, place: usize, rows: &[Row]) -> Result<(), TreeFault>
-        requires place { place + 1 < length self.old.placed }
+    // Puts rows on the page of the region of a seat, among them those of the next region, which is
+    // then no more. After a fault the tree has failed.
+    fn join_at(&mut self, seat: &Seat, next: &Seat, rows: &[Row]) -> Result<(), TreeFault>
+        requires seat { IsSeatIn self.old seat.now }
+        requires next { IsSeatIn self.old next.now × (next.now.index ≡ seat.now.index + 1) }
         requires few { length rows.now ≤ 64 }
         ensures same { OnOk result (IsElsewhereSame self.old self.new) }
         ensures written { IsStored self.old
             → AllByRecursion (IsRegion self.old.schema)
-            (put_rows place true rows.now (regions self.old))
+            (put_rows seat.now.index true rows.now (regions self.old))
             → OnOk result (IsStored self.new
-            × (regions self.new ≡ put_rows place true rows.now (regions self.old))) }
+            × (regions self.new ≡ put_rows seat.now.index true rows.now (regions self.old))) }
         ensures effect { Changes self.old self.new result }
         ensures not_full { IfErr result IsNotFull }
     {
-        self.rewrite(place, rows)?;
-        self.forget_next(place);
+        let dropping = self.prepare_drop(next)?;
+        self.rewrite(seat, rows)?;
+        self.forget(dropping);
         Ok(())
     }
 
-    // Takes over the rows of the region after that at a place, if there is one and a page holds them together with these,
-    // and tells whether it does.
-    fn join_next(&mut self, place: usize, rows: &mut Rows) -> Result<bool, TreeFault>
-        requires place { place < length self.old.placed }
+    // Takes over the rows of the region after that of a seat, if there is one and a page holds them
+    // together with these, and then gives its seat.
+    fn join_next(&mut self, seat: &Seat, rows: &mut Rows) -> Result<Option<Seat>, TreeFault>
+        requires seat { IsSeatIn self.old seat.now }
         requires few { length rows.old ≤ self.old.schema.page_rows }
         ensures few { length rows.new ≤ self.old.schema.page_rows }
-        ensures there { IfOk result (λ fit. IsTrue fit → place + 1 < length self.old.placed) }
+        ensures next { IfOk result (λ found. IfSome found (λ next.
+            IsSeatIn self.old next × (next.index ≡ seat.now.index + 1))) }
         ensures joined { facts.IsHonest self.old.store
-            → IfOk result (λ fit. JoinsNext self.old.schema.page_rows place rows.old rows.new fit
-            (regions self.old)) }
+            → IfOk result (λ found. JoinsNext self.old.schema.page_rows seat.now.index
+            rows.old rows.new (is_some found) (regions self.old)) }
         ensures effect { Searches self.old self.new result }
     {
-        if self.directory.count() == place + 1 {
-            return Ok(false);
+        let next = match self.seat_after(seat)? {
+            Some(next) => next,
+            None => return Ok(None),
+        };
+        let more = self.rows_at(&next)?;
+        if rows.join(&more, self.schema.page_rows()) {
+            Ok(Some(next))
+        } else {
+            Ok(None)
         }
-        let next = self.rows_at(place + 1)?;
-        Ok(rows.join(&next, self.schema.page_rows()))
     }
 
-    // Puts the rows of the region before that at a place before these, if there is one and a page holds them together, and
-    // tells whether it does.
-    fn join_before(&mut self, place: usize, rows: &mut Rows) -> Result<bool, TreeFault>
-        requires place { place < length self.old.placed }
+    // Puts the rows of the region before that of a seat before these, if there is one and a page
+    // holds them together, and then gives its seat.
+    fn join_before(&mut self, seat: &Seat, rows: &mut Rows) -> Result<Option<Seat>, TreeFault>
+        requires seat { IsSeatIn self.old seat.now }
         requires few { length rows.old ≤ self.old.schema.page_rows }
         ensures few { length rows.new ≤ self.old.schema.page_rows }
-        ensures there { IfOk result (λ fit. IsTrue fit → 1 ≤ place) }
+        ensures before { IfOk result (λ found. IfSome found (λ before.
+            IsSeatIn self.old before × (seat.now.index ≡ before.index + 1))) }
         ensures joined { facts.IsHonest self.old.store
-            → IfOk result (λ fit. JoinsBefore self.old.schema.page_rows place rows.old rows.new fit
-            (regions self.old)) }
+            → IfOk result (λ found. JoinsBefore self.old.schema.page_rows seat.now.index
+            rows.old rows.new (is_some found) (regions self.old)) }
         ensures effect { Searches self.old self.new result }
     {
-        if place == 0 {
-            return Ok(false);
+        let before = match self.seat_before(seat)? {
+            Some(before) => before,
+            None => return Ok(None),
+        };
+        let mut all = self.rows_at(&before)?;
+        if all.join(rows, self.schema.page_rows()) {
+            *rows = all;
+            Ok(Some(before))
+        } else {
+            Ok(None)
         }
-        let mut before = self.rows_at(place - 1)?;
-        let fit = before.join(rows, self.schema.page_rows());
-        if fit {
-            *rows = before;
-        }
-        Ok(fit)
     }
 
-    // Puts the rows that are left of the region at a place on its page. Few rows are joined with those of the next region,
-    // or else of the one before, where a page holds both.
-    fn settle(&mut self, place: usize, rows: &mut Rows) -> Result<(), TreeFault>
-        requires place { place < length self.old.placed }
+    // Puts the rows that are left of the region of a seat on its page. Few rows are joined with
+    // those of the next region, or else of the one before, where a page holds both.
+    fn settle(&mut self, seat: &Seat, rows: &mut Rows) -> Result<(), TreeFault>
+        requires seat { IsSeatIn self.old seat.now }
         requires few { length rows.old ≤ self.old.schema.page_rows }
         ensures same { OnOk result (IsElsewhereSame self.old self.new) }
         ensures written { IsStored self.old
             → AllByRecursion (IsRegion self.old.schema)
-            (settle self.old.schema.page_rows place
-            (put_rows place false rows.old (regions self.old))) → OnOk result (IsStored self.new
-            × (regions self.new ≡ settle self.old.schema.page_rows place
-            (put_rows place false rows.old (regions self.old)))) }
+            (settle self.old.schema.page_rows seat.now.index
+            (put_rows seat.now.index false rows.old (regions self.old)))
+            → OnOk result (IsStored self.new
+            × (regions self.new ≡ settle self.old.schema.page_rows seat.now.index
+            (put_rows seat.now.index false rows.old (regions self.old)))) }
         ensures effect { Changes self.old self.new result }
         ensures not_full { IfErr result IsNotFull }
     {
         if !rows.are_few(self.schema.page_rows()) {
-            return self.rewrite(place, rows.as_slice());
+            return self.rewrite(seat, rows.as_slice());
         }
-        if self.join_next(place, rows)? {
-            return self.join_at(place, rows.as_slice());
+        if let Some(next) = self.join_next(seat, rows)? {
+            return self.join_at(seat, &next, rows.as_slice());
         }
-        if self.join_before(place, rows)? {
-            return self.join_at(place - 1, rows.as_slice());
+        if let Some(before) = self.join_before(seat, rows)? {
+            return self.join_at(&before, seat, rows.as_slice());
         }
-        self.rewrite(place, rows.as_slice())
+        self.rewrite(seat, rows.as_slice())
     }
 
     /// Takes out the row with this key, and tells whether there is one; where there is none nothing is written. A region
@@ -131,8 +146,8 @@ impl<S: PageStore> Tree<S> {
         if self.is_failed {
             return Err(TreeFault::Failed);
         }
-        let place = self.directory.place_of(&key);
-        let mut rows = self.rows_at(place)?;
+        let seat = self.seat_of(&key)?;
+        let mut rows = self.rows_at(&seat)?;
         if !rows.remove(self.schema.shape(), &key) {
             return Ok(false);
         }
@@ -142,7 +157,7 @@ impl<S: PageStore> Tree<S> {
                 fault: PageFault::BadCount,
             });
         }
-        self.settle(place, &mut rows)?;
+        self.settle(&seat, &mut rows)?;
         self.rows -= 1;
         Ok(true)
     }

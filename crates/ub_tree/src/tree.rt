@@ -134,11 +134,13 @@ impl<S: PageStore> Tree<S> {
         RegionPage::empty(self.schema.shape())
     }
 
-    /// Takes in what stands on the region's page, which is noted in the trace first; so one `page` can take in each region of
-    /// a walk, and none moves. The page is checked against the directory: its first key is the region's, with which a region of
-    /// the directory begins, and each of its rows is before the next region; otherwise OutOfRegion. Failed where the tree has
-    /// failed; Page where the page is refused; Store where the store failed in this call or has no such page; Memory where
-    /// memory was refused, for the note or for the page. After a fault any region may stand in `page`.
+    /// Takes in what stands on the region's page, which is noted in the trace first; so one `page`
+    /// can take in each region of a walk, and none moves. The page is checked against the region:
+    /// its first key is the region's, and each of its rows is before the first key of the next
+    /// region; otherwise OutOfRegion. So of a region that isn't the tree's, the refusal is told
+    /// under what that one says. Failed where the tree has failed; Page where the page is refused;
+    /// Store where the store failed in this call or has no such page; Memory where memory was
+    /// refused, for the note or for the page. After a fault any region may stand in `page`.
     pub fn read_region(&mut self, region: &Region, page: &mut RegionPage) -> Result<(), TreeFault>
         ensures dims { OnOk result (page.new.dims ≡ self.old.schema.dims) }
         ensures first { OnOk result (page.new.region.first ≡ region.now.first) }
@@ -153,8 +155,8 @@ impl<S: PageStore> Tree<S> {
         self.pager.bring_region(region.page)?;
         take_region(
             &self.schema,
-            &self.directory,
             &region.first,
+            region.next,
             region.page,
             self.pager.cached(region.page),
             page,

@@ -4,5 +4,5 @@ use Rattle.ub_directory.proofs.places.Places.remove.Goals as goal
 pub invariant_of-self : goal.invariant_of-self
 invariant_of-self c =
     let old = c.args.self.now in
-    let h = places_remove old.last old.entries.items c.args.place c.requires.some (old.begins, old.within, old.ascending) in
+    let h = places_remove old.last old.entries.items c.args.index c.requires.some (old.begins, old.within, old.ascending) in
     rw c.remove.ensures.items (record { begins = h.0; within = h.1; ascending = h.2 })

@@ -1,4 +1,4 @@
-use Rattle.std.proofs.Common.{◌≡◌, ◌+◌, ◌∙◌, drop}
+use Rattle.std.proofs.Common.{◌≡◌, ◌+◌, ◌∙◌, drop, sym}
 use Rattle.ub_region.specs.Spans.{span_end}
 use Rattle.ub_directory.specs.Slots.{first_keys}
 use Rattle.ub_directory.proofs.SpanFacts.{slot_found, no_slot, end_before_next, end_at_last}
@@ -12,13 +12,14 @@ returns-in_err-entry c =
 
 pub returns : goal.returns
 returns c =
+    let entries = c.args.self.now.entries.items in
     let found = c.in_ok-entry.ensures.lookup in
-    let end : c.match-get.to ≡ span_end c.args.self.now.last (first_keys (drop (c.args.i + 1) c.args.self.now.entries.items)) = elim c.match-get.branch [
-      | in-Some w ↦
-          let there = w.in-Some.ensures.lookup in
-          end_before_next c.args.self.now.last _ c.deref-2.result.now (c.args.i + 1) _ w.in-Some.next.now c.deref-2.ensures.value there.3.0 there.1 (w.to-is ∙ w.end_before-to.ensures)
-      | in-None w ↦
-          let there = w.in-None.ensures.lookup in
-          end_at_last c.args.self.now.last _ c.deref-2.result.now (c.args.i + 1) _ c.deref-2.ensures.value there.3 w.to-is
+    let end : c.match-next.to ≡ span_end c.args.self.now.last (first_keys (drop (c.args.i + 1) entries)) = elim c.match-next.branch [
+      | in-Some w ↦ end_before_next c.args.self.now.last entries (c.args.i + 1) _ _ (sym c.first_at-next.ensures ∙ w.in-Some.is) (w.to-is ∙ w.end_before-to.ensures)
+      | in-None w ↦ end_at_last c.args.self.now.last entries (c.args.i + 1) _ (sym c.first_at-next.ensures ∙ w.in-None.is) w.to-is
     ] in
-    slot_found c.args.self.now.last _ c.deref.result.now c.args.i c.match-get.to c.in_ok-entry.entry.now c.deref.ensures.value found.3.0 found.1 end
+    let next : c.match-next.next ≡ c.first_at-next.result = elim c.match-next.branch [
+      | in-Some w ↦ w.next-is ∙ sym w.in-Some.is
+      | in-None w ↦ w.next-is
+    ] in
+    slot_found c.args.self.now.last _ c.deref.result.now c.args.i c.match-next.to c.match-next.next c.in_ok-entry.entry.now c.deref.ensures.value found.3.0 found.1 (next ∙ c.first_at-next.ensures) end

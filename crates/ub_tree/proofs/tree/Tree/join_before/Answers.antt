@@ -1,23 +1,23 @@
-use Rattle.std.proofs.Common.{◌-◌, ◌∙◌, ap, refl, arith}
-use Rattle.ub_tree.specs.View.{TreeView, regions}
-use Rattle.ub_tree.proofs.GrowFacts.{some_at}
-use Rattle.ub_tree.proofs.TreeFacts.{region_get}
-use Rattle.ub_tree.proofs.ShrinkFacts.{join_one, length-regions}
-use Rattle.ub_tree.proofs.tree.Tree.join_before.Goals.{then-fit, else-fit}
+use Rattle.std.proofs.Common.{◌≡◌, ◌∙◌, ◌++◌, ap, if◌then◌else◌, refl}
+use Rattle.ub_tree.proofs.ShrinkFacts.{joins_one}
+use Rattle.ub_tree.proofs.TreeFacts.{seat_within}
+use Rattle.ub_tree.specs.View.{TreeView}
+use Rattle.ub_tree.proofs.tree.Tree.join_before.Goals.{then-join, else-join}
 use Rattle.ub_tree.proofs.tree.Tree.join_before.Goals as goal
 
 pub returns-clause-joined : goal.returns-clause-joined
 returns-clause-joined g c = λ honest.
     let a = c.args.self.now in
-    let within = c.requires.place in
-    let some = c.if-place-eq0.false in
-    let long = length-regions a.placed in
-    let before = some_at a.placed (c.args.place - 1) (omega arith) in
-    let read = c.in_ok-before.ensures.rows honest before.0 before.1 in
-    let rows_a = ap (λ (v : TreeView). v.schema.page_rows) (c.self.view_is ∙ c.in_ok-before.ensures.effect.same) in
-    let join = join_one a.schema.page_rows c.args.place c.args.rows.now c.if-fit.rows c.join-fit.result before.0.region (regions a) some (region_get a.placed (c.args.place - 1) before.0 before.1) (omega arith)
-    (rw (← read, ← rows_a, ← c.page_rows.ensures.page_rows) c.join-fit.ensures.fit) in
-    join (elim c.if-fit.branch [
-      | then-fit w ↦ rw (← read) (w.rows-is ∙ c.join-fit.ensures.rows ∙ rw w.if-fit.true refl)
-      | else-fit w ↦ rw w.if-fit.false w.rows-is
-    ])
+    let before = c.in-Some.before in
+    let stands = rw c.in-Some.is at c.in_ok-before.ensures.before in
+    let count = c.page_rows.ensures.page_rows ∙ ap (λ (v : TreeView). v.schema.page_rows) c.self.view_is in
+    let made : c.if-join.rows ≡ (if c.join.result then c.in_ok-all.all ++ c.args.rows.now else c.args.rows.now) = elim c.if-join.branch [
+      | then-join w ↦ w.rows-is ∙ c.join.ensures.rows ∙ rw w.if-join.true refl
+      | else-join w ↦ rw w.if-join.false w.rows-is
+    ] in
+    let joined = joins_one a c.seat_before.new.self c.rows_at.new.self c.args.seat.now.index before.index c.args.rows.now c.if-join.rows c.in_ok-all.all c.join.result c.page_rows.result
+    c.in_ok-before.ensures.effect.same c.in_ok-all.ensures.effect.same stands.1 (seat_within a.placed c.args.seat.now c.requires.seat) c.in_ok-all.ensures.rows count c.join.ensures.fit made honest in
+    elim c.if-join.branch [
+      | then-join w ↦ rw w.result-is (rw w.if-join.true at joined)
+      | else-join w ↦ rw w.result-is (rw w.if-join.false at joined)
+    ]

@@ -1,34 +1,29 @@
-use Rattle.std.proofs.Common.{◌≡◌, ◌+◌, ◌∙◌, ap, subst, arith, length, Some, slice_get, suc, ℕ}
-use Rattle.ub_tree.specs.Tree.{known_pages}
+use Rattle.std.proofs.Common.{◌≡◌, ◌∙◌, suc, ap, arith, length}
+use Rattle.std.proofs.lemmas.List.{length-map}
+use Rattle.ub_tree.proofs.ShrinkFacts.{join_last, joins_next, length-regions}
+use Rattle.ub_tree.proofs.TreeFacts.{seat_within}
+use Rattle.ub_tree.specs.Placed.{entry_of}
 use Rattle.ub_tree.specs.View.{TreeView, regions}
-use Rattle.ub_tree.proofs.GrowFacts.{some_at}
-use Rattle.ub_tree.proofs.TreeFacts.{length-placed, region_get}
-use Rattle.ub_tree.proofs.ShrinkFacts.{join_last, join_with, length-regions}
+use Rattle.ub_tree.proofs.tree.Tree.join_next.Goals.{then-join, else-join}
 use Rattle.ub_tree.proofs.tree.Tree.join_next.Goals as goal
 
-pub returns-then-count-place-clause-joined : goal.returns-then-count-place-clause-joined
-returns-then-count-place-clause-joined g c = λ honest.
+pub returns-in-None-clause-joined : goal.returns-in-None-clause-joined
+returns-in-None-clause-joined g c = λ honest.
     let a = c.args.self.now in
-    let t = c.self.inside in
-    let entries = length-placed t.schema (known_pages t.pager.store) t.directory.entries in
-    let last = c.if-count-place.true in
-    let count = c.count.ensures.count in
-    let placed : length a.placed ≡ suc c.args.place = subst (λ (v : TreeView). length v.placed ≡ suc c.args.place) c.self.view_is (omega arith) in
-    join_last a.schema.page_rows c.args.place c.args.rows.now (regions a) (length-regions a.placed ∙ placed)
+    let last = rw c.in-None.is at c.in_ok-next.ensures.after in
+    let mapped = length-map a.placed entry_of in
+    let long : length a.placed ≡ suc c.args.seat.now.index = omega arith in
+    join_last a.schema.page_rows c.args.seat.now.index c.args.rows.now (regions a) (length-regions a.placed ∙ long)
 
 pub returns-clause-joined : goal.returns-clause-joined
 returns-clause-joined g c = λ honest.
     let a = c.args.self.now in
-    let t = c.self.inside in
-    let entries = length-placed t.schema (known_pages t.pager.store) t.directory.entries in
-    let more = c.if-count-place.false in
-    let count = c.count.ensures.count in
-    let within = c.requires.place in
-    let placed : length a.placed ≡ length t.directory.entries = subst (λ (v : TreeView). length v.placed ≡ length t.directory.entries) c.self.view_is entries in
-    let next = some_at a.placed (suc c.args.place) (omega arith) in
-    let b = next.0 in
-    let up : suc c.args.place ≡ c.args.place + 1 = omega arith in
-    let read = c.in_ok-next.ensures.rows honest b (subst (λ (i : ℕ). slice_get a.placed i ≡ Some b) up next.1) in
-    let rows_a = ap (λ (v : TreeView). v.schema.page_rows) (c.self-2.view_is ∙ c.in_ok-next.ensures.effect.same) in
-    join_with a.schema.page_rows c.args.place c.args.rows.now c.join.new.self c.join.result b.region (regions a) (region_get a.placed (suc c.args.place) b next.1)
-    (rw (← read, ← rows_a, ← c.page_rows.ensures.page_rows) c.join.ensures.fit) (rw (← read) c.join.ensures.rows)
+    let next = c.in-Some.next in
+    let stands = rw c.in-Some.is at c.in_ok-next.ensures.after in
+    let count = c.page_rows.ensures.page_rows ∙ ap (λ (v : TreeView). v.schema.page_rows) c.self.view_is in
+    let joined = joins_next a c.seat_after.new.self c.rows_at.new.self c.args.seat.now.index next.index c.args.rows.now c.join.new.self c.in_ok-more.more c.join.result c.page_rows.result
+    c.in_ok-next.ensures.effect.same c.in_ok-more.ensures.effect.same stands.1 (seat_within a.placed next stands.0) c.in_ok-more.ensures.rows count c.join.ensures.fit c.join.ensures.rows honest in
+    elim c.if-join.branch [
+      | then-join w ↦ rw w.result-is (rw w.if-join.true at joined)
+      | else-join w ↦ rw w.result-is (rw w.if-join.false at joined)
+    ]

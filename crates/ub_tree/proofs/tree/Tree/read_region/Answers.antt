@@ -1,14 +1,10 @@
-use Rattle.std.proofs.Common.{◌≡◌, ◌<◌, refl, arith, rules, List, length, sym, subst}
+use Rattle.std.proofs.Common.{◌≡◌, ◌<◌, refl, arith, rules, length}
 use Rattle.std.proofs.lemmas.Option.{slice_get_within}
 use Rattle.ub_page.specs.Region.{region_page}
-use Rattle.ub_page.specs.declared.directory.Entry.{Entry}
-use Rattle.ub_table.specs.declared.row.Key.{Key}
 use Rattle.ub_tree.specs.Effects.{IsRegionRefused}
-use Rattle.ub_tree.specs.Spans.{first_keys}
-use Rattle.ub_tree.proofs.TreeFacts.{entries_back}
-use Rattle.ub_tree.specs.Tree.{tree_view, known_pages}
+use Rattle.ub_tree.specs.Tree.{tree_view}
 use Rattle.ub_tree.specs.View.{TreeView}
-use Rattle.ub_tree.proofs.CallFacts.{tree_known, page_refused, span_refused, span_unread, span_listed, refused_there, missing_there, store_refused, known_is, read_there, read_page, read_tree, page_still, on_ok_by}
+use Rattle.ub_tree.proofs.CallFacts.{tree_known, page_refused, span_refused, span_unread, span_listed, missing_there, store_refused, known_is, read_there, read_page, read_tree, page_still, on_ok_by}
 use Rattle.ub_tree.proofs.tree.Tree.read_region.Goals as goal
 
 pub returns-in_err-bring_region-clause-effect : goal.returns-in_err-bring_region-clause-effect
@@ -25,7 +21,7 @@ returns-in_err-bring_region-clause-effect g c =
           c.in_err-bring_region.ensures.effect.device
           (λ e. (
             (λ sound.
-                let k = tree_known t.schema t.directory.entries t.directory.chain t.next t.rows t.is_changed t.is_failed t.pager t.directory.last c.args.region.now c.self.invariant.last_is c.self.invariant.places.2 sound there in
+                let k = tree_known t.schema t.directory.entries t.directory.chain t.next t.rows t.is_changed t.is_failed t.pager t.directory.last c.args.region.now c.self.invariant.last_is sound there in
                 let known = known_is t.pager.store sound.honest in
                 let within : c.args.region.now.page < length t.pager.store.pages = slice_get_within t.pager.store.pages c.args.region.now.page (region_page t.schema k.0.region) (rw known at k.1.spelled) in
                 let past = c.in_err-bring_region.ensures.missing e in
@@ -43,12 +39,12 @@ returns-clause-stands g c =
     let t = c.self.inside in
     let old : TreeView = tree_view t.schema t.directory.entries t.directory.chain t.next t.rows t.is_changed t.is_failed t.pager in
     rw (← c.self.view_is) (λ sound there.
-    let k = tree_known t.schema t.directory.entries t.directory.chain t.next t.rows t.is_changed t.is_failed t.pager t.directory.last c.args.region.now c.self.invariant.last_is c.self.invariant.places.2 sound there in
+    let k = tree_known t.schema t.directory.entries t.directory.chain t.next t.rows t.is_changed t.is_failed t.pager t.directory.last c.args.region.now c.self.invariant.last_is sound there in
     let known = known_is t.pager.store sound.honest in
     let at = page_still _ _ _ _ _ c.in_ok-bring_region.ensures.effect c.cached.ensures.page sound.honest in
     let spelled = rw known at k.1.spelled in
     let page : c.cached.result.now ≡ region_page t.schema k.0.region = cc in
-    let taken = c.take_region.ensures.exact k.0.region k.1.region page k.1.first k.1.held in
+    let taken = c.take_region.ensures.exact k.0.region k.1.region page k.1.held in
     on_ok_by c.take_region.result (rw taken.1 (k.0, k.1.there, k.1.page, refl)))
 
 pub returns-clause-effect : goal.returns-clause-effect
@@ -57,24 +53,21 @@ returns-clause-effect g c =
     let old : TreeView = tree_view t.schema t.directory.entries t.directory.chain t.next t.rows t.is_changed t.is_failed t.pager in
     rw (← c.self.view_is) (record {
       same = read_tree c.take_region.result t.schema t.directory.entries t.directory.chain t.next t.rows t.is_changed t.is_failed t.pager c.bring_region.new.self
-          (read_page (IsRegionRefused t.schema (first_keys t.directory.entries) c.args.region.now.first c.cached.result.now) c.take_region.result c.args.region.now.page t.pager.store c.bring_region.new.self.store c.take_region.ensures.refused c.in_ok-bring_region.ensures.effect.same);
+          (read_page (IsRegionRefused t.schema c.args.region.now.first c.args.region.now.next c.cached.result.now) c.take_region.result c.args.region.now.page t.pager.store c.bring_region.new.self.store c.take_region.ensures.refused c.in_ok-bring_region.ensures.effect.same);
       noted = search rules;
       listed = search rules;
-      refused = span_refused (IsRegionRefused t.schema (first_keys t.directory.entries) c.args.region.now.first c.cached.result.now) c.take_region.result c.args.region.now old c.take_region.ensures.refused (λ f refused. (
+      refused = span_refused (IsRegionRefused t.schema c.args.region.now.first c.args.region.now.next c.cached.result.now) c.take_region.result c.args.region.now old c.take_region.ensures.refused (λ f refused. (
         refl,
         c.cached.result.now,
         (page_still _ _ _ _ _ c.in_ok-bring_region.ensures.effect c.cached.ensures.page),
-        subst (λ (es : List Entry). IsRegionRefused t.schema (first_keys es) c.args.region.now.first c.cached.result.now f) (sym (entries_back t.schema (known_pages t.pager.store) t.directory.entries)) refused,
+        refused,
       ));
-      faults = λ there. page_refused (IsRegionRefused t.schema (first_keys t.directory.entries) c.args.region.now.first c.cached.result.now) c.take_region.result c.args.region.now.page old c.take_region.ensures.refused (λ sound.
-          let k = tree_known t.schema t.directory.entries t.directory.chain t.next t.rows t.is_changed t.is_failed t.pager t.directory.last c.args.region.now c.self.invariant.last_is c.self.invariant.places.2 sound there in
+      faults = λ there. page_refused (IsRegionRefused t.schema c.args.region.now.first c.args.region.now.next c.cached.result.now) c.take_region.result c.args.region.now.page old c.take_region.ensures.refused (λ sound.
+          let k = tree_known t.schema t.directory.entries t.directory.chain t.next t.rows t.is_changed t.is_failed t.pager t.directory.last c.args.region.now c.self.invariant.last_is sound there in
           let known = known_is t.pager.store sound.honest in
           let at = page_still _ _ _ _ _ c.in_ok-bring_region.ensures.effect c.cached.ensures.page sound.honest in
           let spelled = rw known at k.1.spelled in
           let page : c.cached.result.now ≡ region_page t.schema k.0.region = cc in
-          (c.take_region.ensures.exact k.0.region k.1.region page k.1.first k.1.held).0)
-          (λ f refused.
-          let listed = span_listed t.schema t.directory.entries t.directory.chain t.next t.rows t.is_changed t.is_failed t.pager t.directory.last c.args.region.now c.self.invariant.last_is there in
-          refused_there t.schema t.directory.entries t.directory.chain t.next t.rows t.is_changed t.is_failed t.pager listed.0 c.args.region.now.page c.cached.result.now f listed.1 listed.3 (page_still _ _ _ _ _ c.in_ok-bring_region.ensures.effect c.cached.ensures.page)
-          (subst (λ (k : Key). IsRegionRefused t.schema (first_keys t.directory.entries) k c.cached.result.now f) (sym listed.2) refused));
+          (c.take_region.ensures.exact k.0.region k.1.region page k.1.held).0)
+          (λ f refused. (c.args.region.now, there, refl, c.cached.result.now, (page_still _ _ _ _ _ c.in_ok-bring_region.ensures.effect c.cached.ensures.page), refused));
     })

@@ -1,37 +1,114 @@
-use Rattle.std.proofs.Common.{inr, rules, arith, ◌≡◌, sym, ap, map, ℕ}
-use Rattle.ub_zaddr.specs.Address.{last_address}
+use Rattle.std.proofs.Common.{◌≡◌, ◌<◌, ◌+◌, ◌∙◌, ◌∷◌, [], List, true, Some, Err, ap, subst, refl, length, slice_get}
+use Rattle.std.specs.List.{insert}
+use Rattle.ub_directory.specs.View.{AddingView}
+use Rattle.ub_page.specs.Region.{region_page}
+use Rattle.ub_store.specs.Facts.{StoreFacts}
 use Rattle.ub_page.specs.declared.directory.Entry.{Entry}
-use Rattle.ub_tree.specs.Placed.{entry_of}
+use Rattle.ub_tree.specs.Change.{placed_with}
+use Rattle.ub_tree.specs.Effects.{Changes}
+use Rattle.ub_tree.specs.Placed.{Placed}
+use Rattle.ub_tree.specs.Tree.{tree_view, known_pages}
 use Rattle.ub_tree.specs.View.{TreeView}
-use Rattle.ub_tree.proofs.RoomFacts.{room_moved}
-use Rattle.ub_tree.proofs.WriteFacts.{grown_then, left_by, same_leaves, unchanged}
+use Rattle.ub_tree.specs.declared.fault.TreeFault.TheVariants.{Store}
+use Rattle.ub_tree.proofs.CallFacts.{missing_there, past_pages, tree_entry_known, write_refused, known_is, seated}
+use Rattle.ub_tree.proofs.TreeFacts.{contained_at, placed_at, entries_back}
+use Rattle.ub_tree.proofs.WriteFacts.{halved, halves_missing, marks_first, own_page, wrote, ended_by, put_is, grown_then, left_by, ready_leaves, ready_stored, ready_fresh, ready_number, ready_later}
 use Rattle.ub_tree.proofs.tree.Tree.split.Goals as goal
 
-pub returns-then-regions-eq-MAX_PAGES-clause-effect : goal.returns-then-regions-eq-MAX_PAGES-clause-effect
-returns-then-regions-eq-MAX_PAGES-clause-effect g c = unchanged _ c.args.self.now (inr (search rules), same_leaves c.args.self.now)
+pub prepare_add-requires : goal.prepare_add-requires
+prepare_add-requires g c =
+    let t = c.self.inside in
+    let stands = seated t.schema t.directory.entries t.directory.chain t.next t.rows t.is_changed t.is_failed t.pager c.args.self.now c.args.seat.now c.self.view_is c.requires.seat in
+    record { seat = stands }
 
 pub returns-in_err-number-clause-effect : goal.returns-in_err-number-clause-effect
-returns-in_err-number-clause-effect g c = left_by c.from_residual.result c.in_err-number.field-0.0 c.args.self.now c.extend.new.self c.from_residual.ensures.1 c.in_err-number.ensures.effect
+returns-in_err-number-clause-effect g c =
+    let t = c.self.inside in
+    let new = tree_view t.schema t.directory.entries t.directory.chain t.next t.rows t.is_changed c.add_page.new.is_failed c.add_page.new.pager in
+    let still = ap (λ p. tree_view t.schema t.directory.entries t.directory.chain t.next t.rows t.is_changed t.is_failed p) c.in_ok-adding.ensures.effect.same in
+    rw (← c.self.view_is, c.in_ok-adding.ensures.same)
+    (subst (λ (v : TreeView). Changes v new c.from_residual-in_err-number.result) still
+    (left_by c.from_residual-in_err-number.result c.in_err-number.field-0.0 _ new c.from_residual-in_err-number.ensures.1 (c.in_err-number.ensures.refused t.schema t.directory.entries t.directory.chain t.next t.rows t.is_changed)))
 
-pub write_halves-requires-clause-room : goal.write_halves-requires-clause-room
-write_halves-requires-clause-room g c =
-    let a = c.args.self.now in
-    let leaves = c.in_ok-number.ensures.leaves in
-    let dims : c.extend.new.self.schema.dims ≡ a.schema.dims = ap (λ (v : TreeView). v.schema.dims) leaves.same in
-    let x : Entry = record { first = c.args.halves.now.first; page = c.in_ok-number.number } in
-    room_moved c.extend.new.self.schema.dims (last_address a.schema.dims) c.args.place (map entry_of c.extend.new.self.placed) (map entry_of a.placed) x
-    (ap (λ (d : ℕ). last_address d) (sym dims)) leaves.entries (c.requires.room c.in_ok-number.number)
+pub commit_add-requires-clause-places : goal.commit_add-requires-clause-places
+commit_add-requires-clause-places g c =
+    let t = c.self.inside in
+    let room = rw (← c.self.view_is) at (c.requires.room c.in_ok-number.number) in
+    rw (c.in_ok-adding.ensures.adding, c.in_ok-adding.ensures.same) (rw c.self.invariant.last_is (rw (entries_back t.schema (known_pages t.pager.store) t.directory.entries) at room))
 
-pub returns-clause-written : goal.returns-clause-written
-returns-clause-written g c = λ stored p there good_left good_right.
-    let grown = c.in_ok-number.ensures.grown stored in
-    let schema = ap (λ (v : TreeView). v.schema) c.in_ok-number.ensures.leaves.same in
-    let done = c.write_halves.ensures.written grown.0 grown.2 p (rw grown.1 there) (rw schema good_left) (rw schema good_right) in
-    rw grown.1 at done
+pub returns-in-Ok-clause-written : goal.returns-in-Ok-clause-written
+returns-in-Ok-clause-written g c =
+    let t = c.self.inside in
+    let stands = seated t.schema t.directory.entries t.directory.chain t.next t.rows t.is_changed t.is_failed t.pager c.args.self.now c.args.seat.now c.self.view_is c.requires.seat in
+    let e : Entry = record { first = c.first.result; page = c.page.result } in
+    let at : slice_get t.directory.entries c.args.seat.now.index ≡ Some e = rw (c.first.ensures, c.page.ensures) stands.entry in
+    let number = c.in_ok-number.number in
+    let x : Entry = record { first = c.args.halves.now.first; page = number } in
+    let halves = c.args.halves.now in
+    rw (← c.self.view_is, c.commit_add.ensures.same, c.in_ok-adding.ensures.adding, c.in_ok-adding.ensures.same, c.in-Ok.ensures.marked, c.in_ok-number.ensures.working) (λ stored p there good_left good_right.
+    let grown = ready_stored t.schema t.directory.entries t.directory.chain t.next t.rows t.is_changed t.is_failed t.pager c.prepare_add.new.pager c.add_page.new.pager AddingView c.in_ok-adding.adding c.in_ok-adding.ensures.effect c.in_ok-number.ensures.added c.in_ok-number.ensures.left c.in_ok-number.ensures.trace stored in
+    let fresh = ready_fresh t.schema t.directory.entries t.directory.chain t.next t.rows t.is_changed t.is_failed t.pager c.prepare_add.new.pager c.add_page.new.pager AddingView c.in_ok-adding.adding c.in_ok-adding.ensures.effect c.in_ok-number.ensures.added c.in_ok-number.ensures.left c.in_ok-number.ensures.trace number c.in_ok-number.ensures.number stored in
+    let both = halved t.schema t.directory.entries t.directory.chain t.next t.rows t.is_changed t.is_failed c.add_page.new.pager c.write_pages.new.pager c.args.seat.now.index e x halves.left halves.right
+    c.write_region-left.result c.write_region-right.result at (rw c.as_slice.ensures.rows at c.write_region-left.ensures.page) (rw c.as_slice.ensures.rows at c.write_region-left.ensures.reads_back)
+    (rw c.as_slice-2.ensures.rows at c.write_region-right.ensures.page) (rw c.as_slice-2.ensures.rows at c.write_region-right.ensures.reads_back)
+    c.in-Ok.ensures.put (ap (λ (s : StoreFacts). s.honest) c.in-Ok.ensures.effect.same) p grown.0 fresh (ap (λ (ps : List Placed). slice_get ps c.args.seat.now.index) grown.1 ∙ there) good_left good_right in
+    (both.0, (number, both.1 ∙ ap (λ (ps : List Placed). placed_with c.args.seat.now.index (record { page = p.page; region = record { first = p.region.first; rows = halves.left } } ∷ record { page = number; region = record { first = halves.first; rows = halves.right } } ∷ []) ps) grown.1)))
 
-pub returns-clause-effect : goal.returns-clause-effect
-returns-clause-effect g c =
-    grown_then c.args.self.now c.extend.new.self c.write_halves.new.self c.in_ok-number.ensures.leaves c.write_halves.result c.write_halves.ensures.effect
+pub returns-in-Ok-clause-effect : goal.returns-in-Ok-clause-effect
+returns-in-Ok-clause-effect g c =
+    let t = c.self.inside in
+    let stands = seated t.schema t.directory.entries t.directory.chain t.next t.rows t.is_changed t.is_failed t.pager c.args.self.now c.args.seat.now c.self.view_is c.requires.seat in
+    let e : Entry = record { first = c.first.result; page = c.page.result } in
+    let at : slice_get t.directory.entries c.args.seat.now.index ≡ Some e = rw (c.first.ensures, c.page.ensures) stands.entry in
+    let number = c.in_ok-number.number in
+    let x : Entry = record { first = c.args.halves.now.first; page = number } in
+    let failed = c.add_page.new.is_failed in
+    let later = insert t.directory.entries (c.args.seat.now.index + 1) x in
+    let first = tree_view t.schema t.directory.entries t.directory.chain t.next t.rows t.is_changed t.is_failed t.pager in
+    let old = tree_view t.schema t.directory.entries t.directory.chain t.next t.rows t.is_changed t.is_failed c.add_page.new.pager in
+    let new = tree_view t.schema later t.directory.chain t.next t.rows c.write_pages.new.is_changed t.is_failed c.write_pages.new.pager in
+    rw (← c.self.view_is, c.commit_add.ensures.same, c.in_ok-adding.ensures.adding, c.in_ok-adding.ensures.same, c.in_ok-number.ensures.working)
+    (grown_then first old new (ready_leaves t.schema t.directory.entries t.directory.chain t.next t.rows t.is_changed t.is_failed t.pager c.prepare_add.new.pager c.add_page.new.pager AddingView c.in_ok-adding.adding c.in_ok-adding.ensures.effect c.in_ok-number.ensures.added c.in_ok-number.ensures.left c.in_ok-number.ensures.trace) _
+    (wrote t.schema t.directory.entries later t.directory.chain t.next t.rows t.is_changed c.write_pages.new.is_changed t.is_failed t.is_failed c.add_page.new.pager c.write_pages.new.pager
+    _ c.in-Ok.ensures.effect.same c.in-Ok.ensures.trace
+    (marks_first t.schema t.directory.entries later t.directory.chain t.next t.rows t.is_changed c.write_pages.new.is_changed t.is_failed t.is_failed c.add_page.new.pager c.write_pages.new.pager
+    c.mark-mark.result (number ∷ e.page ∷ []) (rw (← c.self.view_is) at c.mark-mark.ensures.changed) (rw (← c.self.view_is) at c.mark-mark.ensures.page) (rw c.as_ref.ensures.value at c.write_pages.ensures.marks)
+    (λ sound. (
+      ready_later t.schema t.directory.entries t.directory.chain t.next t.rows t.is_changed t.is_failed t.pager c.prepare_add.new.pager c.add_page.new.pager AddingView c.in_ok-adding.adding c.in_ok-adding.ensures.effect c.in_ok-number.ensures.added c.in_ok-number.ensures.left c.in_ok-number.ensures.trace number c.in_ok-number.ensures.number c.self.invariant.some_chain sound,
+      (own_page t.schema t.directory.entries t.directory.chain c.add_page.new.pager.store.pages (known_pages c.add_page.new.pager.store) c.args.seat.now.index e sound.placed_are at, tt),
+    )))
+    refl tt))
 
-pub write_halves-requires-clause-page : goal.write_halves-requires-clause-page
-write_halves-requires-clause-page g c = (let last = c.in_ok-number.ensures.number in omega arith, c.in_ok-number.ensures.later)
+pub returns-in-Err-clause-effect : goal.returns-in-Err-clause-effect
+returns-in-Err-clause-effect g c =
+    let t = c.self.inside in
+    let stands = seated t.schema t.directory.entries t.directory.chain t.next t.rows t.is_changed t.is_failed t.pager c.args.self.now c.args.seat.now c.self.view_is c.requires.seat in
+    let e : Entry = record { first = c.first.result; page = c.page.result } in
+    let at : slice_get t.directory.entries c.args.seat.now.index ≡ Some e = rw (c.first.ensures, c.page.ensures) stands.entry in
+    let number = c.in_ok-number.number in
+    let x : Entry = record { first = c.args.halves.now.first; page = number } in
+    let first = tree_view t.schema t.directory.entries t.directory.chain t.next t.rows t.is_changed t.is_failed t.pager in
+    let old : TreeView = tree_view t.schema t.directory.entries t.directory.chain t.next t.rows t.is_changed t.is_failed c.add_page.new.pager in
+    let new : TreeView = tree_view t.schema t.directory.entries t.directory.chain t.next t.rows c.write_pages.new.is_changed true c.write_pages.new.pager in
+    let there : number < length c.add_page.new.pager.store.pages = ready_number t.schema t.directory.entries t.directory.chain t.next t.rows t.is_changed t.is_failed t.pager c.prepare_add.new.pager c.add_page.new.pager AddingView c.in_ok-adding.adding c.in_ok-adding.ensures.effect c.in_ok-number.ensures.added c.in_ok-number.ensures.left c.in_ok-number.ensures.trace number c.in_ok-number.ensures.number in
+    rw (← c.self.view_is, c.in_ok-adding.ensures.same)
+    (grown_then first old new (ready_leaves t.schema t.directory.entries t.directory.chain t.next t.rows t.is_changed t.is_failed t.pager c.prepare_add.new.pager c.add_page.new.pager AddingView c.in_ok-adding.adding c.in_ok-adding.ensures.effect c.in_ok-number.ensures.added c.in_ok-number.ensures.left c.in_ok-number.ensures.trace) (Err (Store c.in-Err.cause))
+    (wrote t.schema t.directory.entries t.directory.entries t.directory.chain t.next t.rows t.is_changed c.write_pages.new.is_changed t.is_failed true c.add_page.new.pager c.write_pages.new.pager
+    (Err (Store c.in-Err.cause)) (c.in-Err.ensures.effect.same ∙ put_is (Unit {0}) (Unit {0}) c.in-Err.cause c.add_page.new.pager.store c.write_pages.new.pager.store) c.in-Err.ensures.trace
+    (marks_first t.schema t.directory.entries t.directory.entries t.directory.chain t.next t.rows t.is_changed c.write_pages.new.is_changed t.is_failed true c.add_page.new.pager c.write_pages.new.pager
+    c.mark-mark.result (number ∷ e.page ∷ []) (rw (← c.self.view_is) at c.mark-mark.ensures.changed) (rw (← c.self.view_is) at c.mark-mark.ensures.page) (rw c.as_ref.ensures.value at c.write_pages.ensures.marks)
+    (λ sound. (
+      ready_later t.schema t.directory.entries t.directory.chain t.next t.rows t.is_changed t.is_failed t.pager c.prepare_add.new.pager c.add_page.new.pager AddingView c.in_ok-adding.adding c.in_ok-adding.ensures.effect c.in_ok-number.ensures.added c.in_ok-number.ensures.left c.in_ok-number.ensures.trace number c.in_ok-number.ensures.number c.self.invariant.some_chain sound,
+      (own_page t.schema t.directory.entries t.directory.chain c.add_page.new.pager.store.pages (known_pages c.add_page.new.pager.store) c.args.seat.now.index e sound.placed_are at, tt),
+    )))
+    tt
+    (write_refused c.in-Err.cause old new c.in-Err.ensures.faults c.in-Err.ensures.effect.device
+    (λ no_page. (
+      (λ sound.
+          let k = tree_entry_known t.schema t.directory.entries t.directory.chain t.next t.rows t.is_changed t.is_failed c.add_page.new.pager c.args.seat.now.index e sound at in
+          let known = known_is c.add_page.new.pager.store sound.honest in
+          halves_missing old (length c.add_page.new.pager.store.pages) number e.page (region_page t.schema (placed_at t.schema c.add_page.new.pager.store.pages e).region) sound refl there (rw known at k.spelled) (c.in-Err.ensures.missing no_page)),
+      missing_there t.schema t.directory.entries t.directory.chain t.next t.rows t.is_changed t.is_failed c.add_page.new.pager e (contained_at (λ (_ : Entry). Unit {0}) t.directory.entries c.args.seat.now.index e at) (past_pages (length c.add_page.new.pager.store.pages) number e.page there (c.in-Err.ensures.missing no_page)),
+    ))
+    (ended_by t.schema t.directory.entries t.directory.entries t.directory.chain t.next t.rows t.is_changed c.write_pages.new.is_changed t.is_failed true c.add_page.new.pager c.write_pages.new.pager
+    (Unit {0}) c.in-Err.cause refl refl c.in-Err.ensures.effect.same c.in-Err.ensures.trace))))

@@ -1,8 +1,8 @@
-use Rattle.std.proofs.Common.{◌≡◌, ◌∙◌, ap, true, false, nat_le, length, arith, List}
-use Rattle.std.proofs.lemmas.Bool.{le-leb, lt-leb}
+use Rattle.std.proofs.Common.{◌≡◌, ap, true, nat_le, length, arith, List}
+use Rattle.std.proofs.lemmas.Bool.{le-leb}
 use Rattle.ub_table.specs.declared.row.Row.{Row}
 use Rattle.ub_tree.specs.View.{TreeView}
-use Rattle.ub_tree.proofs.GrowFacts.{one_region, one_stored, two_are, two_stored}
+use Rattle.ub_tree.proofs.GrowFacts.{one_region, one_stored}
 use Rattle.ub_tree.proofs.WriteFacts.{changed_by}
 use Rattle.ub_tree.proofs.tree.Tree.store_rows.Goals as goal
 
@@ -16,22 +16,7 @@ returns-then-slice-page_rows-clause-written g c = λ stored p there all.
     let long = ap (λ (rs : List Row). length rs) c.as_slice-slice.ensures.rows in
     let fits : nat_le (length rows) old.schema.page_rows ≡ true = le-leb (length rows) old.schema.page_rows (omega arith) in
     let written = rw c.as_slice-slice.ensures.rows at c.rewrite.ensures.written in
-    one_stored old c.rewrite.new.self c.args.place p rows c.rewrite.result fits (written stored p there (one_region old c.rewrite.new.self c.args.place p rows fits all))
-
-pub returns-clause-written : goal.returns-clause-written
-returns-clause-written g c = λ stored p there all.
-    let old = c.args.self.now in
-    let rows = c.args.rows.now in
-    let same = ap (λ (v : TreeView). v.schema.page_rows) c.self.view_is in
-    let many = c.if-slice-page_rows.false in
-    let count : c.page_rows-page_rows.result ≡ old.schema.page_rows = c.page_rows-page_rows.ensures.page_rows ∙ same in
-    let dims : c.shape.result ≡ old.schema.dims = c.shape.ensures ∙ ap (λ (v : TreeView). v.schema.dims) c.self.view_is in
-    let long = ap (λ (rs : List Row). length rs) c.as_slice-slice.ensures.rows in
-    let over : nat_le (length rows) old.schema.page_rows ≡ false = lt-leb (length rows) old.schema.page_rows (omega arith) in
-    let halves = c.split-halves.ensures in
-    let written = rw (halves.0, halves.1, halves.2, dims, count) at c.split.ensures.written in
-    let two = two_are old c.split.new.self c.args.place p rows over all in
-    two_stored old c.split.new.self c.args.place p rows c.split.result over (written stored p there two.0 two.1)
+    one_stored old c.rewrite.new.self c.args.seat.now.index p rows c.rewrite.result fits (written stored p there (one_region old c.rewrite.new.self c.args.seat.now.index p rows fits all))
 
 pub returns-then-slice-page_rows-clause-effect : goal.returns-then-slice-page_rows-clause-effect
 returns-then-slice-page_rows-clause-effect g c = changed_by c.rewrite.result c.args.self.now c.rewrite.new.self c.rewrite.ensures.effect
