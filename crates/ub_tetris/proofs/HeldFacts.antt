@@ -17,40 +17,43 @@ use Rattle.ub_table.specs.declared.row.Row.{Row}
 use Rattle.ub_table.specs.declared.schema.Schema.{Schema}
 use Rattle.ub_tetris.specs.Held.{HeldRow, held_row, values_by}
 use Rattle.ub_tetris.specs.declared.place.Held.{Held}
+use Rattle.ub_tetris.specs.declared.ranked.Ranked.{Ranked}
 use Rattle.ub_tetris.specs.inner.Kept.{held_of, held_cmp, IsFirstAmong, IsFirstOf, TakesFirst}
 use Rattle.ub_tetris.specs.inner.Turns.{HoldsAlso}
 
 -- one of those held
-abbrev pub as_held : Held → HeldRow
-as_held h = record { values = h.values.items; row = h.row }
+abbrev pub as_held : Ranked → HeldRow
+as_held r = record { values = r.held.value.values.items; row = r.held.value.row }
 
 never_less : (r : Ordering) → is_lt r ≡ false → ¬ (r ≡ Less)
 never_less r no_less e = let told : is_lt r ≡ true = ap is_lt e in cc
 
-pub first_among : (x : Held) (items : List Held) → IsUpperBound held_cmp x items → IsFirstAmong (as_held x) (held_of items)
+pub first_among : (x : Ranked) (items : List Ranked) → IsUpperBound held_cmp x items → IsFirstAmong (as_held x) (held_of items)
 first_among x [] top = tt
 first_among x (y ∷ items) top = (never_less (held_cmp x y) top.0, first_among x items top.1)
 
-contained : (items : List Held) (n : ℕ) (x : Held) → n < length items → x ≡ slice_index_or items n x → Contains (held_of items) (as_held x)
+contained : (items : List Ranked) (n : ℕ) (x : Ranked) → n < length items → x ≡ slice_index_or items n x → Contains (held_of items) (as_held x)
 contained [] n x within is = absurd (omega arith)
 contained (y ∷ items) zero x within is = (0, omega arith, ap as_held (sym is))
 contained (y ∷ items) (suc n) x within is = let (k, far, at) = contained items n x (omega arith) is in (suc k, omega arith, at)
 
-pub first_is : (items : List Held) (x : Held) → 0 < length items → x ≡ slice_index_or items 0 x → IsUpperBound held_cmp x items → IsFirstOf (held_of items) (Some x.row)
+pub first_is : (items : List Ranked) (x : Ranked) → 0 < length items → x ≡ slice_index_or items 0 x → IsUpperBound held_cmp x items → IsFirstOf (held_of items) (Some x.held.value.row)
 first_is items x some is top = (as_held x, contained items 0 x some is, refl, first_among x items top)
 
-pub none_held : (items : List Held) → length items ≡ 0 → held_of items ≡ []
+pub none_held : (items : List Ranked) → length items ≡ 0 → held_of items ≡ []
 none_held [] none = refl
 none_held (x ∷ items) none = absurd (omega arith)
 
-pub first_taken : (items left : List Held) (x : Held) → IsPermutation items (x ∷ left) → IsUpperBound held_cmp x left → TakesFirst (held_of items) (held_of left) (Some x.row)
+pub first_taken : (items left : List Ranked) (x : Ranked) → IsPermutation items (x ∷ left) → IsUpperBound held_cmp x left → TakesFirst (held_of items) (held_of left) (Some x.held.value.row)
 first_taken items left x same top = (as_held x, IsPermutation-map as_held items (x ∷ left) same, refl, first_among x left top)
 
-pub held_is : (entry : Held) (schema : Schema) (keys : List SortKey) (row : Row) → entry.values.items ≡ values_by schema keys row → entry.row ≡ row
+pub held_is : (entry : Ranked) (h : Held) (schema : Schema) (keys : List SortKey) (row : Row) → entry.held.value ≡ h → h.values.items ≡ values_by schema keys row → h.row ≡ row
     → as_held entry ≡ held_row schema keys row
-held_is entry schema keys row values is = ap (λ (vs : List ℤ). record { values = vs; row = entry.row }) values ∙ ap (λ (r : Row). record { values = values_by schema keys row; row = r }) is
+held_is entry h schema keys row same values is =
+    ap (λ (x : Held). record { values = x.values.items; row = x.row }) same
+    ∙ ap (λ (vs : List ℤ). record { values = vs; row = h.row }) values ∙ ap (λ (r : Row). record { values = values_by schema keys row; row = r }) is
 
-pub held_more : (entry : Held) (old new : List Held) (schema : Schema) (keys : List SortKey) (row : Row) → IsPermutation (entry ∷ old) new
+pub held_more : (entry : Ranked) (old new : List Ranked) (schema : Schema) (keys : List SortKey) (row : Row) → IsPermutation (entry ∷ old) new
     → as_held entry ≡ held_row schema keys row → IsPermutation (held_row schema keys row ∷ held_of old) (held_of new)
 held_more entry old new schema keys row same is =
     subst (λ (h : HeldRow). IsPermutation (h ∷ held_of old) (held_of new)) is (IsPermutation-map as_held (entry ∷ old) new same)

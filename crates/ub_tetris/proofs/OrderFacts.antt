@@ -14,7 +14,7 @@ use Rattle.ub_query.specs.declared.query.SortKey.{SortKey}
 use Rattle.ub_table.specs.declared.row.Row.{Row}
 use Rattle.ub_table.specs.declared.schema.Schema.{Schema}
 use Rattle.ub_tetris.specs.Held.{HeldRow, held_row, item_value, turned, values_by}
-use Rattle.ub_tetris.specs.inner.Kept.{IsHeldBefore, place_cmp}
+use Rattle.ub_tetris.specs.inner.Kept.{IsHeldBefore, place_cmp, tie_cmp}
 
 less_of : (x y : ℤ) → x <ℤ y → int_cmp x y ≡ Less
 less_of x y h = sym (int_cmp_is x y Less h)
@@ -45,10 +45,15 @@ same_equal down schema a b (Column column) h =
 same_equal down schema a b Count h = equal_of (turned down (pos 0)) (turned down (pos 0)) refl
 same_equal down schema a b (Aggregate taken column) h = equal_of (turned down (pos 0)) (turned down (pos 0)) refl
 
+tie_less : (schema : Schema) (keys : List SortKey) (a b : Row) → IsRowBefore schema keys a b → tie_cmp (values_by schema keys a) a.number (values_by schema keys b) b.number ≡ Less
+tie_less schema [] a b h = sym (nat_cmp_is a.number b.number Less h)
+tie_less schema (key ∷ keys) a b (inl h) = rw (ahead_less key.is_descending schema a b key.item h) refl
+tie_less schema (key ∷ keys) a b (inr h) = rw (same_equal key.is_descending schema a b key.item h.0) (tie_less schema keys a b h.1)
+
 before_less : (schema : Schema) (keys : List SortKey) (a b : Row) → IsRowBefore schema keys a b → place_cmp (values_by schema keys a) a.number (values_by schema keys b) b.number ≡ Less
-before_less schema [] a b h = sym (nat_cmp_is a.number b.number Less h)
+before_less schema [] a b h = tie_less schema [] a b h
 before_less schema (key ∷ keys) a b (inl h) = rw (ahead_less key.is_descending schema a b key.item h) refl
-before_less schema (key ∷ keys) a b (inr h) = rw (same_equal key.is_descending schema a b key.item h.0) (before_less schema keys a b h.1)
+before_less schema (key ∷ keys) a b (inr h) = rw (same_equal key.is_descending schema a b key.item h.0) (tie_less schema keys a b h.1)
 
 pub before_held : (schema : Schema) (keys : List SortKey) (a b : Row) → IsRowBefore schema keys a b → IsHeldBefore (held_row schema keys a) (held_row schema keys b)
 before_held schema keys a b h = before_less schema keys a b h

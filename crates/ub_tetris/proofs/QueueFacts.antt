@@ -1,5 +1,5 @@
 -- What a sweep's code has found and sorted is the events of the sweep.
-use Rattle.std.proofs.Common.{◌≡◌, ◌≤◌, ◌<◌, ℕ, List, [], ◌∷◌, Bool, true, false, nat_eq, map, Contains, IsPermutation, ◌⊎◌, inl, inr, refl, sym, ap, ◌∙◌, subst, arith}
+use Rattle.std.proofs.Common.{slice_get, ◌≡◌, ◌≤◌, ◌<◌, ℕ, List, [], ◌∷◌, Bool, true, false, nat_eq, map, Contains, IsPermutation, ◌⊎◌, inl, inr, refl, sym, ap, ◌∙◌, subst, arith}
 use Rattle.std.proofs.lemmas.Bool.{true≢false, and_from, and_parts, eq-eqb, eqb-true}
 use Rattle.std.proofs.lemmas.Cmp.{nat_eq_equiv, ranked}
 use Rattle.std.proofs.lemmas.List.Elements.{All-from_recursion}
@@ -92,7 +92,7 @@ region_for last (p ∷ placed) span there = elim (contains_cases _ (spans_up_to 
   | inl same ↦ (
     _,
     contains_here _ (regions_of last (map entry_of placed)),
-    subst (λ (x : Span). IsOne (record { first = p.region.first; from = p.region.first.z; to = span_end last (first_keys (map entry_of placed)); page = p.page }) x) same
+    subst (λ (x : Span). IsOne (record { first = p.region.first; next = slice_get (first_keys (map entry_of placed)) 0; from = p.region.first.z; to = span_end last (first_keys (map entry_of placed)); page = p.page }) x) same
         (record { first = refl; from = refl; to = ap (λ (keys : List Key). span_end last keys) (keys_are placed) }),
   )
   | inr later ↦ let (r, here, one) = region_for last placed span later in (r, contains_later _ (regions_of last (map entry_of placed)) r here, one)

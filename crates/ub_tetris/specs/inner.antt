@@ -1,3 +1,4 @@
 pub mod Events
+pub mod Firsts
 pub mod Kept
 pub mod Turns

@@ -1,4 +1,4 @@
-ghost use Rattle.std.specs.Prelude.{◌≡◌, ◌∷◌, ◌≤ℤ◌, [], List, ℕ, ℤ, pos, neg_ℤ, length, map, IfOk, OnOk, OnErr, IsTrue};
+ghost use Rattle.std.specs.Prelude.{◌≡◌, ◌∷◌, ◌≤ℤ◌, [], List, ℕ, ℤ, pos, neg_ℤ, length, map, IfOk, OnOk, OnErr, IsTrue, option_copied};
 ghost use Rattle.std.specs.List.{All};
 ghost use Rattle.std.specs.List.Sorted.{IsPermutation};
 ghost use Rattle.ub_query.specs.Posed.{IsItemOver};
@@ -6,6 +6,7 @@ ghost use Rattle.ub_tetris.specs.Held as spec;
 ghost use Rattle.ub_tetris.specs.inner.Kept.{IsFirstOf, TakesFirst};
 
 use crate::place::Held;
+use crate::ranked::Ranked;
 use std::alloc::{AllocError, Global};
 use std::collections::BinaryHeap;
 use std::marker::Model;
@@ -15,7 +16,9 @@ use ub_table::{Row, Schema};
 /// The rows that a sweep holds, of which the first in the order asked is found at once.
 #[derive(Drop)]
 pub struct HeldRows {
-    heap: BinaryHeap<Held>,
+    heap: BinaryHeap<Ranked>,
+    // Memory of rows that were given, for those that are held next.
+    spare: Vec<Box<Held>>,
 }
 
 impl Model for HeldRows {
@@ -38,6 +41,7 @@ impl HeldRows {
     {
         HeldRows {
             heap: BinaryHeap::new(alloc),
+            spare: Vec::new(alloc),
         }
     }
 
@@ -61,23 +65,36 @@ impl HeldRows {
             (spec.held_row schema.now keys.now row.now ∷ self.old) self.new) }
         ensures err { OnErr result (self.new ≡ self.old) }
     {
-        self.heap.push(Held::new(alloc, schema, keys, row)?)?;
+        let mut held = room(&mut self.spare, alloc)?;
+        held.fill(schema, keys, row)?;
+        self.heap.push(Ranked::new(held))?;
         Ok(())
     }
 
     /// The first of those held in the order asked, if there is one.
-    pub fn first(&self) -> Option<Row>
-        ensures { IsFirstOf self.now result }
+    pub fn first(&self) -> Option<&Row>
+        ensures { IsFirstOf self.now (option_copied result) }
     {
         let first = self.heap.peek()?;
-        Some(first.row)
+        Some(&first.held.row)
     }
 
     /// Takes the first of those held in the order asked, if there is one.
     pub fn take_first(&mut self) -> Option<Row>
         ensures { TakesFirst self.old self.new result }
     {
-        let first = self.heap.pop()?;
-        Some(first.row)
+        let Ranked { held, .. } = self.heap.pop()?;
+        let row = held.row;
+        // Where this is refused, the memory is given back.
+        let _ = self.spare.push(held);
+        Some(row)
+    }
+}
+
+// Memory for one row more: some that is spare, or more.
+fn room(spare: &mut Vec<Box<Held>>, alloc: Global) -> Result<Box<Held>, AllocError> {
+    match spare.pop() {
+        Some(held) => Ok(held),
+        None => Ok(Box::new(alloc, Held::blank(alloc))?),
     }
 }

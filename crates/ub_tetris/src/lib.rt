@@ -3,6 +3,10 @@
 //
 // A sweep goes over the regions that meet the plan's boxes in the order of their event values, and holds the selected rows of
 // those that it has fetched. It borrows nothing: each call is given the plan and the tree.
+//
+// Held rows stand in a heap (`held`), of which an element (`ranked`) is the first of a row's values and
+// a pointer: a row given costs some comparisons and moves for each power of two of those held, and
+// few go to the row. The memory of a row that was given is kept for the next one held.
 #![tactic(auto)]
 
 mod awaiting;
@@ -10,7 +14,9 @@ mod course;
 mod event;
 mod fault;
 mod held;
+mod order;
 mod place;
+mod ranked;
 mod state;
 mod sweep;
 

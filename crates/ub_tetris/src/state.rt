@@ -12,6 +12,7 @@ use crate::event::{Awaited, is_past};
 use crate::fault::SweepFault;
 use crate::held::HeldRows;
 use std::alloc::{AllocError, Global};
+use ub_page::RegionPage;
 use ub_plan::Plan;
 use ub_query::Query;
 use ub_store::PageStore;
@@ -27,11 +28,13 @@ pub struct State {
     // The regions that it comes to, in order, and how many of them were fetched.
     queue: Vec<Awaited>,
     fetched: usize,
+    // The region fetched last; each takes its place, so that none moves.
+    page: RegionPage,
 }
 
 impl State {
-    /// A sweep that awaits these regions.
-    pub fn new(alloc: Global, course: Course, queue: Vec<Awaited>) -> State
+    /// A sweep that awaits these regions, and reads each of them into this page.
+    pub fn new(alloc: Global, course: Course, queue: Vec<Awaited>, page: RegionPage) -> State
         ensures course { result.course ≡ course }
         ensures held { result.held ≡ [] }
         ensures queue { result.queue ≡ queue }
@@ -43,6 +46,7 @@ impl State {
             held: HeldRows::new(alloc),
             queue,
             fetched: 0,
+            page,
         }
     }
 
@@ -86,7 +90,7 @@ impl State {
             (None, _) => false,
             (Some(_), None) => true,
             (Some(awaited), Some(row)) => {
-                let last = coordinate(&row, self.course.dim);
+                let last = coordinate(row, self.course.dim);
                 !is_past(self.course.is_descending, last, awaited.value)
             }
         }
@@ -104,14 +108,13 @@ impl State {
     {
         let region = self.queue[self.fetched].region;
         self.fetched += 1;
-        let mut page = tree.empty_region();
-        tree.read_region(&region, &mut page)?;
+        tree.read_region(&region, &mut self.page)?;
         hold_selected(
             &mut self.held,
             self.alloc,
             tree.schema(),
             query,
-            page.rows(),
+            self.page.rows(),
         )?;
         Ok(())
     }

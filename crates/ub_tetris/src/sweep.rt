@@ -5,6 +5,7 @@ use crate::fault::SweepFault;
 use crate::state::State;
 use std::alloc::Global;
 use std::marker::Model;
+use ub_page::RegionPage;
 use ub_plan::Plan;
 use ub_store::PageStore;
 use ub_table::Row;
@@ -53,18 +54,19 @@ impl Sweep {
     {
         tree.begin();
         let Some(course) = course_of(plan) else {
-            return Ok(Sweep::over(alloc, NOWHERE, Vec::new(alloc)));
+            let page = tree.empty_region();
+            return Ok(Sweep::over(alloc, NOWHERE, Vec::new(alloc), page));
         };
         let queue = await_regions(alloc, tree, plan.boxes(), course)?;
-        Ok(Sweep::over(alloc, course, queue))
+        Ok(Sweep::over(alloc, course, queue, tree.empty_region()))
     }
 
-    // A sweep that comes to these regions.
-    fn over(alloc: Global, course: Course, queue: Vec<Awaited>) -> Sweep
+    // A sweep that comes to these regions, and reads each of them into this page.
+    fn over(alloc: Global, course: Course, queue: Vec<Awaited>, page: RegionPage) -> Sweep
         ensures { result ≡ begun_view course queue.items }
     {
         Sweep {
-            state: State::new(alloc, course, queue),
+            state: State::new(alloc, course, queue, page),
             is_failed: false,
         }
     }

@@ -9,24 +9,31 @@ use Rattle.std.specs.declared.cmp.Ordering.{Ordering}
 use Rattle.std.specs.declared.cmp.Ordering.TheVariants.{Less}
 use Rattle.ub_table.specs.declared.row.Row.{Row}
 use Rattle.ub_tetris.specs.Held.{HeldRow}
-use Rattle.ub_tetris.specs.declared.place.Held.{Held}
+use Rattle.ub_tetris.specs.declared.ranked.Ranked.{Ranked}
+use Rattle.ub_tetris.specs.inner.Firsts.{first_of}
 
 -- what is held, without the room in memory
-abbrev pub held_of : List Held → List HeldRow
-held_of items = map (λ h. record { values = h.values.items; row = h.row }) items
+abbrev pub held_of : List Ranked → List HeldRow
+held_of items = map (λ r. record { values = r.held.value.values.items; row = r.held.value.row }) items
 
--- the order of values, and where these are equal, of row numbers
+-- the order of all values, and where these are equal, of row numbers
+abbrev pub tie_cmp : List ℤ → ℕ → List ℤ → ℕ → Ordering
+tie_cmp values number others other = ordering_then (slice_cmp int_cmp values others) (nat_cmp number other)
+
+-- the same with the first values compared alone before
 abbrev pub place_cmp : List ℤ → ℕ → List ℤ → ℕ → Ordering
-place_cmp values number others other = ordering_then (slice_cmp int_cmp values others) (nat_cmp number other)
+place_cmp values number others other =
+    ordering_then (int_cmp (first_of values) (first_of others)) (tie_cmp values number others other)
 
 -- the greatest is the first
-abbrev pub held_cmp : Held → Held → Ordering
-held_cmp a b = place_cmp b.values.items b.row.number a.values.items a.row.number
+abbrev pub held_cmp : Ranked → Ranked → Ordering
+held_cmp a b = place_cmp b.held.value.values.items b.held.value.row.number a.held.value.values.items a.held.value.row.number
 
 pub held_total : IsTotalOrder held_cmp
 held_total =
     back_total
-    (then_total (on_total (λ (h : Held). h.values.items) (lists_total int_cmp_total)) (on_total (λ (h : Held). h.row.number) nat_cmp_total))
+    (then_total (on_total (λ (r : Ranked). first_of r.held.value.values.items) int_cmp_total)
+    (then_total (on_total (λ (r : Ranked). r.held.value.values.items) (lists_total int_cmp_total)) (on_total (λ (r : Ranked). r.held.value.row.number) nat_cmp_total)))
 
 -- one stands before another
 abbrev pub IsHeldBefore : HeldRow → HeldRow → Type 0

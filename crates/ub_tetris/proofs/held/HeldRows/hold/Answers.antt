@@ -1,4 +1,4 @@
-use Rattle.std.proofs.Common.{◌∷◌, List, subst}
+use Rattle.std.proofs.Common.{◌∷◌, List, ap, subst}
 use Rattle.std.specs.BinaryHeap.{heap_items}
 use Rattle.std.specs.List.Sorted.{IsPermutation}
 use Rattle.ub_tetris.proofs.HeldFacts.{held_more, held_is}
@@ -9,5 +9,5 @@ use Rattle.ub_tetris.proofs.held.HeldRows.hold.Goals as goal
 pub returns-clause-ok : goal.returns-clause-ok
 returns-clause-ok c =
     subst (λ (held : List HeldRow). IsPermutation (held_row c.args.schema.now c.args.keys.now c.args.row.now ∷ held) (held_of (heap_items c.push.new.self))) c.self.view_is
-    (held_more c.in_ok-new.field-0 (heap_items c.self.inside.heap) (heap_items c.push.new.self) c.args.schema.now c.args.keys.now c.args.row.now c.in_ok-push.ensures.permutation
-    (held_is c.in_ok-new.field-0 c.args.schema.now c.args.keys.now c.args.row.now c.in_ok-new.ensures.values c.in_ok-new.ensures.row))
+    (held_more c.new.result (heap_items c.self.inside.heap) (heap_items c.push.new.self) c.args.schema.now c.args.keys.now c.args.row.now c.in_ok-push.ensures.permutation
+    (held_is c.new.result c.fill.new.self c.args.schema.now c.args.keys.now c.args.row.now (ap (λ (b : _). b.value) c.new.ensures) c.in_ok-fill.ensures.values c.in_ok-fill.ensures.row))

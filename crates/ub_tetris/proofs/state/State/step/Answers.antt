@@ -32,7 +32,7 @@ returns-in_err-fetch-clause-effect g c =
 
 pub returns-clause-next : goal.returns-clause-next
 returns-clause-next g c given rest fetched unread is =
-    step_ends c.args.plan.now c.args.tree.now c.loop-self.tree c.args.self.now c.loop-self.self c.loop-self.invariant _ c.take_first.result
+    step_ends c.args.plan.now c.args.tree.now c.loop-self.tree c.args.self.now c.loop-self.self c.loop-self.invariant (record c.loop-self.self { held = c.take_first.new.self }) c.take_first.result
     (subst (λ (due : Bool). IsDue c.loop-self.self due) c.loop-self-test.false c.is_due.ensures) c.take_first.ensures (refl, refl, refl) given rest fetched unread is
 
 pub returns-in_err-fetch-clause-broken : goal.returns-in_err-fetch-clause-broken
@@ -49,4 +49,4 @@ returns-in_err-fetch-clause-rests g c given fetched is =
 
 pub returns-clause-rests : goal.returns-clause-rests
 returns-clause-rests g c given fetched is =
-    step_rests c.args.plan.now c.args.tree.now c.loop-self.tree c.args.self.now c.loop-self.self c.loop-self.invariant _ c.take_first.result c.take_first.ensures (refl, refl, refl) given fetched is
+    step_rests c.args.plan.now c.args.tree.now c.loop-self.tree c.args.self.now c.loop-self.self c.loop-self.invariant (record c.loop-self.self { held = c.take_first.new.self }) c.take_first.result c.take_first.ensures (refl, refl, refl) given fetched is
