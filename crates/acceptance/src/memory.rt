@@ -21,7 +21,12 @@ const LOAD: [&str; 7] = ["load", "s.csv", "s.ub", "--dims", "2", "--page-rows", 
 const RUN: [&str; 3] = ["run", "s.ub", "query.sql"];
 
 // Puts a text at a path.
-fn put(alloc: Global, files: &mut MemFiles, path: &str, text: &str) -> Result<(), AllocError> {
+pub(crate) fn put(
+    alloc: Global,
+    files: &mut MemFiles,
+    path: &str,
+    text: &str,
+) -> Result<(), AllocError> {
     files.put_text(path, Vec::from_slice(alloc, text.as_bytes())?)
 }
 
@@ -46,7 +51,13 @@ fn outcome<F: Files>(
 }
 
 // Whether a command line writes these bytes and ends with this status.
-fn ends<F: Files>(alloc: Global, files: &mut F, words: &[&str], want: &str, status: u8) -> bool {
+pub(crate) fn ends<F: Files>(
+    alloc: Global,
+    files: &mut F,
+    words: &[&str],
+    want: &str,
+    status: u8,
+) -> bool {
     match outcome(alloc, files, words) {
         Ok((bytes, code)) => code == status && bytes.as_slice() == want.as_bytes(),
         Err(_) => false,

@@ -4,14 +4,15 @@ use Rattle.ub_store.specs.Facts.{StoreFacts, IsHonest, page_count, raised}
 use Rattle.ub_store.specs.declared.fault.StoreFault.{StoreFault}
 use Rattle.ub_store.specs.declared.fault.StoreFault.TheVariants.{Device}
 
--- what a path holds: nothing is told of it, there is no file, a file with these bytes, a file with these pages and no more, or
--- one that is no whole number of pages
+-- what a path holds: nothing is told of it, there is no file, a file with these bytes, a file with
+-- these pages and no more, one that is no whole number of pages, or a table file whose store is lent
 pub data Held : Type 0 where
   untold : Held
   absent : Held
   bytes : List ℕ → Held
   pages : List (List ℕ) → Held
   torn : Held
+  lent_out : Held
 
 -- the facts of files: what each path holds; whether a file gives back what was written to it; whether a table file may answer Device;
 -- and how often the reading of a file, and the opening or making of a table file, answered Device (counts that stay at the greatest u64)
@@ -47,6 +48,12 @@ IsTorn untold = Unit {0}
 IsTorn torn = Unit {0}
 IsTorn _ = ⊥
 
+-- where it is told, it is a table file whose store is lent
+abbrev pub IsAway : Held → Type 0
+IsAway untold = Unit {0}
+IsAway lent_out = Unit {0}
+IsAway _ = ⊥
+
 -- a store that files lend is as honest as they are, and can fail where they say so
 pub record IsOf (files : FilesFacts) (store : StoreFacts) : Type 0 where
   pub honest : IsTrue files.honest → IsHonest store
@@ -79,22 +86,22 @@ counted (Err fault) n = raised_by fault n
 abbrev pub ReadsFile : {A : Type 0} → FilesFacts → FilesFacts → Result A StoreFault → Type 0
 ReadsFile old new result = new ≡ record old { failed_reads = counted result old.failed_reads }
 
--- a call with this result that lends the table file of this path, or makes it anew: nothing is told of it from then on
+-- a call with this result that lends the table file of this path, or makes it anew: it is away from then on
 pub record LendsFile {A : Type 0} (path : List ℕ) (old new : FilesFacts) (result : Result A StoreFault) : Type 0 where
   pub same : new ≡ record old { holds = new.holds; failed_tables = counted result old.failed_tables }
   pub others : HoldsBut path old new
-  pub away : OnOk result (new.holds path ≡ untold)
+  pub away : OnOk result (IsAway (new.holds path))
 
 -- the same where a refused call leaves the file as it was
 pub record OpensFile {A : Type 0} (path : List ℕ) (old new : FilesFacts) (result : Result A StoreFault) : Type 0 where
   pub lends : LendsFile path old new result
   pub kept : OnErr result (new.holds path ≡ old.holds path)
 
--- a store was put back at this path, of which nothing was told since it was lent
+-- a store was put back at this path: where the table file was away, it is there again
 pub record PutsBack (path : List ℕ) (old new : FilesFacts) (store : StoreFacts) : Type 0 where
   pub same : new ≡ record old { holds = new.holds }
   pub others : HoldsBut path old new
-  pub held : old.holds path ≡ untold → IsPutBack (new.holds path) store
+  pub held : IsAway (old.holds path) → IsPutBack (new.holds path) store
 
 -- the table file of this path was lent and put back, and holds the pages of the store with these facts
 pub record Returns (path : List ℕ) (old new : FilesFacts) (store : StoreFacts) : Type 0 where

@@ -1,6 +1,7 @@
 pub mod Files
 pub mod Host
 pub mod Copying
+pub mod Faulty
 pub mod Memory
 pub mod Next
 pub mod Status

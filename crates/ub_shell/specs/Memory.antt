@@ -2,16 +2,16 @@
 use Rattle.std.specs.Prelude.{◌≡◌, ◌≢◌, ℕ, List, [], ◌∷◌, Option, Some, None, if◌then◌else◌, true, false, suc, string_bytes}
 use Rattle.std.specs.Option.{option_map}
 use Rattle.std.specs.Str.{bytes_eq}
-use Rattle.ub_shell.specs.Files.{FilesFacts, Held, HoldsBut, absent, bytes, pages, untold}
+use Rattle.ub_shell.specs.Files.{FilesFacts, Held, HoldsBut, absent, bytes, lent_out, pages}
 use Rattle.ub_shell.specs.declared.memory.Entry.{Entry}
 use Rattle.ub_shell.specs.declared.memory.MemFile.{MemFile}
 use Rattle.ub_shell.specs.declared.memory.MemFile.TheVariants.{Text, Table, Lent}
 
--- what is told of a file: its bytes or its pages, and nothing while its store is lent
+-- what is told of a file: its bytes, its pages, or that its store is lent
 abbrev pub told : MemFile → Held
 told (Text text) = bytes text.items
 told (Table store) = pages store
-told Lent = untold
+told Lent = lent_out
 
 -- what a path holds: the first file of that name
 abbrev pub held_in : List Entry → List ℕ → Held

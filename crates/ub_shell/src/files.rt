@@ -5,8 +5,9 @@ use ub_store::{PageStore, StoreFault};
 
 /// Where the files that a command names are: texts are read whole, and table files are lent as stores and put back.
 ///
-/// What a path holds, whether files are honest and can fail, and how often a call failed is for contracts alone. It is told
-/// what a path holds while its store isn't lent, if it is told at all. The path `-` is standard input, where it is read.
+/// What a path holds, whether files are honest and can fail, and how often a call failed is for
+/// contracts alone. Files may tell nothing of a path; where they tell of it, a table file whose store
+/// is lent is told to be away. The path `-` is standard input, where it is read.
 pub trait Files {
     type Store: PageStore;
 
@@ -24,8 +25,10 @@ pub trait Files {
     /// comes where the file can't be opened, BadSize where it is no whole number of pages or has more of them than a store.
     /// With a refusal the file is as it was.
     fn open(&mut self, path: &str) -> Result<Self::Store, StoreFault>
-        ensures lent { IfOk result (λ store. IsLent (facts self.old) path.now (Self.Store.facts store)) }
-        ensures torn { IsErrOf result StoreFault.BadSize → IsTorn ((facts self.old).holds path.now) }
+        ensures lent { IfOk result (λ store.
+            IsLent (facts self.old) path.now (Self.Store.facts store)) }
+        ensures torn { IsErrOf result StoreFault.BadSize
+            → IsTorn ((facts self.old).holds path.now) }
         ensures faults { IfErr result (λ fault.
             (fault ≡ StoreFault.Device) ⊎ (fault ≡ StoreFault.BadSize)) }
         ensures effect { OpensFile path.now (facts self.old) (facts self.new) result };

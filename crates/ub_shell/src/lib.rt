@@ -2,13 +2,15 @@
 //
 // `command` runs what the command line asks for: `load` makes a table file (`loading`), `run` asks one (`running`), `try` asks
 // a table in memory (`trial`), and `next` is the command for the addresses of a box. `status` is how a command ends. Files
-// come from a source (`files`): the system (`host`), or memory, for tests (`memory`). `program` is the last step, over any
-// writer. What words ask for is read by `ub_words`, and scripts belong to `ub_script`, whose names are passed on here.
+// come from a source (`files`): the system (`host`), or memory, for tests (`memory`), also one whose
+// table files fail (`faulty`). `program` is the last step, over any writer. What words ask for is read
+// by `ub_words`, and scripts belong to `ub_script`, whose names are passed on here.
 #![tactic(auto)]
 
 pub mod closing;
 pub mod command;
 pub mod copying;
+pub mod faulty;
 pub mod files;
 pub mod host;
 pub mod law;
@@ -20,6 +22,7 @@ pub mod running;
 pub mod status;
 pub mod trial;
 
+pub use faulty::FaultyFiles;
 pub use files::Files;
 pub use host::HostFiles;
 pub use memory::MemFiles;

@@ -42,9 +42,9 @@ pub fn load_file<F: Files, W: Out>(
     requires few_dims { asked.source.dims ≤ 4 }
     requires some_rows { 2 ≤ asked.source.page_rows }
     requires few_rows { asked.source.page_rows ≤ 64 }
-    ensures { LoadsFile asked.entry.source.path.now asked.entry.table.now asked.entry.source.name.now
-        asked.entry.source.dims asked.entry.source.page_rows (F.facts files.old) (F.facts files.new)
-        (W.facts out.old) (W.facts out.new) result }
+    ensures { LoadsFile asked.entry.source.path.now asked.entry.table.now
+        asked.entry.source.name.now asked.entry.source.dims asked.entry.source.page_rows
+        (F.facts files.old) (F.facts files.new) (W.facts out.old) (W.facts out.new) result }
 {
     if is_same(asked.source.path, asked.table) {
         return tell(out, b"! SameFile\n", Status::CommandLine);
@@ -95,11 +95,12 @@ fn load_text<F: Files>(
     requires few_dims { asked.source.dims ≤ 4 }
     requires some_rows { 2 ≤ asked.source.page_rows }
     requires few_rows { asked.source.page_rows ≤ 64 }
-    ensures kept { IfOk result (λ counts. IsFileOf asked.entry.table.now text.now asked.entry.source.name.now
-        asked.entry.source.dims asked.entry.source.page_rows counts.rows counts.regions
+    ensures kept { IfOk result (λ counts. IsFileOf asked.entry.table.now text.now
+        asked.entry.source.name.now asked.entry.source.dims asked.entry.source.page_rows
+        counts.rows counts.regions (F.facts files.old) (F.facts files.new)) }
+    ensures refused { IfErr result (IsUnkept asked.entry.table.now text.now
+        asked.entry.source.name.now asked.entry.source.dims asked.entry.source.page_rows
         (F.facts files.old) (F.facts files.new)) }
-    ensures refused { IfErr result (IsUnkept asked.entry.table.now text.now asked.entry.source.name.now
-        asked.entry.source.dims asked.entry.source.page_rows (F.facts files.old) (F.facts files.new)) }
 {
     let Loaded { mut store, counts } = load_pages(alloc, text, asked)?;
     match write_pages(files, asked.table, &mut store) {
@@ -115,9 +116,12 @@ fn load_pages(alloc: Global, text: &[u8], asked: LoadWords<'_>) -> Result<Loaded
     requires some_rows { 2 ≤ asked.source.page_rows }
     requires few_rows { asked.source.page_rows ≤ 64 }
     ensures loaded { IfOk result (λ l. IsTable text.now asked.entry.source.name.now
-        asked.entry.source.dims asked.entry.source.page_rows l.counts.rows l.counts.regions l.store) }
-    ensures refused { IfErr result (λ fault. IsUnloaded text.now asked.entry.source.name.now asked.entry.source.dims fault
-        ⊎ IsUnclosed text.now asked.entry.source.name.now asked.entry.source.dims asked.entry.source.page_rows fault) }
+        asked.entry.source.dims asked.entry.source.page_rows
+        l.counts.rows l.counts.regions l.store) }
+    ensures refused { IfErr result (λ fault.
+        IsUnloaded text.now asked.entry.source.name.now asked.entry.source.dims fault
+        ⊎ IsUnclosed text.now asked.entry.source.name.now asked.entry.source.dims
+        asked.entry.source.page_rows fault) }
 {
     let tree = load(
         alloc,

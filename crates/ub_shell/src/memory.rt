@@ -1,6 +1,6 @@
 ghost use Rattle.std.specs.Prelude.{◌≡◌, ◌≢◌, ◌<◌, ◌⊎◌, ◌↔◌, ℕ, List, [], length, IfOk, IfSome, IfErr, OnOk, OnErr, MatchOption, MatchResult, IsOk, IsErrOf, string_bytes};
 ghost use Rattle.std.specs.Str.{bytes_eq};
-ghost use Rattle.ub_shell.specs.Files.{absent, bytes, pages, untold, IsLent, IsMade, LendsFile, OpensFile, PutsBack, ReadsFile};
+ghost use Rattle.ub_shell.specs.Files.{absent, bytes, lent_out, pages, IsLent, IsMade, LendsFile, OpensFile, PutsBack, ReadsFile};
 ghost use Rattle.ub_shell.specs.Memory.{held_in, memory_facts, place_in, told, IsPut, IsSetTo};
 
 use crate::files::Files;
@@ -161,7 +161,7 @@ fn lend(entries: &mut [Entry], path: &str) -> Option<MemStore>
         (((store : List (List ℕ)) → held_in entries.old path.now ≢ pages store)
         × IsSetTo path.now (held_in entries.old path.now) entries.old entries.new)
         (λ store. (held_in entries.old path.now ≡ pages store)
-        × IsSetTo path.now untold entries.old entries.new) }
+        × IsSetTo path.now lent_out entries.old entries.new) }
 {
     match exchange(entries, path, MemFile::Lent) {
         Ok(MemFile::Table(store)) => Some(store),

@@ -92,7 +92,8 @@ fn pieces_of(alloc: Global, text: &str) -> Result<Vec<&str>, AllocError>
 // One to four coordinates, joined by commas.
 fn point_of(alloc: Global, text: &str) -> Result<Vec<u32>, NextFault>
     ensures point { IfOk result (λ p. IsPointText text.now p.items) }
-    ensures bad { result ≡ Err NextFault.BadPoint → (point : List ℕ) → ¬ (IsPointText text.now point) }
+    ensures bad { result ≡ Err NextFault.BadPoint
+        → (point : List ℕ) → ¬ (IsPointText text.now point) }
     ensures why { IfErr result (λ e. (e ≡ NextFault.BadPoint) ⊎ (e ≡ NextFault.Memory)) }
 {
     let pieces = pieces_of(alloc, text)?;

@@ -21,8 +21,8 @@ pub fn run_file<F: Files, W: Out>(
     asked: RunWords<'_>,
     out: &mut W,
 ) -> Status
-    ensures { RunsFile asked.entry.table.now asked.entry.script.now (F.facts files.old) (F.facts files.new)
-        (W.facts out.old) (W.facts out.new) result }
+    ensures { RunsFile asked.entry.table.now asked.entry.script.now
+        (F.facts files.old) (F.facts files.new) (W.facts out.old) (W.facts out.new) result }
 {
     let script = match files.read(asked.script) {
         Ok(script) => script,
@@ -68,7 +68,8 @@ fn run_tree<F: Files, W: Out>(
     requires unchanged { tree.is_changed ≡ false }
     requires working { tree.is_failed ≡ false }
     ensures ran { HasRunTree tree script.now (W.facts out.old) (W.facts out.new) result }
-    ensures back { (left : StoreFacts) × PutsBack path.now (F.facts files.old) (F.facts files.new) left
+    ensures back { (left : StoreFacts)
+        × PutsBack path.now (F.facts files.old) (F.facts files.new) left
         × (left.pages ≡ tree.store.pages) }
 {
     let ran = run(alloc, &mut tree, script, out);

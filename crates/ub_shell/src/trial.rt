@@ -22,9 +22,9 @@ pub fn try_files<F: Files, W: Out>(
     requires few_dims { asked.source.dims ≤ 4 }
     requires some_rows { 2 ≤ asked.source.page_rows }
     requires few_rows { asked.source.page_rows ≤ 64 }
-    ensures { TriesFiles asked.entry.source.path.now asked.entry.script.now asked.entry.source.name.now
-        asked.entry.source.dims asked.entry.source.page_rows (F.facts files.old) (F.facts files.new)
-        (W.facts out.old) (W.facts out.new) result }
+    ensures { TriesFiles asked.entry.source.path.now asked.entry.script.now
+        asked.entry.source.name.now asked.entry.source.dims asked.entry.source.page_rows
+        (F.facts files.old) (F.facts files.new) (W.facts out.old) (W.facts out.new) result }
 {
     let text = match files.read(asked.source.path) {
         Ok(text) => text,
