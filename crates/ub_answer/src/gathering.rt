@@ -77,7 +77,8 @@ impl Gathering {
             → All (λ row. row.number ≤ MAX_ROW_NUMBER) table.rows
             → IsPermutation (selected table filter) taken
             → IsGathered schema.now (asked query.now) taken self
-            → IfOk result (λ cells. IsMeaning table (record (asked query.now) { filter = filter }) cells) }
+            → IfOk result (λ cells. IsMeaning table (record (asked query.now) { filter = filter })
+            cells) }
     {
         let Gathering { alloc, taker } = self;
         match taker {

@@ -56,7 +56,8 @@ impl GroupTaker {
         requires few { length query.now.items ≤ MAX_ITEMS }
         requires columns { All (λ column. column < length schema.now.columns) query.now.group }
         ensures { (taken : List _) → All (λ item. IsGrouped query.now.group item) query.now.items
-            → spec.HoldsGroups schema.now query.now.group query.now.items taken self.old.groups.entries
+            → spec.HoldsGroups schema.now query.now.group query.now.items taken
+            self.old.groups.entries
             → OnOk result (spec.HoldsGroups schema.now query.now.group query.now.items
             (taken ++ row.now ∷ []) self.new.groups.entries) }
     {
@@ -77,7 +78,8 @@ impl GroupTaker {
             → query.now.group ≢ [] → length taken < many
             → All (λ key. Contains query.now.items key.item) query.now.order
             → IsPermutation (selected table filter) taken
-            → spec.HoldsGroups table.schema query.now.group query.now.items taken self.groups.entries
+            → spec.HoldsGroups table.schema query.now.group query.now.items taken
+            self.groups.entries
             → IfOk result
             (λ cells. IsGroupMeaning table (record (asked query.now) { filter = filter }) cells) }
     {
@@ -214,7 +216,8 @@ fn arrange(
     limit: Option<u64>,
 )
     requires { length items.now ≤ MAX_ITEMS }
-    ensures { IsArranged (spec.lent_cmp items.now keys.now) limit entries.old.items entries.new.items }
+    ensures { IsArranged (spec.lent_cmp items.now keys.now) limit entries.old.items
+        entries.new.items }
 {
     sort_entries(entries, items, keys);
     if let Some(most) = limit {

@@ -42,10 +42,12 @@ impl RowTaker {
     pub fn take(&mut self, schema: &Schema, query: &Query, row: &Row) -> Result<(), AllocError>
         requires { All (λ key. IsItemOver (length schema.now.columns) key.item) query.now.order }
         ensures taken { (taken : List _)
-            → HoldsRows schema.now query.now.order query.now.limit taken self.old.rows.items self.old.last
+            → HoldsRows schema.now query.now.order query.now.limit taken self.old.rows.items
+            self.old.last
             → OnOk result (HoldsRows schema.now query.now.order query.now.limit
             (taken ++ row.now ∷ []) self.new.rows.items self.new.last) }
-        ensures few { StayFew query.now.limit (length self.old.rows.items) (length self.new.rows.items) }
+        ensures few { StayFew query.now.limit (length self.old.rows.items)
+            (length self.new.rows.items) }
     {
         if is_behind(self.last, schema, query.order.as_slice(), row) {
             return Ok(());
@@ -59,9 +61,12 @@ impl RowTaker {
     fn make_room(&mut self, schema: &Schema, query: &Query)
         requires { All (λ key. IsItemOver (length schema.now.columns) key.item) query.now.order }
         ensures held { (taken : List _)
-            → HoldsRows schema.now query.now.order query.now.limit taken self.old.rows.items self.old.last
-            → HoldsRows schema.now query.now.order query.now.limit taken self.new.rows.items self.new.last }
-        ensures few { StayFew query.now.limit (length self.old.rows.items) (length self.new.rows.items + 1) }
+            → HoldsRows schema.now query.now.order query.now.limit taken self.old.rows.items
+            self.old.last
+            → HoldsRows schema.now query.now.order query.now.limit taken self.new.rows.items
+            self.new.last }
+        ensures few { StayFew query.now.limit (length self.old.rows.items)
+            (length self.new.rows.items + 1) }
     {
         let Some(most) = query.limit else {
             return;
@@ -75,12 +80,14 @@ impl RowTaker {
     /// The answer: the rows in the order asked, the first n where LIMIT n stands, each as its cells.
     pub fn finish(self, alloc: Global, schema: &Schema, query: &Query) -> Result<Cells, AllocError>
         requires items { All (λ item. IsItemOver (length schema.now.columns) item) query.now.items }
-        requires keys { All (λ key. IsItemOver (length schema.now.columns) key.item) query.now.order }
+        requires keys { All (λ key. IsItemOver (length schema.now.columns) key.item)
+            query.now.order }
         ensures { (table : Table) (filter : Option Shape) (taken : List _)
             → table.schema ≡ schema.now → IsInOrder table.rows
             → IsPermutation (selected table filter) taken
             → HoldsRows schema.now query.now.order query.now.limit taken self.rows.items self.last
-            → IfOk result (λ cells. IsRowMeaning table (record (asked query.now) { filter = filter }) cells) }
+            → IfOk result (λ cells. IsRowMeaning table
+            (record (asked query.now) { filter = filter }) cells) }
     {
         let mut rows = self.rows;
         arrange(&mut rows, schema, query.order.as_slice(), query.limit);
@@ -91,7 +98,8 @@ impl RowTaker {
 // Puts rows into the order asked, and lets all but the first n go where LIMIT n stands.
 fn arrange(rows: &mut Vec<Row>, schema: &Schema, keys: &[SortKey], limit: Option<u64>)
     requires { All (λ key. IsItemOver (length schema.now.columns) key.item) keys.now }
-    ensures arranged { IsArranged (row_cmp schema.now keys.now) limit rows.old.items rows.new.items }
+    ensures arranged { IsArranged (row_cmp schema.now keys.now) limit rows.old.items
+        rows.new.items }
     ensures few { IfSome limit (λ n. length rows.new.items ≤ n) }
 {
     sort_rows(rows, schema, keys);

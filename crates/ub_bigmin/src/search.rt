@@ -70,7 +70,8 @@ pub fn find_neighbours(zbox: &ZBox, z: u128) -> Neighbours
 // half whose bit is 1.
 fn take_step(zbox: &ZBox, z: u128, place: u32, mut search: Search) -> Step
     requires place { place < 32 * length zbox.now.lo }
-    requires around { IsAround zbox.now z (place + 1) search.low search.high search.below search.above }
+    requires around { IsAround zbox.now z (place + 1) search.low search.high search.below
+        search.above }
     ensures { IsStep zbox.now z place result }
 {
     let shape = zbox.shape();

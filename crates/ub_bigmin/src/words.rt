@@ -125,7 +125,8 @@ pub fn find_needs(zbox: &ZBox, point: &Point, turns: &mut u64) -> Needs
 // The needs with that of one more dimension.
 fn with_need(needs: Needs, dimension: usize, places: u32) -> Needs
     ensures more { needs.highest < places
-        → (result.highest ≡ places) × (result.dimension ≡ dimension) × (result.next ≡ needs.highest) }
+        → (result.highest ≡ places) × (result.dimension ≡ dimension)
+        × (result.next ≡ needs.highest) }
     ensures fewer { places ≤ needs.highest → (result.highest ≡ needs.highest)
         × (result.dimension ≡ needs.dimension) × (result.next ≡ max needs.next places) }
 {
@@ -169,7 +170,8 @@ pub fn lowest_jump(
     turns: &mut u64,
 ) -> Option<Jump>
     requires shape { length point.now ≡ length zbox.now.lo }
-    requires needs { AreNeeds zbox.now point.now (length point.now) needs.highest needs.dimension needs.next }
+    requires needs { AreNeeds zbox.now point.now (length point.now) needs.highest needs.dimension
+        needs.next }
     requires to { to < 2 }
     requires room { turns.old ≤ 2 ^ 63 + 16 }
     ensures jump { MatchOption result (HasNoJump zbox.now point.now to (length point.now))

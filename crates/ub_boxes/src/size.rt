@@ -31,7 +31,8 @@ pub fn total(boxes: &[ZBox]) -> Option<u128>
 
 /// How many points the boxes of a cover have together. `None` exactly where they are 2^128.
 pub fn points(cover: &Cover) -> Option<u128>
-    ensures some { SomeIff result (spec.total cover.now.boxes < 2 ^ 128) (spec.total cover.now.boxes) }
+    ensures some { SomeIff result (spec.total cover.now.boxes < 2 ^ 128)
+        (spec.total cover.now.boxes) }
     ensures none { IsNone result ↔ (spec.total cover.now.boxes ≡ 2 ^ 128) }
 {
     total(cover.boxes())

@@ -47,7 +47,8 @@ impl Choice {
         requires fit { IsFit schema.now plan.now self }
         requires dims { page.now.dims ≡ schema.now.dims }
         ensures { (i : ℕ) (row : RowView) → i < 64 → slice_get page.now.region.rows i ≡ Some row
-            → (bit_at result i ≡ 1) ↔ IsTrue (spec.is_near self schema.now plan.now.covering.boxes row) }
+            → (bit_at result i ≡ 1) ↔ IsTrue (spec.is_near self schema.now plan.now.covering.boxes
+            row) }
     {
         match self {
             Choice::Boxes => rows_inside(plan.boxes(), page),
@@ -68,8 +69,10 @@ impl Choice {
 
 /// Whether a condition is true of a row, where there is one.
 pub(crate) fn is_true(condition: Option<&Cond>, schema: &Schema, row: &Row) -> bool
-    requires { IfSome (option_map (λ c. shape c.now) condition) (λ c. IsOver (length schema.now.columns) c) }
-    ensures { result ≡ sql.is_selected schema.now (option_map (λ c. shape c.now) condition.entry) row.now }
+    requires { IfSome (option_map (λ c. shape c.now) condition)
+        (λ c. IsOver (length schema.now.columns) c) }
+    ensures { result ≡ sql.is_selected schema.now (option_map (λ c. shape c.now) condition.entry)
+        row.now }
 {
     match condition {
         None => true,

@@ -36,8 +36,10 @@ pub fn execute<S: PageStore>(
     plan: &Plan,
 ) -> Result<Answer, ExecFault>
     requires { IsPosed (length tree.old.schema.columns) plan.now.asked }
-    ensures rows { IsReady tree.old plan.now → IfOk result (λ a. IsAnswer tree.old plan.now.asked a.rows) }
-    ensures pages { IsReady tree.old plan.now → OnOk result (HasFetched plan.now (begun tree.old) tree.new) }
+    ensures rows { IsReady tree.old plan.now → IfOk result
+        (λ a. IsAnswer tree.old plan.now.asked a.rows) }
+    ensures pages { IsReady tree.old plan.now → OnOk result
+        (HasFetched plan.now (begun tree.old) tree.new) }
     ensures broken { IsReady tree.old plan.now → OnErr result ((count : ℕ)
         × HasFetchedFirst plan.now (begun tree.old) tree.new count) }
     ensures fetched { IfOk result (λ a. a.fetched ≡ length tree.new.trace) }
@@ -57,8 +59,10 @@ fn result_rows<S: PageStore>(
     plan: &Plan,
 ) -> Result<Cells, ExecFault>
     requires { IsPosed (length tree.old.schema.columns) plan.now.asked }
-    ensures rows { IsReady tree.old plan.now → IfOk result (λ cells. IsAnswer tree.old plan.now.asked cells) }
-    ensures pages { IsReady tree.old plan.now → OnOk result (HasFetched plan.now (begun tree.old) tree.new) }
+    ensures rows { IsReady tree.old plan.now → IfOk result
+        (λ cells. IsAnswer tree.old plan.now.asked cells) }
+    ensures pages { IsReady tree.old plan.now → OnOk result
+        (HasFetched plan.now (begun tree.old) tree.new) }
     ensures broken { IsReady tree.old plan.now → OnErr result ((count : ℕ)
         × HasFetchedFirst plan.now (begun tree.old) tree.new count) }
     ensures effect { ReadsTree tree.old tree.new result }
@@ -79,7 +83,8 @@ fn scanned_rows<S: PageStore>(
     plan: &Plan,
 ) -> Result<Cells, ExecFault>
     requires { IsPosed (length tree.old.schema.columns) plan.now.asked }
-    ensures rows { IsReady tree.old plan.now → IfOk result (λ cells. IsAnswer tree.old plan.now.asked cells) }
+    ensures rows { IsReady tree.old plan.now → IfOk result
+        (λ cells. IsAnswer tree.old plan.now.asked cells) }
     ensures pages { IsReady tree.old plan.now → ¬ IsSwept plan.now.kind
         → OnOk result (HasFetched plan.now tree.old tree.new) }
     ensures broken { IsReady tree.old plan.now → ¬ IsSwept plan.now.kind

@@ -65,7 +65,8 @@ fn begin_sweep<S: PageStore>(
     tree: &mut Tree<S>,
     plan: &Plan,
 ) -> Result<Sweep, ExecFault>
-    ensures begun { (dim : ℕ) (is_descending : _) → sweep.IsSwept tree.old plan.now dim is_descending
+    ensures begun { (dim : ℕ) (is_descending : _) → sweep.IsSwept tree.old plan.now dim
+        is_descending
         → IfOk result (HasBegun plan.now tree.new) }
     ensures working { IfOk result (λ s. s.is_failed ≡ false) }
     ensures regions { IfOk result (AreItsRegions tree.new) }

@@ -20,7 +20,8 @@ pub(crate) trait Taker {
     fn take(&mut self, schema: &Schema, query: &Query, row: &Row) -> Result<(), AllocError>
         requires { IsPosed (length schema.now.columns) (asked query.now) }
         ensures { (taken : List RowView) → HasTaken schema.now (asked query.now) taken self.old
-            → OnOk result (HasTaken schema.now (asked query.now) (taken ++ row.now ∷ []) self.new) };
+            → OnOk result (HasTaken schema.now (asked query.now) (taken ++ row.now ∷ [])
+            self.new) };
 }
 
 impl Taker for Gathering {

@@ -30,8 +30,10 @@ pub(crate) fn walk<S: PageStore, T: Taker>(
     ensures rows { OnOk result (Hands (T.HasTaken tree.old.schema plan.now.asked)
         (is_chosen choice tree.old.schema plan.now) taker.old taker.new
         (λ rows. IsSound tree.old → HasWalked plan.now.covering.boxes tree.old tree.new rows)) }
-    ensures broken { (taken : List RowView) → T.HasTaken tree.old.schema plan.now.asked taken taker.old
-        → IsSound tree.old → OnErr result (HasWalkedFirst plan.now.covering.boxes tree.old tree.new) }
+    ensures broken { (taken : List RowView) → T.HasTaken tree.old.schema plan.now.asked taken
+        taker.old
+        → IsSound tree.old → OnErr result (HasWalkedFirst plan.now.covering.boxes tree.old
+        tree.new) }
     ensures effect { ReadsTree tree.old tree.new result }
 {
     let mut page = tree.empty_region();
@@ -60,7 +62,8 @@ fn visit_next<S: PageStore, T: Taker>(
     ensures rows { IfOk result (λ found. Hands (T.HasTaken tree.old.schema plan.now.asked)
         (is_chosen choice tree.old.schema plan.now) taker.old taker.new
         (λ rows. IsSound tree.old
-        → HasTurned plan.now.covering.boxes (option_copied after.entry) tree.old tree.new found rows)) }
+        → HasTurned plan.now.covering.boxes (option_copied after.entry) tree.old tree.new found
+        rows)) }
     ensures broken { IsSound tree.old → OnErr result
         (HasTurnedSome plan.now.covering.boxes (option_copied after.entry) tree.old tree.new) }
     ensures effect { ReadsTree tree.old tree.new result }

@@ -29,7 +29,8 @@ pub(crate) fn misfit(source: &[u8], schema: &Schema, syntax: &Syntax) -> Option<
         (λ fault. IsFirstMisfit source.now schema.now (select_of syntax.now) fault) }
     // where nothing is refused, each name is a column
     ensures known { IfNone result (All
-        (λ name. Contains schema.now.columns (text_of source.now name)) (names (select_of syntax.now))) }
+        (λ name. Contains schema.now.columns (text_of source.now name))
+        (names (select_of syntax.now))) }
 {
     if is_unknown_table(source, schema, &syntax.table) {
         return Some(SqlFault::UnknownTable {

@@ -65,7 +65,8 @@ fn unknown_in_names(source: &[u8], schema: &Schema, names: &[Token]) -> Option<T
 // The name of an item, if it is no column.
 fn unknown_in_item(source: &[u8], schema: &Schema, item: &Item) -> Option<Token>
     requires { All (λ t. IsWithin source.now t) (item_names item.now) }
-    ensures { IsFirstOrNone (λ name. IsUnknown source.now schema.now name) (item_names item.now) result }
+    ensures { IsFirstOrNone (λ name. IsUnknown source.now schema.now name) (item_names item.now)
+        result }
 {
     match item {
         Item::Column(name) | Item::Aggregate(_, _, name) => { unknown_name(source, schema, name) }
@@ -76,7 +77,8 @@ fn unknown_in_item(source: &[u8], schema: &Schema, item: &Item) -> Option<Token>
 // The first name of these items that is no column.
 fn unknown_in_items(source: &[u8], schema: &Schema, items: &[Item]) -> Option<Token>
     requires { All (λ item. All (λ t. IsWithin source.now t) (item_names item)) items.now }
-    ensures { IsFirstOrNone (λ name. IsUnknown source.now schema.now name) (names_in items.now) result }
+    ensures { IsFirstOrNone (λ name. IsUnknown source.now schema.now name) (names_in items.now)
+        result }
 {
     for item in items {
         if let Some(name) = unknown_in_item(source, schema, item) {

@@ -57,7 +57,8 @@ fn first_unselected(
     keys: &[OrderKey],
 ) -> Option<Item>
     requires keys { All (λ key. IsKnownItem source.now schema.now key.item) keys.now }
-    requires items { All (λ item. IsKnownItem source.now schema.now item) (listed syntax.now.selection) }
+    requires items { All (λ item. IsKnownItem source.now schema.now item)
+        (listed syntax.now.selection) }
     ensures { IsFirstOrNone (λ key. IsUnselected source.now schema.now (select_of syntax.now) key)
         (key_items keys.now) result }
 {
@@ -97,7 +98,8 @@ fn is_aggregate(item: &Item) -> bool
 fn first_ungrouped(source: &[u8], syntax: &Syntax, items: &[Item]) -> Option<Item>
     requires group { All (λ t. IsWithin source.now t) syntax.now.group }
     requires items { All (λ item. All (λ t. IsWithin source.now t) (item_names item)) items.now }
-    ensures { IsFirstOrNone (λ item. IsUngrouped source.now (select_of syntax.now) item) items.now result }
+    ensures { IsFirstOrNone (λ item. IsUngrouped source.now (select_of syntax.now) item) items.now
+        result }
 {
     for item in items {
         if is_ungrouped(source, syntax, item) {
@@ -143,7 +145,8 @@ fn is_same(a: &[u8], b: &[u8]) -> bool
 // Whether by this may not be ordered.
 fn is_unselected(source: &[u8], schema: &Schema, syntax: &Syntax, key: &Item) -> bool
     requires key { IsKnownItem source.now schema.now key.now }
-    requires items { All (λ item. IsKnownItem source.now schema.now item) (listed syntax.now.selection) }
+    requires items { All (λ item. IsKnownItem source.now schema.now item)
+        (listed syntax.now.selection) }
     ensures { IsTrue result ↔ IsUnselected source.now schema.now (select_of syntax.now) key.now }
 {
     if is_grouping(syntax) {

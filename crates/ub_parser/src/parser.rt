@@ -72,7 +72,8 @@ fn sense(
     requires bytes { All (λ t. ¬ (t.kind ≡ TokenKind.Bad)) tokens.now }
     requires numbers { All (λ t. ¬ (IsTooLarge source.now t)) tokens.now }
     requires statement { (s : Select) × IsStatement 64 (lexemes source.now tokens.now) s }
-    requires few { (s : Select) → IsStatement 64 (lexemes source.now tokens.now) s → past_limits s ≡ [] }
+    requires few { (s : Select) → IsStatement 64 (lexemes source.now tokens.now) s → past_limits s
+        ≡ [] }
     ensures accepted { IfOk result (λ s. IsAccepted source.now schema.now tokens.now (told s)) }
     ensures only { (t : Told) → IsAccepted source.now schema.now tokens.now t
         → MatchResult result (λ s. told s ≡ t) (λ fault. fault ≡ SqlFault.Memory) }

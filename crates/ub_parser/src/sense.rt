@@ -150,7 +150,8 @@ fn group(
     requires { All (λ name. IsColumn source.now schema.now name) names.now }
     ensures group { IfOk result
         (λ group. group.items ≡ map (λ name. spec.column_of source.now schema.now name) names.now) }
-    ensures over { IfOk result (λ group. All (λ column. column < length schema.now.columns) group.items) }
+    ensures over { IfOk result (λ group. All (λ column. column < length schema.now.columns)
+        group.items) }
 {
     let mut group = Vec::new(alloc);
     for name in names {
@@ -190,7 +191,8 @@ fn items(
     selection: &Selection,
 ) -> Result<Vec<Item>, AllocError>
     requires { All (λ item. IsKnownItem source.now schema.now item) (listed selection.now) }
-    ensures items { IfOk result (λ items. items.items ≡ spec.items_of source.now schema.now selection.now) }
+    ensures items { IfOk result (λ items. items.items
+        ≡ spec.items_of source.now schema.now selection.now) }
     ensures over { IfOk result
         (λ items. All (λ item. IsItemOver (length schema.now.columns) item) items.items) }
 {
@@ -209,7 +211,8 @@ fn filter(
 ) -> Result<Option<Cond>, AllocError>
     requires { IfSome (option_map syntax.shape filter.now) (λ c. IsKnown source.now schema.now c) }
     ensures filter { IfOk result (λ c. option_map shape c
-        ≡ option_map (λ c. spec.shape_of source.now schema.now c) (option_map syntax.shape filter.now)) }
+        ≡ option_map (λ c. spec.shape_of source.now schema.now c)
+        (option_map syntax.shape filter.now)) }
     ensures over { IfOk result
         (λ c. IfSome (option_map shape c) (λ c. IsOver (length schema.now.columns) c)) }
 {
@@ -244,7 +247,8 @@ pub(crate) fn query(
     requires written { AreWritten source.now (select_of syntax.now) }
     requires known { All (λ name. Contains schema.now.columns (text_of source.now name))
         (names (select_of syntax.now)) }
-    ensures asked { IfOk result (λ q. asked q ≡ spec.sense_of source.now schema.now (select_of syntax.now)) }
+    ensures asked { IfOk result (λ q. asked q ≡ spec.sense_of source.now schema.now
+        (select_of syntax.now)) }
     ensures over { IfOk result (λ q. IsAskedOver (length schema.now.columns) (asked q)) }
 {
     let items = items(alloc, source, schema, &syntax.selection)?;

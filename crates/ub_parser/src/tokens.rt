@@ -10,7 +10,8 @@ use ub_lexer::{Token, TokenKind};
 
 /// `BadByte` at the first byte that begins no token, if there is one.
 pub(crate) fn bad_byte(tokens: &[Token]) -> Option<SqlFault>
-    ensures { IsRefusalAtFirst (λ t. t.kind ≡ TokenKind.Bad) (λ at. SqlFault.BadByte at) tokens.now result }
+    ensures { IsRefusalAtFirst (λ t. t.kind ≡ TokenKind.Bad) (λ at. SqlFault.BadByte at) tokens.now
+        result }
 {
     for token in tokens {
         if token.kind == TokenKind::Bad {

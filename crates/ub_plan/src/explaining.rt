@@ -38,7 +38,8 @@ pub fn explain<S: PageStore>(
 
 // How many regions meet the boxes. They are asked for one after the other, and none is fetched.
 fn count_met<S: PageStore>(tree: &mut Tree<S>, boxes: &[ZBox]) -> Result<u32, TreeFault>
-    ensures met { IsSound tree.old → IfOk result (AreMet tree.old.schema boxes.now (regions tree.old)) }
+    ensures met { IsSound tree.old → IfOk result (AreMet tree.old.schema boxes.now
+        (regions tree.old)) }
     ensures effect { Searches tree.old tree.new result }
 {
     let mut last = None;

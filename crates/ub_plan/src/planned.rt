@@ -49,7 +49,11 @@ impl Plan {
 
     // The plan of these parts.
     pub(crate) fn new(kind: Kind, cover: Cover, query: Query) -> Plan
-        ensures { result ≡ record { kind = kind; covering = kept_by kind cover; asked = asked query } }
+        ensures { result ≡ record {
+          kind = kind;
+          covering = kept_by kind cover;
+          asked = asked query;
+        } }
     {
         Plan { kind, cover, query }
     }

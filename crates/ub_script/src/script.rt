@@ -175,7 +175,8 @@ fn run_statement<S: PageStore, W: Out>(
         (W.facts out.old) (W.facts out.new) tree.old.fetches tree.new.fetches) }
     ensures begun { IfErr result (λ fault. fault ≢ RunFault.Write
         → W.facts out.new ≡ W.facts out.old) }
-    ensures stopped { OfTable tree.old (λ table regions. IfErr result (λ fault. fault ≢ RunFault.Write
+    ensures stopped { OfTable tree.old (λ table regions. IfErr result
+        (λ fault. fault ≢ RunFault.Write
         → Starts (IsAnswer table regions source.now (slice_range tokens.now range.0 range.1))
         tree.old.fetches tree.new.fetches)) }
     ensures failures { (W.facts out.new).failures
@@ -229,7 +230,8 @@ fn answer_accepted<S: PageStore>(
         Makes (IsReply table regions (Ok (told statement.now))) a.text.items a.is_refused
         tree.old.fetches tree.new.fetches)) }
     ensures stopped { OfTable tree.old (λ table regions. OnErr result
-        (Starts (IsReply table regions (Ok (told statement.now))) tree.old.fetches tree.new.fetches)) }
+        (Starts (IsReply table regions (Ok (told statement.now))) tree.old.fetches
+        tree.new.fetches)) }
     ensures no_write { ¬ (IsErrOf result RunFault.Write) }
     ensures effect { Runs tree.old tree.new result }
 {
@@ -250,7 +252,8 @@ fn answer_query<S: PageStore>(
         Makes (IsAskedReply false table regions (asked query.now)) a.text.items a.is_refused
         tree.old.fetches tree.new.fetches)) }
     ensures stopped { OfTable tree.old (λ table regions. OnErr result
-        (Starts (IsAskedReply false table regions (asked query.now)) tree.old.fetches tree.new.fetches)) }
+        (Starts (IsAskedReply false table regions (asked query.now)) tree.old.fetches
+        tree.new.fetches)) }
     ensures no_write { ¬ (IsErrOf result RunFault.Write) }
     ensures effect { Runs tree.old tree.new result }
 {
@@ -273,7 +276,8 @@ fn explain_query<S: PageStore>(
         Makes (IsAskedReply true table regions (asked query.now)) a.text.items a.is_refused
         tree.old.fetches tree.new.fetches)) }
     ensures stopped { OfTable tree.old (λ table regions. OnErr result
-        (Starts (IsAskedReply true table regions (asked query.now)) tree.old.fetches tree.new.fetches)) }
+        (Starts (IsAskedReply true table regions (asked query.now)) tree.old.fetches
+        tree.new.fetches)) }
     ensures no_write { ¬ (IsErrOf result RunFault.Write) }
     ensures effect { Runs tree.old tree.new result }
 {

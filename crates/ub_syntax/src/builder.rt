@@ -94,7 +94,8 @@ impl<'a> Reader<'a> {
 
     // The operator that is next, if there is one.
     fn operator(&self) -> Option<Operator>
-        ensures { (o : Operator) → (result ≡ Some o) ↔ (first_symbol self.now ≡ Some (Symbol.Operator o)) }
+        ensures { (o : Operator) → (result ≡ Some o)
+            ↔ (first_symbol self.now ≡ Some (Symbol.Operator o)) }
     {
         match self.symbol() {
             Some(Symbol::Operator(operator)) => Some(operator),
@@ -165,7 +166,8 @@ impl<'a> Reader<'a> {
     #[cycle(condition)]
     fn condition(&mut self, alloc: Global, depth: u8) -> Result<Condition, AllocError>
         ensures reads { IfOk result
-            (λ c. Reads (IsCondition depth) (Symbol.Or ∷ Symbol.And ∷ []) self.old (shape c) self.new) }
+            (λ c. Reads (IsCondition depth) (Symbol.Or ∷ Symbol.And ∷ []) self.old (shape c)
+            self.new) }
         ensures shorter { length self.new ≤ length self.old }
     {
         let mut all = self.conjunction(alloc, depth)?;
@@ -198,7 +200,8 @@ impl<'a> Reader<'a> {
     // Items with commas between them.
     fn items(&mut self, alloc: Global) -> Result<Vec<Item>, AllocError>
         ensures { IfOk result
-            (λ v. Reads (AreJoined Symbol.Comma IsItem) (Symbol.Comma ∷ []) self.old v.items self.new) }
+            (λ v. Reads (AreJoined Symbol.Comma IsItem) (Symbol.Comma ∷ []) self.old v.items
+            self.new) }
     {
         let mut items = Vec::new(alloc);
         items.push(self.item())?;
@@ -258,7 +261,8 @@ impl<'a> Reader<'a> {
 
     // An item, and ASC, DESC or neither.
     fn key(&mut self) -> OrderKey
-        ensures reads { Reads IsKey (Symbol.Descending ∷ Symbol.Ascending ∷ []) self.old result self.new }
+        ensures reads { Reads IsKey (Symbol.Descending ∷ Symbol.Ascending ∷ []) self.old result
+            self.new }
         ensures shorter { length self.new ≤ length self.old }
     {
         let item = self.item();
@@ -341,7 +345,8 @@ impl<'a> Reader<'a> {
 pub fn build(alloc: Global, source: &[u8], tokens: &[Token]) -> Result<Syntax, AllocError>
     requires spelled { AreSpelled source.now tokens.now }
     requires statement { (s : Select) × IsStatement 64 (lexemes source.now tokens.now) s }
-    requires few { (s : Select) → IsStatement 64 (lexemes source.now tokens.now) s → past_limits s ≡ [] }
+    requires few { (s : Select) → IsStatement 64 (lexemes source.now tokens.now) s → past_limits s
+        ≡ [] }
     ensures { (s : Select) → IsStatement 64 (lexemes source.now tokens.now) s
         → IfOk result (λ r. select_of r ≡ s) }
 {

@@ -58,7 +58,8 @@ impl Counter {
 
     // Counts what a mark tells, and gives its token if that is one too many.
     fn count(&mut self, mark: Mark) -> Option<Token>
-        ensures tells { (marks : List Mark) → spec.past self.old.parts self.old.comparisons (mark ∷ marks)
+        ensures tells { (marks : List Mark) → spec.past self.old.parts self.old.comparisons
+            (mark ∷ marks)
             ≡ option_to_list result ++ spec.past self.new.parts self.new.comparisons marks }
         ensures previous { self.new.previous ≡ self.old.previous }
         ensures symbol { self.new.symbol ≡ self.old.symbol }

@@ -26,7 +26,8 @@ pub enum Verdict {
 pub fn recognise(alloc: Global, source: &[u8], tokens: &[Token]) -> Result<Verdict, AllocError>
     requires some { 0 < length tokens.now }
     requires spelled { AreSpelled source.now tokens.now }
-    ensures verdict { IfOk result (λ verdict. IsVerdict 64 (lexemes source.now tokens.now) verdict) }
+    ensures verdict { IfOk result (λ verdict. IsVerdict 64 (lexemes source.now tokens.now)
+        verdict) }
     // there is no other
     ensures only { (v : Verdict) → IsVerdict 64 (lexemes source.now tokens.now) v
         → IfOk result (λ verdict. verdict ≡ v) }
