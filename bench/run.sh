@@ -64,8 +64,12 @@ for rows in 10000 100000; do
         "$((regions * walks * 1000000000 / (walked - fill + 1))) regions walked a second"
 done
 
-# Sweeps of three cubes of a tree of three dimensions in random order, and a scan of the same regions: the program times them itself.
-echo "sweeps beside a scan, $swept rows of three dimensions in random order:"
+# A tree of three dimensions in random order; the program times these itself. All rows counted beside a walk that only reads the
+# regions; all rows in the order of a dimension (a sweep) beside those of a measure that orders them alike (a scan); and sweeps of
+# three cubes beside a walk of the same regions.
+echo "$swept rows of three dimensions in random order:"
+out/bench count "$swept"
+out/bench orders "$swept"
 out/bench held "$swept"
 
 # The boxes of a condition of 64 comparisons and 4096 cells.

@@ -1,4 +1,4 @@
-ghost use Rattle.std.specs.Prelude.{◌≡◌, Some, pos, [], ◌∷◌, length, IfOk, IfSome, ◌≤◌};
+ghost use Rattle.std.specs.Prelude.{◌≡◌, Some, pos, [], ◌∷◌, length, IfOk, IfSome, ◌≤◌, ◌<◌};
 ghost use Rattle.ub_query.specs.Posed.{IsPosed};
 ghost use Rattle.ub_query.specs.Shape.{asked, between, both, shape};
 
@@ -15,7 +15,7 @@ use ub_tree::{Region, Tree, TreeFault};
 pub type MemTree = Tree<MemStore>;
 
 /// How many columns the table has.
-const COLUMNS: usize = 3;
+pub const COLUMNS: usize = 4;
 
 /// What a sweep or a scan came to.
 #[derive(Clone, Copy)]
@@ -34,9 +34,14 @@ const NOTHING: Told = Told {
     held: 0,
 };
 
-// Three dimensions, no measure, 64 rows on a page.
+// Three dimensions, a measure that is the first of them once more, 64 rows on a page.
 fn space() -> Result<Schema, PageFault> {
-    let columns = [Name::new(b"x")?, Name::new(b"y")?, Name::new(b"z")?];
+    let columns = [
+        Name::new(b"x")?,
+        Name::new(b"y")?,
+        Name::new(b"z")?,
+        Name::new(b"m")?,
+    ];
     Schema::new(Name::new(b"t")?, &columns, 3, 64)
 }
 
@@ -61,12 +66,12 @@ pub fn filled(alloc: Global, rows: u64) -> Result<MemTree, TreeFault> {
     Ok(tree)
 }
 
-// Puts a row in, where the tree is one of three dimensions and no measure.
+// Puts a row in, where the tree is one of three dimensions and a measure.
 fn put(tree: &mut MemTree, point: &[u32; 3]) -> Result<u32, TreeFault> {
-    if tree.schema().dims() != 3 || tree.schema().measures() != 0 {
+    if tree.schema().dims() != 3 || tree.schema().measures() != 1 {
         return Err(TreeFault::Full);
     }
-    tree.insert(point, &[])
+    tree.insert(point, &[i64::from(point[0])])
 }
 
 // That a column lies between two numbers.
@@ -80,7 +85,7 @@ fn lies(column: usize, low: u32, high: u32) -> Cond
     }
 }
 
-// That each of the three columns does.
+// That each of the three dimensions does.
 fn inside(alloc: Global, low: u32, high: u32) -> Result<Cond, AllocError>
     ensures { IfOk result (λ c. shape c ≡ both (between 0 (pos low) (pos high))
         (both (between 1 (pos low) (pos high)) (between 2 (pos low) (pos high)))) }
@@ -92,12 +97,19 @@ fn inside(alloc: Global, low: u32, high: u32) -> Result<Cond, AllocError>
     Ok(Cond::And(Box::new(alloc, lies(0, low, high))?, Box::new(alloc, last)?))
 }
 
-// SELECT x, y, z FROM t WHERE each lies between low and high ORDER BY x LIMIT limit
-fn select(alloc: Global, low: u32, high: u32, limit: Option<u64>) -> Result<Query, AllocError>
+// SELECT x, y, z FROM t WHERE each lies between low and high ORDER BY a column LIMIT limit
+fn select(
+    alloc: Global,
+    low: u32,
+    high: u32,
+    column: usize,
+    limit: Option<u64>,
+) -> Result<Query, AllocError>
+    requires { column < COLUMNS }
     ensures { IfOk result (λ q. IsPosed COLUMNS (asked q)) }
 {
-    let by_first = SortKey {
-        item: Item::Column(0),
+    let by_column = SortKey {
+        item: Item::Column(column),
         is_descending: false,
     };
     let items = [Item::Column(0), Item::Column(1), Item::Column(2)];
@@ -105,7 +117,7 @@ fn select(alloc: Global, low: u32, high: u32, limit: Option<u64>) -> Result<Quer
         items: Items::new(Vec::from_slice(alloc, &items)?),
         filter: Some(inside(alloc, low, high)?),
         group: Items::new(Vec::new(alloc)),
-        order: Items::new(Vec::from_slice(alloc, &[by_first])?),
+        order: Items::new(Vec::from_slice(alloc, &[by_column])?),
         limit,
     })
 }
@@ -120,7 +132,16 @@ pub fn cube(
 ) -> Result<Plan, AllocError>
     ensures { IfOk result (λ p. IsPosed COLUMNS p.asked) }
 {
-    let query = select(alloc, low, high, limit)?;
+    let query = select(alloc, low, high, 0, limit)?;
+    plan(alloc, &query, tree.schema())
+}
+
+/// The plan of all rows in the order of a column: a sweep where it is a dimension, and a scan where it is the measure.
+pub fn all_by(alloc: Global, tree: &MemTree, column: usize) -> Result<Plan, AllocError>
+    requires { column < COLUMNS }
+    ensures { IfOk result (λ p. IsPosed COLUMNS p.asked) }
+{
+    let query = select(alloc, 0, u32::MAX, column, None)?;
     plan(alloc, &query, tree.schema())
 }
 

@@ -15,11 +15,16 @@
 // a tenth and all of the space what a sweep comes to with LIMIT 1, 10, 1000 and none: its rows, its pages, those that meet the
 // cube, the most rows that it held, and its nanoseconds, the least of some runs; and what a scan of the same regions comes to.
 //
+// `bench count N` puts N such rows into a tree, and prints the nanoseconds of SELECT COUNT(*) over all, and of going from region to
+// region and reading each, the least of some runs. `bench orders N` prints those of all rows in the order of a dimension, by a sweep, and
+// in that of a measure that orders them alike, by a scan.
+//
 // `bench boxes N` makes the boxes of a condition of 64 comparisons and 4096 cells N times, and prints how many they were.
 #![tactic(auto)]
 
 mod addresses;
 mod conditions;
+mod counting;
 mod events;
 mod fill;
 mod generator;
@@ -34,7 +39,7 @@ use fill::fill_and_walk;
 use generator::Generator;
 use pages::read_and_filter;
 use std::{env, io};
-use telling::tell;
+use telling::{tell, tell_counting, tell_orders};
 use ub_bigmin::ZBox;
 use ub_bigmin::laws::next_by_bits;
 use ub_zaddr::{Point, Shape, last};
@@ -99,49 +104,32 @@ fn number(word: Option<String>) -> Option<u64> {
     }
 }
 
-fn main(rt: HostRuntime) -> io::Result<()> {
-    let mut words = env::args(&rt)?;
-    let _program = words.next();
-    let first = words.next();
-    if let Some(word) = &first
-        && word.as_str() == "tree"
-    {
-        let rows = number(words.next()).unwrap_or(1000);
-        let walks = number(words.next()).unwrap_or(0);
-        match fill_and_walk(rt.alloc(), rows, walks) {
-            Ok((regions, read)) => println!(rt; "{regions} regions, {read} rows read")?,
-            Err(fault) => println!(rt; "! {fault}")?,
-        }
-        return Ok(());
+// Prints how many regions a tree of so many rows has, and how many rows so many walks of it read.
+fn tell_tree(rt: &HostRuntime, rows: u64, walks: u64) -> io::Result<()> {
+    match fill_and_walk(rt.alloc(), rows, walks) {
+        Ok((regions, read)) => println!(rt; "{regions} regions, {read} rows read"),
+        Err(fault) => println!(rt; "! {fault}"),
     }
-    if let Some(word) = &first
-        && word.as_str() == "held"
-    {
-        return tell(&rt, number(words.next()).unwrap_or(1000));
+}
+
+// Prints how many boxes a condition of many cells has, made so many times.
+fn tell_boxes(rt: &HostRuntime, times: u64) -> io::Result<()> {
+    match boxes_of_many_cells(rt.alloc(), times) {
+        Ok(made) => println!(rt; "{made} boxes"),
+        Err(_) => println!(rt; "! Memory"),
     }
-    if let Some(word) = &first
-        && word.as_str() == "boxes"
-    {
-        match boxes_of_many_cells(rt.alloc(), number(words.next()).unwrap_or(1)) {
-            Ok(made) => println!(rt; "{made} boxes")?,
-            Err(_) => println!(rt; "! Memory")?,
-        }
-        return Ok(());
+}
+
+// Prints a checksum of the masks of a page that is read so many times.
+fn tell_pages(rt: &HostRuntime, dims: u64, times: u64, is_held: bool) -> io::Result<()> {
+    match read_and_filter(dims.clamp(1, 4) as u32, times, is_held) {
+        Ok(sum) => println!(rt; "{sum}"),
+        Err(fault) => println!(rt; "! {fault}"),
     }
-    if let Some(word) = &first
-        && word.as_str() == "pages"
-    {
-        let dims = number(words.next()).unwrap_or(2).clamp(1, 4) as u32;
-        let calls = number(words.next()).unwrap_or(1);
-        match read_and_filter(dims, calls, words.next().is_some()) {
-            Ok(sum) => println!(rt; "{sum}")?,
-            Err(fault) => println!(rt; "! {fault}")?,
-        }
-        return Ok(());
-    }
-    let calls = number(first).unwrap_or(1000);
-    let only = number(words.next());
-    let way = way_of(words.next());
+}
+
+// Prints the checksum of so many calls, for each number of dimensions or for the one asked.
+fn tell_checksums(rt: &HostRuntime, calls: u64, only: Option<u64>, way: Way) -> io::Result<()> {
     for dims in 1..=4u32 {
         let is_asked = only.unwrap_or(u64::from(dims)) == u64::from(dims);
         if let Ok(shape) = Shape::new(dims)
@@ -157,4 +145,38 @@ fn main(rt: HostRuntime) -> io::Result<()> {
         }
     }
     Ok(())
+}
+
+fn main(rt: HostRuntime) -> io::Result<()> {
+    let mut words = env::args(&rt)?;
+    let _program = words.next();
+    let (first, second) = (words.next(), words.next());
+    let (third, fourth) = (words.next(), words.next());
+    let what = match &first {
+        Some(word) => word.as_str(),
+        None => "",
+    };
+    match what {
+        "tree" => tell_tree(
+            &rt,
+            number(second).unwrap_or(1000),
+            number(third).unwrap_or(0),
+        ),
+        "held" => tell(&rt, number(second).unwrap_or(1000)),
+        "count" => tell_counting(&rt, number(second).unwrap_or(1000)),
+        "orders" => tell_orders(&rt, number(second).unwrap_or(1000)),
+        "boxes" => tell_boxes(&rt, number(second).unwrap_or(1)),
+        "pages" => tell_pages(
+            &rt,
+            number(second).unwrap_or(2),
+            number(third).unwrap_or(1),
+            fourth.is_some(),
+        ),
+        _ => tell_checksums(
+            &rt,
+            number(first).unwrap_or(1000),
+            number(second),
+            way_of(third),
+        ),
+    }
 }

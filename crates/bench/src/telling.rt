@@ -1,14 +1,19 @@
-ghost use Rattle.std.specs.Prelude.{IfOk};
+ghost use Rattle.std.specs.Prelude.{◌<◌, IfOk};
 ghost use Rattle.ub_query.specs.Posed.{IsPosed};
 
-use crate::held::{MemTree, Told, cube, filled, scanned, swept};
+use crate::counting::{counting, executed, walked};
+use crate::held::{COLUMNS, MemTree, Told, all_by, cube, filled, scanned, swept};
 use std::io;
 use std::time::Instant;
+use ub_exec::ExecFault;
 use ub_plan::Plan;
 use ub_tetris::SweepFault;
 
 /// How often each sweep and each scan is timed; the least counts, since what else the machine does only adds.
 const REPEATS: u32 = 5;
+
+/// The place of the measure among the columns.
+const MEASURE: usize = 3;
 
 // A cube of the space: the part of it that it has, and its least and greatest coordinate.
 #[derive(Clone, Copy)]
@@ -38,6 +43,75 @@ const CUBES: [Cube; 3] = [
 
 // What a sweep or a scan came to, and its nanoseconds.
 type Timed = (Told, u128);
+
+/// Prints how long it takes to count all rows of a tree of so many, and beside it to go from region to region and read each.
+pub fn tell_counting(rt: &HostRuntime, rows: u64) -> io::Result<()> {
+    match filled(rt.alloc(), rows) {
+        Ok(mut tree) => match timed_counting(rt, &mut tree) {
+            Ok((walk, count)) => println!(rt; "walk: {walk} ns, COUNT(*): {count} ns"),
+            Err(fault) => println!(rt; "! {fault}"),
+        },
+        Err(fault) => println!(rt; "! {fault}"),
+    }
+}
+
+// The nanoseconds of a walk that reads each region, and of counting.
+fn timed_counting(rt: &HostRuntime, tree: &mut MemTree) -> Result<(u128, u128), ExecFault> {
+    let plan = counting(rt.alloc(), tree)?;
+    let walk = timed_walk(rt, tree, &plan)?;
+    let count = timed_execution(rt, tree, &plan)?;
+    Ok((walk, count))
+}
+
+// The nanoseconds of a walk that reads each region of a plan.
+fn timed_walk(rt: &HostRuntime, tree: &mut MemTree, plan: &Plan) -> Result<u128, ExecFault> {
+    let mut least = u128::MAX;
+    for _ in 0..REPEATS {
+        let start = Instant::now(rt).ok();
+        let _rows = walked(tree, plan)?;
+        least = least.min(since(rt, start));
+    }
+    Ok(least)
+}
+
+// The nanoseconds of the execution of a plan.
+fn timed_execution(rt: &HostRuntime, tree: &mut MemTree, plan: &Plan) -> Result<u128, ExecFault>
+    requires { IsPosed COLUMNS plan.now.asked }
+{
+    let mut least = u128::MAX;
+    for _ in 0..REPEATS {
+        let start = Instant::now(rt).ok();
+        let _pages = executed(rt.alloc(), tree, plan)?;
+        least = least.min(since(rt, start));
+    }
+    Ok(least)
+}
+
+/// Prints how long all rows of a tree of so many take in the order of the first dimension, which is a sweep, and beside it in that of
+/// the measure, which orders them alike and is a scan.
+pub fn tell_orders(rt: &HostRuntime, rows: u64) -> io::Result<()> {
+    match filled(rt.alloc(), rows) {
+        Ok(mut tree) => {
+            match timed_order(rt, &mut tree, 0) {
+                Ok(time) => println!(rt; "sweep: {time} ns")?,
+                Err(fault) => println!(rt; "! {fault}")?,
+            }
+            match timed_order(rt, &mut tree, MEASURE) {
+                Ok(time) => println!(rt; "scan: {time} ns"),
+                Err(fault) => println!(rt; "! {fault}"),
+            }
+        }
+        Err(fault) => println!(rt; "! {fault}"),
+    }
+}
+
+// The nanoseconds of all rows in the order of a column.
+fn timed_order(rt: &HostRuntime, tree: &mut MemTree, column: usize) -> Result<u128, ExecFault>
+    requires { column < COLUMNS }
+{
+    let plan = all_by(rt.alloc(), tree, column)?;
+    timed_execution(rt, tree, &plan)
+}
 
 /// Prints, over a tree of so many rows in random order, what sweeps of some cubes come to, and beside them a scan of the same
 /// regions.
