@@ -1,80 +1,73 @@
-// The faults of loading, of the tree, of stores and of pages: they are displayed in the very words that the program prints.
+// The faults of loading, of the tree, of stores and of pages: they are displayed in the very words that the program prints after
+// `! `, which its contracts tell.
 use std::alloc::Global;
-use std::test::Fail;
 use ub_load::LoadFault;
-use ub_shell::status::load_fault_line;
 use ub_store::StoreFault;
 use ub_table::PageFault;
 use ub_tree::TreeFault;
 
-// Whether a fault is printed as this line, and displayed as the words of it.
-fn is_told(alloc: Global, fault: LoadFault, line: &str) -> bool {
-    let Ok(printed) = load_fault_line(alloc, fault) else {
-        return false;
-    };
-    let Ok(displayed) = format!(in alloc; "! {fault}\n") else {
-        return false;
-    };
-    printed.as_str() == line && displayed.as_str() == line
+// Whether a fault is displayed as this text.
+fn is_shown(alloc: Global, fault: LoadFault, text: &str) -> bool {
+    match format!(in alloc; "{fault}") {
+        Ok(shown) => shown.as_str() == text,
+        Err(_) => false,
+    }
 }
 
 #[test]
-fn of_loading(rt: HostRuntime) -> Result<(), Fail> {
+fn of_loading(rt: HostRuntime) {
     let (row, column) = (12, 3);
     let cases = [
-        (LoadFault::NoHeader, "! NoHeader\n"),
-        (LoadFault::BadName(0), "! BadName table\n"),
-        (LoadFault::BadName(3), "! BadName column 3\n"),
-        (LoadFault::ColumnCount, "! ColumnCount\n"),
+        (LoadFault::NoHeader, "NoHeader"),
+        (LoadFault::BadName(0), "BadName table"),
+        (LoadFault::BadName(3), "BadName column 3"),
+        (LoadFault::ColumnCount, "ColumnCount"),
         (
             LoadFault::BadNumber { row, column },
-            "! BadNumber row 12 column 3\n",
+            "BadNumber row 12 column 3",
         ),
         (
             LoadFault::OutOfRange { row, column },
-            "! OutOfRange row 12 column 3\n",
+            "OutOfRange row 12 column 3",
         ),
-        (LoadFault::Csv, "! Csv\n"),
-        (LoadFault::Memory, "! Memory\n"),
+        (LoadFault::Csv, "Csv"),
+        (LoadFault::Memory, "Memory"),
     ];
-    for (fault, line) in cases {
-        assert!(rt; is_told(rt.alloc(), fault, line));
+    for (fault, text) in cases {
+        assert!(rt; is_shown(rt.alloc(), fault, text));
     }
-    Ok(())
 }
 
 #[test]
-fn of_trees_and_stores(rt: HostRuntime) -> Result<(), Fail> {
+fn of_trees_and_stores(rt: HostRuntime) {
     let cases = [
-        (TreeFault::Full, "! Full\n"),
-        (TreeFault::Failed, "! Device\n"),
-        (TreeFault::Memory, "! Memory\n"),
-        (TreeFault::Store(StoreFault::Device), "! Device\n"),
-        (TreeFault::Store(StoreFault::NoPage), "! NoPage\n"),
-        (TreeFault::Store(StoreFault::BadSize), "! BadSize\n"),
-        (TreeFault::Store(StoreFault::Memory), "! Memory\n"),
+        (TreeFault::Full, "Full"),
+        (TreeFault::Failed, "Device"),
+        (TreeFault::Memory, "Memory"),
+        (TreeFault::Store(StoreFault::Device), "Device"),
+        (TreeFault::Store(StoreFault::NoPage), "NoPage"),
+        (TreeFault::Store(StoreFault::BadSize), "BadSize"),
+        (TreeFault::Store(StoreFault::Memory), "Memory"),
     ];
-    for (fault, line) in cases {
-        assert!(rt; is_told(rt.alloc(), LoadFault::Tree(fault), line));
+    for (fault, text) in cases {
+        assert!(rt; is_shown(rt.alloc(), LoadFault::Tree(fault), text));
     }
-    Ok(())
 }
 
 #[test]
-fn of_pages(rt: HostRuntime) -> Result<(), Fail> {
+fn of_pages(rt: HostRuntime) {
     let cases = [
-        (PageFault::WrongKind, "! WrongKind page 7\n"),
-        (PageFault::Unclean, "! Unclean page 7\n"),
-        (PageFault::BadCount, "! BadCount page 7\n"),
-        (PageFault::BadName, "! BadName page 7\n"),
-        (PageFault::BadRow, "! BadRow page 7\n"),
-        (PageFault::BadOrder, "! BadOrder page 7\n"),
-        (PageFault::OutOfRegion, "! OutOfRegion page 7\n"),
-        (PageFault::BadPadding, "! BadPadding page 7\n"),
+        (PageFault::WrongKind, "WrongKind page 7"),
+        (PageFault::Unclean, "Unclean page 7"),
+        (PageFault::BadCount, "BadCount page 7"),
+        (PageFault::BadName, "BadName page 7"),
+        (PageFault::BadRow, "BadRow page 7"),
+        (PageFault::BadOrder, "BadOrder page 7"),
+        (PageFault::OutOfRegion, "OutOfRegion page 7"),
+        (PageFault::BadPadding, "BadPadding page 7"),
     ];
-    for (fault, line) in cases {
+    for (fault, text) in cases {
         let fault = LoadFault::Tree(TreeFault::Page { page: 7, fault });
-        assert!(rt; is_told(rt.alloc(), fault, line));
+        assert!(rt; is_shown(rt.alloc(), fault, text));
     }
-    Ok(())
 }

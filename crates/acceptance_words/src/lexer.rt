@@ -1,15 +1,22 @@
-// How sources are cut into tokens, and tokens into statements.
-use std::test::Fail;
-use ub_lexer::{Token, TokenKind, lex, statements};
+// How sources are cut into tokens.
+use std::alloc::Global;
+use ub_lexer::{Token, TokenKind, lex};
 
 fn token(kind: TokenKind, from: usize, to: usize) -> Token {
     Token { kind, from, to }
 }
 
+// Whether a source is cut into these tokens.
+fn is_cut(alloc: Global, source: &[u8], wanted: &[Token]) -> bool {
+    match lex(alloc, source) {
+        Ok(tokens) => tokens.as_slice() == wanted,
+        Err(_) => false,
+    }
+}
+
 #[test]
-fn cuts_a_query(rt: HostRuntime) -> Result<(), Fail> {
-    let tokens = lex(rt.alloc(), b"SELECT * FROM t WHERE x BETWEEN 2 AND 3;")?;
-    let expected = [
+fn cuts_a_query(rt: HostRuntime) {
+    let wanted = [
         token(TokenKind::Word, 0, 6),
         token(TokenKind::Star, 7, 8),
         token(TokenKind::Word, 9, 13),
@@ -22,14 +29,18 @@ fn cuts_a_query(rt: HostRuntime) -> Result<(), Fail> {
         token(TokenKind::Number, 38, 39),
         token(TokenKind::Semicolon, 39, 40),
     ];
-    assert_eq!(rt; tokens.as_slice(), expected.as_slice());
-    Ok(())
+    assert!(rt;
+        is_cut(
+            rt.alloc(),
+            b"SELECT * FROM t WHERE x BETWEEN 2 AND 3;",
+            &wanted
+        )
+    );
 }
 
 #[test]
-fn takes_the_longest_token(rt: HostRuntime) -> Result<(), Fail> {
-    let tokens = lex(rt.alloc(), b"12ab a<=b!=c<>d")?;
-    let expected = [
+fn takes_the_longest_token(rt: HostRuntime) {
+    let wanted = [
         token(TokenKind::Number, 0, 2),
         token(TokenKind::Word, 2, 4),
         token(TokenKind::Word, 5, 6),
@@ -40,14 +51,12 @@ fn takes_the_longest_token(rt: HostRuntime) -> Result<(), Fail> {
         token(TokenKind::NotEqual, 12, 14),
         token(TokenKind::Word, 14, 15),
     ];
-    assert_eq!(rt; tokens.as_slice(), expected.as_slice());
-    Ok(())
+    assert!(rt; is_cut(rt.alloc(), b"12ab a<=b!=c<>d", &wanted));
 }
 
 #[test]
-fn leaves_out_comments(rt: HostRuntime) -> Result<(), Fail> {
-    let tokens = lex(rt.alloc(), b"x--y\nz -1 - -1--")?;
-    let expected = [
+fn leaves_out_comments(rt: HostRuntime) {
+    let wanted = [
         token(TokenKind::Word, 0, 1),
         token(TokenKind::Word, 5, 6),
         token(TokenKind::Minus, 7, 8),
@@ -56,26 +65,15 @@ fn leaves_out_comments(rt: HostRuntime) -> Result<(), Fail> {
         token(TokenKind::Minus, 12, 13),
         token(TokenKind::Number, 13, 14),
     ];
-    assert_eq!(rt; tokens.as_slice(), expected.as_slice());
-    Ok(())
+    assert!(rt; is_cut(rt.alloc(), b"x--y\nz -1 - -1--", &wanted));
 }
 
 #[test]
-fn takes_each_other_byte_as_bad(rt: HostRuntime) -> Result<(), Fail> {
-    let tokens = lex(rt.alloc(), b"!\0\xff")?;
-    let expected = [
+fn takes_each_other_byte_as_bad(rt: HostRuntime) {
+    let wanted = [
         token(TokenKind::Bad, 0, 1),
         token(TokenKind::Bad, 1, 2),
         token(TokenKind::Bad, 2, 3),
     ];
-    assert_eq!(rt; tokens.as_slice(), expected.as_slice());
-    Ok(())
-}
-
-#[test]
-fn finds_statements(rt: HostRuntime) -> Result<(), Fail> {
-    let tokens = lex(rt.alloc(), b";;a;b c")?;
-    let ranges = statements(rt.alloc(), &tokens)?;
-    assert_eq!(rt; ranges.as_slice(), [(2, 3), (4, 6)].as_slice());
-    Ok(())
+    assert!(rt; is_cut(rt.alloc(), b"!\0\xff", &wanted));
 }

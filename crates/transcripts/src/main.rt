@@ -1,0 +1,35 @@
+// Plays a transcript, which it reads from standard input: files, command lines of the program over them, and the lines that each
+// must write. What differs is printed, and at last how many command lines were right and how many wrong.
+//
+// A line that begins with a mark ends what stood before it. An empty line right before a mark, or at the end, belongs to nothing.
+//
+//     # ..        a comment
+//     == NAME     the lines that follow are the text of the file NAME
+//     $ WORDS     `ubq WORDS` over these files writes the lines that follow; standard input is the file `-`
+//     @K WORDS    the same, where the store of its table file fails at its K-th call
+//     /ROOM WORDS the same, where the output has room for ROOM bytes alone
+//     > SQL       the line SQL as a script on the table of `t.csv`: two dimensions, two rows a page
+//     ? STATUS    the command line above ends with this status, and not with 0
+//
+// Among the lines of a text `+ COUNT TEXT` is TEXT so many times, with no line feed, and `% COUNT` is the numbers from 0 to
+// COUNT - 1, each on a line of its own. All that is written is taken one byte at a time, and nothing may be written after a
+// write that failed.
+#![tactic(auto)]
+
+mod bench;
+mod marks;
+mod narrow;
+mod player;
+
+use player::Player;
+use std::io;
+
+fn main(rt: HostRuntime) -> io::Result<()> {
+    let text = io::read_to_string(rt.alloc(), rt.reader())?;
+    let mut player = Player::new(rt.alloc());
+    let whole = text.as_str();
+    for line in whole.strip_suffix('\n').unwrap_or(whole).split('\n') {
+        player.take(&rt, line)?;
+    }
+    player.end(&rt)
+}

@@ -1,0 +1,69 @@
+/// A command line, and how it is run.
+#[derive(Clone, Copy)]
+pub struct Asked<'a> {
+    pub words: &'a str,
+    /// Which call of its table file's store fails: none where it is 0.
+    pub k: u64,
+    /// For how many bytes its output has room.
+    pub room: usize,
+    /// The status that it must end with.
+    pub status: u8,
+}
+
+impl<'a> Asked<'a> {
+    /// One of these words, where nothing fails.
+    pub fn new(words: &'a str) -> Asked<'a> {
+        Asked {
+            words,
+            k: 0,
+            room: usize::MAX,
+            status: 0,
+        }
+    }
+}
+
+/// What a line of a transcript begins, or says of the command line above it.
+#[derive(Clone, Copy)]
+pub enum Mark<'a> {
+    /// Nothing: it is a comment.
+    Comment,
+    /// The text of the file of this name.
+    File(&'a str),
+    /// What a command line must write.
+    Run(Asked<'a>),
+    /// What a script on the table of `t.csv` must write.
+    Script(&'a str),
+    /// The status that the command line above ends with.
+    Status(u8),
+}
+
+/// The mark that a line begins with, if there is one.
+pub fn mark_of(line: &str) -> Option<Mark<'_>> {
+    if line.starts_with('#') {
+        return Some(Mark::Comment);
+    }
+    let (head, rest) = cut(line);
+    match head {
+        "==" => Some(Mark::File(rest)),
+        "$" => Some(Mark::Run(Asked::new(rest))),
+        ">" => Some(Mark::Script(rest)),
+        "?" => Some(Mark::Status(rest.parse::<u8>().ok()?)),
+        _ => Some(Mark::Run(failing(head, rest)?)),
+    }
+}
+
+// A command line where a call of a store fails, or the output.
+fn failing<'a>(head: &str, words: &'a str) -> Option<Asked<'a>> {
+    let asked = Asked::new(words);
+    if let Some(k) = head.strip_prefix('@') {
+        let k = k.parse::<u64>().ok()?;
+        return Some(Asked { k, ..asked });
+    }
+    let room = head.strip_prefix('/')?.parse::<usize>().ok()?;
+    Some(Asked { room, ..asked })
+}
+
+/// A line's first word, and what stands after the space behind it.
+pub fn cut(line: &str) -> (&str, &str) {
+    line.split_once(' ').unwrap_or((line, ""))
+}

@@ -1,0 +1,156 @@
+use crate::bench::Bench;
+use crate::marks::{Asked, Mark, cut, mark_of};
+use std::alloc::{AllocError, Global};
+use std::{io, str};
+
+// What the lines since the last mark are.
+#[derive(Clone, Copy)]
+enum Part<'a> {
+    Nothing,
+    // The text of a file.
+    File(&'a str),
+    // What a command line must write.
+    Run(Asked<'a>),
+}
+
+/// Takes the lines of a transcript, and runs each command line once what it must write has been read.
+#[derive(Drop)]
+pub struct Player<'a> {
+    alloc: Global,
+    bench: Bench,
+    part: Part<'a>,
+    text: String,
+    // Whether the last line was empty: it isn't in the text yet.
+    is_blank: bool,
+    right: u64,
+    wrong: u64,
+}
+
+impl<'a> Player<'a> {
+    /// One with no files, before the first line.
+    pub fn new(alloc: Global) -> Player<'a> {
+        Player {
+            alloc,
+            bench: Bench::new(alloc),
+            part: Part::Nothing,
+            text: String::new(alloc),
+            is_blank: false,
+            right: 0,
+            wrong: 0,
+        }
+    }
+
+    /// Takes the next line.
+    pub fn take(&mut self, rt: &HostRuntime, line: &'a str) -> io::Result<()> {
+        match mark_of(line) {
+            Some(Mark::Status(status)) => {
+                self.set_status(status);
+                Ok(())
+            }
+            Some(mark) => self.begin(rt, mark),
+            None => Ok(self.add(line)?),
+        }
+    }
+
+    /// Ends the last part, and prints how many command lines were right, and how many wrong.
+    pub fn end(&mut self, rt: &HostRuntime) -> io::Result<()> {
+        self.end_part(rt)?;
+        println!(rt; "{} right, {} wrong", self.right, self.wrong)
+    }
+
+    // Keeps the status of the command line above.
+    fn set_status(&mut self, status: u8) {
+        self.is_blank = false;
+        if let Part::Run(asked) = self.part {
+            self.part = Part::Run(Asked { status, ..asked });
+        }
+    }
+
+    // Ends the part before a mark, and begins the mark's; a script is put where it is read.
+    fn begin(&mut self, rt: &HostRuntime, mark: Mark<'a>) -> io::Result<()> {
+        self.end_part(rt)?;
+        self.part = match mark {
+            Mark::Comment | Mark::Status(_) => Part::Nothing,
+            Mark::File(name) => Part::File(name),
+            Mark::Run(asked) => Part::Run(asked),
+            Mark::Script(script) => {
+                let line = format!(in self.alloc; "{script}\n")?;
+                self.bench.put("-", line.as_str())?;
+                Part::Run(Asked::new("try t.csv - --dims 2 --page-rows 2"))
+            }
+        };
+        Ok(())
+    }
+
+    // Adds a line to the part's text, and before it the empty line that stood there.
+    fn add(&mut self, line: &str) -> Result<(), AllocError> {
+        if self.is_blank {
+            self.text.push('\n')?;
+        }
+        self.is_blank = line.is_empty();
+        if self.is_blank {
+            return Ok(());
+        }
+        let (head, rest) = cut(line);
+        match head {
+            "+" => add_times(&mut self.text, rest),
+            "%" => add_numbers(self.alloc, &mut self.text, rest),
+            _ => add_line(&mut self.text, line),
+        }
+    }
+
+    // Ends the part: its file is put, or its command line is run.
+    fn end_part(&mut self, rt: &HostRuntime) -> io::Result<()> {
+        match self.part {
+            Part::Nothing => {}
+            Part::File(name) => self.bench.put(name, self.text.as_str())?,
+            Part::Run(asked) => self.judge(rt, asked)?,
+        }
+        self.part = Part::Nothing;
+        self.text.clear();
+        self.is_blank = false;
+        Ok(())
+    }
+
+    // Runs a command line, counts it, and prints what differs.
+    fn judge(&mut self, rt: &HostRuntime, asked: Asked<'a>) -> io::Result<()> {
+        let (status, out) = self.bench.run(asked)?;
+        let is_same = out.taken.as_slice() == self.text.as_bytes();
+        if is_same && status == asked.status && out.failed < 2 {
+            self.right = self.right.saturating_add(1);
+            return Ok(());
+        }
+        self.wrong = self.wrong.saturating_add(1);
+        let wanted = self.text.as_str();
+        let written = str::from_utf8(out.taken.as_slice()).unwrap_or("! no text\n");
+        println!(rt;
+            "{}, store fails at {}, room {}",
+            asked.words, asked.k, asked.room
+        )?;
+        println!(rt; "wanted, with status {}:\n{wanted}", asked.status)?;
+        println!(rt; "written, with status {status}:\n{written}")
+    }
+}
+
+fn add_line(text: &mut String, line: &str) -> Result<(), AllocError> {
+    text.push_str(line)?;
+    text.push('\n')
+}
+
+// Adds a piece of text so many times, by the words for the count and the piece.
+fn add_times(text: &mut String, words: &str) -> Result<(), AllocError> {
+    let (count, piece) = cut(words);
+    for _ in 0..count.parse::<u32>().unwrap_or(0) {
+        text.push_str(piece)?;
+    }
+    Ok(())
+}
+
+// Adds the numbers below the one of this word, each on a line.
+fn add_numbers(alloc: Global, text: &mut String, count: &str) -> Result<(), AllocError> {
+    for n in 0..count.parse::<u32>().unwrap_or(0) {
+        let line = format!(in alloc; "{n}\n")?;
+        text.push_str(line.as_str())?;
+    }
+    Ok(())
+}
