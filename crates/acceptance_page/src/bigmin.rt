@@ -1,6 +1,6 @@
 // The addresses of boxes that are nearest to one, the coordinates that boxes have within a span, and one way of a jump beside
 // the other.
-ghost use Rattle.std.specs.Prelude.{◌≡◌, ◌<◌, length, IfOk};
+ghost use Rattle.std.specs.Prelude.{◌≡◌, ◌<◌, length, All, IfOk};
 
 use std::test::Fail;
 use ub_bigmin::laws::{next_by_bits, next_by_words, prev_by_bits, prev_by_words};
@@ -21,66 +21,97 @@ fn rectangle(lo: [u32; 2], hi: [u32; 2]) -> Result<ZBox, Fail>
 #[test]
 fn neighbours(rt: HostRuntime) -> Result<(), Fail> {
     let zbox = rectangle([2, 2], [6, 3])?;
-    assert_eq!(rt; zbox.next_in_box(19), Some(36));
-    assert_eq!(rt; zbox.prev_in_box(19), Some(15));
-    assert_eq!(rt; zbox.next_in_box(0), Some(12));
-    assert_eq!(rt; zbox.prev_in_box(0), None);
-    assert_eq!(rt; zbox.next_in_box(46), None);
-    assert_eq!(rt; zbox.prev_in_box(46), Some(45));
-    assert_eq!(rt; zbox.next_in_box(11), Some(12));
-    assert_eq!(rt; zbox.prev_in_box(11), None);
-    assert_eq!(rt; zbox.next_in_box(12), Some(12));
-    assert_eq!(rt; zbox.prev_in_box(12), Some(12));
+    for (z, next, prev) in [
+        (19, Some(36), Some(15)),
+        (0, Some(12), None),
+        (46, None, Some(45)),
+        (11, Some(12), None),
+        (12, Some(12), Some(12)),
+    ] {
+        assert_eq!(rt;
+            (zbox.next_in_box(z), zbox.prev_in_box(z)),
+            (next, prev),
+            "{z}"
+        );
+    }
     Ok(())
+}
+
+// The neighbours of the last address in the whole space of four dimensions, and whether there is a box from its last point to
+// its first.
+fn ends_of_the_whole_space() -> Result<(Option<u128>, Option<u128>, bool), ZFault> {
+    let shape = Shape::new(4)?;
+    let lo = Point::new(shape, &[0; 4])?;
+    let hi = Point::new(shape, &[4294967295; 4])?;
+    let is_backwards = ZBox::new(shape, &hi, &lo).is_some();
+    Ok(match ZBox::new(shape, &lo, &hi) {
+        Some(whole) => (
+            whole.next_in_box(u128::MAX),
+            whole.prev_in_box(u128::MAX),
+            is_backwards,
+        ),
+        None => (None, None, is_backwards),
+    })
 }
 
 #[test]
 fn the_whole_space(rt: HostRuntime) -> Result<(), Fail> {
-    let shape = Shape::new(4)?;
-    let lo = Point::new(shape, &[0; 4])?;
-    let hi = Point::new(shape, &[4294967295; 4])?;
-    let whole = ZBox::new(shape, &lo, &hi).ok_or("an empty box")?;
-    assert_eq!(rt; whole.next_in_box(u128::MAX), Some(u128::MAX));
-    assert_eq!(rt; whole.prev_in_box(u128::MAX), Some(u128::MAX));
-    assert!(rt; ZBox::new(shape, &hi, &lo).is_none());
+    let last = Some(u128::MAX);
+    assert_eq!(rt; ends_of_the_whole_space()?, (last, last, false));
     Ok(())
 }
 
 #[test]
 fn members(rt: HostRuntime) -> Result<(), Fail> {
     let zbox = rectangle([2, 2], [6, 3])?;
-    assert!(rt; zbox.holds(12));
-    assert!(rt; zbox.holds(45));
-    assert!(rt; !zbox.holds(19));
-    assert!(rt; !zbox.holds(u128::MAX));
-    assert_eq!(rt; zbox.shape().dims(), 2);
-    assert_eq!(rt; zbox.lo().values(), [2, 2].as_slice());
-    assert_eq!(rt; zbox.hi().values(), [6, 3].as_slice());
+    for (z, is_held) in [(12, true), (45, true), (19, false), (u128::MAX, false)] {
+        assert_eq!(rt; zbox.holds(z), is_held, "{z}");
+    }
     Ok(())
+}
+
+#[test]
+fn corners(rt: HostRuntime) -> Result<(), Fail> {
+    let zbox = rectangle([2, 2], [6, 3])?;
+    assert!(rt;
+        zbox.shape().dims() == 2
+            && zbox.lo().values() == [2, 2].as_slice()
+            && zbox.hi().values() == [6, 3].as_slice()
+    );
+    Ok(())
+}
+
+// The least and the greatest first coordinate that boxes have within a span.
+fn values(boxes: &[ZBox], from: u128, to: u128) -> (Option<u32>, Option<u32>)
+    requires { All (λ b. 0 < length b.lo) boxes.now }
+{
+    (
+        least_value(boxes, from, to, 0),
+        greatest_value(boxes, from, to, 0),
+    )
 }
 
 #[test]
 fn event_values(rt: HostRuntime) -> Result<(), Fail> {
     let boxes = [rectangle([2, 2], [6, 3])?];
-    assert_eq!(rt; least_value(&boxes, 13, 35, 0), Some(2));
-    assert_eq!(rt; greatest_value(&boxes, 13, 35, 0), Some(3));
-    assert_eq!(rt; least_value(&boxes, 16, 35, 0), None);
-    assert_eq!(rt; greatest_value(&boxes, 16, 35, 0), None);
-    assert_eq!(rt; least_value(&boxes, 16, 36, 0), Some(4));
-    assert_eq!(rt; greatest_value(&boxes, 16, 36, 0), Some(4));
-    assert_eq!(rt; least_value(&boxes, 40, 45, 0), Some(6));
-    assert_eq!(rt; greatest_value(&boxes, 40, 45, 0), Some(6));
+    for (from, to, least, greatest) in [
+        (13, 35, Some(2), Some(3)),
+        (16, 35, None, None),
+        (16, 36, Some(4), Some(4)),
+        (40, 45, Some(6), Some(6)),
+    ] {
+        assert_eq!(rt; values(&boxes, from, to), (least, greatest), "{from} {to}");
+    }
     Ok(())
 }
 
 #[test]
 fn several_boxes(rt: HostRuntime) -> Result<(), Fail> {
     let boxes = [rectangle([6, 3], [6, 3])?, rectangle([2, 2], [3, 3])?];
-    assert_eq!(rt; next_in_any(&boxes, 13), Some(13));
-    assert_eq!(rt; next_in_any(&boxes, 16), Some(45));
-    assert_eq!(rt; next_in_any(&boxes, 46), None);
-    assert_eq!(rt; least_value(&boxes, 15, 45, 0), Some(3));
-    assert_eq!(rt; greatest_value(&boxes, 15, 45, 0), Some(6));
+    assert_eq!(rt; values(&boxes, 15, 45), (Some(3), Some(6)));
+    for (z, next) in [(13, Some(13)), (16, Some(45)), (46, None)] {
+        assert_eq!(rt; next_in_any(&boxes, z), next, "{z}");
+    }
     Ok(())
 }
 

@@ -3,6 +3,7 @@
 ghost use Rattle.std.specs.Prelude.{◌≡◌, ◌<◌, IfOk};
 ghost use Rattle.ub_store.specs.Facts.{IsHonest, raised};
 
+use crate::calls::{Answer, Call, byte_of, first_wrong};
 use std::alloc::{AllocError, Global};
 use std::test::Fail;
 use std::{fs, process};
@@ -16,11 +17,16 @@ fn open_zeros(
     pages: u16,
     rest: u16,
     k: u64,
-) -> Result<Result<FileStore<MemMedium>, StoreFault>, AllocError>
+) -> Result<FileStore<MemMedium>, StoreFault>
     requires { rest < 4096 }
 {
-    let pages = vec![in alloc; [0; 4096]; usize::from(pages)]?;
-    Ok(FileStore::open(MemMedium::new(pages, rest, k)).map_err(|refused| refused.fault))
+    let Ok(pages) = vec![in alloc; [0; 4096]; usize::from(pages)] else {
+        return Err(StoreFault::Memory);
+    };
+    match FileStore::open(MemMedium::new(pages, rest, k)) {
+        Ok(store) => Ok(store),
+        Err(refused) => Err(refused.fault),
+    }
 }
 
 // A medium of so many bytes that can't be had: all its other calls fail.
@@ -56,7 +62,7 @@ impl Medium for Measured {
         self.bytes
     }
 
-    fn read_page(&mut self, _: u32) -> Result<Page, StoreFault> {
+    fn read_into(&mut self, _: u32, _: &mut Page) -> Result<(), StoreFault> {
         self.reads = self.reads.saturating_add(1);
         Err(StoreFault::Device)
     }
@@ -89,134 +95,153 @@ fn is_store(bytes: u64) -> bool {
 }
 
 #[test]
-fn takes_whole_pages_alone(rt: HostRuntime) -> Result<(), Fail> {
-    for length in [0, 4096, 8192, 17592186040320] {
-        assert!(rt; is_store(length), "{length}");
+fn takes_whole_pages_alone(rt: HostRuntime) {
+    for (length, is_right) in [
+        (0, true),
+        (4096, true),
+        (8192, true),
+        (17592186040320, true),
+        (1, false),
+        (100, false),
+        (2048, false),
+        (4095, false),
+        (4097, false),
+        (17592186040321, false),
+        (17592186044416, false),
+    ] {
+        assert_eq!(rt; is_store(length), is_right, "{length}");
     }
-    for length in [1, 100, 2048, 4095, 4097, 17592186040321, 17592186044416] {
-        assert!(rt; !is_store(length), "{length}");
+}
+
+#[test]
+fn refuses_part_of_a_page(rt: HostRuntime) {
+    for (pages, rest) in [(0, 1), (0, 100), (1, 1), (1, 2048)] {
+        let fault = open_zeros(rt.alloc(), pages, rest, 0).err();
+        assert_eq!(rt; fault, Some(StoreFault::BadSize), "{pages} {rest}");
     }
-    assert_eq!(rt;
-        open_zeros(rt.alloc(), 0, 1, 0)?.err(),
-        Some(StoreFault::BadSize)
-    );
-    assert_eq!(rt;
-        open_zeros(rt.alloc(), 0, 100, 0)?.err(),
-        Some(StoreFault::BadSize)
-    );
-    assert_eq!(rt;
-        open_zeros(rt.alloc(), 1, 1, 0)?.err(),
-        Some(StoreFault::BadSize)
-    );
-    assert_eq!(rt;
-        open_zeros(rt.alloc(), 1, 2048, 0)?.err(),
-        Some(StoreFault::BadSize)
-    );
-    Ok(())
+}
+
+// Whether a store of so many pages of zeros, that fails at its k-th call, answers these calls so.
+fn answers(alloc: Global, pages: u16, k: u64, calls: &[(Call, Answer)]) -> bool {
+    match open_zeros(alloc, pages, 0, k) {
+        Ok(mut store) => first_wrong(&mut store, calls).is_none(),
+        Err(_) => false,
+    }
 }
 
 #[test]
-fn has_no_pages_of_no_bytes(rt: HostRuntime) -> Result<(), Fail> {
-    let mut store = open_zeros(rt.alloc(), 0, 0, 0)??;
-    assert_eq!(rt; store.pages(), 0);
-    assert!(rt; store.read_page(0) == Err(StoreFault::NoPage));
-    assert_eq!(rt; store.write_page(0, &[7; 4096]), Err(StoreFault::NoPage));
-    Ok(())
+fn answers_calls(rt: HostRuntime) {
+    for (pages, calls) in [
+        (
+            0,
+            [
+                (Call::Pages, Ok(0)),
+                (Call::Read(0), Err(StoreFault::NoPage)),
+                (Call::Write(0, 7), Err(StoreFault::NoPage)),
+            ]
+            .as_slice(),
+        ),
+        (
+            3,
+            [
+                (Call::Write(1, 7), Ok(0)),
+                (Call::Write(2, 8), Ok(0)),
+                (Call::Read(0), Ok(0)),
+                (Call::Read(1), Ok(7)),
+                (Call::Read(2), Ok(8)),
+                (Call::Read(3), Err(StoreFault::NoPage)),
+                (Call::Write(3, 9), Err(StoreFault::NoPage)),
+                (Call::Pages, Ok(3)),
+            ]
+            .as_slice(),
+        ),
+        (
+            2,
+            [
+                (Call::Extend, Ok(2)),
+                (Call::Pages, Ok(3)),
+                (Call::Read(2), Ok(0)),
+                (Call::Sync, Ok(0)),
+            ]
+            .as_slice(),
+        ),
+    ] {
+        assert!(rt; answers(rt.alloc(), pages, 0, calls), "{pages}");
+    }
 }
 
 #[test]
-fn reads_back_what_was_written(rt: HostRuntime) -> Result<(), Fail> {
-    let mut store = open_zeros(rt.alloc(), 3, 0, 0)??;
-    assert_eq!(rt; store.write_page(1, &[7; 4096]), Ok(()));
-    assert_eq!(rt; store.write_page(2, &[8; 4096]), Ok(()));
-    assert!(rt; store.read_page(0) == Ok([0; 4096]));
-    assert!(rt; store.read_page(1) == Ok([7; 4096]));
-    assert!(rt; store.read_page(2) == Ok([8; 4096]));
-    assert!(rt; store.read_page(3) == Err(StoreFault::NoPage));
-    assert_eq!(rt; store.write_page(3, &[9; 4096]), Err(StoreFault::NoPage));
-    assert_eq!(rt; store.pages(), 3);
-    Ok(())
+fn tells_the_failed_call_alone(rt: HostRuntime) {
+    for k in 0..=4usize {
+        let mut calls = [
+            (Call::Read(0), Ok(0)),
+            (Call::Write(0, 7), Ok(0)),
+            (Call::Extend, Ok(1)),
+            (Call::Sync, Ok(0)),
+        ];
+        if k > 0 {
+            calls[k - 1].1 = Err(StoreFault::Device);
+        }
+        assert!(rt; answers(rt.alloc(), 1, k as u64, &calls), "{k}");
+    }
 }
 
-#[test]
-fn adds_a_page_of_zeros(rt: HostRuntime) -> Result<(), Fail> {
-    let mut store = open_zeros(rt.alloc(), 2, 0, 0)??;
-    assert_eq!(rt; store.extend(), Ok(2));
-    assert_eq!(rt; store.pages(), 3);
-    assert!(rt; store.read_page(2) == Ok([0; 4096]));
-    assert_eq!(rt; store.sync(), Ok(()));
-    Ok(())
+// Why a medium is no store.
+fn refusal_of(medium: MemMedium) -> Option<StoreFault> {
+    match FileStore::open(medium) {
+        Ok(_) => None,
+        Err(refused) => Some(refused.fault),
+    }
 }
 
-// Of four calls of a store of one page, which are answered by Device.
-fn failures(mut store: FileStore<MemMedium>) -> [bool; 4] {
-    [
-        store.read_page(0) == Err(StoreFault::Device),
-        store.write_page(0, &[7; 4096]) == Err(StoreFault::Device),
-        store.extend() == Err(StoreFault::Device),
-        store.sync() == Err(StoreFault::Device),
-    ]
-}
-
-#[test]
-fn tells_the_failed_call_alone(rt: HostRuntime) -> Result<(), Fail> {
-    assert_eq!(rt;
-        failures(open_zeros(rt.alloc(), 1, 0, 0)??),
-        [false, false, false, false]
-    );
-    assert_eq!(rt;
-        failures(open_zeros(rt.alloc(), 1, 0, 1)??),
-        [true, false, false, false]
-    );
-    assert_eq!(rt;
-        failures(open_zeros(rt.alloc(), 1, 0, 2)??),
-        [false, true, false, false]
-    );
-    assert_eq!(rt;
-        failures(open_zeros(rt.alloc(), 1, 0, 3)??),
-        [false, false, true, false]
-    );
-    assert_eq!(rt;
-        failures(open_zeros(rt.alloc(), 1, 0, 4)??),
-        [false, false, false, true]
-    );
-    Ok(())
+// Whether a store of one page, whose first call fails, answers these calls so, and why its medium is no store then.
+fn reopened(alloc: Global, calls: &[(Call, Answer)]) -> (bool, Option<StoreFault>) {
+    match open_zeros(alloc, 1, 0, 1) {
+        Ok(mut store) => {
+            let is_right = first_wrong(&mut store, calls).is_none();
+            (is_right, refusal_of(store.into_medium()))
+        }
+        Err(_) => (false, None),
+    }
 }
 
 // A failed growth of this medium leaves half a page, which is no page; the next one is put in its place.
 #[test]
-fn counts_no_page_that_was_not_added(rt: HostRuntime) -> Result<(), Fail> {
-    let mut store = open_zeros(rt.alloc(), 1, 0, 1)??;
-    assert_eq!(rt; store.extend(), Err(StoreFault::Device));
-    assert_eq!(rt; store.pages(), 1);
-    assert!(rt; store.read_page(1) == Err(StoreFault::NoPage));
-    assert_eq!(rt; store.extend(), Ok(1));
-    assert_eq!(rt; store.pages(), 2);
-    assert!(rt; store.read_page(1) == Ok([0; 4096]));
-    assert_eq!(rt; FileStore::open(store.into_medium()).is_ok(), true);
-    let mut torn = open_zeros(rt.alloc(), 1, 0, 1)??;
-    assert_eq!(rt; torn.extend(), Err(StoreFault::Device));
-    let refused = FileStore::open(torn.into_medium())
-        .err()
-        .map(|refused| refused.fault);
-    assert_eq!(rt; refused, Some(StoreFault::BadSize));
-    Ok(())
+fn counts_no_page_that_was_not_added(rt: HostRuntime) {
+    let calls = [
+        (Call::Extend, Err(StoreFault::Device)),
+        (Call::Pages, Ok(1)),
+        (Call::Read(1), Err(StoreFault::NoPage)),
+        (Call::Extend, Ok(1)),
+        (Call::Pages, Ok(2)),
+        (Call::Read(1), Ok(0)),
+    ];
+    assert_eq!(rt; reopened(rt.alloc(), &calls), (true, None));
+    let torn = reopened(rt.alloc(), &calls[..1]);
+    assert_eq!(rt; torn, (true, Some(StoreFault::BadSize)));
+}
+
+// A store that is created on a medium of two pages and 100 bytes, which fails at its k-th call.
+fn created(alloc: Global, k: u64) -> Result<FileStore<MemMedium>, StoreFault> {
+    let Ok(pages) = vec![in alloc; [7; 4096]; 2] else {
+        return Err(StoreFault::Memory);
+    };
+    match FileStore::create(MemMedium::new(pages, 100, k)) {
+        Ok(store) => Ok(store),
+        Err(refused) => Err(refused.fault),
+    }
 }
 
 #[test]
 fn creates_with_no_pages(rt: HostRuntime) -> Result<(), Fail> {
-    let pages = vec![in rt.alloc(); [7; 4096]; 2]?;
-    let Ok(mut store) = FileStore::create(MemMedium::new(pages, 100, 0)) else {
-        return Err(Fail::from(StoreFault::Device));
-    };
-    assert_eq!(rt; store.pages(), 0);
-    assert_eq!(rt; store.extend(), Ok(0));
-    assert!(rt; store.read_page(0) == Ok([0; 4096]));
-    let pages = vec![in rt.alloc(); [7; 4096]; 2]?;
-    match FileStore::create(MemMedium::new(pages, 100, 1)) {
-        Ok(_) => assert!(rt; false),
-        Err(refused) => assert_eq!(rt; refused.fault, StoreFault::Device),
-    }
+    let calls = [
+        (Call::Pages, Ok(0)),
+        (Call::Extend, Ok(0)),
+        (Call::Read(0), Ok(0)),
+    ];
+    let wrong = first_wrong(&mut created(rt.alloc(), 0)?, &calls);
+    let fault = created(rt.alloc(), 1).err();
+    assert_eq!(rt; (wrong, fault), (None, Some(StoreFault::Device)));
     Ok(())
 }
 
@@ -235,78 +260,125 @@ fn write_and_read<M: Medium>(
 
 #[test]
 fn gives_back_the_medium(rt: HostRuntime) -> Result<(), Fail> {
-    let mut store = open_zeros(rt.alloc(), 2, 0, 0)??;
-    assert!(rt; write_and_read(&mut store, 1, &[7; 4096]) == Ok([7; 4096]));
-    let Ok(mut again) = FileStore::open(store.into_medium()) else {
-        return Err(Fail::from(StoreFault::BadSize));
+    let mut store = open_zeros(rt.alloc(), 2, 0, 0)?;
+    let read = byte_of(&write_and_read(&mut store, 1, &[7; 4096])?);
+    let wrong = match FileStore::open(store.into_medium()) {
+        Ok(mut again) => first_wrong(&mut again, &[(Call::Pages, Ok(2)), (Call::Read(1), Ok(7))]),
+        Err(_) => Some(0),
     };
-    assert_eq!(rt; again.pages(), 2);
-    assert!(rt; again.read_page(1) == Ok([7; 4096]));
+    assert_eq!(rt; (read, wrong), (7, None));
     Ok(())
+}
+
+// Whether the store that is made in a file answers these calls so.
+fn answers_made(rt: &HostRuntime, path: &str, calls: &[(Call, Answer)]) -> bool {
+    match create_store(rt, path) {
+        Ok(mut store) => first_wrong(&mut store, calls).is_none(),
+        Err(_) => false,
+    }
+}
+
+// Why there is no store in a file.
+fn opening_refusal(rt: &HostRuntime, path: &str) -> Option<StoreFault> {
+    open_store(rt, path).err()
+}
+
+// Why none can be made there.
+fn making_refusal(rt: &HostRuntime, path: &str) -> Option<StoreFault> {
+    create_store(rt, path).err()
+}
+
+// Why a file with these bytes is no store.
+fn refusal(rt: &HostRuntime, path: &str, bytes: &[u8]) -> Option<StoreFault> {
+    match fs::write(rt, path, bytes) {
+        Ok(()) => opening_refusal(rt, path),
+        Err(_) => None,
+    }
+}
+
+// Whether the store in a file answers these calls so, where the file is cut to so many bytes once it is open.
+fn answers_opened(rt: &HostRuntime, path: &str, cut: usize, calls: &[(Call, Answer)]) -> bool {
+    let Ok(mut store) = open_store(rt, path) else {
+        return false;
+    };
+    let bytes = [65; 8192];
+    let is_cut = cut == 8192 || fs::write(rt, path, &bytes[..cut.min(8192)]).is_ok();
+    is_cut && first_wrong(&mut store, calls).is_none()
+}
+
+// Whether a file holds a page of zeros and one of the byte 65.
+fn holds_two_pages(rt: &HostRuntime, path: &str) -> bool {
+    match fs::read(rt, path) {
+        Ok(bytes) => bytes.len() == 8192 && bytes.get(4095..4097) == Some(&[0, 65]),
+        Err(_) => false,
+    }
+}
+
+// A path that no other run of these tests takes.
+fn own_path(rt: &HostRuntime, name: &str) -> Result<String, AllocError> {
+    let id = process::id(rt.process());
+    format!(in rt.alloc(); "/tmp/hablozen-{name}-{id}.ub")
 }
 
 #[test]
 fn keeps_pages_in_a_file(rt: HostRuntime) -> Result<(), Fail> {
-    let id = process::id(rt.process());
-    let path = format!(in rt.alloc(); "/tmp/hablozen-pages-{id}.ub")?;
+    let path = own_path(&rt, "pages")?;
     let path = path.as_str();
-    fs::write(&rt, path, "nothing that is kept")?;
-    let mut store = create_store(&rt, path)?;
-    assert_eq!(rt; store.pages(), 0);
-    assert_eq!(rt; store.extend(), Ok(0));
-    assert_eq!(rt; store.extend(), Ok(1));
-    assert_eq!(rt; store.write_page(1, &[65; 4096]), Ok(()));
-    assert!(rt; store.read_page(0) == Ok([0; 4096]));
-    assert!(rt; store.read_page(1) == Ok([65; 4096]));
-    assert!(rt; store.read_page(2) == Err(StoreFault::NoPage));
-    assert_eq!(rt; store.sync(), Ok(()));
-    drop(store);
-    let mut store = open_store(&rt, path)?;
-    assert_eq!(rt; store.pages(), 2);
-    assert!(rt; store.read_page(0) == Ok([0; 4096]));
-    assert!(rt; store.read_page(1) == Ok([65; 4096]));
-    drop(store);
-    let bytes = fs::read(&rt, path)?;
-    assert_eq!(rt; bytes.len(), 8192);
-    assert_eq!(rt; (bytes.get(4095), bytes.get(4096)), (Some(&0), Some(&65)));
-    fs::remove_file(&rt, path)?;
+    let made = [
+        (Call::Pages, Ok(0)),
+        (Call::Extend, Ok(0)),
+        (Call::Extend, Ok(1)),
+        (Call::Write(1, 65), Ok(0)),
+        (Call::Read(0), Ok(0)),
+        (Call::Read(1), Ok(65)),
+        (Call::Read(2), Err(StoreFault::NoPage)),
+        (Call::Sync, Ok(0)),
+    ];
+    let opened = [
+        (Call::Pages, Ok(2)),
+        (Call::Read(0), Ok(0)),
+        (Call::Read(1), Ok(65)),
+    ];
+    let is_right = fs::write(&rt, path, "nothing that is kept").is_ok()
+        && answers_made(&rt, path, &made)
+        && answers_opened(&rt, path, 8192, &opened)
+        && holds_two_pages(&rt, path)
+        && fs::remove_file(&rt, path).is_ok();
+    assert!(rt; is_right);
     Ok(())
 }
 
 #[test]
 fn refuses_what_is_no_store(rt: HostRuntime) -> Result<(), Fail> {
-    let id = process::id(rt.process());
-    let path = format!(in rt.alloc(); "/tmp/hablozen-sizes-{id}.ub")?;
+    let path = own_path(&rt, "sizes")?;
     let path = path.as_str();
-    assert_eq!(rt; open_store(&rt, path).err(), Some(StoreFault::Device));
-    assert_eq!(rt; open_store(&rt, "/tmp").err(), Some(StoreFault::Device));
-    assert_eq!(rt; create_store(&rt, "/tmp").err(), Some(StoreFault::Device));
-    fs::write(&rt, path, "")?;
-    let mut store = open_store(&rt, path)?;
-    assert!(rt; store.read_page(0) == Err(StoreFault::NoPage));
-    drop(store);
-    fs::write(&rt, path, "x")?;
-    assert_eq!(rt; open_store(&rt, path).err(), Some(StoreFault::BadSize));
-    let bytes = vec![in rt.alloc(); 65u8; 4097]?;
-    fs::write(&rt, path, bytes.as_slice())?;
-    assert_eq!(rt; open_store(&rt, path).err(), Some(StoreFault::BadSize));
-    fs::remove_file(&rt, path)?;
+    let device = Some(StoreFault::Device);
+    let is_right = opening_refusal(&rt, path) == device
+        && opening_refusal(&rt, "/tmp") == device
+        && making_refusal(&rt, "/tmp") == device
+        && refusal(&rt, path, &[65]) == Some(StoreFault::BadSize)
+        && refusal(&rt, path, &[65; 4097]) == Some(StoreFault::BadSize)
+        && fs::write(&rt, path, "").is_ok()
+        && answers_opened(&rt, path, 8192, &[(Call::Read(0), Err(StoreFault::NoPage))])
+        && fs::remove_file(&rt, path).is_ok();
+    assert!(rt; is_right);
     Ok(())
 }
 
 // A file that is cut while it is open gives no part of a page.
 #[test]
 fn takes_a_short_read_for_a_failure(rt: HostRuntime) -> Result<(), Fail> {
-    let id = process::id(rt.process());
-    let path = format!(in rt.alloc(); "/tmp/hablozen-cut-{id}.ub")?;
+    let path = own_path(&rt, "cut")?;
     let path = path.as_str();
-    let bytes = vec![in rt.alloc(); 65u8; 8192]?;
-    fs::write(&rt, path, bytes.as_slice())?;
-    let mut store = open_store(&rt, path)?;
-    fs::write(&rt, path, bytes.as_slice().get(..5000).unwrap_or(&[]))?;
-    assert!(rt; store.read_page(0) == Ok([65; 4096]));
-    assert!(rt; store.read_page(1) == Err(StoreFault::Device));
-    assert!(rt; store.read_page(1) == Err(StoreFault::Device));
-    fs::remove_file(&rt, path)?;
+    let calls = [
+        (Call::Read(0), Ok(65)),
+        (Call::Read(1), Err(StoreFault::Device)),
+        (Call::Read(1), Err(StoreFault::Device)),
+    ];
+    let bytes = [65u8; 8192];
+    let is_right = fs::write(&rt, path, bytes.as_slice()).is_ok()
+        && answers_opened(&rt, path, 5000, &calls)
+        && fs::remove_file(&rt, path).is_ok();
+    assert!(rt; is_right);
     Ok(())
 }

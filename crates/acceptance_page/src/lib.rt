@@ -6,6 +6,8 @@
 #[cfg(test)]
 mod bigmin;
 #[cfg(test)]
+mod calls;
+#[cfg(test)]
 mod file;
 #[cfg(test)]
 mod page;

@@ -32,12 +32,15 @@ fn header_page() -> Page {
 
 #[test]
 fn reads_a_header_that_it_writes(rt: HostRuntime) -> Result<(), Fail> {
-    assert!(rt; write_header(&header()?) == header_page());
-    let read = read_header(&header_page())?;
-    assert!(rt; read.schema.name().bytes() == b"t".as_slice());
-    assert_eq!(rt; (read.schema.dims(), read.schema.measures()), (2, 1));
-    assert_eq!(rt; (read.next, read.rows, read.regions), (6, 5, 3));
-    assert_eq!(rt; (read.root, read.levels, read.unclean), (4, 1, false));
+    let page = header_page();
+    let read = read_header(&page)?;
+    assert!(rt;
+        write_header(&header()?) == page
+            && read.schema.name().bytes() == b"t".as_slice()
+            && (read.schema.dims(), read.schema.measures()) == (2, 1)
+            && (read.next, read.rows, read.regions) == (6, 5, 3)
+            && (read.root, read.levels, read.unclean) == (4, 1, false)
+    );
     Ok(())
 }
 
@@ -52,7 +55,7 @@ fn refuses_the_first_fault_of_a_header(rt: HostRuntime) {
         (4, 2, PageFault::WrongKind),
     ] {
         page[place % 4096] = byte;
-        assert!(rt; read_header(&page).err() == Some(fault), "{place}");
+        assert_eq!(rt; read_header(&page).err(), Some(fault), "{place}");
     }
 }
 
@@ -79,10 +82,13 @@ fn directory_page() -> Page {
 #[test]
 fn reads_a_directory_that_it_writes(rt: HostRuntime) -> Result<(), Fail> {
     let entries = [entry(0, 1), entry(10, 3), entry(13, 2)];
-    assert!(rt; write_directory(&entries, 0) == directory_page());
-    let directory = read_directory(&plane()?, &directory_page())?;
-    assert!(rt; directory.entries() == entries.as_slice());
-    assert_eq!(rt; directory.next(), 0);
+    let page = directory_page();
+    let directory = read_directory(&plane()?, &page)?;
+    assert!(rt;
+        write_directory(&entries, 0) == page
+            && directory.entries() == entries.as_slice()
+            && directory.next() == 0
+    );
     Ok(())
 }
 
@@ -98,8 +104,9 @@ fn refuses_the_first_fault_of_a_directory(rt: HostRuntime) -> Result<(), Fail> {
         (0, 0, PageFault::WrongKind),
     ] {
         page[place % 4096] = byte;
-        assert!(rt;
-            read_directory(&schema, &page).err() == Some(fault),
+        assert_eq!(rt;
+            read_directory(&schema, &page).err(),
+            Some(fault),
             "{place}"
         );
     }

@@ -46,33 +46,49 @@ fn changed(mut page: Page, bytes: &[(usize, u8)]) -> Page {
     page
 }
 
+// The rows of the two pages.
+fn low_rows() -> [Row; 2] {
+    [row(1, 1, 1, 10), row(4, 0, 2, 7)]
+}
+
+fn high_rows() -> [Row; 2] {
+    [row(2, 2, 3, 20), row(5, 2, 3, 1)]
+}
+
+// Whether these rows from an address on are written so, and are what is read from there.
+fn is_written_and_read(schema: &Schema, z: u128, rows: &[Row; 2], page: &Page) -> bool {
+    let first = Key { z, number: 0 };
+    write_region(schema, first, rows) == *page
+        && RegionPage::read(schema, page).is_ok_and(|region| region.first() == first
+            && region.rows() == rows.as_slice())
+}
+
 #[test]
 fn reads_what_it_writes(rt: HostRuntime) -> Result<(), Fail> {
     let schema = plane()?;
-    let low = [row(1, 1, 1, 10), row(4, 0, 2, 7)];
-    let high = [row(2, 2, 3, 20), row(5, 2, 3, 1)];
-    for (z, rows, page) in [(0, low, low_page()), (13, high, high_page())] {
-        let first = Key { z, number: 0 };
-        assert!(rt; write_region(&schema, first, &rows) == page, "{z}");
-        let region = RegionPage::read(&schema, &page)?;
-        assert!(rt;
-            region.first() == first && region.rows() == rows.as_slice(),
-            "{z}"
-        );
-    }
+    assert!(rt; is_written_and_read(&schema, 0, &low_rows(), &low_page()));
+    assert!(rt; is_written_and_read(&schema, 13, &high_rows(), &high_page()));
     Ok(())
 }
 
 #[test]
 fn gives_rows_and_keys(rt: HostRuntime) -> Result<(), Fail> {
     let region = RegionPage::read(&plane()?, &low_page())?;
-    assert_eq!(rt; region.len(), 2);
-    assert!(rt; region.keys() == [Key { z: 3, number: 1 }, Key { z: 4, number: 4 }].as_slice());
-    if region.len() == 2 {
-        assert!(rt; region.row(1) == row(4, 0, 2, 7));
-        assert!(rt; region.key(1) == Key { z: 4, number: 4 });
-    }
+    let keys = [Key { z: 3, number: 1 }, Key { z: 4, number: 4 }];
+    assert!(rt;
+        region.keys() == keys.as_slice()
+            && region.len() == 2
+            && region.row(1) == row(4, 0, 2, 7)
+            && region.key(1) == keys[1]
+    );
     Ok(())
+}
+
+// Whether a region that takes in a page is then this one.
+fn fills(region: &mut RegionPage, schema: &Schema, page: &Page, z: u128, rows: &[Row]) -> bool {
+    region.fill(schema, page).is_ok()
+        && region.first() == (Key { z, number: 0 })
+        && region.rows() == rows
 }
 
 // One region takes in a page, then another one, and has no rows once a page is refused.
@@ -80,18 +96,19 @@ fn gives_rows_and_keys(rt: HostRuntime) -> Result<(), Fail> {
 fn takes_in_one_page_after_the_other(rt: HostRuntime) -> Result<(), Fail> {
     let schema = plane()?;
     let mut region = RegionPage::empty(schema.shape());
-    assert_eq!(rt; region.len(), 0);
-    region.fill(&schema, &low_page())?;
-    assert!(rt; region.rows() == [row(1, 1, 1, 10), row(4, 0, 2, 7)].as_slice());
-    region.fill(&schema, &high_page())?;
-    assert!(rt; region.first() == Key { z: 13, number: 0 });
-    assert!(rt; region.rows() == [row(2, 2, 3, 20), row(5, 2, 3, 1)].as_slice());
     let refused = changed(low_page(), &[(19, 4)]);
-    assert!(rt; region.fill(&schema, &refused) == Err(PageFault::OutOfRegion));
-    assert!(rt; region.first() == Key { z: 0, number: 0 } && region.rows().is_empty());
+    assert!(rt;
+        region.len() == 0
+            && fills(&mut region, &schema, &low_page(), 0, &low_rows())
+            && fills(&mut region, &schema, &high_page(), 13, &high_rows())
+            && region.fill(&schema, &refused) == Err(PageFault::OutOfRegion)
+            && region.first() == (Key { z: 0, number: 0 })
+            && region.rows().is_empty()
+    );
     Ok(())
 }
 
+// Bytes of a page that are changed, the place of each before it, and the fault.
 #[test]
 fn refuses_the_first_fault(rt: HostRuntime) -> Result<(), Fail> {
     let schema = plane()?;
@@ -113,23 +130,24 @@ fn refuses_the_first_fault(rt: HostRuntime) -> Result<(), Fail> {
         ([(19, 4)].as_slice(), PageFault::OutOfRegion),
         ([(4095, 1)].as_slice(), PageFault::BadPadding),
     ] {
-        let page = changed(low_page(), bytes);
-        assert!(rt;
-            RegionPage::read(&schema, &page).err() == Some(fault),
-            "{fault}"
-        );
+        let read = RegionPage::read(&schema, &changed(low_page(), bytes));
+        assert!(rt; read.err() == Some(fault), "{fault}");
     }
     Ok(())
 }
 
-#[test]
-fn holds_full_pages(rt: HostRuntime) -> Result<(), Fail> {
+// A table of four dimensions and four measures, with 64 rows on a page.
+fn widest() -> Result<Schema, PageFault> {
     let x = Name::new(b"x")?;
     let mut columns = [x; 8];
-    for (i, text) in ["a", "b", "c", "d", "e", "f", "g", "h"].iter().enumerate() {
-        columns[i % 8] = Name::new(text.as_bytes())?;
+    for (column, letter) in columns.iter_mut().zip(b"abcdefgh") {
+        *column = Name::new(&[*letter])?;
     }
-    let schema = Schema::new(x, &columns, 4, 64)?;
+    Schema::new(x, &columns, 4, 64)
+}
+
+// 64 of its rows, in the order of their keys.
+fn widest_rows() -> [Row; 64] {
     let mut rows = [row(16_777_215, 0, 0, 0); 64];
     for i in 0..64u32 {
         let number = if i == 63 { 16_777_215 } else { i + 1 };
@@ -139,6 +157,13 @@ fn holds_full_pages(rt: HostRuntime) -> Result<(), Fail> {
             measures: [i64::MIN, i64::MAX, -1, i64::from(i)],
         };
     }
+    rows
+}
+
+#[test]
+fn holds_full_pages(rt: HostRuntime) -> Result<(), Fail> {
+    let schema = widest()?;
+    let rows = widest_rows();
     let first = Key {
         z: 0,
         number: 16_777_215,

@@ -5,6 +5,7 @@ ghost use Rattle.std.specs.Prelude.{◌≡◌, ◌≢◌, ◌<◌, [], Err, Some
 ghost use Rattle.ub_store.specs.Facts.{memory_facts, IsHonest};
 ghost use Rattle.ub_store.specs.Faulty.{faulty_facts, faulty_view};
 
+use crate::calls::{Answer, Call, byte_of, first_wrong};
 use std::alloc::Global;
 use std::num::NonZeroUsize;
 use std::test::Fail;
@@ -74,55 +75,67 @@ fn fail_once(store: &mut FaultyStore<MemStore>)
     let _ = store.sync();
 }
 
-#[test]
-fn fails_at_the_second_call_alone(rt: HostRuntime) -> Result<(), Fail> {
-    let mut store = store_failing_at(rt.alloc(), 2);
-    assert_eq!(rt; store.extend(), Ok(0));
-    assert_eq!(rt; store.extend(), Err(StoreFault::Device));
-    assert_eq!(rt; store.pages(), 1);
-    assert_eq!(rt; store.sync(), Ok(()));
-    assert_eq!(rt; store.extend(), Ok(1));
-    Ok(())
+// The first call that a store in memory answers otherwise, where its k-th call fails.
+fn wrong_in_memory(alloc: Global, k: u64, calls: &[(Call, Answer)]) -> Option<usize> {
+    first_wrong(&mut store_failing_at(alloc, k), calls)
 }
 
 #[test]
-fn never_fails_at_zero(rt: HostRuntime) -> Result<(), Fail> {
-    let mut store = store_failing_at(rt.alloc(), 0);
-    assert_eq!(rt; store.extend(), Ok(0));
-    assert_eq!(rt; store.write_page(0, &[7; 4096]), Ok(()));
-    assert!(rt; store.read_page(0) == Ok([7; 4096]));
-    assert!(rt; store.read_page(1) == Err(StoreFault::NoPage));
-    assert_eq!(rt; store.sync(), Ok(()));
-    Ok(())
+fn fails_at_the_second_call_alone(rt: HostRuntime) {
+    let calls = [
+        (Call::Extend, Ok(0)),
+        (Call::Extend, Err(StoreFault::Device)),
+        (Call::Pages, Ok(1)),
+        (Call::Sync, Ok(0)),
+        (Call::Extend, Ok(1)),
+    ];
+    assert_eq!(rt; wrong_in_memory(rt.alloc(), 2, &calls), None);
 }
 
 #[test]
-fn passes_each_extension_and_sync_once(rt: HostRuntime) -> Result<(), Fail> {
-    let mut store = store_over_one_failing_at(rt.alloc(), 2);
-    assert_eq!(rt; store.extend(), Ok(0));
-    assert_eq!(rt; store.extend(), Err(StoreFault::Device));
-    assert_eq!(rt; store.extend(), Ok(1));
-    let mut store = store_over_one_failing_at(rt.alloc(), 2);
-    assert_eq!(rt; store.sync(), Ok(()));
-    assert_eq!(rt; store.sync(), Err(StoreFault::Device));
-    assert_eq!(rt; store.sync(), Ok(()));
+fn never_fails_at_zero(rt: HostRuntime) {
+    let calls = [
+        (Call::Extend, Ok(0)),
+        (Call::Write(0, 7), Ok(0)),
+        (Call::Read(0), Ok(7)),
+        (Call::Read(1), Err(StoreFault::NoPage)),
+        (Call::Sync, Ok(0)),
+    ];
+    assert_eq!(rt; wrong_in_memory(rt.alloc(), 0, &calls), None);
+}
+
+// The first call that a store over such a one answers otherwise.
+fn wrong_over_memory(alloc: Global, k: u64, calls: &[(Call, Answer)]) -> Option<usize> {
+    first_wrong(&mut store_over_one_failing_at(alloc, k), calls)
+}
+
+#[test]
+fn passes_each_extension_and_sync_once(rt: HostRuntime) {
+    for (call, first, second) in [(Call::Extend, 0, 1), (Call::Sync, 0, 0)] {
+        let calls = [
+            (call, Ok(first)),
+            (call, Err(StoreFault::Device)),
+            (call, Ok(second)),
+        ];
+        assert_eq!(rt; wrong_over_memory(rt.alloc(), 2, &calls), None);
+    }
     fail_once(&mut store_failing_at(rt.alloc(), 1));
-    Ok(())
 }
 
 #[test]
-fn passes_each_read_and_write_once(rt: HostRuntime) -> Result<(), Fail> {
-    let mut store = store_over_one_failing_at(rt.alloc(), 3);
-    assert_eq!(rt; store.extend(), Ok(0));
-    assert!(rt; store.read_page(0) == Ok([0; 4096]));
-    assert!(rt; store.read_page(0) == Err(StoreFault::Device));
-    assert!(rt; store.read_page(0) == Ok([0; 4096]));
-    let mut store = store_over_one_failing_at(rt.alloc(), 3);
-    assert_eq!(rt; store.extend(), Ok(0));
-    assert_eq!(rt; store.write_page(0, &[7; 4096]), Ok(()));
-    assert_eq!(rt; store.write_page(0, &[8; 4096]), Err(StoreFault::Device));
-    assert!(rt; store.read_page(0) == Ok([7; 4096]));
-    Ok(())
+fn passes_each_read_and_write_once(rt: HostRuntime) {
+    for (call, failing, byte) in [
+        (Call::Read(0), Call::Read(0), 0),
+        (Call::Write(0, 7), Call::Write(0, 8), 7),
+    ] {
+        let calls = [
+            (Call::Extend, Ok(0)),
+            (call, Ok(0)),
+            (failing, Err(StoreFault::Device)),
+            (Call::Read(0), Ok(byte)),
+        ];
+        assert_eq!(rt; wrong_over_memory(rt.alloc(), 3, &calls), None);
+    }
 }
 
 // What is put is what is fetched, cached or not.
@@ -153,61 +166,102 @@ fn three_pages<S: PageStore>(alloc: Global, store: S) -> Result<Pager<S>, StoreF
     Ok(pager)
 }
 
-#[test]
-fn fetches_the_page_last_put(rt: HostRuntime) -> Result<(), Fail> {
-    let mut pager = three_pages(rt.alloc(), store_failing_at(rt.alloc(), 0))?;
-    assert_eq!(rt; pager.pages(), 3);
-    assert!(rt; pager.fetch(1)? == [0; 4096]);
-    assert!(rt; pager.fetch(2)? == [0; 4096]);
-    pager.put(1, &[7; 4096])?;
-    assert!(rt; pager.fetch(1)? == [7; 4096]);
-    assert!(rt; put_and_fetch(&mut pager, 1, &[8; 4096])? == [8; 4096]);
-    assert!(rt; pager.fetch(3) == Err(StoreFault::NoPage));
-    pager.sync()?;
-    let mut store = pager.into_store();
-    assert!(rt; store.read_page(1) == Ok([8; 4096]));
-    Ok(())
+type MemPager = Pager<FaultyStore<MemStore>>;
+
+// Such a pager, over a store in memory that fails at its k-th call.
+fn three_in_memory(alloc: Global, k: u64) -> Result<MemPager, StoreFault> {
+    three_pages(alloc, store_failing_at(alloc, k))
+}
+
+// The byte that the page is full of which is put and fetched.
+fn put_in_memory(alloc: Global) -> Answer {
+    let mut pager = three_pages(alloc, store_failing_at(alloc, 0))?;
+    Ok(byte_of(&put_and_fetch(&mut pager, 1, &[8; 4096])?))
+}
+
+// What a pager of three pages of zeros fetches of a page, before another one was put in its place and after that.
+fn fetches(pager: &mut MemPager) -> [Answer; 5] {
+    [
+        fetched(pager, 1),
+        fetched(pager, 2),
+        pager.put(1, &[7; 4096]).map(|()| 0),
+        fetched(pager, 1),
+        fetched(pager, 3),
+    ]
+}
+
+fn fetched(pager: &mut MemPager, n: u32) -> Answer {
+    Ok(byte_of(&pager.fetch(n)?))
 }
 
 #[test]
-fn notes_region_pages_in_order(rt: HostRuntime) -> Result<(), Fail> {
-    let mut pager = three_pages(rt.alloc(), MemStore::new(rt.alloc()))?;
+fn fetches_the_page_last_put(rt: HostRuntime) -> Result<(), Fail> {
+    assert_eq!(rt; put_in_memory(rt.alloc()), Ok(8));
+    let mut pager = three_in_memory(rt.alloc(), 0)?;
+    let told = (pager.pages(), fetches(&mut pager), pager.sync());
+    let fetched = [Ok(0), Ok(0), Ok(0), Ok(7), Err(StoreFault::NoPage)];
+    assert_eq!(rt; told, (3, fetched, Ok(())));
+    let wrong = first_wrong(&mut pager.into_store(), &[(Call::Read(1), Ok(7))]);
+    assert_eq!(rt; wrong, None);
+    Ok(())
+}
+
+// Whether the pages of regions that are fetched are noted, and no others.
+fn notes_pages(pager: &mut MemPager) -> Result<bool, StoreFault> {
     pager.fetch_region(1)?;
     pager.fetch_region(2)?;
     pager.fetch(0)?;
     pager.fetch_region(1)?;
-    assert!(rt; pager.trace() == [1, 2, 1].as_slice());
+    let are_noted = pager.trace() == [1, 2, 1].as_slice();
     pager.begin();
-    assert!(rt; pager.trace().is_empty());
-    Ok(())
+    Ok(are_noted && pager.trace().is_empty())
 }
 
 #[test]
-fn brings_a_cached_page_without_a_read(rt: HostRuntime) -> Result<(), Fail> {
-    // Three extensions and one read: the sync is the fifth call.
-    let mut pager = three_pages(rt.alloc(), store_failing_at(rt.alloc(), 5))?;
+fn notes_region_pages_in_order(rt: HostRuntime) -> Result<(), Fail> {
+    let mut pager = three_in_memory(rt.alloc(), 0)?;
+    assert_eq!(rt; notes_pages(&mut pager), Ok(true));
+    Ok(())
+}
+
+// What a sync answers once a page is brought twice, and whether the page is held then, and was noted once.
+fn brings_twice(pager: &mut MemPager) -> Result<(bool, Result<(), StoreFault>), StoreFault> {
     pager.bring(1)?;
     pager.bring_region(1)?;
-    assert_eq!(rt; pager.sync(), Err(StoreFault::Device));
-    assert!(rt; *pager.cached(1) == [0; 4096]);
-    assert!(rt; pager.trace() == [1].as_slice());
+    let synced = pager.sync();
+    let is_right = *pager.cached(1) == [0; 4096] && pager.trace() == [1].as_slice();
+    Ok((is_right, synced))
+}
+
+// Three extensions and one read: the sync is the fifth call.
+#[test]
+fn brings_a_cached_page_without_a_read(rt: HostRuntime) -> Result<(), Fail> {
+    let mut pager = three_in_memory(rt.alloc(), 5)?;
+    let told = brings_twice(&mut pager);
+    assert_eq!(rt; told, Ok((true, Err(StoreFault::Device))));
     Ok(())
+}
+
+// Whether a region's page is noted that memory is refused for, or isn't; and brought, in this call or in the next.
+fn brings_at_last(pager: &mut MemPager) -> Result<bool, StoreFault> {
+    pager.bring_region(0)?;
+    pager.begin();
+    let is_brought = match pager.bring_region(1) {
+        Ok(()) => pager.trace() == [1].as_slice(),
+        Err(fault) => {
+            let is_noted = pager.trace() == [1].as_slice();
+            pager.bring_region(1)?;
+            fault == StoreFault::Memory && is_noted && pager.trace() == [1, 1].as_slice()
+        }
+    };
+    Ok(is_brought && pager.fetch(1)? == [0; 4096])
 }
 
 // The trace has room from the call before, so what memory is refused for is the page. `tests/store_allocations.sh` makes each
 // allocation of this test fail in turn.
 #[test]
 fn notes_a_page_that_memory_is_refused_for(rt: HostRuntime) -> Result<(), Fail> {
-    let mut pager = three_pages(rt.alloc(), MemStore::new(rt.alloc()))?;
-    pager.bring_region(0)?;
-    pager.begin();
-    let brought = pager.bring_region(1);
-    assert!(rt; pager.trace() == [1].as_slice());
-    if brought.is_err() {
-        assert_eq!(rt; brought, Err(StoreFault::Memory));
-        assert_eq!(rt; pager.bring_region(1), Ok(()));
-        assert!(rt; pager.trace() == [1, 1].as_slice());
-    }
-    assert!(rt; pager.fetch(1)? == [0; 4096]);
+    let mut pager = three_in_memory(rt.alloc(), 0)?;
+    assert!(rt; brings_at_last(&mut pager)?);
     Ok(())
 }

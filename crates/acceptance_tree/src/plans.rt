@@ -1,5 +1,5 @@
 // Plans of queries that no statement asks.
-use crate::trees::plane;
+use crate::samples::plane;
 use std::test::Fail;
 use ub_plan::{Kind, plan};
 use ub_query::{Item, Items, Query, SortKey};

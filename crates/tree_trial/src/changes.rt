@@ -1,14 +1,13 @@
 use crate::model::{Model, ORIGIN};
 use crate::numbers::Numbers;
-use crate::plane::{address, created, put};
+use crate::plane::{Store, address, created, put};
 use crate::trouble::Trouble;
 use std::alloc::Global;
-use ub_store::{MemStore, PageStore};
 use ub_table::{Key, Row};
 use ub_tree::{Region, Tree, TreeFault};
 
 /// What some changes leave.
-#[derive(Clone, Copy)]
+#[derive(Drop)]
 pub struct Left {
     /// How many rows there are.
     pub rows: u32,
@@ -33,7 +32,7 @@ fn are_there(model: &Model, first: &Key, rows: &[Row]) -> bool {
 }
 
 /// Whether the tree has the regions and the rows of the model.
-pub fn is_like<S: PageStore>(tree: &mut Tree<S>, model: &Model) -> Result<bool, TreeFault> {
+pub fn is_like(tree: &mut Tree<Store>, model: &Model) -> Result<bool, TreeFault> {
     let mut page = tree.empty_region();
     let mut after: Option<Region> = None;
     let mut first = Some(ORIGIN);
@@ -52,12 +51,7 @@ pub fn is_like<S: PageStore>(tree: &mut Tree<S>, model: &Model) -> Result<bool, 
 }
 
 // Puts a row in, once more where memory was refused, if the tree is as it was then; else it answers Full.
-fn put_again<S: PageStore>(
-    tree: &mut Tree<S>,
-    model: &Model,
-    x: u32,
-    y: u32,
-) -> Result<u32, TreeFault> {
+fn put_again(tree: &mut Tree<Store>, model: &Model, x: u32, y: u32) -> Result<u32, TreeFault> {
     match put(tree, x, y) {
         Err(TreeFault::Memory) if is_like(tree, model)? => put(tree, x, y),
         Err(TreeFault::Memory) => Err(TreeFault::Full),
@@ -66,11 +60,7 @@ fn put_again<S: PageStore>(
 }
 
 // Takes a row out, once more where memory was refused, if the tree is as it was then; else it answers Full.
-fn remove_again<S: PageStore>(
-    tree: &mut Tree<S>,
-    model: &Model,
-    key: &Key,
-) -> Result<bool, TreeFault> {
+fn remove_again(tree: &mut Tree<Store>, model: &Model, key: &Key) -> Result<bool, TreeFault> {
     match tree.remove(*key) {
         Err(TreeFault::Memory) if is_like(tree, model)? => tree.remove(*key),
         Err(TreeFault::Memory) => Err(TreeFault::Full),
@@ -79,9 +69,9 @@ fn remove_again<S: PageStore>(
 }
 
 /// Puts a row in at random, or takes one out, in the tree and in the model. Gives whether they answered alike.
-pub fn change<S: PageStore>(
+pub fn change(
     alloc: Global,
-    tree: &mut Tree<S>,
+    tree: &mut Tree<Store>,
     model: &mut Model,
     numbers: &mut Numbers,
 ) -> Result<bool, TreeFault> {
@@ -111,33 +101,38 @@ fn with_rows(rows: &[Row], sum: u128) -> u128 {
     sum
 }
 
-// The checksum of all rows, region after region.
-fn checksum(tree: &mut Tree<MemStore>) -> Result<u128, Trouble> {
+/// How many rows the regions have, one region after the other, and a checksum of their addresses and numbers.
+pub fn rows_read(tree: &mut Tree<Store>) -> Result<(usize, u128), TreeFault> {
     let mut page = tree.empty_region();
     let mut after: Option<Region> = None;
+    let mut count = 0usize;
     let mut sum = 0u128;
     for _ in 0..tree.regions() {
-        let region = tree.seek(0, after.as_ref())?.ok_or(Trouble::Wrong)?;
+        let Some(region) = tree.seek(0, after.as_ref())? else {
+            break;
+        };
         tree.read_region(&region, &mut page)?;
+        count = count.wrapping_add(page.len());
         sum = with_rows(page.rows(), sum);
         after = Some(region);
     }
-    Ok(sum)
+    Ok((count, sum))
 }
 
 /// So many changes at random of a table with so many rows on a page, the tree compared with the definition after each one.
 pub fn changed_at_random(alloc: Global, page_rows: u32, changes: u32) -> Result<Left, Trouble> {
     let mut model = Model::new(alloc, page_rows)?;
     let mut numbers = Numbers::new(u64::from(page_rows));
-    let mut tree = created(alloc, page_rows)?;
+    let mut tree = created(alloc, page_rows, 0)?;
     for _ in 0..changes {
         if !change(alloc, &mut tree, &mut model, &mut numbers)? || !is_like(&mut tree, &model)? {
             return Err(Trouble::Wrong);
         }
     }
+    let (_, checksum) = rows_read(&mut tree)?;
     Ok(Left {
         rows: tree.rows(),
         regions: tree.regions(),
-        checksum: checksum(&mut tree)?,
+        checksum,
     })
 }

@@ -1,10 +1,9 @@
 use crate::changes::{change, is_like};
 use crate::model::Model;
 use crate::numbers::Numbers;
-use crate::plane::{plane, put};
+use crate::plane::{Store, created, put};
 use crate::trouble::Trouble;
 use std::alloc::Global;
-use ub_store::{FaultyStore, MemStore};
 use ub_tree::{Tree, TreeFault};
 
 /// Before which call of the store a run of no failing call must come.
@@ -13,10 +12,8 @@ const MOST_CALLS: u64 = 200;
 /// How many changes are made in each run.
 const CHANGES: u32 = 12;
 
-type FaultyTree = Tree<FaultyStore<MemStore>>;
-
 // Whether a tree whose store failed in a change counts as before, and does no more unless only a read failed.
-fn is_left(tree: &mut FaultyTree, model: &Model, regions: u32) -> Result<bool, TreeFault> {
+fn is_left(tree: &mut Tree<Store>, model: &Model, regions: u32) -> Result<bool, TreeFault> {
     if tree.regions() != regions || tree.rows() as usize != model.keys().len() {
         return Ok(false);
     }
@@ -31,11 +28,10 @@ fn is_left(tree: &mut FaultyTree, model: &Model, regions: u32) -> Result<bool, T
 
 // Whether a tree over a store whose k-th call fails is left as it should be. `None` where no call failed.
 fn fails_well(alloc: Global, k: u64) -> Result<Option<bool>, Trouble> {
-    let store = FaultyStore::new(MemStore::new(alloc), k);
-    let mut tree = match Tree::create(alloc, store, &plane(2)?) {
+    let mut tree = match created(alloc, 2, k) {
         Ok(tree) => tree,
-        Err(refused) if refused.fault == TreeFault::Memory => return Err(refused.fault.into()),
-        Err(_) => return Ok(Some(true)),
+        Err(TreeFault::Store(_)) => return Ok(Some(true)),
+        Err(fault) => return Err(fault.into()),
     };
     let mut model = Model::new(alloc, 2)?;
     let mut numbers = Numbers::new(7);

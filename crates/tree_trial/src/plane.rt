@@ -1,11 +1,13 @@
-use crate::trouble::Trouble;
 use std::alloc::Global;
-use ub_store::{MemStore, PageStore};
+use ub_store::{FaultyStore, MemStore};
 use ub_table::{Name, PageFault, Schema};
 use ub_tree::{Tree, TreeFault};
 
-/// Two dimensions, no measure, so many rows on a page.
-pub fn plane(page_rows: u32) -> Result<Schema, PageFault> {
+/// A store in memory that fails at one call, or at none.
+pub type Store = FaultyStore<MemStore>;
+
+// Two dimensions, no measure, so many rows on a page.
+fn plane(page_rows: u32) -> Result<Schema, PageFault> {
     let columns = [Name::new(b"x")?, Name::new(b"y")?];
     Schema::new(Name::new(b"t")?, &columns, 2, page_rows)
 }
@@ -17,16 +19,15 @@ pub fn address(x: u32, y: u32) -> u128 {
     (y & 1) | ((x & 1) << 1) | ((y & 2) << 1) | ((x & 2) << 2) | ((y & 4) << 2) | ((x & 4) << 3)
 }
 
-/// An empty table in memory, with so many rows on a page.
-pub fn created(alloc: Global, page_rows: u32) -> Result<Tree<MemStore>, Trouble> {
-    match Tree::create(alloc, MemStore::new(alloc), &plane(page_rows)?) {
-        Ok(tree) => Ok(tree),
-        Err(refused) => Err(refused.fault.into()),
-    }
+/// An empty table with so many rows on a page, in a store that fails at its k-th call.
+pub fn created(alloc: Global, page_rows: u32, k: u64) -> Result<Tree<Store>, TreeFault> {
+    let schema = plane(page_rows).map_err(|fault| TreeFault::Page { page: 0, fault })?;
+    let store = FaultyStore::new(MemStore::new(alloc), k);
+    Tree::create(alloc, store, &schema).map_err(|refused| refused.fault)
 }
 
 /// Puts a row in, if the table is one of two dimensions and no measure; else it answers Full.
-pub fn put<S: PageStore>(tree: &mut Tree<S>, x: u32, y: u32) -> Result<u32, TreeFault> {
+pub fn put(tree: &mut Tree<Store>, x: u32, y: u32) -> Result<u32, TreeFault> {
     if tree.schema().dims() != 2 || tree.schema().measures() != 0 {
         return Err(TreeFault::Full);
     }

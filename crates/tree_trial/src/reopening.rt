@@ -1,16 +1,16 @@
-use crate::plane::{created, put};
+use crate::changes::rows_read;
+use crate::plane::{Store, created, put};
 use crate::trouble::Trouble;
 use std::alloc::Global;
-use ub_store::MemStore;
-use ub_tree::{Region, Tree};
+use ub_tree::Tree;
 
 // Rows that come in order fill a page each time that one more comes: n rows, two on a page, make n / 2 regions. A page of the
 // directory has 170 regions.
 const TABLES: [(u32, u32); 5] = [(2, 1), (340, 170), (342, 171), (680, 340), (682, 341)];
 
 // A tree with so many rows at points on a line, two on a page, closed and opened again.
-fn reopened(alloc: Global, rows: u32) -> Result<Tree<MemStore>, Trouble> {
-    let mut tree = created(alloc, 2)?;
+fn reopened(alloc: Global, rows: u32) -> Result<Tree<Store>, Trouble> {
+    let mut tree = created(alloc, 2, 0)?;
     for x in 0..rows {
         put(&mut tree, x, 0)?;
     }
@@ -24,26 +24,12 @@ fn reopened(alloc: Global, rows: u32) -> Result<Tree<MemStore>, Trouble> {
     }
 }
 
-// How many rows the tree's regions have.
-fn rows_read(tree: &mut Tree<MemStore>) -> Result<usize, Trouble> {
-    let mut page = tree.empty_region();
-    let mut after: Option<Region> = None;
-    let mut read = 0usize;
-    for _ in 0..tree.regions() {
-        let region = tree.seek(0, after.as_ref())?.ok_or(Trouble::Wrong)?;
-        tree.read_region(&region, &mut page)?;
-        read = read.wrapping_add(page.len());
-        after = Some(region);
-    }
-    Ok(read)
-}
-
 // Whether a table of so many rows has so many regions when it is opened again, all its rows, and the next number.
 fn is_reopened(alloc: Global, rows: u32, regions: u32) -> Result<bool, Trouble> {
     let mut tree = reopened(alloc, rows)?;
     Ok(
         (tree.rows(), tree.regions()) == (rows, regions)
-            && rows_read(&mut tree)? == rows as usize
+            && rows_read(&mut tree)?.0 == rows as usize
             && put(&mut tree, 1, 1)? == rows.wrapping_add(1),
     )
 }

@@ -1,11 +1,10 @@
 use std::alloc::AllocError;
 use std::io;
 use thiserror::Error;
-use ub_table::PageFault;
 use ub_tree::TreeFault;
 
 /// Why a trial ended early.
-#[derive(Clone, Copy, PartialEq, Eq, Debug, Error)]
+#[derive(Debug, Drop, Error)]
 pub enum Trouble {
     /// The tree isn't as the definition says, or isn't left as it should be.
     #[error("Wrong")]
@@ -13,9 +12,6 @@ pub enum Trouble {
     /// The tree refused what it should have done.
     #[error("{0}")]
     Tree(TreeFault),
-    /// The schema was refused.
-    #[error("{0}")]
-    Schema(PageFault),
     /// A line wasn't written.
     #[error("Output")]
     Output,
@@ -30,12 +26,6 @@ impl From<TreeFault> for Trouble {
 impl From<AllocError> for Trouble {
     fn from(_fault: AllocError) -> Trouble {
         Trouble::Tree(TreeFault::Memory)
-    }
-}
-
-impl From<PageFault> for Trouble {
-    fn from(fault: PageFault) -> Trouble {
-        Trouble::Schema(fault)
     }
 }
 

@@ -1,0 +1,44 @@
+// Calls of a store, and what they answer, as data.
+use ub_store::{Page, PageStore, StoreFault};
+
+// A call of a store. A page that is written is full of one byte.
+#[derive(Clone, Copy)]
+pub(crate) enum Call {
+    Pages,
+    Extend,
+    Read(u32),
+    Write(u32, u8),
+    Sync,
+}
+
+// How many pages there are, the number of the page that was added, the byte that the page is full of, or 0.
+pub(crate) type Answer = Result<u32, StoreFault>;
+
+// The byte that a page is full of; 256 where it has two.
+pub(crate) fn byte_of(page: &Page) -> u32 {
+    if *page == [page[0]; 4096] {
+        u32::from(page[0])
+    } else {
+        256
+    }
+}
+
+fn answer<S: PageStore>(store: &mut S, call: Call) -> Answer {
+    match call {
+        Call::Pages => Ok(store.pages()),
+        Call::Extend => store.extend(),
+        Call::Read(n) => Ok(byte_of(&store.read_page(n)?)),
+        Call::Write(n, byte) => store.write_page(n, &[byte; 4096]).map(|()| 0),
+        Call::Sync => store.sync().map(|()| 0),
+    }
+}
+
+// The first of the calls that is answered otherwise, if there is one.
+pub(crate) fn first_wrong<S: PageStore>(store: &mut S, calls: &[(Call, Answer)]) -> Option<usize> {
+    for (i, (call, wanted)) in calls.iter().enumerate() {
+        if answer(store, *call) != *wanted {
+            return Some(i);
+        }
+    }
+    None
+}
