@@ -84,12 +84,10 @@ fn place(n: u32) -> u64
     PAGE_BYTES * u64::from(n)
 }
 
-// Reads the page at its place.
-fn read_at<F: Read + Seek>(file: &mut F, n: u32) -> io::Result<Page> {
+// Reads the page at its place into the one that is lent.
+fn read_at<F: Read + Seek>(file: &mut F, n: u32, page: &mut Page) -> io::Result<()> {
     file.seek(SeekFrom::Start(place(n)))?;
-    let mut page = [0u8; 4096];
-    file.read_exact(&mut page)?;
-    Ok(page)
+    file.read_exact(page)
 }
 
 // Writes a page at its place.
@@ -140,9 +138,9 @@ impl<F: Read + Write + Seek + OpenFile + Drop> Medium for HostFile<F> {
         self.length
     }
 
-    fn read_page(&mut self, n: u32) -> Result<Page, StoreFault> {
-        match read_at(&mut self.file, n) {
-            Ok(page) => Ok(page),
+    fn read_into(&mut self, n: u32, page: &mut Page) -> Result<(), StoreFault> {
+        match read_at(&mut self.file, n, page) {
+            Ok(()) => Ok(()),
             Err(_) => {
                 self.reads = self.reads.saturating_add(1);
                 Err(StoreFault::Device)

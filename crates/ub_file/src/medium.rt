@@ -1,4 +1,4 @@
-ghost use Rattle.std.specs.Prelude.{◌≡◌, ◌<◌, ◌⊎◌, ℕ, Bool, IsTrue, IfOk, IfErr, OnOk, IsErrOf};
+ghost use Rattle.std.specs.Prelude.{◌≡◌, ◌<◌, ◌⊎◌, ℕ, Bool, IsTrue, IfErr, OnOk, IsErrOf};
 ghost use Rattle.ub_store.specs.Facts.{StoreFacts, page_count, IsPage, Reads, WritesAt, Extends, Syncs};
 ghost use Rattle.ub_file.specs.Medium.{bytes, Empties};
 
@@ -26,11 +26,11 @@ pub trait Medium: Drop {
         ensures bytes { result ≡ bytes (facts self.now) (rest self.now) }
         ensures part { rest self.now < 4096 };
 
-    /// The page of this number, which there is. Device comes where the medium failed in this call; nothing changes but, then,
-    /// the count of failed reads.
-    fn read_page(&mut self, n: u32) -> Result<Page, StoreFault>
+    /// Reads the page of this number, which there is, into the one that is lent. Device comes where the medium failed in this
+    /// call: then nothing of it changes but the count of failed reads, and the page that is lent may hold any bytes.
+    fn read_into(&mut self, n: u32, page: &mut Page) -> Result<(), StoreFault>
         requires there { n < page_count (facts self.old) }
-        ensures page { IfOk result (λ page. IsPage (facts self.old) n page) }
+        ensures page { OnOk result (IsPage (facts self.old) n page.new) }
         ensures faults { IfErr result (λ fault. fault ≡ StoreFault.Device) }
         ensures effect { Reads (facts self.old) (facts self.new) result }
         ensures rest { rest self.new ≡ rest self.old };

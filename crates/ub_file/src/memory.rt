@@ -83,12 +83,13 @@ impl Medium for MemMedium {
         self.pages.len() as u64 * PAGE_BYTES + u64::from(self.rest)
     }
 
-    fn read_page(&mut self, n: u32) -> Result<Page, StoreFault> {
+    fn read_into(&mut self, n: u32, page: &mut Page) -> Result<(), StoreFault> {
         if self.is_due() {
             self.reads = self.reads.saturating_add(1);
             return Err(StoreFault::Device);
         }
-        Ok(self.pages[n as usize])
+        *page = self.pages[n as usize];
+        Ok(())
     }
 
     fn write_page(&mut self, n: u32, page: &Page) -> Result<(), StoreFault> {

@@ -98,9 +98,10 @@ impl<M: Medium> PageStore for FileStore<M> {
         self.count
     }
 
-    /// The page of this number. NoPage comes exactly where there is none, and nothing changes then.
-    fn read_page(&mut self, n: u32) -> Result<Page, StoreFault>
-        ensures page { IfOk result (λ page. IsPage (M.facts self.old) n page) }
+    /// Reads the page of this number into the one that is lent. NoPage comes exactly where there is none, and nothing of the
+    /// store changes then.
+    fn read_into(&mut self, n: u32, page: &mut Page) -> Result<(), StoreFault>
+        ensures page { OnOk result (IsPage (M.facts self.old) n page.new) }
         ensures missing { IsErrOf result StoreFault.NoPage ↔ (page_count (M.facts self.old) ≤ n) }
         ensures faults { IfErr result (λ fault.
             (fault ≡ StoreFault.Device) ⊎ (fault ≡ StoreFault.NoPage)) }
@@ -110,7 +111,21 @@ impl<M: Medium> PageStore for FileStore<M> {
         if n >= self.count {
             return Err(StoreFault::NoPage);
         }
-        self.medium.read_page(n)
+        self.medium.read_into(n, page)
+    }
+
+    /// The page of this number. NoPage comes exactly where there is none, and nothing changes then.
+    fn read_page(&mut self, n: u32) -> Result<Page, StoreFault>
+        ensures page { IfOk result (λ page. IsPage (M.facts self.old) n page) }
+        ensures missing { IsErrOf result StoreFault.NoPage ↔ (page_count (M.facts self.old) ≤ n) }
+        ensures faults { IfErr result (λ fault.
+            (fault ≡ StoreFault.Device) ⊎ (fault ≡ StoreFault.NoPage)) }
+        ensures kept { page_count (M.facts self.old) ≤ n → self.new ≡ self.old }
+        ensures effect { Reads (M.facts self.old) (M.facts self.new) result }
+    {
+        let mut page = [0; 4096];
+        self.read_into(n, &mut page)?;
+        Ok(page)
     }
 
     /// Puts a page in the place of that of this number. NoPage comes exactly where there is none, and nothing changes then.

@@ -9,10 +9,12 @@ use std::marker::Model;
 use std::num::NonZeroUsize;
 
 /// The pages last used, under their numbers. Each stands in a box of its own, so that no page moves where the order changes.
+/// The box of a page that is let go is the one that the next page is read into.
 #[derive(Drop)]
 pub struct Cache {
     alloc: Global,
     pages: LruCache<u32, Box<Page>>,
+    spare: Option<Box<Page>>,
 }
 
 impl Model for Cache {
@@ -24,13 +26,22 @@ impl Model for Cache {
     ghost view = { λ c. pages_of c.pages.entries };
 }
 
+// A page of zeros in a box. It is a function of its own, since the room of a page is cleared where it is entered.
+fn new_page(alloc: Global) -> Result<Box<Page>, AllocError> {
+    Ok(Box::new(alloc, [0; 4096])?)
+}
+
 impl Cache {
     /// A cache that holds no page yet, and this many at most.
     pub fn new(alloc: Global, capacity: NonZeroUsize) -> Result<Cache, AllocError>
         ensures { IfOk result (λ cache. cache ≡ []) }
     {
         let pages = LruCache::new(alloc, capacity)?;
-        Ok(Cache { alloc, pages })
+        Ok(Cache {
+            alloc,
+            pages,
+            spare: None,
+        })
     }
 
     /// Whether a page of this number is held, which is then the one used last.
@@ -51,14 +62,30 @@ impl Cache {
         }
     }
 
-    /// Holds this page, in the place of the one used first where there are too many.
-    pub fn hold(&mut self, n: u32, page: Page) -> Result<(), AllocError>
-        ensures held { OnOk result (page_at self.new n ≡ Some page) }
+    /// A page to be read into, in which any bytes may stand: the one that was let go last, or a new one.
+    pub fn take_spare(&mut self) -> Result<Box<Page>, AllocError>
+        ensures { self.new ≡ self.old }
+    {
+        match self.spare.take() {
+            Some(page) => Ok(page),
+            None => new_page(self.alloc),
+        }
+    }
+
+    /// Keeps a page that isn't held, to be read into next.
+    pub fn keep_spare(&mut self, page: Box<Page>)
+        ensures { self.new ≡ self.old }
+    {
+        self.spare = Some(page);
+    }
+
+    /// Holds this page, in the place of the one used first where there are too many, which is then spare.
+    pub fn hold(&mut self, n: u32, page: Box<Page>) -> Result<(), AllocError>
+        ensures held { OnOk result (page_at self.new n ≡ Some page.value) }
         ensures others { NoneMoreBut n self.old self.new }
         ensures refused { OnErr result (self.new ≡ self.old) }
     {
-        let page = Box::new(self.alloc, page)?;
-        let _ = self.pages.put(n, page)?;
+        self.spare = self.pages.push(n, page)?.map(|(_, let_go)| let_go);
         Ok(())
     }
 

@@ -78,10 +78,10 @@ impl<S: PageStore> PageStore for FaultyStore<S> {
         self.inner.pages()
     }
 
-    /// The page of this number, as the store within gives it, or Device where the failure is due.
-    fn read_page(&mut self, n: u32) -> Result<Page, StoreFault>
+    /// Reads the page of this number, as the store within does, or answers Device where the failure is due.
+    fn read_into(&mut self, n: u32, page: &mut Page) -> Result<(), StoreFault>
         ensures within { Passes S.facts Reads (read_failed self.old) self.old self.new result }
-        ensures page { IfOk result (λ page. IsPage (faulty_facts S.facts self.old) n page) }
+        ensures page { OnOk result (IsPage (faulty_facts S.facts self.old) n page.new) }
         ensures there { OnOk result (n < page_count (faulty_facts S.facts self.old)) }
         ensures missing { IsErrOf result StoreFault.NoPage
             → page_count (faulty_facts S.facts self.old) ≤ n }
@@ -94,7 +94,24 @@ impl<S: PageStore> PageStore for FaultyStore<S> {
             self.count_failed_read();
             return Err(StoreFault::Device);
         }
-        self.inner.read_page(n)
+        self.inner.read_into(n, page)
+    }
+
+    /// The page of this number, as the store within gives it, or Device where the failure is due.
+    fn read_page(&mut self, n: u32) -> Result<Page, StoreFault>
+        ensures within { Passes S.facts Reads (read_failed self.old) self.old self.new result }
+        ensures page { IfOk result (λ page. IsPage (faulty_facts S.facts self.old) n page) }
+        ensures there { OnOk result (n < page_count (faulty_facts S.facts self.old)) }
+        ensures missing { IsErrOf result StoreFault.NoPage
+            → page_count (faulty_facts S.facts self.old) ≤ n }
+        ensures memory { IsErrOf result StoreFault.Memory → IsTrue S.reads_need_memory }
+        ensures no_size { ¬ (IsErrOf result StoreFault.BadSize) }
+        ensures effect { Reads (faulty_facts S.facts self.old)
+            (faulty_facts S.facts self.new) result }
+    {
+        let mut page = [0; 4096];
+        self.read_into(n, &mut page)?;
+        Ok(page)
     }
 
     /// Writes the page, as the store within does, or answers Device where the failure is due.

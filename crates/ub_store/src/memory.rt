@@ -1,4 +1,4 @@
-ghost use Rattle.std.specs.Prelude.{◌≡◌, ◌<◌, ◌≤◌, ◌++◌, ◌∷◌, ◌↔◌, ◌⊎◌, [], Ok, Err, length, slice_get, slice_set, IfOk, IfErr, OnOk, OnErr, IsOk, IsErrOf};
+ghost use Rattle.std.specs.Prelude.{◌≡◌, ◌<◌, ◌≤◌, ◌++◌, ◌∷◌, ◌↔◌, ◌⊎◌, [], Ok, Err, Some, None, length, slice_get, slice_set, IfOk, IfErr, OnOk, OnErr, IsOk, IsErrOf};
 ghost use Rattle.std.specs.Option.{ok_or};
 ghost use Rattle.ub_store.specs.Facts.{memory_facts, zero_page};
 
@@ -50,15 +50,30 @@ impl PageStore for MemStore {
         self.pages.len() as u32
     }
 
+    /// Reads the page of this number into the one that is lent. NoPage comes where there is none, and no other fault does.
+    fn read_into(&mut self, n: u32, page: &mut Page) -> Result<(), StoreFault>
+        ensures page { OnOk result (slice_get self.old n ≡ Some page.new) }
+        ensures missing { IfErr result (λ fault.
+            (fault ≡ StoreFault.NoPage) × (slice_get self.old n ≡ None)) }
+        ensures kept { self.new ≡ self.old }
+    {
+        match self.pages.get(n as usize) {
+            Some(held) => {
+                *page = *held;
+                Ok(())
+            }
+            None => Err(StoreFault::NoPage),
+        }
+    }
+
     /// The page of this number. NoPage comes where there is none, and no other fault does.
     fn read_page(&mut self, n: u32) -> Result<Page, StoreFault>
         ensures page { result ≡ ok_or (slice_get self.old n) StoreFault.NoPage }
         ensures kept { self.new ≡ self.old }
     {
-        match self.pages.get(n as usize) {
-            Some(page) => Ok(*page),
-            None => Err(StoreFault::NoPage),
-        }
+        let mut page = [0; 4096];
+        self.read_into(n, &mut page)?;
+        Ok(page)
     }
 
     /// Puts a page in the place of that of this number. NoPage comes where there is none, and no other fault does.

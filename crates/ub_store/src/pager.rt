@@ -108,7 +108,13 @@ impl<S: PageStore> Pager<S> {
         if self.cache.touch(n) {
             return Ok(());
         }
-        let page = self.store.read_page(n)?;
+        let Ok(mut page) = self.cache.take_spare() else {
+            return Err(StoreFault::Memory);
+        };
+        if let Err(fault) = self.store.read_into(n, &mut page) {
+            self.cache.keep_spare(page);
+            return Err(fault);
+        }
         match self.cache.hold(n, page) {
             Ok(()) => Ok(()),
             Err(_) => Err(StoreFault::Memory),

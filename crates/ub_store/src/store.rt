@@ -22,8 +22,19 @@ pub trait PageStore: Drop {
     fn pages(&self) -> u32
         ensures { result ≡ page_count (facts self.now) };
 
-    /// The page of this number. NoPage comes where there is none, Device where the store failed in this call, Memory where
-    /// memory was refused. Nothing changes but, at Device, the count of failed reads.
+    /// Reads the page of this number into the one that is lent. NoPage comes where there is none, Device where the store failed
+    /// in this call, Memory where memory was refused. Nothing of the store changes but, at Device, the count of failed reads.
+    /// After a fault the page that is lent may hold any bytes.
+    fn read_into(&mut self, n: u32, page: &mut Page) -> Result<(), StoreFault>
+        ensures page { OnOk result (IsPage (facts self.old) n page.new) }
+        ensures there { OnOk result (n < page_count (facts self.old)) }
+        ensures missing { IsErrOf result StoreFault.NoPage → page_count (facts self.old) ≤ n }
+        ensures memory { IsErrOf result StoreFault.Memory → IsTrue reads_need_memory }
+        ensures no_size { ¬ (IsErrOf result StoreFault.BadSize) }
+        ensures effect { Reads (facts self.old) (facts self.new) result };
+
+    /// The page of this number, by value. The faults are those of `read_into`. Nothing changes but, at Device, the count of
+    /// failed reads.
     fn read_page(&mut self, n: u32) -> Result<Page, StoreFault>
         ensures page { IfOk result (λ page. IsPage (facts self.old) n page) }
         ensures there { OnOk result (n < page_count (facts self.old)) }
