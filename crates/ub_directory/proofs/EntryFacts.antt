@@ -35,11 +35,11 @@ ascending_remove : (entries : List Entry) (i : ℕ) → are_ascending (first_key
 ascending_remove [] zero up = refl
 ascending_remove [] (suc i) up = refl
 ascending_remove (x ∷ entries) zero up = (and_parts _ _ up).1
-ascending_remove (x ∷ []) (suc i) up = by_place i
+ascending_remove (x ∷ []) (suc i) up = by_index i
   where
-    by_place : (i : ℕ) → are_ascending (first_keys (remove (x ∷ []) (suc i))) ≡ true
-    by_place zero = refl
-    by_place (suc i) = refl
+    by_index : (i : ℕ) → are_ascending (first_keys (remove (x ∷ []) (suc i))) ≡ true
+    by_index zero = refl
+    by_index (suc i) = refl
 ascending_remove (x ∷ y ∷ []) (suc zero) up = refl
 ascending_remove (x ∷ y ∷ z ∷ entries) (suc zero) up =
     let first : precedes x.first y.first ≡ true = (and_parts _ _ up).0 in

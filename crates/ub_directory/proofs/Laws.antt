@@ -1,3 +1,3 @@
 -- What the proofs of crates above use.
-pub use Rattle.ub_directory.proofs.PlaceFacts.{IsParted, first_at, place_is, same_key}
+pub use Rattle.ub_directory.proofs.IndexFacts.{IsParted, first_at, index_is, same_key}
 pub use Rattle.ub_directory.proofs.WriteFacts.{chain_kept, kept_after, not_first}

@@ -1,6 +1,6 @@
 pub mod EntryFacts
 pub mod Laws
-pub mod PlaceFacts
+pub mod IndexFacts
 pub mod ReadFacts
 pub mod SeekFacts
 pub mod SpanFacts

@@ -20,7 +20,7 @@ use Rattle.ub_directory.specs.Slots.{ArePlaces, first_keys}
 use Rattle.ub_directory.specs.Chain.{IsChain}
 use Rattle.ub_directory.specs.declared.fault.DirectoryFault.{DirectoryFault}
 use Rattle.ub_directory.specs.declared.fault.DirectoryFault.TheVariants.{Store}
-use Rattle.ub_directory.proofs.PlaceFacts.{same_key}
+use Rattle.ub_directory.proofs.IndexFacts.{same_key}
 use Rattle.ub_store.specs.declared.fault.StoreFault.TheVariants as store
 
 and_true : (b : Bool) → (b && true) ≡ b

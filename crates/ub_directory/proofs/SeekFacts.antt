@@ -6,17 +6,17 @@ use Rattle.std.specs.List.{All, Contains}
 use Rattle.ub_bigmin.specs.Box.{Corners, HoldsAny}
 use Rattle.ub_bigmin.specs.Extremes.{LeastFrom}
 use Rattle.ub_page.specs.declared.directory.Entry.{Entry}
-use Rattle.ub_region.specs.Regions.{place_of}
+use Rattle.ub_region.specs.Regions.{index_holding}
 use Rattle.ub_region.specs.Spans.{address_before, span_end}
 use Rattle.ub_table.proofs.Laws.{before_from, before_parts, before_of, precedes_trans, not_before_self, not_both_before, ascending_get}
 use Rattle.ub_table.specs.Keys.{IsBefore, origin, precedes, are_ascending}
 use Rattle.ub_table.specs.declared.row.Key.{Key}
 use Rattle.ub_directory.specs.Slots.{first_keys, slots_of, Meets, IsLater, First}
 use Rattle.ub_directory.specs.declared.slot.Slot.{Slot}
-use Rattle.ub_directory.proofs.PlaceFacts.{first_at}
+use Rattle.ub_directory.proofs.IndexFacts.{first_at}
 use Rattle.ub_directory.proofs.SpanFacts.{slot_with}
 
--- what a region's place in the list tells of its entry
+-- what a region's index in the list tells of its entry
 pub slot_entry : (last : ℕ) (entries : List Entry) (i : ℕ) (r : Slot) → slice_get (slots_of last entries) i ≡ Some r
     → (entry : Entry) × (slice_get entries i ≡ Some entry) × (entry.first ≡ r.first) × (r.from ≡ r.first.z)
 slot_entry last [] i r at = cc
@@ -82,13 +82,13 @@ ends_from z first next up = by_number next.z next.number (before_of first next u
         from : precedes (record { z = z; number = 0 }) (record { z = y; number = suc n }) ≡ true → z ≤ y
         from t = back t
 
-place_zero : (key first : Key) (firsts : List Key) → are_ascending (first ∷ firsts) ≡ true → precedes key first ≡ true → place_of key (first ∷ firsts) ≡ 0
-place_zero key first [] up t = refl
-place_zero key first (next ∷ firsts) up t = rw (precedes_trans key first next t (and_parts _ _ up).0) refl
+index_zero : (key first : Key) (firsts : List Key) → are_ascending (first ∷ firsts) ≡ true → precedes key first ≡ true → index_holding key (first ∷ firsts) ≡ 0
+index_zero key first [] up t = refl
+index_zero key first (next ∷ firsts) up t = rw (precedes_trans key first next t (and_parts _ _ up).0) refl
 
 -- a span ends at an address or later exactly from the region on that holds the least key of the address
 pub reaches : (last z : ℕ) (entries : List Entry) → are_ascending (first_keys entries) ≡ true → z ≤ last → (i : ℕ) (r : Slot) → slice_get (slots_of last entries) i ≡ Some r
-    → (z ≤ r.to) ↔ (place_of (record { z = z; number = 0 }) (first_keys entries) ≤ i)
+    → (z ≤ r.to) ↔ (index_holding (record { z = z; number = 0 }) (first_keys entries) ≤ i)
 reaches last z [] up le i r at = cc
 reaches last z (e ∷ []) up le zero r at =
     let whole : Slot = slot_with last None e in
@@ -108,25 +108,25 @@ reaches last z (e ∷ next ∷ entries) up le zero r at =
 reaches last z (e ∷ next ∷ entries) up le (suc i) r at =
     let both : (precedes e.first next.first ≡ true) × (are_ascending (first_keys (next ∷ entries)) ≡ true) = and_parts _ _ up in
     let rest_up = both.1 in
-    let more : (z ≤ r.to) ↔ (place_of (record { z = z; number = 0 }) (first_keys (next ∷ entries)) ≤ i) = reaches last z (next ∷ entries) rest_up le i r at in
+    let more : (z ≤ r.to) ↔ (index_holding (record { z = z; number = 0 }) (first_keys (next ∷ entries)) ≤ i) = reaches last z (next ∷ entries) rest_up le i r at in
     elim (cases_Bool (precedes (record { z = z; number = 0 }) next.first)) [
       | inl t ↦
-          let none : place_of (record { z = z; number = 0 }) (first_keys (next ∷ entries)) ≡ 0 =
-          place_zero (record { z = z; number = 0 }) next.first (first_keys entries) rest_up t in
+          let none : index_holding (record { z = z; number = 0 }) (first_keys (next ∷ entries)) ≡ 0 =
+          index_zero (record { z = z; number = 0 }) next.first (first_keys entries) rest_up t in
           let far : z ≤ r.to = more.1 (omega (arith, none)) in
           rw t (λ x. omega arith, λ x. far)
       | inr f ↦ rw f (λ x. let n = more.0 x in omega arith, λ x. more.1 (omega arith))
     ]
 
 -- the region that holds the least key of an address begins at that address or before
-pub begins_by : (z : ℕ) (first : Key) (firsts : List Key) (i : ℕ) (found : Key) → first.z ≤ z → place_of (record { z = z; number = 0 }) (first ∷ firsts) ≡ i
+pub begins_by : (z : ℕ) (first : Key) (firsts : List Key) (i : ℕ) (found : Key) → first.z ≤ z → index_holding (record { z = z; number = 0 }) (first ∷ firsts) ≡ i
     → slice_get (first ∷ firsts) i ≡ Some found → found.z ≤ z
 begins_by z first [] zero found le is at = let same : first ≡ found = cc in let e = ap (λ (k : Key). k.z) same in omega arith
 begins_by z first [] (suc i) found le is at = cc
 begins_by z first (next ∷ firsts) zero found le is at = let same : first ≡ found = cc in let e = ap (λ (k : Key). k.z) same in omega arith
 begins_by z first (next ∷ firsts) (suc i) found le is at = elim (cases_Bool (precedes (record { z = z; number = 0 }) next)) [
   | inl t ↦ let none : 0 ≡ suc i = rw t at is in absurd (omega arith)
-  | inr f ↦ let rest : suc (place_of (record { z = z; number = 0 }) (next ∷ firsts)) ≡ suc i = rw f at is in
+  | inr f ↦ let rest : suc (index_holding (record { z = z; number = 0 }) (next ∷ firsts)) ≡ suc i = rw f at is in
       begins_by z next firsts i found (below f) (omega arith) at
 ]
   where
@@ -197,7 +197,7 @@ module _ (last : ℕ) (entries : List Entry) (up : are_ascending (first_keys ent
   module _ (within : All (λ entry. entry.first.z ≤ last) entries) (after : Option Key) (start : ℕ)
       (later : (i : ℕ) (r : Slot) → slice_get (slots_of last entries) i ≡ Some r → IsLater after r ↔ (start ≤ i)) where
     abbrev found_at : ℕ → Option Slot
-    found_at z = if nat_le z last then slice_get (slots_of last entries) (max start (place_of (record { z = z; number = 0 }) (first_keys entries))) else None
+    found_at z = if nat_le z last then slice_get (slots_of last entries) (max start (index_holding (record { z = z; number = 0 }) (first_keys entries))) else None
 
     pub seek_first : (z : ℕ) → First (λ r. IsLater after r × (z ≤ r.to)) (slots_of last entries) (found_at z)
     seek_first z = elim (cases_lt last z) [
@@ -271,14 +271,14 @@ module _ (last : ℕ) (entries : List Entry) (up : are_ascending (first_keys ent
               let end = m.3 in
               omega arith
 
-          from_origin : (firsts : List Key) (i : ℕ) (found : Key) → slice_get firsts 0 ≡ Some origin → place_of (record { z = z; number = 0 }) firsts ≡ i → slice_get firsts i ≡ Some found → found.z ≤ z
+          from_origin : (firsts : List Key) (i : ℕ) (found : Key) → slice_get firsts 0 ≡ Some origin → index_holding (record { z = z; number = 0 }) firsts ≡ i → slice_get firsts i ≡ Some found → found.z ≤ z
           from_origin [] i found o is at = cc
           from_origin (first ∷ firsts) i found o is at =
               let same : first ≡ origin = cc in
               let none : first.z ≡ 0 = ap (λ (k : Key). k.z) same in
               begins_by z first firsts i found (omega arith) is at
 
-          begun : (n : ℕ) (r : Slot) → slice_get (slots_of last entries) n ≡ Some r → n ≡ max start (place_of (record { z = z; number = 0 }) (first_keys entries)) → r.from ≤ z
+          begun : (n : ℕ) (r : Slot) → slice_get (slots_of last entries) n ≡ Some r → n ≡ max start (index_holding (record { z = z; number = 0 }) (first_keys entries)) → r.from ≤ z
           begun n r at is =
               let there = slot_entry last entries n r at in
               elim (cases_eq start n) [
@@ -290,8 +290,8 @@ module _ (last : ℕ) (entries : List Entry) (up : are_ascending (first_keys ent
                     let le = least.1 in
                     omega arith
                 | inr ne ↦
-                    let place : place_of (record { z = z; number = 0 }) (first_keys entries) ≡ n = omega arith in
-                    let le = from_origin (first_keys entries) n r.first begins place (slot_first last entries n r at) in
+                    let index : index_holding (record { z = z; number = 0 }) (first_keys entries) ≡ n = omega arith in
+                    let le = from_origin (first_keys entries) n r.first begins index (slot_first last entries n r at) in
                     let start_of = there.3 in
                     omega arith
               ]

@@ -24,28 +24,28 @@ slot_found last entries items i to next entry same lt is begins end =
     rw (begins, end) (rw add-one (sym (slot_is last entries i entry at)))
 
 pub no_slot : (last : ℕ) (entries items : List Entry) (i : ℕ) → items ≡ entries → length items ≤ i → None ≡ slice_get (slots_of last entries) i
-no_slot last entries items i same past = by_place entries i (let long = ap length same in omega arith)
+no_slot last entries items i same past = by_index entries i (let long = ap length same in omega arith)
   where
-    by_place : (es : List Entry) (i : ℕ) → length es ≤ i → None ≡ slice_get (slots_of last es) i
-    by_place [] i h = refl
-    by_place (e ∷ es) zero h = absurd (omega arith)
-    by_place (e ∷ es) (suc i) h = by_place es i (omega arith)
+    by_index : (es : List Entry) (i : ℕ) → length es ≤ i → None ≡ slice_get (slots_of last es) i
+    by_index [] i h = refl
+    by_index (e ∷ es) zero h = absurd (omega arith)
+    by_index (e ∷ es) (suc i) h = by_index es i (omega arith)
 
 -- the span of a region ends before the next one begins, where there is one, and else with the last address
 pub end_before_next : (last : ℕ) (entries : List Entry) (i to : ℕ) (next : Key) → slice_get (first_keys entries) i ≡ Some next
     → to ≡ address_before next.z next.number → to ≡ span_end last (first_keys (drop i entries))
-end_before_next last entries i to next at end = end ∙ by_place entries i at
+end_before_next last entries i to next at end = end ∙ by_index entries i at
   where
-    by_place : (es : List Entry) (i : ℕ) → slice_get (first_keys es) i ≡ Some next → address_before next.z next.number ≡ span_end last (first_keys (drop i es))
-    by_place [] i h = cc
-    by_place (e ∷ es) zero h = let same : e.first ≡ next = cc in rw same refl
-    by_place (e ∷ es) (suc i) h = by_place es i h
+    by_index : (es : List Entry) (i : ℕ) → slice_get (first_keys es) i ≡ Some next → address_before next.z next.number ≡ span_end last (first_keys (drop i es))
+    by_index [] i h = cc
+    by_index (e ∷ es) zero h = let same : e.first ≡ next = cc in rw same refl
+    by_index (e ∷ es) (suc i) h = by_index es i h
 
 pub end_at_last : (last : ℕ) (entries : List Entry) (i to : ℕ) → slice_get (first_keys entries) i ≡ None → to ≡ last → to ≡ span_end last (first_keys (drop i entries))
-end_at_last last entries i to past end = end ∙ by_place entries i past
+end_at_last last entries i to past end = end ∙ by_index entries i past
   where
-    by_place : (es : List Entry) (i : ℕ) → slice_get (first_keys es) i ≡ None → last ≡ span_end last (first_keys (drop i es))
-    by_place [] zero h = refl
-    by_place [] (suc i) h = refl
-    by_place (e ∷ es) zero h = cc
-    by_place (e ∷ es) (suc i) h = by_place es i h
+    by_index : (es : List Entry) (i : ℕ) → slice_get (first_keys es) i ≡ None → last ≡ span_end last (first_keys (drop i es))
+    by_index [] zero h = refl
+    by_index [] (suc i) h = refl
+    by_index (e ∷ es) zero h = cc
+    by_index (e ∷ es) (suc i) h = by_index es i h

@@ -2,7 +2,7 @@ ghost use Rattle.std.specs.Prelude.{◌≡◌, ℕ, List, ◌+◌, ◌<◌, ◌�
 ghost use Rattle.std.specs.List.{insert, remove};
 ghost use Rattle.ub_zaddr.specs.Address.{last_address};
 ghost use Rattle.ub_page.specs.Header.{IsHeader};
-ghost use Rattle.ub_region.specs.Regions.{place_of};
+ghost use Rattle.ub_region.specs.Regions.{index_holding};
 ghost use Rattle.ub_store.specs.Facts.{page_count, IsHonest};
 ghost use Rattle.ub_table.specs.Keys.{origin};
 ghost use Rattle.ub_directory.specs.Chain.{AreOwn, HasDirectory};
@@ -142,7 +142,7 @@ impl Directory {
     ) -> Result<Seat, DirectoryFault>
         ensures seat { IfOk result (IsSeat self.now.entries) }
         ensures index { IfOk result (λ seat. seat.index ≡
-            place_of key.now (first_keys self.now.entries)) }
+            index_holding key.now (first_keys self.now.entries)) }
         ensures effect { Searches pager.old pager.new result }
     {
         Ok(self.seat_at(self.places.index_of(key)))

@@ -1,7 +1,7 @@
 ghost use Rattle.std.specs.Prelude.{◌≡◌, ℕ, ◌+◌, ◌-◌, ◌<◌, ◌≤◌, ◌↔◌, max, Some, None, IsTrue, All, Bool, if◌then◌else◌, nat_le, nat_lt, length, slice_get, vec_len, vec_capacity, IsSome, IfSome, OnOk};
 ghost use Rattle.std.specs.List.{insert, remove};
 ghost use Rattle.ub_bigmin.specs.Box.{Corners};
-ghost use Rattle.ub_region.specs.Regions.{place_of};
+ghost use Rattle.ub_region.specs.Regions.{index_holding};
 ghost use Rattle.ub_region.specs.Spans.{address_before};
 ghost use Rattle.ub_table.specs.Keys.{IsBefore, origin, are_ascending};
 ghost use Rattle.ub_directory.specs.Slots.{ArePlaces, first_keys, slots_of, Meets, IsLater, First};
@@ -74,7 +74,7 @@ impl Places {
 
     /// The index of the region that holds a key: the last one that does not begin after it.
     pub fn index_of(&self, key: &Key) -> usize
-        ensures index { result ≡ place_of key.now (first_keys self.now.entries.items) }
+        ensures index { result ≡ index_holding key.now (first_keys self.now.entries.items) }
         ensures within { result < length self.now.entries.items }
     {
         self.count_up_to(key) - 1
@@ -84,7 +84,7 @@ impl Places {
     fn count_up_to(&self, key: &Key) -> usize
         ensures some { 1 ≤ result }
         ensures within { result ≤ length self.now.entries.items }
-        ensures place { result ≡ place_of key.now (first_keys self.now.entries.items) + 1 }
+        ensures index { result ≡ index_holding key.now (first_keys self.now.entries.items) + 1 }
         ensures later { (i : ℕ) (entry : Entry) → slice_get self.now.entries.items i ≡ Some entry
             → IsBefore key.now entry.first ↔ (result ≤ i) }
     {
@@ -166,7 +166,7 @@ impl Places {
     fn reach(&self, z: u128, start: usize) -> Option<Slot>
         ensures { result ≡ (if nat_le z self.now.last then slice_get
             (slots_of self.now.last self.now.entries.items)
-            (max start (place_of (record {
+            (max start (index_holding (record {
               z = z;
               number = 0;
             }) (first_keys self.now.entries.items))) else None) }
@@ -216,99 +216,5 @@ fn end_before(key: &Key) -> u128
         key.z.saturating_sub(1)
     } else {
         key.z
-    }
-}
-
-#[cfg(test)]
-mod tests {
-    use super::*;
-    use std::test::Fail;
-    use ub_zaddr::{Point, Shape};
-
-    // The box between two corners of the plane.
-    fn rectangle(lo: [u32; 2], hi: [u32; 2]) -> Result<ZBox, Fail> {
-        let shape = Shape::new(2)?;
-        let lo = Point::new(shape, &lo)?;
-        let hi = Point::new(shape, &hi)?;
-        let zbox = ZBox::new(shape, &lo, &hi).ok_or("no box")?;
-        Ok(zbox)
-    }
-
-    // Regions of two dimensions from these first keys on, kept on the pages 1, 2 and so on.
-    fn places(rt: &HostRuntime, firsts: &[(u128, u32)]) -> Result<Places, Fail> {
-        let mut entries = Vec::new(rt.alloc());
-        let mut page = 1;
-        for (z, number) in firsts {
-            let first = Key {
-                z: *z,
-                number: *number,
-            };
-            entries.push(Entry { first, page })?;
-            page = page.wrapping_add(1);
-        }
-        let all = Places::new(entries, u128::from(u64::MAX)).ok_or("not in order")?;
-        Ok(all)
-    }
-
-    fn span(region: Option<Slot>) -> Option<(u128, u128)> {
-        region.map(|r| (r.from, r.to))
-    }
-
-    #[test]
-    fn spans_and_places(rt: HostRuntime) -> Result<(), Fail> {
-        let all = places(&rt, &[(0, 0), (10, 0), (13, 0)])?;
-        let last = u128::from(u64::MAX);
-        assert_eq!(rt; span(all.slot_at(0)), Some((0, 9)));
-        assert_eq!(rt; span(all.slot_at(1)), Some((10, 12)));
-        assert_eq!(rt; span(all.slot_at(2)), Some((13, last)));
-        assert_eq!(rt; all.slot_at(3), None);
-        assert_eq!(rt; all.index_of(&Key { z: 13, number: 5 }), 2);
-        assert_eq!(rt; all.index_of(&Key { z: 12, number: 9 }), 1);
-        assert_eq!(rt; span(all.seek(12, None)), Some((10, 12)));
-        assert_eq!(rt; all.seek(last + 1, None), None);
-        Ok(())
-    }
-
-    #[test]
-    fn next_that_meets(rt: HostRuntime) -> Result<(), Fail> {
-        let all = places(&rt, &[(0, 0), (10, 0), (13, 0)])?;
-        let boxes = [rectangle([2, 2], [u32::MAX, u32::MAX])?];
-        let middle = all.next_meeting(&boxes, None).ok_or("no region")?;
-        let end = all
-            .next_meeting(&boxes, Some(middle.first))
-            .ok_or("no region")?;
-        assert_eq!(rt; (middle.from, end.from), (10, 13));
-        assert_eq!(rt; all.next_meeting(&boxes, Some(end.first)), None);
-        assert_eq!(rt; all.next_meeting(&[], None), None);
-        Ok(())
-    }
-
-    #[test]
-    fn regions_that_share_an_address(rt: HostRuntime) -> Result<(), Fail> {
-        let all = places(&rt, &[(0, 0), (63, 3)])?;
-        let boxes = [rectangle([7, 7], [7, 7])?];
-        let left = all.next_meeting(&boxes, None).ok_or("no region")?;
-        let right = all
-            .next_meeting(&boxes, Some(left.first))
-            .ok_or("no region")?;
-        assert_eq!(rt; (left.from, left.to, right.from), (0, 63, 63));
-        assert_eq!(rt; all.next_meeting(&boxes, Some(right.first)), None);
-        Ok(())
-    }
-
-    #[test]
-    fn entries_come_and_go(rt: HostRuntime) -> Result<(), Fail> {
-        let mut entries = Vec::new(rt.alloc());
-        let first = Key { z: 0, number: 0 };
-        entries.push(Entry { first, page: 1 })?;
-        let mut all = Places::new(entries, 99).ok_or("not in order")?;
-        let first = Key { z: 10, number: 0 };
-        all.reserve()?;
-        all.insert(1, Entry { first, page: 2 });
-        assert_eq!(rt; span(all.slot_at(0)), Some((0, 9)));
-        all.remove(1);
-        assert_eq!(rt; span(all.slot_at(0)), Some((0, 99)));
-        assert!(rt; Places::new(Vec::new(rt.alloc()), 9).is_none());
-        Ok(())
     }
 }

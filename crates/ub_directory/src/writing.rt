@@ -98,7 +98,7 @@ fn write_chain<S: PageStore>(
     Ok(())
 }
 
-// The entries of the directory's page at a place.
+// The entries of the directory's page at an index.
 fn part_of(entries: &[Entry], i: usize) -> &[Entry]
     requires some { MAX_ENTRIES * i ≤ length entries.now }
     requires few { length entries.now < 2 ^ 32 }

@@ -16,7 +16,7 @@ use Rattle.ub_table.specs.Region.{key_of, keys_of}
 use Rattle.ub_table.specs.declared.row.Key.{Key}
 
 module _ {A : Type 0} where
-  -- a place that holds a value
+  -- an index that holds a value
   pub block_at : (total : ℕ) (blank : A) (f : ℕ → A) (n i : ℕ) (d : A) → i < n → get_or (block total blank f n) i d ≡ f i
   block_at total blank f n i d less =
       let front : List A = map f (range_with_len 0 n) in

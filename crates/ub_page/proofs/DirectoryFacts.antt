@@ -20,37 +20,37 @@ small_address (suc (suc (suc zero))) z few le = omega arith
 small_address (suc (suc (suc (suc zero)))) z few le = omega arith
 small_address (suc (suc (suc (suc (suc d))))) z few le = absurd (omega arith)
 
-entry_read : (entry : Entry) (page front rest : List ℕ) (place d : ℕ) → d ≤ 4 → place ≡ length front → IsEntry (last_address d) entry
-    → page ≡ front ++ (entry_bytes entry ++ rest) → entry_on place page ≡ entry
-entry_read entry page front rest place d few is good e =
+entry_read : (entry : Entry) (page front rest : List ℕ) (offset d : ℕ) → d ≤ 4 → offset ≡ length front → IsEntry (last_address d) entry
+    → page ≡ front ++ (entry_bytes entry ++ rest) → entry_on offset page ≡ entry
+entry_read entry page front rest offset d few is good e =
     let z = small_address d entry.first.z few good.z in
     let number = good.number in
     let small = good.page in
     let fit : AllFit (entry_fields entry) = (z, (omega arith, (omega arith, tt))) in
-    let ats = layout_read (entry_fields entry) page front rest place is fit e in
-    let last : place + 20 ≡ (place + 16) + 4 = omega arith in
+    let ats = layout_read (entry_fields entry) page front rest offset is fit e in
+    let last : offset + 20 ≡ (offset + 16) + 4 = omega arith in
     rw (last, ats.0, ats.1.0, ats.1.1.0) refl
 
-entries_read : (entries : List Entry) (page front rest : List ℕ) (place d : ℕ) → d ≤ 4 → place ≡ length front → AllByRecursion (IsEntry (last_address d)) entries
-    → page ≡ front ++ (flat_map entry_bytes entries ++ rest) → entries_on place (length entries) page ≡ entries
-entries_read [] page front rest place d few is good e = refl
-entries_read (entry ∷ entries) page front rest place d few is good e =
+entries_read : (entries : List Entry) (page front rest : List ℕ) (offset d : ℕ) → d ≤ 4 → offset ≡ length front → AllByRecursion (IsEntry (last_address d)) entries
+    → page ≡ front ++ (flat_map entry_bytes entries ++ rest) → entries_on offset (length entries) page ≡ entries
+entries_read [] page front rest offset d few is good e = refl
+entries_read (entry ∷ entries) page front rest offset d few is good e =
     let whole : page ≡ front ++ (entry_bytes entry ++ (flat_map entry_bytes entries ++ rest)) = e ∙ ap (λ (s : List ℕ). front ++ s) (append_assoc (entry_bytes entry) (flat_map entry_bytes entries) rest) in
     let behind : page ≡ (front ++ entry_bytes entry) ++ (flat_map entry_bytes entries ++ rest) = whole ∙ sym (append_assoc front (entry_bytes entry) _) in
     let long : length (entry_bytes entry) ≡ 24 = length-layout (entry_fields entry) in
-    let next : place + 24 ≡ length (front ++ entry_bytes entry) = omega (arith, length-append front (entry_bytes entry), long) in
-    let first = entry_read entry page front _ place d few is good.0 whole in
-    let others = entries_read entries page (front ++ entry_bytes entry) rest (place + 24) d few next good.1 behind in
+    let next : offset + 24 ≡ length (front ++ entry_bytes entry) = omega (arith, length-append front (entry_bytes entry), long) in
+    let first = entry_read entry page front _ offset d few is good.0 whole in
+    let others = entries_read entries page (front ++ entry_bytes entry) rest (offset + 24) d few next good.1 behind in
     rw (first, others) refl
 
-length-entries_on : (place n : ℕ) (page : List ℕ) → length (entries_on place n page) ≡ n
-length-entries_on place zero page = refl
-length-entries_on place (suc n) page = omega (arith, length-entries_on (place + 24) n page)
+length-entries_on : (offset n : ℕ) (page : List ℕ) → length (entries_on offset n page) ≡ n
+length-entries_on offset zero page = refl
+length-entries_on offset (suc n) page = omega (arith, length-entries_on (offset + 24) n page)
 
-entries_next : (place n after less : ℕ) (page : List ℕ) → 0 < n → after ≡ place + 24 → less ≡ n - 1
-    → entries_on place n page ≡ entry_on place page ∷ entries_on after less page
-entries_next place zero after less page some a b = absurd (omega arith)
-entries_next place (suc n) after less page some a b = let m : less ≡ n = omega arith in rw (a, m) refl
+entries_next : (offset n after less : ℕ) (page : List ℕ) → 0 < n → after ≡ offset + 24 → less ≡ n - 1
+    → entries_on offset n page ≡ entry_on offset page ∷ entries_on after less page
+entries_next offset zero after less page some a b = absurd (omega arith)
+entries_next offset (suc n) after less page some a b = let m : less ≡ n = omega arith in rw (a, m) refl
 
 pub record HasListing (listing : Listing) (page : List ℕ) : Type 0 where
   pub kind : IsDirectoryKind page

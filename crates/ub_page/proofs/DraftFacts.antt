@@ -70,22 +70,22 @@ after_push {size} {len} {page} {value} d x =
     (fits, parts.0, parts.1 ∙ ap (λ (s : List ℕ). s ++ x ∷ []) d.is)
 
 -- the rest of a page is zeros where it is equal to the rest of a page of zeros
-pub blank_from : (place : ℕ) (page : List ℕ) (b : Bool) → length page ≡ 4096
-    → (IsTrue b ↔ (take (4096 - place) (drop place page) ≡ take (4096 - place) (drop place (replicate 4096 0))))
-    → IsTrue b ↔ (drop place page ≡ replicate (4096 - place) 0)
-blank_from place page b long test =
-    let all : take (4096 - place) (drop place page) ≡ drop place page = take_whole (4096 - place) (drop place page) (omega (arith, length-drop place page)) in
-    let blank : take (4096 - place) (drop place (replicate 4096 0)) ≡ replicate (4096 - place) 0
-    = ap (take (4096 - place)) (drop-replicate place 4096 0) ∙ take_whole (4096 - place) (replicate (4096 - place) 0) (omega (arith, length-replicate {A = ℕ} (4096 - place) 0)) in
+pub blank_from : (offset : ℕ) (page : List ℕ) (b : Bool) → length page ≡ 4096
+    → (IsTrue b ↔ (take (4096 - offset) (drop offset page) ≡ take (4096 - offset) (drop offset (replicate 4096 0))))
+    → IsTrue b ↔ (drop offset page ≡ replicate (4096 - offset) 0)
+blank_from offset page b long test =
+    let all : take (4096 - offset) (drop offset page) ≡ drop offset page = take_whole (4096 - offset) (drop offset page) (omega (arith, length-drop offset page)) in
+    let blank : take (4096 - offset) (drop offset (replicate 4096 0)) ≡ replicate (4096 - offset) 0
+    = ap (take (4096 - offset)) (drop-replicate offset 4096 0) ∙ take_whole (4096 - offset) (replicate (4096 - offset) 0) (omega (arith, length-replicate {A = ℕ} (4096 - offset) 0)) in
     (λ yes. sym all ∙ test.0 yes ∙ blank, λ same. test.1 (all ∙ same ∙ sym blank))
 
 -- what a write over some bytes leaves
-pub put_over : (place n : ℕ) (target bytes buf : List ℕ) → place ≤ length target → buf ≡ bytes ++ drop n (mid_of place (length target - place) target)
-    → put_mid place (length target - place) target buf ≡ (take place target ++ bytes) ++ drop (place + n) target
-put_over place n target bytes buf le e =
-    let left : length (drop place target) ≤ length target - place = rw length-drop (omega arith) in
-    let none : post_of place (length target - place) target ≡ [] = drop_all (length target - place) (drop place target) left in
-    let whole : mid_of place (length target - place) target ≡ drop place target = take_whole (length target - place) (drop place target) left in
+pub put_over : (offset n : ℕ) (target bytes buf : List ℕ) → offset ≤ length target → buf ≡ bytes ++ drop n (mid_of offset (length target - offset) target)
+    → put_mid offset (length target - offset) target buf ≡ (take offset target ++ bytes) ++ drop (offset + n) target
+put_over offset n target bytes buf le e =
+    let left : length (drop offset target) ≤ length target - offset = rw length-drop (omega arith) in
+    let none : post_of offset (length target - offset) target ≡ [] = drop_all (length target - offset) (drop offset target) left in
+    let whole : mid_of offset (length target - offset) target ≡ drop offset target = take_whole (length target - offset) (drop offset target) left in
     rw (none, e, whole)
-    (ap (λ (xs : List ℕ). take place target ++ xs) (append-nil _) ∙ ap (λ (xs : List ℕ). take place target ++ (bytes ++ xs)) (drop-drop n place target)
-    ∙ sym (append_assoc (take place target) bytes (drop (place + n) target)))
+    (ap (λ (xs : List ℕ). take offset target ++ xs) (append-nil _) ∙ ap (λ (xs : List ℕ). take offset target ++ (bytes ++ xs)) (drop-drop n offset target)
+    ∙ sym (append_assoc (take offset target) bytes (drop (offset + n) target)))

@@ -17,37 +17,37 @@ use Rattle.ub_table.specs.declared.fault.PageFault.{PageFault}
 use Rattle.ub_table.specs.declared.schema.Schema.{Schema}
 
 -- the name that stands after some bytes of a page
-pub name_read : (name page front rest : List ℕ) (place : ℕ) → place ≡ length front → IsName name → page ≡ front ++ (name_bytes name ++ rest)
-    → IsNameOn place page × (name_on place page ≡ name)
-name_read name page front rest place is good e =
+pub name_read : (name page front rest : List ℕ) (offset : ℕ) → offset ≡ length front → IsName name → page ≡ front ++ (name_bytes name ++ rest)
+    → IsNameOn offset page × (name_on offset page ≡ name)
+name_read name page front rest offset is good e =
     let zeros : List ℕ = replicate (32 - length name) 0 in
     let len = number_bytes 1 (length name) in
     let short = length-name name good in
     let whole : page ≡ front ++ (len ++ ((name ++ zeros) ++ rest)) = e ∙ ap (λ (s : List ℕ). front ++ s) (append_assoc len (name ++ zeros) rest) in
-    let number : number_at 1 place page ≡ length name = read_at page front ((name ++ zeros) ++ rest) place 1 (length name) is (omega arith) whole in
+    let number : number_at 1 offset page ≡ length name = read_at page front ((name ++ zeros) ++ rest) offset 1 (length name) is (omega arith) whole in
     let behind : page ≡ (front ++ len) ++ ((name ++ zeros) ++ rest) = whole ∙ sym (append_assoc front len _) in
-    let next : place + 1 ≡ length (front ++ len) = omega (arith, length-append front len, length-number_bytes 1 (length name)) in
-    let after : drop (place + 1) page ≡ (name ++ zeros) ++ rest = (of_front (front ++ len) ((name ++ zeros) ++ rest) page (place + 1) next behind).0 in
+    let next : offset + 1 ≡ length (front ++ len) = omega (arith, length-append front len, length-number_bytes 1 (length name)) in
+    let after : drop (offset + 1) page ≡ (name ++ zeros) ++ rest = (of_front (front ++ len) ((name ++ zeros) ++ rest) page (offset + 1) next behind).0 in
     let long : 32 ≡ length (name ++ zeros) = omega (arith, length-append name zeros, length-replicate {A = ℕ} (32 - length name) 0) in
-    let block : take 32 (drop (place + 1) page) ≡ name ++ zeros = (of_front (name ++ zeros) rest _ 32 long after).1 in
-    let text : take (length name) (drop (place + 1) page) ≡ name = (of_front name (zeros ++ rest) _ (length name) refl (after ∙ append_assoc name zeros rest)).1 in
+    let block : take 32 (drop (offset + 1) page) ≡ name ++ zeros = (of_front (name ++ zeros) rest _ 32 long after).1 in
+    let text : take (length name) (drop (offset + 1) page) ≡ name = (of_front name (zeros ++ rest) _ (length name) refl (after ∙ append_assoc name zeros rest)).1 in
     (rw (number, block) (name_block name good), rw number text)
 
 -- the names that stand after some bytes of a page
-pub names_read : (names : List (List ℕ)) (page front rest : List ℕ) (place : ℕ) → place ≡ length front → AllByRecursion IsName names
+pub names_read : (names : List (List ℕ)) (page front rest : List ℕ) (offset : ℕ) → offset ≡ length front → AllByRecursion IsName names
     → page ≡ front ++ (flat_map name_bytes names ++ rest)
-    → AreNamesOn place (length names) page × (names_on place (length names) page ≡ names)
-names_read [] page front rest place is good e = (tt, refl)
-names_read (name ∷ names) page front rest place is good e =
+    → AreNamesOn offset (length names) page × (names_on offset (length names) page ≡ names)
+names_read [] page front rest offset is good e = (tt, refl)
+names_read (name ∷ names) page front rest offset is good e =
     let zeros : List ℕ = replicate (32 - length name) 0 in
     let len = number_bytes 1 (length name) in
     let short = length-name name good.0 in
     let whole : page ≡ front ++ (name_bytes name ++ (flat_map name_bytes names ++ rest)) = e ∙ ap (λ (s : List ℕ). front ++ s) (append_assoc (name_bytes name) (flat_map name_bytes names) rest) in
     let behind : page ≡ (front ++ name_bytes name) ++ (flat_map name_bytes names ++ rest) = whole ∙ sym (append_assoc front (name_bytes name) _) in
-    let next : place + 33 ≡ length (front ++ name_bytes name)
+    let next : offset + 33 ≡ length (front ++ name_bytes name)
     = omega (arith, length-append front (name_bytes name), length-append len (name ++ zeros), length-append name zeros, length-replicate {A = ℕ} (32 - length name) 0, length-number_bytes 1 (length name)) in
-    let first = name_read name page front _ place is good.0 whole in
-    let others = names_read names page (front ++ name_bytes name) rest (place + 33) next good.1 behind in
+    let first = name_read name page front _ offset is good.0 whole in
+    let others = names_read names page (front ++ name_bytes name) rest (offset + 33) next good.1 behind in
     ((first.0, others.0), rw (first.1, others.1) refl)
 
 take_short : (n m : ℕ) (xs : List ℕ) → n ≤ m → take n (take m xs) ≡ take n xs
@@ -57,39 +57,39 @@ take_short (suc n) (suc m) [] h = refl
 take_short (suc n) (suc m) (x ∷ xs) h = ap (λ (ys : List ℕ). x ∷ ys) (take_short n m xs (omega arith))
 
 -- a name that stands on a page is a name
-name_valid : (place : ℕ) (page : List ℕ) → IsNameOn place page → IsName (name_on place page)
-name_valid place page h = rw (take_short (number_at 1 place page) 32 (drop (place + 1) page) h.short) at h.name
+name_valid : (offset : ℕ) (page : List ℕ) → IsNameOn offset page → IsName (name_on offset page)
+name_valid offset page h = rw (take_short (number_at 1 offset page) 32 (drop (offset + 1) page) h.short) at h.name
 
 -- names that stand on a page are names
-names_valid : (place n : ℕ) (page : List ℕ) → AreNamesOn place n page → AllByRecursion IsName (names_on place n page)
-names_valid place zero page h = tt
-names_valid place (suc n) page h = (name_valid place page h.0, names_valid (place + 33) n page h.1)
+names_valid : (offset n : ℕ) (page : List ℕ) → AreNamesOn offset n page → AllByRecursion IsName (names_on offset n page)
+names_valid offset zero page h = tt
+names_valid offset (suc n) page h = (name_valid offset page h.0, names_valid (offset + 33) n page h.1)
 
 -- what the tests of a name tell
-pub named : (page name : List ℕ) (place len m : ℕ) → m ≡ 32 → length page ≡ 4096 → place + 33 ≤ 4096 → len ≡ number_at 1 place page → len ≤ 32
-    → name ≡ take len (take m (drop (place + 1) page)) → IsName (take len (take m (drop (place + 1) page)))
-    → name ++ replicate (32 - length name) 0 ≡ take m (drop (place + 1) page)
-    → (name ≡ name_on place page) × IsNameOn place page
-named page name place len m width long room is short text good block =
-    let block32 : take m (drop (place + 1) page) ≡ take 32 (drop (place + 1) page) = ap (λ (k : ℕ). take k (drop (place + 1) page)) width in
-    let whole : length (take 32 (drop (place + 1) page)) ≡ 32 = length-take-le 32 (drop (place + 1) page) (omega (arith, length-drop (place + 1) page)) in
-    let text32 : name ≡ take len (take 32 (drop (place + 1) page)) = text ∙ ap (take len) block32 in
-    let count : length name ≡ len = ap length text32 ∙ length-take-le len (take 32 (drop (place + 1) page)) (omega arith) in
-    let good32 : IsName (take len (take 32 (drop (place + 1) page))) = rw block32 at good in
-    let filled : take 32 (drop (place + 1) page) ≡ take len (take 32 (drop (place + 1) page)) ++ replicate (32 - len) 0
+pub named : (page name : List ℕ) (offset len m : ℕ) → m ≡ 32 → length page ≡ 4096 → offset + 33 ≤ 4096 → len ≡ number_at 1 offset page → len ≤ 32
+    → name ≡ take len (take m (drop (offset + 1) page)) → IsName (take len (take m (drop (offset + 1) page)))
+    → name ++ replicate (32 - length name) 0 ≡ take m (drop (offset + 1) page)
+    → (name ≡ name_on offset page) × IsNameOn offset page
+named page name offset len m width long room is short text good block =
+    let block32 : take m (drop (offset + 1) page) ≡ take 32 (drop (offset + 1) page) = ap (λ (k : ℕ). take k (drop (offset + 1) page)) width in
+    let whole : length (take 32 (drop (offset + 1) page)) ≡ 32 = length-take-le 32 (drop (offset + 1) page) (omega (arith, length-drop (offset + 1) page)) in
+    let text32 : name ≡ take len (take 32 (drop (offset + 1) page)) = text ∙ ap (take len) block32 in
+    let count : length name ≡ len = ap length text32 ∙ length-take-le len (take 32 (drop (offset + 1) page)) (omega arith) in
+    let good32 : IsName (take len (take 32 (drop (offset + 1) page))) = rw block32 at good in
+    let filled : take 32 (drop (offset + 1) page) ≡ take len (take 32 (drop (offset + 1) page)) ++ replicate (32 - len) 0
     = sym block32 ∙ sym block ∙ ap (λ (n : ℕ). name ++ replicate (32 - n) 0) count ∙ ap (λ (xs : List ℕ). xs ++ replicate (32 - len) 0) text32 in
-    let here : IsNameBlock len (take 32 (drop (place + 1) page)) = record { name = good32; short = short; whole = whole; padded = filled } in
-    (text32 ∙ take_short len 32 (drop (place + 1) page) short ∙ ap (λ (n : ℕ). take n (drop (place + 1) page)) is, rw is at here)
+    let here : IsNameBlock len (take 32 (drop (offset + 1) page)) = record { name = good32; short = short; whole = whole; padded = filled } in
+    (text32 ∙ take_short len 32 (drop (offset + 1) page) short ∙ ap (λ (n : ℕ). take n (drop (offset + 1) page)) is, rw is at here)
 
-pub names_next : (place n after less : ℕ) (page : List ℕ) → 0 < n → after ≡ place + 33 → less ≡ n - 1
-    → names_on place n page ≡ name_on place page ∷ names_on after less page
-names_next place zero after less page some a b = absurd (omega arith)
-names_next place (suc n) after less page some a b = let m : less ≡ n = omega arith in rw (a, m) refl
+pub names_next : (offset n after less : ℕ) (page : List ℕ) → 0 < n → after ≡ offset + 33 → less ≡ n - 1
+    → names_on offset n page ≡ name_on offset page ∷ names_on after less page
+names_next offset zero after less page some a b = absurd (omega arith)
+names_next offset (suc n) after less page some a b = let m : less ≡ n = omega arith in rw (a, m) refl
 
-pub valid_next : (place n after less : ℕ) (page : List ℕ) → 0 < n → after ≡ place + 33 → less ≡ n - 1
-    → AreNamesOn place n page ↔ (IsNameOn place page × AreNamesOn after less page)
-valid_next place zero after less page some a b = absurd (omega arith)
-valid_next place (suc n) after less page some a b = let m : less ≡ n = omega arith in rw (a, m) (λ h. h, λ h. h)
+pub valid_next : (offset n after less : ℕ) (page : List ℕ) → 0 < n → after ≡ offset + 33 → less ≡ n - 1
+    → AreNamesOn offset n page ↔ (IsNameOn offset page × AreNamesOn after less page)
+valid_next offset zero after less page some a b = absurd (omega arith)
+valid_next offset (suc n) after less page some a b = let m : less ≡ n = omega arith in rw (a, m) (λ h. h, λ h. h)
 
 pub names_step : (columns all : List (List ℕ)) (page : List ℕ) (i count : ℕ) → i < count
     → columns ++ names_on (65 + 33 * i) (count - i) page ≡ all
@@ -98,9 +98,9 @@ names_step columns all page i count more is =
     let next = names_next (65 + 33 * i) (count - i) (65 + 33 * (i + 1)) (count - (i + 1)) page (omega arith) (omega arith) (omega arith) in
     append_assoc columns (name_on (65 + 33 * i) page ∷ []) _ ∙ ap (λ (rest : List (List ℕ)). columns ++ rest) (sym next) ∙ is
 
-pub length-names_on : (place n : ℕ) (page : List ℕ) → length (names_on place n page) ≡ n
-length-names_on place zero page = refl
-length-names_on place (suc n) page = omega (arith, length-names_on (place + 33) n page)
+pub length-names_on : (offset n : ℕ) (page : List ℕ) → length (names_on offset n page) ≡ n
+length-names_on offset zero page = refl
+length-names_on offset (suc n) page = omega (arith, length-names_on (offset + 33) n page)
 
 -- where the counts are right, a schema is refused for its names alone
 pub refused_schema : (r : Result Schema PageFault) (P Q : Type 0) → (IsOk r ↔ (P × Q)) → (IsErrOf r BadName ↔ (P × (¬ Q))) → P → IfErr r (λ e. (e ≡ BadName) × (¬ Q))

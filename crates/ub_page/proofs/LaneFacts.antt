@@ -49,7 +49,7 @@ IsMaskOf-and lo hi xs i =
 pub mask_below : (f : ℕ → Bool) (xs : List ℕ) → length xs ≡ 8 → mask_l (map f xs) < 256
 mask_below f xs long = rw (length-map xs f, long) at (mask_l-lt (map f xs))
 
--- the value at a place is there, and lies between the bounds
+-- the value at an index is there, and lies between the bounds
 abbrev pub Lies : ℕ → ℕ → List ℕ → ℕ → Type 0
 Lies lo hi column i = (i < length column) × (lo ≤ get_or column i 0) × (get_or column i 0 ≤ hi)
 

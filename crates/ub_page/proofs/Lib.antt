@@ -3,10 +3,12 @@ pub mod ColumnFacts
 pub mod DirectoryFacts
 pub mod DraftFacts
 pub mod HeaderFacts
+pub mod InsertFacts
 pub mod KeysFacts
 pub mod LaneFacts
 pub mod MaskFacts
 pub mod PlacesFacts
+pub mod PutFacts
 pub mod RegionFacts
 pub mod SpelledFacts
 pub mod SpellingFacts

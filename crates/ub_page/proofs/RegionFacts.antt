@@ -70,48 +70,48 @@ length-column width number (row ∷ rows) =
     omega (arith, length-append (number_bytes width (number row)) (column width number rows), one, more)
 
 -- a row's number is read from its column
-column_read : (width : ℕ) (number : Row → ℕ) (rows : List Row) (page front rest : List ℕ) (place : ℕ) → place ≡ length front → FitIn width number rows
+column_read : (width : ℕ) (number : Row → ℕ) (rows : List Row) (page front rest : List ℕ) (offset : ℕ) → offset ≡ length front → FitIn width number rows
     → page ≡ front ++ (column width number rows ++ rest)
-    → (i at : ℕ) (row : Row) → slice_get rows i ≡ Some row → at ≡ place + width * i → number_at width at page ≡ number row
-column_read width number [] page front rest place is fit e i at row there eq = absurd (cc)
-column_read width number (r ∷ rows) page front rest place is fit e zero at row there eq =
+    → (i at : ℕ) (row : Row) → slice_get rows i ≡ Some row → at ≡ offset + width * i → number_at width at page ≡ number row
+column_read width number [] page front rest offset is fit e i at row there eq = absurd (cc)
+column_read width number (r ∷ rows) page front rest offset is fit e zero at row there eq =
     let whole : page ≡ front ++ (number_bytes width (number r) ++ (column width number rows ++ rest)) = e ∙ ap (λ (s : List ℕ). front ++ s) (append_assoc (number_bytes width (number r)) (column width number rows) rest) in
     let same : r ≡ row = cc in
     read_at page front (column width number rows ++ rest) at width (number r) (omega arith) fit.0 whole ∙ ap number same
-column_read width number (r ∷ rows) page front rest place is fit e (suc i) at row there eq =
+column_read width number (r ∷ rows) page front rest offset is fit e (suc i) at row there eq =
     let bytes = number_bytes width (number r) in
     let whole : page ≡ front ++ (bytes ++ (column width number rows ++ rest)) = e ∙ ap (λ (s : List ℕ). front ++ s) (append_assoc bytes (column width number rows) rest) in
     let behind : page ≡ (front ++ bytes) ++ (column width number rows ++ rest) = whole ∙ sym (append_assoc front bytes _) in
-    let next : place + width ≡ length (front ++ bytes) = omega (arith, length-append front bytes, length-number_bytes width (number r)) in
-    column_read width number rows page (front ++ bytes) rest (place + width) next fit.1 behind i at row there (omega arith)
+    let next : offset + width ≡ length (front ++ bytes) = omega (arith, length-append front bytes, length-number_bytes width (number r)) in
+    column_read width number rows page (front ++ bytes) rest (offset + width) next fit.1 behind i at row there (omega arith)
 
 -- a row's number is read from one column of several
-columns_read : (width : ℕ) (number : ℕ → Row → ℕ) (rows : List Row) (page front rest : List ℕ) (place a n : ℕ) → place ≡ length front → ((j : ℕ) → FitIn width (number j) rows)
+columns_read : (width : ℕ) (number : ℕ → Row → ℕ) (rows : List Row) (page front rest : List ℕ) (offset a n : ℕ) → offset ≡ length front → ((j : ℕ) → FitIn width (number j) rows)
     → page ≡ front ++ (flat_map (λ i. column width (number i) rows) (range_with_len a n) ++ rest)
-    → (j : ℕ) → j < n → (i at : ℕ) (row : Row) → slice_get rows i ≡ Some row → at ≡ place + width * (length rows * j + i) → number_at width at page ≡ number (a + j) row
-columns_read width number rows page front rest place a zero is fit e j less i at row there eq = absurd (omega arith)
-columns_read width number rows page front rest place a (suc n) is fit e zero less i at row there eq =
+    → (j : ℕ) → j < n → (i at : ℕ) (row : Row) → slice_get rows i ≡ Some row → at ≡ offset + width * (length rows * j + i) → number_at width at page ≡ number (a + j) row
+columns_read width number rows page front rest offset a zero is fit e j less i at row there eq = absurd (omega arith)
+columns_read width number rows page front rest offset a (suc n) is fit e zero less i at row there eq =
     let first = column width (number a) rows in
     let others = flat_map (λ i. column width (number i) rows) (range_with_len (a + 1) n) in
     let whole : page ≡ front ++ (first ++ (others ++ rest)) = e ∙ ap (λ (s : List ℕ). front ++ s) (append_assoc first others rest) in
     let same : a ≡ a + 0 = omega arith in
-    column_read width (number a) rows page front (others ++ rest) place is (fit a) whole i at row there (omega arith) ∙ ap (λ (k : ℕ). number k row) same
-columns_read width number rows page front rest place a (suc n) is fit e (suc j) less i at row there eq =
+    column_read width (number a) rows page front (others ++ rest) offset is (fit a) whole i at row there (omega arith) ∙ ap (λ (k : ℕ). number k row) same
+columns_read width number rows page front rest offset a (suc n) is fit e (suc j) less i at row there eq =
     let first = column width (number a) rows in
     let others = flat_map (λ i. column width (number i) rows) (range_with_len (a + 1) n) in
     let whole : page ≡ front ++ (first ++ (others ++ rest)) = e ∙ ap (λ (s : List ℕ). front ++ s) (append_assoc first others rest) in
     let behind : page ≡ (front ++ first) ++ (others ++ rest) = whole ∙ sym (append_assoc front first _) in
-    let next : place + width * length rows ≡ length (front ++ first) = omega (arith, length-append front first, length-column width (number a) rows) in
+    let next : offset + width * length rows ≡ length (front ++ first) = omega (arith, length-append front first, length-column width (number a) rows) in
     let same : a + 1 + j ≡ a + suc j = omega arith in
-    columns_read width number rows page (front ++ first) rest (place + width * length rows) (a + 1) n next fit behind j (omega arith) i at row there (omega arith)
+    columns_read width number rows page (front ++ first) rest (offset + width * length rows) (a + 1) n next fit behind j (omega arith) i at row there (omega arith)
     ∙ ap (λ (k : ℕ). number k row) same
 
-columns_at : (width : ℕ) (number : ℕ → Row → ℕ) (rows : List Row) (page front rest : List ℕ) (place n : ℕ) → place ≡ length front → ((j : ℕ) → FitIn width (number j) rows)
+columns_at : (width : ℕ) (number : ℕ → Row → ℕ) (rows : List Row) (page front rest : List ℕ) (offset n : ℕ) → offset ≡ length front → ((j : ℕ) → FitIn width (number j) rows)
     → page ≡ front ++ (columns width number n rows ++ rest)
-    → (j : ℕ) → j < n → (i : ℕ) (row : Row) → slice_get rows i ≡ Some row → number_at width (place + width * (length rows * j + i)) page ≡ number j row
-columns_at width number rows page front rest place n is fit e j less i row there =
+    → (j : ℕ) → j < n → (i : ℕ) (row : Row) → slice_get rows i ≡ Some row → number_at width (offset + width * (length rows * j + i)) page ≡ number j row
+columns_at width number rows page front rest offset n is fit e j less i row there =
     let same : 0 + j ≡ j = omega arith in
-    columns_read width number rows page front rest place 0 n is fit e j less i _ row there refl ∙ ap (λ (k : ℕ). number k row) same
+    columns_read width number rows page front rest offset 0 n is fit e j less i _ row there refl ∙ ap (λ (k : ℕ). number k row) same
 
 pub length-columns : (width : ℕ) (number : ℕ → Row → ℕ) (a n : ℕ) (rows : List Row)
     → length (flat_map (λ i. column width (number i) rows) (range_with_len a n)) ≡ width * (length rows * n)
@@ -150,7 +150,7 @@ places_read {A} rest f used xs few is h =
     let front : map f (range_with_len 0 used) ≡ take used xs = front_read f rest xs 0 used (omega arith) (λ i less. let same : 0 + i ≡ i = omega arith in ap f same ∙ h i less) in
     ap (λ (ys : List A). ys ++ replicate (4 - used) rest) front ∙ ap (λ (ys : List A). take used xs ++ ys) (sym is.1) ∙ take-append-drop used xs
 
--- what holds of each, and of what stands past the end, holds at any place
+-- what holds of each, and of what stands past the end, holds at any index
 at_any : {A : Type 0} (P : A → Type 0) (rest : A) (xs : List A) → All P xs → P rest → (i : ℕ) → P (get_or xs i rest)
 at_any P rest [] all d i = d
 at_any P rest (x ∷ xs) all d zero = all 0 rest (omega arith)
@@ -245,9 +245,9 @@ parts schema region page is e =
     }
 
 -- what stands in n bytes is a number of n bytes
-pub number_lt : (n place : ℕ) (page : List ℕ) → ((k : ℕ) → get_or page k 0 < 256) → number_at n place page < 256 ^ n
+pub number_lt : (n offset : ℕ) (page : List ℕ) → ((k : ℕ) → get_or page k 0 < 256) → number_at n offset page < 256 ^ n
 unfolding number_at
-number_lt n place page bytes = big_from-lt 0 n (drop place page) (λ k. rw (get_or-drop place page k 0) (bytes (place + k)))
+number_lt n offset page bytes = big_from-lt 0 n (drop offset page) (λ k. rw (get_or-drop offset page k 0) (bytes (offset + k)))
 
 all_map : {A : Type 0} (P : A → Type 0) (f : ℕ → A) → ((i : ℕ) → P (f i)) → (a n : ℕ) → All P (map f (range_with_len a n))
 all_map P f each a n k d less =

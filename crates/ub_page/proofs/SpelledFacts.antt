@@ -52,46 +52,46 @@ bytes-big_number (suc n) (x ∷ xs) h small =
     rw (r, head, rest) refl
 
 -- a number that stands in some bytes is spelled by them
-bytes_back : (n place : ℕ) (page : List ℕ) → place + n ≤ length page → ((k : ℕ) → get_or page k 0 < 256) → number_bytes n (number_at n place page) ≡ take n (drop place page)
+bytes_back : (n offset : ℕ) (page : List ℕ) → offset + n ≤ length page → ((k : ℕ) → get_or page k 0 < 256) → number_bytes n (number_at n offset page) ≡ take n (drop offset page)
 unfolding number_bytes number_at
-bytes_back n place page within small = bytes-big_number n (drop place page) (omega (arith, length-drop place page)) (λ k. rw (get_or-drop place page k 0) (small (place + k)))
+bytes_back n offset page within small = bytes-big_number n (drop offset page) (omega (arith, length-drop offset page)) (λ k. rw (get_or-drop offset page k 0) (small (offset + k)))
 
--- the bytes from a place on, some and then more
-joined : (place m n next : ℕ) (page xs ys : List ℕ) → next ≡ place + m → xs ≡ take m (drop place page) → ys ≡ take n (drop next page) → xs ++ ys ≡ take (m + n) (drop place page)
-joined place m n next page xs ys at first rest =
-    let behind : drop next page ≡ drop m (drop place page) = ap (λ (k : ℕ). drop k page) (at ∙ omega arith) ∙ sym (drop-drop m place page) in
-    ap (λ (zs : List ℕ). zs ++ ys) first ∙ ap (λ (zs : List ℕ). take m (drop place page) ++ zs) (rest ∙ ap (take n) behind) ∙ sym (take-add m n (drop place page))
+-- the bytes from an offset on, some and then more
+joined : (offset m n next : ℕ) (page xs ys : List ℕ) → next ≡ offset + m → xs ≡ take m (drop offset page) → ys ≡ take n (drop next page) → xs ++ ys ≡ take (m + n) (drop offset page)
+joined offset m n next page xs ys at first rest =
+    let behind : drop next page ≡ drop m (drop offset page) = ap (λ (k : ℕ). drop k page) (at ∙ omega arith) ∙ sym (drop-drop m offset page) in
+    ap (λ (zs : List ℕ). zs ++ ys) first ∙ ap (λ (zs : List ℕ). take m (drop offset page) ++ zs) (rest ∙ ap (take n) behind) ∙ sym (take-add m n (drop offset page))
 
-layout_back : (fields : List (ℕ × ℕ)) (place : ℕ) (page : List ℕ) → ((k : ℕ) → get_or page k 0 < 256) → place + layout_len fields ≤ length page → AreAt place fields page
-    → layout fields ≡ take (layout_len fields) (drop place page)
-layout_back [] place page small within there = refl
-layout_back (field ∷ fields) place page small within there =
-    joined place field.0 (layout_len fields) (place + field.0) page (number_bytes field.0 field.1) (layout fields) refl
-    (ap (number_bytes field.0) (sym there.0) ∙ bytes_back field.0 place page (omega arith) small)
-    (layout_back fields (place + field.0) page small (omega arith) there.1)
+layout_back : (fields : List (ℕ × ℕ)) (offset : ℕ) (page : List ℕ) → ((k : ℕ) → get_or page k 0 < 256) → offset + layout_len fields ≤ length page → AreAt offset fields page
+    → layout fields ≡ take (layout_len fields) (drop offset page)
+layout_back [] offset page small within there = refl
+layout_back (field ∷ fields) offset page small within there =
+    joined offset field.0 (layout_len fields) (offset + field.0) page (number_bytes field.0 field.1) (layout fields) refl
+    (ap (number_bytes field.0) (sym there.0) ∙ bytes_back field.0 offset page (omega arith) small)
+    (layout_back fields (offset + field.0) page small (omega arith) there.1)
 
-column_back : (width place : ℕ) (number : Row → ℕ) (f : ℕ → Row) (page : List ℕ) (a n : ℕ) → ((k : ℕ) → get_or page k 0 < 256)
-    → ((i : ℕ) → number (f i) ≡ number_at width (place + width * i) page) → place + width * (a + n) ≤ length page
-    → column width number (map f (range_with_len a n)) ≡ take (width * n) (drop (place + width * a) page)
-column_back width place number f page a zero small is within = let none : width * 0 ≡ 0 = omega arith in ap (λ (k : ℕ). take k (drop (place + width * a) page)) (sym none)
-column_back width place number f page a (suc n) small is within =
+column_back : (width offset : ℕ) (number : Row → ℕ) (f : ℕ → Row) (page : List ℕ) (a n : ℕ) → ((k : ℕ) → get_or page k 0 < 256)
+    → ((i : ℕ) → number (f i) ≡ number_at width (offset + width * i) page) → offset + width * (a + n) ≤ length page
+    → column width number (map f (range_with_len a n)) ≡ take (width * n) (drop (offset + width * a) page)
+column_back width offset number f page a zero small is within = let none : width * 0 ≡ 0 = omega arith in ap (λ (k : ℕ). take k (drop (offset + width * a) page)) (sym none)
+column_back width offset number f page a (suc n) small is within =
     let all : width + width * n ≡ width * suc n = omega arith in
-    joined (place + width * a) width (width * n) (place + width * (a + 1)) page (number_bytes width (number (f a))) (column width number (map f (range_with_len (a + 1) n))) (omega arith)
-    (ap (number_bytes width) (is a) ∙ bytes_back width (place + width * a) page (omega arith) small)
-    (column_back width place number f page (a + 1) n small is (omega arith))
-    ∙ ap (λ (k : ℕ). take k (drop (place + width * a) page)) all
+    joined (offset + width * a) width (width * n) (offset + width * (a + 1)) page (number_bytes width (number (f a))) (column width number (map f (range_with_len (a + 1) n))) (omega arith)
+    (ap (number_bytes width) (is a) ∙ bytes_back width (offset + width * a) page (omega arith) small)
+    (column_back width offset number f page (a + 1) n small is (omega arith))
+    ∙ ap (λ (k : ℕ). take k (drop (offset + width * a) page)) all
 
-columns_back : (width place count : ℕ) (number : ℕ → Row → ℕ) (rows : List Row) (page : List ℕ) (a n : ℕ)
-    → ((d : ℕ) → d < a + n → column width (number d) rows ≡ take (width * count) (drop (place + width * (count * d)) page))
-    → flat_map (λ i. column width (number i) rows) (range_with_len a n) ≡ take (width * (count * n)) (drop (place + width * (count * a)) page)
-columns_back width place count number rows page a zero each =
-    let none : width * (count * 0) ≡ 0 = omega arith in ap (λ (k : ℕ). take k (drop (place + width * (count * a)) page)) (sym none)
-columns_back width place count number rows page a (suc n) each =
+columns_back : (width offset count : ℕ) (number : ℕ → Row → ℕ) (rows : List Row) (page : List ℕ) (a n : ℕ)
+    → ((d : ℕ) → d < a + n → column width (number d) rows ≡ take (width * count) (drop (offset + width * (count * d)) page))
+    → flat_map (λ i. column width (number i) rows) (range_with_len a n) ≡ take (width * (count * n)) (drop (offset + width * (count * a)) page)
+columns_back width offset count number rows page a zero each =
+    let none : width * (count * 0) ≡ 0 = omega arith in ap (λ (k : ℕ). take k (drop (offset + width * (count * a)) page)) (sym none)
+columns_back width offset count number rows page a (suc n) each =
     let all : width * count + width * (count * n) ≡ width * (count * suc n) = omega arith in
-    joined (place + width * (count * a)) (width * count) (width * (count * n)) (place + width * (count * (a + 1))) page (column width (number a) rows)
+    joined (offset + width * (count * a)) (width * count) (width * (count * n)) (offset + width * (count * (a + 1))) page (column width (number a) rows)
     (flat_map (λ i. column width (number i) rows) (range_with_len (a + 1) n)) (omega arith)
-    (each a (omega arith)) (columns_back width place count number rows page (a + 1) n (λ d less. each d (omega arith)))
-    ∙ ap (λ (k : ℕ). take k (drop (place + width * (count * a)) page)) all
+    (each a (omega arith)) (columns_back width offset count number rows page (a + 1) n (λ d less. each d (omega arith)))
+    ∙ ap (λ (k : ℕ). take k (drop (offset + width * (count * a)) page)) all
 
 -- a row's values are those on the page
 dim_on : (dims measures count i d : ℕ) (page : List ℕ) → d < dims → dim_of d (row_on dims measures count page i) ≡ number_at 4 (24 + 4 * count + 4 * (count * d + i)) page

@@ -6,9 +6,9 @@ use Rattle.byteorder.specs.Endian.{big_bytes, big_number}
 unfoldable pub number_bytes : ℕ → ℕ → List ℕ
 number_bytes n x = big_bytes n x
 
--- the number in the n bytes from a place on, the highest byte first
+-- the number in the n bytes from an offset on, the highest byte first
 unfoldable pub number_at : ℕ → ℕ → List ℕ → ℕ
-number_at n place bytes = big_number n (drop place bytes)
+number_at n offset bytes = big_number n (drop offset bytes)
 
 -- numbers one after the other, each with how many bytes it takes
 abbrev pub layout : List (ℕ × ℕ) → List ℕ

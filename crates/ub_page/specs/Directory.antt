@@ -52,17 +52,17 @@ unfoldable pub directory_page : Listing → List ℕ
 directory_page listing =
     padded (layout (head_fields (length listing.entries) listing.next) ++ flat_map entry_bytes listing.entries)
 
--- the entry that stands at a place of a page
+-- the entry that stands at an offset of a page
 abbrev pub entry_on : ℕ → List ℕ → Entry
-entry_on place page = record {
-  first = record { z = number_at 16 place page; number = number_at 4 (place + 16) page };
-  page = number_at 4 (place + 20) page;
+entry_on offset page = record {
+  first = record { z = number_at 16 offset page; number = number_at 4 (offset + 16) page };
+  page = number_at 4 (offset + 20) page;
 }
 
 -- so many entries, one after the other
 abbrev pub entries_on : ℕ → ℕ → List ℕ → List Entry
-entries_on place zero page = []
-entries_on place (suc n) page = entry_on place page ∷ entries_on (place + 24) n page
+entries_on offset zero page = []
+entries_on offset (suc n) page = entry_on offset page ∷ entries_on (offset + 24) n page
 
 -- what the page tells, if it is one of the directory
 abbrev pub listing_on : List ℕ → Listing

@@ -83,22 +83,22 @@ numbers_on page = record {
   levels = number_at 4 28 page;
 }
 
--- the bytes of the name that stands at a place, whose length comes first
+-- the bytes of the name that stands at an offset, whose length comes first
 abbrev pub name_on : ℕ → List ℕ → List ℕ
-name_on place page = take (number_at 1 place page) (drop (place + 1) page)
+name_on offset page = take (number_at 1 offset page) (drop (offset + 1) page)
 
 -- a name stands there, and its unused bytes are zero
 abbrev pub IsNameOn : ℕ → List ℕ → Type 0
-IsNameOn place page = IsNameBlock (number_at 1 place page) (take 32 (drop (place + 1) page))
+IsNameOn offset page = IsNameBlock (number_at 1 offset page) (take 32 (drop (offset + 1) page))
 
 -- so many names, one after the other
 abbrev pub names_on : ℕ → ℕ → List ℕ → List (List ℕ)
-names_on place zero page = []
-names_on place (suc n) page = name_on place page ∷ names_on (place + 33) n page
+names_on offset zero page = []
+names_on offset (suc n) page = name_on offset page ∷ names_on (offset + 33) n page
 
 abbrev pub AreNamesOn : ℕ → ℕ → List ℕ → Type 0
-AreNamesOn place zero page = Unit {0}
-AreNamesOn place (suc n) page = IsNameOn place page × AreNamesOn (place + 33) n page
+AreNamesOn offset zero page = Unit {0}
+AreNamesOn offset (suc n) page = IsNameOn offset page × AreNamesOn (offset + 33) n page
 
 -- the table's name and those of so many columns stand on the page, the columns' all different
 abbrev pub HasNames : ℕ → List ℕ → Type 0

@@ -1,7 +1,7 @@
 // The rows of a region's page in columns of host order: their keys, dimensions and measures, each column in 64 places. The
 // places of dimensions and measures that no row uses are blank; in those of keys anything stands.
-ghost use Rattle.std.specs.Prelude.{◌≡◌, ◌+◌, ◌*◌, ◌<◌, ◌≤◌, ◌-◌, pos, length, map, take};
-ghost use Rattle.std.specs.List.{range_with_len};
+ghost use Rattle.std.specs.Prelude.{◌≡◌, ℕ, ◌+◌, ◌*◌, ◌<◌, ◌≤◌, ◌-◌, [], pos, length, map, take, slice_index_or};
+ghost use Rattle.std.specs.List.{insert, range_with_len};
 ghost use Rattle.std.specs.Int.{w64, cast_signed};
 ghost use Rattle.ub_page.specs.Bytes.{number_at};
 ghost use Rattle.ub_page.specs.Columns.{block, blank_dims, blank_measures, point_in, values_in, key_in, row_in};
@@ -19,54 +19,54 @@ pub type Dims = [[u32; MAX_ROWS]; 4];
 /// The first measure of each row, then the second, and so on.
 pub type Measures = [[i64; MAX_ROWS]; 4];
 
-/// Puts in the columns the dimensions of so many rows, the first of which begin at a place of the
+/// Puts in the columns the dimensions of so many rows, the first of which begin at an offset of the
 /// page.
-pub fn read_dims(columns: &mut Dims, page: &Page, dims: usize, place: usize, count: usize)
+pub fn read_dims(columns: &mut Dims, page: &Page, dims: usize, offset: usize, count: usize)
     requires dims { dims ≤ 4 }
-    requires place { place ≤ 280 }
+    requires offset { offset ≤ 280 }
     requires count { count ≤ MAX_ROWS }
     ensures { columns.new ≡ block 4 blank_dims (λ d. block MAX_ROWS 0
-        (λ i. number_at 4 (place + 4 * (count * d + i)) page.now) count) dims }
+        (λ i. number_at 4 (offset + 4 * (count * d + i)) page.now) count) dims }
 {
     *columns = [[0; MAX_ROWS]; 4];
     for dim in 0..dims {
-        read_dim(&mut columns[dim], page, dim, place, count);
+        read_dim(&mut columns[dim], page, dim, offset, count);
     }
 }
 
 // One dimension of them.
-fn read_dim(column: &mut [u32; MAX_ROWS], page: &Page, dim: usize, place: usize, count: usize)
+fn read_dim(column: &mut [u32; MAX_ROWS], page: &Page, dim: usize, offset: usize, count: usize)
     requires dim { dim < 4 }
-    requires place { place ≤ 280 }
+    requires offset { offset ≤ 280 }
     requires count { count ≤ MAX_ROWS }
     ensures { column.new
-        ≡ block MAX_ROWS 0 (λ i. number_at 4 (place + 4 * (count * dim + i)) page.now) count }
+        ≡ block MAX_ROWS 0 (λ i. number_at 4 (offset + 4 * (count * dim + i)) page.now) count }
 {
     *column = [0; MAX_ROWS];
     for i in 0..count {
-        column[i] = u32_at(page, place + 4 * (count * dim + i));
+        column[i] = u32_at(page, offset + 4 * (count * dim + i));
     }
 }
 
-/// Puts in the columns the measures of so many rows, the first of which begin at a place of the
+/// Puts in the columns the measures of so many rows, the first of which begin at an offset of the
 /// page.
 pub fn read_measures(
     columns: &mut Measures,
     page: &Page,
     measures: usize,
-    place: usize,
+    offset: usize,
     count: usize,
 )
     requires measures { measures ≤ 4 }
-    requires place { place ≤ 1304 }
+    requires offset { offset ≤ 1304 }
     requires count { count ≤ MAX_ROWS }
     ensures { columns.new ≡ block 4 blank_measures (λ m. block MAX_ROWS (pos 0)
-        (λ i. cast_signed w64 (number_at 8 (place + 8 * (count * m + i)) page.now)) count)
+        (λ i. cast_signed w64 (number_at 8 (offset + 8 * (count * m + i)) page.now)) count)
         measures }
 {
     *columns = [[0; MAX_ROWS]; 4];
     for measure in 0..measures {
-        read_measure(&mut columns[measure], page, measure, place, count);
+        read_measure(&mut columns[measure], page, measure, offset, count);
     }
 }
 
@@ -75,18 +75,18 @@ fn read_measure(
     column: &mut [i64; MAX_ROWS],
     page: &Page,
     measure: usize,
-    place: usize,
+    offset: usize,
     count: usize,
 )
     requires measure { measure < 4 }
-    requires place { place ≤ 1304 }
+    requires offset { offset ≤ 1304 }
     requires count { count ≤ MAX_ROWS }
     ensures { column.new ≡ block MAX_ROWS (pos 0)
-        (λ i. cast_signed w64 (number_at 8 (place + 8 * (count * measure + i)) page.now)) count }
+        (λ i. cast_signed w64 (number_at 8 (offset + 8 * (count * measure + i)) page.now)) count }
 {
     *column = [0; MAX_ROWS];
     for i in 0..count {
-        column[i] = i64_at(page, place + 8 * (count * measure + i));
+        column[i] = i64_at(page, offset + 8 * (count * measure + i));
     }
 }
 
@@ -165,4 +165,51 @@ pub fn make_rows(
     for i in 0..count {
         rows[i] = row_at(keys, dims, measures, i);
     }
+}
+
+/// Puts a value in at an index of the first so many of a column, before those that stand from there on.
+pub fn put_in<T: Copy>(column: &mut [T; MAX_ROWS], len: usize, index: usize, value: T)
+    requires room { len < MAX_ROWS }
+    requires within { index ≤ len }
+    ensures long { length column.new ≡ MAX_ROWS }
+    ensures put { take (len + 1) column.new ≡ insert (take len column.old) index value }
+    ensures below { (j : ℕ) (d : T) → j < index
+        → slice_index_or column.new j d ≡ slice_index_or column.old j d }
+    ensures at { (d : T) → slice_index_or column.new index d ≡ value }
+    ensures above { (j : ℕ) (d : T) → index ≤ j → j < len
+        → slice_index_or column.new (j + 1) d ≡ slice_index_or column.old j d }
+{
+    column.copy_within(index..len, index + 1);
+    column[index] = value;
+}
+
+/// Puts the dimensions of a row in at an index of the first so many.
+pub fn put_point(columns: &mut Dims, len: usize, index: usize, point: &[u32; 4])
+    requires room { len < MAX_ROWS }
+    requires within { index ≤ len }
+    ensures long { (d : ℕ) → d < 4 → length (slice_index_or columns.new d []) ≡ MAX_ROWS }
+    ensures below { (j : ℕ) → j < index → point_in columns.new j ≡ point_in columns.old j }
+    ensures at { point_in columns.new index ≡ point.now }
+    ensures above { (j : ℕ) → index ≤ j → j < len
+        → point_in columns.new (j + 1) ≡ point_in columns.old j }
+{
+    put_in(&mut columns[0], len, index, point[0]);
+    put_in(&mut columns[1], len, index, point[1]);
+    put_in(&mut columns[2], len, index, point[2]);
+    put_in(&mut columns[3], len, index, point[3]);
+}
+
+/// Puts the measures of a row in at an index of the first so many.
+pub fn put_values(columns: &mut Measures, len: usize, index: usize, values: &[i64; 4])
+    requires room { len < MAX_ROWS }
+    requires within { index ≤ len }
+    ensures below { (j : ℕ) → j < index → values_in columns.new j ≡ values_in columns.old j }
+    ensures at { values_in columns.new index ≡ values.now }
+    ensures above { (j : ℕ) → index ≤ j → j < len
+        → values_in columns.new (j + 1) ≡ values_in columns.old j }
+{
+    put_in(&mut columns[0], len, index, values[0]);
+    put_in(&mut columns[1], len, index, values[1]);
+    put_in(&mut columns[2], len, index, values[2]);
+    put_in(&mut columns[3], len, index, values[3]);
 }

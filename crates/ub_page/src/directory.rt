@@ -185,17 +185,17 @@ fn read_entries(page: &Page, count: usize, next: u32) -> Directory
     directory
 }
 
-fn read_entry(page: &Page, place: usize) -> Entry
-    requires { place + 24 ≤ 4096 }
-    ensures { result ≡ entry_on place page.now }
+fn read_entry(page: &Page, offset: usize) -> Entry
+    requires { offset + 24 ≤ 4096 }
+    ensures { result ≡ entry_on offset page.now }
 {
     let first = Key {
-        z: u128_at(page, place),
-        number: u32_at(page, place + 16),
+        z: u128_at(page, offset),
+        number: u32_at(page, offset + 16),
     };
     Entry {
         first,
-        page: u32_at(page, place + 20),
+        page: u32_at(page, offset + 20),
     }
 }
 

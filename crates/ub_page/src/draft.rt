@@ -8,9 +8,9 @@ use byteorder::{BigEndian, ByteOrder};
 use std::marker::Model;
 use ub_table::Row;
 
-// A page that is being written from its front: the bytes so far, and zeros after them.
+/// A page that is written from its front: the bytes so far, and zeros after them. Its memory takes one page after the other.
 #[derive(Drop)]
-pub(crate) struct Draft {
+pub struct Draft {
     page: [u8; 4096],
     len: usize,
 }
@@ -28,14 +28,29 @@ impl Model for Draft {
 }
 
 impl Draft {
-    // A page with nothing written.
-    pub(crate) fn new() -> Draft
+    /// A page with nothing written. Takes no memory.
+    pub fn new() -> Draft
         ensures { result ≡ [] }
     {
         Draft {
             page: [0; 4096],
             len: 0,
         }
+    }
+
+    // Takes back all that is written.
+    pub(crate) fn clear(&mut self)
+        ensures { self.new ≡ [] }
+    {
+        self.page = [0; 4096];
+        self.len = 0;
+    }
+
+    /// The page, all bytes that are not written being zero.
+    pub fn page(&self) -> &Page
+        ensures { result.now ≡ padded self.now }
+    {
+        &self.page
     }
 
     pub(crate) fn put_u8(&mut self, x: u8)

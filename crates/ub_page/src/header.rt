@@ -222,14 +222,14 @@ fn read_columns(page: &Page, count: usize) -> Result<Columns, PageFault>
     Ok(columns)
 }
 
-// The name that stands at a place, or `BadName`.
-fn read_name(page: &Page, place: usize) -> Result<Name, PageFault>
-    requires { place + 33 ≤ 4096 }
-    ensures name { IfOk result (λ name. (name ≡ name_on place page.now) × IsNameOn place page.now) }
-    ensures refused { IfErr result (λ e. (e ≡ PageFault.BadName) × (¬ (IsNameOn place page.now))) }
+// The name that stands at an offset, or `BadName`.
+fn read_name(page: &Page, offset: usize) -> Result<Name, PageFault>
+    requires { offset + 33 ≤ 4096 }
+    ensures name { IfOk result (λ name. (name ≡ name_on offset page.now) × IsNameOn offset page.now) }
+    ensures refused { IfErr result (λ e. (e ≡ PageFault.BadName) × (¬ (IsNameOn offset page.now))) }
 {
-    let len = usize::from(u8_at(page, place));
-    let block = &page[place + 1..place + 33];
+    let len = usize::from(u8_at(page, offset));
+    let block = &page[offset + 1..offset + 33];
     if len > MAX_NAME_LEN {
         return Err(PageFault::BadName);
     }

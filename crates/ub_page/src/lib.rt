@@ -17,6 +17,7 @@ pub mod region;
 mod spelling;
 
 pub use directory::{Directory, Entry, read_directory, write_directory};
+pub use draft::Draft;
 pub use header::{Header, read_header, write_header};
 pub use page::Page;
 pub use region::{RegionPage, write_region};

@@ -7,52 +7,52 @@ use byteorder::{BigEndian, ByteOrder};
 /// One page of a table's file: 4096 bytes.
 pub type Page = [u8; 4096];
 
-// The byte at a place.
-pub(crate) fn u8_at(page: &Page, place: usize) -> u8
-    requires { place + 1 ≤ 4096 }
-    ensures { result ≡ number_at 1 place page.now }
+// The byte at an offset.
+pub(crate) fn u8_at(page: &Page, offset: usize) -> u8
+    requires { offset + 1 ≤ 4096 }
+    ensures { result ≡ number_at 1 offset page.now }
 {
-    page[place]
+    page[offset]
 }
 
-// The number in the two bytes from a place on.
-pub(crate) fn u16_at(page: &Page, place: usize) -> u16
-    requires { place + 2 ≤ 4096 }
-    ensures { result ≡ number_at 2 place page.now }
+// The number in the two bytes from an offset on.
+pub(crate) fn u16_at(page: &Page, offset: usize) -> u16
+    requires { offset + 2 ≤ 4096 }
+    ensures { result ≡ number_at 2 offset page.now }
 {
-    BigEndian::read_u16(&page[place..])
+    BigEndian::read_u16(&page[offset..])
 }
 
-// The number in the four bytes from a place on.
-pub(crate) fn u32_at(page: &Page, place: usize) -> u32
-    requires { place + 4 ≤ 4096 }
-    ensures { result ≡ number_at 4 place page.now }
+// The number in the four bytes from an offset on.
+pub(crate) fn u32_at(page: &Page, offset: usize) -> u32
+    requires { offset + 4 ≤ 4096 }
+    ensures { result ≡ number_at 4 offset page.now }
 {
-    BigEndian::read_u32(&page[place..])
+    BigEndian::read_u32(&page[offset..])
 }
 
-// The number in the eight bytes from a place on.
-fn u64_at(page: &Page, place: usize) -> u64
-    requires { place + 8 ≤ 4096 }
-    ensures { result ≡ number_at 8 place page.now }
+// The number in the eight bytes from an offset on.
+fn u64_at(page: &Page, offset: usize) -> u64
+    requires { offset + 8 ≤ 4096 }
+    ensures { result ≡ number_at 8 offset page.now }
 {
-    BigEndian::read_u64(&page[place..])
+    BigEndian::read_u64(&page[offset..])
 }
 
 // The same eight bytes in two's complement.
-pub(crate) fn i64_at(page: &Page, place: usize) -> i64
-    requires { place + 8 ≤ 4096 }
-    ensures { result ≡ cast_signed w64 (number_at 8 place page.now) }
+pub(crate) fn i64_at(page: &Page, offset: usize) -> i64
+    requires { offset + 8 ≤ 4096 }
+    ensures { result ≡ cast_signed w64 (number_at 8 offset page.now) }
 {
-    u64_at(page, place).cast_signed()
+    u64_at(page, offset).cast_signed()
 }
 
-// The number in the sixteen bytes from a place on.
-pub(crate) fn u128_at(page: &Page, place: usize) -> u128
-    requires { place + 16 ≤ 4096 }
-    ensures { result ≡ number_at 16 place page.now }
+// The number in the sixteen bytes from an offset on.
+pub(crate) fn u128_at(page: &Page, offset: usize) -> u128
+    requires { offset + 16 ≤ 4096 }
+    ensures { result ≡ number_at 16 offset page.now }
 {
-    BigEndian::read_u128(&page[place..])
+    BigEndian::read_u128(&page[offset..])
 }
 
 // Whether two pages are the same, byte for byte.
@@ -62,13 +62,13 @@ pub(crate) fn is_same(a: &Page, b: &Page) -> bool
     *a == *b
 }
 
-// Whether all bytes of a page from a place on are zero.
-pub(crate) fn is_blank_from(page: &Page, place: usize) -> bool
-    requires { place ≤ 4096 }
-    ensures { IsTrue result ↔ (drop place page.now ≡ replicate (4096 - place) 0) }
+// Whether all bytes of a page from an offset on are zero.
+pub(crate) fn is_blank_from(page: &Page, offset: usize) -> bool
+    requires { offset ≤ 4096 }
+    ensures { IsTrue result ↔ (drop offset page.now ≡ replicate (4096 - offset) 0) }
 {
     let blank: &Page = &[0; 4096];
-    are_equal(&page[place..], &blank[place..])
+    are_equal(&page[offset..], &blank[offset..])
 }
 
 // Whether two texts are the same, byte for byte.

@@ -1,14 +1,15 @@
-ghost use Rattle.std.specs.Prelude.{◌≡◌, ◌+◌, ◌-◌, ◌*◌, ◌≤◌, ◌<◌, ◌++◌, ◌↔◌, ℕ, Ok, Some, length, slice_get, IsTrue, IsOk, IfOk, IfErr, OnOk, OnErr};
+ghost use Rattle.std.specs.Prelude.{◌≡◌, ◌+◌, ◌-◌, ◌*◌, ◌≤◌, ◌<◌, [], ◌++◌, ◌↔◌, ℕ, Ok, Some, length, slice_get, IsTrue, IsOk, IfOk, IfErr, OnOk, OnErr};
 ghost use Rattle.std.specs.Int.{bit_at};
-ghost use Rattle.std.specs.List.{AllByRecursion};
-ghost use Rattle.ub_page.specs.Bytes.{number_at};
+ghost use Rattle.std.specs.List.{AllByRecursion, insert};
+ghost use Rattle.ub_page.specs.Bytes.{number_at, padded};
 ghost use Rattle.ub_page.specs.Columns.{end_with, IsKeyNumbered};
 ghost use Rattle.ub_page.specs.Region.{columns, dim_of, measure_of, region_page, region_on, empty_region, IsRegionKind, HasCounts, HasRows, HasOrder, HasFirst, IsRegionFault, IsRowInside};
 ghost use Rattle.ub_table.specs.Keys.{AreKeysAscending};
 ghost use Rattle.ub_table.specs.Region.{Region, keys_of, IsNumbered, IsFirst, AreFrom, IsRegion};
 
 use crate::columns::{
-    Dims, Keys, Measures, make_rows, read_dims, read_keys, read_measures, row_at,
+    Dims, Keys, Measures, make_rows, put_in, put_point, put_values, read_dims, read_keys,
+    read_measures, row_at,
 };
 use crate::draft::Draft;
 use crate::laws::mask_between;
@@ -176,18 +177,18 @@ impl RegionPage {
     {
         let len = usize::from(u8_at(page, 3));
         let used = schema.dims() as usize;
-        let place = 24 + 4 * len;
+        let offset = 24 + 4 * len;
         self.shape = schema.shape();
         self.first = Key {
             z: u128_at(page, 4),
             number: u32_at(page, 20),
         };
-        read_dims(&mut self.dims, page, used, place, len);
+        read_dims(&mut self.dims, page, used, offset, len);
         read_measures(
             &mut self.measures,
             page,
             schema.measures() as usize,
-            place + 4 * (len * used),
+            offset + 4 * (len * used),
             len,
         );
         read_keys(&mut self.keys, page, self.shape, &self.dims, len);
@@ -218,7 +219,7 @@ impl RegionPage {
         &self.rows[..self.len]
     }
 
-    /// The row at a place, from 0, of those there are.
+    /// The row at an index, from 0, of those there are.
     pub fn row(&self, i: usize) -> Row
         requires { i < length self.now.region.rows }
         ensures { slice_get self.now.region.rows i ≡ Some result }
@@ -234,7 +235,7 @@ impl RegionPage {
         &self.keys[..self.len]
     }
 
-    /// The key of the row at a place, from 0, of those there are: its address and its number.
+    /// The key of the row at an index, from 0, of those there are: its address and its number.
     pub fn key(&self, i: usize) -> Key
         requires { i < length self.now.region.rows }
         ensures { slice_get (keys_of self.now.dims self.now.region.rows) i ≡ Some result }
@@ -242,13 +243,41 @@ impl RegionPage {
         self.keys()[i]
     }
 
-    /// Which rows lie in a box of the region's shape: bit i is 1 exactly where there is a row at place i, from 0, and it
+    /// Which rows lie in a box of the region's shape: bit i is 1 exactly where there is a row at index i, from 0, and it
     /// lies in the box. Takes no memory.
     pub fn mask(&self, zbox: &ZBox) -> u64
         requires { length zbox.now.lo ≡ self.now.dims }
         ensures { (i : ℕ) → (bit_at result i ≡ 1) ↔ IsRowInside self.now zbox.now i }
     {
         mask_between(&self.dims, self.len, zbox.lo().values(), zbox.hi().values())
+    }
+
+    /// Puts a row in at an index, from 0, before those that stand from there on. There is room for one. Takes no memory.
+    pub fn insert_at(&mut self, index: usize, row: &Row)
+        requires room { length self.old.region.rows < MAX_ROWS }
+        requires within { index ≤ length self.old.region.rows }
+        ensures { self.new ≡ record {
+          dims = self.old.dims;
+          region = record {
+            first = self.old.region.first;
+            rows = insert self.old.region.rows index row.now;
+          };
+        } }
+    {
+        let len = self.len;
+        put_in(&mut self.keys, len, index, row.key(self.shape));
+        put_point(&mut self.dims, len, index, &row.dims);
+        put_values(&mut self.measures, len, index, &row.measures);
+        put_in(&mut self.rows, len, index, *row);
+        self.len += 1;
+    }
+
+    /// Writes the page of the region over what was written before. Takes no memory.
+    pub fn write(&self, schema: &Schema, draft: &mut Draft)
+        ensures { padded draft.new ≡ region_page schema.now self.now.region }
+    {
+        draft.clear();
+        put_region(draft, schema, self.first(), self.rows());
     }
 }
 
@@ -262,6 +291,17 @@ pub fn write_region(schema: &Schema, first: Key, rows: &[Row]) -> Page
         → region_on schema.now result ≡ record { first = first; rows = rows.now } }
 {
     let mut draft = Draft::new();
+    put_region(&mut draft, schema, first, rows);
+    draft.finish()
+}
+
+// Puts a region, of which nothing is written.
+fn put_region(draft: &mut Draft, schema: &Schema, first: Key, rows: &[Row])
+    requires few { length rows.now ≤ MAX_ROWS }
+    requires blank { draft.old ≡ [] }
+    ensures { padded draft.new
+        ≡ region_page schema.now (record { first = first; rows = rows.now }) }
+{
     draft.put_u8(KIND);
     draft.put_u8(schema.dims() as u8);
     draft.put_u8(schema.measures() as u8);
@@ -269,9 +309,8 @@ pub fn write_region(schema: &Schema, first: Key, rows: &[Row]) -> Page
     draft.put_u128(first.z);
     draft.put_u32(first.number);
     draft.put_numbers(rows);
-    put_dims(&mut draft, rows, schema.dims() as usize);
-    put_measures(&mut draft, rows, schema.measures() as usize);
-    draft.finish()
+    put_dims(draft, rows, schema.dims() as usize);
+    put_measures(draft, rows, schema.measures() as usize);
 }
 
 // The first dimension of all rows, then the second, and so on.

@@ -12,10 +12,10 @@ pub fn write_numbers(target: &mut [u8], rows: &[Row])
     ensures { target.new ≡ column 4 (λ row. row.number) rows.now
         ++ drop (4 * length rows.now) target.old }
 {
-    let mut place = 0;
+    let mut offset = 0;
     for row in rows {
-        write_u32(target, place, row.number);
-        place += 4;
+        write_u32(target, offset, row.number);
+        offset += 4;
     }
 }
 
@@ -25,10 +25,10 @@ pub fn write_dim(target: &mut [u8], rows: &[Row], dim: usize)
     requires room { 4 * length rows.now ≤ length target.old }
     ensures { target.new ≡ column 4 (dim_of dim) rows.now ++ drop (4 * length rows.now) target.old }
 {
-    let mut place = 0;
+    let mut offset = 0;
     for row in rows {
-        write_u32(target, place, row.dims[dim]);
-        place += 4;
+        write_u32(target, offset, row.dims[dim]);
+        offset += 4;
     }
 }
 
@@ -39,27 +39,27 @@ pub fn write_measure(target: &mut [u8], rows: &[Row], measure: usize)
     ensures { target.new ≡ column 8 (measure_of measure) rows.now
         ++ drop (8 * length rows.now) target.old }
 {
-    let mut place = 0;
+    let mut offset = 0;
     for row in rows {
-        write_u64(target, place, row.measures[measure].cast_unsigned());
-        place += 8;
+        write_u64(target, offset, row.measures[measure].cast_unsigned());
+        offset += 8;
     }
 }
 
-// Writes a number on the four bytes from a place on.
-fn write_u32(target: &mut [u8], place: usize, x: u32)
-    requires { place + 4 ≤ length target.old }
+// Writes a number on the four bytes from an offset on.
+fn write_u32(target: &mut [u8], offset: usize, x: u32)
+    requires { offset + 4 ≤ length target.old }
     ensures { target.new
-        ≡ (take place target.old ++ number_bytes 4 x) ++ drop (place + 4) target.old }
+        ≡ (take offset target.old ++ number_bytes 4 x) ++ drop (offset + 4) target.old }
 {
-    BigEndian::write_u32(&mut target[place..], x);
+    BigEndian::write_u32(&mut target[offset..], x);
 }
 
-// Writes a number on the eight bytes from a place on.
-fn write_u64(target: &mut [u8], place: usize, x: u64)
-    requires { place + 8 ≤ length target.old }
+// Writes a number on the eight bytes from an offset on.
+fn write_u64(target: &mut [u8], offset: usize, x: u64)
+    requires { offset + 8 ≤ length target.old }
     ensures { target.new
-        ≡ (take place target.old ++ number_bytes 8 x) ++ drop (place + 8) target.old }
+        ≡ (take offset target.old ++ number_bytes 8 x) ++ drop (offset + 8) target.old }
 {
-    BigEndian::write_u64(&mut target[place..], x);
+    BigEndian::write_u64(&mut target[offset..], x);
 }

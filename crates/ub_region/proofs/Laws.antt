@@ -35,11 +35,11 @@ each_address_has_a_span schema next (region ∷ regions) z are upto =
     (i, (r, at, from, end))
 
 pub rows_lie_in_their_spans : RowsLieInTheirSpans
-rows_lie_in_their_spans schema next regions place region row are at there =
+rows_lie_in_their_spans schema next regions index region row are at there =
     let chain = chain_of schema regions are.each are.ascending are.apart in
-    let all = rows_within_at schema (last_address schema.dims) regions place region refl chain at in
-    let both = All-contains (λ (row : Row). IsWithin (last_address schema.dims) region.first (firsts_of (drop (suc place) regions)) (key_of schema.dims row).z) region.rows row
-    (All-from_recursion (λ (row : Row). IsWithin (last_address schema.dims) region.first (firsts_of (drop (suc place) regions)) (key_of schema.dims row).z) region.rows all) there in
+    let all = rows_within_at schema (last_address schema.dims) regions index region refl chain at in
+    let both = All-contains (λ (row : Row). IsWithin (last_address schema.dims) region.first (firsts_of (drop (suc index) regions)) (key_of schema.dims row).z) region.rows row
+    (All-from_recursion (λ (row : Row). IsWithin (last_address schema.dims) region.first (firsts_of (drop (suc index) regions)) (key_of schema.dims row).z) region.rows all) there in
     (region, at, both.0, both.1)
 
 pub insertion_keeps_regions : InsertionKeepsRegions

@@ -2,7 +2,7 @@ pub mod ChainFacts
 pub mod InsertFacts
 pub mod KeyLists
 pub mod Laws
-pub mod PlaceFacts
+pub mod IndexFacts
 pub mod RemoveFacts
 pub mod RowFacts
 pub mod SpanFacts

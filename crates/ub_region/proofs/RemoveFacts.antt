@@ -14,7 +14,7 @@ use Rattle.ub_table.specs.declared.row.Key.{Key}
 use Rattle.ub_table.specs.declared.row.Row.{Row}
 use Rattle.ub_table.specs.declared.schema.Schema.{Schema}
 use Rattle.ub_region.specs.Rows.{has_key, remove_row}
-use Rattle.ub_region.specs.Regions.{firsts_of, rows_of, AreRegions, place_of, change_from, remove_first, is_small, fits_next, join_first, join_before, settle, remove}
+use Rattle.ub_region.specs.Regions.{firsts_of, rows_of, AreRegions, index_holding, change_from, remove_first, is_small, fits_next, join_first, join_before, settle, remove}
 use Rattle.ub_region.proofs.KeyLists.{all_more, all_append, up_append}
 use Rattle.ub_region.proofs.RowFacts.{all_keys, all_of_keys, all_remove, up_remove, length-remove_row, moved_remove, has_append, has_none}
 use Rattle.ub_region.proofs.ChainFacts.{IsBelow, IsChain, chain_of, each_of, firsts_up, apart_of, below_same, keys_append}
@@ -38,10 +38,10 @@ changed_after schema region old new chain h =
 changed_twice : (schema : Schema) (a b c : List Region) → IsChanged schema a b → IsChanged schema b c → IsChanged schema a c
 changed_twice schema a b c h k = record { chain = k.chain; begins = k.begins ∙ h.begins }
 
--- a row less in the region at a place
-without_row : (schema : Schema) (key : Key) (place : ℕ) (regions : List Region) → IsChain schema regions → IsChanged schema regions (change_from place (remove_first schema.dims key) regions)
+-- a row less in the region at an index
+without_row : (schema : Schema) (key : Key) (index : ℕ) (regions : List Region) → IsChain schema regions → IsChanged schema regions (change_from index (remove_first schema.dims key) regions)
 without_row schema key zero [] chain = record { chain = tt; begins = refl }
-without_row schema key (suc place) [] chain = record { chain = tt; begins = refl }
+without_row schema key (suc index) [] chain = record { chain = tt; begins = refl }
 without_row schema key zero (region ∷ regions) chain = record {
   chain = (region_without, below_without regions chain.1, chain.2);
   begins = refl;
@@ -64,14 +64,14 @@ without_row schema key zero (region ∷ regions) chain = record {
       all_keys schema.dims (λ k. IsBefore k next.first) (remove_row schema.dims key region.rows)
           (all_remove schema.dims key (λ other. IsBefore (key_of schema.dims other) next.first) region.rows (all_of_keys schema.dims (λ k. IsBefore k next.first) region.rows h.1)),
     )
-without_row schema key (suc place) (region ∷ regions) chain =
-    changed_after schema region regions (change_from place (remove_first schema.dims key) regions) chain (without_row schema key place regions chain.2)
+without_row schema key (suc index) (region ∷ regions) chain =
+    changed_after schema region regions (change_from index (remove_first schema.dims key) regions) chain (without_row schema key index regions chain.2)
 
--- the region at a place joined with the next
-joined : (schema : Schema) (place : ℕ) (regions : List Region) → IsChain schema regions → fits_next schema.page_rows (drop place regions) ≡ true
-    → IsChanged schema regions (change_from place join_first regions)
+-- the region at an index joined with the next
+joined : (schema : Schema) (index : ℕ) (regions : List Region) → IsChain schema regions → fits_next schema.page_rows (drop index regions) ≡ true
+    → IsChanged schema regions (change_from index join_first regions)
 joined schema zero [] chain fits = cc
-joined schema (suc place) [] chain fits = cc
+joined schema (suc index) [] chain fits = cc
 joined schema zero (a ∷ []) chain fits = cc
 joined schema zero (a ∷ b ∷ regions) chain fits = record {
   chain = (region_joined, below_joined regions chain.2.1, chain.2.2);
@@ -97,15 +97,15 @@ joined schema zero (a ∷ b ∷ regions) chain fits = record {
       rw (keys_append schema.dims a.rows b.rows) (all_append (λ key. IsBefore key next.first) (keys_of schema.dims a.rows) (keys_of schema.dims b.rows)
           (all_more (λ key. IsBefore key b.first) (λ key. IsBefore key next.first) (λ key lt. before_trans key b.first next.first lt h.0) (keys_of schema.dims a.rows) chain.1.1) h.1),
     )
-joined schema (suc place) (region ∷ regions) chain fits =
-    changed_after schema region regions (change_from place join_first regions) chain (joined schema place regions chain.2 fits)
+joined schema (suc index) (region ∷ regions) chain fits =
+    changed_after schema region regions (change_from index join_first regions) chain (joined schema index regions chain.2 fits)
 
-joined_rows : (place : ℕ) (regions : List Region) → rows_of (change_from place join_first regions) ≡ rows_of regions
+joined_rows : (index : ℕ) (regions : List Region) → rows_of (change_from index join_first regions) ≡ rows_of regions
 joined_rows zero [] = refl
-joined_rows (suc place) [] = refl
+joined_rows (suc index) [] = refl
 joined_rows zero (a ∷ []) = refl
 joined_rows zero (a ∷ b ∷ regions) = append_assoc a.rows b.rows (rows_of regions)
-joined_rows (suc place) (region ∷ regions) = ap (λ (rows : List Row). region.rows ++ rows) (joined_rows place regions)
+joined_rows (suc index) (region ∷ regions) = ap (λ (rows : List Row). region.rows ++ rows) (joined_rows index regions)
 
 -- a region with few rows finds another, or stays
 pub record IsSettled (schema : Schema) (old new : List Region) : Type 0 where
@@ -115,22 +115,22 @@ pub record IsSettled (schema : Schema) (old new : List Region) : Type 0 where
 settled_none : (schema : Schema) (regions : List Region) → IsChain schema regions → IsSettled schema regions regions
 settled_none schema regions chain = record { changed = record { chain = chain; begins = refl }; rows = refl }
 
-settled_join : (schema : Schema) (place : ℕ) (regions : List Region) → IsChain schema regions → fits_next schema.page_rows (drop place regions) ≡ true
-    → IsSettled schema regions (change_from place join_first regions)
-settled_join schema place regions chain fits = record { changed = joined schema place regions chain fits; rows = joined_rows place regions }
+settled_join : (schema : Schema) (index : ℕ) (regions : List Region) → IsChain schema regions → fits_next schema.page_rows (drop index regions) ≡ true
+    → IsSettled schema regions (change_from index join_first regions)
+settled_join schema index regions chain fits = record { changed = joined schema index regions chain fits; rows = joined_rows index regions }
 
-settled_before : (schema : Schema) (place : ℕ) (regions : List Region) → IsChain schema regions → IsSettled schema regions (join_before schema.page_rows place regions)
+settled_before : (schema : Schema) (index : ℕ) (regions : List Region) → IsChain schema regions → IsSettled schema regions (join_before schema.page_rows index regions)
 settled_before schema zero regions chain = settled_none schema regions chain
-settled_before schema (suc place) regions chain = elim (cases_Bool (fits_next schema.page_rows (drop place regions))) [
-  | inl t ↦ rw t (settled_join schema place regions chain t)
+settled_before schema (suc index) regions chain = elim (cases_Bool (fits_next schema.page_rows (drop index regions))) [
+  | inl t ↦ rw t (settled_join schema index regions chain t)
   | inr f ↦ rw f (settled_none schema regions chain)
 ]
 
-pub settled : (schema : Schema) (place : ℕ) (regions : List Region) → IsChain schema regions → IsSettled schema regions (settle schema.page_rows place regions)
-settled schema place regions chain = elim (cases_Bool (is_small schema.page_rows (drop place regions))) [
-  | inl small ↦ elim (cases_Bool (fits_next schema.page_rows (drop place regions))) [
-    | inl t ↦ rw (small, t) (settled_join schema place regions chain t)
-    | inr f ↦ rw (small, f) (settled_before schema place regions chain)
+pub settled : (schema : Schema) (index : ℕ) (regions : List Region) → IsChain schema regions → IsSettled schema regions (settle schema.page_rows index regions)
+settled schema index regions chain = elim (cases_Bool (is_small schema.page_rows (drop index regions))) [
+  | inl small ↦ elim (cases_Bool (fits_next schema.page_rows (drop index regions))) [
+    | inl t ↦ rw (small, t) (settled_join schema index regions chain t)
+    | inr f ↦ rw (small, f) (settled_before schema index regions chain)
   ]
   | inr large ↦ rw large (settled_none schema regions chain)
 ]
@@ -182,7 +182,7 @@ module _ (schema : Schema) (key : Key) where
       }
 
   taken : (region : Region) (regions : List Region) → IsChain schema (region ∷ regions) → has_key schema.dims key (rows_of (region ∷ regions)) ≡ true
-      → IsTaken (rows_of (region ∷ regions)) (rows_of (change_from (place_of key (firsts_of (region ∷ regions))) (remove_first schema.dims key) (region ∷ regions)))
+      → IsTaken (rows_of (region ∷ regions)) (rows_of (change_from (index_holding key (firsts_of (region ∷ regions))) (remove_first schema.dims key) (region ∷ regions)))
   taken region [] chain has = taken_here region [] (left_true (has_key schema.dims key region.rows) false (sym (has_append schema.dims key region.rows []) ∙ has) refl)
   taken region (next ∷ regions) chain has =
       let either : (has_key schema.dims key region.rows || has_key schema.dims key (rows_of (next ∷ regions))) ≡ true = sym (has_append schema.dims key region.rows (rows_of (next ∷ regions))) ∙ has in
@@ -197,7 +197,7 @@ module _ (schema : Schema) (key : Key) where
             let here = has_none schema.dims key region.rows (all_more (λ row. IsBefore (key_of schema.dims row) next.first) (λ row. is_same key (key_of schema.dims row) ≡ false)
             (λ row lt. other_key (λ k. ¬ (IsBefore k next.first)) key (key_of schema.dims row) later (λ back. back lt)) region.rows (all_of_keys schema.dims (λ k. IsBefore k next.first) region.rows chain.1.1)) in
             let rest = taken next regions chain.2 (right_true (has_key schema.dims key region.rows) (has_key schema.dims key (rows_of (next ∷ regions))) either here) in
-            let new = rows_of (change_from (place_of key (firsts_of (next ∷ regions))) (remove_first schema.dims key) (next ∷ regions)) in
+            let new = rows_of (change_from (index_holding key (firsts_of (next ∷ regions))) (remove_first schema.dims key) (next ∷ regions)) in
             rw f (record {
               row = rest.row;
               key_is = rest.key_is;
@@ -216,13 +216,13 @@ pub remove_rows : (schema : Schema) (next : ℕ) (key : Key) (regions : List Reg
 remove_rows schema next key [] h t = cc
 remove_rows schema next key (region ∷ regions) h t =
     let chain = chain_of schema (region ∷ regions) h.each h.ascending h.apart in
-    let place = place_of key (firsts_of (region ∷ regions)) in
-    let after = change_from place (remove_first schema.dims key) (region ∷ regions) in
-    let less = without_row schema key place (region ∷ regions) chain in
-    let end = settled schema place after less.chain in
+    let index = index_holding key (firsts_of (region ∷ regions)) in
+    let after = change_from index (remove_first schema.dims key) (region ∷ regions) in
+    let less = without_row schema key index (region ∷ regions) chain in
+    let end = settled schema index after less.chain in
     let found = taken schema key region regions chain t in
     rw t (
-      changed_twice schema (region ∷ regions) after (settle schema.page_rows place after) less end.changed,
+      changed_twice schema (region ∷ regions) after (settle schema.page_rows index after) less end.changed,
       record {
         row = found.row;
         key_is = found.key_is;

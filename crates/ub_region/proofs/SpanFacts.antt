@@ -52,7 +52,7 @@ rows_within schema last region regions is good below =
     upper (next ∷ others) h = all_more (λ row. IsBefore (key_of schema.dims row) next.first) (λ row. (key_of schema.dims row).z ≤ address_before next.first.z next.first.number)
         (λ row before. before_address (key_of schema.dims row) next.first before) region.rows (all_of_keys schema.dims (λ k. IsBefore k next.first) region.rows h.1)
 
--- the same of the region at a place
+-- the same of the region at an index
 pub rows_within_at : (schema : Schema) (last : ℕ) (regions : List Region) (i : ℕ) (region : Region) → last ≡ last_address schema.dims → IsChain schema regions → slice_get regions i ≡ Some region
     → AllByRecursion (λ row. IsWithin last region.first (firsts_of (drop (suc i) regions)) (key_of schema.dims row).z) region.rows
 rows_within_at schema last [] i region is chain at = cc

@@ -9,16 +9,16 @@ abbrev pub put_first : Bool → List Row → List Region → List Region
 put_first joined rows [] = []
 put_first joined rows (region ∷ regions) = record { first = region.first; rows = rows } ∷ (if joined then drop 1 regions else regions)
 
--- the region at a place with these rows
+-- the region at an index with these rows
 abbrev pub put_rows : ℕ → Bool → List Row → List Region → List Region
-put_rows place joined rows regions = change_from place (put_first joined rows) regions
+put_rows index joined rows regions = change_from index (put_first joined rows) regions
 
--- of the region at a place with the old rows: whether those of the next one fit on a page with them, and the new rows are
+-- of the region at an index with the old rows: whether those of the next one fit on a page with them, and the new rows are
 -- then both
-pub record JoinsNext (c place : ℕ) (old new : List Row) (fit : Bool) (regions : List Region) : Type 0 where
-  pub fits : fit ≡ fits_next c (drop place (put_rows place false old regions))
-  pub rows : put_rows place fit new regions ≡ (if fit then change_from place join_first (put_rows place false old regions) else put_rows place false old regions)
+pub record JoinsNext (c index : ℕ) (old new : List Row) (fit : Bool) (regions : List Region) : Type 0 where
+  pub fits : fit ≡ fits_next c (drop index (put_rows index false old regions))
+  pub rows : put_rows index fit new regions ≡ (if fit then change_from index join_first (put_rows index false old regions) else put_rows index false old regions)
 
 -- the same of the region before
 abbrev pub JoinsBefore : ℕ → ℕ → List Row → List Row → Bool → List Region → Type 0
-JoinsBefore c place old new fit regions = put_rows (if fit then place - 1 else place) fit new regions ≡ join_before c place (put_rows place false old regions)
+JoinsBefore c index old new fit regions = put_rows (if fit then index - 1 else index) fit new regions ≡ join_before c index (put_rows index false old regions)

@@ -41,14 +41,14 @@ pub record AreTableRows (regions : List Region) (rows : List Row) : Type 0 where
 abbrev pub without_number : ℕ → List Row → List Row
 without_number number rows = filter (λ row. not (row.number == number)) rows
 
--- the place of the region that holds a key, of regions with these first keys: the last one that does not begin after it
-abbrev pub place_of : Key → List Key → ℕ
-place_of key [] = 0
-place_of key (first ∷ firsts) = if is_before_next key firsts then 0 else suc (place_of key firsts)
+-- the index of the region that holds a key, of regions with these first keys: the last one that does not begin after it
+abbrev pub index_holding : Key → List Key → ℕ
+index_holding key [] = 0
+index_holding key (first ∷ firsts) = if is_before_next key firsts then 0 else suc (index_holding key firsts)
 
--- the regions, with a change made to those from a place on
+-- the regions, with a change made to those from an index on
 abbrev pub change_from : ℕ → (List Region → List Region) → List Region → List Region
-change_from place change regions = take place regions ++ change (drop place regions)
+change_from index change regions = take index regions ++ change (drop index regions)
 
 -- a region of a row more than the c that a page holds becomes two
 abbrev pub two_regions : Key → Halves → List Region
@@ -66,7 +66,7 @@ insert_first dims c row (region ∷ regions) =
 
 -- insertion, where a page holds c rows: the row is put into the region that holds its key
 abbrev pub insert : ℕ → ℕ → Row → List Region → List Region
-insert dims c row regions = change_from (place_of (key_of dims row) (firsts_of regions)) (insert_first dims c row) regions
+insert dims c row regions = change_from (index_holding (key_of dims row) (firsts_of regions)) (insert_first dims c row) regions
 
 -- the row of the key taken from the first region
 abbrev pub remove_first : ℕ → Key → List Region → List Region
@@ -90,22 +90,22 @@ join_first [] = []
 join_first (a ∷ []) = a ∷ []
 join_first (a ∷ b ∷ regions) = record { first = a.first; rows = a.rows ++ b.rows } ∷ regions
 
--- the region at a place joined with the one before it, where there is one and the rows fit on one page
+-- the region at an index joined with the one before it, where there is one and the rows fit on one page
 abbrev pub join_before : ℕ → ℕ → List Region → List Region
 join_before c zero regions = regions
-join_before c (suc place) regions = if fits_next c (drop place regions) then change_from place join_first regions else regions
+join_before c (suc index) regions = if fits_next c (drop index regions) then change_from index join_first regions else regions
 
 -- a region with few rows is joined with the one after it, or else with the one before it, where the rows fit on one page
 abbrev pub settle : ℕ → ℕ → List Region → List Region
-settle c place regions =
-    if is_small c (drop place regions)
-    then (if fits_next c (drop place regions) then change_from place join_first regions else join_before c place regions)
+settle c index regions =
+    if is_small c (drop index regions)
+    then (if fits_next c (drop index regions) then change_from index join_first regions else join_before c index regions)
     else regions
 
 -- removal of the row of a key: it is taken from the region that holds the key, which may then have too few rows
 abbrev pub remove_at : ℕ → ℕ → Key → ℕ → List Region → List Region
-remove_at dims c key place regions = settle c place (change_from place (remove_first dims key) regions)
+remove_at dims c key index regions = settle c index (change_from index (remove_first dims key) regions)
 
 abbrev pub remove : ℕ → ℕ → Key → List Region → List Region
 remove dims c key regions =
-    if has_key dims key (rows_of regions) then remove_at dims c key (place_of key (firsts_of regions)) regions else regions
+    if has_key dims key (rows_of regions) then remove_at dims c key (index_holding key (firsts_of regions)) regions else regions

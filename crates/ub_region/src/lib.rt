@@ -11,5 +11,5 @@ pub mod keys;
 pub mod law;
 pub mod rows;
 
-pub use keys::{first_between, is_equal, is_key_of};
+pub use keys::{first_between, index_in, is_equal, is_key_of};
 pub use rows::{Halves, Rows};

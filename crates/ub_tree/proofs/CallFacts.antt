@@ -67,10 +67,10 @@ pub missing_there : (schema : Schema) (entries : List Entry) (chain : List ℕ) 
 missing_there schema entries chain next rows changed failed pager e there past =
     (e, subst (λ (es : List Entry). Contains es e) (sym (entries_back schema (known_pages pager.store) entries)) there, past)
 
-pub listed_there : (schema : Schema) (pages : List (List ℕ)) (entries : List Entry) (place : ℕ) (e : Entry) → slice_get entries place ≡ Some e
+pub listed_there : (schema : Schema) (pages : List (List ℕ)) (entries : List Entry) (index : ℕ) (e : Entry) → slice_get entries index ≡ Some e
     → (entry : Entry) × Contains (map entry_of (placed_of schema pages entries)) entry × (entry.page ≡ e.page)
-listed_there schema pages entries place e at =
-    (e, subst (λ (es : List Entry). Contains es e) (sym (entries_back schema pages entries)) (contained_at (λ (_ : Entry). Unit {0}) entries place e at), refl)
+listed_there schema pages entries index e at =
+    (e, subst (λ (es : List Entry). Contains es e) (sym (entries_back schema pages entries)) (contained_at (λ (_ : Entry). Unit {0}) entries index e at), refl)
 
 -- the entry of a region of the tree
 pub span_listed : (schema : Schema) (entries : List Entry) (chain : List ℕ) (next rows : ℕ) (changed failed : Bool) (pager : PagerView) (last : ℕ) (span : Span)
@@ -153,14 +153,14 @@ pub searched_tree : {T : Type 0} (r : Result T TreeFault) (schema : Schema) (ent
     → tree_view schema entries chain next rows changed failed new ≡ record (tree_view schema entries chain next rows changed failed old) { store = read_store r old.store }
 searched_tree r schema entries chain next rows changed failed old new same trace = rw (same, trace.0, trace.1) refl
 
-pub tree_entry_known : (schema : Schema) (entries : List Entry) (chain : List ℕ) (next rows : ℕ) (changed failed : Bool) (pager : PagerView) (place : ℕ) (e : Entry)
-    → IsSound (tree_view schema entries chain next rows changed failed pager) → slice_get entries place ≡ Some e
-    → IsKnownAt schema entries (known_pages pager.store) place e
-tree_entry_known schema entries chain next rows changed failed pager place e sound at =
+pub tree_entry_known : (schema : Schema) (entries : List Entry) (chain : List ℕ) (next rows : ℕ) (changed failed : Bool) (pager : PagerView) (index : ℕ) (e : Entry)
+    → IsSound (tree_view schema entries chain next rows changed failed pager) → slice_get entries index ≡ Some e
+    → IsKnownAt schema entries (known_pages pager.store) index e
+tree_entry_known schema entries chain next rows changed failed pager index e sound at =
     let known = known_is pager.store sound.honest in
     let placed : ArePlaced schema (placed_of schema (known_pages pager.store) entries) (0 ∷ chain) (known_pages pager.store) =
     subst (λ (pages : List (List ℕ)). ArePlaced schema (placed_of schema (known_pages pager.store) entries) (0 ∷ chain) pages) (sym known) sound.placed_are in
-    entry_known schema entries (known_pages pager.store) next (0 ∷ chain) place e sound.regions_are placed at
+    entry_known schema entries (known_pages pager.store) next (0 ∷ chain) index e sound.regions_are placed at
 
 pub write_refused : {U : Type 0} (fault : StoreFault) (old new : TreeView) → (fault ≡ store.Device) ⊎ (fault ≡ store.NoPage)
     → (IsErrOf {T = U} (Err fault) store.Device → IsTrue old.store.can_fail) → (IsErrOf {T = U} (Err fault) store.NoPage → (¬ (IsSound old)) × IsPageMissing old) → HasEnded (Store fault) old new

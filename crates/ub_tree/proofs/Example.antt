@@ -44,15 +44,15 @@ one_address = refl
 abbrev entry : Key → ℕ → Entry
 entry first page = record { first = first; page = page }
 
-abbrev place : Key → Option Key → ℕ → ℕ → ℕ → Place
-place first next from to page = record { first = first; next = next; from = from; to = to; page = page }
+abbrev index : Key → Option Key → ℕ → ℕ → ℕ → Place
+index first next from to page = record { first = first; next = next; from = from; to = to; page = page }
 
 five_spans : regions_of (last_address 2) (entry origin 1 ∷ entry (key 10 0) 3 ∷ entry (key 13 0) 2 ∷ [])
-    ≡ place origin (Some (key 10 0)) 0 9 1 ∷ place (key 10 0) (Some (key 13 0)) 10 12 3 ∷ place (key 13 0) None 13 (last_address 2) 2 ∷ []
+    ≡ index origin (Some (key 10 0)) 0 9 1 ∷ index (key 10 0) (Some (key 13 0)) 10 12 3 ∷ index (key 13 0) None 13 (last_address 2) 2 ∷ []
 unfolding key
 five_spans = refl
 
 -- two spans share an address
-one_address_spans : regions_of (last_address 2) (entry origin 1 ∷ entry (key 63 3) 2 ∷ []) ≡ place origin (Some (key 63 3)) 0 63 1 ∷ place (key 63 3) None 63 (last_address 2) 2 ∷ []
+one_address_spans : regions_of (last_address 2) (entry origin 1 ∷ entry (key 63 3) 2 ∷ []) ≡ index origin (Some (key 63 3)) 0 63 1 ∷ index (key 63 3) None 63 (last_address 2) 2 ∷ []
 unfolding key
 one_address_spans = refl

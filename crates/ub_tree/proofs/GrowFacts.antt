@@ -25,7 +25,7 @@ use Rattle.ub_tree.proofs.RoomFacts.{room_for}
 use Rattle.ub_tree.proofs.WriteFacts.{stored_of}
 use Rattle.std.proofs.lemmas.Grind.{get_or_default_zero}
 use Rattle.ub_region.proofs.Laws.{insert_keeps, all_left, all_right, insert_table}
-use Rattle.ub_region.specs.Regions.{AreRegions, firsts_of, insert, place_of, rows_of, split_region}
+use Rattle.ub_region.specs.Regions.{AreRegions, firsts_of, insert, index_holding, rows_of, split_region}
 use Rattle.ub_region.specs.Rows.{Halves, has_key, insert_row, split}
 use Rattle.ub_table.specs.Region.{Region, IsRegion, IsRow, HasRest, key_of, measures_of}
 use Rattle.ub_table.specs.declared.row.Key.{Key}
@@ -38,18 +38,18 @@ map_with f n news xs =
     ∙ ap (λ zs. zs ++ map f (drop (suc n) xs)) (map-append f (take n xs) news)
     ∙ rw (take-map f n xs, drop-map f (suc n) xs) refl
 
-pub regions_placed : (place : ℕ) (news placed : List Placed) → regions_in (placed_with place news placed) ≡ regions_with place (regions_in news) (regions_in placed)
-regions_placed place news placed = map_with (λ (p : Placed). p.region) place news placed
+pub regions_placed : (index : ℕ) (news placed : List Placed) → regions_in (placed_with index news placed) ≡ regions_with index (regions_in news) (regions_in placed)
+regions_placed index news placed = map_with (λ (p : Placed). p.region) index news placed
 
-module _ (old new : TreeView) (place : ℕ) (p : Placed) (rows : List Row) where
+module _ (old new : TreeView) (index : ℕ) (p : Placed) (rows : List Row) where
   pub one_region : nat_le (length rows) old.schema.page_rows ≡ true → AllByRecursion (IsRegion old.schema) (split_of old.schema p.region.first rows) → IsRegion old.schema (record { first = p.region.first; rows = rows })
   one_region fits all = let one = rw fits at all in one.0
 
   pub one_stored : (r : Result (Unit {0}) TreeFault) → nat_le (length rows) old.schema.page_rows ≡ true
-      → OnOk r (IsStored new × (new.placed ≡ placed_with place (record { page = p.page; region = record { first = p.region.first; rows = rows } } ∷ []) old.placed))
-      → OnOk r (IsStored new × (regions new ≡ regions_with place (split_of old.schema p.region.first rows) (regions old)))
+      → OnOk r (IsStored new × (new.placed ≡ placed_with index (record { page = p.page; region = record { first = p.region.first; rows = rows } } ∷ []) old.placed))
+      → OnOk r (IsStored new × (regions new ≡ regions_with index (split_of old.schema p.region.first rows) (regions old)))
   one_stored (Err e) fits h = tt
-  one_stored (Ok x) fits h = (h.0, ap regions_in h.1 ∙ regions_placed place (record { page = p.page; region = record { first = p.region.first; rows = rows } } ∷ []) old.placed ∙ rw fits refl)
+  one_stored (Ok x) fits h = (h.0, ap regions_in h.1 ∙ regions_placed index (record { page = p.page; region = record { first = p.region.first; rows = rows } } ∷ []) old.placed ∙ rw fits refl)
 
   abbrev halves : Halves
   halves = split old.schema.dims old.schema.page_rows rows
@@ -58,13 +58,13 @@ module _ (old new : TreeView) (place : ℕ) (p : Placed) (rows : List Row) where
       → IsRegion old.schema (record { first = p.region.first; rows = halves.left }) × IsRegion old.schema (record { first = halves.first; rows = halves.right })
   two_are over all = let two = rw over at all in (two.0, two.1.0)
 
-  pub two_stored : (r : Result (Unit {0}) TreeFault) → nat_le (length rows) old.schema.page_rows ≡ false → OnOk r (IsStored new × IsSplitAt place p halves old new)
-      → OnOk r (IsStored new × (regions new ≡ regions_with place (split_of old.schema p.region.first rows) (regions old)))
+  pub two_stored : (r : Result (Unit {0}) TreeFault) → nat_le (length rows) old.schema.page_rows ≡ false → OnOk r (IsStored new × IsSplitAt index p halves old new)
+      → OnOk r (IsStored new × (regions new ≡ regions_with index (split_of old.schema p.region.first rows) (regions old)))
   two_stored (Err e) over h = tt
   two_stored (Ok x) over h = (
     h.0,
     ap regions_in h.1.1
-        ∙ regions_placed place (record { page = p.page; region = record { first = p.region.first; rows = halves.left } } ∷ record { page = h.1.0; region = record { first = halves.first; rows = halves.right } } ∷ []) old.placed
+        ∙ regions_placed index (record { page = p.page; region = record { first = p.region.first; rows = halves.left } } ∷ record { page = h.1.0; region = record { first = halves.first; rows = halves.right } } ∷ []) old.placed
         ∙ rw over refl,
   )
 
@@ -83,29 +83,29 @@ inserted_parts [] i e x at = cc
 inserted_parts (y ∷ es) zero e x at = let same : y ≡ e = cc in ap (λ z. z ∷ x ∷ es) same
 inserted_parts (y ∷ es) (suc i) e x at = ap (λ zs. y ∷ zs) (inserted_parts es i e x at)
 
--- insertion changes the region at the place of the row's key
-pub insert_at_place : (dims c : ℕ) (row : Row) (rs : List Region) (place : ℕ) (r : Region) → slice_get rs place ≡ Some r → place ≡ place_of (key_of dims row) (firsts_of rs)
-    → insert dims c row rs ≡ regions_with place (split_region dims c (record { first = r.first; rows = insert_row dims row r.rows })) rs
-insert_at_place dims c row rs place r at is =
-    rw (← is) (rw (drop_at rs place r at) (sym (append_assoc (take place rs) (split_region dims c (record { first = r.first; rows = insert_row dims row r.rows })) (drop (suc place) rs))))
+-- insertion changes the region at the index of the row's key
+pub insert_at_index : (dims c : ℕ) (row : Row) (rs : List Region) (index : ℕ) (r : Region) → slice_get rs index ≡ Some r → index ≡ index_holding (key_of dims row) (firsts_of rs)
+    → insert dims c row rs ≡ regions_with index (split_region dims c (record { first = r.first; rows = insert_row dims row r.rows })) rs
+insert_at_index dims c row rs index r at is =
+    rw (← is) (rw (drop_at rs index r at) (sym (append_assoc (take index rs) (split_region dims c (record { first = r.first; rows = insert_row dims row r.rows })) (drop (suc index) rs))))
 
-placed_region : (placed : List Placed) (place : ℕ) (p : Placed) → slice_get placed place ≡ Some p → slice_get (regions_in placed) place ≡ Some p.region
-placed_region [] place p at = cc
+placed_region : (placed : List Placed) (index : ℕ) (p : Placed) → slice_get placed index ≡ Some p → slice_get (regions_in placed) index ≡ Some p.region
+placed_region [] index p at = cc
 placed_region (q ∷ placed) zero p at = let same : q ≡ p = cc in ap (λ (x : Placed). Some x.region) same
-placed_region (q ∷ placed) (suc place) p at = placed_region placed place p at
+placed_region (q ∷ placed) (suc index) p at = placed_region placed index p at
 
-entry_at : (placed : List Placed) (place : ℕ) (p : Placed) → slice_get placed place ≡ Some p → slice_get (map entry_of placed) place ≡ Some (entry_of p)
-entry_at [] place p at = cc
+entry_at : (placed : List Placed) (index : ℕ) (p : Placed) → slice_get placed index ≡ Some p → slice_get (map entry_of placed) index ≡ Some (entry_of p)
+entry_at [] index p at = cc
 entry_at (q ∷ placed) zero p at = let same : q ≡ p = cc in ap (λ (x : Placed). Some (entry_of x)) same
-entry_at (q ∷ placed) (suc place) p at = entry_at placed place p at
+entry_at (q ∷ placed) (suc index) p at = entry_at placed index p at
 
 pub firsts_placed : (placed : List Placed) → first_keys (map entry_of placed) ≡ firsts_of (regions_in placed)
 firsts_placed [] = refl
 firsts_placed (p ∷ placed) = ap (λ (ks : List Key). p.region.first ∷ ks) (firsts_placed placed)
 
--- of a sound tree, a new row of its own number, and the place of the row's key
-module _ (t : TreeView) (row : Row) (place : ℕ) (p : Placed) (sound : IsSound t) (good : IsRow t.schema.dims (measures_of t.schema) row) (number : row.number ≡ t.next)
-    (is : place ≡ place_of (key_of t.schema.dims row) (firsts_of (regions t))) (at : slice_get t.placed place ≡ Some p) where
+-- of a sound tree, a new row of its own number, and the index of the row's key
+module _ (t : TreeView) (row : Row) (index : ℕ) (p : Placed) (sound : IsSound t) (good : IsRow t.schema.dims (measures_of t.schema) row) (number : row.number ≡ t.next)
+    (is : index ≡ index_holding (key_of t.schema.dims row) (firsts_of (regions t))) (at : slice_get t.placed index ≡ Some p) where
   abbrev dims : ℕ
   dims = t.schema.dims
 
@@ -118,16 +118,16 @@ module _ (t : TreeView) (row : Row) (place : ℕ) (p : Placed) (sound : IsSound 
   abbrev news : List Region
   news = split_of t.schema p.region.first rows
 
-  pub insert_is : insert dims c row (regions t) ≡ regions_with place news (regions t)
-  insert_is = insert_at_place dims c row (regions t) place p.region (placed_region t.placed place p at) is
+  pub insert_is : insert dims c row (regions t) ≡ regions_with index news (regions t)
+  insert_is = insert_at_index dims c row (regions t) index p.region (placed_region t.placed index p at) is
 
   kept : AreRegions t.schema (t.next + 1) (insert dims c row (regions t)) × IsPermutation (row ∷ rows_of (regions t)) (rows_of (insert dims c row (regions t)))
   kept = insert_keeps t.schema t.next row (regions t) sound.regions_are good number
 
   pub news_are : AllByRecursion (IsRegion t.schema) news
   news_are =
-      let each : AllByRecursion (IsRegion t.schema) (take place (regions t) ++ news ++ drop (suc place) (regions t)) = subst (AllByRecursion (IsRegion t.schema)) insert_is kept.0.each in
-      all_right (IsRegion t.schema) (take place (regions t)) news (all_left (IsRegion t.schema) (take place (regions t) ++ news) (drop (suc place) (regions t)) each)
+      let each : AllByRecursion (IsRegion t.schema) (take index (regions t) ++ news ++ drop (suc index) (regions t)) = subst (AllByRecursion (IsRegion t.schema)) insert_is kept.0.each in
+      all_right (IsRegion t.schema) (take index (regions t)) news (all_left (IsRegion t.schema) (take index (regions t) ++ news) (drop (suc index) (regions t)) each)
 
 -- a row was put into a sound tree
 pub inserted_sound : (a b d : TreeView) (row : Row) → b.schema ≡ a.schema → b.next ≡ a.next → b.rows ≡ a.rows → d ≡ record b { next = b.next + 1; rows = b.rows + 1 }
@@ -189,66 +189,66 @@ new_row dims measures n ds ms long_dims long_measures few_dims few_measures some
     zero_fits : FitsSigned w64 (pos 0)
     zero_fits = search rules
 
-pub place_moved : (place : ℕ) (key other : Key) (firsts others : List Key) → key ≡ other → firsts ≡ others → place ≡ place_of key firsts → place ≡ place_of other others
-place_moved place key other firsts others same_key same_firsts is = rw (← same_key, ← same_firsts) is
+pub index_moved : (index : ℕ) (key other : Key) (firsts others : List Key) → key ≡ other → firsts ≡ others → index ≡ index_holding key firsts → index ≡ index_holding other others
+index_moved index key other firsts others same_key same_firsts is = rw (← same_key, ← same_firsts) is
 
 pub words_of : (xs : List ℕ) → ((i : ℕ) → Fits w32 (get_or xs i 0)) → All (λ x. x < 2 ^ 32) xs
 words_of xs fits k d lt = let fit = fits k in rw (get_or_default_zero xs k d lt) (Fits-lt-pow fit)
 
--- a tree, a new row for it, its place, and the rows that the region there is to have
-pub record IsReady (b : TreeView) (row : Row) (place : ℕ) (rows : List Row) : Type 0 where
+-- a tree, a new row for it, its index, and the rows that the region there is to have
+pub record IsReady (b : TreeView) (row : Row) (index : ℕ) (rows : List Row) : Type 0 where
   pub good : IsRow b.schema.dims (measures_of b.schema) row
   pub number : row.number ≡ b.next
-  pub is : place ≡ place_of (key_of b.schema.dims row) (firsts_of (regions b))
-  pub within : place < length b.placed
-  pub rows_are : IsHonest b.store → (p : Placed) → slice_get b.placed place ≡ Some p → rows ≡ insert_row b.schema.dims row p.region.rows
+  pub is : index ≡ index_holding (key_of b.schema.dims row) (firsts_of (regions b))
+  pub within : index < length b.placed
+  pub rows_are : IsHonest b.store → (p : Placed) → slice_get b.placed index ≡ Some p → rows ≡ insert_row b.schema.dims row p.region.rows
 
 pub ready : (schema : Schema) (entries : List Entry) (chain : List ℕ) (next count : ℕ) (changed failed : Bool) (pager : PagerView)
-    (shape place : ℕ) (key : Key) (row : Row) (ds : List ℕ) (ms : List ℤ) (read rows : List Row)
+    (shape index : ℕ) (key : Key) (row : Row) (ds : List ℕ) (ms : List ℤ) (read rows : List Row)
     → row ≡ row_of next ds ms → length ds ≡ schema.dims → length ms ≡ measures_of schema → All (λ x. x < 2 ^ 32) ds → AllByRecursion (λ x. FitsSigned w64 x) ms
-    → count < next → next ≤ 16777216 → next ≢ 16777216 → key ≡ key_of shape row → shape ≡ schema.dims → place ≡ place_of key (first_keys entries) → place < length entries
-    → (IsHonest pager.store → (p : Placed) → slice_get (placed_of schema (known_pages pager.store) entries) place ≡ Some p → read ≡ p.region.rows) → rows ≡ insert_row shape row read
-    → IsReady (tree_view schema entries chain next count changed failed pager) row place rows
-ready schema entries chain next count changed failed pager shape place key row ds ms read rows is_row long_dims long_measures words signed fewer most not_last is_key is_shape at_place lt is_read is_rows =
+    → count < next → next ≤ 16777216 → next ≢ 16777216 → key ≡ key_of shape row → shape ≡ schema.dims → index ≡ index_holding key (first_keys entries) → index < length entries
+    → (IsHonest pager.store → (p : Placed) → slice_get (placed_of schema (known_pages pager.store) entries) index ≡ Some p → read ≡ p.region.rows) → rows ≡ insert_row shape row read
+    → IsReady (tree_view schema entries chain next count changed failed pager) row index rows
+ready schema entries chain next count changed failed pager shape index key row ds ms read rows is_row long_dims long_measures words signed fewer most not_last is_key is_shape at_index lt is_read is_rows =
     let few_dims = schema.counts.few_dims in
     let few = schema.counts.few_measures in
     let covers = schema.counts.covers_dims in
     record {
       good = rw is_row (new_row schema.dims (measures_of schema) next ds ms long_dims long_measures few_dims (omega arith) (omega arith) (omega arith) words signed);
       number = ap (λ (r : Row). r.number) is_row;
-      is = place_moved place key (key_of schema.dims row) (first_keys entries) (firsts_of (regions_in (placed_of schema (known_pages pager.store) entries)))
-          (is_key ∙ ap (λ (d : ℕ). key_of d row) is_shape) (sym (firsts_back schema (known_pages pager.store) entries)) at_place;
+      is = index_moved index key (key_of schema.dims row) (first_keys entries) (firsts_of (regions_in (placed_of schema (known_pages pager.store) entries)))
+          (is_key ∙ ap (λ (d : ℕ). key_of d row) is_shape) (sym (firsts_back schema (known_pages pager.store) entries)) at_index;
       within = (let long = length-placed schema (known_pages pager.store) entries in omega arith);
       rows_are = λ now p there. is_rows ∙ ap (λ (d : ℕ). insert_row d row read) is_shape ∙ ap (insert_row schema.dims row) (is_read now p there);
     }
 
 -- a new row's region leaves room for its other half
-pub room_ready : (b : TreeView) (row : Row) (place : ℕ) (read rows : List Row) → IsReady b row place rows → ArePlaces (last_address b.schema.dims) (map entry_of b.placed)
-    → AreRowsAt b.schema (map entry_of b.placed) place read → has_key b.schema.dims (key_of b.schema.dims row) read ≡ false → rows ≡ insert_row b.schema.dims row read → b.schema.page_rows < length rows
-    → HasRoom place (split b.schema.dims b.schema.page_rows rows).first b
-room_ready b row place read rows h places are none made over = λ page.
-    let some = some_at b.placed place h.within in
-    room_for b.schema (map entry_of b.placed) place (entry_of some.0) row read rows are places (entry_at b.placed place some.0 some.1) h.good
-    (h.is ∙ ap (place_of (key_of b.schema.dims row)) (sym (firsts_placed b.placed))) none made over page
+pub room_ready : (b : TreeView) (row : Row) (index : ℕ) (read rows : List Row) → IsReady b row index rows → ArePlaces (last_address b.schema.dims) (map entry_of b.placed)
+    → AreRowsAt b.schema (map entry_of b.placed) index read → has_key b.schema.dims (key_of b.schema.dims row) read ≡ false → rows ≡ insert_row b.schema.dims row read → b.schema.page_rows < length rows
+    → HasRoom index (split b.schema.dims b.schema.page_rows rows).first b
+room_ready b row index read rows h places are none made over = λ page.
+    let some = some_at b.placed index h.within in
+    room_for b.schema (map entry_of b.placed) index (entry_of some.0) row read rows are places (entry_at b.placed index some.0 some.1) h.good
+    (h.is ∙ ap (index_holding (key_of b.schema.dims row)) (sym (firsts_placed b.placed))) none made over page
 
 -- what an insertion makes of a sound tree
-pub grown : (a b after d : TreeView) (row : Row) (place : ℕ) (rows : List Row) → b ≡ a → IsReady b row place rows → a.next ≢ 16777216
-    → (IsStored b → (p : Placed) → slice_get b.placed place ≡ Some p → AllByRecursion (IsRegion b.schema) (split_of b.schema p.region.first rows)
-    → IsStored after × (regions after ≡ regions_with place (split_of b.schema p.region.first rows) (regions b)))
+pub grown : (a b after d : TreeView) (row : Row) (index : ℕ) (rows : List Row) → b ≡ a → IsReady b row index rows → a.next ≢ 16777216
+    → (IsStored b → (p : Placed) → slice_get b.placed index ≡ Some p → AllByRecursion (IsRegion b.schema) (split_of b.schema p.region.first rows)
+    → IsStored after × (regions after ≡ regions_with index (split_of b.schema p.region.first rows) (regions b)))
     → after.schema ≡ b.schema → after.next ≡ b.next → after.rows ≡ b.rows → length after.placed < 2 ^ 32 → after.is_changed ≡ true
     → (IsSound b → after.is_changed ≡ true → HasMark b.schema after.store.pages) → d ≡ record after { next = after.next + 1; rows = after.rows + 1 } → IsSound a → IsInserted row a d
-grown a b after d row place rows same h not_last written schema next count few marked marks changed sound_a =
+grown a b after d row index rows same h not_last written schema next count few marked marks changed sound_a =
     let sound : IsSound b = subst IsSound (sym same) sound_a in
-    let some = some_at b.placed place h.within in
+    let some = some_at b.placed index h.within in
     let are = h.rows_are sound.honest some.0 some.1 in
-    let news = news_are b row place some.0 sound h.good h.number h.is some.1 in
+    let news = news_are b row index some.0 sound h.good h.number h.is some.1 in
     let both = written (stored_of b sound) some.0 some.1 (rw are news) in
     let schema_b : b.schema ≡ a.schema = ap (λ (t : TreeView). t.schema) same in
     let next_b : b.next ≡ a.next = ap (λ (t : TreeView). t.next) same in
     let rows_b : b.rows ≡ a.rows = ap (λ (t : TreeView). t.rows) same in
     let is : regions after ≡ insert a.schema.dims a.schema.page_rows row (regions a) =
-    both.1 ∙ ap (λ (rs : List Row). regions_with place (split_of b.schema some.0.region.first rs) (regions b)) are
-    ∙ sym (insert_is b row place some.0 sound h.good h.number h.is some.1)
+    both.1 ∙ ap (λ (rs : List Row). regions_with index (split_of b.schema some.0.region.first rs) (regions b)) are
+    ∙ sym (insert_is b row index some.0 sound h.good h.number h.is some.1)
     ∙ ap (λ (t : TreeView). insert t.schema.dims t.schema.page_rows row (regions t)) same in
     inserted_sound a after d row (schema ∙ schema_b) (next ∙ next_b) (count ∙ rows_b) changed sound_a
     (subst (λ (s : Schema). IsRow s.dims (measures_of s) row) schema_b h.good) (h.number ∙ next_b) not_last both.0 is few marked

@@ -55,7 +55,7 @@ has_span last (q ∷ placed) (suc i) span at =
     let (p, h) = has_span last placed i span at in
     (p, record { at = h.at; region_at = h.region_at; first = h.first; page = h.page; from = h.from; to = h.to })
 
--- the region at a place has a span
+-- the region at an index has a span
 span_at : (last : ℕ) (placed : List Placed) (i : ℕ) (region : Region) → slice_get (regions_in placed) i ≡ Some region → (span : Span) × (slice_get (regions_of last (map entry_of placed)) i ≡ Some span)
 span_at last [] i region at = cc
 span_at last (p ∷ placed) zero region at = (_, refl)
@@ -72,9 +72,9 @@ distinct_right : (xs ys : List ℕ) → IsDistinct nat_eq (xs ++ ys) → IsDisti
 distinct_right [] ys h = h
 distinct_right (x ∷ xs) ys h = distinct_right xs ys (IsDistinct-tail nat_eq x (xs ++ ys) h)
 
--- different numbers stand at one place each
-one_place : (ns : List ℕ) (i j n : ℕ) → IsDistinct nat_eq ns → slice_get ns i ≡ Some n → slice_get ns j ≡ Some n → i ≡ j
-one_place ns i j n own at_i at_j = elim (cases_lt i j) [
+-- different numbers stand at one index each
+one_index : (ns : List ℕ) (i j n : ℕ) → IsDistinct nat_eq ns → slice_get ns i ≡ Some n → slice_get ns j ≡ Some n → i ≡ j
+one_index ns i j n own at_i at_j = elim (cases_lt i j) [
   | inl lt ↦ absurd (never i j lt at_i at_j)
   | inr ge ↦ elim (cases_eq i j) [
     | inl e ↦ e
@@ -97,16 +97,16 @@ page_at (q ∷ placed) zero p at = let same : q ≡ p = cc in ap (λ (x : Placed
 page_at (q ∷ placed) (suc i) p at = page_at placed i p at
 
 -- two places of one page
-same_place : (t : TreeView) → IsSound t → (i j : ℕ) (p q : Placed) → slice_get t.placed i ≡ Some p → slice_get t.placed j ≡ Some q → p.page ≡ q.page → i ≡ j
-same_place t sound i j p q at_i at_j same =
+same_index : (t : TreeView) → IsSound t → (i j : ℕ) (p q : Placed) → slice_get t.placed i ≡ Some p → slice_get t.placed j ≡ Some q → p.page ≡ q.page → i ≡ j
+same_index t sound i j p q at_i at_j same =
     let own = distinct_right (reserved t.inner) (map (λ (p : Placed). p.page) t.placed) sound.placed_are.own in
-    one_place (map (λ (p : Placed). p.page) t.placed) i j p.page own (page_at t.placed i p at_i) (page_at t.placed j q at_j ∙ ap (λ (n : ℕ). Some n) (sym same))
+    one_index (map (λ (p : Placed). p.page) t.placed) i j p.page own (page_at t.placed i p at_i) (page_at t.placed j q at_j ∙ ap (λ (n : ℕ). Some n) (sym same))
 
 pub pages_differ : PagesDiffer
 pages_differ t i j a b sound at_i at_j same =
     let (p, one) = has_span (last_address t.schema.dims) t.placed i a at_i in
     let (q, other) = has_span (last_address t.schema.dims) t.placed j b at_j in
-    same_place t sound i j p q one.at other.at (one.page ∙ same ∙ sym other.page)
+    same_index t sound i j p q one.at other.at (one.page ∙ same ∙ sym other.page)
 
 pub each_address_has_a_span : EachAddressHasASpan
 each_address_has_a_span t z sound upto =
@@ -124,8 +124,8 @@ rows_lie_in_their_spans t span r row sound there stands has =
     let span_is = contained_at (spans_of t) span there in
     let (p, one) = has_span (last_address t.schema.dims) t.placed there.0 span span_is in
     let (q, listed, on, is) = stands in
-    let place : there.0 ≡ listed.0 = same_place t sound there.0 listed.0 p q one.at (contained_at t.placed q listed) (one.page ∙ sym on) in
-    let again : slice_get t.placed there.0 ≡ Some q = ap (slice_get t.placed) place ∙ contained_at t.placed q listed in
+    let index : there.0 ≡ listed.0 = same_index t sound there.0 listed.0 p q one.at (contained_at t.placed q listed) (one.page ∙ sym on) in
+    let again : slice_get t.placed there.0 ≡ Some q = ap (slice_get t.placed) index ∙ contained_at t.placed q listed in
     let at_p = one.at in
     let same : p ≡ q = cc in
     let region_is : p.region ≡ r = ap (λ (x : Placed). x.region) same ∙ is in

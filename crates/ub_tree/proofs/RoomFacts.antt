@@ -3,11 +3,11 @@ use Rattle.std.proofs.Common.{◌≡◌, ◌<◌, ◌≤◌, ◌+◌, ◌-◌, �
 use Rattle.std.proofs.lemmas.Bool.{cases_Bool, and_parts, and_from, eq-eqb}
 use Rattle.std.proofs.lemmas.List.{length-drop}
 use Rattle.std.proofs.lemmas.List.Elements.{All-append, All-take, All-drop, All-cons}
-use Rattle.std.specs.List.{AllByRecursion, insert}
+use Rattle.std.specs.List.{AllByRecursion, insert, list_any}
 use Rattle.ub_zaddr.specs.Address.{last_address}
 use Rattle.ub_page.specs.declared.directory.Entry.{Entry}
 use Rattle.ub_region.proofs.Laws.{IsFilled, two_chain, all_drop, all_left, all_right, before_or_same, upto_before, IsBeforeNext, up_head, up_tail, up_cons, all_keys, all_of_keys, all_insert, length-insert_row}
-use Rattle.ub_region.specs.Regions.{place_of, rows_of}
+use Rattle.ub_region.specs.Regions.{index_holding, rows_of}
 use Rattle.ub_region.specs.Rows.{has_key, insert_row, cut, split}
 use Rattle.ub_store.specs.Facts.{IsHonest}
 use Rattle.ub_table.proofs.Laws.{before_of, precedes_of, not_before_origin}
@@ -26,34 +26,34 @@ use Rattle.ub_directory.proofs.Laws.{first_at, same_key}
 use Rattle.ub_tree.proofs.TreeFacts.{contained_at, region_get}
 
 abbrev inserted_at : List Entry → ℕ → Entry → List Entry
-inserted_at es place x = take (suc place) es ++ x ∷ drop (suc place) es
+inserted_at es index x = take (suc index) es ++ x ∷ drop (suc index) es
 
-up_room : (es : List Entry) (place : ℕ) (a x : Entry) → slice_get es place ≡ Some a → are_ascending (first_keys es) ≡ true → precedes a.first x.first ≡ true
-    → is_before_next x.first (drop (suc place) (first_keys es)) ≡ true → are_ascending (first_keys (inserted_at es place x)) ≡ true
-up_room [] place a x at up left right = cc
+up_room : (es : List Entry) (index : ℕ) (a x : Entry) → slice_get es index ≡ Some a → are_ascending (first_keys es) ≡ true → precedes a.first x.first ≡ true
+    → is_before_next x.first (drop (suc index) (first_keys es)) ≡ true → are_ascending (first_keys (inserted_at es index x)) ≡ true
+up_room [] index a x at up left right = cc
 up_room (y ∷ []) zero a x at up left right = let same : y ≡ a = cc in rw (← same) at (and_from (precedes a.first x.first) true left refl)
 up_room (y ∷ z ∷ es) zero a x at up left right =
     let same : y ≡ a = cc in
     and_from _ _ (ap (λ (e : Entry). precedes e.first x.first) same ∙ left) (and_from _ _ right (and_parts _ _ up).1)
-up_room (y ∷ []) (suc place) a x at up left right = cc
-up_room (y ∷ z ∷ es) (suc place) a x at up left right =
-    and_from _ _ (and_parts _ _ up).0 (up_room (z ∷ es) place a x at (and_parts _ _ up).1 left right)
+up_room (y ∷ []) (suc index) a x at up left right = cc
+up_room (y ∷ z ∷ es) (suc index) a x at up left right =
+    and_from _ _ (and_parts _ _ up).0 (up_room (z ∷ es) index a x at (and_parts _ _ up).1 left right)
 
-begins_room : (es : List Entry) (place : ℕ) (a x : Entry) → slice_get es place ≡ Some a → slice_get (first_keys es) 0 ≡ Some origin → slice_get (first_keys (inserted_at es place x)) 0 ≡ Some origin
-begins_room [] place a x at begins = cc
-begins_room (y ∷ es) place a x at begins = begins
+begins_room : (es : List Entry) (index : ℕ) (a x : Entry) → slice_get es index ≡ Some a → slice_get (first_keys es) 0 ≡ Some origin → slice_get (first_keys (inserted_at es index x)) 0 ≡ Some origin
+begins_room [] index a x at begins = cc
+begins_room (y ∷ es) index a x at begins = begins
 
--- a region has room after that at a place, where it begins after that and before the next
-pub room_of : (last : ℕ) (es : List Entry) (place : ℕ) (a x : Entry) → ArePlaces last es → slice_get es place ≡ Some a
-    → (x.first.z ≤ last) × (precedes a.first x.first ≡ true) × (is_before_next x.first (drop (suc place) (first_keys es)) ≡ true) → ArePlaces last (insert es (place + 1) x)
-room_of last es place a x places at h = rw add-one (
-  begins_room es place a x at places.0,
-  All-append (λ (e : Entry). e.first.z ≤ last) (take (suc place) es) (x ∷ drop (suc place) es) (All-take (λ (e : Entry). e.first.z ≤ last) (suc place) es places.1)
-      (All-cons (λ (e : Entry). e.first.z ≤ last) x (drop (suc place) es) h.0 (All-drop (λ (e : Entry). e.first.z ≤ last) (suc place) es places.1)),
-  up_room es place a x at places.2 h.1 h.2,
+-- a region has room after that at an index, where it begins after that and before the next
+pub room_of : (last : ℕ) (es : List Entry) (index : ℕ) (a x : Entry) → ArePlaces last es → slice_get es index ≡ Some a
+    → (x.first.z ≤ last) × (precedes a.first x.first ≡ true) × (is_before_next x.first (drop (suc index) (first_keys es)) ≡ true) → ArePlaces last (insert es (index + 1) x)
+room_of last es index a x places at h = rw add-one (
+  begins_room es index a x at places.0,
+  All-append (λ (e : Entry). e.first.z ≤ last) (take (suc index) es) (x ∷ drop (suc index) es) (All-take (λ (e : Entry). e.first.z ≤ last) (suc index) es places.1)
+      (All-cons (λ (e : Entry). e.first.z ≤ last) x (drop (suc index) es) h.0 (All-drop (λ (e : Entry). e.first.z ≤ last) (suc index) es places.1)),
+  up_room es index a x at places.2 h.1 h.2,
 )
 
--- a key stands before the key of a place, if there is one
+-- a key stands before the key of an index, if there is one
 abbrev IsBeforeAt : Key → List Key → ℕ → Type 0
 IsBeforeAt key firsts i = IfSome (slice_get firsts i) (λ next. IsBefore key next)
 
@@ -63,35 +63,35 @@ before_at key [] (suc i) h = refl
 before_at key (f ∷ firsts) zero h = precedes_of key f h
 before_at key (f ∷ firsts) (suc i) h = before_at key firsts i h
 
--- the key of the place before is not after a key, and that of the next place is
-next_after : (key : Key) (firsts : List Key) (place : ℕ) → place_of key firsts ≡ place → IsBeforeAt key firsts (suc place)
-next_after key [] place is = tt
+-- the key of the index before is not after a key, and that of the next index is
+next_after : (key : Key) (firsts : List Key) (index : ℕ) → index_holding key firsts ≡ index → IsBeforeAt key firsts (suc index)
+next_after key [] index is = tt
 next_after key (f ∷ []) zero is = tt
-next_after key (f ∷ []) (suc place) is = cc
-next_after key (f ∷ g ∷ firsts) place is = elim (cases_Bool (precedes key g)) [
-  | inl t ↦ let here : 0 ≡ place = rw t at is in subst (λ (i : ℕ). IsBeforeAt key (f ∷ g ∷ firsts) (suc i)) here (before_of key g t)
+next_after key (f ∷ []) (suc index) is = cc
+next_after key (f ∷ g ∷ firsts) index is = elim (cases_Bool (precedes key g)) [
+  | inl t ↦ let here : 0 ≡ index = rw t at is in subst (λ (i : ℕ). IsBeforeAt key (f ∷ g ∷ firsts) (suc i)) here (before_of key g t)
   | inr n ↦
-      let later : suc (place_of key (g ∷ firsts)) ≡ place = rw n at is in
-      subst (λ (i : ℕ). IsBeforeAt key (f ∷ g ∷ firsts) (suc i)) later (next_after key (g ∷ firsts) (place_of key (g ∷ firsts)) refl)
+      let later : suc (index_holding key (g ∷ firsts)) ≡ index = rw n at is in
+      subst (λ (i : ℕ). IsBeforeAt key (f ∷ g ∷ firsts) (suc i)) later (next_after key (g ∷ firsts) (index_holding key (g ∷ firsts)) refl)
 ]
 
 not_before : (key first : Key) → precedes key first ≡ false → ¬ (IsBefore key first)
 not_before key first f h = let t = precedes_of key first h in cc
 
-first_upto : (key : Key) (firsts : List Key) (place : ℕ) (first : Key) → IfSome (slice_get firsts 0) (λ f. ¬ (IsBefore key f)) → place_of key firsts ≡ place → slice_get firsts place ≡ Some first → ¬ (IsBefore key first)
-first_upto key [] place first head is at = cc
+first_upto : (key : Key) (firsts : List Key) (index : ℕ) (first : Key) → IfSome (slice_get firsts 0) (λ f. ¬ (IsBefore key f)) → index_holding key firsts ≡ index → slice_get firsts index ≡ Some first → ¬ (IsBefore key first)
+first_upto key [] index first head is at = cc
 first_upto key (f ∷ []) zero first head is at = let same : f ≡ first = cc in subst (λ (k : Key). ¬ (IsBefore key k)) same head
-first_upto key (f ∷ []) (suc place) first head is at = cc
-first_upto key (f ∷ g ∷ firsts) place first head is at = elim (cases_Bool (precedes key g)) [
+first_upto key (f ∷ []) (suc index) first head is at = cc
+first_upto key (f ∷ g ∷ firsts) index first head is at = elim (cases_Bool (precedes key g)) [
   | inl t ↦
-      let here : 0 ≡ place = rw t at is in
+      let here : 0 ≡ index = rw t at is in
       let there : slice_get (f ∷ g ∷ firsts) 0 ≡ Some first = ap (slice_get (f ∷ g ∷ firsts)) here ∙ at in
       let same : f ≡ first = cc in
       subst (λ (k : Key). ¬ (IsBefore key k)) same head
   | inr n ↦
-      let later : suc (place_of key (g ∷ firsts)) ≡ place = rw n at is in
-      let there : slice_get (f ∷ g ∷ firsts) (suc (place_of key (g ∷ firsts))) ≡ Some first = ap (slice_get (f ∷ g ∷ firsts)) later ∙ at in
-      first_upto key (g ∷ firsts) (place_of key (g ∷ firsts)) first (not_before key g n) refl there
+      let later : suc (index_holding key (g ∷ firsts)) ≡ index = rw n at is in
+      let there : slice_get (f ∷ g ∷ firsts) (suc (index_holding key (g ∷ firsts))) ≡ Some first = ap (slice_get (f ∷ g ∷ firsts)) later ∙ at in
+      first_upto key (g ∷ firsts) (index_holding key (g ∷ firsts)) first (not_before key g n) refl there
 ]
 
 -- rows with one more, whose key none of them has
@@ -155,11 +155,11 @@ if_some_both P Q R None f h k = tt
 if_some_both P Q R (Some x) f h k = f x h k
 
 -- the rows of the region that holds a new row's key leave room for the other half
-pub room_for : (schema : Schema) (entries : List Entry) (place : ℕ) (e : Entry) (row : Row) (rows new : List Row) → AreRowsAt schema entries place rows → ArePlaces (last_address schema.dims) entries
-    → slice_get entries place ≡ Some e → IsRow schema.dims (measures_of schema) row → place ≡ place_of (key_of schema.dims row) (first_keys entries) → has_key schema.dims (key_of schema.dims row) rows ≡ false
+pub room_for : (schema : Schema) (entries : List Entry) (index : ℕ) (e : Entry) (row : Row) (rows new : List Row) → AreRowsAt schema entries index rows → ArePlaces (last_address schema.dims) entries
+    → slice_get entries index ≡ Some e → IsRow schema.dims (measures_of schema) row → index ≡ index_holding (key_of schema.dims row) (first_keys entries) → has_key schema.dims (key_of schema.dims row) rows ≡ false
     → new ≡ insert_row schema.dims row rows → schema.page_rows < length new
-    → (page : ℕ) → ArePlaces (last_address schema.dims) (insert entries (place + 1) (record { first = (split schema.dims schema.page_rows new).first; page = page }))
-room_for schema entries place e row rows new are places at good is none made over page =
+    → (page : ℕ) → ArePlaces (last_address schema.dims) (insert entries (index + 1) (record { first = (split schema.dims schema.page_rows new).first; page = page }))
+room_for schema entries index e row rows new are places at good is none made over page =
     let here = are e at in
     let dims = schema.dims in
     let key : Key = key_of dims row in
@@ -168,7 +168,7 @@ room_for schema entries place e row rows new are places at good is none made ove
     let over_here : schema.page_rows < length (insert_row dims row rows) = subst (λ (rs : List Row). schema.page_rows < length rs) made over in
     let some = schema.counts.some_rows in
     let head : IfSome (slice_get (first_keys entries) 0) (λ f. ¬ (IsBefore key f)) = rw places.0 (not_before_origin key) in
-    let upto : ¬ (IsBefore key e.first) = first_upto key (first_keys entries) place e.first head (sym is) (first_at entries place e at) in
+    let upto : ¬ (IsBefore key e.first) = first_upto key (first_keys entries) index e.first head (sym is) (first_at entries index e at) in
     let whole : Region = record { first = e.first; rows = insert_row dims row rows } in
     let filled : IsFilled schema whole = record {
       most = omega arith;
@@ -179,22 +179,22 @@ room_for schema entries place e row rows new are places at good is none made ove
           (all_insert dims row (λ other. ¬ (IsBefore (key_of dims other) e.first)) rows (all_of_keys dims (λ k. ¬ (IsBefore k e.first)) rows here.0.within) upto);
     } in
     let sep = between schema whole ((schema.page_rows + 2) / 2) filled (omega arith) (omega arith) (omega arith) (omega arith) in
-    let below : IfSome (slice_get (first_keys entries) (suc place)) (λ next. AllByRecursion (λ k. IsBefore k next) (keys_of dims (insert_row dims row rows))) =
+    let below : IfSome (slice_get (first_keys entries) (suc index)) (λ next. AllByRecursion (λ k. IsBefore k next) (keys_of dims (insert_row dims row rows))) =
     if_some_both (λ next. AllByRecursion (λ k. IsBefore k next) (keys_of dims rows)) (λ next. IsBefore key next) (λ next. AllByRecursion (λ k. IsBefore k next) (keys_of dims (insert_row dims row rows)))
-    (slice_get (first_keys entries) (suc place))
+    (slice_get (first_keys entries) (suc index))
     (λ next all before. all_keys dims (λ k. IsBefore k next) (insert_row dims row rows) (all_insert dims row (λ other. IsBefore (key_of dims other) next) rows (all_of_keys dims (λ k. IsBefore k next) rows all) before))
-    here.1 (next_after key (first_keys entries) place (sym is)) in
-    rw made (room_of (last_address dims) entries place e (record { first = (split dims schema.page_rows (insert_row dims row rows)).first; page = page }) places at (
+    here.1 (next_after key (first_keys entries) index (sym is)) in
+    rw made (room_of (last_address dims) entries index e (record { first = (split dims schema.page_rows (insert_row dims row rows)).first; page = page }) places at (
       sep.range,
       precedes_of e.first _ sep.after,
-      before_at _ (first_keys entries) (suc place) (if_some_more (λ next. AllByRecursion (λ k. IsBefore k next) (keys_of dims (insert_row dims row rows))) (λ next. IsBefore _ next)
-          (slice_get (first_keys entries) (suc place)) sep.before below),
+      before_at _ (first_keys entries) (suc index) (if_some_more (λ next. AllByRecursion (λ k. IsBefore k next) (keys_of dims (insert_row dims row rows))) (λ next. IsBefore _ next)
+          (slice_get (first_keys entries) (suc index)) sep.before below),
     ))
 
 -- the rows of a page that was read
-pub rows_at_place : (schema : Schema) (entries : List Entry) (place : ℕ) (e : Entry) (next : Option Key) (region : Region) (rows : List Row) → slice_get entries place ≡ Some e
-    → next ≡ slice_get (first_keys entries) (suc place) → IsRegion schema region → IsHeldBy schema.dims e.first next region → rows ≡ region.rows → AreRowsAt schema entries place rows
-rows_at_place schema entries place e next region rows at after is held same = λ f at_f.
+pub rows_at_index : (schema : Schema) (entries : List Entry) (index : ℕ) (e : Entry) (next : Option Key) (region : Region) (rows : List Row) → slice_get entries index ≡ Some e
+    → next ≡ slice_get (first_keys entries) (suc index) → IsRegion schema region → IsHeldBy schema.dims e.first next region → rows ≡ region.rows → AreRowsAt schema entries index rows
+rows_at_index schema entries index e next region rows at after is held same = λ f at_f.
     let one : f ≡ e = cc in
     let begins : f.first ≡ region.first = ap (λ (x : Entry). x.first) one ∙ sym held.0 in
     rw (same, begins, ← after) (is, held.1)
@@ -215,21 +215,26 @@ found_row dims key (row ∷ rows) has = elim (cases_Bool (is_same key (key_of di
   | inr f ↦ let found = found_row dims key rows (rw f at has) in (found.0, suc found.1, found.2, found.3)
 ]
 
-rows_each : (P : Row → Type 0) (regions : List Region) (place : ℕ) (r : Region) → slice_get regions place ≡ Some r → AllByRecursion P (rows_of regions) → AllByRecursion P r.rows
-rows_each P [] place r at all = cc
+rows_each : (P : Row → Type 0) (regions : List Region) (index : ℕ) (r : Region) → slice_get regions index ≡ Some r → AllByRecursion P (rows_of regions) → AllByRecursion P r.rows
+rows_each P [] index r at all = cc
 rows_each P (x ∷ regions) zero r at all = let same : x ≡ r = cc in subst (λ (y : Region). AllByRecursion P y.rows) same (all_left P x.rows (rows_of regions) all)
-rows_each P (x ∷ regions) (suc place) r at all = rows_each P regions place r at (all_right P x.rows (rows_of regions) all)
+rows_each P (x ∷ regions) (suc index) r at all = rows_each P regions index r at (all_right P x.rows (rows_of regions) all)
 
--- the key of a new row stands in the region at a place already
-pub key_there : (t : TreeView) (place : ℕ) (p : Placed) (key : Key) (rows : List Row) → slice_get t.placed place ≡ Some p → key.number ≡ t.next → has_key t.schema.dims key rows ≡ true
+-- whether a row has the key is seen in the rows' keys
+pub any_key : (dims : ℕ) (key : Key) (rows : List Row) → list_any (is_same key) (keys_of dims rows) ≡ has_key dims key rows
+any_key dims key [] = refl
+any_key dims key (row ∷ rows) = rw (any_key dims key rows) refl
+
+-- the key of a new row stands in the region at an index already
+pub key_there : (t : TreeView) (index : ℕ) (p : Placed) (key : Key) (rows : List Row) → slice_get t.placed index ≡ Some p → key.number ≡ t.next → has_key t.schema.dims key rows ≡ true
     → (IsHonest t.store → rows ≡ p.region.rows) → (¬ (IsSound t)) × IsNumberTaken t p.page
-key_there t place p key rows at number has same = (
+key_there t index p key rows at number has same = (
   λ sound.
-      let less = rows_each (λ row. row.number < t.next) (regions t) place p.region (region_get t.placed place p at) sound.regions_are.numbered in
+      let less = rows_each (λ row. row.number < t.next) (regions t) index p.region (region_get t.placed index p at) sound.regions_are.numbered in
       number_free t.schema.dims key p.region.rows (subst (λ (n : ℕ). AllByRecursion (λ row. row.number < n) p.region.rows) (sym number) less) (rw (same sound.honest) at has),
   (
     p,
-    contained_at (λ (_ : Placed). Unit {0}) t.placed place p at,
+    contained_at (λ (_ : Placed). Unit {0}) t.placed index p at,
     refl,
     λ honest.
         let found = found_row t.schema.dims key p.region.rows (rw (same honest) at has) in

@@ -37,8 +37,8 @@ region_there last (e ∷ entries) zero slot at =
 region_there last (e ∷ entries) (suc i) slot at = region_there last entries i slot at
 
 module _ {X : Type 0} where
-  at_place : (xs : List X) (x : X) (found : Contains xs x) → slice_get xs found.0 ≡ Some x
-  at_place xs x found = slice_get_read xs (length xs) found.0 x refl found.1 (sym found.2)
+  at_index : (xs : List X) (x : X) (found : Contains xs x) → slice_get xs found.0 ≡ Some x
+  at_index xs x found = slice_get_read xs (length xs) found.0 x refl found.1 (sym found.2)
 
   contained : (xs : List X) (i : ℕ) (x : X) → slice_get xs i ≡ Some x → Contains xs x
   contained xs i x at = (i, slice_get_within xs i x at, get_or_from_slice_get xs i x x at)
@@ -47,13 +47,13 @@ module _ {X : Type 0} where
 pub first_of_slots : (P : Region → Type 0) (Q : Slot → Type 0) (last : ℕ) (entries : List Entry) (found : Option Slot) → ((s : Slot) → Q s → P (region_of s)) → ((s : Slot) → P (region_of s) → Q s)
     → slots.First Q (slots.slots_of last entries) found → First P (regions_of last entries) (option_map region_of found)
 first_of_slots P Q last entries None to from none = λ r there p.
-    let (slot, at, is) = slot_there last entries there.0 r (at_place (regions_of last entries) r there) in
+    let (slot, at, is) = slot_there last entries there.0 r (at_index (regions_of last entries) r there) in
     none slot (contained (slots.slots_of last entries) there.0 slot at) (from slot (subst P (sym is) p))
 first_of_slots P Q last entries (Some found) to from (there, has, first) = (
-  contained (regions_of last entries) there.0 (region_of found) (region_there last entries there.0 found (at_place (slots.slots_of last entries) found there)),
+  contained (regions_of last entries) there.0 (region_of found) (region_there last entries there.0 found (at_index (slots.slots_of last entries) found there)),
   to found has,
   λ other listed p before.
-      let (slot, at, is) = slot_there last entries listed.0 other (at_place (regions_of last entries) other listed) in
+      let (slot, at, is) = slot_there last entries listed.0 other (at_index (regions_of last entries) other listed) in
       first slot (contained (slots.slots_of last entries) listed.0 slot at) (from slot (subst P (sym is) p)) (subst (λ (r : Region). IsBefore r.first found.first) (sym is) before),
 )
 

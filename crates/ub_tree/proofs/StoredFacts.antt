@@ -241,45 +241,45 @@ parted [] i x at = cc
 parted (y ∷ xs) zero x at = let same : y ≡ x = cc in ap (λ z. z ∷ xs) (sym same)
 parted (y ∷ xs) (suc i) x at = ap (λ zs. y ∷ zs) (parted xs i x at)
 
--- the rows of the region at a place are put on its page
-pub rewritten_pages : (schema : Schema) (entries : List Entry) (chain : List ℕ) (pages new : List (List ℕ)) (place : ℕ) (e : Entry) (rs : List Row) → slice_get entries place ≡ Some e
+-- the rows of the region at an index are put on its page
+pub rewritten_pages : (schema : Schema) (entries : List Entry) (chain : List ℕ) (pages new : List (List ℕ)) (index : ℕ) (e : Entry) (rs : List Row) → slice_get entries index ≡ Some e
     → ArePlaced schema (placed_of schema pages entries) (0 ∷ chain) pages → ((m : ℕ) → m ≢ 0 → m ≢ e.page → m < length pages → slice_get new m ≡ slice_get pages m) → length pages ≤ length new
     → IsTold schema new (record { page = e.page; region = record { first = e.first; rows = rs } })
     → ArePlaced schema (placed_of schema new entries) (0 ∷ chain) new
-    × (placed_of schema new entries ≡ placed_with place (record { page = e.page; region = record { first = e.first; rows = rs } } ∷ []) (placed_of schema pages entries))
-rewritten_pages schema entries chain pages new place e rs at placed_are kept more told =
-    let before = take place entries in
-    let after = drop (suc place) entries in
+    × (placed_of schema new entries ≡ placed_with index (record { page = e.page; region = record { first = e.first; rows = rs } } ∷ []) (placed_of schema pages entries))
+rewritten_pages schema entries chain pages new index e rs at placed_are kept more told =
+    let before = take index entries in
+    let after = drop (suc index) entries in
     let q : Placed = record { page = e.page; region = record { first = e.first; rows = rs } } in
-    let whole : before ++ e ∷ after ≡ entries = parted entries place e at in
+    let whole : before ++ e ∷ after ≡ entries = parted entries index e at in
     let old : ArePlaced schema (placed_of schema pages (before ++ e ∷ after)) (0 ∷ chain) pages = subst (λ (es : List Entry). ArePlaced schema (placed_of schema pages es) (0 ∷ chain) pages) (sym whole) placed_are in
     let again = stored_again schema pages new before after e chain old kept more q refl told in
     let same : entries ≡ before ++ (e ∷ []) ++ after = sym whole ∙ sym (append_assoc before (e ∷ []) after) in
     let now : placed_of schema new entries ≡ placed_of schema pages before ++ (q ∷ []) ++ placed_of schema pages after = ap (placed_of schema new) same ∙ again.1 in (
       subst (λ (ps : List Placed). ArePlaced schema ps (0 ∷ chain) new) (sym now) again.0,
-      now ∙ rw (take-map (placed_at schema pages) place entries, drop-map (placed_at schema pages) (suc place) entries) refl,
+      now ∙ rw (take-map (placed_at schema pages) index entries, drop-map (placed_at schema pages) (suc index) entries) refl,
     )
 
--- the rows of the region at a place are put on its page and on another one
-pub split_pages : (schema : Schema) (entries : List Entry) (chain : List ℕ) (pages new : List (List ℕ)) (place : ℕ) (e x : Entry) (left right : List Row) → slice_get entries place ≡ Some e
+-- the rows of the region at an index are put on its page and on another one
+pub split_pages : (schema : Schema) (entries : List Entry) (chain : List ℕ) (pages new : List (List ℕ)) (index : ℕ) (e x : Entry) (left right : List Row) → slice_get entries index ≡ Some e
     → ArePlaced schema (placed_of schema pages entries) (0 ∷ chain) pages → ((m : ℕ) → m ≢ 0 → m ≢ e.page → m ≢ x.page → m < length pages → slice_get new m ≡ slice_get pages m) → length pages ≤ length new
     → IsDistinct nat_eq (x.page ∷ ((0 ∷ chain) ++ numbers_of (placed_of schema pages entries)))
     → IsTold schema new (record { page = e.page; region = record { first = e.first; rows = left } }) → IsTold schema new (record { page = x.page; region = record { first = x.first; rows = right } })
-    → ArePlaced schema (placed_of schema new (insert entries (place + 1) x)) (0 ∷ chain) new
-    × (placed_of schema new (insert entries (place + 1) x) ≡ placed_with place (record { page = e.page; region = record { first = e.first; rows = left } } ∷ record { page = x.page; region = record { first = x.first; rows = right } } ∷ []) (placed_of schema pages entries))
-split_pages schema entries chain pages new place e x left right at placed_are kept more fresh told_left told_right =
-    let before = take place entries in
-    let after = drop (suc place) entries in
+    → ArePlaced schema (placed_of schema new (insert entries (index + 1) x)) (0 ∷ chain) new
+    × (placed_of schema new (insert entries (index + 1) x) ≡ placed_with index (record { page = e.page; region = record { first = e.first; rows = left } } ∷ record { page = x.page; region = record { first = x.first; rows = right } } ∷ []) (placed_of schema pages entries))
+split_pages schema entries chain pages new index e x left right at placed_are kept more fresh told_left told_right =
+    let before = take index entries in
+    let after = drop (suc index) entries in
     let q : Placed = record { page = e.page; region = record { first = e.first; rows = left } } in
     let r : Placed = record { page = x.page; region = record { first = x.first; rows = right } } in
-    let whole : before ++ e ∷ after ≡ entries = parted entries place e at in
+    let whole : before ++ e ∷ after ≡ entries = parted entries index e at in
     let old : ArePlaced schema (placed_of schema pages (before ++ e ∷ after)) (0 ∷ chain) pages = subst (λ (es : List Entry). ArePlaced schema (placed_of schema pages es) (0 ∷ chain) pages) (sym whole) placed_are in
     let fresh_here = subst (λ (es : List Entry). IsDistinct nat_eq (x.page ∷ ((0 ∷ chain) ++ numbers_of (placed_of schema pages es)))) (sym whole) fresh in
     let two = stored_two schema pages new before after e chain old q r kept more refl fresh_here told_left told_right in
-    let same : insert entries (place + 1) x ≡ before ++ (e ∷ x ∷ []) ++ after = rw add-one (inserted_parts entries place at ∙ sym (append_assoc before (e ∷ x ∷ []) after)) in
-    let now : placed_of schema new (insert entries (place + 1) x) ≡ placed_of schema pages before ++ (q ∷ r ∷ []) ++ placed_of schema pages after = ap (placed_of schema new) same ∙ two.1 in (
+    let same : insert entries (index + 1) x ≡ before ++ (e ∷ x ∷ []) ++ after = rw add-one (inserted_parts entries index at ∙ sym (append_assoc before (e ∷ x ∷ []) after)) in
+    let now : placed_of schema new (insert entries (index + 1) x) ≡ placed_of schema pages before ++ (q ∷ r ∷ []) ++ placed_of schema pages after = ap (placed_of schema new) same ∙ two.1 in (
       subst (λ (ps : List Placed). ArePlaced schema ps (0 ∷ chain) new) (sym now) two.0,
-      now ∙ rw (take-map (placed_at schema pages) place entries, drop-map (placed_at schema pages) (suc place) entries) refl,
+      now ∙ rw (take-map (placed_at schema pages) index entries, drop-map (placed_at schema pages) (suc index) entries) refl,
     )
   where
     inserted_parts : (es : List Entry) (i : ℕ) → slice_get es i ≡ Some e → take (suc i) es ++ x ∷ drop (suc i) es ≡ take i es ++ e ∷ x ∷ drop (suc i) es

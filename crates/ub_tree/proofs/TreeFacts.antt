@@ -185,11 +185,11 @@ entry_known schema entries pages next reserved i e regions placed at =
       held = (refl, rw (← firsts_back schema pages entries) apart);
     }
 
-pub rows_read : (schema : Schema) (pages : List (List ℕ)) (entries : List Entry) (place : ℕ) (e : Entry) (page : List ℕ) (rows : List Row) (region : Region) (p : Placed)
-    → slice_get entries place ≡ Some e → slice_get pages e.page ≡ Some page → rows ≡ region.rows → region ≡ region_on schema page
-    → slice_get (placed_of schema pages entries) place ≡ Some p → rows ≡ p.region.rows
-rows_read schema pages entries place e page rows region p at at_page same on there =
-    let here = placed_get schema pages entries place e at in
+pub rows_read : (schema : Schema) (pages : List (List ℕ)) (entries : List Entry) (index : ℕ) (e : Entry) (page : List ℕ) (rows : List Row) (region : Region) (p : Placed)
+    → slice_get entries index ≡ Some e → slice_get pages e.page ≡ Some page → rows ≡ region.rows → region ≡ region_on schema page
+    → slice_get (placed_of schema pages entries) index ≡ Some p → rows ≡ p.region.rows
+rows_read schema pages entries index e page rows region p at at_page same on there =
+    let here = placed_get schema pages entries index e at in
     let one : placed_at schema pages e ≡ p = cc in
     let read : slice_index_or pages e.page [] ≡ page = get_or_from_slice_get pages e.page page [] at_page in
     same ∙ ap (λ (r : Region). r.rows) on ∙ ap (λ (q : List ℕ). (region_on schema q).rows) (sym read) ∙ ap (λ (q : Placed). q.region.rows) one

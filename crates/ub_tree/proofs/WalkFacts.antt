@@ -27,7 +27,7 @@ module _ {X : Type 0} where
     those_none [] never = refl
     those_none (x ∷ xs) never = inr (never 0 x refl, those_none xs (λ i y at. never (suc i) y at))
 
-    -- where the first that has it stands at a place
+    -- where the first that has it stands at an index
     those_first : (xs : List X) (n : ℕ) (found : X) (more : List X) → slice_get xs n ≡ Some found → P found
         → ((m : ℕ) (x : X) → m < n → slice_get xs m ≡ Some x → ¬ (P x)) → AreThose P (drop (suc n) xs) more → AreThose P xs (found ∷ more)
     those_first [] n found more at has before rest = cc
@@ -39,7 +39,7 @@ module _ {X : Type 0} where
 
 -- in a list whose first keys ascend
 module _ (P : Span → Type 0) (spans : List Span) (up : (i j : ℕ) (a b : Span) → i < j → slice_get spans i ≡ Some a → slice_get spans j ≡ Some b → IsBefore a.first b.first) where
-  -- later than the one at a place are those from the next place on
+  -- later than the one at an index are those from the next index on
   later_from : (k i : ℕ) (a r : Span) → slice_get spans k ≡ Some a → slice_get spans i ≡ Some r → IsBefore a.first r.first ↔ (suc k ≤ i)
   later_from k i a r at_k at_i = (to, λ after. up k i a r (omega arith) at_k at_i)
     where
@@ -55,22 +55,22 @@ module _ (P : Span → Type 0) (spans : List Span) (up : (i j : ℕ) (a b : Span
         ]
       ]
 
-  answered : (answers : List Span) (after : Option Span) (place : ℕ) → ((i : ℕ) (r : Span) → slice_get spans i ≡ Some r → IsLater after r ↔ (place ≤ i))
-      → AreAnswers P spans after answers → AreThose P (drop place spans) answers
-  answered [] after place later none = those_none P (drop place spans) (λ i r at has.
-      let at_i : slice_get spans (place + i) ≡ Some r = sym (drop_get place i spans) ∙ at in
-      none r (contains_at spans (place + i) r at_i) ((later (place + i) r at_i).1 (omega arith), has))
-  answered (found ∷ more) after place later (first, rest) =
+  answered : (answers : List Span) (after : Option Span) (index : ℕ) → ((i : ℕ) (r : Span) → slice_get spans i ≡ Some r → IsLater after r ↔ (index ≤ i))
+      → AreAnswers P spans after answers → AreThose P (drop index spans) answers
+  answered [] after index later none = those_none P (drop index spans) (λ i r at has.
+      let at_i : slice_get spans (index + i) ≡ Some r = sym (drop_get index i spans) ∙ at in
+      none r (contains_at spans (index + i) r at_i) ((later (index + i) r at_i).1 (omega arith), has))
+  answered (found ∷ more) after index later (first, rest) =
       let k : ℕ = first.0.0 in
       let at_k : slice_get spans k ≡ Some found = contained_at spans found first.0 in
-      let from : place ≤ k = (later k found at_k).0 first.1.0 in
-      let again : place + (k - place) ≡ k = omega arith in
-      let there : slice_get (drop place spans) (k - place) ≡ Some found = drop_get place (k - place) spans ∙ ap (slice_get spans) again ∙ at_k in
-      those_first P (drop place spans) (k - place) found more there first.1.1
+      let from : index ≤ k = (later k found at_k).0 first.1.0 in
+      let again : index + (k - index) ≡ k = omega arith in
+      let there : slice_get (drop index spans) (k - index) ≡ Some found = drop_get index (k - index) spans ∙ ap (slice_get spans) again ∙ at_k in
+      those_first P (drop index spans) (k - index) found more there first.1.1
       (λ m r lt at has.
-      let at_m : slice_get spans (place + m) ≡ Some r = sym (drop_get place m spans) ∙ at in
-      first.2 r (contains_at spans (place + m) r at_m) ((later (place + m) r at_m).1 (omega arith), has) (up (place + m) k r found (omega arith) at_m at_k))
-      (subst (λ (xs : List Span). AreThose P xs more) (dropped place (k - place) k spans (sym again)) (answered more (Some found) (suc k) (λ i r at. later_from k i found r at_k at) rest))
+      let at_m : slice_get spans (index + m) ≡ Some r = sym (drop_get index m spans) ∙ at in
+      first.2 r (contains_at spans (index + m) r at_m) ((later (index + m) r at_m).1 (omega arith), has) (up (index + m) k r found (omega arith) at_m at_k))
+      (subst (λ (xs : List Span). AreThose P xs more) (dropped index (k - index) k spans (sym again)) (answered more (Some found) (suc k) (λ i r at. later_from k i found r at_k at) rest))
     where
       dropped : (n m k : ℕ) (xs : List Span) → k ≡ n + m → drop (suc k) xs ≡ drop (suc m) (drop n xs)
       dropped zero m k xs is = let same : k ≡ m = omega arith in ap (λ (j : ℕ). drop (suc j) xs) same

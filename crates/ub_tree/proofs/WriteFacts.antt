@@ -1,5 +1,5 @@
 -- What a tree's pages are after a change.
-use Rattle.std.proofs.Common.{◌≡◌, ◌≢◌, ◌<◌, ◌≤◌, ◌+◌, ◌^◌, ◌⊎◌, inl, inr, ℕ, zero, suc, Bool, true, false, List, [], ◌∷◌, ◌++◌, Option, None, Some, IsNone, IfSome, ◌↔◌, Err, length, map, drop, nat_eq, ◌∙◌, sym, ap, subst, refl, arith, slice_get, Ok, IfErr, IsTrue, OnOk, Result, IsErrOf}
+use Rattle.std.proofs.Common.{◌≡◌, ◌≢◌, ◌<◌, ◌≤◌, ◌+◌, ◌^◌, ◌⊎◌, inl, inr, ℕ, zero, suc, Bool, true, false, List, [], ◌∷◌, ◌++◌, Option, None, Some, Bor, option_copied, IsNone, IfSome, ◌↔◌, Err, length, map, drop, nat_eq, ◌∙◌, sym, ap, subst, refl, arith, slice_get, Ok, IfErr, IsTrue, OnOk, Result, IsErrOf}
 use Rattle.std.proofs.lemmas.Bool.{eq-eqb}
 use Rattle.std.proofs.lemmas.List.Elements.{recursion_from_All}
 use Rattle.std.proofs.lemmas.Map.Keys.{IsDistinct-head}
@@ -38,20 +38,20 @@ use Rattle.ub_directory.specs.Inner.{reserved}
 pub stored_of : (t : TreeView) → IsSound t → IsStored t
 stored_of t sound = record { working = sound.working; honest = sound.honest; placed_are = sound.placed_are }
 
--- the rows of the region at a place, put on its page
-pub rewritten : (schema : Schema) (entries : List Entry) (chain : List ℕ) (next rows : ℕ) (changed failed : Bool) (old new : PagerView) (place : ℕ) (e : Entry) (rs : List Row) (page : List ℕ) (p : Placed)
-    → slice_get entries place ≡ Some e → page ≡ region_page schema (record { first = e.first; rows = rs })
+-- the rows of the region at an index, put on its page
+pub rewritten : (schema : Schema) (entries : List Entry) (chain : List ℕ) (next rows : ℕ) (changed failed : Bool) (old new : PagerView) (index : ℕ) (e : Entry) (rs : List Row) (page : List ℕ) (p : Placed)
+    → slice_get entries index ≡ Some e → page ≡ region_page schema (record { first = e.first; rows = rs })
     → (IsRegion schema (record { first = e.first; rows = rs }) → region_on schema page ≡ record { first = e.first; rows = rs })
     → Puts e.page page old.store new.store → new.store.honest ≡ old.store.honest
-    → IsStored (tree_view schema entries chain next rows changed failed old) → slice_get (placed_of schema (known_pages old.store) entries) place ≡ Some p
+    → IsStored (tree_view schema entries chain next rows changed failed old) → slice_get (placed_of schema (known_pages old.store) entries) index ≡ Some p
     → IsRegion schema (record { first = p.region.first; rows = rs })
     → IsStored (tree_view schema entries chain next rows true failed new)
-    × (placed_of schema (known_pages new.store) entries ≡ placed_with place (record { page = p.page; region = record { first = p.region.first; rows = rs } } ∷ []) (placed_of schema (known_pages old.store) entries))
-rewritten schema entries chain next rows changed failed old new place e rs page p at spells back puts honest stored there =
-    let here = placed_get schema (known_pages old.store) entries place e at in
+    × (placed_of schema (known_pages new.store) entries ≡ placed_with index (record { page = p.page; region = record { first = p.region.first; rows = rs } } ∷ []) (placed_of schema (known_pages old.store) entries))
+rewritten schema entries chain next rows changed failed old new index e rs page p at spells back puts honest stored there =
+    let here = placed_get schema (known_pages old.store) entries index e at in
     let same : placed_at schema (known_pages old.store) e ≡ p = cc in
     subst (λ (q : Placed). IsRegion schema (record { first = q.region.first; rows = rs }) → IsStored (tree_view schema entries chain next rows true failed new)
-    × (placed_of schema (known_pages new.store) entries ≡ placed_with place (record { page = q.page; region = record { first = q.region.first; rows = rs } } ∷ []) (placed_of schema (known_pages old.store) entries)))
+    × (placed_of schema (known_pages new.store) entries ≡ placed_with index (record { page = q.page; region = record { first = q.region.first; rows = rs } } ∷ []) (placed_of schema (known_pages old.store) entries)))
     same by_entry
   where
     region : Region
@@ -63,18 +63,23 @@ rewritten schema entries chain next rows changed failed old new place e rs page 
     by_pages : (pages changed_pages : List (List ℕ)) → pages ≡ old.store.pages → changed_pages ≡ new.store.pages → ArePlaced schema (placed_of schema pages entries) (0 ∷ chain) old.store.pages
         → IsTold schema new.store.pages (record { page = e.page; region = record { first = e.first; rows = rs } })
         → ArePlaced schema (placed_of schema changed_pages entries) (0 ∷ chain) new.store.pages
-        × (placed_of schema changed_pages entries ≡ placed_with place (record { page = e.page; region = record { first = e.first; rows = rs } } ∷ []) (placed_of schema pages entries))
+        × (placed_of schema changed_pages entries ≡ placed_with index (record { page = e.page; region = record { first = e.first; rows = rs } } ∷ []) (placed_of schema pages entries))
     by_pages pages changed_pages is_old is_new placed_are told =
-        rw is_new (rw is_old (rewritten_pages schema entries chain old.store.pages new.store.pages place e rs at (rw is_old at placed_are)
+        rw is_new (rw is_old (rewritten_pages schema entries chain old.store.pages new.store.pages index e rs at (rw is_old at placed_are)
         (λ m not_first not_here lt. puts.others stored.honest m not_first not_here) (let count = puts.count in omega arith) told))
 
     by_entry : IsRegion schema (record { first = e.first; rows = rs }) → IsStored (tree_view schema entries chain next rows true failed new)
-        × (placed_of schema (known_pages new.store) entries ≡ placed_with place (record { page = e.page; region = record { first = e.first; rows = rs } } ∷ []) (placed_of schema (known_pages old.store) entries))
+        × (placed_of schema (known_pages new.store) entries ≡ placed_with index (record { page = e.page; region = record { first = e.first; rows = rs } } ∷ []) (placed_of schema (known_pages old.store) entries))
     by_entry good =
         let told : IsTold schema new.store.pages (record { page = e.page; region = record { first = e.first; rows = rs } }) =
         (puts.written stored.honest ∙ ap (λ (q : List ℕ). Some q) spells, ap (region_on schema) (sym spells) ∙ back good) in
         let both = by_pages (known_pages old.store) (known_pages new.store) (known_is old.store stored.honest) (known_is new.store now) stored.placed_are told in
         (record { working = stored.working; honest = now; placed_are = both.0 }, both.1)
+
+-- a mark is given or not, whether it is seen or lent
+pub unmarked : (mark : Option (Bor (List ℕ))) (P : Type 0) → IsNone mark ↔ P → IsNone (option_copied mark) ↔ P
+unmarked None P h = (λ none. h.0 refl, λ p. refl)
+unmarked (Some page) P h = (λ none. cc, λ p. (let none = h.1 p in cc))
 
 -- a page that is refused is one of no sound tree
 pub missing_page : (t : TreeView) (count page : ℕ) (found : List ℕ) → IsSound t → count ≡ length t.store.pages → slice_get t.store.pages page ≡ Some found → (count ≡ 0) ⊎ (count ≤ page) → ⊥
@@ -87,12 +92,12 @@ numbers_get schema pages (f ∷ entries) zero e at = let same : f ≡ e = cc in 
 numbers_get schema pages (f ∷ entries) (suc i) e at = numbers_get schema pages entries i e at
 
 -- the page of a region isn't the first
-pub own_page : (schema : Schema) (entries : List Entry) (chain : List ℕ) (pages known : List (List ℕ)) (place : ℕ) (e : Entry) → ArePlaced schema (placed_of schema known entries) (0 ∷ chain) pages
-    → slice_get entries place ≡ Some e → e.page ≢ 0
-own_page schema entries chain pages known place e placed_are at =
+pub own_page : (schema : Schema) (entries : List Entry) (chain : List ℕ) (pages known : List (List ℕ)) (index : ℕ) (e : Entry) → ArePlaced schema (placed_of schema known entries) (0 ∷ chain) pages
+    → slice_get entries index ≡ Some e → e.page ≢ 0
+own_page schema entries chain pages known index e placed_are at =
     let numbers = numbers_of (placed_of schema known entries) in
-    differs 0 e.page (each_get (λ m. nat_eq 0 m ≡ false) numbers place e.page
-    (all_right (λ m. nat_eq 0 m ≡ false) chain numbers (IsDistinct-head nat_eq 0 (chain ++ numbers) placed_are.own)) (numbers_get schema known entries place e at))
+    differs 0 e.page (each_get (λ m. nat_eq 0 m ≡ false) numbers index e.page
+    (all_right (λ m. nat_eq 0 m ≡ false) chain numbers (IsDistinct-head nat_eq 0 (chain ++ numbers) placed_are.own)) (numbers_get schema known entries index e at))
 
 -- a sound tree has a page after the first
 pub second_page : (t : TreeView) (chain : List ℕ) → reserved t.inner ≡ 0 ∷ chain → 1 ≤ length chain → IsSound t → 2 ≤ length t.store.pages
@@ -336,16 +341,16 @@ module _ (schema : Schema) (entries : List Entry) (chain : List ℕ) (next rows 
       let leaves = extended_leaves schema entries chain next rows changed failed old new extended same trace in
       rw is (leaves_changed (Store store.BadSize) leaves (inl (let most = full refl in omega arith), leaves))
 
--- the rows of the region at a place, put on its page and on another one
-module _ (schema : Schema) (entries : List Entry) (chain : List ℕ) (next rows : ℕ) (changed failed : Bool) (old new : PagerView) (place : ℕ) (e x : Entry) (left right : List Row) (page other : List ℕ)
-    (at : slice_get entries place ≡ Some e)
+-- the rows of the region at an index, put on its page and on another one
+module _ (schema : Schema) (entries : List Entry) (chain : List ℕ) (next rows : ℕ) (changed failed : Bool) (old new : PagerView) (index : ℕ) (e x : Entry) (left right : List Row) (page other : List ℕ)
+    (at : slice_get entries index ≡ Some e)
     (spells : page ≡ region_page schema (record { first = e.first; rows = left }))
     (back : IsRegion schema (record { first = e.first; rows = left }) → region_on schema page ≡ record { first = e.first; rows = left })
     (spells_other : other ≡ region_page schema (record { first = x.first; rows = right }))
     (back_other : IsRegion schema (record { first = x.first; rows = right }) → region_on schema other ≡ record { first = x.first; rows = right })
     (puts : PutsTwo x.page other e.page page old.store new.store) (honest : new.store.honest ≡ old.store.honest) where
   abbrev entries_after : List Entry
-  entries_after = insert entries (place + 1) x
+  entries_after = insert entries (index + 1) x
 
   abbrev left_of : ℕ → Key → Placed
   left_of n first = record { page = n; region = record { first = first; rows = left } }
@@ -357,21 +362,21 @@ module _ (schema : Schema) (entries : List Entry) (chain : List ℕ) (next rows 
       → IsDistinct nat_eq (x.page ∷ ((0 ∷ chain) ++ numbers_of (placed_of schema pages entries)))
       → IsTold schema new.store.pages (left_of e.page e.first) → IsTold schema new.store.pages right_of
       → ArePlaced schema (placed_of schema changed_pages entries_after) (0 ∷ chain) new.store.pages
-      × (placed_of schema changed_pages entries_after ≡ placed_with place (left_of e.page e.first ∷ right_of ∷ []) (placed_of schema pages entries))
+      × (placed_of schema changed_pages entries_after ≡ placed_with index (left_of e.page e.first ∷ right_of ∷ []) (placed_of schema pages entries))
   split_known pages changed_pages is_old is_new honest_old placed_are fresh told_left told_right =
-      rw is_new (rw is_old (split_pages schema entries chain old.store.pages new.store.pages place e x left right at (rw is_old at placed_are)
+      rw is_new (rw is_old (split_pages schema entries chain old.store.pages new.store.pages index e x left right at (rw is_old at placed_are)
       (λ m not_first not_here not_there lt. puts.others honest_old m not_first not_there not_here) (let count = puts.count in omega arith) (rw is_old at fresh) told_left told_right))
 
   pub halved : (p : Placed) → IsStored (tree_view schema entries chain next rows changed failed old) → IsFresh x.page (tree_view schema entries chain next rows changed failed old)
-      → slice_get (placed_of schema (known_pages old.store) entries) place ≡ Some p
+      → slice_get (placed_of schema (known_pages old.store) entries) index ≡ Some p
       → IsRegion schema (record { first = p.region.first; rows = left }) → IsRegion schema (record { first = x.first; rows = right })
       → IsStored (tree_view schema entries_after chain next rows true failed new)
-      × (placed_of schema (known_pages new.store) entries_after ≡ placed_with place (left_of p.page p.region.first ∷ right_of ∷ []) (placed_of schema (known_pages old.store) entries))
+      × (placed_of schema (known_pages new.store) entries_after ≡ placed_with index (left_of p.page p.region.first ∷ right_of ∷ []) (placed_of schema (known_pages old.store) entries))
   halved p stored fresh there good_left good_right =
-      let here = placed_get schema (known_pages old.store) entries place e at in
+      let here = placed_get schema (known_pages old.store) entries index e at in
       let same : placed_at schema (known_pages old.store) e ≡ p = cc in
       subst (λ (q : Placed). IsRegion schema (record { first = q.region.first; rows = left }) → IsStored (tree_view schema entries_after chain next rows true failed new)
-      × (placed_of schema (known_pages new.store) entries_after ≡ placed_with place (left_of q.page q.region.first ∷ right_of ∷ []) (placed_of schema (known_pages old.store) entries)))
+      × (placed_of schema (known_pages new.store) entries_after ≡ placed_with index (left_of q.page q.region.first ∷ right_of ∷ []) (placed_of schema (known_pages old.store) entries)))
       same by_entry good_left
     where
       now : IsHonest new.store
@@ -388,7 +393,7 @@ module _ (schema : Schema) (entries : List Entry) (chain : List ℕ) (next rows 
 
       not_here : x.page ≢ e.page
       not_here same =
-          let f = number_apart entries place at numbers_apart in
+          let f = number_apart entries index at numbers_apart in
           let t = eq-eqb x.page e.page same in cc
         where
           number_apart : (es : List Entry) (i : ℕ) → slice_get es i ≡ Some e → AllByRecursion (λ m. nat_eq x.page m ≡ false) (numbers_of (placed_of schema (known_pages old.store) es)) → nat_eq x.page e.page ≡ false
@@ -397,7 +402,7 @@ module _ (schema : Schema) (entries : List Entry) (chain : List ℕ) (next rows 
           number_apart (y ∷ es) (suc i) at_i all = number_apart es i at_i all.1
 
       by_entry : IsRegion schema (record { first = e.first; rows = left }) → IsStored (tree_view schema entries_after chain next rows true failed new)
-          × (placed_of schema (known_pages new.store) entries_after ≡ placed_with place (left_of e.page e.first ∷ right_of ∷ []) (placed_of schema (known_pages old.store) entries))
+          × (placed_of schema (known_pages new.store) entries_after ≡ placed_with index (left_of e.page e.first ∷ right_of ∷ []) (placed_of schema (known_pages old.store) entries))
       by_entry good =
           let told_left : IsTold schema new.store.pages (left_of e.page e.first) =
           (puts.written_other stored.honest ∙ ap (λ (q : List ℕ). Some q) spells, ap (region_on schema) (sym spells) ∙ back good) in

@@ -1,5 +1,5 @@
 -- What a change of one region does to a tree.
-use Rattle.std.specs.Prelude.{IfSome, ◌≡◌, ◌≢◌, ◌<◌, ◌+◌, ◌-◌, ◌++◌, ℕ, ℤ, pos, suc, Bool, true, false, List, [], ◌∷◌, Option, Some, MatchOption, IsTrue, Result, Err, IfErr, OnOk, length, map, take, drop, replicate, slice_get}
+use Rattle.std.specs.Prelude.{IfSome, ◌≡◌, ◌≢◌, ◌<◌, ◌+◌, ◌-◌, ◌⊎◌, ◌++◌, ℕ, ℤ, pos, suc, Bool, true, false, List, [], ◌∷◌, Option, Some, MatchOption, IsTrue, Result, Err, IfErr, OnOk, length, map, take, drop, replicate, slice_get}
 use Rattle.std.specs.Bool.{nat_eq}
 use Rattle.std.specs.List.{AllByRecursion, IsDistinct, insert as insert_at}
 use Rattle.ub_region.specs.Regions.{AreTableRows, insert, split_region}
@@ -8,6 +8,7 @@ use Rattle.ub_zaddr.specs.Address.{last_address}
 use Rattle.ub_tree.specs.Spans.{ArePlaces, first_keys}
 use Rattle.ub_store.specs.Facts.{StoreFacts, IsHonest, page_count}
 use Rattle.ub_store.specs.View.{PagerView}
+use Rattle.ub_page.specs.Region.{region_page}
 use Rattle.ub_page.specs.declared.directory.Entry.{Entry}
 use Rattle.ub_table.specs.Keys.{IsBefore}
 use Rattle.ub_table.specs.Region.{Region, IsRegion, keys_of}
@@ -66,9 +67,9 @@ pub record Marks (mark : Option (List ℕ)) (numbers : List ℕ) (was now : Bool
 abbrev pub IsElsewhereSame : TreeView → TreeView → Type 0
 IsElsewhereSame old new = new ≡ record old { placed = new.placed; store = new.store; is_changed = true }
 
--- in place of the region at a place stand these
+-- in place of the region at an index stand these
 abbrev pub placed_with : ℕ → List Placed → List Placed → List Placed
-placed_with place news placed = take place placed ++ news ++ drop (suc place) placed
+placed_with index news placed = take index placed ++ news ++ drop (suc index) placed
 
 -- what a call within that only writes can answer, and what it leaves then
 abbrev pub IsWriteFault : TreeView → TreeView → TreeFault → Type 0
@@ -82,6 +83,21 @@ pub record Writes {A : Type 0} (old new : TreeView) (result : Result A TreeFault
   pub marked : IsMarkedFirst old new
   pub done : OnOk result (new.is_failed ≡ old.is_failed)
   pub faults : IfErr result (IsWriteFault old new)
+
+-- where the page spells rows, they are those of the region of the seat now
+abbrev pub PutsRows : {A : Type 0} → SeatView → List ℕ → TreeView → TreeView → Result A TreeFault → Type 0
+PutsRows seat page old new result =
+    IsStored old → (p : Placed) (rows : List Row) → slice_get old.placed seat.index ≡ Some p → IsRegion old.schema (record { first = p.region.first; rows = rows })
+    → page ≡ region_page old.schema (record { first = seat.first; rows = rows })
+    → OnOk result (IsStored new × (new.placed ≡ placed_with seat.index (record { page = p.page; region = record { first = p.region.first; rows = rows } } ∷ []) old.placed))
+
+-- the page is put in the place of that of the region of a seat
+pub record PutsAt {A : Type 0} (seat : SeatView) (page : List ℕ) (old new : TreeView) (result : Result A TreeFault) : Type 0 where
+  pub same : OnOk result (IsElsewhereSame old new)
+  pub written : PutsRows seat page old new result
+  pub count : length new.placed ≡ length old.placed
+  pub faults : IfErr result (λ fault. (fault ≡ Store store.Device) ⊎ (fault ≡ Store store.NoPage))
+  pub effect : Writes old new result
 
 -- what an extension of the store can answer a tree, and what it leaves of it then, whatever its other parts are
 abbrev pub IsExtensionFault : Bool → Bool → PagerView → PagerView → TreeFault → Type 0
@@ -107,25 +123,31 @@ IsFresh n t = IsDistinct nat_eq (n ∷ (reserved t.inner ++ map (λ p. p.page) t
 abbrev pub IsSeatIn : TreeView → SeatView → Type 0
 IsSeatIn t seat = IsSeat (map entry_of t.placed) seat
 
--- the rows are those of a region which begins as that at a place does, and they stand before the next region
+-- the rows are those of a region which begins as that at an index does, and they stand before the next region
 abbrev pub AreRowsAt : Schema → List Entry → ℕ → List Row → Type 0
-AreRowsAt schema entries place rows =
-    (entry : Entry) → slice_get entries place ≡ Some entry → IsRegion schema (record { first = entry.first; rows = rows })
-    × IfSome (slice_get (first_keys entries) (suc place)) (λ next. AllByRecursion (λ key. IsBefore key next) (keys_of schema.dims rows))
+AreRowsAt schema entries index rows =
+    (entry : Entry) → slice_get entries index ≡ Some entry → IsRegion schema (record { first = entry.first; rows = rows })
+    × IfSome (slice_get (first_keys entries) (suc index)) (λ next. AllByRecursion (λ key. IsBefore key next) (keys_of schema.dims rows))
 
--- a region can begin with this key after that at a place
+-- a region can begin with this key after that at an index
 abbrev pub HasRoom : ℕ → Key → TreeView → Type 0
-HasRoom place first t = (page : ℕ) → ArePlaces (last_address t.schema.dims) (insert_at (map entry_of t.placed) (place + 1) (record { first = first; page = page }))
+HasRoom index first t = (page : ℕ) → ArePlaces (last_address t.schema.dims) (insert_at (map entry_of t.placed) (index + 1) (record { first = first; page = page }))
 
--- in place of the region at a place stand two, the second on a page of its own
+-- in place of the region at an index stand two, the second on a page of its own
 abbrev pub IsSplitAt : ℕ → Placed → Halves → TreeView → TreeView → Type 0
-IsSplitAt place p halves old new =
-    (n : ℕ) × (new.placed ≡ placed_with place (record { page = p.page; region = record { first = p.region.first; rows = halves.left } } ∷ record { page = n; region = record { first = halves.first; rows = halves.right } } ∷ []) old.placed)
+IsSplitAt index p halves old new =
+    (n : ℕ) × (new.placed ≡ placed_with index (record { page = p.page; region = record { first = p.region.first; rows = halves.left } } ∷ record { page = n; region = record { first = halves.first; rows = halves.right } } ∷ []) old.placed)
 
 -- what becomes of a region that begins with this key, of these rows
 abbrev pub split_of : Schema → Key → List Row → List Region
 split_of schema first rows = split_region schema.dims schema.page_rows (record { first = first; rows = rows })
 
--- in place of the region at a place these
+-- in place of the region at an index these
 abbrev pub regions_with : ℕ → List Region → List Region → List Region
-regions_with place news regions = take place regions ++ news ++ drop (suc place) regions
+regions_with index news regions = take index regions ++ news ++ drop (suc index) regions
+
+-- the region at an index has these rows now, or it and a new one have them, where they are more than a page holds
+abbrev pub StoresRows : {A : Type 0} → ℕ → List Row → TreeView → TreeView → Result A TreeFault → Type 0
+StoresRows index rows old new result =
+    IsStored old → (p : Placed) → slice_get old.placed index ≡ Some p → AllByRecursion (IsRegion old.schema) (split_of old.schema p.region.first rows)
+    → OnOk result (IsStored new × (regions new ≡ regions_with index (split_of old.schema p.region.first rows) (regions old)))

@@ -1,13 +1,14 @@
 ghost use Rattle.std.specs.Int.{w64};
-ghost use Rattle.std.specs.Prelude.{FitsSigned, map, ◌≡◌, ◌+◌, ◌-◌, ◌↔◌, pos, replicate, ◌<◌, ◌≤◌, ◌⊎◌, ◌∷◌, ◌++◌, [], true, false, IsTrue, Some, Ok, Err, length, slice_get, IfOk, IfErr, IfSome, IsNone, IsSome, OnOk};
-ghost use Rattle.std.specs.List.{AllByRecursion};
-ghost use Rattle.ub_region.specs.Rows.{has_key, split};
+ghost use Rattle.std.specs.Prelude.{FitsSigned, map, ◌≡◌, ◌≢◌, ◌+◌, ◌-◌, ◌↔◌, pos, replicate, ◌<◌, ◌≤◌, ◌⊎◌, ◌∷◌, ◌++◌, [], true, false, IsTrue, Some, Ok, Err, length, slice_get, IfOk, IfErr, IfSome, IsNone, IsSome, OnOk, List, option_copied};
+ghost use Rattle.std.specs.List.{AllByRecursion, insert, list_any};
+ghost use Rattle.ub_region.specs.Rows.{insert_row, split};
 ghost use Rattle.ub_store.specs.Facts as facts;
 ghost use Rattle.ub_store.specs.Facts.{page_count, zero_page, Appends};
 ghost use Rattle.ub_store.specs.View.{SameTrace};
-ghost use Rattle.ub_table.specs.Region.{IsRegion, measures_of};
+ghost use Rattle.ub_table.specs.Keys.{AreKeysAscending, is_same};
+ghost use Rattle.ub_table.specs.Region.{IsRegion, key_of, keys_of, measures_of};
 ghost use Rattle.ub_tree.specs.Change as spec;
-ghost use Rattle.ub_tree.specs.Change.{AreRowsAt, IsStored, IsSeatIn, Puts, IsElsewhereSame, placed_with, IsInserted, IsSplitAt, HasRoom, IsExtensionFault, Writes, split_of, regions_with};
+ghost use Rattle.ub_tree.specs.Change.{AreRowsAt, IsStored, IsSeatIn, Puts, IsElsewhereSame, placed_with, IsInserted, IsSplitAt, HasRoom, IsExtensionFault, PutsAt, PutsRows, StoresRows, Writes};
 ghost use Rattle.ub_tree.specs.Effects.{Searches, Changes};
 ghost use Rattle.ub_tree.specs.Placed.{Placed, entry_of};
 ghost use Rattle.ub_tree.specs.Stored.{IsMarkPage};
@@ -17,18 +18,29 @@ use crate::fault::TreeFault;
 use crate::header::mark_page;
 use crate::order::{write_page, write_pages};
 use crate::reading::take_region;
+use crate::room::{Room, new_room};
 use crate::tree::Tree;
 use ub_directory::Seat;
-use ub_page::{Page, write_region};
-use ub_region::{Halves, Rows, is_key_of};
+use ub_page::{Page, RegionPage, write_region};
+use ub_region::{Halves, Rows, index_in, is_equal};
 use ub_store::{MAX_PAGES, PageStore, Pager, StoreFault};
 use ub_table::{Key, MAX_ROW_NUMBER, PageFault, Row};
-use ub_zaddr::Shape;
 
 // One above the last number that a row can have.
 const NEXT_END: u32 = MAX_ROW_NUMBER + 1;
 
 impl<S: PageStore> Tree<S> {
+    // The room for a region, which is given back to `room` after use.
+    fn take_room(&mut self) -> Result<Box<Room>, TreeFault>
+        ensures same { self.new ≡ self.old }
+        ensures effect { Searches self.old self.new result }
+    {
+        if let Some(room) = self.room.take() {
+            return Ok(room);
+        }
+        Ok(new_room(self.alloc, self.schema.shape())?)
+    }
+
     // The rows of the region of a seat.
     pub(crate) fn rows_at(&mut self, seat: &Seat) -> Result<Rows, TreeFault>
         requires { IsSeatIn self.old seat.now }
@@ -40,23 +52,28 @@ impl<S: PageStore> Tree<S> {
             → rows ≡ p.region.rows) }
         ensures effect { Searches self.old self.new result }
     {
-        let mut rows = Rows::new();
-        match self.put_rows_at(seat, &mut rows) {
+        let mut room = self.take_room()?;
+        let read = self.read_at(seat, &mut room.region);
+        let rows = Rows::from_slice(room.region.rows());
+        self.room = Some(room);
+        match read {
             Ok(()) => Ok(rows),
             Err(fault) => Err(fault),
         }
     }
 
-    // Puts the rows of the region of a seat where there are none, so that no rows move.
-    fn put_rows_at(&mut self, seat: &Seat, rows: &mut Rows) -> Result<(), TreeFault>
-        requires seat { IsSeatIn self.old seat.now }
-        requires none { rows.old ≡ [] }
-        ensures few { OnOk result (length rows.new ≤ self.old.schema.page_rows) }
-        ensures at { OnOk result
-            (AreRowsAt self.old.schema (map entry_of self.old.placed) seat.now.index rows.new) }
+    // Reads the region of a seat. After a fault any region may stand there.
+    fn read_at(&mut self, seat: &Seat, region: &mut RegionPage) -> Result<(), TreeFault>
+        requires { IsSeatIn self.old seat.now }
+        ensures dims { OnOk result (region.new.dims ≡ self.old.schema.dims) }
+        ensures first { OnOk result (region.new.region.first ≡ seat.now.first) }
+        ensures few { OnOk result
+            (length region.new.region.rows ≤ self.old.schema.page_rows) }
+        ensures at { OnOk result (AreRowsAt self.old.schema
+            (map entry_of self.old.placed) seat.now.index region.new.region.rows) }
         ensures rows { facts.IsHonest self.old.store
             → OnOk result ((p : Placed) → slice_get self.old.placed seat.now.index ≡ Some p
-            → rows.new ≡ p.region.rows) }
+            → region.new.region.rows ≡ p.region.rows) }
         ensures effect { Searches self.old self.new result }
     {
         let number = seat.page();
@@ -67,9 +84,8 @@ impl<S: PageStore> Tree<S> {
             seat.next(),
             number,
             self.pager.cached(number),
-            &mut self.held,
+            region,
         )?;
-        rows.extend(self.held.rows());
         Ok(())
     }
 
@@ -116,14 +132,52 @@ impl<S: PageStore> Tree<S> {
             ⊎ (fault ≡ TreeFault.Store StoreFault.NoPage)) }
         ensures effect { Writes self.old self.new result }
     {
-        let mark = self.mark();
         let page = write_region(&self.schema, seat.first(), rows);
+        self.put_page(seat, &page)
+    }
+
+    // Puts a page in the place of that of the region of a seat, and before it the mark, unless the
+    // table is marked already. After a fault the tree has failed.
+    fn put_page(&mut self, seat: &Seat, page: &Page) -> Result<(), TreeFault>
+        requires { IsSeatIn self.old seat.now }
+        ensures { PutsAt seat.now page.now self.old self.new result }
+    {
+        if self.is_changed {
+            return self.put_marked(None, seat, page);
+        }
+        self.put_first(seat, page)
+    }
+
+    // The same where the table isn't marked. The mark stands in this function alone, since a
+    // function clears the room of its values wherever it is entered.
+    fn put_first(&mut self, seat: &Seat, page: &Page) -> Result<(), TreeFault>
+        requires seat { IsSeatIn self.old seat.now }
+        requires unmarked { self.old.is_changed ≡ false }
+        ensures { PutsAt seat.now page.now self.old self.new result }
+    {
+        let mark = self.first_mark();
+        self.put_marked(mark.as_ref(), seat, page)
+    }
+
+    // The same with this mark, which is given where the table isn't marked.
+    fn put_marked(&mut self, mark: Option<&Page>, seat: &Seat, page: &Page) -> Result<(), TreeFault>
+        requires seat { IsSeatIn self.old seat.now }
+        requires mark { IfSome (option_copied mark)
+            (λ page. IsMarkPage self.old.schema page) }
+        requires unmarked { IsNone mark ↔ IsTrue self.old.is_changed }
+        ensures same { OnOk result (IsElsewhereSame self.old self.new) }
+        ensures written { PutsRows seat.now page.now self.old self.new result }
+        ensures count { length self.new.placed ≡ length self.old.placed }
+        ensures faults { IfErr result (λ fault. (fault ≡ TreeFault.Store StoreFault.Device)
+            ⊎ (fault ≡ TreeFault.Store StoreFault.NoPage)) }
+        ensures effect { Writes self.old self.new result }
+    {
         match write_page(
             &mut self.pager,
             &mut self.is_changed,
-            mark.as_ref(),
+            mark,
             seat.page(),
-            &page,
+            page,
         ) {
             Ok(()) => Ok(()),
             Err(fault) => {
@@ -183,30 +237,62 @@ impl<S: PageStore> Tree<S> {
         }
     }
 
-    // Puts the rows of the region of a seat, of which there may be one more than a page holds, on
-    // its page, or on that and a new one.
-    fn store_rows(&mut self, seat: &Seat, rows: &Rows) -> Result<(), TreeFault>
+    // Puts a row in among those of the region of a seat, which was read into this room, and puts
+    // them on its page, or on that and a new one.
+    fn store_with(
+        &mut self,
+        seat: &Seat,
+        key: &Key,
+        row: &Row,
+        room: &mut Room,
+    ) -> Result<(), TreeFault>
         requires seat { IsSeatIn self.old seat.now }
-        requires most { length rows.now ≤ self.old.schema.page_rows + 1 }
-        requires room { self.old.schema.page_rows < length rows.now
-            → HasRoom seat.now.index
-            (split self.old.schema.dims self.old.schema.page_rows rows.now).first self.old }
+        requires key { key.now ≡ key_of self.old.schema.dims row.now }
+        requires dims { room.old.region.dims ≡ self.old.schema.dims }
+        requires first { room.old.region.region.first ≡ seat.now.first }
+        requires few { length room.old.region.region.rows ≤ self.old.schema.page_rows }
+        requires ascending { AreKeysAscending (keys_of self.old.schema.dims room.old.region.region.rows) }
+        requires room { self.old.schema.page_rows
+            < length (insert_row self.old.schema.dims row.now room.old.region.region.rows)
+            → HasRoom seat.now.index (split self.old.schema.dims self.old.schema.page_rows
+            (insert_row self.old.schema.dims row.now room.old.region.region.rows)).first self.old }
         ensures same { OnOk result (IsElsewhereSame self.old self.new) }
-        ensures written { IsStored self.old → (p : Placed)
-            → slice_get self.old.placed seat.now.index ≡ Some p
-            → AllByRecursion (IsRegion self.old.schema)
-            (split_of self.old.schema p.region.first rows.now)
-            → OnOk result (IsStored self.new
-            × (regions self.new ≡ regions_with seat.now.index
-            (split_of self.old.schema p.region.first rows.now) (regions self.old))) }
+        ensures written { StoresRows seat.now.index
+            (insert_row self.old.schema.dims row.now room.old.region.region.rows)
+            self.old self.new result }
         ensures effect { Changes self.old self.new result }
     {
-        let page_rows = self.schema.page_rows();
-        let slice = rows.as_slice();
-        if slice.len() <= page_rows as usize {
-            return self.rewrite(seat, slice);
+        let index = index_in(room.region.keys(), key);
+        if room.region.len() == self.schema.page_rows() as usize {
+            return self.split_with(seat, room.region.rows(), index, row);
         }
-        self.split_rows(seat, rows)
+        room.region.insert_at(index, row);
+        room.region.write(&self.schema, &mut room.draft);
+        self.put_page(seat, room.draft.page())
+    }
+
+    // Puts a row in among the rows of the region of a seat, which fill its page, and puts them on
+    // that and a new one.
+    fn split_with(
+        &mut self,
+        seat: &Seat,
+        rows: &[Row],
+        index: usize,
+        row: &Row,
+    ) -> Result<(), TreeFault>
+        requires seat { IsSeatIn self.old seat.now }
+        requires full { length rows.now ≡ self.old.schema.page_rows }
+        requires within { index ≤ length rows.now }
+        requires room { HasRoom seat.now.index (split self.old.schema.dims
+            self.old.schema.page_rows (insert rows.now index row.now)).first self.old }
+        ensures same { OnOk result (IsElsewhereSame self.old self.new) }
+        ensures written { StoresRows seat.now.index (insert rows.now index row.now)
+            self.old self.new result }
+        ensures effect { Changes self.old self.new result }
+    {
+        let mut all = Rows::from_slice(rows);
+        all.insert_at(index, *row);
+        self.split_rows(seat, &all)
     }
 
     // Puts the rows of the region of a seat, of which there is one more than a page holds, on its
@@ -218,13 +304,7 @@ impl<S: PageStore> Tree<S> {
         requires room { HasRoom seat.now.index
             (split self.old.schema.dims self.old.schema.page_rows rows.now).first self.old }
         ensures same { OnOk result (IsElsewhereSame self.old self.new) }
-        ensures written { IsStored self.old → (p : Placed)
-            → slice_get self.old.placed seat.now.index ≡ Some p
-            → AllByRecursion (IsRegion self.old.schema)
-            (split_of self.old.schema p.region.first rows.now)
-            → OnOk result (IsStored self.new
-            × (regions self.new ≡ regions_with seat.now.index
-            (split_of self.old.schema p.region.first rows.now) (regions self.old))) }
+        ensures written { StoresRows seat.now.index rows.now self.old self.new result }
         ensures effect { Changes self.old self.new result }
     {
         let page_rows = self.schema.page_rows();
@@ -258,20 +338,42 @@ impl<S: PageStore> Tree<S> {
         if self.next == NEXT_END {
             return Err(TreeFault::Full);
         }
+        let mut room = self.take_room()?;
+        let inserted = self.insert_within(dims, measures, &mut room);
+        self.room = Some(room);
+        inserted
+    }
+
+    // The same of a tree that works and has a number left, in this room.
+    fn insert_within(
+        &mut self,
+        dims: &[u32],
+        measures: &[i64],
+        room: &mut Room,
+    ) -> Result<u32, TreeFault>
+        requires dims { length dims.now ≡ self.old.schema.dims }
+        requires measures { length measures.now ≡ measures_of self.old.schema }
+        requires working { self.old.is_failed ≡ false }
+        requires not_last { self.old.next ≢ MAX_ROW_NUMBER + 1 }
+        ensures inserted { IsSound self.old
+            → IfOk result (λ n. IsInserted
+            (spec.row_of n dims.now measures.now) self.old self.new) }
+        ensures number { IfOk result (λ n. n ≡ self.old.next) }
+        ensures counted { OnOk result ((self.new.next ≡ self.old.next + 1)
+            × (self.new.rows ≡ self.old.rows + 1) × (self.new.is_failed ≡ false)) }
+        ensures effect { Changes self.old self.new result }
+    {
         let row = row_of(self.next, dims, measures);
-        let shape = self.schema.shape();
-        let key = row.key(shape);
+        let key = row.key(self.schema.shape());
         let seat = self.seat_of(&key)?;
-        let mut rows = Rows::new();
-        self.put_rows_at(&seat, &mut rows)?;
-        if has_key(rows.as_slice(), shape, &key) {
+        self.read_at(&seat, &mut room.region)?;
+        if has_key(room.region.keys(), &key) {
             return Err(TreeFault::Page {
                 page: seat.page(),
                 fault: PageFault::BadOrder,
             });
         }
-        rows.insert_sorted(shape, row);
-        self.store_rows(&seat, &rows)?;
+        self.store_with(&seat, &key, &row, room)?;
         self.next += 1;
         self.rows += 1;
         Ok(row.number)
@@ -336,11 +438,11 @@ fn four_measures(measures: &[i64]) -> [i64; 4]
     all
 }
 
-// Whether one of the rows has the key.
-fn has_key(rows: &[Row], shape: Shape, key: &Key) -> bool
-    ensures { result ≡ has_key shape key.now rows.now }
+// Whether this is one of the keys.
+fn has_key(keys: &[Key], key: &Key) -> bool
+    ensures { result ≡ list_any (is_same key.now) keys.now }
 {
-    rows.iter().any(|row| is_key_of(key, row, shape))
+    keys.iter().any(|other| is_equal(key, other))
 }
 
 // Each measure is a number of 64 bits: it tells this to the proof alone.

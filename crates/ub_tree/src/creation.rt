@@ -10,13 +10,12 @@ ghost use Rattle.ub_tree.specs.Tree.{IsLaidOut};
 use crate::fault::TreeFault;
 use crate::order::write_first_pages;
 use crate::tree::Tree;
-use std::alloc::{AllocError, Global};
+use std::alloc::Global;
 use std::num::NonZeroUsize;
 use ub_directory::Directory;
-use ub_page::RegionPage;
 use ub_store::{PageStore, Pager, Rejected};
 use ub_table::Schema;
-use ub_zaddr::{Shape, last};
+use ub_zaddr::last;
 
 // How many pages the cache of a tree holds.
 const CACHE_PAGES: usize = 64;
@@ -41,8 +40,8 @@ impl<S: PageStore> Tree<S> {
         ensures left { IfErr result (λ r. S.facts r.store ≡ written_store {A = S} (Err r.fault)
             (S.facts store) (S.facts r.store)) }
     {
-        let (mut pager, held) = match pager_over(alloc, store) {
-            Ok(begun) => begun,
+        let mut pager = match pager_over(alloc, store) {
+            Ok(pager) => pager,
             Err(refused) => return Err(refused),
         };
         match lay_out(alloc, &mut pager, schema) {
@@ -54,7 +53,8 @@ impl<S: PageStore> Tree<S> {
                 is_changed: true,
                 is_failed: false,
                 pager,
-                held,
+                room: None,
+                alloc,
             }),
             Err(fault) => Err(Rejected {
                 store: pager.into_store(),
@@ -64,37 +64,19 @@ impl<S: PageStore> Tree<S> {
     }
 }
 
-/// A pager over the store, with the cache of a tree, and a region that the tree reads into.
-pub fn pager_over<S: PageStore>(
-    alloc: Global,
-    store: S,
-) -> Result<(Pager<S>, Box<RegionPage>), Rejected<S, TreeFault>>
-    ensures made { IfOk result (λ begun. begun.0 ≡ pager_view (S.facts store) [] 0) }
+/// A pager over the store, with the cache of a tree.
+pub fn pager_over<S: PageStore>(alloc: Global, store: S) -> Result<Pager<S>, Rejected<S, TreeFault>>
+    ensures made { IfOk result (λ pager. pager ≡ pager_view (S.facts store) [] 0) }
     ensures refused { IfErr result (λ refused. (refused.store ≡ store)
         × (refused.fault ≡ TreeFault.Memory)) }
 {
-    let held = match any_region(alloc) {
-        Ok(held) => held,
-        Err(_) => return Err(Rejected {
-            store,
-            fault: TreeFault::Memory,
-        }),
-    };
     let cache = NonZeroUsize::new(CACHE_PAGES).unwrap();
     match Pager::new(alloc, store, cache) {
-        Ok(pager) => Ok((pager, held)),
+        Ok(pager) => Ok(pager),
         Err(refused) => Err(Rejected {
             store: refused.store,
             fault: TreeFault::Memory,
         }),
-    }
-}
-
-// A region, of whatever shape, in a box of its own.
-fn any_region(alloc: Global) -> Result<Box<RegionPage>, AllocError> {
-    match Shape::new(1) {
-        Ok(shape) => Ok(Box::new(alloc, RegionPage::empty(shape))?),
-        Err(_) => unreachable!(),
     }
 }
 

@@ -23,6 +23,7 @@ mod order;
 mod reading;
 pub mod region;
 mod removal;
+mod room;
 mod seats;
 pub mod tree;
 

@@ -45,8 +45,8 @@ impl<S: PageStore> Tree<S> {
     {
         // Its contract tells the proof how many pages there can be.
         let _pages = store.pages();
-        let (mut pager, held) = match pager_over(alloc, store) {
-            Ok(begun) => begun,
+        let mut pager = match pager_over(alloc, store) {
+            Ok(pager) => pager,
             Err(refused) => return Err(refused),
         };
         match Directory::read(alloc, &mut pager) {
@@ -65,7 +65,8 @@ impl<S: PageStore> Tree<S> {
                     is_changed: false,
                     is_failed: false,
                     pager,
-                    held,
+                    room: None,
+                    alloc,
                 })
             }
             Err(fault) => Err(Rejected {

@@ -1,6 +1,6 @@
 ghost use Rattle.std.specs.Prelude.{◌≡◌, ◌≤◌, map, IfOk};
 ghost use Rattle.ub_directory.specs.Slots.{IsSeatAfter, IsSeatBefore};
-ghost use Rattle.ub_region.specs.Regions.{place_of};
+ghost use Rattle.ub_region.specs.Regions.{index_holding};
 ghost use Rattle.ub_tree.specs.Change.{IsSeatIn};
 ghost use Rattle.ub_tree.specs.Effects.{Searches};
 ghost use Rattle.ub_tree.specs.Placed.{entry_of};
@@ -17,7 +17,7 @@ impl<S: PageStore> Tree<S> {
     pub(crate) fn seat_of(&mut self, key: &Key) -> Result<Seat, TreeFault>
         ensures seat { IfOk result (IsSeatIn self.old) }
         ensures index { IfOk result (λ seat. seat.index ≡
-            place_of key.now (first_keys (map entry_of self.old.placed))) }
+            index_holding key.now (first_keys (map entry_of self.old.placed))) }
         ensures effect { Searches self.old self.new result }
     {
         let seat = self.directory.seat_of(&mut self.pager, key)?;

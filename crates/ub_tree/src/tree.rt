@@ -9,6 +9,8 @@ ghost use Rattle.ub_tree.specs.View.{IsSound, spans_of};
 use crate::fault::TreeFault;
 use crate::reading::take_region;
 use crate::region::{Region, first_of, region_in};
+use crate::room::Room;
+use std::alloc::Global;
 use std::marker::Model;
 use ub_bigmin::ZBox;
 use ub_directory::Directory;
@@ -32,8 +34,9 @@ pub struct Tree<S: PageStore> {
     pub(crate) is_changed: bool,
     pub(crate) is_failed: bool,
     pub(crate) pager: Pager<S>,
-    // The region that the tree read last for itself.
-    pub(crate) held: Box<RegionPage>,
+    // Room for a region that is changed: none before the first change takes it from memory, nor while a call has it in hand.
+    pub(crate) room: Option<Box<Room>>,
+    pub(crate) alloc: Global,
 }
 
 impl<S: PageStore> Model for Tree<S> {

@@ -8,4 +8,4 @@ use Rattle.ub_page.proofs.columns.read_measures.Goals as goal
 pub loop-measure-preserved : goal.loop-measure-preserved
 loop-measure-preserved c =
     rw (c.read_measure.ensures, c.loop-measure.invariant)
-    (block_more 4 blank_measures (λ m. block 64 (pos 0) (λ i. cast_signed w64 (number_at 8 (c.args.place + 8 * (c.args.count * m + i)) c.args.page.now)) c.args.count) c.loop-measure.measure (omega arith))
+    (block_more 4 blank_measures (λ m. block 64 (pos 0) (λ i. cast_signed w64 (number_at 8 (c.args.offset + 8 * (c.args.count * m + i)) c.args.page.now)) c.args.count) c.loop-measure.measure (omega arith))

@@ -7,5 +7,5 @@ pub returns : goal.returns
 unfolding number_at
 returns c =
     let within = c.requires in
-    let fits : 0 + 2 ≤ 4096 - c.args.place = omega arith in
-    c.read_u16.ensures ∙ big_from-take 0 2 (4096 - c.args.place) (drop c.args.place c.args.page.now) fits
+    let fits : 0 + 2 ≤ 4096 - c.args.offset = omega arith in
+    c.read_u16.ensures ∙ big_from-take 0 2 (4096 - c.args.offset) (drop c.args.offset c.args.page.now) fits

@@ -8,10 +8,10 @@ pub loop-row-preserved : goal.loop-row-preserved
 loop-row-preserved c =
     let i = c.loop-row.row-index in
     let rows = c.args.rows.now in
-    let place = c.loop-row.invariant.place in
-    let long : length (column 4 (dim_of c.args.dim) (take i rows)) ≡ c.loop-row.place = omega (arith, length-column 4 (dim_of c.args.dim) (take i rows), length-take i rows) in
+    let offset = c.loop-row.invariant.offset in
+    let long : length (column 4 (dim_of c.args.dim) (take i rows)) ≡ c.loop-row.offset = omega (arith, length-column 4 (dim_of c.args.dim) (take i rows), length-take i rows) in
     record {
-      place = omega arith;
-      bytes = column_step 4 (dim_of c.args.dim) rows i c.loop-row.place (4 * i) (4 * (i + 1)) _ _ c.args.target.now c.loop-row.target c.write_u32.new.target
+      offset = omega arith;
+      bytes = column_step 4 (dim_of c.args.dim) rows i c.loop-row.offset (4 * i) (4 * (i + 1)) _ _ c.args.target.now c.loop-row.target c.write_u32.new.target
           (omega arith) long (omega arith) (omega arith) refl c.loop-row.invariant.bytes c.write_u32.ensures;
     }

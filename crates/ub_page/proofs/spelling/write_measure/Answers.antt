@@ -9,12 +9,12 @@ pub loop-row-preserved : goal.loop-row-preserved
 loop-row-preserved c =
     let i = c.loop-row.row-index in
     let rows = c.args.rows.now in
-    let place = c.loop-row.invariant.place in
-    let long : length (column 8 (measure_of c.args.measure) (take i rows)) ≡ c.loop-row.place = omega (arith, length-column 8 (measure_of c.args.measure) (take i rows), length-take i rows) in
+    let offset = c.loop-row.invariant.offset in
+    let long : length (column 8 (measure_of c.args.measure) (take i rows)) ≡ c.loop-row.offset = omega (arith, length-column 8 (measure_of c.args.measure) (take i rows), length-take i rows) in
     let rest : Row = record { number = 0; dims = []; measures = [] } in
     let number : c.cast_unsigned.result ≡ measure_of c.args.measure (get_or rows i rest) = search (rules, c.cast_unsigned.ensures) in
     record {
-      place = omega arith;
-      bytes = column_step 8 (measure_of c.args.measure) rows i c.loop-row.place (8 * i) (8 * (i + 1)) rest c.cast_unsigned.result c.args.target.now c.loop-row.target c.write_u64.new.target
+      offset = omega arith;
+      bytes = column_step 8 (measure_of c.args.measure) rows i c.loop-row.offset (8 * i) (8 * (i + 1)) rest c.cast_unsigned.result c.args.target.now c.loop-row.target c.write_u64.new.target
           (omega arith) long (omega arith) (omega arith) number c.loop-row.invariant.bytes c.write_u64.ensures;
     }

@@ -4,6 +4,6 @@ use Rattle.ub_page.proofs.spelling.write_measure.Given as goal
 
 abbrev pub invariant-loop-row : goal.invariant-loop-row
 invariant-loop-row l = record {
-  place : l.place ≡ 8 * l.row-index;
+  offset : l.offset ≡ 8 * l.row-index;
   bytes : l.target ≡ column 8 (measure_of l.measure) (take l.row-index l.rows) ++ drop (8 * l.row-index) l.initial.target;
 }

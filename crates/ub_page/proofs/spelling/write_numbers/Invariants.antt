@@ -4,6 +4,6 @@ use Rattle.ub_page.proofs.spelling.write_numbers.Given as goal
 
 abbrev pub invariant-loop-row : goal.invariant-loop-row
 invariant-loop-row l = record {
-  place : l.place ≡ 4 * l.row-index;
+  offset : l.offset ≡ 4 * l.row-index;
   bytes : l.target ≡ column 4 (λ row. row.number) (take l.row-index l.rows) ++ drop (4 * l.row-index) l.initial.target;
 }

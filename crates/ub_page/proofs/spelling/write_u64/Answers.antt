@@ -7,4 +7,4 @@ pub returns : goal.returns
 unfolding number_bytes
 returns c =
     let room = c.requires in
-    put_over c.args.place 8 c.args.target.now (number_bytes 8 c.args.x) c.write_u64.new.buf (omega arith) c.write_u64.ensures
+    put_over c.args.offset 8 c.args.target.now (number_bytes 8 c.args.x) c.write_u64.new.buf (omega arith) c.write_u64.ensures

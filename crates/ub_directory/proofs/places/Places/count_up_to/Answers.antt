@@ -1,6 +1,6 @@
 use Rattle.std.proofs.Common.{◌≡◌, ◌+◌, ◌-◌, ◌/◌, ◌<◌, true, false, length, sym, ◌∙◌, arith}
 use Rattle.ub_table.specs.Keys.{precedes}
-use Rattle.ub_directory.proofs.PlaceFacts.{parted_down, parted_up, parted_place, parted_later, first_read}
+use Rattle.ub_directory.proofs.IndexFacts.{parted_down, parted_up, parted_index, parted_later, first_read}
 use Rattle.ub_directory.proofs.places.Places.count_up_to.Goals as goal
 
 pub loop-low-preserved-then-is_before : goal.loop-low-preserved-then-is_before
@@ -29,10 +29,10 @@ loop-low-preserved c =
       parted = parted_up _ _ c.args.self.now.ascending _ _ _ h.parted _ there before;
     }
 
-pub returns-clause-place : goal.returns-clause-place
-returns-clause-place c =
+pub returns-clause-index : goal.returns-clause-index
+returns-clause-index c =
     let h = c.loop-low.invariant in
-    parted_place c.args.key.now c.args.self.now.entries.items c.loop-low.low c.loop-low.high h.parted h.ordered c.loop-low-test.false h.some h.within
+    parted_index c.args.key.now c.args.self.now.entries.items c.loop-low.low c.loop-low.high h.parted h.ordered c.loop-low-test.false h.some h.within
 
 pub returns-clause-later : goal.returns-clause-later
 returns-clause-later c =

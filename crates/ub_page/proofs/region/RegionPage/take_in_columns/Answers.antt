@@ -1,7 +1,6 @@
-use Rattle.std.proofs.Common.{◌≡◌, ◌+◌, ◌*◌, ap, take, length, arith, ◌∙◌, refl}
-use Rattle.ub_page.proofs.ColumnFacts.{are_read, rows_read, keys_read, take_block, length-block, columns_long}
+use Rattle.std.proofs.Common.{◌≡◌, ◌+◌, ◌*◌, arith, ◌∙◌, refl}
+use Rattle.ub_page.proofs.ColumnFacts.{are_read, rows_read, keys_read, columns_long}
 use Rattle.ub_page.specs.Bytes.{number_at}
-use Rattle.ub_page.specs.Columns.{blank_key, blank_row, key_in, row_in}
 use Rattle.ub_page.proofs.region.RegionPage.take_in_columns.Goals as goal
 use Rattle.ub_table.specs.Region.{measures_of}
 

@@ -9,7 +9,7 @@ use Rattle.ub_tree.proofs.tree.Tree.open.Goals as goal
 pub returns-in-Ok-read-clause-opened : goal.returns-in-Ok-read-clause-opened
 returns-in-Ok-read-clause-opened g c =
     let t = c.in-Ok-read in
-    opened (g.S.PageStore.facts c.args.store) t.header t.directory.chain t.directory.entries c.in-Ok.begun.0 c.read.new.pager c.in-Ok.ensures.made t.ensures.whole t.ensures.effect.same
+    opened (g.S.PageStore.facts c.args.store) t.header t.directory.chain t.directory.entries c.in-Ok.pager c.read.new.pager c.in-Ok.ensures.made t.ensures.whole t.ensures.effect.same
 
 pub returns-in-Ok-read-clause-sound : goal.returns-in-Ok-read-clause-sound
 returns-in-Ok-read-clause-sound g c =
@@ -17,7 +17,7 @@ returns-in-Ok-read-clause-sound g c =
     let count = c.pages-pages.ensures in
     let fits = c.pages-pages.type_inv in
     let small : page_count (g.S.PageStore.facts c.args.store) < 2 ^ 32 = omega arith in
-    sound_by (g.S.PageStore.facts c.args.store) small c.in-Ok.begun.0 c.in-Ok.ensures.made t.header t.directory.chain t.directory.entries c.read.new.pager t.ensures.whole t.ensures.effect.same
+    sound_by (g.S.PageStore.facts c.args.store) small c.in-Ok.pager c.in-Ok.ensures.made t.header t.directory.chain t.directory.entries c.read.new.pager t.ensures.whole t.ensures.effect.same
 
 pub returns-in-Err-read-clause-exact : goal.returns-in-Err-read-clause-exact
 returns-in-Err-read-clause-exact g c =
@@ -25,7 +25,7 @@ returns-in-Err-read-clause-exact g c =
     let fits = c.pages-pages.type_inv in
     let small : page_count (g.S.PageStore.facts c.args.store) < 2 ^ 32 = omega arith in
     let fault = c.in-Err-read.fault in
-    rw c.from.ensures (exact_by (g.S.PageStore.facts c.args.store) small c.in-Ok.begun.0 c.in-Ok.ensures.made (opening_fault fault) (open_refused c.in-Ok.begun.0.store fault c.in-Err-read.ensures.effect.faults))
+    rw c.from.ensures (exact_by (g.S.PageStore.facts c.args.store) small c.in-Ok.pager c.in-Ok.ensures.made (opening_fault fault) (open_refused c.in-Ok.pager.store fault c.in-Err-read.ensures.effect.faults))
 
 pub returns-in-Err-read-clause-sound : goal.returns-in-Err-read-clause-sound
 returns-in-Err-read-clause-sound g c =
@@ -33,7 +33,7 @@ returns-in-Err-read-clause-sound g c =
     let fits = c.pages-pages.type_inv in
     let small : page_count (g.S.PageStore.facts c.args.store) < 2 ^ 32 = omega arith in
     let fault = c.in-Err-read.fault in
-    rw c.from.ensures (sound_refused (g.S.PageStore.facts c.args.store) small c.in-Ok.begun.0 c.in-Ok.ensures.made (opening_fault fault) (open_refused c.in-Ok.begun.0.store fault c.in-Err-read.ensures.effect.faults))
+    rw c.from.ensures (sound_refused (g.S.PageStore.facts c.args.store) small c.in-Ok.pager c.in-Ok.ensures.made (opening_fault fault) (open_refused c.in-Ok.pager.store fault c.in-Err-read.ensures.effect.faults))
 
 pub returns-in-Err-read-clause-unclean : goal.returns-in-Err-read-clause-unclean
 returns-in-Err-read-clause-unclean g c =
@@ -41,7 +41,7 @@ returns-in-Err-read-clause-unclean g c =
     let fits = c.pages-pages.type_inv in
     let small : page_count (g.S.PageStore.facts c.args.store) < 2 ^ 32 = omega arith in
     let fault = c.in-Err-read.fault in
-    rw c.from.ensures (unclean_by (g.S.PageStore.facts c.args.store) small c.in-Ok.begun.0 c.in-Ok.ensures.made (opening_fault fault) (open_refused c.in-Ok.begun.0.store fault c.in-Err-read.ensures.effect.faults))
+    rw c.from.ensures (unclean_by (g.S.PageStore.facts c.args.store) small c.in-Ok.pager c.in-Ok.ensures.made (opening_fault fault) (open_refused c.in-Ok.pager.store fault c.in-Err-read.ensures.effect.faults))
 
 pub returns-in-Ok-read-clause-unclean : goal.returns-in-Ok-read-clause-unclean
 returns-in-Ok-read-clause-unclean g c = λ schema honest mark.
@@ -49,10 +49,10 @@ returns-in-Ok-read-clause-unclean g c = λ schema honest mark.
     let count = c.pages-pages.ensures in
     let fits = c.pages-pages.type_inv in
     let small : page_count (g.S.PageStore.facts c.args.store) < 2 ^ 32 = omega arith in
-    never_whole (g.S.PageStore.facts c.args.store) small c.in-Ok.begun.0 c.in-Ok.ensures.made t.header t.directory.chain t.directory.entries t.ensures.whole schema honest mark
+    never_whole (g.S.PageStore.facts c.args.store) small c.in-Ok.pager c.in-Ok.ensures.made t.header t.directory.chain t.directory.entries t.ensures.whole schema honest mark
 
 pub returns-in-Err-read-clause-refused : goal.returns-in-Err-read-clause-refused
 returns-in-Err-read-clause-refused g c =
     let fault = c.in-Err-read.fault in
     rw c.from.ensures (subst (λ (s : StoreFacts). IsOpenFault s (opening_fault fault)) (ap (λ (p : PagerView). p.store) c.in-Ok.ensures.made)
-    (open_refused c.in-Ok.begun.0.store fault c.in-Err-read.ensures.effect.faults))
+    (open_refused c.in-Ok.pager.store fault c.in-Err-read.ensures.effect.faults))

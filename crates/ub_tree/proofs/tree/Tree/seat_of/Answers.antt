@@ -2,7 +2,7 @@ use Rattle.std.proofs.Common.{◌≡◌, List, subst, sym}
 use Rattle.ub_directory.specs.Slots.{IsSeat}
 use Rattle.ub_directory.specs.View.{SeatView}
 use Rattle.ub_page.specs.declared.directory.Entry.{Entry}
-use Rattle.ub_region.specs.Regions.{place_of}
+use Rattle.ub_region.specs.Regions.{index_holding}
 use Rattle.ub_tree.proofs.CallFacts.{entries_are, searched_there, search_refused}
 use Rattle.ub_tree.specs.Spans.{first_keys}
 use Rattle.ub_tree.proofs.tree.Tree.seat_of.Goals as goal
@@ -17,7 +17,7 @@ pub returns-clause-index : goal.returns-clause-index
 returns-clause-index g c =
     let t = c.self.inside in
     let same = entries_are t.schema t.directory.entries t.directory.chain t.next t.rows t.is_changed t.is_failed t.pager c.args.self.now c.self.view_is in
-    subst (λ (es : List Entry). c.in_ok-seat.seat.index ≡ place_of c.args.key.now (first_keys es)) (sym same) c.in_ok-seat.ensures.index
+    subst (λ (es : List Entry). c.in_ok-seat.seat.index ≡ index_holding c.args.key.now (first_keys es)) (sym same) c.in_ok-seat.ensures.index
 
 pub returns-in_err-seat-clause-effect : goal.returns-in_err-seat-clause-effect
 returns-in_err-seat-clause-effect g c =

@@ -58,30 +58,30 @@ module _ (dims : ℕ) (row : Row) where
       (ap (λ (rs : List Row). r ∷ rs) (placed rows n (omega arith) (λ i k lt is. below (suc i) k (omega arith) is) (λ k is. after k is)))
 
   -- what the halving has found at its end
-  pub found_place : (rows : List Row) (low high : ℕ) → high ≤ low → low ≤ high → high ≤ length rows
+  pub found_index : (rows : List Row) (low high : ℕ) → high ≤ low → low ≤ high → high ≤ length rows
       → ((i : ℕ) (k : Key) → i < low → slice_get (keys_of dims rows) i ≡ Some k → precedes (key_of dims row) k ≡ false)
       → ((i : ℕ) (k : Key) → high ≤ i → slice_get (keys_of dims rows) i ≡ Some k → precedes (key_of dims row) k ≡ true)
       → insert_row dims row rows ≡ insert rows low row
-  found_place rows low high end order within below above =
+  found_index rows low high end order within below above =
       placed rows low (omega arith) below (λ k is. above low k end is)
 
 module _ {A : Type 0} where
-  shifted : (xs : List A) (place n end : ℕ) (x : A) → end ≡ place + n → end < length xs
-      → take (suc end) (set ((take (suc place) xs ++ take n (drop place xs)) ++ drop (suc end) xs) place x) ≡ insert (take end xs) place x
-  shifted [] place n end x is lt = absurd (omega arith)
+  shifted : (xs : List A) (index n end : ℕ) (x : A) → end ≡ index + n → end < length xs
+      → take (suc end) (set ((take (suc index) xs ++ take n (drop index xs)) ++ drop (suc end) xs) index x) ≡ insert (take end xs) index x
+  shifted [] index n end x is lt = absurd (omega arith)
   shifted (y ∷ ys) zero n end x is lt =
       let same : end ≡ n = omega arith in
       let long : length (take n (y ∷ ys)) ≡ n = length-take-le n (y ∷ ys) (omega arith) in
       rw same (ap (λ (zs : List A). x ∷ zs)
       (ap (λ (k : ℕ). take k (take n (y ∷ ys) ++ drop n ys)) (sym long) ∙ take-append_seam (take n (y ∷ ys)) (drop n ys)))
-  shifted (y ∷ ys) (suc place) n zero x is lt = absurd (omega arith)
-  shifted (y ∷ ys) (suc place) n (suc end) x is lt = ap (λ (zs : List A). y ∷ zs) (shifted ys place n end x (omega arith) (omega arith))
+  shifted (y ∷ ys) (suc index) n zero x is lt = absurd (omega arith)
+  shifted (y ∷ ys) (suc index) n (suc end) x is lt = ap (λ (zs : List A). y ∷ zs) (shifted ys index n end x (omega arith) (omega arith))
 
-  -- the elements from a place on moved up by one, and one put there
-  pub put_at : (xs ys : List A) (place len : ℕ) (x : A) → ys ≡ (take (place + 1) xs ++ take (len - place) (drop place xs)) ++ drop (place + 1 + (len - place)) xs → place ≤ len → len < length xs
-      → take (len + 1) (set ys place x) ≡ insert (take len xs) place x
-  put_at xs ys place len x is le lt =
-      let end : place + 1 + (len - place) ≡ suc len = omega arith in
-      let start : place + 1 ≡ suc place = omega arith in
+  -- the elements from an index on moved up by one, and one put there
+  pub put_at : (xs ys : List A) (index len : ℕ) (x : A) → ys ≡ (take (index + 1) xs ++ take (len - index) (drop index xs)) ++ drop (index + 1 + (len - index)) xs → index ≤ len → len < length xs
+      → take (len + 1) (set ys index x) ≡ insert (take len xs) index x
+  put_at xs ys index len x is le lt =
+      let end : index + 1 + (len - index) ≡ suc len = omega arith in
+      let start : index + 1 ≡ suc index = omega arith in
       let more : len + 1 ≡ suc len = omega arith in
-      rw (is, end, start, more) (shifted xs place (len - place) len x (omega arith) lt)
+      rw (is, end, start, more) (shifted xs index (len - index) len x (omega arith) lt)

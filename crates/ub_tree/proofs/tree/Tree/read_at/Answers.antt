@@ -1,6 +1,6 @@
-use Rattle.std.proofs.Common.{List, ◌++◌, ◌≡◌, ◌<◌, ◌∙◌, Some, ap, refl, arith, length, slice_get}
+use Rattle.std.proofs.Common.{◌≡◌, ◌<◌, ◌∙◌, Some, refl, arith, length, slice_get}
 use Rattle.std.proofs.lemmas.Option.{slice_get_within}
-use Rattle.ub_page.specs.Region.{RegionView, region_page}
+use Rattle.ub_page.specs.Region.{region_page}
 use Rattle.ub_table.specs.Region.{Region}
 use Rattle.ub_tree.specs.Tree.{tree_view, known_pages}
 use Rattle.ub_tree.specs.View.{TreeView}
@@ -8,14 +8,13 @@ use Rattle.ub_tree.proofs.CallFacts.{tree_entry_known, page_refused_by, store_re
 use Rattle.ub_tree.proofs.TreeFacts.{entries_back, contained_at, placed_at, rows_read}
 use Rattle.ub_page.specs.declared.directory.Entry.{Entry}
 use Rattle.ub_tree.specs.Effects.{IsRegionRefused}
-use Rattle.ub_tree.proofs.RoomFacts.{rows_at_place}
-use Rattle.ub_table.specs.declared.row.Row.{Row}
-use Rattle.ub_tree.proofs.tree.Tree.put_rows_at.Goals as goal
+use Rattle.ub_tree.proofs.RoomFacts.{rows_at_index}
+use Rattle.ub_tree.proofs.tree.Tree.read_at.Goals as goal
 
 pub returns-in_err-bring-clause-effect : goal.returns-in_err-bring-clause-effect
 returns-in_err-bring-clause-effect g c =
     let t = c.self.inside in
-    let stands = seated t.schema t.directory.entries t.directory.chain t.next t.rows t.is_changed t.is_failed t.pager c.args.self.now c.args.seat.now c.self.view_is c.requires.seat in
+    let stands = seated t.schema t.directory.entries t.directory.chain t.next t.rows t.is_changed t.is_failed t.pager c.args.self.now c.args.seat.now c.self.view_is c.requires in
     let e : Entry = record { first = c.args.seat.now.first; page = c.page-number.result } in
     let at : slice_get t.directory.entries c.args.seat.now.index ≡ Some e = rw c.page-number.ensures stands.entry in
     let old : TreeView = tree_view t.schema t.directory.entries t.directory.chain t.next t.rows t.is_changed t.is_failed t.pager in
@@ -39,7 +38,7 @@ returns-in_err-bring-clause-effect g c =
 pub returns-in_err-take_region-clause-effect : goal.returns-in_err-take_region-clause-effect
 returns-in_err-take_region-clause-effect g c =
     let t = c.self.inside in
-    let stands = seated t.schema t.directory.entries t.directory.chain t.next t.rows t.is_changed t.is_failed t.pager c.args.self.now c.args.seat.now c.self.view_is c.requires.seat in
+    let stands = seated t.schema t.directory.entries t.directory.chain t.next t.rows t.is_changed t.is_failed t.pager c.args.self.now c.args.seat.now c.self.view_is c.requires in
     let e : Entry = record { first = c.first.result; page = c.page-number.result } in
     let at : slice_get t.directory.entries c.args.seat.now.index ≡ Some e = rw (c.first.ensures, c.page-number.ensures) stands.entry in
     let old : TreeView = tree_view t.schema t.directory.entries t.directory.chain t.next t.rows t.is_changed t.is_failed t.pager in
@@ -64,20 +63,20 @@ returns-in_err-take_region-clause-effect g c =
 pub returns-clause-rows : goal.returns-clause-rows
 returns-clause-rows g c =
     let t = c.self.inside in
-    let stands = seated t.schema t.directory.entries t.directory.chain t.next t.rows t.is_changed t.is_failed t.pager c.args.self.now c.args.seat.now c.self.view_is c.requires.seat in
+    let stands = seated t.schema t.directory.entries t.directory.chain t.next t.rows t.is_changed t.is_failed t.pager c.args.self.now c.args.seat.now c.self.view_is c.requires in
     let e : Entry = record { first = c.first.result; page = c.page-number.result } in
     let at : slice_get t.directory.entries c.args.seat.now.index ≡ Some e = rw (c.first.ensures, c.page-number.ensures) stands.entry in
     rw (← c.self.view_is) (λ honest p there.
     let known = known_is t.pager.store honest in
-    rows_read t.schema (known_pages t.pager.store) t.directory.entries c.args.seat.now.index e c.cached.result.now c.extend.new.self c.take_region.new.region.region p
-    at (rw known (page_still _ _ _ _ _ c.in_ok-bring.ensures.effect c.cached.ensures.page honest)) (c.extend.ensures ∙ ap (λ (xs : List Row). xs ++ c.rows.result.now) c.requires.none ∙ c.rows.ensures.rows ∙ ap (λ (v : RegionView). v.region.rows) c.deref.ensures) c.in_ok-take_region.ensures.on there)
+    rows_read t.schema (known_pages t.pager.store) t.directory.entries c.args.seat.now.index e c.cached.result.now c.take_region.new.region.region.rows c.take_region.new.region.region p
+    at (rw known (page_still _ _ _ _ _ c.in_ok-bring.ensures.effect c.cached.ensures.page honest)) refl c.in_ok-take_region.ensures.on there)
 
 pub returns-clause-at : goal.returns-clause-at
 returns-clause-at g c =
     let t = c.self.inside in
-    let stands = seated t.schema t.directory.entries t.directory.chain t.next t.rows t.is_changed t.is_failed t.pager c.args.self.now c.args.seat.now c.self.view_is c.requires.seat in
+    let stands = seated t.schema t.directory.entries t.directory.chain t.next t.rows t.is_changed t.is_failed t.pager c.args.self.now c.args.seat.now c.self.view_is c.requires in
     let e : Entry = record { first = c.first.result; page = c.page-number.result } in
     let at : slice_get t.directory.entries c.args.seat.now.index ≡ Some e = rw (c.first.ensures, c.page-number.ensures) stands.entry in
     rw (← c.self.view_is, entries_back t.schema (known_pages t.pager.store) t.directory.entries)
-    (rows_at_place t.schema t.directory.entries c.args.seat.now.index e c.next.result c.take_region.new.region.region c.extend.new.self at (c.next.ensures ∙ stands.next) c.in_ok-take_region.ensures.region
-    c.in_ok-take_region.ensures.held (c.extend.ensures ∙ ap (λ (xs : List Row). xs ++ c.rows.result.now) c.requires.none ∙ c.rows.ensures.rows ∙ ap (λ (v : RegionView). v.region.rows) c.deref.ensures))
+    (rows_at_index t.schema t.directory.entries c.args.seat.now.index e c.next.result c.take_region.new.region.region c.take_region.new.region.region.rows at (c.next.ensures ∙ stands.next) c.in_ok-take_region.ensures.region
+    c.in_ok-take_region.ensures.held refl)

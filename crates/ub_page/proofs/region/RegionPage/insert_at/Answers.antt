@@ -1,0 +1,67 @@
+use Rattle.std.proofs.Common.{◌≡◌, ◌∙◌, ap, sym, length, map, arith, List}
+use Rattle.std.proofs.lemmas.List.FromFn.{length-map-range_with_len}
+use Rattle.std.specs.List.{insert, range_with_len}
+use Rattle.ub_page.proofs.PutFacts.{ArePutIn, keys_put, rows_put}
+use Rattle.ub_page.specs.Columns.{blank_key, row_in}
+use Rattle.ub_page.specs.Region.{RegionView}
+use Rattle.ub_page.proofs.region.RegionPage.insert_at.Goals as goal
+use Rattle.ub_table.specs.Region.{keys_of}
+use Rattle.ub_table.specs.declared.row.Key.{Key}
+use Rattle.ub_table.specs.declared.row.Row.{Row}
+
+pub invariant_of-self : goal.invariant_of-self
+invariant_of-self c =
+    let p = c.self.inside in
+    let row = c.args.row.now in
+    let index = c.args.index in
+    let old : List Row = map (row_in p.keys p.dims p.measures) (range_with_len 0 p.len) in
+    let same : length old ≡ length c.args.self.now.region.rows = ap (λ (v : RegionView). length v.region.rows) c.self.view_is in
+    let long : length old ≡ p.len = length-map-range_with_len (row_in p.keys p.dims p.measures) 0 p.len in
+    let room = c.requires.room in
+    let within = c.requires.within in
+    let put : ArePutIn p.len index row p.keys c.put_in.new.column p.dims c.put_point.new.columns p.measures c.put_values.new.columns = record {
+      within = omega arith;
+      key = ap (λ (k : Key). k.number) (c.put_in.ensures.at blank_key ∙ c.key.ensures);
+      point = c.put_point.ensures.at;
+      value = c.put_values.ensures.at;
+      keys_below = λ j lt. c.put_in.ensures.below j blank_key lt;
+      points_below = c.put_point.ensures.below;
+      values_below = c.put_values.ensures.below;
+      keys_above = λ j from lt. c.put_in.ensures.above j blank_key from lt;
+      points_above = c.put_point.ensures.above;
+      values_above = c.put_values.ensures.above;
+    } in
+    let rows = rows_put p.len index row p.keys c.put_in.new.column p.dims c.put_point.new.columns p.measures c.put_values.new.columns put in
+    record {
+      few = omega arith;
+      keys_long = c.put_in.ensures.long;
+      dims_long = c.put_point.ensures.long;
+      rows_long = c.put_in-2.ensures.long;
+      keys = c.put_in.ensures.put ∙ rw (c.self.invariant.keys, c.key.ensures) (keys_put p.shape index row old) ∙ ap (keys_of p.shape) (sym rows);
+      rows = c.put_in-2.ensures.put ∙ ap (λ (rs : List Row). insert rs index row) c.self.invariant.rows ∙ sym rows;
+    }
+
+pub returns : goal.returns
+returns c =
+    let p = c.self.inside in
+    let row = c.args.row.now in
+    let index = c.args.index in
+    let old : List Row = map (row_in p.keys p.dims p.measures) (range_with_len 0 p.len) in
+    let same : length old ≡ length c.args.self.now.region.rows = ap (λ (v : RegionView). length v.region.rows) c.self.view_is in
+    let long : length old ≡ p.len = length-map-range_with_len (row_in p.keys p.dims p.measures) 0 p.len in
+    let room = c.requires.room in
+    let within = c.requires.within in
+    let put : ArePutIn p.len index row p.keys c.put_in.new.column p.dims c.put_point.new.columns p.measures c.put_values.new.columns = record {
+      within = omega arith;
+      key = ap (λ (k : Key). k.number) (c.put_in.ensures.at blank_key ∙ c.key.ensures);
+      point = c.put_point.ensures.at;
+      value = c.put_values.ensures.at;
+      keys_below = λ j lt. c.put_in.ensures.below j blank_key lt;
+      points_below = c.put_point.ensures.below;
+      values_below = c.put_values.ensures.below;
+      keys_above = λ j from lt. c.put_in.ensures.above j blank_key from lt;
+      points_above = c.put_point.ensures.above;
+      values_above = c.put_values.ensures.above;
+    } in
+    let rows = rows_put p.len index row p.keys c.put_in.new.column p.dims c.put_point.new.columns p.measures c.put_values.new.columns put in
+    rw (← c.self.view_is) (ap (λ (rs : List Row). record { dims = p.shape; region = record { first = p.first; rows = rs } }) rows)

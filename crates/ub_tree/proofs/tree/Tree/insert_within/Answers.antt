@@ -1,0 +1,164 @@
+use Rattle.std.proofs.Common.{◌≡◌, ◌≢◌, ◌<◌, ◌+◌, ◌^◌, ◌∙◌, ℕ, Err, sym, ap, subst, length, arith, inr, map, refl, true, false, Some, slice_get, List}
+use Rattle.std.specs.List.{list_any}
+use Rattle.ub_page.specs.declared.directory.Entry.{Entry}
+use Rattle.ub_table.specs.Region.{key_of, keys_of}
+use Rattle.ub_table.specs.declared.row.Row.{Row}
+use Rattle.ub_tree.specs.Change.{AreRowsAt, IsInserted, row_of}
+use Rattle.ub_tree.specs.Effects.{Changes, IsNumberTaken}
+use Rattle.ub_tree.specs.Tree.{known_pages, tree_view}
+use Rattle.ub_tree.proofs.CallFacts.{entries_are, same_seat, seated}
+use Rattle.ub_tree.proofs.TreeFacts.{entries_back, length-placed, seat_placed}
+use Rattle.ub_tree.proofs.GrowFacts.{IsReady, ready, room_ready, grown, words_of}
+use Rattle.ub_tree.proofs.WriteFacts.{counted_anew, left_by, searched_by, then_changed, unchanged}
+use Rattle.ub_tree.specs.View.{TreeView}
+use Rattle.ub_region.specs.Regions.{index_holding}
+use Rattle.ub_store.specs.Facts.{IsHonest}
+use Rattle.ub_zaddr.specs.Address.{last_address}
+use Rattle.ub_region.specs.Rows.{has_key, insert_row}
+use Rattle.ub_table.specs.declared.fault.PageFault.TheVariants.{BadOrder}
+use Rattle.ub_table.specs.Keys.{AreKeysAscending, is_same}
+use Rattle.ub_table.specs.declared.row.Key.{Key}
+use Rattle.ub_tree.specs.Placed.{Placed, entry_of}
+use Rattle.ub_tree.specs.Spans.{ArePlaces, first_keys}
+use Rattle.ub_tree.specs.declared.fault.TreeFault.TheVariants.{Page}
+use Rattle.ub_tree.proofs.RoomFacts.{any_key, key_there}
+use Rattle.ub_tree.proofs.tree.Tree.insert_within.Goals as goal
+
+pub store_with-requires-clause-seat : goal.store_with-requires-clause-seat
+store_with-requires-clause-seat g c =
+    same_seat c.args.self.now c.read_at.new.self c.in_ok-seat.seat (c.in_ok-read_at.ensures.effect.same ∙ c.in_ok-seat.ensures.effect.same) c.in_ok-seat.ensures.seat
+
+pub store_with-requires-clause-key : goal.store_with-requires-clause-key
+store_with-requires-clause-key g c =
+    let same = c.in_ok-read_at.ensures.effect.same ∙ c.in_ok-seat.ensures.effect.same in
+    c.key-key.ensures ∙ ap (λ (d : ℕ). key_of d c.row_of-row.result) (c.shape.ensures ∙ ap (λ (v : TreeView). v.schema.dims) (c.self.view_is ∙ sym same))
+
+pub store_with-requires-clause-dims : goal.store_with-requires-clause-dims
+store_with-requires-clause-dims g c = c.in_ok-read_at.ensures.dims ∙ sym (ap (λ (v : TreeView). v.schema.dims) c.in_ok-read_at.ensures.effect.same)
+
+pub store_with-requires-clause-few : goal.store_with-requires-clause-few
+store_with-requires-clause-few g c =
+    let few = c.in_ok-read_at.ensures.few in
+    let same = ap (λ (v : TreeView). v.schema.page_rows) c.in_ok-read_at.ensures.effect.same in
+    omega arith
+
+pub store_with-requires-clause-ascending : goal.store_with-requires-clause-ascending
+store_with-requires-clause-ascending g c =
+    let a = c.args.self.now in
+    let b = c.seat_of.new.self in
+    let seat = c.in_ok-seat.seat in
+    let stands = same_seat a b seat c.in_ok-seat.ensures.effect.same c.in_ok-seat.ensures.seat in
+    let here = (c.in_ok-read_at.ensures.at (record { first = seat.first; page = seat.page }) stands.entry).0.ascending in
+    subst (λ (v : TreeView). AreKeysAscending (keys_of v.schema.dims c.read_at.new.region.region.rows)) (sym c.in_ok-read_at.ensures.effect.same) here
+
+pub returns-in_err-seat-clause-effect : goal.returns-in_err-seat-clause-effect
+returns-in_err-seat-clause-effect g c =
+    searched_by c.from_residual.result c.in_err-seat.field-0.0 c.args.self.now c.seat_of.new.self c.from_residual.ensures.1 c.in_err-seat.ensures.effect
+
+pub read_at-requires : goal.read_at-requires
+read_at-requires g c = same_seat c.args.self.now c.seat_of.new.self c.in_ok-seat.seat c.in_ok-seat.ensures.effect.same c.in_ok-seat.ensures.seat
+
+pub returns-in_err-read_at-clause-effect : goal.returns-in_err-read_at-clause-effect
+returns-in_err-read_at-clause-effect g c =
+    then_changed c.from_residual-in_err-read_at.result c.args.self.now c.seat_of.new.self c.read_at.new.self c.in_ok-seat.ensures.effect.same
+    (searched_by c.from_residual-in_err-read_at.result c.in_err-read_at.field-0.0 c.seat_of.new.self c.read_at.new.self c.from_residual-in_err-read_at.ensures.1 c.in_err-read_at.ensures.effect)
+
+pub returns-in_err-store_with-clause-effect : goal.returns-in_err-store_with-clause-effect
+returns-in_err-store_with-clause-effect g c =
+    left_by c.from_residual-in_err-store_with.result c.in_err-store_with.field-0.0 c.args.self.now c.store_with.new.self c.from_residual-in_err-store_with.ensures.1
+    (then_changed {T = Unit {0}} _ c.args.self.now c.read_at.new.self c.store_with.new.self (c.in_ok-read_at.ensures.effect.same ∙ c.in_ok-seat.ensures.effect.same) c.in_err-store_with.ensures.effect)
+
+pub returns-clause-effect : goal.returns-clause-effect
+returns-clause-effect g c =
+    let after = c.store_with.new.self in
+    let u = c.self-2.inside in
+    let d : TreeView = tree_view u.schema u.directory.entries u.directory.chain (u.next + 1) (u.rows + 1) u.is_changed u.is_failed u.pager in
+    counted_anew {T = Unit {0}} {U = ℕ} tt _ c.args.self.now after d after.placed (after.rows + 1) (after.next + 1) (ap (λ (v : TreeView). record v { next = v.next + 1; rows = v.rows + 1 }) c.self-2.view_is)
+    (then_changed {T = Unit {0}} _ c.args.self.now c.read_at.new.self after (c.in_ok-read_at.ensures.effect.same ∙ c.in_ok-seat.ensures.effect.same) c.in_ok-store_with.ensures.effect)
+
+pub returns-clause-inserted : goal.returns-clause-inserted
+returns-clause-inserted g c =
+    let t = c.self.inside in
+    let a = c.args.self.now in
+    let b = c.read_at.new.self in
+    let same : b ≡ a = c.in_ok-read_at.ensures.effect.same ∙ c.in_ok-seat.ensures.effect.same in
+    let row = c.row_of-row.result in
+    let here = entries_are t.schema t.directory.entries t.directory.chain t.next t.rows t.is_changed t.is_failed t.pager a c.self.view_is in
+    let at_index : c.in_ok-seat.seat.index ≡ index_holding c.key-key.result (first_keys t.directory.entries) =
+    subst (λ (es : List Entry). c.in_ok-seat.seat.index ≡ index_holding c.key-key.result (first_keys es)) here c.in_ok-seat.ensures.index in
+    let stands = seated t.schema t.directory.entries t.directory.chain t.next t.rows t.is_changed t.is_failed t.pager a c.in_ok-seat.seat c.self.view_is c.in_ok-seat.ensures.seat in
+    let read = subst (λ (v : TreeView). IsHonest v.store → (p : Placed) → slice_get v.placed c.in_ok-seat.seat.index ≡ Some p → c.read_at.new.region.region.rows ≡ p.region.rows) c.in_ok-seat.ensures.effect.same c.in_ok-read_at.ensures.rows in
+    let shape : c.shape.result ≡ t.schema.dims = c.shape.ensures in
+    let rows = c.read_at.new.region.region.rows in
+    let at_view = ready t.schema t.directory.entries t.directory.chain t.next t.rows t.is_changed t.is_failed t.pager t.schema.dims c.in_ok-seat.seat.index c.key-key.result row c.args.dims.now c.args.measures.now rows (insert_row t.schema.dims row rows)
+    c.row_of-row.ensures.row (rw (← c.self.view_is) at c.requires.dims) (rw (← c.self.view_is) at c.requires.measures) (words_of c.args.dims.now c.type_inv.dims) c.row_of-row.ensures.words
+    c.self.invariant.fewer c.self.invariant.last_next (rw (← c.self.view_is) at c.requires.not_last) (c.key-key.ensures ∙ ap (λ (d : ℕ). key_of d row) shape) refl at_index stands.within
+    (rw (← c.self.view_is) at read) refl in
+    let is_ready : IsReady b row c.in_ok-seat.seat.index (insert_row b.schema.dims row rows) =
+    subst (λ (v : TreeView). IsReady v row c.in_ok-seat.seat.index (insert_row v.schema.dims row rows)) (c.self.view_is ∙ sym same) at_view in
+    let after = c.store_with.new.self in
+    let u = c.self-2.inside in
+    let d : TreeView = tree_view u.schema u.directory.entries u.directory.chain (u.next + 1) (u.rows + 1) u.is_changed u.is_failed u.pager in
+    let stored = c.in_ok-store_with.ensures.same in
+    let not_last : a.next ≢ 16777216 = c.requires.not_last in
+    let few : length after.placed < 2 ^ 32 = (let most = c.self-2.invariant.few in subst (λ (v : TreeView). length v.placed < 2 ^ 32) c.self-2.view_is
+    (let long = length-placed u.schema (known_pages u.pager.store) u.directory.entries in omega arith)) in
+    let number : row_of row.number c.args.dims.now c.args.measures.now ≡ row =
+    ap (λ (n : ℕ). row_of n c.args.dims.now c.args.measures.now) (ap (λ (r : Row). r.number) c.row_of-row.ensures.row) ∙ sym c.row_of-row.ensures.row in
+    λ sound. subst (λ (r : Row). IsInserted r a d) (sym number)
+    (grown a b after d row c.in_ok-seat.seat.index (insert_row b.schema.dims row rows) same is_ready not_last c.in_ok-store_with.ensures.written
+    (ap (λ (v : TreeView). v.schema) stored) (ap (λ (v : TreeView). v.next) stored) (ap (λ (v : TreeView). v.rows) stored) few (ap (λ (v : TreeView). v.is_changed) stored)
+    c.in_ok-store_with.ensures.effect.marked.marked
+    (ap (λ (v : TreeView). record v { next = v.next + 1; rows = v.rows + 1 }) c.self-2.view_is) sound)
+
+pub store_with-requires-clause-room : goal.store_with-requires-clause-room
+store_with-requires-clause-room g c = λ over.
+    let t = c.self.inside in
+    let a = c.args.self.now in
+    let b = c.read_at.new.self in
+    let same : b ≡ a = c.in_ok-read_at.ensures.effect.same ∙ c.in_ok-seat.ensures.effect.same in
+    let row = c.row_of-row.result in
+    let here = entries_are t.schema t.directory.entries t.directory.chain t.next t.rows t.is_changed t.is_failed t.pager a c.self.view_is in
+    let at_index : c.in_ok-seat.seat.index ≡ index_holding c.key-key.result (first_keys t.directory.entries) =
+    subst (λ (es : List Entry). c.in_ok-seat.seat.index ≡ index_holding c.key-key.result (first_keys es)) here c.in_ok-seat.ensures.index in
+    let stands = seated t.schema t.directory.entries t.directory.chain t.next t.rows t.is_changed t.is_failed t.pager a c.in_ok-seat.seat c.self.view_is c.in_ok-seat.ensures.seat in
+    let read = subst (λ (v : TreeView). IsHonest v.store → (p : Placed) → slice_get v.placed c.in_ok-seat.seat.index ≡ Some p → c.read_at.new.region.region.rows ≡ p.region.rows) c.in_ok-seat.ensures.effect.same c.in_ok-read_at.ensures.rows in
+    let shape : c.shape.result ≡ t.schema.dims = c.shape.ensures in
+    let rows = c.read_at.new.region.region.rows in
+    let at_view = ready t.schema t.directory.entries t.directory.chain t.next t.rows t.is_changed t.is_failed t.pager t.schema.dims c.in_ok-seat.seat.index c.key-key.result row c.args.dims.now c.args.measures.now rows (insert_row t.schema.dims row rows)
+    c.row_of-row.ensures.row (rw (← c.self.view_is) at c.requires.dims) (rw (← c.self.view_is) at c.requires.measures) (words_of c.args.dims.now c.type_inv.dims) c.row_of-row.ensures.words
+    c.self.invariant.fewer c.self.invariant.last_next (rw (← c.self.view_is) at c.requires.not_last) (c.key-key.ensures ∙ ap (λ (d : ℕ). key_of d row) shape) refl at_index stands.within
+    (rw (← c.self.view_is) at read) refl in
+    let is_ready : IsReady b row c.in_ok-seat.seat.index (insert_row b.schema.dims row rows) =
+    subst (λ (v : TreeView). IsReady v row c.in_ok-seat.seat.index (insert_row v.schema.dims row rows)) (c.self.view_is ∙ sym same) at_view in
+    let dims : c.shape.result ≡ b.schema.dims = c.shape.ensures ∙ ap (λ (v : TreeView). v.schema.dims) (c.self.view_is ∙ sym same) in
+    let places : ArePlaces (last_address b.schema.dims) (map entry_of b.placed) =
+    subst (λ (v : TreeView). ArePlaces (last_address v.schema.dims) (map entry_of v.placed)) (c.self.view_is ∙ sym same)
+    (rw (← c.self.invariant.last_is, entries_back t.schema (known_pages t.pager.store) t.directory.entries) c.self.invariant.places) in
+    let are = subst (λ (v : TreeView). AreRowsAt v.schema (map entry_of v.placed) c.in_ok-seat.seat.index rows) (sym c.in_ok-read_at.ensures.effect.same) c.in_ok-read_at.ensures.at in
+    let of_room : c.read_at.new.region.dims ≡ b.schema.dims = c.in_ok-read_at.ensures.dims ∙ sym (ap (λ (v : TreeView). v.schema.dims) c.in_ok-read_at.ensures.effect.same) in
+    let keys : c.keys.result.now ≡ keys_of b.schema.dims rows = c.keys.ensures.keys ∙ ap (λ (d : ℕ). keys_of d rows) of_room in
+    let none : has_key b.schema.dims c.key-key.result rows ≡ false =
+    sym (any_key b.schema.dims c.key-key.result rows) ∙ ap (λ (ks : List Key). list_any (is_same c.key-key.result) ks) (sym keys) ∙ sym c.has_key.ensures ∙ c.if-has_key.false in
+    room_ready b row c.in_ok-seat.seat.index rows (insert_row b.schema.dims row rows) is_ready places are (rw (c.key-key.ensures, dims) at none) refl over
+
+pub returns-then-has_key-clause-effect : goal.returns-then-has_key-clause-effect
+returns-then-has_key-clause-effect g c =
+    let t = c.self.inside in
+    let a = c.args.self.now in
+    let b = c.read_at.new.self in
+    let same : b ≡ a = c.in_ok-read_at.ensures.effect.same ∙ c.in_ok-seat.ensures.effect.same in
+    let rows = c.read_at.new.region.region.rows in
+    let seat = c.in_ok-seat.seat in
+    let (p, there, page) = seat_placed a.placed seat c.in_ok-seat.ensures.seat in
+    let read = subst (λ (v : TreeView). IsHonest v.store → (p : Placed) → slice_get v.placed seat.index ≡ Some p → rows ≡ p.region.rows) c.in_ok-seat.ensures.effect.same c.in_ok-read_at.ensures.rows in
+    let number : c.key-key.result.number ≡ a.next =
+    ap (λ (k : Key). k.number) c.key-key.ensures ∙ ap (λ (r : Row). r.number) c.row_of-row.ensures.row ∙ ap (λ (v : TreeView). v.next) c.self.view_is in
+    let of_room : c.read_at.new.region.dims ≡ a.schema.dims = c.in_ok-read_at.ensures.dims ∙ ap (λ (v : TreeView). v.schema.dims) c.in_ok-seat.ensures.effect.same in
+    let keys : c.keys.result.now ≡ keys_of a.schema.dims rows = c.keys.ensures.keys ∙ ap (λ (d : ℕ). keys_of d rows) of_room in
+    let has : has_key a.schema.dims c.key-key.result rows ≡ true =
+    sym (any_key a.schema.dims c.key-key.result rows) ∙ ap (λ (ks : List Key). list_any (is_same c.key-key.result) ks) (sym keys) ∙ sym c.has_key.ensures ∙ c.if-has_key.true in
+    let taken = key_there a seat.index p c.key-key.result rows there number has (λ honest. read honest p there) in
+    let on : p.page ≡ c.page.result = page ∙ sym c.page.ensures in
+    subst (λ (v : TreeView). Changes {A = ℕ} a v (Err (Page c.page.result BadOrder))) (sym same)
+    (unchanged (Page c.page.result BadOrder) a (taken.0, inr (inr (refl, subst (λ (n : ℕ). IsNumberTaken a n) on taken.1)), refl))
