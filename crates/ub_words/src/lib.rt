@@ -11,6 +11,3 @@ mod words;
 
 pub use given::{DataWords, LoadWords, NextWords, RunWords, TryWords};
 pub use words::{Asked, STANDARD_INPUT, read_words};
-
-#[cfg(test)]
-mod tests;

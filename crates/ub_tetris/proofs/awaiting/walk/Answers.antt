@@ -1,4 +1,4 @@
-use Rattle.std.proofs.Common.{◌≤◌, ◌+◌, List, ℕ, Some, subst, sym}
+use Rattle.std.proofs.Common.{◌≤◌, ◌+◌, List, ℕ, Some, rules, subst, sym}
 use Rattle.ub_tetris.proofs.SpanFacts.{Walks, walks_done, walks_ended_by, walks_on}
 use Rattle.ub_tetris.specs.declared.event.Awaited.{Awaited}
 use Rattle.ub_tetris.proofs.awaiting.walk.Goals as goal
@@ -19,3 +19,6 @@ loop-turn-preserved g c =
     (walks_on c.args.boxes.now c.args.course c.args.tree.now c.loop-turn.tree c.loop-turn._turn c.loop-turn.awaited.items c.loop-turn.after c.loop-turn.invariant
     c.next_meeting.new.self _ c.new.result c.in-Some.region c.in_ok-region.ensures.effect.same c.as_ref.ensures.value (rw c.in-Some.is at c.in_ok-region.ensures.found)
     c.new.ensures.value c.new.ensures.region)
+
+pub loop-turn-init : goal.loop-turn-init
+loop-turn-init g c = search rules
