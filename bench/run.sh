@@ -64,6 +64,15 @@ for rows in 10000 100000; do
         "$((regions * walks * 1000000000 / (walked - fill + 1))) regions walked a second"
 done
 
+# The same of two and three dimensions, in each order.
+filled=300000
+for dims in 2 3; do
+    for order in random ascending clustered; do
+        fill=$(least out/bench fill "$filled" "$dims" "$order")
+        echo "ub_tree, $dims dimensions, $order: $((filled * 1000000000 / fill)) rows put in a second ($filled rows)"
+    done
+done
+
 # A tree of three dimensions in random order; the program times these itself. All rows counted beside a walk that only reads the
 # regions; all rows in the order of a dimension (a sweep) beside those of a measure that orders them alike (a scan); and sweeps of
 # three cubes beside a walk of the same regions.

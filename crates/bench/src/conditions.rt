@@ -1,13 +1,7 @@
+use crate::table::table;
 use std::alloc::{AllocError, Global};
 use ub_boxes::boxes;
 use ub_query::{Cond, Operator};
-use ub_table::{Name, PageFault, Schema};
-
-// Two dimensions and no measure.
-fn plane() -> Result<Schema, PageFault> {
-    let columns = [Name::new(b"x")?, Name::new(b"y")?];
-    Schema::new(Name::new(b"t")?, &columns, 2, 64)
-}
 
 // The condition, or that a column is below 100, or has an even number from 2 to 62.
 fn or_even(alloc: Global, first: Option<Cond>, column: usize) -> Result<Cond, AllocError> {
@@ -33,7 +27,7 @@ fn or_even(alloc: Global, first: Option<Cond>, column: usize) -> Result<Cond, Al
 
 /// How many boxes a condition of 64 comparisons and 4096 cells has, made anew in each of so many calls, all of them together.
 pub fn boxes_of_many_cells(alloc: Global, calls: u64) -> Result<u64, AllocError> {
-    let Ok(schema) = plane() else {
+    let Ok(schema) = table(2, false) else {
         return Ok(0);
     };
     let condition = or_even(alloc, Some(or_even(alloc, None, 0)?), 1)?;

@@ -2,7 +2,8 @@ ghost use Rattle.std.specs.Prelude.{IfOk};
 ghost use Rattle.ub_query.specs.Posed.{IsPosed};
 ghost use Rattle.ub_query.specs.Shape.{asked};
 
-use crate::held::{COLUMNS, MemTree};
+use crate::held::{COLUMNS, NOTHING, Told};
+use crate::table::MemTree;
 use std::alloc::{AllocError, Global};
 use ub_exec::{ExecFault, execute};
 use ub_plan::{Plan, plan};
@@ -30,31 +31,36 @@ pub fn counting(alloc: Global, tree: &MemTree) -> Result<Plan, AllocError>
     plan(alloc, &query, tree.schema())
 }
 
-/// How many pages the execution of a plan fetches.
-pub fn executed(alloc: Global, tree: &mut MemTree, plan: &Plan) -> Result<u64, ExecFault>
+/// Carries a plan out: how many rows it answers, and how many pages it fetches.
+pub fn executed(alloc: Global, tree: &mut MemTree, plan: &Plan) -> Result<Told, ExecFault>
     requires { IsPosed COLUMNS plan.now.asked }
 {
     if tree.schema().columns().len() != COLUMNS {
         return Err(ExecFault::Memory);
     }
     let answer = execute(alloc, tree, plan)?;
-    Ok(answer.fetched)
+    Ok(Told {
+        rows: answer.rows.len() as u64,
+        pages: tree.trace().len(),
+        held: 0,
+    })
 }
 
 /// Goes from region to region that meets the plan's boxes, reads each, and tells how many rows they have: what a scan has to do
 /// at least.
-pub fn walked(tree: &mut MemTree, plan: &Plan) -> Result<u64, TreeFault> {
+pub fn walked(tree: &mut MemTree, plan: &Plan) -> Result<Told, TreeFault> {
     let mut page = tree.empty_region();
     let mut after: Option<Region> = None;
-    let mut rows = 0u64;
+    let mut told = NOTHING;
     tree.begin();
     for _ in 0..tree.regions() {
         let Some(region) = tree.next_meeting(plan.boxes(), after.as_ref())? else {
             break;
         };
         tree.read_region(&region, &mut page)?;
-        rows = rows.saturating_add(page.len() as u64);
+        told.rows = told.rows.saturating_add(page.len() as u64);
         after = Some(region);
     }
-    Ok(rows)
+    told.pages = tree.trace().len();
+    Ok(told)
 }

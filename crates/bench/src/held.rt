@@ -3,16 +3,13 @@ ghost use Rattle.ub_query.specs.Posed.{IsPosed};
 ghost use Rattle.ub_query.specs.Shape.{asked, between, both, shape};
 
 use crate::generator::Generator;
+use crate::table::{MemTree, table};
 use std::alloc::{AllocError, Global};
 use ub_plan::{Plan, plan};
 use ub_query::{Cond, Item, Items, Query, SortKey};
 use ub_store::MemStore;
-use ub_table::{Name, PageFault, Schema};
 use ub_tetris::{Sweep, SweepFault};
 use ub_tree::{Region, Tree, TreeFault};
-
-/// A tree over a store in memory.
-pub type MemTree = Tree<MemStore>;
 
 /// How many columns the table has.
 pub const COLUMNS: usize = 4;
@@ -28,26 +25,17 @@ pub struct Told {
     pub held: usize,
 }
 
-const NOTHING: Told = Told {
+/// What comes to nothing.
+pub const NOTHING: Told = Told {
     rows: 0,
     pages: 0,
     held: 0,
 };
 
-// Three dimensions, a measure that is the first of them once more, 64 rows on a page.
-fn space() -> Result<Schema, PageFault> {
-    let columns = [
-        Name::new(b"x")?,
-        Name::new(b"y")?,
-        Name::new(b"z")?,
-        Name::new(b"m")?,
-    ];
-    Schema::new(Name::new(b"t")?, &columns, 3, 64)
-}
-
-/// A tree of so many rows with made coordinates, in the order in which they are made.
+/// A tree of so many rows of three dimensions with made coordinates, in the order in which they are made, and a measure that is the
+/// first of these once more.
 pub fn filled(alloc: Global, rows: u64) -> Result<MemTree, TreeFault> {
-    let Ok(schema) = space() else {
+    let Ok(schema) = table(3, true) else {
         return Err(TreeFault::Full);
     };
     let mut tree = match Tree::create(alloc, MemStore::new(alloc), &schema) {

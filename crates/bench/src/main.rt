@@ -8,6 +8,9 @@
 // `bench tree N W` puts N rows into a UB-tree over a store in memory, walks its regions W times, and prints how many
 // regions there are and how many rows were read.
 //
+// `bench fill N D [ORDER]` puts N rows of D dimensions, 2 or 3, into such a tree, in random order, or where ORDER is `ascending` or
+// `clustered` in that, and prints how many regions there are.
+//
 // `bench pages D N [held]` reads a page of 64 rows with D dimensions and one measure N times, filters it by a box each time, and
 // prints a checksum of the masks; with `held` one region takes all of them in.
 //
@@ -30,12 +33,14 @@ mod fill;
 mod generator;
 mod held;
 mod pages;
+mod table;
 mod telling;
+mod timing;
 
 use addresses::{interleaved, spread_out};
 use conditions::boxes_of_many_cells;
 use events::events;
-use fill::fill_and_walk;
+use fill::{Order, fill, fill_and_walk};
 use generator::Generator;
 use pages::read_and_filter;
 use std::{env, io};
@@ -56,14 +61,22 @@ enum Way {
 }
 
 // The way that a word of the command line names, if there is one.
-fn way_of(word: Option<String>) -> Way {
+fn way_of(word: &str) -> Way {
     match word {
-        Some(text) if text.as_str() == "bits" => Way::Bits,
-        Some(text) if text.as_str() == "making" => Way::Making,
-        Some(text) if text.as_str() == "events" => Way::Events,
-        Some(text) if text.as_str() == "interleave" => Way::Interleave,
-        Some(text) if text.as_str() == "spread" => Way::Spread,
+        "bits" => Way::Bits,
+        "making" => Way::Making,
+        "events" => Way::Events,
+        "interleave" => Way::Interleave,
+        "spread" => Way::Spread,
         _ => Way::Words,
+    }
+}
+
+// The text of a word; none where there is no word.
+fn text(word: &Option<String>) -> &str {
+    match word {
+        Some(word) => word.as_str(),
+        None => "",
     }
 }
 
@@ -112,6 +125,24 @@ fn tell_tree(rt: &HostRuntime, rows: u64, walks: u64) -> io::Result<()> {
     }
 }
 
+// The order that a word of the command line names.
+fn order_of(word: Option<String>) -> Order {
+    match word {
+        Some(text) if text.as_str() == "ascending" => Order::Ascending,
+        Some(text) if text.as_str() == "clustered" => Order::Clustered,
+        _ => Order::Random,
+    }
+}
+
+// Prints how many regions a tree has into which so many rows were put.
+fn tell_fill(rt: &HostRuntime, rows: u64, dims: u64, order: Order) -> io::Result<()> {
+    let (rows, dims) = (rows.min(1 << 23) as u32, dims.clamp(2, 3) as u32);
+    match fill(rt.alloc(), rows, dims, order) {
+        Ok(regions) => println!(rt; "{regions} regions"),
+        Err(fault) => println!(rt; "! {fault}"),
+    }
+}
+
 // Prints how many boxes a condition of many cells has, made so many times.
 fn tell_boxes(rt: &HostRuntime, times: u64) -> io::Result<()> {
     match boxes_of_many_cells(rt.alloc(), times) {
@@ -152,15 +183,17 @@ fn main(rt: HostRuntime) -> io::Result<()> {
     let _program = words.next();
     let (first, second) = (words.next(), words.next());
     let (third, fourth) = (words.next(), words.next());
-    let what = match &first {
-        Some(word) => word.as_str(),
-        None => "",
-    };
-    match what {
+    match text(&first) {
         "tree" => tell_tree(
             &rt,
             number(second).unwrap_or(1000),
             number(third).unwrap_or(0),
+        ),
+        "fill" => tell_fill(
+            &rt,
+            number(second).unwrap_or(1000),
+            number(third).unwrap_or(2),
+            order_of(fourth),
         ),
         "held" => tell(&rt, number(second).unwrap_or(1000)),
         "count" => tell_counting(&rt, number(second).unwrap_or(1000)),
@@ -176,7 +209,7 @@ fn main(rt: HostRuntime) -> io::Result<()> {
             &rt,
             number(first).unwrap_or(1000),
             number(second),
-            way_of(third),
+            way_of(text(&third)),
         ),
     }
 }

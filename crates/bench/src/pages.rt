@@ -1,30 +1,14 @@
-ghost use Rattle.std.specs.Prelude.{◌≡◌, ◌≤◌};
+ghost use Rattle.std.specs.Prelude.{◌≤◌};
 
 use crate::generator::Generator;
+use crate::table::table;
 use ub_bigmin::ZBox;
 use ub_page::{Page, RegionPage, write_region};
-use ub_table::{Key, Name, PageFault, Row, Schema};
+use ub_table::{Key, PageFault, Row, Schema};
 use ub_zaddr::{Point, Shape, last, spread};
 
 /// How many rows stand on the page.
 const ROWS: u32 = 64;
-
-// So many dimensions, one measure, 64 rows on a page.
-fn space(dims: u32) -> Result<Schema, PageFault>
-    requires { dims ≤ 4 }
-{
-    let columns = [
-        Name::new(b"a")?,
-        Name::new(b"b")?,
-        Name::new(b"c")?,
-        Name::new(b"d")?,
-        Name::new(b"m")?,
-    ];
-    let dimensions = dims as usize;
-    let mut named = columns;
-    named[dimensions] = columns[4];
-    Schema::new(Name::new(b"t")?, &named[..dimensions + 1], dims, ROWS)
-}
 
 // Rows at addresses that lie about as far apart as there is room for.
 fn rows_of(shape: Shape) -> [Row; 64] {
@@ -84,7 +68,7 @@ fn filtered(
 pub fn read_and_filter(dims: u32, calls: u64, is_held: bool) -> Result<u64, PageFault>
     requires { dims ≤ 4 }
 {
-    let schema = space(dims)?;
+    let schema = table(dims, true)?;
     let shape = schema.shape();
     let Some(zbox) = middle(shape) else {
         return Ok(0);
