@@ -1,5 +1,4 @@
 pub mod BreakFacts
-pub mod ChoiceFacts
 pub mod FirstFacts
 pub mod KeptFacts
 pub mod WalkFacts

@@ -6,17 +6,16 @@ use Rattle.std.proofs.lemmas.List.Elements.{Contains-append_cases, Contains-appe
 use Rattle.std.specs.List.{All, AllByRecursion}
 use Rattle.ub_bigmin.specs.Box.{Corners}
 use Rattle.ub_boxes.specs.Boxes.{Covering, boxes_of, cover_of}
-use Rattle.ub_exec.proofs.ChoiceFacts.{filter_same, chosen_are_selected}
 use Rattle.ub_exec.proofs.VisitFacts.{visits_of, those_among}
 use Rattle.ub_exec.specs.Answers.{IsSwept}
-use Rattle.ub_exec.specs.Choice.{is_chosen}
-use Rattle.ub_exec.specs.declared.choice.Choice.{Choice}
+use Rattle.ub_plan.specs.Choice.{is_chosen}
+use Rattle.ub_plan.specs.declared.choice.Choice.{Choice}
 use Rattle.ub_exec.specs.Visits.{HasFetched, HasWalked, MeetsIn, fetches_then}
 use Rattle.ub_plan.specs.Plan.{PlanView, kind_asked, kind_for, kind_of, kept_by, plan_of}
 use Rattle.ub_plan.specs.declared.planned.Kind.{Kind}
 use Rattle.ub_plan.specs.declared.planned.Kind.TheVariants.{Empty, Scan, Sweep}
 use Rattle.ub_plan.specs.Visits as plan
-use Rattle.ub_plan.proofs.Laws.{meeting_hold_the_tables}
+use Rattle.ub_plan.proofs.Laws.{chosen_are_selected, meeting_hold_the_tables}
 use Rattle.ub_plan.specs.Visits.{AreMeeting, AreVisitsBy, fetched_rows}
 use Rattle.ub_region.specs.Those.{AreThose}
 use Rattle.ub_query.proofs.Laws.{all_at, contains_none, contains_cases}
@@ -149,9 +148,9 @@ module _ (t : TreeView) (sound : IsSound t) (rows : List Row) (are : AreTableRow
   chosen_are : (p : PlanView) (new : TreeView) (handed : List Row) → p ≡ plan_of t.schema p.asked → p.asked.limit ≢ Some 0 → (choice : Choice) → HasWalked p.covering.boxes t new handed
       → filter (is_chosen choice t.schema p) handed ≡ filter (is_selected t.schema p.asked.filter) handed
   chosen_are p new handed is some choice walk =
-      filter_same (is_chosen choice t.schema p) (is_selected t.schema p.asked.filter) handed
-      (λ row there. chosen_are_selected choice t.schema p t.next (regions t) is some sound.regions_are row
-      (walked_row walk.visited t.placed (those_among (MeetsIn t p.covering.boxes) t.placed walk.visited walk.visits) row (subst (λ (rs : List Row). Contains rs row) walk.rows_are there)))
+      ap (λ (x : PlanView). filter (is_chosen choice t.schema x) handed) is
+      ∙ chosen_are_selected choice t.schema p.asked t.next (regions t) handed some sound.regions_are
+      (λ row there. walked_row walk.visited t.placed (those_among (MeetsIn t p.covering.boxes) t.placed walk.visited walk.visits) row (subst (λ (rs : List Row). Contains rs row) walk.rows_are there))
 
   -- so what is made of them is what the query means
   pub answered : (p : PlanView) → p ≡ plan_of t.schema p.asked → p.asked.limit ≢ Some 0 → (choice : Choice) (q : Asked) → q ≡ p.asked

@@ -4,13 +4,12 @@ ghost use Rattle.ub_exec.specs.Faults.{ReadsTree};
 ghost use Rattle.ub_exec.specs.Visits.{HasFetched, HasFetchedFirst};
 ghost use Rattle.ub_query.specs.Posed.{IsPosed};
 
-use crate::choice::Choice;
 use crate::fault::ExecFault;
 use crate::sweeping::swept_rows;
 use crate::walking::walk;
 use std::alloc::Global;
 use ub_answer::{Cells, Gathering};
-use ub_plan::{Kind, Plan};
+use ub_plan::{Choice, Kind, Plan};
 use ub_query::Query;
 use ub_store::PageStore;
 use ub_tree::Tree;

@@ -1,18 +1,17 @@
 ghost use Rattle.std.specs.Prelude.{◌≡◌, ◌++◌, List, length, option_copied, IfOk, OnErr, OnOk};
 ghost use Rattle.std.specs.List.{filter};
-ghost use Rattle.ub_exec.specs.Choice.{IsFit, is_chosen};
+ghost use Rattle.ub_plan.specs.Choice.{IsFit, is_chosen};
 ghost use Rattle.ub_exec.specs.Faults.{ReadsTree};
 ghost use Rattle.ub_exec.specs.Visits.{Hands, HandsThese, HasTurned, HasTurnedSome, HasWalked, HasWalkedFirst};
 ghost use Rattle.ub_query.specs.Posed.{IsPosed};
 ghost use Rattle.ub_table.specs.declared.row.Row.{Row as RowView};
 ghost use Rattle.ub_tree.specs.View.{IsSound};
 
-use crate::choice::{Choice, is_set, is_true};
 use crate::fault::ExecFault;
 use crate::taker::Taker;
 use std::alloc::AllocError;
 use ub_page::RegionPage;
-use ub_plan::Plan;
+use ub_plan::{Choice, Plan, is_set, is_true};
 use ub_store::PageStore;
 use ub_table::Schema;
 use ub_tree::{Region, Tree};

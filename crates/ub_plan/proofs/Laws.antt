@@ -1,5 +1,6 @@
 -- The laws of plans, as specs/Laws.antt states them.
 use Rattle.std.proofs.Common.{◌≡◌, ◌∙◌, ℕ, List, length, ap, refl, sym, subst}
+use Rattle.ub_plan.proofs.ChoiceFacts.{chosen_selected}
 use Rattle.ub_plan.proofs.EventFacts.{events_one}
 use Rattle.ub_plan.proofs.MeaningFacts.{zero_means_none, none_means_zero}
 use Rattle.ub_plan.proofs.SideFacts.{each_dimension}
@@ -8,12 +9,13 @@ use Rattle.ub_plan.proofs.TakeFacts.{row_is_taken}
 use Rattle.ub_plan.proofs.ThoseFacts.{those_one}
 use Rattle.ub_plan.proofs.VisitFacts.{row_is_met, meeting_hold, meeting_hold_tables}
 use Rattle.ub_plan.specs.Explained.{explain_text}
-use Rattle.ub_plan.specs.Laws.{SelectedRowsAreMet, PlansTakeTheSelected, MeetingHoldTheSelected, MeetingHoldTheTables, LimitOfZeroMeansNothing, MeetingAreOne, EventsAreOne, PlansHaveVisits, VisitsAreOne, ExplainsHaveAText, ExplainsHaveOneText, ExplainsNameEachDimension}
+use Rattle.ub_plan.specs.Laws.{SelectedRowsAreMet, PlansTakeTheSelected, ChosenAreSelected, MeetingHoldTheSelected, MeetingHoldTheTables, LimitOfZeroMeansNothing, MeetingAreOne, EventsAreOne, PlansHaveVisits, VisitsAreOne, ExplainsHaveAText, ExplainsHaveOneText, ExplainsNameEachDimension}
 use Rattle.ub_plan.specs.Plan.{kind_of, plan_of}
 use Rattle.ub_plan.specs.Visits.{Span, Meets, spans_of}
 use Rattle.ub_query.specs.Meaning.{IsMeaning}
 use Rattle.ub_query.specs.declared.cell.Cell.{Cell}
 use Rattle.ub_region.proofs.Laws.{chain_of}
+pub use Rattle.ub_plan.proofs.ChoiceFacts.{asked_over, next_chosen, next_fails, next_far}
 pub use Rattle.ub_plan.proofs.FoundFacts.{meeting_of}
 pub use Rattle.ub_plan.proofs.InsideFacts.{from_in_some, in_some}
 pub use Rattle.ub_plan.proofs.SpanFacts.{of_some_span, of_span, rows_are_points}
@@ -27,6 +29,9 @@ selected_rows_are_met schema q next regions meeting row limit are those c t = ro
 pub plans_take_the_selected : PlansTakeTheSelected
 plans_take_the_selected schema q next regions row limit are c =
     row_is_taken schema q row limit (rows_are_points schema regions row (chain_of schema regions are.each are.ascending are.apart) c)
+
+pub chosen_are_selected : ChosenAreSelected
+chosen_are_selected choice schema q next regions rows limit are among = chosen_selected choice schema q next regions rows limit are among
 
 pub meeting_hold_the_selected : MeetingHoldTheSelected
 meeting_hold_the_selected schema q next regions meeting limit are those = meeting_hold schema q next regions meeting limit are those

@@ -1,4 +1,5 @@
 pub mod InsideFacts
+pub mod ChoiceFacts
 pub mod SpanFacts
 pub mod TakeFacts
 pub mod MeaningFacts

@@ -1,5 +1,5 @@
 -- What an EXPLAIN keeps of the tree.
-use Rattle.std.proofs.Common.{◌≡◌, ℕ, Result, refl, sym, ap, subst}
+use Rattle.std.proofs.Common.{ℕ, Result, refl, sym, ap, subst}
 use Rattle.ub_plan.specs.Faults.{SearchesTree, counted}
 use Rattle.ub_plan.specs.declared.fault.PlanFault.{PlanFault}
 use Rattle.ub_tree.specs.View.{TreeView, IsSound, KeepsRegions, KeepsTrace}

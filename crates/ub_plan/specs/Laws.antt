@@ -4,8 +4,10 @@ use Rattle.std.specs.Prelude.{◌≡◌, ◌≢◌, ◌↔◌, ℕ, Bool, List, 
 use Rattle.std.specs.List.{filter}
 use Rattle.std.specs.List.Sorted.{IsPermutation}
 use Rattle.ub_bigmin.specs.Box.{Corners}
+use Rattle.ub_plan.specs.Choice.{is_chosen}
 use Rattle.ub_plan.specs.Explained.{IsExplained, sides}
 use Rattle.ub_plan.specs.Plan.{PlanView, plan_of, takes}
+use Rattle.ub_plan.specs.declared.choice.Choice.{Choice}
 use Rattle.ub_plan.specs.Visits.{Span, Event, AreMeeting, AreEvents, AreVisits, fetched_rows, selected_rows}
 use Rattle.ub_query.specs.Groups.{is_selected, selected}
 use Rattle.ub_query.specs.Meaning.{IsMeaning}
@@ -29,6 +31,13 @@ abbrev pub PlansTakeTheSelected : Type 0
 PlansTakeTheSelected = (schema : Schema) (q : Asked) (next : ℕ) (regions : List Region) (row : Row) → q.limit ≢ Some 0
     → AreRegions schema next regions → Contains (rows_of regions) row
     → takes schema (plan_of schema q) row ≡ is_selected schema q.filter row
+
+-- so does each choice
+abbrev pub ChosenAreSelected : Type 0
+ChosenAreSelected = (choice : Choice) (schema : Schema) (q : Asked) (next : ℕ) (regions : List Region) (rows : List Row)
+    → q.limit ≢ Some 0 → AreRegions schema next regions
+    → ((row : Row) → Contains rows row → Contains (rows_of regions) row)
+    → filter (is_chosen choice schema (plan_of schema q)) rows ≡ filter (is_selected schema q.filter) rows
 
 -- so the selected rows of the regions that meet are those of all regions, each as often
 abbrev pub MeetingHoldTheSelected : Type 0

@@ -1,4 +1,4 @@
-ghost use Rattle.ub_plan.specs.Laws.{SelectedRowsAreMet, PlansTakeTheSelected, MeetingHoldTheSelected, MeetingHoldTheTables, LimitOfZeroMeansNothing, MeetingAreOne, EventsAreOne, PlansHaveVisits, VisitsAreOne, ExplainsHaveAText, ExplainsHaveOneText, ExplainsNameEachDimension};
+ghost use Rattle.ub_plan.specs.Laws.{SelectedRowsAreMet, PlansTakeTheSelected, ChosenAreSelected, MeetingHoldTheSelected, MeetingHoldTheTables, LimitOfZeroMeansNothing, MeetingAreOne, EventsAreOne, PlansHaveVisits, VisitsAreOne, ExplainsHaveAText, ExplainsHaveOneText, ExplainsNameEachDimension};
 
 // Each function here does nothing, and its clause is a law of the definitions in specs/. So the law is proved, and is read
 // beside the code.
@@ -11,6 +11,11 @@ pub fn selected_rows_are_met()
 /// And of the rows of the regions the plan takes the selected ones.
 pub fn plans_take_the_selected()
     ensures { PlansTakeTheSelected }
+{}
+
+/// So does each choice, by the boxes or by the condition.
+pub fn chosen_are_selected()
+    ensures { ChosenAreSelected }
 {}
 
 /// So the selected rows of the regions that meet are those of all regions, each as often.

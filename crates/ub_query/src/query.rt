@@ -1,12 +1,10 @@
-ghost use Rattle.std.specs.Prelude.{◌≡◌, length, IfOk};
+ghost use Rattle.std.specs.Prelude.{◌≡◌, IfOk};
 ghost use Rattle.std.specs.Option.{option_map};
-ghost use Rattle.ub_query.specs.Groups.{is_selected};
-ghost use Rattle.ub_query.specs.Posed.{IsPosed};
 ghost use Rattle.ub_query.specs.Shape.{asked, shape};
 
 use crate::condition::Cond;
 use std::alloc::{AllocError, Global};
-use ub_table::{Items, Row, Schema};
+use ub_table::Items;
 
 /// A query over the columns of one table. Columns are counted from 0, dimensions first.
 #[derive(Drop)]
@@ -35,17 +33,6 @@ impl Query {
             order: self.order.copy(alloc)?,
             limit: self.limit,
         })
-    }
-
-    /// Whether a row of a table of this schema is selected: all are where there is no condition. Takes no memory.
-    pub fn selects(&self, schema: &Schema, row: &Row) -> bool
-        requires { IsPosed (length schema.now.columns) (asked self.now) }
-        ensures { result ≡ is_selected schema.now (asked self.now).filter row.now }
-    {
-        match &self.filter {
-            None => true,
-            Some(condition) => condition.truth(schema, row),
-        }
     }
 }
 

@@ -1,6 +1,9 @@
 -- The region at a sweep's place is fetched.
 use Rattle.std.proofs.Common.{◌≡◌, ◌<◌, ◌+◌, ◌∙◌, ◌∷◌, ℕ, zero, suc, true, List, [], Option, Some, Contains, drop, length, slice_get, slice_index_or, sym, ap, subst, arith}
-use Rattle.ub_query.specs.Shape.{Asked}
+use Rattle.std.specs.List.{filter}
+use Rattle.ub_plan.specs.Choice.{is_chosen}
+use Rattle.ub_plan.specs.Plan.{PlanView}
+use Rattle.ub_plan.specs.declared.choice.Choice.{Choice}
 use Rattle.ub_table.specs.Region.{Region}
 use Rattle.ub_table.specs.declared.row.Row.{Row}
 use Rattle.ub_table.specs.declared.schema.Schema.{Schema}
@@ -36,20 +39,21 @@ due_within s (first, first_is, due) = within s.queue.items s.fetched first due
     within (y ∷ queue) zero first due = omega arith
     within (y ∷ queue) (suc k) first due = let more = within queue k first due in omega arith
 
-pub has_fetched : (q : Asked) (t new : TreeView) (s new_s : State) (x : Awaited) (region : Region) (schema : Schema) (rows : List Row) → slice_get s.queue.items s.fetched ≡ Some x
+pub has_fetched : (plan : PlanView) (choice : Choice) (t new : TreeView) (s new_s : State) (x : Awaited) (region : Region) (schema : Schema) → slice_get s.queue.items s.fetched ≡ Some x
     → HasNoted x.region.page t new → (IsSound t → Contains (spans_of t) x.region → StandsAt t.placed x.region.page region) → region.first ≡ x.region.first
-    → schema ≡ t.schema → rows ≡ region.rows → HoldsAlso schema q rows s.held new_s.held → HasFetchedNext q t new s new_s
-has_fetched q t new s new_s x region schema rows at noted stands first of_tree of_region holds = record {
+    → schema ≡ t.schema → HoldsAlso schema plan.asked.order (filter (is_chosen choice schema plan) region.rows) s.held new_s.held → HasFetchedNext plan t new s new_s
+has_fetched plan choice t new s new_s x region schema at noted stands first of_tree holds = record {
   next = x;
   at = at;
   noted = noted;
+  choice = choice;
   rows = λ sound there.
       let (p, in_tree, page, is) = stands sound there in (
         p,
         in_tree,
         page,
         ap (λ (r : Region). r.first) is ∙ first,
-        subst (λ (rs : List Row). HoldsAlso t.schema q rs s.held new_s.held) (of_region ∙ ap (λ (r : Region). r.rows) (sym is))
-            (subst (λ (x : Schema). HoldsAlso x q rows s.held new_s.held) of_tree holds),
+        subst (λ (r : Region). HoldsAlso t.schema plan.asked.order (filter (is_chosen choice t.schema plan) r.rows) s.held new_s.held) (sym is)
+            (subst (λ (x : Schema). HoldsAlso x plan.asked.order (filter (is_chosen choice x plan) region.rows) s.held new_s.held) of_tree holds),
       );
 }

@@ -58,51 +58,25 @@ pub held_more : (entry : Ranked) (old new : List Ranked) (schema : Schema) (keys
 held_more entry old new schema keys row same is =
     subst (λ (h : HeldRow). IsPermutation (h ∷ held_of old) (held_of new)) is (IsPermutation-map as_held (entry ∷ old) new same)
 
--- ---- the selected ones of some rows
+-- ---- the chosen ones of some rows
 
-filter_yes : (p : Row → Bool) (row : Row) → p row ≡ true → filter p (row ∷ []) ≡ row ∷ []
-filter_yes p row e = rw e refl
+-- none more are chosen
+pub none_held_more : (schema : Schema) (keys : List SortKey) (rows more : List Row) (old mid new : List HeldRow) → more ≡ rows → new ≡ mid
+    → HoldsAlso schema keys rows old mid → HoldsAlso schema keys more old new
+none_held_more schema keys rows more old mid new none same so_far =
+    subst (λ (rs : List Row). HoldsAlso schema keys rs old new) (sym none) (subst (λ (held : List HeldRow). HoldsAlso schema keys rows old held) (sym same) so_far)
 
-filter_no : (p : Row → Bool) (row : Row) → p row ≡ false → filter p (row ∷ []) ≡ []
-filter_no p row e = rw e refl
-
-module _ (schema : Schema) (q : Asked) (rows : List Row) (i : ℕ) (d : Row) (below : i < length rows) (old : List HeldRow) where
-  abbrev chosen : List Row → List HeldRow
-  chosen xs = map (held_row schema q.order) (filter (is_selected schema q.filter) xs)
-
-  chosen_next : chosen (take (i + 1) rows) ≡ chosen (take i rows) ++ chosen (slice_index_or rows i d ∷ [])
-  chosen_next =
-      rw add-one (ap chosen (take-suc rows i d below)
-      ∙ ap (map (held_row schema q.order)) (filter-append (is_selected schema q.filter) (take i rows) (slice_index_or rows i d ∷ []))
-      ∙ map-append (held_row schema q.order) (filter (is_selected schema q.filter) (take i rows)) _)
-
-  pub passed_by : (new : List HeldRow) → is_selected schema q.filter (slice_index_or rows i d) ≡ false
-      → HoldsAlso schema q (take i rows) old new → HoldsAlso schema q (take (i + 1) rows) old new
-  passed_by new no_one so_far =
-      let none : chosen (slice_index_or rows i d ∷ []) ≡ [] = ap (map (held_row schema q.order)) (filter_no (is_selected schema q.filter) (slice_index_or rows i d) no_one) in
-      let same : chosen (take i rows) ≡ chosen (take (i + 1) rows) = sym (append-nil (chosen (take i rows))) ∙ ap (λ (xs : List HeldRow). chosen (take i rows) ++ xs) (sym none) ∙ sym chosen_next in
-      subst (λ (xs : List HeldRow). IsPermutation (old ++ xs) new) same so_far
-
-  pub held_too : (mid new : List HeldRow) → is_selected schema q.filter (slice_index_or rows i d) ≡ true
-      → HoldsAlso schema q (take i rows) old mid → IsPermutation (held_row schema q.order (slice_index_or rows i d) ∷ mid) new
-      → HoldsAlso schema q (take (i + 1) rows) old new
-  held_too mid new yes_one so_far more =
-      let h = held_row schema q.order (slice_index_or rows i d) in
-      let one : chosen (slice_index_or rows i d ∷ []) ≡ h ∷ [] = ap (map (held_row schema q.order)) (filter_yes (is_selected schema q.filter) (slice_index_or rows i d) yes_one) in
-      let next : chosen (take (i + 1) rows) ≡ chosen (take i rows) ++ h ∷ [] = chosen_next ∙ ap (λ (xs : List HeldRow). chosen (take i rows) ++ xs) one in
-      let split : old ++ chosen (take (i + 1) rows) ≡ (old ++ chosen (take i rows)) ++ h ∷ [] = ap (λ (xs : List HeldRow). old ++ xs) next ∙ sym (append_assoc old (chosen (take i rows)) (h ∷ [])) in
-      subst (λ (xs : List HeldRow). IsPermutation xs new) (sym split)
-      (IsPermutation-trans ((old ++ chosen (take i rows)) ++ h ∷ []) (h ∷ (old ++ chosen (take i rows))) new (IsPermutation-append_comm (old ++ chosen (take i rows)) (h ∷ []))
-      (IsPermutation-trans (h ∷ (old ++ chosen (take i rows))) (h ∷ mid) new (IsPermutation-cons h (old ++ chosen (take i rows)) mid so_far) more))
-
-  -- the same by the names that the code has
-  pub row_held : (mid got new : List HeldRow) (keys : List SortKey) → keys ≡ q.order → new ≡ got → is_selected schema q.filter (slice_index_or rows i d) ≡ true
-      → HoldsAlso schema q (take i rows) old mid → IsPermutation (held_row schema keys (slice_index_or rows i d) ∷ mid) got → HoldsAlso schema q (take (i + 1) rows) old new
-  row_held mid got new keys by_keys is chosen_one so_far more =
-      held_too mid new chosen_one so_far
-      (subst (λ (held : List HeldRow). IsPermutation (held_row schema q.order (slice_index_or rows i d) ∷ mid) held) (sym is)
-      (subst (λ (ks : List SortKey). IsPermutation (held_row schema ks (slice_index_or rows i d) ∷ mid) got) by_keys more))
-
-  pub row_passed : (got new : List HeldRow) → new ≡ got → is_selected schema q.filter (slice_index_or rows i d) ≡ false
-      → HoldsAlso schema q (take i rows) old got → HoldsAlso schema q (take (i + 1) rows) old new
-  row_passed got new is no_one so_far = subst (λ (held : List HeldRow). HoldsAlso schema q (take (i + 1) rows) old held) (sym is) (passed_by got no_one so_far)
+-- one more is, and it was put to those held
+pub one_held_more : (schema : Schema) (keys by : List SortKey) (rows more : List Row) (row : Row) (old mid got new : List HeldRow) → more ≡ rows ++ row ∷ [] → new ≡ got → by ≡ keys
+    → HoldsAlso schema keys rows old mid → IsPermutation (held_row schema by row ∷ mid) got → HoldsAlso schema keys more old new
+one_held_more schema keys by rows more row old mid got new one same by_keys so_far put =
+    let before : List HeldRow = old ++ map (held_row schema keys) rows in
+    let h : HeldRow = held_row schema keys row in
+    let put_there : IsPermutation (h ∷ mid) new =
+    subst (λ (held : List HeldRow). IsPermutation (h ∷ mid) held) (sym same) (subst (λ (ks : List SortKey). IsPermutation (held_row schema ks row ∷ mid) got) by_keys put) in
+    let split : old ++ map (held_row schema keys) more ≡ before ++ h ∷ [] =
+    ap (λ (rs : List Row). old ++ map (held_row schema keys) rs) one ∙ ap (λ (held : List HeldRow). old ++ held) (map-append (held_row schema keys) rows (row ∷ []))
+    ∙ sym (append_assoc old (map (held_row schema keys) rows) (h ∷ [])) in
+    subst (λ (held : List HeldRow). IsPermutation held new) (sym split)
+    (IsPermutation-trans (before ++ h ∷ []) (h ∷ before) new (IsPermutation-append_comm before (h ∷ []))
+    (IsPermutation-trans (h ∷ before) (h ∷ mid) new (IsPermutation-cons h before mid so_far) put_there))

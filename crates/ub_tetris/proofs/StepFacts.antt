@@ -2,23 +2,26 @@
 use Rattle.std.proofs.Common.{◌≡◌, ◌+◌, ℕ, zero, suc, List, [], ◌∷◌, ◌++◌, Bool, true, false, not, Option, Some, None, map, drop, filter, slice_get, slice_index, Contains, IsPermutation, inl, inr, refl, sym, ap, ◌∙◌, append_assoc, subst, add-one}
 use Rattle.std.proofs.lemmas.Bool.{true≢false}
 use Rattle.std.proofs.lemmas.List.{append-nil, map-append}
-use Rattle.std.proofs.lemmas.List.Elements.{All-nil}
+use Rattle.std.proofs.lemmas.List.Elements.{All-nil, Contains-append_left, Contains-append_right}
 use Rattle.std.proofs.lemmas.List.Sorted.{Contains-permutation, IsPermutation-map, IsPermutation-sym}
 use Rattle.std.specs.List.{All, AllByRecursion}
+use Rattle.ub_plan.proofs.Laws.{chosen_are_selected}
+use Rattle.ub_plan.specs.Choice.{is_chosen}
 use Rattle.ub_plan.specs.Plan.{PlanView}
 use Rattle.ub_plan.specs.Visits.{Event, IsAlong, Span, is_past, spans_up_to}
+use Rattle.ub_plan.specs.declared.choice.Choice.{Choice}
 use Rattle.ub_query.proofs.Laws.{Rising-map, all_at, all_permutation, contains_cases, contains_here, contains_later, contains_none, contains_from_map, contains_map}
 use Rattle.ub_query.specs.Groups.{is_selected}
 use Rattle.ub_query.specs.Order.{IsRowBefore}
 use Rattle.ub_query.specs.declared.query.SortKey.{SortKey}
-use Rattle.ub_region.specs.Regions.{firsts_of}
+use Rattle.ub_region.specs.Regions.{firsts_of, rows_of}
 use Rattle.ub_table.proofs.Laws.{not_before_self}
 use Rattle.ub_table.specs.Keys.{AreKeysAscending, IsBefore}
 use Rattle.ub_table.specs.Region.{Region}
 use Rattle.ub_table.specs.declared.row.Key.{Key}
 use Rattle.ub_table.specs.declared.row.Row.{Row}
 use Rattle.ub_table.specs.declared.schema.Schema.{Schema}
-use Rattle.ub_tetris.proofs.AlongFacts.{IsUpTo, along_before, along_up_to, led_plan, up_to_along}
+use Rattle.ub_tetris.proofs.AlongFacts.{IsUpTo, along_before, along_up_to, led_asks, led_plan, up_to_along}
 use Rattle.ub_tetris.proofs.ArrangeFacts.{all_of, rising_two}
 use Rattle.ub_tetris.proofs.EffectFacts.{IsTraced, traced_sound}
 use Rattle.ub_tetris.proofs.MachineFacts.{IsBeforeNext, IsSweepOver, ends, fetches, gives, is_past_of, past_is}
@@ -113,6 +116,21 @@ noted_more t new events event p noted placed there same trace = record {
       ∙ sym (map-append (λ (p : Placed). p.page) noted.placed (p ∷ []));
 }
 
+rows_among : (regions : List Region) (region : Region) (row : Row) → Contains regions region → Contains region.rows row → Contains (rows_of regions) row
+rows_among [] region row there here = absurd (contains_none region there)
+rows_among (r ∷ regions) region row there here = elim (contains_cases r regions region there) [
+  | inl same ↦ Contains-append_left r.rows (rows_of regions) row (subst (λ (x : Region). Contains x.rows row) (sym same) here)
+  | inr later ↦ Contains-append_right r.rows (rows_of regions) row (rows_among regions region row later here)
+]
+
+-- the rows of a page that are chosen are the selected ones
+chosen_of : (plan : PlanView) (t : TreeView) (s : SweepView) (given rest : List Row) (fetched unread : List Event) (choice : Choice) (p : Placed) → IsSweeping plan t s given rest fetched unread
+    → Contains t.placed p → filter (is_chosen choice t.schema plan) p.region.rows ≡ filter (is_selected t.schema plan.asked.filter) p.region.rows
+chosen_of plan t s given rest fetched unread choice p of there =
+    ap (λ (x : PlanView). filter (is_chosen choice t.schema x) p.region.rows) of.swept.planned
+    ∙ chosen_are_selected choice t.schema plan.asked t.next (regions t) p.region.rows (led_asks t.schema plan s.dim s.is_descending of.swept.planned of.swept.kind) of.swept.sound.regions_are
+    (λ row here. rows_among (regions t) p.region row (contains_map (λ (p : Placed). p.region) t.placed p there) here)
+
 module _ (plan : PlanView) (t : TreeView) (s : SweepView) (held_then : List HeldRow) (given rest : List Row) (fetched : List Event) (a : AwaitedRegion) (more : List AwaitedRegion) (trace : List ℕ) (count : ℕ) (p : Placed) where
   abbrev after : TreeView
   after = record t { trace = trace; fetches = count }
@@ -120,7 +138,7 @@ module _ (plan : PlanView) (t : TreeView) (s : SweepView) (held_then : List Held
   fetched_next : (event : Event) (left : List Event) → IsSweeping plan t s given rest fetched (event ∷ left) → IsAwaited t a event → AreAwaited t more left
       → All (λ row. ¬ (IsRowAlong s.dim s.is_descending row a.value)) (rows_held s.held)
       → trace ≡ t.trace ++ a.region.page ∷ [] → Contains t.placed p → p.page ≡ a.region.page → p.region.first ≡ a.region.first
-      → HoldsAlso t.schema plan.asked p.region.rows s.held held_then
+      → HoldsAlso t.schema plan.asked.order (filter (is_selected t.schema plan.asked.filter) p.region.rows) s.held held_then
       → IsSweeping plan after (record s { held = held_then; awaited = more }) given rest (fetched ++ event ∷ []) left
   fetched_next event left of is_awaited are_awaited past noted there page first holds =
       let chosen : List Row = filter (is_selected t.schema plan.asked.filter) p.region.rows in
@@ -218,7 +236,7 @@ waiting t a more (event ∷ left) are = (event, left, refl, are.0, are.1)
 
 -- the next region was fetched
 pub fetch_step : (plan : PlanView) (t new : TreeView) (s new_s : State) (given rest : List Row) (fetched unread : List Event) → IsSweeping plan t (view_of s) given rest fetched unread
-    → IsDue s true → IsOnward s new_s → HasFetchedNext plan.asked t new s new_s → IsTraced t new
+    → IsDue s true → IsOnward s new_s → HasFetchedNext plan t new s new_s → IsTraced t new
     → (event : Event) × (left : List Event) × (unread ≡ event ∷ left) × IsSweeping plan new (view_of new_s) given rest (fetched ++ event ∷ []) left
 fetch_step plan t new s new_s given rest fetched unread of (first, is_first, due) onward has traced =
     let a : AwaitedRegion = record { value = has.next.value; region = has.next.region } in
@@ -227,8 +245,9 @@ fetch_step plan t new s new_s given rest fetched unread of (first, is_first, due
     let (event, left, parts, is_awaited, are_awaited) = waiting t a more unread (subst (λ (awaited : List AwaitedRegion). AreAwaited t awaited unread) queued of.awaited) in
     let (p, there, page, begins, holds) = has.rows of.swept.sound is_awaited.there in
     let past = due_past plan t s given rest fetched unread first has.next of is_first (due ∙ ap (λ (o : Option Awaited). is_due_by s.course o first) has.at) in
+    let selected = subst (λ (rows : List Row). HoldsAlso t.schema plan.asked.order rows s.held new_s.held) (chosen_of plan t (view_of s) given rest fetched unread has.choice p of there) holds in
     let next = fetched_next plan t (view_of s) new_s.held given rest fetched a more new.trace new.fetches p event left
-    (subst (λ (events : List Event). IsSweeping plan t (view_of s) given rest fetched events) parts of) is_awaited are_awaited past has.noted.0 there page begins holds in (
+    (subst (λ (events : List Event). IsSweeping plan t (view_of s) given rest fetched events) parts of) is_awaited are_awaited past has.noted.0 there page begins selected in (
       event,
       left,
       parts,

@@ -45,7 +45,7 @@ module _ (plan : PlanView) (t now : TreeView) (s s_now : State) (so_far : Fetche
       absurd (omega arith)
 
   -- one more region was fetched
-  pub Fetches-more : (new : TreeView) (new_s : State) → IsDue s_now true → IsOnward s_now new_s → HasFetchedNext plan.asked now new s_now new_s
+  pub Fetches-more : (new : TreeView) (new_s : State) → IsDue s_now true → IsOnward s_now new_s → HasFetchedNext plan now new s_now new_s
       → Sweeps {A = Unit {0}} (view_of s_now) (view_of new_s) now new (Ok tt) → Fetches plan t new s new_s
   Fetches-more new new_s due onward has effect = record {
     effect = sweeps_then tt (Ok tt) (view_of s) (view_of s_now) (view_of new_s) t now new refl so_far.effect effect;

@@ -1,7 +1,8 @@
 ghost use Rattle.std.specs.Prelude.{◌≡◌, ◌<◌, [], length, List, IfOk, OnErr, OnOk, slice_index};
+ghost use Rattle.std.specs.List.{filter};
+ghost use Rattle.ub_plan.specs.Choice.{IsFit, is_chosen};
 ghost use Rattle.ub_plan.specs.Visits.{Event};
 ghost use Rattle.ub_query.specs.Posed.{IsPosed};
-ghost use Rattle.ub_query.specs.Shape.{asked};
 ghost use Rattle.ub_table.specs.declared.row.Row.{Row as RowView};
 ghost use Rattle.ub_tetris.specs.Effects.{Rests, Sweeps};
 ghost use Rattle.ub_tetris.specs.Sweep.{IsSweeping, HasBroken, HasStepped};
@@ -13,8 +14,7 @@ use crate::fault::SweepFault;
 use crate::held::HeldRows;
 use std::alloc::{AllocError, Global};
 use ub_page::RegionPage;
-use ub_plan::Plan;
-use ub_query::Query;
+use ub_plan::{Choice, Plan, is_set, is_true};
 use ub_store::PageStore;
 use ub_table::{Row, Schema};
 use ub_tree::Tree;
@@ -77,7 +77,7 @@ impl State {
         ensures effect { Sweeps (view_of self.old) (view_of self.new) tree.old tree.new result }
     {
         while self.is_due() {
-            self.fetch(tree, plan.query())?;
+            self.fetch(tree, plan)?;
         }
         Ok(self.held.take_first())
     }
@@ -96,44 +96,56 @@ impl State {
         }
     }
 
-    // Fetches the next region, and holds its selected rows.
-    fn fetch<S: PageStore>(&mut self, tree: &mut Tree<S>, query: &Query) -> Result<(), SweepFault>
-        requires posed { IsPosed (length tree.old.schema.columns) (asked query.now) }
+    // Fetches the next region, and holds its rows that are chosen.
+    fn fetch<S: PageStore>(&mut self, tree: &mut Tree<S>, plan: &Plan) -> Result<(), SweepFault>
+        requires posed { IsPosed (length tree.old.schema.columns) plan.now.asked }
         requires some { self.old.fetched < length self.old.queue.items }
         ensures onward { IsOnward self.old self.new }
         ensures asked { HasAskedNext tree.old tree.new self.old }
-        ensures rows { OnOk result
-            (HasFetchedNext (asked query.now) tree.old tree.new self.old self.new) }
+        ensures rows { OnOk result (HasFetchedNext plan.now tree.old tree.new self.old self.new) }
         ensures effect { Sweeps (view_of self.old) (view_of self.new) tree.old tree.new result }
     {
         let region = self.queue[self.fetched].region;
         self.fetched += 1;
         tree.read_region(&region, &mut self.page)?;
-        hold_selected(
+        // Each call is given its plan, so the choice is made for that one; it costs little beside a page.
+        let choice = Choice::of(plan, tree.schema());
+        hold_chosen(
             &mut self.held,
             self.alloc,
             tree.schema(),
-            query,
-            self.page.rows(),
+            plan,
+            choice,
+            &self.page,
         )?;
         Ok(())
     }
 }
 
-// Holds the rows that the query selects.
-fn hold_selected(
+// Holds the rows of a page that are chosen.
+fn hold_chosen(
     held: &mut HeldRows,
     alloc: Global,
     schema: &Schema,
-    query: &Query,
-    rows: &[Row],
+    plan: &Plan,
+    choice: Choice,
+    page: &RegionPage,
 ) -> Result<(), AllocError>
-    requires { IsPosed (length schema.now.columns) (asked query.now) }
-    ensures { OnOk result (HoldsAlso schema.now (asked query.now) rows.now held.old held.new) }
+    requires posed { IsPosed (length schema.now.columns) plan.now.asked }
+    requires fit { IsFit schema.now plan.now choice }
+    requires dims { page.now.dims ≡ schema.now.dims }
+    ensures { OnOk result (HoldsAlso schema.now plan.now.asked.order
+        (filter (is_chosen choice schema.now plan.now) page.now.region.rows) held.old held.new) }
 {
-    for row in rows {
-        if query.selects(schema, row) {
-            held.hold(alloc, schema, query.order.as_slice(), row)?;
+    let near = choice.near(plan, schema, page);
+    let condition = choice.asked(plan);
+    let keys = plan.query().order.as_slice();
+    for place in 0..page.len() {
+        if is_set(near, place) {
+            let row = page.row(place);
+            if is_true(condition, schema, &row) {
+                held.hold(alloc, schema, keys, &row)?;
+            }
         }
     }
     Ok(())

@@ -2,9 +2,11 @@
 use Rattle.std.specs.Prelude.{◌≡◌, ◌++◌, ◌+◌, ◌⊎◌, Bool, false, true, not, List, [], Option, Some, None, map, drop, slice_get, slice_index}
 use Rattle.std.specs.List.{filter, Contains}
 use Rattle.std.specs.List.Sorted.{IsPermutation}
+use Rattle.ub_plan.specs.Choice.{is_chosen}
+use Rattle.ub_plan.specs.Plan.{PlanView}
 use Rattle.ub_plan.specs.Visits.{is_past}
-use Rattle.ub_query.specs.Groups.{is_selected}
-use Rattle.ub_query.specs.Shape.{Asked}
+use Rattle.ub_plan.specs.declared.choice.Choice.{Choice}
+use Rattle.ub_query.specs.declared.query.SortKey.{SortKey}
 use Rattle.ub_table.specs.declared.row.Row.{Row}
 use Rattle.ub_table.specs.declared.schema.Schema.{Schema}
 use Rattle.ub_tetris.specs.Held.{HeldRow, held_row}
@@ -46,10 +48,9 @@ is_due_by course (Some awaited) (Some row) = not (is_past course.is_descending (
 abbrev pub IsDue : State → Bool → Type 0
 IsDue s due = (first : Option Row) × IsFirstOf s.held first × (due ≡ is_due_by s.course (slice_get s.queue.items s.fetched) first)
 
--- the selected ones of some rows are held beside those that were
-abbrev pub HoldsAlso : Schema → Asked → List Row → List HeldRow → List HeldRow → Type 0
-HoldsAlso schema q rows old new =
-    IsPermutation (old ++ map (held_row schema q.order) (filter (is_selected schema q.filter) rows)) new
+-- some rows are held by these keys beside those that were
+abbrev pub HoldsAlso : Schema → List SortKey → List Row → List HeldRow → List HeldRow → Type 0
+HoldsAlso schema keys rows old new = IsPermutation (old ++ map (held_row schema keys) rows) new
 
 -- one region more is behind
 abbrev pub IsOnward : State → State → Type 0
@@ -61,10 +62,12 @@ pub record HasAskedNext (t new : TreeView) (s : State) : Type 0 where
   pub at : slice_get s.queue.items s.fetched ≡ Some next
   pub noted : KeepsTrace t new ⊎ HasNoted next.region.page t new
 
--- the region at the sweep's place was fetched, and its selected rows are held too
-pub record HasFetchedNext (q : Asked) (t new : TreeView) (s new_s : State) : Type 0 where
+-- the region at the sweep's place was fetched, and its rows that are chosen are held too
+pub record HasFetchedNext (plan : PlanView) (t new : TreeView) (s new_s : State) : Type 0 where
   pub next : Awaited
   pub at : slice_get s.queue.items s.fetched ≡ Some next
   pub noted : HasNoted next.region.page t new
+  pub choice : Choice
   pub rows : IsSound t → Contains (spans_of t) next.region → (p : Placed) × Contains t.placed p × (p.page ≡ next.region.page)
-      × (p.region.first ≡ next.region.first) × HoldsAlso t.schema q p.region.rows s.held new_s.held
+      × (p.region.first ≡ next.region.first)
+      × HoldsAlso t.schema plan.asked.order (filter (is_chosen choice t.schema plan) p.region.rows) s.held new_s.held

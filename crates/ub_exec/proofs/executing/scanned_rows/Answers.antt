@@ -3,7 +3,7 @@ use Rattle.std.specs.List.{filter}
 use Rattle.ub_answer.specs.Gathered.{IsGathered}
 use Rattle.ub_exec.proofs.FirstFacts.{all_fetched, on_err, walked_first}
 use Rattle.ub_exec.proofs.MeantFacts.{nothing_fetched, walk_fetched, answered}
-use Rattle.ub_exec.specs.Choice.{is_chosen}
+use Rattle.ub_plan.specs.Choice.{is_chosen}
 use Rattle.ub_plan.proofs.Laws.{limit_of_zero_means_nothing}
 use Rattle.ub_query.specs.Shape.{Asked, asked}
 use Rattle.ub_table.specs.declared.schema.Schema.{Schema}

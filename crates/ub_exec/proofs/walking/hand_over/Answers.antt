@@ -1,7 +1,7 @@
-use Rattle.std.proofs.Common.{◌≡◌, ◌≤◌, ◌<◌, ◌++◌, ◌∷◌, [], ℕ, List, true, false, take, refl, sym, subst, arith}
+use Rattle.std.proofs.Common.{◌≡◌, ◌≤◌, ◌<◌, ◌+◌, ◌++◌, ◌∷◌, ◌∙◌, [], ℕ, List, Some, true, false, take, slice_get, refl, sym, ap, subst, arith, append_assoc}
 use Rattle.std.specs.List.{filter}
-use Rattle.ub_exec.proofs.ChoiceFacts.{chosen, left_near, left_true, one_more, none_more, none_more_at}
-use Rattle.ub_exec.specs.Choice.{is_chosen}
+use Rattle.ub_plan.proofs.Laws.{next_chosen, next_fails, next_far}
+use Rattle.ub_plan.specs.Choice.{is_chosen}
 use Rattle.ub_query.specs.Shape.{Asked}
 use Rattle.ub_table.specs.declared.row.Row.{Row}
 use Rattle.ub_exec.proofs.walking.hand_over.Goals as goal
@@ -16,28 +16,31 @@ no_truth e = cc
 pub loop-place-preserved : goal.loop-place-preserved
 loop-place-preserved g c taken has =
     let before = c.loop-place.invariant taken has in
+    let schema = c.args.schema.now in
+    let plan = c.args.plan.now in
+    let choice = c.args.choice in
     let rows = c.args.page.now.region.rows in
     let place = c.loop-place.place in
     let small : place < 64 = below_64 place 0 _ c.loop-place-test.true c.len-place-end.ensures.few in
     let within : place < _ = rw c.len-place-end.ensures.len at c.loop-place-test.true in
-    let f = is_chosen c.args.choice c.args.schema.now c.args.plan.now in
+    let near = λ (row : Row) (at : slice_get rows place ≡ Some row). c.near-near.ensures place row small at in
+    let so_far : List Row = filter (is_chosen choice schema plan) (take place rows) in
+    let then : List Row = filter (is_chosen choice schema plan) (take (place + 1) rows) in
     elim c.if-is_set.branch [
       | then-is_set+then-is_true+in_ok-take w ↦
           let row = w.row-row.result in
-          let near = (c.near-near.ensures place row small w.row-row.ensures).0 (w.if-is_set.ensures.0 refl) in
-          let is = chosen c.args.choice c.args.schema.now c.args.plan.now row _ c.asked-condition.ensures near w.if-is_true.ensures in
-          subst (λ (rs : List Row). g.T.Taker.HasTaken c.args.schema.now c.args.plan.now.asked rs c.if-is_set.taker) (one_more f taken rows place row w.row-row.ensures is)
-          (subst (λ (t : _). g.T.Taker.HasTaken c.args.schema.now c.args.plan.now.asked ((taken ++ filter f (take place rows)) ++ row ∷ []) t) (sym w.taker-is)
-          (subst (λ (q : Asked). g.T.Taker.HasTaken c.args.schema.now q ((taken ++ filter f (take place rows)) ++ row ∷ []) w.take.new.self) c.query-query.ensures
-          (w.in_ok-take.ensures (taken ++ filter f (take place rows))
-          (subst (λ (q : Asked). g.T.Taker.HasTaken c.args.schema.now q (taken ++ filter f (take place rows)) c.loop-place.taker) (sym c.query-query.ensures) before))))
+          let one : then ≡ so_far ++ row ∷ [] = next_chosen choice schema plan rows place _ near row _ w.row-row.ensures c.asked-condition.ensures (w.if-is_set.ensures.0 refl) w.if-is_true.ensures in
+          subst (λ (rs : List Row). g.T.Taker.HasTaken schema plan.asked rs c.if-is_set.taker) (append_assoc taken so_far (row ∷ []) ∙ ap (λ (rs : List Row). taken ++ rs) (sym one))
+          (subst (λ (t : _). g.T.Taker.HasTaken schema plan.asked ((taken ++ so_far) ++ row ∷ []) t) (sym w.taker-is)
+          (subst (λ (q : Asked). g.T.Taker.HasTaken schema q ((taken ++ so_far) ++ row ∷ []) w.take.new.self) c.query-query.ensures
+          (w.in_ok-take.ensures (taken ++ so_far)
+          (subst (λ (q : Asked). g.T.Taker.HasTaken schema q (taken ++ so_far) c.loop-place.taker) (sym c.query-query.ensures) before))))
       | then-is_set+else-is_true w ↦
-          let row = w.row-row.result in
-          let is = left_true c.args.choice c.args.schema.now c.args.plan.now row _ c.asked-condition.ensures w.if-is_true.ensures in
-          subst (λ (rs : List Row). g.T.Taker.HasTaken c.args.schema.now c.args.plan.now.asked rs c.if-is_set.taker) (none_more f taken rows place row w.row-row.ensures is)
-          (subst (λ (t : _). g.T.Taker.HasTaken c.args.schema.now c.args.plan.now.asked (taken ++ filter f (take place rows)) t) (sym w.taker-is) before)
+          let none : then ≡ so_far = next_fails choice schema plan rows place w.row-row.result _ w.row-row.ensures c.asked-condition.ensures w.if-is_true.ensures in
+          subst (λ (rs : List Row). g.T.Taker.HasTaken schema plan.asked (taken ++ rs) c.if-is_set.taker) (sym none)
+          (subst (λ (t : _). g.T.Taker.HasTaken schema plan.asked (taken ++ so_far) t) (sym w.taker-is) before)
       | else-is_set w ↦
-          subst (λ (rs : List Row). g.T.Taker.HasTaken c.args.schema.now c.args.plan.now.asked rs c.if-is_set.taker)
-          (none_more_at f taken rows place within (λ row at. left_near c.args.choice c.args.schema.now c.args.plan.now row (λ near. no_truth (w.if-is_set.ensures.1 ((c.near-near.ensures place row small at).1 near)))))
-          (subst (λ (t : _). g.T.Taker.HasTaken c.args.schema.now c.args.plan.now.asked (taken ++ filter f (take place rows)) t) (sym w.taker-is) before)
+          let none : then ≡ so_far = next_far choice schema plan rows place _ near within (λ one. no_truth (w.if-is_set.ensures.1 one)) in
+          subst (λ (rs : List Row). g.T.Taker.HasTaken schema plan.asked (taken ++ rs) c.if-is_set.taker) (sym none)
+          (subst (λ (t : _). g.T.Taker.HasTaken schema plan.asked (taken ++ so_far) t) (sym w.taker-is) before)
     ]

@@ -1,6 +1,6 @@
 use Rattle.std.proofs.Common.{◌++◌, List, take}
 use Rattle.std.specs.List.{filter}
-use Rattle.ub_exec.specs.Choice.{is_chosen}
+use Rattle.ub_plan.specs.Choice.{is_chosen}
 use Rattle.ub_table.specs.declared.row.Row.{Row as RowView}
 use Rattle.ub_exec.proofs.walking.hand_over.Given as goal
 

@@ -4,7 +4,7 @@ use Rattle.std.specs.List.{filter}
 use Rattle.ub_exec.proofs.FirstFacts.{on_err, turned_first}
 use Rattle.ub_exec.proofs.KeptFacts.{Keeps-by, Keeps-more, Keeps-none}
 use Rattle.ub_exec.proofs.WalkFacts.{HasCome-none, ended_by, turned_to, handed_more}
-use Rattle.ub_exec.specs.Choice.{is_chosen}
+use Rattle.ub_plan.specs.Choice.{is_chosen}
 use Rattle.ub_table.specs.declared.row.Row.{Row}
 use Rattle.ub_table.specs.declared.schema.Schema.{Schema}
 use Rattle.ub_exec.proofs.walking.walk.Goals as goal

@@ -2,7 +2,7 @@ use Rattle.std.proofs.Common.{◌++◌, List}
 use Rattle.std.specs.List.{filter}
 use Rattle.ub_exec.proofs.KeptFacts.{Keeps}
 use Rattle.ub_exec.proofs.WalkFacts.{HasCome}
-use Rattle.ub_exec.specs.Choice.{is_chosen}
+use Rattle.ub_plan.specs.Choice.{is_chosen}
 use Rattle.ub_table.specs.declared.row.Row.{Row as RowView}
 use Rattle.ub_tree.specs.View.{IsSound}
 use Rattle.ub_exec.proofs.walking.walk.Given as goal

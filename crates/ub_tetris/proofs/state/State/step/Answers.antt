@@ -1,9 +1,8 @@
 use Rattle.std.proofs.Common.{Bool, Err, ap, refl, subst}
-use Rattle.ub_query.specs.Shape.{Asked}
 use Rattle.ub_tetris.proofs.EffectFacts.{sweeps_then, swept_by}
 use Rattle.ub_tetris.proofs.FetchFacts.{due_within}
 use Rattle.ub_tetris.proofs.StepsFacts.{Fetches-more, Fetches-none, end_unbroken, fewer, on_err, step_broken, step_ends, step_rests}
-use Rattle.ub_tetris.specs.inner.Turns.{HasFetchedNext, IsDue, view_of}
+use Rattle.ub_tetris.specs.inner.Turns.{IsDue, view_of}
 use Rattle.ub_tree.specs.View.{TreeView}
 use Rattle.ub_tetris.proofs.state.State.step.Goals as goal
 
@@ -22,7 +21,7 @@ pub loop-self-preserved : goal.loop-self-preserved
 loop-self-preserved g c =
     Fetches-more c.args.plan.now c.args.tree.now c.loop-self.tree c.args.self.now c.loop-self.self c.loop-self.invariant c.fetch.new.tree c.fetch.new.self
     (subst (λ (due : Bool). IsDue c.loop-self.self due) c.loop-self-test.true c.is_due.ensures) c.in_ok-fetch.ensures.onward
-    (subst (λ (q : Asked). HasFetchedNext q c.loop-self.tree c.fetch.new.tree c.loop-self.self c.fetch.new.self) c.query.ensures c.in_ok-fetch.ensures.rows) c.in_ok-fetch.ensures.effect
+    c.in_ok-fetch.ensures.rows c.in_ok-fetch.ensures.effect
 
 pub returns-in_err-fetch-clause-effect : goal.returns-in_err-fetch-clause-effect
 returns-in_err-fetch-clause-effect g c =

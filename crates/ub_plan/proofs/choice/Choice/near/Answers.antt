@@ -1,5 +1,5 @@
-use Rattle.ub_exec.proofs.ChoiceFacts.{fit_boxes, near_by_boxes, near_by_condition}
-use Rattle.ub_exec.proofs.choice.Choice.near.Goals as goal
+use Rattle.ub_plan.proofs.ChoiceFacts.{fit_boxes, near_by_boxes, near_by_condition}
+use Rattle.ub_plan.proofs.choice.Choice.near.Goals as goal
 
 pub rows_inside-requires : goal.rows_inside-requires
 rows_inside-requires c = fit_boxes c.args.self c.args.schema.now c.args.plan.now c.args.page.now.dims c.boxes.result.now c.in-Boxes.is c.requires.dims c.boxes.ensures.boxes c.requires.fit

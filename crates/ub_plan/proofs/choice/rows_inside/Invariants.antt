@@ -2,7 +2,7 @@ use Rattle.std.proofs.Common.{◌≡◌, ◌↔◌, ℕ, Some, take, slice_get}
 use Rattle.std.specs.Int.{bit_at}
 use Rattle.ub_boxes.specs.Laws.{IsInSome}
 use Rattle.ub_table.specs.declared.row.Row.{Row}
-use Rattle.ub_exec.proofs.choice.rows_inside.Given as goal
+use Rattle.ub_plan.proofs.choice.rows_inside.Given as goal
 
 abbrev pub invariant-loop-zbox : goal.invariant-loop-zbox
 invariant-loop-zbox l =

@@ -1,25 +1,27 @@
 -- By what rows are told: which lie in the boxes, and what is asked of them.
-use Rattle.std.proofs.Common.{◌≡◌, ◌≢◌, ◌<◌, ◌+◌, ◌↔◌, ◌&&◌, inl, inr, ℕ, zero, suc, Bool, true, false, List, [], ◌∷◌, ◌++◌, Contains, Option, Some, None, IfSome, filter, take, length, slice_get, get_or, bit_or, max, ◌≤◌, ◌⊎◌, IsTrue, append_assoc, refl, sym, ap, ◌∙◌, subst, arith}
+use Rattle.std.proofs.Common.{◌≡◌, ◌≢◌, ◌<◌, ◌+◌, ◌↔◌, ◌&&◌, inl, inr, ℕ, zero, suc, Bool, true, false, List, [], ◌∷◌, ◌++◌, Contains, Option, Some, None, IfSome, filter, take, length, slice_get, get_or, bit_or, max, ◌≤◌, ◌⊎◌, IsTrue, refl, sym, ap, ◌∙◌, subst, arith}
 use Rattle.std.proofs.lemmas.Nat.Bits.{bit_at_or, bit_at-lt, bit_at-zero, bit_at_ones}
-use Rattle.std.proofs.lemmas.List.{append-nil, take_more}
-use Rattle.std.proofs.lemmas.Option.{slice_get_within, get_or_from_slice_get}
+use Rattle.std.proofs.lemmas.List.{append-nil, take_all, take_more}
+use Rattle.std.proofs.lemmas.Option.{slice_get_cases, slice_get_within, get_or_from_slice_get}
 use Rattle.std.proofs.lemmas.List.Elements.{filter-append, Contains-append_cases, Contains-append_left, Contains-push}
 use Rattle.std.specs.Int.{bit_at}
 use Rattle.std.specs.List.{AllByRecursion}
 use Rattle.ub_bigmin.specs.Box.{Corners, IsInside}
 use Rattle.ub_boxes.specs.Laws.{point_of, IsInSome}
-use Rattle.ub_exec.specs.Choice.{IsFit, is_near, asked_by, is_chosen}
-use Rattle.ub_exec.proofs.WalkFacts.{take_all, there_is}
-use Rattle.ub_exec.specs.declared.choice.Choice.{Choice}
-use Rattle.ub_exec.specs.declared.choice.Choice.TheVariants.{Boxes, Condition}
-use Rattle.ub_plan.proofs.Laws.{in_some, from_in_some, plans_take_the_selected}
-use Rattle.ub_plan.specs.Plan.{PlanView, plan_of, residual_by, takes}
+use Rattle.ub_plan.specs.Choice.{IsFit, is_near, asked_by, is_chosen}
+use Rattle.ub_plan.specs.declared.choice.Choice.{Choice}
+use Rattle.ub_plan.specs.declared.choice.Choice.TheVariants.{Boxes, Condition}
+use Rattle.ub_plan.proofs.InsideFacts.{in_some, from_in_some}
+use Rattle.ub_plan.proofs.SpanFacts.{rows_are_points}
+use Rattle.ub_plan.proofs.TakeFacts.{row_is_taken}
+use Rattle.ub_plan.specs.Plan.{PlanView, plan_of, residual_by}
 use Rattle.ub_plan.specs.declared.planned.Kind.{Kind}
 use Rattle.ub_plan.specs.declared.planned.Kind.TheVariants.{Empty, Scan, Sweep}
 use Rattle.ub_query.proofs.Laws.{contains_none, contains_cases, contains_here, contains_later}
 use Rattle.ub_query.specs.Groups.{is_selected}
 use Rattle.ub_query.specs.Posed.{IsPosed, IsPosedCondition, IsOver}
-use Rattle.ub_query.specs.Shape.{Shape}
+use Rattle.ub_query.specs.Shape.{Asked, Shape}
+use Rattle.ub_region.proofs.Laws.{chain_of}
 use Rattle.ub_region.specs.Regions.{AreRegions, rows_of}
 use Rattle.ub_table.specs.Region.{Region}
 use Rattle.ub_table.specs.declared.row.Row.{Row}
@@ -115,10 +117,13 @@ in_none i boxes point = (λ e. absurd (no_bit i e), λ some. absurd (contains_no
 pub in_all : (bit : ℕ) (boxes : List Corners) (k : ℕ) (point : List ℕ) → length boxes ≤ k → (bit ≡ 1) ↔ IsInSome (take k boxes) point → (bit ≡ 1) ↔ IsInSome boxes point
 in_all bit boxes k point past iff = subst (λ (bs : List Corners). (bit ≡ 1) ↔ IsInSome bs point) (take_all k boxes past) iff
 
-next_taken : (rows : List Row) (i : ℕ) (row : Row) → slice_get rows i ≡ Some row → take (i + 1) rows ≡ take i rows ++ row ∷ []
-next_taken rows i row at = take_more rows i row (slice_get_within rows i row at) ∙ ap (λ (r : Row). take i rows ++ r ∷ []) (get_or_from_slice_get rows i row row at)
+there_is : (rows : List Row) (k : ℕ) → k < length rows → (row : Row) × (slice_get rows k ≡ Some row)
+there_is rows k below = elim ((slice_get_cases rows k).1) [
+  | inl some ↦ (some.0, some.2)
+  | inr past ↦ let far = past.0 in absurd (omega arith)
+]
 
--- ---- what is chosen
+-- ---- which rows are near
 
 pub near_by_boxes : (choice : Choice) (bit : ℕ) (schema : Schema) (dims : ℕ) (boxes others : List Corners) (row : Row) → choice ≡ Boxes → dims ≡ schema.dims → others ≡ boxes
     → (bit ≡ 1) ↔ IsInSome others (take dims row.dims) → (bit ≡ 1) ↔ IsTrue (is_near choice schema boxes row)
@@ -140,56 +145,72 @@ pub fit_boxes : (choice : Choice) (schema : Schema) (plan : PlanView) (dims : �
 fit_boxes choice schema plan dims boxes is same_dims same fit =
     subst (λ (n : ℕ). AllByRecursion (λ b. length b.lo ≡ n) boxes) (sym same_dims) (subst (λ (bs : List Corners). AllByRecursion (λ b. length b.lo ≡ schema.dims) bs) (sym same) (rw is at fit))
 
--- the rows of a page so far, and one more
-pub one_more : (f : Row → Bool) (taken rows : List Row) (i : ℕ) (row : Row) → slice_get rows i ≡ Some row → f row ≡ true → (taken ++ filter f (take i rows)) ++ row ∷ [] ≡ taken ++ filter f (take (i + 1) rows)
-one_more f taken rows i row at is =
-    append_assoc taken (filter f (take i rows)) (row ∷ []) ∙ ap (λ (rs : List Row). taken ++ rs) (sym (ap (filter f) (next_taken rows i row at) ∙ filter-append f (take i rows) (row ∷ []) ∙ ap (λ (rs : List Row). filter f (take i rows) ++ rs) (kept f row is)))
-  where
-    kept : (f : Row → Bool) (row : Row) → f row ≡ true → filter f (row ∷ []) ≡ row ∷ []
-    kept f row is = rw is refl
+-- ---- the chosen ones of the rows so far, and of one more
 
-pub none_more : (f : Row → Bool) (taken rows : List Row) (i : ℕ) (row : Row) → slice_get rows i ≡ Some row → f row ≡ false → taken ++ filter f (take i rows) ≡ taken ++ filter f (take (i + 1) rows)
-none_more f taken rows i row at is =
-    ap (λ (rs : List Row). taken ++ rs) (sym (ap (filter f) (next_taken rows i row at) ∙ filter-append f (take i rows) (row ∷ []) ∙ ap (λ (rs : List Row). filter f (take i rows) ++ rs) (left_out f row is) ∙ append-nil (filter f (take i rows))))
-  where
-    left_out : (f : Row → Bool) (row : Row) → f row ≡ false → filter f (row ∷ []) ≡ []
-    left_out f row is = rw is refl
+module _ (choice : Choice) (schema : Schema) (plan : PlanView) (rows : List Row) (i : ℕ) where
+  abbrev f : Row → Bool
+  f = is_chosen choice schema plan
 
--- of rows on which two choices agree the same ones are chosen
-pub filter_same : (f g : Row → Bool) (rows : List Row) → ((row : Row) → Contains rows row → f row ≡ g row) → filter f rows ≡ filter g rows
+  one_more : (row : Row) → slice_get rows i ≡ Some row → filter f (take (i + 1) rows) ≡ filter f (take i rows) ++ filter f (row ∷ [])
+  one_more row at =
+      ap (filter f) (take_more rows i row (slice_get_within rows i row at) ∙ ap (λ (r : Row). take i rows ++ r ∷ []) (get_or_from_slice_get rows i row row at))
+      ∙ filter-append f (take i rows) (row ∷ [])
+
+  with_next : (row : Row) → slice_get rows i ≡ Some row → f row ≡ true → filter f (take (i + 1) rows) ≡ filter f (take i rows) ++ row ∷ []
+  with_next row at is = one_more row at ∙ ap (λ (rs : List Row). filter f (take i rows) ++ rs) (kept f row is)
+    where
+      kept : (g : Row → Bool) (r : Row) → g r ≡ true → filter g (r ∷ []) ≡ r ∷ []
+      kept g r is = rw is refl
+
+  without_next : (row : Row) → slice_get rows i ≡ Some row → f row ≡ false → filter f (take (i + 1) rows) ≡ filter f (take i rows)
+  without_next row at is = one_more row at ∙ ap (λ (rs : List Row). filter f (take i rows) ++ rs) (left_out f row is) ∙ append-nil (filter f (take i rows))
+    where
+      left_out : (g : Row → Bool) (r : Row) → g r ≡ false → filter g (r ∷ []) ≡ []
+      left_out g r is = rw is refl
+
+  -- what is asked isn't true of the next row
+  pub next_fails : (row : Row) (asked : Option Shape) → slice_get rows i ≡ Some row → asked ≡ asked_by choice plan
+      → false ≡ is_selected schema asked row → filter f (take (i + 1) rows) ≡ filter f (take i rows)
+  next_fails row asked at is fails =
+      without_next row at (rw (sym is, sym fails) (and_false (is_near choice schema plan.covering.boxes row)))
+    where
+      and_false : (b : Bool) → (b && false) ≡ false
+      and_false true = refl
+      and_false false = refl
+
+  module _ (mask : ℕ) (told : (row : Row) → slice_get rows i ≡ Some row → (bit_at mask i ≡ 1) ↔ IsTrue (is_near choice schema plan.covering.boxes row)) where
+    -- the next row is near, and what is asked is true of it
+    pub next_chosen : (row : Row) (asked : Option Shape) → slice_get rows i ≡ Some row → asked ≡ asked_by choice plan → bit_at mask i ≡ 1
+        → true ≡ is_selected schema asked row → filter f (take (i + 1) rows) ≡ filter f (take i rows) ++ row ∷ []
+    next_chosen row asked at is near holds = with_next row at (rw ((told row at).0 near, sym is, sym holds) refl)
+
+    -- it isn't near
+    pub next_far : i < length rows → ¬ (bit_at mask i ≡ 1) → filter f (take (i + 1) rows) ≡ filter f (take i rows)
+    next_far below far =
+        let (row, at) = there_is rows i below in
+        without_next row at (by_truth row (is_near choice schema plan.covering.boxes row) refl (λ near. far ((told row at).1 near)))
+      where
+        by_truth : (row : Row) (b : Bool) → is_near choice schema plan.covering.boxes row ≡ b → ¬ (is_near choice schema plan.covering.boxes row ≡ true) → f row ≡ false
+        by_truth row true e no_near = absurd (no_near e)
+        by_truth row false e no_near = rw e refl
+
+-- ---- the chosen rows are the selected ones
+
+-- of rows on which two tests agree the same ones are told
+filter_same : (f g : Row → Bool) (rows : List Row) → ((row : Row) → Contains rows row → f row ≡ g row) → filter f rows ≡ filter g rows
 filter_same f g [] alike = refl
 filter_same f g (row ∷ rows) alike =
     let rest = filter_same f g rows (λ r there. alike r (contains_later row rows r there)) in
     let first = alike row (contains_here row rows) in
     rw (first, rest) refl
 
--- on the rows of a table's regions both choose the selected ones
-pub chosen_are_selected : (choice : Choice) (schema : Schema) (p : PlanView) (next : ℕ) (all : List Region) → p ≡ plan_of schema p.asked → p.asked.limit ≢ Some 0 → AreRegions schema next all
-    → (row : Row) → Contains (rows_of all) row → is_chosen choice schema p row ≡ is_selected schema p.asked.filter row
-chosen_are_selected Boxes schema p next all is some are row there =
-    subst (λ (x : PlanView). takes schema x row ≡ is_selected schema p.asked.filter row) (sym is) (plans_take_the_selected schema p.asked next all row some are there)
-chosen_are_selected Condition schema p next all is some are row there = refl
+one_is_selected : (choice : Choice) (schema : Schema) (q : Asked) (next : ℕ) (regions : List Region) → q.limit ≢ Some 0 → AreRegions schema next regions
+    → (row : Row) → Contains (rows_of regions) row → is_chosen choice schema (plan_of schema q) row ≡ is_selected schema q.filter row
+one_is_selected Boxes schema q next regions some are row there =
+    row_is_taken schema q row some (rows_are_points schema regions row (chain_of schema regions are.each are.ascending are.apart) there)
+one_is_selected Condition schema q next regions some are row there = refl
 
--- a row is chosen that is near, and of which is true what is asked
-pub chosen : (choice : Choice) (schema : Schema) (plan : PlanView) (row : Row) (asked : Option Shape) → asked ≡ asked_by choice plan
-    → is_near choice schema plan.covering.boxes row ≡ true → true ≡ is_selected schema asked row → is_chosen choice schema plan row ≡ true
-chosen choice schema plan row asked is near holds = rw (near, sym is, sym holds) refl
-
-pub left_true : (choice : Choice) (schema : Schema) (plan : PlanView) (row : Row) (asked : Option Shape) → asked ≡ asked_by choice plan
-    → false ≡ is_selected schema asked row → is_chosen choice schema plan row ≡ false
-left_true choice schema plan row asked is fails = rw (sym is, sym fails) (and_false (is_near choice schema plan.covering.boxes row))
-  where
-    and_false : (b : Bool) → (b && false) ≡ false
-    and_false true = refl
-    and_false false = refl
-
-pub left_near : (choice : Choice) (schema : Schema) (plan : PlanView) (row : Row) → ¬ (is_near choice schema plan.covering.boxes row ≡ true) → is_chosen choice schema plan row ≡ false
-left_near choice schema plan row far = by_truth (is_near choice schema plan.covering.boxes row) refl
-  where
-    by_truth : (b : Bool) → is_near choice schema plan.covering.boxes row ≡ b → is_chosen choice schema plan row ≡ false
-    by_truth true e = absurd (far e)
-    by_truth false e = rw e refl
-
--- of a place where no row is chosen
-pub none_more_at : (f : Row → Bool) (taken rows : List Row) (i : ℕ) → i < length rows → ((row : Row) → slice_get rows i ≡ Some row → f row ≡ false) → taken ++ filter f (take i rows) ≡ taken ++ filter f (take (i + 1) rows)
-none_more_at f taken rows i below none = let there = there_is rows i below in none_more f taken rows i there.0 there.1 (none there.0 there.1)
+pub chosen_selected : (choice : Choice) (schema : Schema) (q : Asked) (next : ℕ) (regions : List Region) (rows : List Row) → q.limit ≢ Some 0 → AreRegions schema next regions
+    → ((row : Row) → Contains rows row → Contains (rows_of regions) row) → filter (is_chosen choice schema (plan_of schema q)) rows ≡ filter (is_selected schema q.filter) rows
+chosen_selected choice schema q next regions rows some are among =
+    filter_same (is_chosen choice schema (plan_of schema q)) (is_selected schema q.filter) rows (λ row there. one_is_selected choice schema q next regions some are row (among row there))

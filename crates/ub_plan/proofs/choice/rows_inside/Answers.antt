@@ -1,6 +1,6 @@
 use Rattle.std.proofs.Common.{take}
-use Rattle.ub_exec.proofs.ChoiceFacts.{by_mask, in_none, in_more, in_all, more_bits}
-use Rattle.ub_exec.proofs.choice.rows_inside.Goals as goal
+use Rattle.ub_plan.proofs.ChoiceFacts.{by_mask, in_none, in_more, in_all, more_bits}
+use Rattle.ub_plan.proofs.choice.rows_inside.Goals as goal
 
 pub loop-zbox-init : goal.loop-zbox-init
 loop-zbox-init c i row at = in_none i c.args.boxes.now (take c.args.page.now.dims row.dims)

@@ -2,8 +2,8 @@
 use Rattle.std.specs.Prelude.{◌≡◌, Bool, true, ◌&&◌, List, Option, length}
 use Rattle.std.specs.List.{AllByRecursion}
 use Rattle.ub_bigmin.specs.Box.{Corners}
-use Rattle.ub_exec.specs.declared.choice.Choice.{Choice}
-use Rattle.ub_exec.specs.declared.choice.Choice.TheVariants.{Boxes, Condition}
+use Rattle.ub_plan.specs.declared.choice.Choice.{Choice}
+use Rattle.ub_plan.specs.declared.choice.Choice.TheVariants.{Boxes, Condition}
 use Rattle.ub_plan.specs.Plan.{PlanView, is_in_any, residual_of}
 use Rattle.ub_query.specs.Groups.{is_selected}
 use Rattle.ub_query.specs.Shape.{Shape}

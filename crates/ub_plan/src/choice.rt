@@ -3,22 +3,23 @@ ghost use Rattle.std.specs.Int.{bit_at};
 ghost use Rattle.std.specs.List.{AllByRecursion};
 ghost use Rattle.std.specs.Option.{option_map};
 ghost use Rattle.ub_boxes.specs.Laws.{IsInSome};
-ghost use Rattle.ub_exec.specs.Choice as spec;
-ghost use Rattle.ub_exec.specs.Choice.{IsFit};
+ghost use Rattle.ub_plan.specs.Choice as spec;
+ghost use Rattle.ub_plan.specs.Choice.{IsFit};
 ghost use Rattle.ub_query.specs.Groups as sql;
 ghost use Rattle.ub_query.specs.Posed.{IsPosed, IsOver, comparisons};
 ghost use Rattle.ub_query.specs.Shape.{asked, shape};
 ghost use Rattle.ub_table.specs.declared.row.Row.{Row as RowView};
 
+use crate::planned::Plan;
 use ub_bigmin::ZBox;
 use ub_page::RegionPage;
-use ub_plan::Plan;
 use ub_query::{Cond, Query};
 use ub_table::{Row, Schema};
 
-/// By what the rows that a plan takes are told from the others of a page. On a sound tree both tell the same rows.
+/// By what the rows that a plan takes are told from the others of a page. On a sound tree both tell the same rows, and these
+/// are the selected ones (`law::chosen_are_selected`).
 #[derive(Clone, Copy, PartialEq, Eq, Debug)]
-pub(crate) enum Choice {
+pub enum Choice {
     /// A row is taken that lies in one of the boxes, and of which the residual is true.
     Boxes,
     /// A row is taken of which the query's condition is true.
@@ -29,7 +30,7 @@ impl Choice {
     /// What costs less. The boxes ask each coordinate of a page once for each box, and the condition asks a value of each row once
     /// for each of its comparisons. An exact condition can have a thousand boxes, so the boxes are asked only where they and
     /// their dimensions are no more than the comparisons. Without a condition nothing is asked.
-    pub(crate) fn of(plan: &Plan, schema: &Schema) -> Choice
+    pub fn of(plan: &Plan, schema: &Schema) -> Choice
         requires { IsPosed (length schema.now.columns) plan.now.asked }
         ensures { IsFit schema.now plan.now result }
     {
@@ -43,7 +44,7 @@ impl Choice {
     }
 
     /// Which rows of a page can be taken, as far as their points tell: bit i is that of the row at place i.
-    pub(crate) fn near(self, plan: &Plan, schema: &Schema, page: &RegionPage) -> u64
+    pub fn near(self, plan: &Plan, schema: &Schema, page: &RegionPage) -> u64
         requires fit { IsFit schema.now plan.now self }
         requires dims { page.now.dims ≡ schema.now.dims }
         ensures { (i : ℕ) (row : RowView) → i < 64 → slice_get page.now.region.rows i ≡ Some row
@@ -57,7 +58,7 @@ impl Choice {
     }
 
     /// What is asked of such a row.
-    pub(crate) fn asked(self, plan: &Plan) -> Option<&Cond>
+    pub fn asked(self, plan: &Plan) -> Option<&Cond>
         ensures { option_map (λ c. shape c.now) result ≡ spec.asked_by self plan.now }
     {
         match self {
@@ -68,7 +69,7 @@ impl Choice {
 }
 
 /// Whether a condition is true of a row, where there is one.
-pub(crate) fn is_true(condition: Option<&Cond>, schema: &Schema, row: &Row) -> bool
+pub fn is_true(condition: Option<&Cond>, schema: &Schema, row: &Row) -> bool
     requires { IfSome (option_map (λ c. shape c.now) condition)
         (λ c. IsOver (length schema.now.columns) c) }
     ensures { result ≡ sql.is_selected schema.now (option_map (λ c. shape c.now) condition.entry)
@@ -81,7 +82,7 @@ pub(crate) fn is_true(condition: Option<&Cond>, schema: &Schema, row: &Row) -> b
 }
 
 /// Whether the bit of a number at a place is 1.
-pub(crate) fn is_set(mask: u64, place: usize) -> bool
+pub fn is_set(mask: u64, place: usize) -> bool
     requires { place < 64 }
     ensures { IsTrue result ↔ (bit_at mask place ≡ 1) }
 {
