@@ -3,7 +3,7 @@ ghost use Rattle.std.specs.Prelude.{◌≡◌, ◌≤◌};
 
 use std::test::Fail;
 use ub_bigmin::ZBox;
-use ub_page::{RegionPage, write_region};
+use ub_page::{Draft, RegionPage, write_region};
 use ub_table::{Key, Name, PageFault, Row, Schema};
 use ub_zaddr::{Point, Shape};
 
@@ -125,7 +125,9 @@ fn are_as_told(dims: u32, rows: &[Row]) -> Result<bool, PageFault>
     let schema = space(dims)?;
     let first = Key { z: 0, number: 0 };
     let rows = &rows[..rows.len().min(64)];
-    let region = RegionPage::read(&schema, &write_region(&schema, first, rows))?;
+    let mut draft = Draft::new();
+    write_region(&schema, first, rows, &mut draft);
+    let region = RegionPage::read(&schema, draft.page())?;
     for number in 0..10usize {
         let (lo, hi) = corners(number);
         if mask(&schema, &region, &lo, &hi) != Some(membership(dims, rows, &lo, &hi)) {
@@ -160,8 +162,14 @@ fn masks_the_second_of_two(rt: HostRuntime) -> Result<(), Fail> {
         dims: [0, 2, 0, 0],
         measures: [0; 4],
     };
-    let page = write_region(&schema, Key { z: 0, number: 0 }, &[row, second]);
-    let region = RegionPage::read(&schema, &page)?;
+    let mut draft = Draft::new();
+    write_region(
+        &schema,
+        Key { z: 0, number: 0 },
+        &[row, second],
+        &mut draft,
+    );
+    let region = RegionPage::read(&schema, draft.page())?;
     assert_eq!(rt; mask(&schema, &region, &[0; 4], &[0, 3, 0, 0]), Some(0b10));
     Ok(())
 }

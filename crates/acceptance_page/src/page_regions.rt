@@ -1,7 +1,7 @@
 // Regions that are written and read, and pages that are refused.
 use crate::samples::{plane, row};
 use std::test::Fail;
-use ub_page::{Page, RegionPage, write_region};
+use ub_page::{Draft, Page, RegionPage, write_region};
 use ub_table::{Key, Name, PageFault, Row, Schema};
 
 // Two rows from the address 0 on.
@@ -55,10 +55,13 @@ fn high_rows() -> [Row; 2] {
     [row(2, 2, 3, 20), row(5, 2, 3, 1)]
 }
 
-// Whether these rows from an address on are written so, and are what is read from there.
+// Whether these rows from an address on are written so over more rows, and are what is read from there.
 fn is_written_and_read(schema: &Schema, z: u128, rows: &[Row; 2], page: &Page) -> bool {
     let first = Key { z, number: 0 };
-    write_region(schema, first, rows) == *page
+    let mut draft = Draft::new();
+    write_region(schema, first, &[rows[1]; 3], &mut draft);
+    write_region(schema, first, rows, &mut draft);
+    draft.page() == page
         && RegionPage::read(schema, page).is_ok_and(|region| region.first() == first
             && region.rows() == rows.as_slice())
 }
@@ -168,7 +171,9 @@ fn holds_full_pages(rt: HostRuntime) -> Result<(), Fail> {
         z: 0,
         number: 16_777_215,
     };
-    let region = RegionPage::read(&schema, &write_region(&schema, first, &rows))?;
+    let mut draft = Draft::new();
+    write_region(&schema, first, &rows, &mut draft);
+    let region = RegionPage::read(&schema, draft.page())?;
     assert!(rt; region.first() == first && region.rows() == rows.as_slice());
     Ok(())
 }

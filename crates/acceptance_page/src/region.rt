@@ -3,63 +3,59 @@ use crate::samples::row;
 use std::test::Fail;
 use ub_region::Rows;
 use ub_region::rows::MAX_LEN;
-use ub_table::Key;
+use ub_table::{Key, Row};
 use ub_zaddr::Shape;
 
-// The rows with these coordinates, numbered from 1 and inserted in that order.
-fn rows(shape: Shape, points: &[(u32, u32)]) -> Rows {
-    let mut all = Rows::new();
-    let mut number = 1;
-    for (x, y) in points {
-        if all.as_slice().len() < MAX_LEN {
-            all.insert(shape, row(number, *x, *y, 0));
+// Rows of these numbers and coordinates.
+fn rows(all: &[(u32, u32, u32)]) -> Rows {
+    let mut rows = Rows::new();
+    for (number, x, y) in all {
+        if rows.as_slice().len() < MAX_LEN {
+            rows.push(row(*number, *x, *y, 0));
         }
-        number = number.wrapping_add(1);
     }
-    all
+    rows
 }
 
-fn numbers_are(rows: &Rows, numbers: &[u32]) -> bool {
-    let slice = rows.as_slice();
-    slice.len() == numbers.len() && slice.iter().zip(numbers).all(|(row, n)| row.number == *n)
-}
-
-#[test]
-fn rows_in_key_order(rt: HostRuntime) -> Result<(), Fail> {
-    let all = rows(Shape::new(2)?, &[(1, 1), (2, 3), (3, 0), (0, 2), (2, 3)]);
-    assert!(rt; numbers_are(&all, &[1, 4, 3, 2, 5]));
-    Ok(())
+fn numbers_are(rows: &[Row], numbers: &[u32]) -> bool {
+    rows.len() == numbers.len() && rows.iter().zip(numbers).all(|(row, n)| row.number == *n)
 }
 
 // Whether three rows of two dimensions, where a page holds two, have these numbers in the left half and in the right one,
 // which begins with this key.
-fn are_split(points: &[(u32, u32)], left: &[u32], right: &[u32], first: Key) -> bool {
+fn are_split(points: &[(u32, u32, u32)], left: &[u32], right: &[u32], first: Key) -> bool {
     let Ok(shape) = Shape::new(2) else {
         return false;
     };
-    let all = rows(shape, points);
+    let all = rows(points);
     if all.as_slice().len() != 3 {
         return false;
     }
     let halves = all.split(shape, 2);
-    numbers_are(&halves.left, left) && numbers_are(&halves.right, right) && halves.first == first
+    numbers_are(halves.left, left) && numbers_are(halves.right, right) && halves.first == first
 }
 
 #[test]
 fn halves_of_three(rt: HostRuntime) {
     for (points, left, right, z, number) in [
-        ([(1, 1), (2, 3), (3, 0)], [1, 3], [2], 13, 0),
-        ([(7, 7), (7, 7), (7, 7)], [1, 2], [3], 63, 3),
+        ([(1, 1, 1), (3, 3, 0), (2, 2, 3)], [1, 3], [2], 13, 0),
+        ([(1, 7, 7), (2, 7, 7), (3, 7, 7)], [1, 2], [3], 63, 3),
     ] {
         assert!(rt; are_split(&points, &left, &right, Key { z, number }), "{z}");
     }
 }
 
-// Whether rows at addresses 3 and 13 are taken out where they are, and only then.
-fn are_taken_out(shape: Shape, all: &mut Rows) -> bool {
-    !all.remove(shape, &Key { z: 13, number: 1 })
+// Whether a row is put in between two, and rows at addresses 3 and 13 are taken out where they are, and only then.
+fn are_put_in_and_taken_out(shape: Shape, all: &mut Rows) -> bool {
+    if all.as_slice().len() != 2 {
+        return false;
+    }
+    all.insert_at(1, row(3, 3, 0, 0));
+    numbers_are(all.as_slice(), &[1, 3, 2])
+        && !all.remove(shape, &Key { z: 13, number: 1 })
         && all.remove(shape, &Key { z: 13, number: 2 })
-        && numbers_are(all, &[1])
+        && all.remove(shape, &Key { z: 3, number: 1 })
+        && numbers_are(all.as_slice(), &[3])
 }
 
 // Whether two regions of a row each are joined where a page holds two, and not where it holds one.
@@ -67,13 +63,22 @@ fn are_joined(all: &mut Rows, other: &Rows) -> bool {
     all.are_few(4) && !all.are_few(2) && !all.join(other, 1) && all.join(other, 2)
 }
 
+// Whether two rows and one before them are joined where a page holds three, and not where it holds two.
+fn are_joined_before(all: &mut Rows, other: &Rows) -> bool {
+    !all.join_before(other, 2) && all.join_before(other, 3)
+}
+
 #[test]
 fn rows_taken_out_and_joined(rt: HostRuntime) -> Result<(), Fail> {
-    let shape = Shape::new(2)?;
-    let mut all = rows(shape, &[(1, 1), (2, 3)]);
-    let other = Rows::from_slice(&[row(4, 0, 2, 0)]);
+    let mut all = rows(&[(1, 1, 1), (2, 2, 3)]);
+    let other = rows(&[(4, 0, 2)]);
+    assert!(rt; are_put_in_and_taken_out(Shape::new(2)?, &mut all));
     assert!(rt;
-        are_taken_out(shape, &mut all) && are_joined(&mut all, &other) && numbers_are(&all, &[1, 4])
+        are_joined(&mut all, &other)
+            && are_joined_before(&mut all, &other)
+            && numbers_are(all.as_slice(), &[4, 3, 4])
     );
+    all.clear();
+    assert!(rt; all.as_slice().is_empty());
     Ok(())
 }

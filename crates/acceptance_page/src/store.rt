@@ -1,9 +1,10 @@
 // The happy paths of each store and of the pager, and what the contracts promise over memory, where no call fails but the one
 // that is told to.
 
-ghost use Rattle.std.specs.Prelude.{◌≡◌, ◌≢◌, ◌<◌, [], Err, Some, length, slice_get, slice_set, IfOk, IsOk, IsOkAnd};
+ghost use Rattle.std.specs.Prelude.{◌≡◌, ◌≢◌, ◌<◌, [], Err, Some, length, slice_get, slice_set, IfOk, IsOk, IsOkAnd, OnOk};
 ghost use Rattle.ub_store.specs.Facts.{memory_facts, IsHonest};
 ghost use Rattle.ub_store.specs.Faulty.{faulty_facts, faulty_view};
+ghost use Rattle.ub_store.specs.View.{IsCached};
 
 use crate::calls::{Answer, Call, byte_of, first_wrong};
 use std::alloc::Global;
@@ -138,17 +139,18 @@ fn passes_each_read_and_write_once(rt: HostRuntime) {
     }
 }
 
-// What is put is what is fetched, cached or not.
-fn put_and_fetch(
+// What is put is what is brought and lent, cached or not.
+fn put_and_bring(
     pager: &mut Pager<FaultyStore<MemStore>>,
     n: u32,
     page: &Page,
-) -> Result<Page, StoreFault>
+) -> Result<(), StoreFault>
     requires { IsHonest pager.old.store }
-    ensures { IfOk result (λ fetched. fetched ≡ page.now) }
+    ensures stored { OnOk result (slice_get pager.new.store.pages n ≡ Some page.now) }
+    ensures cached { OnOk result (IsCached pager.new n) }
 {
     pager.put(n, page)?;
-    pager.fetch(n)
+    pager.bring(n)
 }
 
 // A pager over three pages more of this store, whose cache holds one page.
@@ -173,45 +175,47 @@ fn three_in_memory(alloc: Global, k: u64) -> Result<MemPager, StoreFault> {
     three_pages(alloc, store_failing_at(alloc, k))
 }
 
-// The byte that the page is full of which is put and fetched.
+// The byte that the page is full of which is put and brought.
 fn put_in_memory(alloc: Global) -> Answer {
     let mut pager = three_pages(alloc, store_failing_at(alloc, 0))?;
-    Ok(byte_of(&put_and_fetch(&mut pager, 1, &[8; 4096])?))
+    put_and_bring(&mut pager, 1, &[8; 4096])?;
+    Ok(byte_of(pager.cached(1)))
 }
 
-// What a pager of three pages of zeros fetches of a page, before another one was put in its place and after that.
-fn fetches(pager: &mut MemPager) -> [Answer; 5] {
+// What a pager of three pages of zeros lends of a page, before another one was put in its place and after that.
+fn lends(pager: &mut MemPager) -> [Answer; 5] {
     [
-        fetched(pager, 1),
-        fetched(pager, 2),
+        lent(pager, 1),
+        lent(pager, 2),
         pager.put(1, &[7; 4096]).map(|()| 0),
-        fetched(pager, 1),
-        fetched(pager, 3),
+        lent(pager, 1),
+        lent(pager, 3),
     ]
 }
 
-fn fetched(pager: &mut MemPager, n: u32) -> Answer {
-    Ok(byte_of(&pager.fetch(n)?))
+fn lent(pager: &mut MemPager, n: u32) -> Answer {
+    pager.bring(n)?;
+    Ok(byte_of(pager.cached(n)))
 }
 
 #[test]
-fn fetches_the_page_last_put(rt: HostRuntime) -> Result<(), Fail> {
+fn lends_the_page_last_put(rt: HostRuntime) -> Result<(), Fail> {
     assert_eq!(rt; put_in_memory(rt.alloc()), Ok(8));
     let mut pager = three_in_memory(rt.alloc(), 0)?;
-    let told = (pager.pages(), fetches(&mut pager), pager.sync());
-    let fetched = [Ok(0), Ok(0), Ok(0), Ok(7), Err(StoreFault::NoPage)];
-    assert_eq!(rt; told, (3, fetched, Ok(())));
+    let told = (pager.pages(), lends(&mut pager), pager.sync());
+    let lent = [Ok(0), Ok(0), Ok(0), Ok(7), Err(StoreFault::NoPage)];
+    assert_eq!(rt; told, (3, lent, Ok(())));
     let wrong = first_wrong(&mut pager.into_store(), &[(Call::Read(1), Ok(7))]);
     assert_eq!(rt; wrong, None);
     Ok(())
 }
 
-// Whether the pages of regions that are fetched are noted, and no others.
+// Whether the pages of regions that are brought are noted, and no others.
 fn notes_pages(pager: &mut MemPager) -> Result<bool, StoreFault> {
-    pager.fetch_region(1)?;
-    pager.fetch_region(2)?;
-    pager.fetch(0)?;
-    pager.fetch_region(1)?;
+    pager.bring_region(1)?;
+    pager.bring_region(2)?;
+    pager.bring(0)?;
+    pager.bring_region(1)?;
     let are_noted = pager.trace() == [1, 2, 1].as_slice();
     pager.begin();
     Ok(are_noted && pager.trace().is_empty())
@@ -254,7 +258,7 @@ fn brings_at_last(pager: &mut MemPager) -> Result<bool, StoreFault> {
             fault == StoreFault::Memory && is_noted && pager.trace() == [1, 1].as_slice()
         }
     };
-    Ok(is_brought && pager.fetch(1)? == [0; 4096])
+    Ok(is_brought && *pager.cached(1) == [0; 4096])
 }
 
 // The trace has room from the call before, so what memory is refused for is the page. `tests/store_allocations.sh` makes each

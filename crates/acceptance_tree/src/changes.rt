@@ -1,9 +1,10 @@
 // Tables that are made, changed and closed, and stores that fail at one of the calls.
-use crate::samples::{entry, five_rows, header, plane, region_page, stored};
+use crate::samples::{
+    directory_page, entry, five_rows, header, header_page, plane, region_page, stored,
+};
 use crate::trial::{Answer, DEVICE, DONE, NOTHING, Step, Trial, refuses};
 use std::alloc::Global;
 use std::test::Fail;
-use ub_page::{write_directory, write_header};
 use ub_store::StoreFault;
 use ub_table::PageFault;
 use ub_tree::TreeFault;
@@ -107,9 +108,9 @@ fn closes_tables(rt: HostRuntime) -> Result<(), Fail> {
     let closing = [(Step::Create(0), DONE), (Step::Close, DONE)];
     assert_eq!(rt; trial.first_wrong(&closing), None);
     let pages = [
-        write_header(&header(&schema, 1, 0, 1)),
+        header_page(&header(&schema, 1, 0, 1)),
         region_page(&schema, 0, &[]),
-        write_directory(&[entry(0, 1)], 0),
+        directory_page(&[entry(0, 1)], 0),
     ];
     assert!(rt; trial.has_pages(&pages));
     assert_eq!(rt; trial.first_wrong(&FIVE_ROWS), None);

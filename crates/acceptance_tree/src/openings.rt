@@ -1,9 +1,11 @@
 // Tables that are opened, from pages written by hand.
-use crate::samples::{entry, five_rows, header, part, plane, region_page, stored};
+use crate::samples::{
+    directory_page, entry, five_rows, header, header_page, part, plane, region_page, stored,
+};
 use crate::trial::{Answer, DEVICE, DONE, NOTHING, Step, Trial, refuses};
 use std::alloc::Global;
 use std::test::Fail;
-use ub_page::{Header, Page, write_directory, write_header};
+use ub_page::Page;
 use ub_store::StoreFault;
 use ub_table::{PageFault, Schema};
 use ub_tree::TreeFault;
@@ -54,7 +56,7 @@ fn refuses_row(alloc: Global, next: u32, told: &[(u32, [u32; 2], i64)], fault: A
     };
     let rows = told.len().min(2) as u32;
     let pages = [
-        write_header(&header(&schema, next, rows, 1)),
+        header_page(&header(&schema, next, rows, 1)),
         region_page(&schema, 0, told),
         part(0, 1, 0),
     ];
@@ -80,9 +82,9 @@ fn refuses_rows(rt: HostRuntime) {
 fn refuses_a_page_of_another_region(rt: HostRuntime) -> Result<(), Fail> {
     let schema = plane()?;
     let pages = [
-        write_header(&header(&schema, 1, 0, 2)),
+        header_page(&header(&schema, 1, 0, 2)),
         region_page(&schema, 0, &[]),
-        write_directory(&[entry(0, 1), entry(10, 1)], 0),
+        directory_page(&[entry(0, 1), entry(10, 1)], 0),
     ];
     let steps = [
         (Step::Open, DONE),
@@ -103,7 +105,7 @@ fn refuses_a_header(rt: HostRuntime) -> Result<(), Fail> {
     let schema = plane()?;
     let mut unclean = header(&schema, 1, 0, 1);
     unclean.unclean = true;
-    let pages = [write_header(&unclean), [0; 4096], part(0, 1, 0)];
+    let pages = [header_page(&unclean), [0; 4096], part(0, 1, 0)];
     let missing = Err(TreeFault::Store(StoreFault::NoPage));
     assert!(rt;
         is_refused(rt.alloc(), &schema, &pages, refuses(0, PageFault::Unclean))
@@ -121,7 +123,7 @@ fn refuses_a_header(rt: HostRuntime) -> Result<(), Fail> {
 // The pages of a table of so many regions and no rows, whose directory has these two pages, numbered 2 and 3.
 fn pages_of(schema: &Schema, regions: u32, second: Page, third: Page) -> [Page; 4] {
     [
-        write_header(&header(schema, 1, 0, regions)),
+        header_page(&header(schema, 1, 0, regions)),
         [0; 4096],
         second,
         third,

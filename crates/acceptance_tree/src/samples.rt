@@ -1,6 +1,6 @@
 // Pages written by hand, and stores of them.
 use std::alloc::Global;
-use ub_page::{Entry, Header, Page, write_directory, write_header, write_region};
+use ub_page::{Draft, Entry, Header, Page, write_directory, write_header, write_region};
 use ub_store::{FaultyStore, MemStore, PageStore, StoreFault};
 use ub_table::{Key, Name, PageFault, Row, Schema};
 
@@ -40,7 +40,9 @@ pub(crate) fn region_page(schema: &Schema, z: u128, told: &[(u32, [u32; 2], i64)
         row.measures = [*m, 0, 0, 0];
     }
     let first = Key { z, number: 0 };
-    write_region(schema, first, &rows[..told.len().min(2)])
+    let mut draft = Draft::new();
+    write_region(schema, first, &rows[..told.len().min(2)], &mut draft);
+    *draft.page()
 }
 
 // The page of a directory of regions that begin with so many addresses, from one on.
@@ -52,7 +54,21 @@ pub(crate) fn part(from: u128, count: usize, next: u32) -> Page {
         entry.first.z = z;
         z = z.wrapping_add(1);
     }
-    write_directory(&entries[..count.min(170)], next)
+    directory_page(&entries[..count.min(170)], next)
+}
+
+// The page of a directory of at most 170 regions.
+pub(crate) fn directory_page(entries: &[Entry], next: u32) -> Page {
+    let mut draft = Draft::new();
+    write_directory(&entries[..entries.len().min(170)], next, &mut draft);
+    *draft.page()
+}
+
+// The page of a header.
+pub(crate) fn header_page(header: &Header) -> Page {
+    let mut draft = Draft::new();
+    write_header(header, &mut draft);
+    *draft.page()
 }
 
 // The entry of a region that begins with this address and stands on this page.
@@ -69,9 +85,9 @@ pub(crate) fn entry(z: u128, page: u32) -> Entry {
 // right half, from 10 on, goes to page 4.
 pub(crate) fn five_rows(schema: &Schema) -> [Page; 5] {
     [
-        write_header(&header(schema, 6, 5, 3)),
+        header_page(&header(schema, 6, 5, 3)),
         region_page(schema, 0, &[(1, [1, 1], 10), (4, [0, 2], 7)]),
-        write_directory(&[entry(0, 1), entry(10, 4), entry(13, 3)], 0),
+        directory_page(&[entry(0, 1), entry(10, 4), entry(13, 3)], 0),
         region_page(schema, 13, &[(2, [2, 3], 20), (5, [2, 3], 1)]),
         region_page(schema, 10, &[(3, [3, 0], 5)]),
     ]

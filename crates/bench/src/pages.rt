@@ -3,7 +3,7 @@ ghost use Rattle.std.specs.Prelude.{◌≤◌};
 use crate::generator::Generator;
 use crate::table::table;
 use ub_bigmin::ZBox;
-use ub_page::{Page, RegionPage, write_region};
+use ub_page::{Draft, Page, RegionPage, write_region};
 use ub_table::{Key, PageFault, Row, Schema};
 use ub_zaddr::{Point, Shape, last, spread};
 
@@ -73,11 +73,17 @@ pub fn read_and_filter(dims: u32, calls: u64, is_held: bool) -> Result<u64, Page
     let Some(zbox) = middle(shape) else {
         return Ok(0);
     };
-    let page = write_region(&schema, Key { z: 0, number: 0 }, &rows_of(shape));
+    let mut draft = Draft::new();
+    write_region(
+        &schema,
+        Key { z: 0, number: 0 },
+        &rows_of(shape),
+        &mut draft,
+    );
     let mut held = RegionPage::empty(shape);
     let mut sum = 0u64;
     for _ in 0..calls {
-        sum = sum.rotate_left(1) ^ filtered(&schema, &page, &zbox, &mut held, is_held)?;
+        sum = sum.rotate_left(1) ^ filtered(&schema, draft.page(), &zbox, &mut held, is_held)?;
     }
     Ok(sum)
 }

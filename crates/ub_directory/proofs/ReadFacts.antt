@@ -10,7 +10,7 @@ use Rattle.ub_page.specs.Directory.{Listing, AreAscending, IsEntry, IsListing, d
 use Rattle.ub_page.specs.declared.directory.Entry.{Entry}
 use Rattle.ub_page.specs.declared.header.Header.{Header}
 use Rattle.ub_region.proofs.Laws.{all_more, all_append}
-use Rattle.ub_store.specs.Facts.{StoreFacts, IsHonest, IsPage, counted, page_count}
+use Rattle.ub_store.specs.Facts.{StoreFacts, IsHonest, IsPage, Reads, counted, page_count}
 use Rattle.ub_store.specs.View.{PagerView, SameTrace}
 use Rattle.ub_store.specs.declared.fault.StoreFault.{StoreFault}
 use Rattle.ub_table.proofs.Laws.{precedes_of}
@@ -105,12 +105,12 @@ module _ {U : Type 0} (old new : PagerView) (n : ℕ) where
   fault_refused store.Memory device missing size asked = tt
   fault_refused store.BadSize device missing size asked = size refl
 
-  -- a page could not be fetched
-  pub fetch_refused : {T : Type 0} (r : Result T DirectoryFault) (fault : StoreFault) → IsErrAnd r (λ e. e ≡ Store fault)
+  -- a page could not be brought
+  pub bring_refused : {T : Type 0} (r : Result T DirectoryFault) (fault : StoreFault) → IsErrAnd r (λ e. e ≡ Store fault)
       → new.store ≡ record old.store { failed_reads = counted {A = U} (Err fault) old.store.failed_reads } → SameTrace old new
       → (IsErrOf {T = U} (Err fault) store.Device → IsTrue old.store.can_fail) → (IsErrOf {T = U} (Err fault) store.NoPage → page_count old.store ≤ n)
       → (¬ (IsErrOf {T = U} (Err fault) store.BadSize)) → IsAskedFor old.store n → Opens old new r
-  fetch_refused r fault is same trace device missing size asked = record {
+  bring_refused r fault is same trace device missing size asked = record {
     same = pager_read old new (read_store r old.store) (read_there r U fault old.store new.store is same) trace;
     faults = refused r is;
   }
@@ -118,6 +118,10 @@ module _ {U : Type 0} (old new : PagerView) (n : ℕ) where
       refused : {T : Type 0} (r : Result T DirectoryFault) → IsErrAnd r (λ e. e ≡ Store fault) → IfErr r (IsReadFault old.store)
       refused (Ok x) is = tt
       refused (Err e) is = rw is (fault_refused fault device missing size asked)
+
+-- a page of a store that was read is one of the store before
+pub page_still : {A : Type 0} (result : Result A StoreFault) (old new : StoreFacts) (n : ℕ) (page : List ℕ) → Reads old new result → IsPage new n page → IsPage old n page
+page_still result old new n page reads is = subst (λ (s : StoreFacts). IsPage s n page) reads.same is
 
 -- a list of no more than so many
 take_all : {X : Type 0} (k : ℕ) (xs : List X) → length xs ≤ k → take k xs ≡ xs

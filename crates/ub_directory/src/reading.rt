@@ -55,8 +55,9 @@ fn header_of<S: PageStore>(pager: &mut Pager<S>) -> Result<Header, DirectoryFaul
     ensures page { IfOk result (λ h. IsPage pager.old.store 0 (header_page h)) }
     ensures effect { Opens pager.old pager.new result }
 {
-    let page = pager.fetch(0)?;
-    let header = read_header(&page).map_err(|fault| DirectoryFault::Page { page: 0, fault })?;
+    pager.bring(0)?;
+    let header =
+        read_header(pager.cached(0)).map_err(|fault| DirectoryFault::Page { page: 0, fault })?;
     Ok(header)
 }
 
@@ -102,8 +103,8 @@ fn read_part<S: PageStore>(
     ensures effect { Opens pager.old pager.new result }
 {
     let number = listed.next;
-    let page = pager.fetch(number)?;
-    let part = match part_on(header, &listed.entries, &page) {
+    pager.bring(number)?;
+    let part = match part_on(header, &listed.entries, pager.cached(number)) {
         Ok(part) => part,
         Err(fault) => {
             return Err(DirectoryFault::Page {

@@ -4,7 +4,7 @@ ghost use Rattle.ub_directory.specs.Writing.{Grows, KeepsBut, IsUntouched, IsSav
 ghost use Rattle.ub_store.specs.Facts.{page_count, IsHonest};
 
 use ub_page::directory::MAX_ENTRIES;
-use ub_page::{Entry, write_directory};
+use ub_page::{Draft, Entry, write_directory};
 use ub_store::{PageStore, Pager, StoreFault};
 
 /// How many pages the directory of so many regions takes.
@@ -88,11 +88,13 @@ fn write_chain<S: PageStore>(
     ensures faults { IfErr result (λ fault. (fault ≡ StoreFault.Device)
         ⊎ (fault ≡ StoreFault.NoPage)) }
 {
+    let mut draft = Draft::new();
     let mut next = 0;
     let mut i = chain.len();
     while i > 0 {
         i -= 1;
-        pager.put(chain[i], &write_directory(part_of(entries, i), next))?;
+        write_directory(part_of(entries, i), next, &mut draft);
+        pager.put(chain[i], draft.page())?;
         next = chain[i];
     }
     Ok(())

@@ -1,6 +1,6 @@
 -- What a write at the end of a draft leaves.
 use Rattle.std.proofs.Common.{◌≡◌, ◌≤◌, ◌+◌, ◌-◌, ℕ, zero, suc, List, [], ◌∷◌, ◌++◌, length, take, drop, replicate, ◌↔◌, Bool, IsTrue, add-one, refl, sym, ap, arith, ◌∙◌, append_assoc, slice_set}
-use Rattle.std.proofs.lemmas.List.{append-nil, length-append, length-replicate, length-take, length-drop, drop_all, drop-drop, set_split}
+use Rattle.std.proofs.lemmas.List.{append-nil, length-append, length-replicate, replicate-append-replicate, length-take, length-take-le, length-drop, drop_all, drop-drop, set_split}
 use Rattle.std.proofs.Math.Seq.{drop-append_seam, take-append_seam}
 use borrow.Rule.Slice.PartMut.{put_mid, post_of, mid_of}
 
@@ -31,6 +31,13 @@ put_is size len n page bytes buf long is fits blank e =
     let whole : mid_of len (size - len) page ≡ drop len page = take_whole (size - len) (drop len page) left in
     let rest : drop n (drop len page) ≡ replicate (size - (len + n)) 0 = ap (drop n) blank ∙ drop-replicate n (size - len) 0 ∙ same_count (size - len - n) (size - (len + n)) 0 (omega arith) in
     rw (none, e, whole, rest) (ap (λ (xs : List ℕ). take len page ++ xs) (append-nil _) ∙ sym (append_assoc (take len page) bytes _))
+
+-- what was written made zeros, the whole page is
+pub cleared : (size len : ℕ) (page zeros : List ℕ) → length page ≡ size → len ≤ size → drop len page ≡ replicate (size - len) 0
+    → zeros ≡ replicate (length (take len page)) 0 → zeros ++ drop len page ≡ replicate size 0
+cleared size len page zeros long within blank is =
+    let count : length (take len page) ≡ len = length-take-le len page (omega arith) in
+    rw (is, blank, count) (replicate-append-replicate len (size - len) 0 ∙ same_count (len + (size - len)) size 0 (omega arith))
 
 -- what a draft is before a write of n bytes that fit
 pub record IsDraft (size len n : ℕ) (page value : List ℕ) : Type 0 where

@@ -1,7 +1,7 @@
 ghost use Rattle.std.specs.Prelude.{◌≡◌, ◌+◌, ◌*◌, ◌<◌, ◌≤◌, ◌↔◌, [], ◌∷◌, ◌++◌, Ok, length, IsTrue, IfOk, IfErr};
 ghost use Rattle.std.specs.List.{flat_map, AllByRecursion};
 ghost use Rattle.ub_zaddr.specs.Address.{last_address};
-ghost use Rattle.ub_page.specs.Bytes.{number_at};
+ghost use Rattle.ub_page.specs.Bytes.{number_at, padded};
 ghost use Rattle.ub_page.specs.Directory.{Listing, AreAscending, IsEntry, IsListing, entry_bytes, directory_page, entry_on, entries_on, listing_on, IsDirectoryKind, HasCount, HasEntries, IsDirectoryFault};
 
 use crate::draft::Draft;
@@ -88,19 +88,19 @@ impl Directory {
     }
 }
 
-/// The page of these entries, at most 170, with the next page of the directory, 0 for none.
-pub fn write_directory(entries: &[Entry], next: u32) -> Page
+/// Writes the page of these entries, at most 170, with the next page of the directory, 0 for none, over what was written
+/// before. Takes no memory.
+pub fn write_directory(entries: &[Entry], next: u32, draft: &mut Draft)
     requires { length entries.now ≤ MAX_ENTRIES }
-    ensures { result ≡ directory_page (record { entries = entries.now; next = next }) }
+    ensures { padded draft.new ≡ directory_page (record { entries = entries.now; next = next }) }
 {
-    let mut draft = Draft::new();
+    draft.clear();
     draft.put_u8(KIND);
     draft.put_u8(0);
     draft.put_u16(entries.len() as u16);
     draft.put_u32(next);
     draft.put_u64(0);
-    put_entries(&mut draft, entries);
-    draft.finish()
+    put_entries(draft, entries);
 }
 
 fn put_entries(draft: &mut Draft, entries: &[Entry])
@@ -132,10 +132,9 @@ pub fn read_directory(schema: &Schema, page: &Page) -> Result<Directory, PageFau
     ensures refused { IfErr result (IsDirectoryFault schema.now.dims page.now) }
 {
     let directory = listing_of(schema, page)?;
-    if !is_same(
-        &write_directory(directory.entries(), directory.next()),
-        page,
-    ) {
+    let mut draft = Draft::new();
+    write_directory(directory.entries(), directory.next(), &mut draft);
+    if !is_same(draft.page(), page) {
         return Err(PageFault::BadPadding);
     }
     Ok(directory)

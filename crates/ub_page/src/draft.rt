@@ -42,7 +42,7 @@ impl Draft {
     pub(crate) fn clear(&mut self)
         ensures { self.new ≡ [] }
     {
-        self.page = [0; 4096];
+        self.page[..self.len].fill(0);
         self.len = 0;
     }
 
@@ -147,13 +147,6 @@ impl Draft {
     {
         write_measure(&mut self.page[self.len..], rows, measure);
         self.len += 8 * rows.len();
-    }
-
-    // The page, all bytes that are not written being zero.
-    pub(crate) fn finish(self) -> Page
-        ensures { result ≡ padded self }
-    {
-        self.page
     }
 }
 

@@ -1,6 +1,6 @@
 ghost use Rattle.std.specs.Prelude.{◌≡◌, ◌≢◌, ◌+◌, ◌-◌, ◌*◌, ◌≤◌, ◌<◌, ◌^◌, ◌↔◌, ◌++◌, false, if◌then◌else◌, length, replicate, IsTrue, IsOk, IfOk, IfErr};
 ghost use Rattle.std.specs.List.{flat_map};
-ghost use Rattle.ub_page.specs.Bytes.{number_bytes};
+ghost use Rattle.ub_page.specs.Bytes.{number_bytes, padded};
 ghost use Rattle.ub_page.specs.Header.{numbers_of, names_of, numbers_on, columns_on, name_bytes, name_on, names_on, header_page, AreInRange, IsHeader, AreSame, IsHeaderKind, IsHeaderFault, IsNameOn, AreNamesOn, HasNames};
 ghost use Rattle.ub_table.specs.Schema.{AreCounts};
 
@@ -48,11 +48,11 @@ pub(crate) struct Numbers {
     pub levels: u32,
 }
 
-/// The page of a header, clean or not.
-pub fn write_header(header: &Header) -> Page
-    ensures { result ≡ header_page header.now }
+/// Writes the page of a header, clean or not, over what was written before. Takes no memory.
+pub fn write_header(header: &Header, draft: &mut Draft)
+    ensures { padded draft.new ≡ header_page header.now }
 {
-    let mut draft = Draft::new();
+    draft.clear();
     draft.put_u32(KIND);
     draft.put_u8(VERSION);
     draft.put_u8(state_of(header.unclean));
@@ -65,9 +65,8 @@ pub fn write_header(header: &Header) -> Page
     draft.put_u32(header.regions);
     draft.put_u32(header.root);
     draft.put_u32(header.levels);
-    put_name(&mut draft, header.schema.name());
-    put_names(&mut draft, header.schema.columns());
-    draft.finish()
+    put_name(draft, header.schema.name());
+    put_names(draft, header.schema.columns());
 }
 
 // The state byte of a header.
@@ -118,7 +117,9 @@ pub fn read_header(page: &Page) -> Result<Header, PageFault>
     ensures refused { IfErr result (IsHeaderFault page.now) }
 {
     let header = parts_on(page)?;
-    if !is_same(&write_header(&header), page) {
+    let mut draft = Draft::new();
+    write_header(&header, &mut draft);
+    if !is_same(draft.page(), page) {
         return Err(PageFault::BadPadding);
     }
     Ok(header)

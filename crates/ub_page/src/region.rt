@@ -281,18 +281,18 @@ impl RegionPage {
     }
 }
 
-/// The page of a region: its first key and its rows, at most 64. Of each row it holds the number, and what the schema's
-/// columns hold. Takes no memory.
-pub fn write_region(schema: &Schema, first: Key, rows: &[Row]) -> Page
+/// Writes the page of a region over what was written before: its first key and its rows, at most 64. Of each row the page
+/// holds the number, and what the schema's columns hold. Takes no memory.
+pub fn write_region(schema: &Schema, first: Key, rows: &[Row], draft: &mut Draft)
     requires { length rows.now ≤ MAX_ROWS }
-    ensures page { result ≡ region_page schema.now (record { first = first; rows = rows.now }) }
+    ensures page { padded draft.new
+        ≡ region_page schema.now (record { first = first; rows = rows.now }) }
     // what a page can hold stands on it
     ensures reads_back { IsRegion schema.now (record { first = first; rows = rows.now })
-        → region_on schema.now result ≡ record { first = first; rows = rows.now } }
+        → region_on schema.now (padded draft.new) ≡ record { first = first; rows = rows.now } }
 {
-    let mut draft = Draft::new();
-    put_region(&mut draft, schema, first, rows);
-    draft.finish()
+    draft.clear();
+    put_region(draft, schema, first, rows);
 }
 
 // Puts a region, of which nothing is written.

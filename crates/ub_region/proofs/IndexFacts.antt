@@ -85,3 +85,22 @@ module _ {A : Type 0} where
       let start : index + 1 ≡ suc index = omega arith in
       let more : len + 1 ≡ suc len = omega arith in
       rw (is, end, start, more) (shifted xs index (len - index) len x (omega arith) lt)
+
+  closed : (xs zs : List A) (index n end : ℕ) → end ≡ index + n → end < length xs
+      → take end ((take index xs ++ take n (drop (suc index) xs)) ++ zs) ≡ take index (take (suc end) xs) ++ drop (suc index) (take (suc end) xs)
+  closed [] zs index n end is lt = absurd (omega arith)
+  closed (y ∷ ys) zs zero n end is lt =
+      let same : end ≡ n = omega arith in
+      let long : length (take n ys) ≡ n = length-take-le n ys (omega arith) in
+      rw same (ap (λ (k : ℕ). take k (take n ys ++ zs)) (sym long) ∙ take-append_seam (take n ys) zs)
+  closed (y ∷ ys) zs (suc index) n zero is lt = absurd (omega arith)
+  closed (y ∷ ys) zs (suc index) n (suc end) is lt = ap (λ (zs : List A). y ∷ zs) (closed ys zs index n end (omega arith) (omega arith))
+
+  -- the elements after an index moved down by one
+  pub closed_up : (xs ys rest : List A) (index len : ℕ) → ys ≡ (take index xs ++ take (len - (index + 1)) (drop (index + 1) xs)) ++ rest → index < len → len ≤ length xs
+      → take (len - 1) ys ≡ take index (take len xs) ++ drop (index + 1) (take len xs)
+  closed_up xs ys rest index len is lt le =
+      let start : index + 1 ≡ suc index = omega arith in
+      let whole : len ≡ suc (len - 1) = omega arith in
+      rw (is, start) (closed xs rest index (len - suc index) (len - 1) (omega arith) (omega arith)
+      ∙ ap (λ (n : ℕ). take index (take n xs) ++ drop (suc index) (take n xs)) (sym whole))

@@ -131,36 +131,6 @@ impl<S: PageStore> Pager<S> {
         self.cache.get(n).unwrap()
     }
 
-    /// The page of this number, noted in the trace first, whether it is cached or not. NoPage comes where there is no such
-    /// page, Device where the store failed in this call, Memory where memory was refused: for the note, and then nothing has
-    /// changed, or for the page.
-    pub fn fetch_region(&mut self, n: u32) -> Result<Page, StoreFault>
-        ensures noted { ((result ≡ Err StoreFault.Memory) × (self.new ≡ self.old))
-            ⊎ Notes n self.old self.new }
-        ensures page { IfOk result (λ page. IsPage self.old.store n page) }
-        ensures there { OnOk result (n < page_count self.old.store) }
-        ensures missing { IsErrOf result StoreFault.NoPage → page_count self.old.store ≤ n }
-        ensures no_size { ¬ (IsErrOf result StoreFault.BadSize) }
-        ensures effect { Reads self.old.store self.new.store result }
-    {
-        self.bring_region(n)?;
-        Ok(*self.cached(n))
-    }
-
-    /// The page of this number. NoPage comes where there is none, Device where the store failed in this call, Memory where
-    /// memory was refused, for the cache too.
-    pub fn fetch(&mut self, n: u32) -> Result<Page, StoreFault>
-        ensures trace { SameTrace self.old self.new }
-        ensures page { IfOk result (λ page. IsPage self.old.store n page) }
-        ensures there { OnOk result (n < page_count self.old.store) }
-        ensures missing { IsErrOf result StoreFault.NoPage → page_count self.old.store ≤ n }
-        ensures no_size { ¬ (IsErrOf result StoreFault.BadSize) }
-        ensures effect { Reads self.old.store self.new.store result }
-    {
-        self.bring(n)?;
-        Ok(*self.cached(n))
-    }
-
     /// Puts a page in the place of that of this number, in the store and in the cache. NoPage comes where there is none, Device
     /// where the store failed in this call. After a fault that page may hold any bytes, and the cache has forgotten it.
     pub fn put(&mut self, n: u32, page: &Page) -> Result<(), StoreFault>

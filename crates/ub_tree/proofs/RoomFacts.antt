@@ -241,3 +241,14 @@ key_there t index p key rows at number has same = (
         (found.0, contained_at (λ (_ : Row). Unit {0}) p.region.rows found.1 found.0 found.2, found.3 ∙ number),
   ),
 )
+
+next_taken : (rows : List Row) (i : ℕ) (row : Row) → slice_get rows i ≡ Some row → take (suc i) rows ≡ take i rows ++ row ∷ []
+next_taken [] i row is = cc
+next_taken (r ∷ rows) zero row is = let same : r ≡ row = cc in ap (λ (x : Row). x ∷ []) same
+next_taken (r ∷ rows) (suc i) row is = ap (λ (rs : List Row). r ∷ rs) (next_taken rows i row is)
+
+-- the rows so far, with the next one
+pub listed_more : (rows old new : List Row) (i : ℕ) (row : Row) → old ≡ take i rows → slice_get rows i ≡ Some row → new ≡ old ++ row ∷ [] → new ≡ take (i + 1) rows
+listed_more rows old new i row so_far is pushed =
+    let one : i + 1 ≡ suc i = omega arith in
+    pushed ∙ ap (λ (rs : List Row). rs ++ row ∷ []) so_far ∙ sym (next_taken rows i row is) ∙ ap (λ (n : ℕ). take n rows) (sym one)

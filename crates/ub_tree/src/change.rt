@@ -1,6 +1,7 @@
 ghost use Rattle.std.specs.Int.{w64};
 ghost use Rattle.std.specs.Prelude.{FitsSigned, map, ◌≡◌, ◌≢◌, ◌+◌, ◌-◌, ◌↔◌, pos, replicate, ◌<◌, ◌≤◌, ◌⊎◌, ◌∷◌, ◌++◌, [], true, false, IsTrue, Some, Ok, Err, length, slice_get, IfOk, IfErr, IfSome, IsNone, IsSome, OnOk, List, option_copied};
 ghost use Rattle.std.specs.List.{AllByRecursion, insert, list_any};
+ghost use Rattle.ub_page.specs.Bytes.{padded};
 ghost use Rattle.ub_region.specs.Rows.{insert_row, split};
 ghost use Rattle.ub_store.specs.Facts as facts;
 ghost use Rattle.ub_store.specs.Facts.{page_count, zero_page, Appends};
@@ -15,13 +16,13 @@ ghost use Rattle.ub_tree.specs.Stored.{IsMarkPage};
 ghost use Rattle.ub_tree.specs.View.{IsSound, regions};
 
 use crate::fault::TreeFault;
-use crate::header::mark_page;
+use crate::header::write_mark;
 use crate::order::{write_page, write_pages};
 use crate::reading::take_region;
-use crate::room::{Room, new_room};
+use crate::room::{Drafts, Room, list_rows, new_room};
 use crate::tree::Tree;
 use ub_directory::Seat;
-use ub_page::{Page, RegionPage, write_region};
+use ub_page::{Draft, Page, RegionPage, write_region};
 use ub_region::{Halves, Rows, index_in, is_equal};
 use ub_store::{MAX_PAGES, PageStore, Pager, StoreFault};
 use ub_table::{Key, MAX_ROW_NUMBER, PageFault, Row};
@@ -31,7 +32,7 @@ const NEXT_END: u32 = MAX_ROW_NUMBER + 1;
 
 impl<S: PageStore> Tree<S> {
     // The room for a region, which is given back to `room` after use.
-    fn take_room(&mut self) -> Result<Box<Room>, TreeFault>
+    pub(crate) fn take_room(&mut self) -> Result<Box<Room>, TreeFault>
         ensures same { self.new ≡ self.old }
         ensures effect { Searches self.old self.new result }
     {
@@ -41,25 +42,25 @@ impl<S: PageStore> Tree<S> {
         Ok(new_room(self.alloc, self.schema.shape())?)
     }
 
-    // The rows of the region of a seat.
-    pub(crate) fn rows_at(&mut self, seat: &Seat) -> Result<Rows, TreeFault>
+    // Lists the rows of the region of a seat, which is read into this room.
+    pub(crate) fn rows_at(
+        &mut self,
+        seat: &Seat,
+        region: &mut RegionPage,
+        rows: &mut Rows,
+    ) -> Result<(), TreeFault>
         requires { IsSeatIn self.old seat.now }
-        ensures few { IfOk result (λ rows. length rows ≤ self.old.schema.page_rows) }
-        ensures at { IfOk result (λ rows. AreRowsAt self.old.schema
-            (map entry_of self.old.placed) seat.now.index rows) }
+        ensures few { OnOk result (length rows.new ≤ self.old.schema.page_rows) }
+        ensures at { OnOk result (AreRowsAt self.old.schema
+            (map entry_of self.old.placed) seat.now.index rows.new) }
         ensures rows { facts.IsHonest self.old.store
-            → IfOk result (λ rows. (p : Placed) → slice_get self.old.placed seat.now.index ≡ Some p
-            → rows ≡ p.region.rows) }
+            → OnOk result ((p : Placed) → slice_get self.old.placed seat.now.index ≡ Some p
+            → rows.new ≡ p.region.rows) }
         ensures effect { Searches self.old self.new result }
     {
-        let mut room = self.take_room()?;
-        let read = self.read_at(seat, &mut room.region);
-        let rows = Rows::from_slice(room.region.rows());
-        self.room = Some(room);
-        match read {
-            Ok(()) => Ok(rows),
-            Err(fault) => Err(fault),
-        }
+        self.read_at(seat, region)?;
+        list_rows(region, rows);
+        Ok(())
     }
 
     // Reads the region of a seat. After a fault any region may stand there.
@@ -90,32 +91,38 @@ impl<S: PageStore> Tree<S> {
     }
 
     // The page of a header that marks the table as changed, unless it is marked already.
-    fn mark(&self) -> Option<Page>
-        ensures page { IfSome result (λ page. IsMarkPage self.now.schema page) }
+    fn mark<'a>(&self, draft: &'a mut Draft) -> Option<&'a Page>
+        ensures page { IfSome (option_copied result)
+            (λ page. IsMarkPage self.now.schema page) }
         ensures changed { IsNone result ↔ IsTrue self.now.is_changed }
     {
         if self.is_changed {
             return None;
         }
-        self.first_mark()
+        Some(self.first_mark(draft))
     }
 
     // That page, which there is.
-    fn first_mark(&self) -> Option<Page>
-        ensures page { IfSome result (λ page. IsMarkPage self.now.schema page) }
-        ensures some { IsSome result }
+    fn first_mark<'a>(&self, draft: &'a mut Draft) -> &'a Page
+        ensures { IsMarkPage self.now.schema result.now }
     {
-        Some(mark_page(
+        write_mark(
             &self.schema,
             self.next,
             self.rows,
             self.regions(),
             self.directory.root(),
-        ))
+            draft,
+        )
     }
 
     // Puts these rows on the page of the region of a seat. After a fault the tree has failed.
-    pub(crate) fn rewrite(&mut self, seat: &Seat, rows: &[Row]) -> Result<(), TreeFault>
+    pub(crate) fn rewrite(
+        &mut self,
+        seat: &Seat,
+        rows: &[Row],
+        drafts: &mut Drafts,
+    ) -> Result<(), TreeFault>
         requires seat { IsSeatIn self.old seat.now }
         requires few { length rows.now ≤ 64 }
         ensures same { OnOk result (IsElsewhereSame self.old self.new) }
@@ -132,34 +139,21 @@ impl<S: PageStore> Tree<S> {
             ⊎ (fault ≡ TreeFault.Store StoreFault.NoPage)) }
         ensures effect { Writes self.old self.new result }
     {
-        let page = write_region(&self.schema, seat.first(), rows);
-        self.put_page(seat, &page)
+        write_region(&self.schema, seat.first(), rows, &mut drafts.page);
+        self.put_page(seat, drafts)
     }
 
-    // Puts a page in the place of that of the region of a seat, and before it the mark, unless the
-    // table is marked already. After a fault the tree has failed.
-    fn put_page(&mut self, seat: &Seat, page: &Page) -> Result<(), TreeFault>
+    // Puts the page that was spelled in the place of that of the region of a seat, and before it the
+    // mark, unless the table is marked already. After a fault the tree has failed.
+    fn put_page(&mut self, seat: &Seat, drafts: &mut Drafts) -> Result<(), TreeFault>
         requires { IsSeatIn self.old seat.now }
-        ensures { PutsAt seat.now page.now self.old self.new result }
+        ensures { PutsAt seat.now (padded drafts.old.page) self.old self.new result }
     {
-        if self.is_changed {
-            return self.put_marked(None, seat, page);
-        }
-        self.put_first(seat, page)
+        let mark = self.mark(&mut drafts.mark);
+        self.put_marked(mark, seat, drafts.page.page())
     }
 
-    // The same where the table isn't marked. The mark stands in this function alone, since a
-    // function clears the room of its values wherever it is entered.
-    fn put_first(&mut self, seat: &Seat, page: &Page) -> Result<(), TreeFault>
-        requires seat { IsSeatIn self.old seat.now }
-        requires unmarked { self.old.is_changed ≡ false }
-        ensures { PutsAt seat.now page.now self.old self.new result }
-    {
-        let mark = self.first_mark();
-        self.put_marked(mark.as_ref(), seat, page)
-    }
-
-    // The same with this mark, which is given where the table isn't marked.
+    // Puts a page there with this mark, which is given where the table isn't marked.
     fn put_marked(&mut self, mark: Option<&Page>, seat: &Seat, page: &Page) -> Result<(), TreeFault>
         requires seat { IsSeatIn self.old seat.now }
         requires mark { IfSome (option_copied mark)
@@ -191,30 +185,35 @@ impl<S: PageStore> Tree<S> {
     // can be refused comes before the first page is written, and what the directory needs before the
     // store has a page more. After a failure of the device that isn't the directory's, or a write
     // that found no page, the tree has failed.
-    fn split(&mut self, seat: &Seat, halves: &Halves) -> Result<(), TreeFault>
+    fn split(
+        &mut self,
+        seat: &Seat,
+        halves: &Halves<'_>,
+        drafts: &mut Drafts,
+    ) -> Result<(), TreeFault>
         requires seat { IsSeatIn self.old seat.now }
         requires room { HasRoom seat.now.index halves.now.first self.old }
-        requires few { (length halves.now.left ≤ 64) × (length halves.now.right ≤ 64) }
+        requires few { (length halves.now.left.now ≤ 64) × (length halves.now.right.now ≤ 64) }
         ensures same { OnOk result (IsElsewhereSame self.old self.new) }
         ensures written { IsStored self.old → (p : Placed)
             → slice_get self.old.placed seat.now.index ≡ Some p
-            → IsRegion self.old.schema (record { first = p.region.first; rows = halves.now.left })
+            → IsRegion self.old.schema (record { first = p.region.first; rows = halves.now.left.now })
             → IsRegion self.old.schema
-            (record { first = halves.now.first; rows = halves.now.right })
+            (record { first = halves.now.first; rows = halves.now.right.now })
             → OnOk result (IsStored self.new
             × IsSplitAt seat.now.index p (record {
-              left = halves.now.left;
+              left = halves.now.left.now;
               first = halves.now.first;
-              right = halves.now.right;
+              right = halves.now.right.now;
             }) self.old self.new) }
         ensures effect { Changes self.old self.new result }
     {
         if self.regions() == MAX_PAGES {
             return Err(TreeFault::Store(StoreFault::BadSize));
         }
-        let mark = self.mark();
-        let left = write_region(&self.schema, seat.first(), halves.left.as_slice());
-        let right = write_region(&self.schema, halves.first, halves.right.as_slice());
+        let mark = self.mark(&mut drafts.mark);
+        write_region(&self.schema, seat.first(), halves.left, &mut drafts.page);
+        write_region(&self.schema, halves.first, halves.right, &mut drafts.other);
         let adding = self
             .directory
             .prepare_add(&mut self.pager, seat, halves.first)?;
@@ -222,9 +221,9 @@ impl<S: PageStore> Tree<S> {
         match write_pages(
             &mut self.pager,
             &mut self.is_changed,
-            mark.as_ref(),
-            (number, &right),
-            (seat.page(), &left),
+            mark,
+            (number, drafts.other.page()),
+            (seat.page(), drafts.page.page()),
         ) {
             Ok(()) => {
                 self.directory.commit_add(adding, number);
@@ -264,41 +263,41 @@ impl<S: PageStore> Tree<S> {
     {
         let index = index_in(room.region.keys(), key);
         if room.region.len() == self.schema.page_rows() as usize {
-            return self.split_with(seat, room.region.rows(), index, row);
+            return self.split_with(seat, index, row, room);
         }
         room.region.insert_at(index, row);
-        room.region.write(&self.schema, &mut room.draft);
-        self.put_page(seat, room.draft.page())
+        room.region.write(&self.schema, &mut room.drafts.page);
+        self.put_page(seat, &mut room.drafts)
     }
 
-    // Puts a row in among the rows of the region of a seat, which fill its page, and puts them on
-    // that and a new one.
+    // Puts a row in among the rows of the region of a seat, which was read into this room and fills
+    // its page, and puts them on that and a new one.
     fn split_with(
         &mut self,
         seat: &Seat,
-        rows: &[Row],
         index: usize,
         row: &Row,
+        room: &mut Room,
     ) -> Result<(), TreeFault>
         requires seat { IsSeatIn self.old seat.now }
-        requires full { length rows.now ≡ self.old.schema.page_rows }
-        requires within { index ≤ length rows.now }
+        requires full { length room.old.region.region.rows ≡ self.old.schema.page_rows }
+        requires within { index ≤ length room.old.region.region.rows }
         requires room { HasRoom seat.now.index (split self.old.schema.dims
-            self.old.schema.page_rows (insert rows.now index row.now)).first self.old }
+            self.old.schema.page_rows
+            (insert room.old.region.region.rows index row.now)).first self.old }
         ensures same { OnOk result (IsElsewhereSame self.old self.new) }
-        ensures written { StoresRows seat.now.index (insert rows.now index row.now)
-            self.old self.new result }
+        ensures written { StoresRows seat.now.index
+            (insert room.old.region.region.rows index row.now) self.old self.new result }
         ensures effect { Changes self.old self.new result }
     {
-        let mut all = Rows::from_slice(rows);
-        all.insert_at(index, *row);
-        self.split_rows(seat, &all)
+        list_rows(&room.region, &mut room.rows);
+        room.rows.insert_at(index, *row);
+        self.split_rows(seat, &room.rows, &mut room.drafts)
     }
 
     // Puts the rows of the region of a seat, of which there is one more than a page holds, on its
-    // page and a new one. The halves stand in this function alone, since a function clears the room
-    // of its values wherever it is entered.
-    fn split_rows(&mut self, seat: &Seat, rows: &Rows) -> Result<(), TreeFault>
+    // page and a new one.
+    fn split_rows(&mut self, seat: &Seat, rows: &Rows, drafts: &mut Drafts) -> Result<(), TreeFault>
         requires seat { IsSeatIn self.old seat.now }
         requires over { length rows.now ≡ self.old.schema.page_rows + 1 }
         requires room { HasRoom seat.now.index
@@ -307,9 +306,8 @@ impl<S: PageStore> Tree<S> {
         ensures written { StoresRows seat.now.index rows.now self.old self.new result }
         ensures effect { Changes self.old self.new result }
     {
-        let page_rows = self.schema.page_rows();
-        let halves = rows.split(self.schema.shape(), page_rows);
-        self.split(seat, &halves)
+        let halves = rows.split(self.schema.shape(), self.schema.page_rows());
+        self.split(seat, &halves, drafts)
     }
 
     /// Puts a row in, with these coordinates and measures, and gives its number: one more than the last row got.

@@ -4,20 +4,27 @@ ghost use Rattle.ub_table.specs.Name.{IsName};
 ghost use Rattle.ub_tree.specs.Stored.{IsMarkPage};
 
 use ub_directory::levels_of;
-use ub_page::{Header, Page, write_header};
+use ub_page::{Draft, Header, Page, write_header};
 use ub_table::{MAX_ROW_NUMBER, Name, Schema};
 
-/// The page of a header that marks a table as changed. What it tells of the rows and of the directory means nothing.
-pub fn mark_page(schema: &Schema, next: u32, rows: u32, regions: u32, root: u32) -> Page
+/// Spells the page of a header that marks a table as changed. What it tells of the rows and of the directory means nothing.
+pub fn write_mark<'a>(
+    schema: &Schema,
+    next: u32,
+    rows: u32,
+    regions: u32,
+    root: u32,
+    draft: &'a mut Draft,
+) -> &'a Page
     requires fewer { rows < next }
     requires last_next { next ≤ MAX_ROW_NUMBER + 1 }
     requires some { 1 ≤ regions }
     requires root { 1 ≤ root }
-    ensures { IsMarkPage schema.now result }
+    ensures { IsMarkPage schema.now result.now }
 {
     tell_names(schema.columns());
     tell_name(schema.name());
-    write_header(&Header {
+    let header = Header {
         schema: schema.copy(),
         next,
         rows,
@@ -25,7 +32,9 @@ pub fn mark_page(schema: &Schema, next: u32, rows: u32, regions: u32, root: u32)
         root,
         levels: levels_of(regions as usize) as u32,
         unclean: true,
-    })
+    };
+    write_header(&header, draft);
+    draft.page()
 }
 
 /// Each of these is a name: it tells this to the proof alone.

@@ -9,6 +9,7 @@
 
 ghost use Rattle.std.specs.Prelude.{ℕ, List, ◌≡◌, ◌⊎◌, ◌↔◌, ◌+◌, ◌^◌, ◌<◌, ◌≤◌, [], ◌∷◌, length, slice_get, Some, IsTrue, IsNone, IfErr, OnOk, OnErr, IsErrOf, option_copied};
 ghost use Rattle.ub_page.specs.Header.{header_page};
+ghost use Rattle.ub_page.specs.Region.{region_on, region_page};
 ghost use Rattle.ub_store.specs.Facts.{page_count, IsHonest};
 ghost use Rattle.ub_store.specs.View.{SameTrace};
 ghost use Rattle.ub_directory.specs.Chain.{AreOwn};
@@ -17,12 +18,12 @@ ghost use Rattle.ub_tree.specs.Calls.{IsUncreated, IsCreateFault};
 ghost use Rattle.ub_tree.specs.Change.{Puts, PutsTwo, Marks};
 ghost use Rattle.ub_tree.specs.Closing.{IsClosed, IsUnclosed, IsSaveFault};
 ghost use Rattle.ub_tree.specs.Effects.{written_store};
-ghost use Rattle.ub_tree.specs.Tree.{IsLaidOut};
+ghost use Rattle.ub_tree.specs.Tree.{IsLaidOut, empty_region};
 
 use crate::fault::TreeFault;
-use crate::header::{mark_page, tell_name, tell_names};
+use crate::header::{tell_name, tell_names, write_mark};
 use ub_directory::{Directory, ORIGIN, levels_of};
-use ub_page::{Header, Page, write_header, write_region};
+use ub_page::{Draft, Header, Page, write_header, write_region};
 use ub_store::{PageStore, Pager, StoreFault};
 use ub_table::{MAX_ROW_NUMBER, Schema};
 
@@ -40,12 +41,22 @@ pub fn write_first_pages<S: PageStore>(
     ensures left { pager.new.store ≡ written_store result pager.old.store pager.new.store }
     ensures refused { IfErr result (IsCreateFault pager.old.store) }
 {
+    let mut draft = Draft::new();
     pager.extend()?;
-    pager.put(0, &mark_page(schema, 1, 0, 1, 2))?;
+    pager.put(0, write_mark(schema, 1, 0, 1, 2, &mut draft))?;
     pager.extend()?;
     pager.extend()?;
-    pager.put(1, &write_region(schema, ORIGIN, &[]))?;
+    pager.put(1, write_empty(schema, &mut draft))?;
     Ok(())
+}
+
+// Spells the page of a region of no rows, which begins with the least key of all.
+fn write_empty<'a>(schema: &Schema, draft: &'a mut Draft) -> &'a Page
+    ensures page { result.now ≡ region_page schema.now empty_region }
+    ensures reads_back { region_on schema.now result.now ≡ empty_region }
+{
+    write_region(schema, ORIGIN, &[], draft);
+    draft.page()
 }
 
 /// Puts two pages in their places, and before them the header, where one is given: then the table is marked as changed.
@@ -153,6 +164,8 @@ fn write_clean<S: PageStore>(pager: &mut Pager<S>, header: &Header) -> Result<()
     ensures faults { IfErr result (λ fault. (fault ≡ StoreFault.Device)
         ⊎ (fault ≡ StoreFault.NoPage)) }
 {
-    pager.put(0, &write_header(header))?;
+    let mut draft = Draft::new();
+    write_header(header, &mut draft);
+    pager.put(0, draft.page())?;
     pager.sync()
 }

@@ -10,9 +10,9 @@ ghost use Rattle.ub_tree.specs.Removal.{IsRemoved, IsNotFull};
 ghost use Rattle.ub_tree.specs.View.{IsSound, regions};
 
 use crate::fault::TreeFault;
+use crate::room::{Drafts, Room};
 use crate::tree::Tree;
 use ub_directory::{Dropping, Seat};
-use ub_region::Rows;
 use ub_store::PageStore;
 use ub_table::{Key, PageFault, Row};
 
@@ -30,7 +30,13 @@ impl<S: PageStore> Tree<S> {
 
     // Puts rows on the page of the region of a seat, among them those of the next region, which is
     // then no more. After a fault the tree has failed.
-    fn join_at(&mut self, seat: &Seat, next: &Seat, rows: &[Row]) -> Result<(), TreeFault>
+    fn join_at(
+        &mut self,
+        seat: &Seat,
+        next: &Seat,
+        rows: &[Row],
+        drafts: &mut Drafts,
+    ) -> Result<(), TreeFault>
         requires seat { IsSeatIn self.old seat.now }
         requires next { IsSeatIn self.old next.now × (next.now.index ≡ seat.now.index + 1) }
         requires few { length rows.now ≤ 64 }
@@ -44,30 +50,30 @@ impl<S: PageStore> Tree<S> {
         ensures not_full { IfErr result IsNotFull }
     {
         let dropping = self.prepare_drop(next)?;
-        self.rewrite(seat, rows)?;
+        self.rewrite(seat, rows, drafts)?;
         self.forget(dropping);
         Ok(())
     }
 
     // Takes over the rows of the region after that of a seat, if there is one and a page holds them
     // together with these, and then gives its seat.
-    fn join_next(&mut self, seat: &Seat, rows: &mut Rows) -> Result<Option<Seat>, TreeFault>
+    fn join_next(&mut self, seat: &Seat, room: &mut Room) -> Result<Option<Seat>, TreeFault>
         requires seat { IsSeatIn self.old seat.now }
-        requires few { length rows.old ≤ self.old.schema.page_rows }
-        ensures few { length rows.new ≤ self.old.schema.page_rows }
+        requires few { length room.old.rows ≤ self.old.schema.page_rows }
+        ensures few { length room.new.rows ≤ self.old.schema.page_rows }
         ensures next { IfOk result (λ found. IfSome found (λ next.
             IsSeatIn self.old next × (next.index ≡ seat.now.index + 1))) }
         ensures joined { facts.IsHonest self.old.store
             → IfOk result (λ found. JoinsNext self.old.schema.page_rows seat.now.index
-            rows.old rows.new (is_some found) (regions self.old)) }
+            room.old.rows room.new.rows (is_some found) (regions self.old)) }
         ensures effect { Searches self.old self.new result }
     {
         let next = match self.seat_after(seat)? {
             Some(next) => next,
             None => return Ok(None),
         };
-        let more = self.rows_at(&next)?;
-        if rows.join(&more, self.schema.page_rows()) {
+        self.rows_at(&next, &mut room.region, &mut room.others)?;
+        if room.rows.join(&room.others, self.schema.page_rows()) {
             Ok(Some(next))
         } else {
             Ok(None)
@@ -76,24 +82,23 @@ impl<S: PageStore> Tree<S> {
 
     // Puts the rows of the region before that of a seat before these, if there is one and a page
     // holds them together, and then gives its seat.
-    fn join_before(&mut self, seat: &Seat, rows: &mut Rows) -> Result<Option<Seat>, TreeFault>
+    fn join_before(&mut self, seat: &Seat, room: &mut Room) -> Result<Option<Seat>, TreeFault>
         requires seat { IsSeatIn self.old seat.now }
-        requires few { length rows.old ≤ self.old.schema.page_rows }
-        ensures few { length rows.new ≤ self.old.schema.page_rows }
+        requires few { length room.old.rows ≤ self.old.schema.page_rows }
+        ensures few { length room.new.rows ≤ self.old.schema.page_rows }
         ensures before { IfOk result (λ found. IfSome found (λ before.
             IsSeatIn self.old before × (seat.now.index ≡ before.index + 1))) }
         ensures joined { facts.IsHonest self.old.store
             → IfOk result (λ found. JoinsBefore self.old.schema.page_rows seat.now.index
-            rows.old rows.new (is_some found) (regions self.old)) }
+            room.old.rows room.new.rows (is_some found) (regions self.old)) }
         ensures effect { Searches self.old self.new result }
     {
         let before = match self.seat_before(seat)? {
             Some(before) => before,
             None => return Ok(None),
         };
-        let mut all = self.rows_at(&before)?;
-        if all.join(rows, self.schema.page_rows()) {
-            *rows = all;
+        self.rows_at(&before, &mut room.region, &mut room.others)?;
+        if room.rows.join_before(&room.others, self.schema.page_rows()) {
             Ok(Some(before))
         } else {
             Ok(None)
@@ -102,30 +107,30 @@ impl<S: PageStore> Tree<S> {
 
     // Puts the rows that are left of the region of a seat on its page. Few rows are joined with
     // those of the next region, or else of the one before, where a page holds both.
-    fn settle(&mut self, seat: &Seat, rows: &mut Rows) -> Result<(), TreeFault>
+    fn settle(&mut self, seat: &Seat, room: &mut Room) -> Result<(), TreeFault>
         requires seat { IsSeatIn self.old seat.now }
-        requires few { length rows.old ≤ self.old.schema.page_rows }
+        requires few { length room.old.rows ≤ self.old.schema.page_rows }
         ensures same { OnOk result (IsElsewhereSame self.old self.new) }
         ensures written { IsStored self.old
             → AllByRecursion (IsRegion self.old.schema)
             (settle self.old.schema.page_rows seat.now.index
-            (put_rows seat.now.index false rows.old (regions self.old)))
+            (put_rows seat.now.index false room.old.rows (regions self.old)))
             → OnOk result (IsStored self.new
             × (regions self.new ≡ settle self.old.schema.page_rows seat.now.index
-            (put_rows seat.now.index false rows.old (regions self.old)))) }
+            (put_rows seat.now.index false room.old.rows (regions self.old)))) }
         ensures effect { Changes self.old self.new result }
         ensures not_full { IfErr result IsNotFull }
     {
-        if !rows.are_few(self.schema.page_rows()) {
-            return self.rewrite(seat, rows.as_slice());
+        if !room.rows.are_few(self.schema.page_rows()) {
+            return self.rewrite(seat, room.rows.as_slice(), &mut room.drafts);
         }
-        if let Some(next) = self.join_next(seat, rows)? {
-            return self.join_at(seat, &next, rows.as_slice());
+        if let Some(next) = self.join_next(seat, room)? {
+            return self.join_at(seat, &next, room.rows.as_slice(), &mut room.drafts);
         }
-        if let Some(before) = self.join_before(seat, rows)? {
-            return self.join_at(&before, seat, rows.as_slice());
+        if let Some(before) = self.join_before(seat, room)? {
+            return self.join_at(&before, seat, room.rows.as_slice(), &mut room.drafts);
         }
-        self.rewrite(seat, rows.as_slice())
+        self.rewrite(seat, room.rows.as_slice(), &mut room.drafts)
     }
 
     /// Takes out the row with this key, and tells whether there is one; where there is none nothing is written. A region
@@ -146,9 +151,24 @@ impl<S: PageStore> Tree<S> {
         if self.is_failed {
             return Err(TreeFault::Failed);
         }
-        let seat = self.seat_of(&key)?;
-        let mut rows = self.rows_at(&seat)?;
-        if !rows.remove(self.schema.shape(), &key) {
+        let mut room = self.take_room()?;
+        let removed = self.remove_within(&key, &mut room);
+        self.room = Some(room);
+        removed
+    }
+
+    // The same of a tree that works, in this room.
+    fn remove_within(&mut self, key: &Key, room: &mut Room) -> Result<bool, TreeFault>
+        requires { self.old.is_failed ≡ false }
+        ensures removed { IsSound self.old
+            → IfOk result (λ found. IsRemoved key.now found self.old self.new) }
+        ensures untouched { IfOk result (λ found. found ≡ false → self.new ≡ self.old) }
+        ensures effect { Changes self.old self.new result }
+        ensures not_full { IfErr result IsNotFull }
+    {
+        let seat = self.seat_of(key)?;
+        self.rows_at(&seat, &mut room.region, &mut room.rows)?;
+        if !room.rows.remove(self.schema.shape(), key) {
             return Ok(false);
         }
         if self.rows == 0 {
@@ -157,7 +177,7 @@ impl<S: PageStore> Tree<S> {
                 fault: PageFault::BadCount,
             });
         }
-        self.settle(&seat, &mut rows)?;
+        self.settle(&seat, room)?;
         self.rows -= 1;
         Ok(true)
     }

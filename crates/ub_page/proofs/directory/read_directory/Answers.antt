@@ -10,7 +10,7 @@ returns-in_err-directory-clause-exact c = λ listing is e. absurd (not_refused l
 pub returns-then-not-is_same-clause-refused : goal.returns-then-not-is_same-clause-refused
 returns-then-not-is_same-clause-refused c =
     let read = c.in_ok-directory.ensures in
-    let written : c.write_directory.result ≡ directory_page c.in_ok-directory.directory = rw (c.entries.ensures.entries, c.next.ensures) at c.write_directory.ensures in
+    let written : c.page.result.now ≡ directory_page c.in_ok-directory.directory = c.page.ensures ∙ rw (c.entries.ensures.entries, c.next.ensures) at c.write_directory.ensures in
     padding_fault c.in_ok-directory.directory c.args.page.now c.args.schema.now.dims c.args.schema.now.counts.few_dims
     read.listing.0 read.listing.1 read.listing.2 read.entries.0 read.entries.1
     (λ e. let yes : c.is_same.result ≡ true = c.is_same.ensures.1 (written ∙ e) in let no = c.if-not-is_same.true in cc)
@@ -18,7 +18,7 @@ returns-then-not-is_same-clause-refused c =
 pub returns-then-not-is_same-clause-exact : goal.returns-then-not-is_same-clause-exact
 returns-then-not-is_same-clause-exact c = λ listing is e.
     let read = c.in_ok-directory.ensures in
-    let written : c.write_directory.result ≡ directory_page c.in_ok-directory.directory = rw (c.entries.ensures.entries, c.next.ensures) at c.write_directory.ensures in
+    let written : c.page.result.now ≡ directory_page c.in_ok-directory.directory = c.page.ensures ∙ rw (c.entries.ensures.entries, c.next.ensures) at c.write_directory.ensures in
     let fault = padding_fault c.in_ok-directory.directory c.args.page.now c.args.schema.now.dims c.args.schema.now.counts.few_dims
     read.listing.0 read.listing.1 read.listing.2 read.entries.0 read.entries.1
     (λ e. let yes : c.is_same.result ≡ true = c.is_same.ensures.1 (written ∙ e) in let no = c.if-not-is_same.true in cc) in

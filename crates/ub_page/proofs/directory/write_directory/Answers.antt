@@ -3,5 +3,5 @@ use Rattle.ub_page.proofs.directory.write_directory.Goals as goal
 
 pub returns : goal.returns
 returns c =
-    rw (c.finish.ensures, c.put_entries.ensures, c.put_u64.ensures.bytes, c.put_u32.ensures.bytes, c.put_u16.ensures.bytes, c.put_u8-2.ensures.bytes, c.put_u8.ensures.bytes, c.new-draft.ensures)
+    rw (c.put_entries.ensures, c.put_u64.ensures.bytes, c.put_u32.ensures.bytes, c.put_u16.ensures.bytes, c.put_u8-2.ensures.bytes, c.put_u8.ensures.bytes, c.clear.ensures)
     (written c.args.entries.now c.args.next)

@@ -5,7 +5,6 @@ use Rattle.ub_page.proofs.header.write_header.Goals as goal
 pub returns : goal.returns
 returns c =
     rw (
-      c.finish.ensures,
       c.put_names.ensures.bytes,
       c.put_name.ensures.bytes,
       c.put_u32-6.ensures.bytes,
@@ -20,7 +19,7 @@ returns c =
       c.put_u8-2.ensures.bytes,
       c.put_u8.ensures.bytes,
       c.put_u32.ensures.bytes,
-      c.new-draft.ensures,
+      c.clear.ensures,
     )
     (rw (c.state_of.ensures, c.dims.ensures.dims, c.measures.ensures.measures, c.page_rows.ensures.page_rows, c.name.ensures, c.columns.ensures.columns)
     (written (numbers_of c.args.header.now) c.args.header.now.schema.name c.args.header.now.schema.columns))

@@ -2,7 +2,7 @@ use Rattle.std.proofs.Common.{◌≡◌, ◌∙◌, ◌++◌, ap, if◌then◌el
 use Rattle.ub_tree.proofs.ShrinkFacts.{joins_one}
 use Rattle.ub_tree.proofs.TreeFacts.{seat_within}
 use Rattle.ub_tree.specs.View.{TreeView}
-use Rattle.ub_tree.proofs.tree.Tree.join_before.Goals.{then-join, else-join}
+use Rattle.ub_tree.proofs.tree.Tree.join_before.Goals.{then-join_before, else-join_before}
 use Rattle.ub_tree.proofs.tree.Tree.join_before.Goals as goal
 
 pub returns-clause-joined : goal.returns-clause-joined
@@ -11,13 +11,9 @@ returns-clause-joined g c = λ honest.
     let before = c.in-Some.before in
     let stands = rw c.in-Some.is at c.in_ok-before.ensures.before in
     let count = c.page_rows.ensures.page_rows ∙ ap (λ (v : TreeView). v.schema.page_rows) c.self.view_is in
-    let made : c.if-join.rows ≡ (if c.join.result then c.in_ok-all.all ++ c.args.rows.now else c.args.rows.now) = elim c.if-join.branch [
-      | then-join w ↦ w.rows-is ∙ c.join.ensures.rows ∙ rw w.if-join.true refl
-      | else-join w ↦ rw w.if-join.false w.rows-is
-    ] in
-    let joined = joins_one a c.seat_before.new.self c.rows_at.new.self c.args.seat.now.index before.index c.args.rows.now c.if-join.rows c.in_ok-all.all c.join.result c.page_rows.result
-    c.in_ok-before.ensures.effect.same c.in_ok-all.ensures.effect.same stands.1 (seat_within a.placed c.args.seat.now c.requires.seat) c.in_ok-all.ensures.rows count c.join.ensures.fit made honest in
-    elim c.if-join.branch [
-      | then-join w ↦ rw w.result-is (rw w.if-join.true at joined)
-      | else-join w ↦ rw w.result-is (rw w.if-join.false at joined)
+    let joined = joins_one a c.seat_before.new.self c.rows_at.new.self c.args.seat.now.index before.index c.args.room.now.rows c.join_before.new.self c.rows_at.new.rows c.join_before.result c.page_rows.result
+    c.in_ok-before.ensures.effect.same c.in_ok-rows_at.ensures.effect.same stands.1 (seat_within a.placed c.args.seat.now c.requires.seat) c.in_ok-rows_at.ensures.rows count c.join_before.ensures.fit c.join_before.ensures.rows honest in
+    elim c.if-join_before.branch [
+      | then-join_before w ↦ rw w.result-is (rw w.if-join_before.true at joined)
+      | else-join_before w ↦ rw w.result-is (rw w.if-join_before.false at joined)
     ]

@@ -13,7 +13,7 @@ returns-in-None-clause-joined g c = λ honest.
     let last = rw c.in-None.is at c.in_ok-next.ensures.after in
     let mapped = length-map a.placed entry_of in
     let long : length a.placed ≡ suc c.args.seat.now.index = omega arith in
-    join_last a.schema.page_rows c.args.seat.now.index c.args.rows.now (regions a) (length-regions a.placed ∙ long)
+    join_last a.schema.page_rows c.args.seat.now.index c.args.room.now.rows (regions a) (length-regions a.placed ∙ long)
 
 pub returns-clause-joined : goal.returns-clause-joined
 returns-clause-joined g c = λ honest.
@@ -21,8 +21,8 @@ returns-clause-joined g c = λ honest.
     let next = c.in-Some.next in
     let stands = rw c.in-Some.is at c.in_ok-next.ensures.after in
     let count = c.page_rows.ensures.page_rows ∙ ap (λ (v : TreeView). v.schema.page_rows) c.self.view_is in
-    let joined = joins_next a c.seat_after.new.self c.rows_at.new.self c.args.seat.now.index next.index c.args.rows.now c.join.new.self c.in_ok-more.more c.join.result c.page_rows.result
-    c.in_ok-next.ensures.effect.same c.in_ok-more.ensures.effect.same stands.1 (seat_within a.placed next stands.0) c.in_ok-more.ensures.rows count c.join.ensures.fit c.join.ensures.rows honest in
+    let joined = joins_next a c.seat_after.new.self c.rows_at.new.self c.args.seat.now.index next.index c.args.room.now.rows c.join.new.self c.rows_at.new.rows c.join.result c.page_rows.result
+    c.in_ok-next.ensures.effect.same c.in_ok-rows_at.ensures.effect.same stands.1 (seat_within a.placed next stands.0) c.in_ok-rows_at.ensures.rows count c.join.ensures.fit c.join.ensures.rows honest in
     elim c.if-join.branch [
       | then-join w ↦ rw w.result-is (rw w.if-join.true at joined)
       | else-join w ↦ rw w.result-is (rw w.if-join.false at joined)

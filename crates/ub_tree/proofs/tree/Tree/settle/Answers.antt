@@ -6,15 +6,15 @@ use Rattle.ub_tree.specs.Change.{IsStored}
 use Rattle.ub_tree.specs.View.{TreeView, regions}
 use Rattle.ub_tree.proofs.ShrinkFacts.{settled_large, settled_alone, settled_before}
 use Rattle.ub_tree.proofs.TreeFacts.{seat_within}
-use Rattle.ub_tree.proofs.WriteFacts.{changed_by, then_changed}
+use Rattle.ub_tree.proofs.WriteFacts.{changed_by, searched_by, then_changed}
 use Rattle.ub_tree.proofs.tree.Tree.settle.Goals as goal
 
 pub returns-then-not-are_few-clause-written : goal.returns-then-not-are_few-clause-written
 returns-then-not-are_few-clause-written g c = λ stored.
     let a = c.args.self.now in
     let count : c.page_rows.result ≡ a.schema.page_rows = c.page_rows.ensures.page_rows ∙ ap (λ (v : TreeView). v.schema.page_rows) c.self.view_is in
-    let large : nat_lt (length c.args.rows.now) (a.schema.page_rows / 2) ≡ false = rw (← count) (sym c.are_few.ensures ∙ c.if-not-are_few.true) in
-    settled_large a c.rewrite.new.self c.rewrite.result c.args.seat.now.index c.args.rows.now (seat_within a.placed c.args.seat.now c.requires.seat) large (rw c.as_slice.ensures.rows at c.rewrite.ensures.written stored)
+    let large : nat_lt (length c.args.room.now.rows) (a.schema.page_rows / 2) ≡ false = rw (← count) (sym c.are_few.ensures ∙ c.if-not-are_few.true) in
+    settled_large a c.rewrite.new.self c.rewrite.result c.args.seat.now.index c.args.room.now.rows (seat_within a.placed c.args.seat.now c.requires.seat) large (rw c.as_slice.ensures.rows at c.rewrite.ensures.written stored)
 
 pub returns-in-Some-clause-effect : goal.returns-in-Some-clause-effect
 returns-in-Some-clause-effect g c = then_changed c.join_at.result c.args.self.now c.join_next.new.self c.join_at.new.self c.in_ok-next.ensures.effect.same c.join_at.ensures.effect
@@ -28,23 +28,23 @@ returns-in-Some-2-clause-written g c =
     let a = c.args.self.now in
     let d = c.join_at-in-Some-2.new.self in
     let count : c.page_rows.result ≡ a.schema.page_rows = c.page_rows.ensures.page_rows ∙ ap (λ (v : TreeView). v.schema.page_rows) c.self.view_is in
-    let few : nat_lt (length c.args.rows.now) (a.schema.page_rows / 2) ≡ true = rw (← count) (sym c.are_few.ensures ∙ c.if-not-are_few.false) in
+    let few : nat_lt (length c.args.room.now.rows) (a.schema.page_rows / 2) ≡ true = rw (← count) (sym c.are_few.ensures ∙ c.if-not-are_few.false) in
     let stands = rw c.in-Some-2.is at c.in_ok-before.ensures.before in
     let after = stands.1 in
     let index : c.in-Some-2.before.index ≡ c.args.seat.now.index - 1 = omega arith in
-    let new = c.join_before.new.rows in
+    let new = c.join_before.new.room.rows in
     let b = c.join_before.new.self in
     let written = subst (λ (n : ℕ). IsStored b → AllByRecursion (IsRegion b.schema) (put_rows n true new (regions b))
     → OnOk c.join_at-in-Some-2.result (IsStored d × (regions d ≡ put_rows n true new (regions b)))) index (rw c.as_slice-in-Some-2.ensures.rows at c.join_at-in-Some-2.ensures.written) in
-    settled_before a c.join_next.new.self b d c.join_at-in-Some-2.result c.args.seat.now.index c.args.rows.now c.join_next.new.rows new (seat_within a.placed c.args.seat.now c.requires.seat) few
+    settled_before a c.join_next.new.self b d c.join_at-in-Some-2.result c.args.seat.now.index c.args.room.now.rows c.join_next.new.room.rows new (seat_within a.placed c.args.seat.now c.requires.seat) few
     c.in_ok-next.ensures.effect.same c.in_ok-before.ensures.effect.same (rw c.in_default.is at c.in_ok-next.ensures.joined) (rw c.in-Some-2.is at c.in_ok-before.ensures.joined) written
 
 pub returns-clause-written : goal.returns-clause-written
 returns-clause-written g c =
     let a = c.args.self.now in
     let count : c.page_rows.result ≡ a.schema.page_rows = c.page_rows.ensures.page_rows ∙ ap (λ (v : TreeView). v.schema.page_rows) c.self.view_is in
-    let few : nat_lt (length c.args.rows.now) (a.schema.page_rows / 2) ≡ true = rw (← count) (sym c.are_few.ensures ∙ c.if-not-are_few.false) in
-    settled_alone a c.join_next.new.self c.join_before.new.self c.rewrite-2.new.self c.rewrite-2.result c.args.seat.now.index c.args.rows.now c.join_next.new.rows c.join_before.new.rows
+    let few : nat_lt (length c.args.room.now.rows) (a.schema.page_rows / 2) ≡ true = rw (← count) (sym c.are_few.ensures ∙ c.if-not-are_few.false) in
+    settled_alone a c.join_next.new.self c.join_before.new.self c.rewrite-2.new.self c.rewrite-2.result c.args.seat.now.index c.args.room.now.rows c.join_next.new.room.rows c.join_before.new.room.rows
     (seat_within a.placed c.args.seat.now c.requires.seat) few c.in_ok-next.ensures.effect.same c.in_ok-before.ensures.effect.same
     (rw c.in_default.is at c.in_ok-next.ensures.joined) (rw c.in_default-2.is at c.in_ok-before.ensures.joined) (rw c.as_slice-2.ensures.rows at c.rewrite-2.ensures.written)
 
@@ -52,3 +52,8 @@ pub returns-clause-effect : goal.returns-clause-effect
 returns-clause-effect g c =
     then_changed c.rewrite-2.result c.args.self.now c.join_before.new.self c.rewrite-2.new.self (c.in_ok-before.ensures.effect.same ∙ c.in_ok-next.ensures.effect.same)
     (changed_by c.rewrite-2.result c.join_before.new.self c.rewrite-2.new.self c.rewrite-2.ensures.effect)
+
+pub returns-in_err-before-clause-effect : goal.returns-in_err-before-clause-effect
+returns-in_err-before-clause-effect g c =
+    then_changed c.from_residual-in_err-before.result c.args.self.now c.join_next.new.self c.join_before.new.self c.in_ok-next.ensures.effect.same
+    (searched_by c.from_residual-in_err-before.result c.in_err-before.field-0.0 c.join_next.new.self c.join_before.new.self c.from_residual-in_err-before.ensures.1 c.in_err-before.ensures.effect)

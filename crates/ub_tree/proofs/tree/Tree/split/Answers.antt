@@ -1,4 +1,4 @@
-use Rattle.std.proofs.Common.{◌≡◌, ◌<◌, ◌+◌, ◌∙◌, ◌∷◌, [], List, true, Some, Err, ap, subst, refl, length, slice_get}
+use Rattle.std.proofs.Common.{◌≡◌, ◌<◌, ◌+◌, ◌∙◌, ◌∷◌, [], List, true, Some, Err, ap, subst, refl, length, slice_get, option_copied}
 use Rattle.std.specs.List.{insert}
 use Rattle.ub_directory.specs.View.{AddingView}
 use Rattle.ub_page.specs.Region.{region_page}
@@ -12,7 +12,7 @@ use Rattle.ub_tree.specs.View.{TreeView}
 use Rattle.ub_tree.specs.declared.fault.TreeFault.TheVariants.{Store}
 use Rattle.ub_tree.proofs.CallFacts.{missing_there, past_pages, tree_entry_known, write_refused, known_is, seated}
 use Rattle.ub_tree.proofs.TreeFacts.{contained_at, placed_at, entries_back}
-use Rattle.ub_tree.proofs.WriteFacts.{halved, halves_missing, marks_first, own_page, wrote, ended_by, put_is, grown_then, left_by, ready_leaves, ready_stored, ready_fresh, ready_number, ready_later}
+use Rattle.ub_tree.proofs.WriteFacts.{halved, halves_missing, marks_first, unmarked, own_page, wrote, ended_by, put_is, grown_then, left_by, ready_leaves, ready_stored, ready_fresh, ready_number, ready_later}
 use Rattle.ub_tree.proofs.tree.Tree.split.Goals as goal
 
 pub prepare_add-requires : goal.prepare_add-requires
@@ -40,26 +40,26 @@ pub returns-in-Ok-clause-written : goal.returns-in-Ok-clause-written
 returns-in-Ok-clause-written g c =
     let t = c.self.inside in
     let stands = seated t.schema t.directory.entries t.directory.chain t.next t.rows t.is_changed t.is_failed t.pager c.args.self.now c.args.seat.now c.self.view_is c.requires.seat in
-    let e : Entry = record { first = c.first.result; page = c.page.result } in
-    let at : slice_get t.directory.entries c.args.seat.now.index ≡ Some e = rw (c.first.ensures, c.page.ensures) stands.entry in
+    let e : Entry = record { first = c.first.result; page = c.page-2.result } in
+    let at : slice_get t.directory.entries c.args.seat.now.index ≡ Some e = rw (c.first.ensures, c.page-2.ensures) stands.entry in
     let number = c.in_ok-number.number in
     let x : Entry = record { first = c.args.halves.now.first; page = number } in
     let halves = c.args.halves.now in
     rw (← c.self.view_is, c.commit_add.ensures.same, c.in_ok-adding.ensures.adding, c.in_ok-adding.ensures.same, c.in-Ok.ensures.marked, c.in_ok-number.ensures.working) (λ stored p there good_left good_right.
     let grown = ready_stored t.schema t.directory.entries t.directory.chain t.next t.rows t.is_changed t.is_failed t.pager c.prepare_add.new.pager c.add_page.new.pager AddingView c.in_ok-adding.adding c.in_ok-adding.ensures.effect c.in_ok-number.ensures.added c.in_ok-number.ensures.left c.in_ok-number.ensures.trace stored in
     let fresh = ready_fresh t.schema t.directory.entries t.directory.chain t.next t.rows t.is_changed t.is_failed t.pager c.prepare_add.new.pager c.add_page.new.pager AddingView c.in_ok-adding.adding c.in_ok-adding.ensures.effect c.in_ok-number.ensures.added c.in_ok-number.ensures.left c.in_ok-number.ensures.trace number c.in_ok-number.ensures.number stored in
-    let both = halved t.schema t.directory.entries t.directory.chain t.next t.rows t.is_changed t.is_failed c.add_page.new.pager c.write_pages.new.pager c.args.seat.now.index e x halves.left halves.right
-    c.write_region-left.result c.write_region-right.result at (rw c.as_slice.ensures.rows at c.write_region-left.ensures.page) (rw c.as_slice.ensures.rows at c.write_region-left.ensures.reads_back)
-    (rw c.as_slice-2.ensures.rows at c.write_region-right.ensures.page) (rw c.as_slice-2.ensures.rows at c.write_region-right.ensures.reads_back)
+    let both = halved t.schema t.directory.entries t.directory.chain t.next t.rows t.is_changed t.is_failed c.add_page.new.pager c.write_pages.new.pager c.args.seat.now.index e x halves.left.now halves.right.now
+    c.page-3.result.now c.page.result.now at (c.page-3.ensures ∙ c.write_region.ensures.page) (rw c.page-3.ensures c.write_region.ensures.reads_back)
+    (c.page.ensures ∙ c.write_region-2.ensures.page) (rw c.page.ensures c.write_region-2.ensures.reads_back)
     c.in-Ok.ensures.put (ap (λ (s : StoreFacts). s.honest) c.in-Ok.ensures.effect.same) p grown.0 fresh (ap (λ (ps : List Placed). slice_get ps c.args.seat.now.index) grown.1 ∙ there) good_left good_right in
-    (both.0, (number, both.1 ∙ ap (λ (ps : List Placed). placed_with c.args.seat.now.index (record { page = p.page; region = record { first = p.region.first; rows = halves.left } } ∷ record { page = number; region = record { first = halves.first; rows = halves.right } } ∷ []) ps) grown.1)))
+    (both.0, (number, both.1 ∙ ap (λ (ps : List Placed). placed_with c.args.seat.now.index (record { page = p.page; region = record { first = p.region.first; rows = halves.left.now } } ∷ record { page = number; region = record { first = halves.first; rows = halves.right.now } } ∷ []) ps) grown.1)))
 
 pub returns-in-Ok-clause-effect : goal.returns-in-Ok-clause-effect
 returns-in-Ok-clause-effect g c =
     let t = c.self.inside in
     let stands = seated t.schema t.directory.entries t.directory.chain t.next t.rows t.is_changed t.is_failed t.pager c.args.self.now c.args.seat.now c.self.view_is c.requires.seat in
-    let e : Entry = record { first = c.first.result; page = c.page.result } in
-    let at : slice_get t.directory.entries c.args.seat.now.index ≡ Some e = rw (c.first.ensures, c.page.ensures) stands.entry in
+    let e : Entry = record { first = c.first.result; page = c.page-2.result } in
+    let at : slice_get t.directory.entries c.args.seat.now.index ≡ Some e = rw (c.first.ensures, c.page-2.ensures) stands.entry in
     let number = c.in_ok-number.number in
     let x : Entry = record { first = c.args.halves.now.first; page = number } in
     let failed = c.add_page.new.is_failed in
@@ -72,7 +72,7 @@ returns-in-Ok-clause-effect g c =
     (wrote t.schema t.directory.entries later t.directory.chain t.next t.rows t.is_changed c.write_pages.new.is_changed t.is_failed t.is_failed c.add_page.new.pager c.write_pages.new.pager
     _ c.in-Ok.ensures.effect.same c.in-Ok.ensures.trace
     (marks_first t.schema t.directory.entries later t.directory.chain t.next t.rows t.is_changed c.write_pages.new.is_changed t.is_failed t.is_failed c.add_page.new.pager c.write_pages.new.pager
-    c.mark-mark.result (number ∷ e.page ∷ []) (rw (← c.self.view_is) at c.mark-mark.ensures.changed) (rw (← c.self.view_is) at c.mark-mark.ensures.page) (rw c.as_ref.ensures.value at c.write_pages.ensures.marks)
+    (option_copied c.mark-mark.result) (number ∷ e.page ∷ []) (unmarked c.mark-mark.result _ (rw (← c.self.view_is) at c.mark-mark.ensures.changed)) (rw (← c.self.view_is) at c.mark-mark.ensures.page) c.write_pages.ensures.marks
     (λ sound. (
       ready_later t.schema t.directory.entries t.directory.chain t.next t.rows t.is_changed t.is_failed t.pager c.prepare_add.new.pager c.add_page.new.pager AddingView c.in_ok-adding.adding c.in_ok-adding.ensures.effect c.in_ok-number.ensures.added c.in_ok-number.ensures.left c.in_ok-number.ensures.trace number c.in_ok-number.ensures.number c.self.invariant.some_chain sound,
       (own_page t.schema t.directory.entries t.directory.chain c.add_page.new.pager.store.pages (known_pages c.add_page.new.pager.store) c.args.seat.now.index e sound.placed_are at, tt),
@@ -83,8 +83,8 @@ pub returns-in-Err-clause-effect : goal.returns-in-Err-clause-effect
 returns-in-Err-clause-effect g c =
     let t = c.self.inside in
     let stands = seated t.schema t.directory.entries t.directory.chain t.next t.rows t.is_changed t.is_failed t.pager c.args.self.now c.args.seat.now c.self.view_is c.requires.seat in
-    let e : Entry = record { first = c.first.result; page = c.page.result } in
-    let at : slice_get t.directory.entries c.args.seat.now.index ≡ Some e = rw (c.first.ensures, c.page.ensures) stands.entry in
+    let e : Entry = record { first = c.first.result; page = c.page-2.result } in
+    let at : slice_get t.directory.entries c.args.seat.now.index ≡ Some e = rw (c.first.ensures, c.page-2.ensures) stands.entry in
     let number = c.in_ok-number.number in
     let x : Entry = record { first = c.args.halves.now.first; page = number } in
     let first = tree_view t.schema t.directory.entries t.directory.chain t.next t.rows t.is_changed t.is_failed t.pager in
@@ -96,7 +96,7 @@ returns-in-Err-clause-effect g c =
     (wrote t.schema t.directory.entries t.directory.entries t.directory.chain t.next t.rows t.is_changed c.write_pages.new.is_changed t.is_failed true c.add_page.new.pager c.write_pages.new.pager
     (Err (Store c.in-Err.cause)) (c.in-Err.ensures.effect.same ∙ put_is (Unit {0}) (Unit {0}) c.in-Err.cause c.add_page.new.pager.store c.write_pages.new.pager.store) c.in-Err.ensures.trace
     (marks_first t.schema t.directory.entries t.directory.entries t.directory.chain t.next t.rows t.is_changed c.write_pages.new.is_changed t.is_failed true c.add_page.new.pager c.write_pages.new.pager
-    c.mark-mark.result (number ∷ e.page ∷ []) (rw (← c.self.view_is) at c.mark-mark.ensures.changed) (rw (← c.self.view_is) at c.mark-mark.ensures.page) (rw c.as_ref.ensures.value at c.write_pages.ensures.marks)
+    (option_copied c.mark-mark.result) (number ∷ e.page ∷ []) (unmarked c.mark-mark.result _ (rw (← c.self.view_is) at c.mark-mark.ensures.changed)) (rw (← c.self.view_is) at c.mark-mark.ensures.page) c.write_pages.ensures.marks
     (λ sound. (
       ready_later t.schema t.directory.entries t.directory.chain t.next t.rows t.is_changed t.is_failed t.pager c.prepare_add.new.pager c.add_page.new.pager AddingView c.in_ok-adding.adding c.in_ok-adding.ensures.effect c.in_ok-number.ensures.added c.in_ok-number.ensures.left c.in_ok-number.ensures.trace number c.in_ok-number.ensures.number c.self.invariant.some_chain sound,
       (own_page t.schema t.directory.entries t.directory.chain c.add_page.new.pager.store.pages (known_pages c.add_page.new.pager.store) c.args.seat.now.index e sound.placed_are at, tt),

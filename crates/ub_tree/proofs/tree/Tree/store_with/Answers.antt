@@ -1,6 +1,7 @@
 use Rattle.std.proofs.Common.{◌≡◌, ◌<◌, ◌∙◌, ℕ, List, true, nat_le, ap, sym, subst, length, arith}
 use Rattle.std.proofs.lemmas.Bool.{le-leb}
 use Rattle.std.specs.List.{insert}
+use Rattle.ub_page.specs.Bytes.{padded}
 use Rattle.ub_page.specs.Region.{RegionView, region_page}
 use Rattle.ub_region.proofs.Laws.{length-insert_row}
 use Rattle.ub_region.specs.Rows.{insert_row, split}
@@ -22,7 +23,7 @@ split_with-requires-clause-room g c =
     let same : c.page_rows.result ≡ b.schema.page_rows = c.page_rows.ensures.page_rows ∙ ap (λ (v : TreeView). v.schema.page_rows) c.self.view_is in
     let full : length rows ≡ b.schema.page_rows = sym c.len.ensures.len ∙ c.if-len-page_rows.true ∙ same in
     let room = c.requires.room (let more = length-insert_row b.schema.dims row rows in omega arith) in
-    subst (λ (rs : List Row). HasRoom c.args.seat.now.index (split b.schema.dims b.schema.page_rows rs).first b) (made ∙ ap (λ (rs : List Row). insert rs c.index_in-index.result row) (sym c.rows.ensures.rows)) room
+    subst (λ (rs : List Row). HasRoom c.args.seat.now.index (split b.schema.dims b.schema.page_rows rs).first b) made room
 
 pub returns-clause-written : goal.returns-clause-written
 returns-clause-written g c = λ stored p there all.
@@ -41,6 +42,6 @@ returns-clause-written g c = λ stored p there all.
     ap (λ (v : RegionView). v.region) c.insert_at.ensures
     ∙ ap (λ (k : Key). record { first = k; rows = insert rows c.index_in-index.result row }) c.requires.first
     ∙ ap (λ (rs : List Row). record { first = c.args.seat.now.first; rows = rs }) (sym made) in
-    let page : c.page.result.now ≡ region_page b.schema (record { first = c.args.seat.now.first; rows = new }) =
-    c.page.ensures ∙ c.write.ensures ∙ ap (λ (v : TreeView). region_page v.schema c.insert_at.new.self.region) c.self.view_is ∙ ap (region_page b.schema) region in
+    let page : padded c.write.new.draft ≡ region_page b.schema (record { first = c.args.seat.now.first; rows = new }) =
+    c.write.ensures ∙ ap (λ (v : TreeView). region_page v.schema c.insert_at.new.self.region) c.self.view_is ∙ ap (region_page b.schema) region in
     one_stored b c.put_page.new.self index p new c.put_page.result fits (c.put_page.ensures.written stored p new there (one_region b c.put_page.new.self index p new fits all) page)

@@ -1,6 +1,6 @@
-use Rattle.std.proofs.Common.{refl, rules}
+use Rattle.std.proofs.Common.{◌∙◌, refl, rules}
 use Rattle.ub_tree.proofs.CloseFacts.{header_in_range}
-use Rattle.ub_tree.proofs.header.mark_page.Goals as goal
+use Rattle.ub_tree.proofs.header.write_mark.Goals as goal
 
 pub returns : goal.returns
 returns c = (
@@ -11,5 +11,5 @@ returns c = (
     unclean = refl;
     schema_is = c.copy.ensures;
   },
-  c.write_header.ensures,
+  c.page.ensures ∙ c.write_header.ensures,
 )

@@ -1,0 +1,102 @@
+use Rattle.std.proofs.Common.{◌≡◌, ◌<◌, ◌-◌, ◌^◌, ◌∙◌, ap, sym, subst, length, arith, true, false, refl, inl, inr, Bool, ℕ, Some, slice_get}
+use Rattle.ub_region.proofs.Laws.{length-remove_row}
+use Rattle.ub_region.specs.Rows.{has_key, remove_row}
+use Rattle.ub_table.specs.declared.fault.PageFault.TheVariants.{BadCount}
+use Rattle.ub_tree.specs.declared.fault.TreeFault.TheVariants.{Page}
+use Rattle.ub_tree.specs.Effects.{Changes}
+use Rattle.ub_store.specs.Facts.{IsHonest}
+use Rattle.ub_tree.specs.Placed.{Placed}
+use Rattle.ub_tree.specs.Tree.{known_pages, tree_view}
+use Rattle.ub_tree.specs.View.{TreeView}
+use Rattle.ub_tree.proofs.ShrinkFacts.{holder, none_removed, some_counted, shrunk}
+use Rattle.ub_tree.proofs.CallFacts.{same_seat}
+use Rattle.ub_tree.proofs.TreeFacts.{length-placed}
+use Rattle.ub_tree.proofs.WriteFacts.{counted_anew, left_by, nothing_changed, searched_by, then_changed, unchanged}
+use Rattle.ub_tree.proofs.tree.Tree.remove_within.Goals as goal
+
+pub returns-then-not-remove-clause-removed : goal.returns-then-not-remove-clause-removed
+returns-then-not-remove-clause-removed g c =
+    let a = c.args.self.now in
+    let b = c.rows_at.new.self in
+    let key = c.args.key.now in
+    let rows = c.rows_at.new.rows in
+    let same : b ≡ a = c.in_ok-rows_at.ensures.effect.same ∙ c.in_ok-seat.ensures.effect.same in
+    let read = subst (λ (v : TreeView). IsHonest v.store → (p : Placed) → slice_get v.placed c.in_ok-seat.seat.index ≡ Some p → rows ≡ p.region.rows) c.in_ok-seat.ensures.effect.same c.in_ok-rows_at.ensures.rows in
+    let held = holder a key c.in_ok-seat.seat rows c.in_ok-seat.ensures.seat c.in_ok-seat.ensures.index read in
+    let dims : c.shape.result ≡ a.schema.dims = c.shape.ensures ∙ ap (λ (v : TreeView). v.schema.dims) (c.self.view_is ∙ same) in
+    let found : has_key a.schema.dims key rows ≡ false = rw (← dims) (sym c.remove.ensures.found ∙ c.if-not-remove.true) in
+    none_removed a b key c.in_ok-seat.seat.index rows held same found
+
+pub returns-then-self-eq0-clause-effect : goal.returns-then-self-eq0-clause-effect
+returns-then-self-eq0-clause-effect g c =
+    let a = c.args.self.now in
+    let b = c.rows_at.new.self in
+    let key = c.args.key.now in
+    let rows = c.rows_at.new.rows in
+    let same : b ≡ a = c.in_ok-rows_at.ensures.effect.same ∙ c.in_ok-seat.ensures.effect.same in
+    let read = subst (λ (v : TreeView). IsHonest v.store → (p : Placed) → slice_get v.placed c.in_ok-seat.seat.index ≡ Some p → rows ≡ p.region.rows) c.in_ok-seat.ensures.effect.same c.in_ok-rows_at.ensures.rows in
+    let held = holder a key c.in_ok-seat.seat rows c.in_ok-seat.ensures.seat c.in_ok-seat.ensures.index read in
+    let dims : c.shape.result ≡ a.schema.dims = c.shape.ensures ∙ ap (λ (v : TreeView). v.schema.dims) (c.self.view_is ∙ same) in
+    let found : has_key a.schema.dims key rows ≡ true = rw (← dims) (sym c.remove.ensures.found ∙ c.if-not-remove.false) in
+    let none : a.rows ≡ 0 = sym (ap (λ (v : TreeView). v.rows) (c.self.view_is ∙ same)) ∙ c.if-self-eq0.true in
+    subst (λ (v : TreeView). Changes {A = Bool} a v _) (sym same) (unchanged (Page 0 BadCount) a (some_counted a key c.in_ok-seat.seat.index rows held found none, inr (inl (refl, refl, none)), refl))
+
+pub returns-in_err-seat-clause-effect : goal.returns-in_err-seat-clause-effect
+returns-in_err-seat-clause-effect g c =
+    searched_by c.from_residual.result c.in_err-seat.field-0.0 c.args.self.now c.seat_of.new.self c.from_residual.ensures.1 c.in_err-seat.ensures.effect
+
+pub rows_at-requires : goal.rows_at-requires
+rows_at-requires g c = same_seat c.args.self.now c.seat_of.new.self c.in_ok-seat.seat c.in_ok-seat.ensures.effect.same c.in_ok-seat.ensures.seat
+
+pub settle-requires-clause-seat : goal.settle-requires-clause-seat
+settle-requires-clause-seat g c =
+    same_seat c.args.self.now c.rows_at.new.self c.in_ok-seat.seat (c.in_ok-rows_at.ensures.effect.same ∙ c.in_ok-seat.ensures.effect.same) c.in_ok-seat.ensures.seat
+
+pub returns-in_err-rows_at-clause-effect : goal.returns-in_err-rows_at-clause-effect
+returns-in_err-rows_at-clause-effect g c =
+    then_changed c.from_residual-in_err-rows_at.result c.args.self.now c.seat_of.new.self c.rows_at.new.self c.in_ok-seat.ensures.effect.same
+    (searched_by c.from_residual-in_err-rows_at.result c.in_err-rows_at.field-0.0 c.seat_of.new.self c.rows_at.new.self c.from_residual-in_err-rows_at.ensures.1 c.in_err-rows_at.ensures.effect)
+
+pub returns-then-not-remove-clause-effect : goal.returns-then-not-remove-clause-effect
+returns-then-not-remove-clause-effect g c = nothing_changed _ c.args.self.now c.rows_at.new.self (c.in_ok-rows_at.ensures.effect.same ∙ c.in_ok-seat.ensures.effect.same)
+
+pub returns-in_err-settle-clause-effect : goal.returns-in_err-settle-clause-effect
+returns-in_err-settle-clause-effect g c =
+    left_by c.from_residual-in_err-settle.result c.in_err-settle.field-0.0 c.args.self.now c.settle.new.self c.from_residual-in_err-settle.ensures.1
+    (then_changed {T = Unit {0}} _ c.args.self.now c.rows_at.new.self c.settle.new.self (c.in_ok-rows_at.ensures.effect.same ∙ c.in_ok-seat.ensures.effect.same) c.in_err-settle.ensures.effect)
+
+pub returns-clause-effect : goal.returns-clause-effect
+returns-clause-effect g c =
+    let u = c.self-2.inside in
+    let mid = c.settle.new.self in
+    let d : TreeView = tree_view u.schema u.directory.entries u.directory.chain u.next (u.rows - 1) u.is_changed u.is_failed u.pager in
+    counted_anew {T = Unit {0}} {U = Bool} tt _ c.args.self.now mid d mid.placed (mid.rows - 1) mid.next (ap (λ (v : TreeView). record v { rows = v.rows - 1 }) c.self-2.view_is)
+    (then_changed {T = Unit {0}} _ c.args.self.now c.rows_at.new.self mid (c.in_ok-rows_at.ensures.effect.same ∙ c.in_ok-seat.ensures.effect.same) c.in_ok-settle.ensures.effect)
+
+pub settle-requires-clause-few : goal.settle-requires-clause-few
+settle-requires-clause-few g c =
+    let less = length-remove_row c.shape.result c.args.key.now c.rows_at.new.rows in
+    let same = ap (λ (v : TreeView). v.schema.page_rows) c.in_ok-rows_at.ensures.effect.same in
+    let few = c.in_ok-rows_at.ensures.few in
+    rw c.remove.ensures.rows (omega arith)
+
+pub returns-clause-removed : goal.returns-clause-removed
+returns-clause-removed g c =
+    let a = c.args.self.now in
+    let b = c.rows_at.new.self in
+    let key = c.args.key.now in
+    let rows = c.rows_at.new.rows in
+    let same : b ≡ a = c.in_ok-rows_at.ensures.effect.same ∙ c.in_ok-seat.ensures.effect.same in
+    let read = subst (λ (v : TreeView). IsHonest v.store → (p : Placed) → slice_get v.placed c.in_ok-seat.seat.index ≡ Some p → rows ≡ p.region.rows) c.in_ok-seat.ensures.effect.same c.in_ok-rows_at.ensures.rows in
+    let held = holder a key c.in_ok-seat.seat rows c.in_ok-seat.ensures.seat c.in_ok-seat.ensures.index read in
+    let dims_b : c.shape.result ≡ b.schema.dims = c.shape.ensures ∙ ap (λ (v : TreeView). v.schema.dims) c.self.view_is in
+    let dims : c.shape.result ≡ a.schema.dims = c.shape.ensures ∙ ap (λ (v : TreeView). v.schema.dims) (c.self.view_is ∙ same) in
+    let found : has_key a.schema.dims key rows ≡ true = rw (← dims) (sym c.remove.ensures.found ∙ c.if-not-remove.false) in
+    let left : c.remove.new.self ≡ remove_row b.schema.dims key rows = c.remove.ensures.rows ∙ ap (λ (d : ℕ). remove_row d key rows) dims_b in
+    let after = c.settle.new.self in
+    let u = c.self-2.inside in
+    let d : TreeView = tree_view u.schema u.directory.entries u.directory.chain u.next (u.rows - 1) u.is_changed u.is_failed u.pager in
+    let few : length after.placed < 2 ^ 32 = (let most = c.self-2.invariant.few in subst (λ (v : TreeView). length v.placed < 2 ^ 32) c.self-2.view_is
+    (let long = length-placed u.schema (known_pages u.pager.store) u.directory.entries in omega arith)) in
+    shrunk a b after d key c.in_ok-seat.seat.index rows held same found c.in_ok-settle.ensures.same c.in_ok-settle.ensures.effect.marked.marked few
+    (ap (λ (v : TreeView). record v { rows = v.rows - 1 }) c.self-2.view_is) (rw left at c.in_ok-settle.ensures.written)
