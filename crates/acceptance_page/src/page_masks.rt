@@ -163,12 +163,7 @@ fn masks_the_second_of_two(rt: HostRuntime) -> Result<(), Fail> {
         measures: [0; 4],
     };
     let mut draft = Draft::new();
-    write_region(
-        &schema,
-        Key { z: 0, number: 0 },
-        &[row, second],
-        &mut draft,
-    );
+    write_region(&schema, Key { z: 0, number: 0 }, &[row, second], &mut draft);
     let region = RegionPage::read(&schema, draft.page())?;
     assert_eq!(rt; mask(&schema, &region, &[0; 4], &[0, 3, 0, 0]), Some(0b10));
     Ok(())

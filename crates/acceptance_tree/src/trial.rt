@@ -2,9 +2,9 @@
 use crate::samples::Store;
 use std::alloc::Global;
 use ub_bigmin::ZBox;
-use ub_page::{Page, read_directory};
+use ub_page::{Page, RegionPage, read_directory};
 use ub_store::{FaultyStore, MemStore, PageStore, Rejected, StoreFault};
-use ub_table::{Key, PageFault, Row, Schema};
+use ub_table::{Key, PageFault, Schema};
 use ub_tree::{Region, Tree, TreeFault};
 use ub_zaddr::{Point, Shape};
 
@@ -225,12 +225,11 @@ fn read(tree: &mut Tree<Store>, z: u128, page: Option<u32>) -> Answer {
     region.page = page.unwrap_or(region.page);
     let mut held = tree.empty_region();
     tree.read_region(&region, &mut held)?;
-    let rows = held.rows();
     Ok([
         region.from,
         region.to,
-        number_of(rows.first()),
-        number_of(rows.last()),
+        number_at(&held, 0),
+        number_at(&held, held.len().saturating_sub(1)),
     ])
 }
 
@@ -280,10 +279,12 @@ fn box_from(low: u32) -> Option<ZBox> {
     ZBox::new(shape, &lo, &hi)
 }
 
-fn number_of(row: Option<&Row>) -> u128 {
-    match row {
-        Some(row) => u128::from(row.number),
-        None => 0,
+// The number of the row at an index of a region, 0 where there is none.
+fn number_at(page: &RegionPage, i: usize) -> u128 {
+    if i < page.len() {
+        u128::from(page.row(i).number)
+    } else {
+        0
     }
 }
 

@@ -3,7 +3,8 @@ use crate::numbers::Numbers;
 use crate::plane::{Store, address, created, put};
 use crate::trouble::Trouble;
 use std::alloc::Global;
-use ub_table::{Key, Row};
+use ub_page::RegionPage;
+use ub_table::Key;
 use ub_tree::{Region, Tree, TreeFault};
 
 /// What some changes leave.
@@ -18,8 +19,9 @@ pub struct Left {
 }
 
 // Whether each row of a region's page is one of the model's, in that region.
-fn are_there(model: &Model, first: &Key, rows: &[Row]) -> bool {
-    for row in rows {
+fn are_there(model: &Model, first: &Key, page: &RegionPage) -> bool {
+    for i in 0..page.len() {
+        let row = page.row(i);
         let key = Key {
             z: address(row.dims[0], row.dims[1]),
             number: row.number,
@@ -28,7 +30,7 @@ fn are_there(model: &Model, first: &Key, rows: &[Row]) -> bool {
             return false;
         }
     }
-    rows.len() == model.size(first)
+    page.len() == model.size(first)
 }
 
 /// Whether the tree has the regions and the rows of the model.
@@ -41,7 +43,7 @@ pub fn is_like(tree: &mut Tree<Store>, model: &Model) -> Result<bool, TreeFault>
             return Ok(false);
         };
         tree.read_region(&region, &mut page)?;
-        if first != Some(region.first) || !are_there(model, &region.first, page.rows()) {
+        if first != Some(region.first) || !are_there(model, &region.first, &page) {
             return Ok(false);
         }
         first = model.next(&region.first);
@@ -91,10 +93,11 @@ pub fn change(
     Ok(is_there == model.remove(alloc, &key)?)
 }
 
-// The checksum with these rows.
-fn with_rows(rows: &[Row], sum: u128) -> u128 {
+// The checksum with the rows of a region's page.
+fn with_rows(page: &RegionPage, sum: u128) -> u128 {
     let mut sum = sum;
-    for row in rows {
+    for i in 0..page.len() {
+        let row = page.row(i);
         let z = address(row.dims[0], row.dims[1]);
         sum = sum.rotate_left(7) ^ (u128::from(row.number) << 6) ^ z;
     }
@@ -113,7 +116,7 @@ pub fn rows_read(tree: &mut Tree<Store>) -> Result<(usize, u128), TreeFault> {
         };
         tree.read_region(&region, &mut page)?;
         count = count.wrapping_add(page.len());
-        sum = with_rows(page.rows(), sum);
+        sum = with_rows(&page, sum);
         after = Some(region);
     }
     Ok((count, sum))

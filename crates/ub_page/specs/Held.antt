@@ -19,6 +19,4 @@ pub record AreColumns (p : Inside) : Type 0 where
   pub few : p.len ≤ 64
   pub keys_long : length p.keys ≡ 64
   pub dims_long : (d : ℕ) → d < 4 → length (slice_index_or p.dims d []) ≡ 64
-  pub rows_long : length p.rows ≡ 64
   pub keys : take p.len p.keys ≡ keys_of p.shape (held_rows p)
-  pub rows : take p.len p.rows ≡ held_rows p

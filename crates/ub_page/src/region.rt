@@ -25,6 +25,13 @@ const KIND: u8 = 0x52;
 // The key that no key is before.
 const ORIGIN: Key = Key { z: 0, number: 0 };
 
+// What stands in the place of a row that is yet to be made.
+const BLANK: Row = Row {
+    number: 0,
+    dims: [0; 4],
+    measures: [0; 4],
+};
+
 /// A region's page that has been read: the first key, and the rows in the order of their keys, none before the first key.
 ///
 /// The rows stand in columns of host order, and each is made when it is asked for; their keys are made once, by `read`.
@@ -35,8 +42,6 @@ pub struct RegionPage {
     keys: Keys,
     dims: Dims,
     measures: Measures,
-    // The rows once more, for those that ask for all.
-    rows: [Row; MAX_ROWS],
     len: usize,
 }
 
@@ -76,18 +81,12 @@ impl RegionPage {
     pub fn empty(shape: Shape) -> RegionPage
         ensures { result ≡ empty_region shape }
     {
-        let blank = Row {
-            number: 0,
-            dims: [0; 4],
-            measures: [0; 4],
-        };
         RegionPage {
             shape,
             first: ORIGIN,
             keys: [ORIGIN; MAX_ROWS],
             dims: [[0; MAX_ROWS]; 4],
             measures: [[0; MAX_ROWS]; 4],
-            rows: [blank; MAX_ROWS],
             len: 0,
         }
     }
@@ -192,7 +191,6 @@ impl RegionPage {
             len,
         );
         read_keys(&mut self.keys, page, self.shape, &self.dims, len);
-        make_rows(&mut self.rows, &self.keys, &self.dims, &self.measures, len);
         self.len = len;
     }
 
@@ -209,14 +207,6 @@ impl RegionPage {
         ensures few { result ≤ MAX_ROWS }
     {
         self.keys().len()
-    }
-
-    /// The rows in the order of their keys: at most 64.
-    pub fn rows(&self) -> &[Row]
-        ensures rows { result.now ≡ self.now.region.rows }
-        ensures few { length result.now ≤ MAX_ROWS }
-    {
-        &self.rows[..self.len]
     }
 
     /// The row at an index, from 0, of those there are.
@@ -268,7 +258,6 @@ impl RegionPage {
         put_in(&mut self.keys, len, index, row.key(self.shape));
         put_point(&mut self.dims, len, index, &row.dims);
         put_values(&mut self.measures, len, index, &row.measures);
-        put_in(&mut self.rows, len, index, *row);
         self.len += 1;
     }
 
@@ -276,8 +265,9 @@ impl RegionPage {
     pub fn write(&self, schema: &Schema, draft: &mut Draft)
         ensures { padded draft.new ≡ region_page schema.now self.now.region }
     {
-        draft.clear();
-        put_region(draft, schema, self.first(), self.rows());
+        let mut rows = [BLANK; MAX_ROWS];
+        make_rows(&mut rows, &self.keys, &self.dims, &self.measures, self.len);
+        write_region(schema, self.first, &rows[..self.len], draft);
     }
 }
 

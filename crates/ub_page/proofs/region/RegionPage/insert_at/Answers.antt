@@ -1,6 +1,6 @@
 use Rattle.std.proofs.Common.{◌≡◌, ◌∙◌, ap, sym, length, map, arith, List}
 use Rattle.std.proofs.lemmas.List.FromFn.{length-map-range_with_len}
-use Rattle.std.specs.List.{insert, range_with_len}
+use Rattle.std.specs.List.{range_with_len}
 use Rattle.ub_page.proofs.PutFacts.{ArePutIn, keys_put, rows_put}
 use Rattle.ub_page.specs.Columns.{blank_key, row_in}
 use Rattle.ub_page.specs.Region.{RegionView}
@@ -36,9 +36,7 @@ invariant_of-self c =
       few = omega arith;
       keys_long = c.put_in.ensures.long;
       dims_long = c.put_point.ensures.long;
-      rows_long = c.put_in-2.ensures.long;
       keys = c.put_in.ensures.put ∙ rw (c.self.invariant.keys, c.key.ensures) (keys_put p.shape index row old) ∙ ap (keys_of p.shape) (sym rows);
-      rows = c.put_in-2.ensures.put ∙ ap (λ (rs : List Row). insert rs index row) c.self.invariant.rows ∙ sym rows;
     }
 
 pub returns : goal.returns

@@ -20,9 +20,7 @@ invariant_of-self c =
       keys_long = c.read_keys.ensures.long;
       dims_long = λ d less. rw read.points_are
           (columns_long (λ d i. number_at 4 (24 + 4 * len + 4 * (len * d + i)) c.args.page.now) len schema.dims d read.few read.few_dims less);
-      rows_long = c.make_rows.ensures.long;
       keys = rw c.shape-self-inside.ensures (keys_read schema.dims (measures_of schema) len c.args.page.now keys p v read);
-      rows = c.make_rows.ensures.rows;
     }
 
 pub returns-clause-region : goal.returns-clause-region
