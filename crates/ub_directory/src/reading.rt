@@ -56,8 +56,10 @@ fn header_of<S: PageStore>(pager: &mut Pager<S>) -> Result<Header, DirectoryFaul
     ensures effect { Opens pager.old pager.new result }
 {
     pager.bring(0)?;
-    let header =
-        read_header(pager.cached(0)).map_err(|fault| DirectoryFault::Page { page: 0, fault })?;
+    let header = read_header(pager.cached(0)).map_err(|fault| DirectoryFault::Page {
+        page: 0,
+        fault,
+    })?;
     Ok(header)
 }
 
