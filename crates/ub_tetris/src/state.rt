@@ -108,7 +108,7 @@ impl State {
         let region = self.queue[self.fetched].region;
         self.fetched += 1;
         tree.read_region(&region, &mut self.page)?;
-        // Each call is given its plan, so the choice is made for that one; it costs little beside a page.
+        // Each call is given its plan, so the choice is made for that one.
         let choice = Choice::of(plan, tree.schema());
         hold_chosen(
             &mut self.held,
