@@ -5,7 +5,7 @@ usage: bench/turns.py PROGRAM [PROGRAM..] [--rows N] [--rounds N]      (default 
 
 Each time is the least of the rounds, in each of which every program has its turn, since what else the machine does only adds. A query's
 time is that of a script which has it many times, less that of an empty script. The answers of all programs must be the same.
-A table in Markdown, with a column for each program in the order given.
+Prints a table in Markdown, with a column for each program in the order given.
 """
 
 import argparse
@@ -50,8 +50,8 @@ def run(words):
     return time.perf_counter() - start, hashlib.sha256(done.stdout).hexdigest()
 
 
-def least_by_turns(commands, rounds, name, answers_count=True):
-    """The least seconds of each command, which take turns; with `answers_count` all must write the same."""
+def least_by_turns(commands, rounds, name, same_answers=True):
+    """The least seconds of each command, which take turns; with `same_answers` all must write the same."""
     least = [None] * len(commands)
     hashes = set()
     for _ in range(rounds):
@@ -60,7 +60,7 @@ def least_by_turns(commands, rounds, name, answers_count=True):
             hashes.add(written)
             if least[i] is None or seconds < least[i]:
                 least[i] = seconds
-    if answers_count and len(hashes) != 1:
+    if same_answers and len(hashes) != 1:
         sys.exit(f"turns.py: the answers differ: {name}")
     return least
 
@@ -98,7 +98,7 @@ def main():
                 return [program, "load", str(data), str(work / f"{i}.ub"), "--dims", "3", "--name", "t"]
             return words
 
-        row("`load`", least_by_turns([load(i, p) for i, p in enumerate(programs)], given.rounds, "load", False))
+        row("`load`", least_by_turns([load(i, p) for i, p in enumerate(programs)], given.rounds, "load", same_answers=False))
         tries = [[p, "try", str(data), str(empty), "--dims", "3", "--name", "t"] for p in programs]
         row("`try` with an empty script", least_by_turns(tries, given.rounds, "try"))
         runs = [[p, "run", str(work / f"{i}.ub")] for i, p in enumerate(programs)]
