@@ -11,5 +11,5 @@ pub mod PlacesFacts
 pub mod PutFacts
 pub mod RegionFacts
 pub mod SpelledFacts
-pub mod SpellingFacts
+pub mod WriteFacts
 pub mod PageLaws

@@ -8,9 +8,8 @@ use Rattle.std.proofs.lemmas.List.Elements.{All-append, All-replicate}
 use Rattle.std.proofs.lemmas.List.FromFn.{length-map-range_with_len, get_or-map-range_with_len}
 use Rattle.std.proofs.Common.{◌≡◌, ◌≤◌, ◌<◌, ◌+◌, ◌-◌, ◌*◌, ◌^◌, ℕ, zero, suc, List, [], ◌∷◌, ◌++◌, length, map, take, drop, replicate, get_or, subst, refl, sym, ap, arith, ◌∙◌, append_assoc, Some}
 use Rattle.std.specs.List.{All, AllByRecursion, flat_map, range_with_len, slice_get}
-use Rattle.std.proofs.lemmas.Grind.{flat_map-append}
-use Rattle.std.proofs.lemmas.List.{length-append, append-nil, take-append-drop, get_or-drop, length-replicate}
-use Rattle.ub_page.specs.Bytes.{number_bytes, number_at, layout, padded}
+use Rattle.std.proofs.lemmas.List.{length-append, take-append-drop, get_or-drop, length-replicate}
+use Rattle.ub_page.specs.Bytes.{number_bytes, number_at, layout}
 use Rattle.ub_page.specs.Region.{RegionView, column, columns, dim_of, measure_of, head_fields, region_page, places, row_on, region_on, IsRegionKind, HasCounts, HasRows, HasOrder, HasFirst, IsRegionFault}
 use Rattle.ub_page.proofs.DirectoryFacts.{small_address}
 use Rattle.ub_page.proofs.BytesFacts.{length-number_bytes, read_at, layout_read, length-layout, AllFit}
@@ -18,45 +17,8 @@ use Rattle.ub_table.specs.Keys.{AreKeysAscending}
 use Rattle.ub_table.specs.Region.{Region, measures_of, HasRest, IsRow, IsRegion, IsNumbered, IsFirst, AreFrom, keys_of}
 use Rattle.ub_table.specs.declared.fault.PageFault.TheVariants.{WrongKind, Unclean, BadCount, BadName, BadRow, BadOrder, OutOfRegion, BadPadding}
 use Rattle.ub_table.specs.declared.fault.PageFault.{PageFault}
-use Rattle.ub_table.specs.declared.row.Key.{Key}
 use Rattle.ub_table.specs.declared.row.Row.{Row}
 use Rattle.ub_table.specs.declared.schema.Schema.{Schema}
-
--- the numbers from a on, and one more
-range_more : (a n b : ℕ) → a + n ≡ b → range_with_len a (suc n) ≡ range_with_len a n ++ b ∷ []
-range_more a zero b e = let same : a ≡ b = omega arith in rw same refl
-range_more a (suc n) b e = ap (λ (xs : List ℕ). a ∷ xs) (range_more (a + 1) n b (omega arith))
-
--- one column more
-columns_more : (width : ℕ) (number : ℕ → Row → ℕ) (n : ℕ) (rows : List Row)
-    → columns width number (n + 1) rows ≡ columns width number n rows ++ column width (number n) rows
-columns_more width number n rows =
-    let one : n + 1 ≡ suc n = omega arith in
-    ap (λ (m : ℕ). columns width number m rows) one
-    ∙ ap (flat_map (λ i. column width (number i) rows)) (range_more 0 n n (omega arith))
-    ∙ flat_map-append (λ i. column width (number i) rows) (range_with_len 0 n) (n ∷ [])
-    ∙ ap (λ (xs : List ℕ). columns width number n rows ++ xs) (append-nil (column width (number n) rows))
-
-pub columns_step : (width : ℕ) (number : ℕ → Row → ℕ) (n : ℕ) (rows : List Row) (start before after : List ℕ)
-    → before ≡ start ++ columns width number n rows → after ≡ before ++ column width (number n) rows → after ≡ start ++ columns width number (n + 1) rows
-columns_step width number n rows start before after is put =
-    put ∙ ap (λ (s : List ℕ). s ++ column width (number n) rows) is ∙ append_assoc start (columns width number n rows) (column width (number n) rows)
-    ∙ ap (λ (s : List ℕ). start ++ s) (sym (columns_more width number n rows))
-
-regrouped : (a b c d e f g h i : List ℕ) → padded ((((((((a ++ b) ++ c) ++ d) ++ e) ++ f) ++ g) ++ h) ++ i) ≡ padded ((a ++ (b ++ (c ++ (d ++ (e ++ (f ++ [])))))) ++ (g ++ (h ++ i)))
-regrouped a b c d e f g h i =
-    let e : (((((((a ++ b) ++ c) ++ d) ++ e) ++ f) ++ g) ++ h) ++ i ≡ (a ++ (b ++ (c ++ (d ++ (e ++ (f ++ [])))))) ++ (g ++ (h ++ i)) = simp append_assoc in
-    ap padded e
-
--- the writer's bytes are those of the spelling
-pub written : (schema : Schema) (first : Key) (rows : List Row)
-    → padded ((((((((number_bytes 1 0x52 ++ number_bytes 1 schema.dims) ++ number_bytes 1 (measures_of schema)) ++ number_bytes 1 (length rows)) ++ number_bytes 16 first.z) ++ number_bytes 4 first.number)
-    ++ column 4 (λ row. row.number) rows) ++ columns 4 dim_of schema.dims rows) ++ columns 8 measure_of (measures_of schema) rows)
-    ≡ region_page schema (record { first = first; rows = rows })
-unfolding region_page
-written schema first rows =
-    regrouped (number_bytes 1 0x52) (number_bytes 1 schema.dims) (number_bytes 1 (measures_of schema)) (number_bytes 1 (length rows)) (number_bytes 16 first.z) (number_bytes 4 first.number)
-    (column 4 (λ row. row.number) rows) (columns 4 dim_of schema.dims rows) (columns 8 measure_of (measures_of schema) rows)
 
 -- each row's number takes no more than so many bytes
 abbrev pub FitIn : ℕ → (Row → ℕ) → List Row → Type 0

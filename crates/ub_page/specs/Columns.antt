@@ -1,7 +1,8 @@
 -- The rows of a region in columns of 64 places: their keys, dimensions and measures.
 use Rattle.std.specs.Prelude.{◌≤◌, ◌+◌, ◌*◌, ◌-◌, ◌++◌, ℕ, ℤ, pos, List, [], ◌∷◌, map, replicate, slice_index_or}
-use Rattle.std.specs.List.{range_with_len}
-use Rattle.ub_page.specs.Bytes.{number_at}
+use Rattle.std.specs.Int.{w64, cast_unsigned}
+use Rattle.std.specs.List.{flat_map, range_with_len}
+use Rattle.ub_page.specs.Bytes.{number_bytes, number_at}
 use Rattle.ub_table.specs.Region.{key_of, measures_of}
 use Rattle.ub_table.specs.declared.row.Key.{Key}
 use Rattle.ub_table.specs.declared.row.Row.{Row}
@@ -48,6 +49,29 @@ row_in keys dims measures i = record {
 abbrev pub key_in : ℕ → List ℕ → List (List ℕ) → ℕ → Key
 key_in dims page columns i =
     key_of dims (record { number = number_at 4 (24 + 4 * i) page; dims = point_in columns i; measures = [] })
+
+-- the numbers of 0 to n - 1, each on so many bytes
+abbrev pub first_numbers : ℕ → (ℕ → ℕ) → ℕ → List ℕ
+first_numbers width number n = flat_map (λ i. number_bytes width (number i)) (range_with_len 0 n)
+
+-- what a page holds of each place: the number of a key, a dimension, and a measure in two's complement
+abbrev pub number_in : List Key → ℕ → ℕ
+number_in keys i = (slice_index_or keys i blank_key).number
+
+abbrev pub dim_in : List ℕ → ℕ → ℕ
+dim_in column i = slice_index_or column i 0
+
+abbrev pub measure_in : List ℤ → ℕ → ℕ
+measure_in column i = cast_unsigned w64 (slice_index_or column i (pos 0))
+
+-- of so many rows the first dimension, then the second, and so on, and so of their measures
+abbrev pub dims_in : List (List ℕ) → ℕ → ℕ → List ℕ
+dims_in columns dims count =
+    flat_map (λ d. first_numbers 4 (dim_in (slice_index_or columns d [])) count) (range_with_len 0 dims)
+
+abbrev pub measures_in : List (List ℤ) → ℕ → ℕ → List ℕ
+measures_in columns measures count =
+    flat_map (λ m. first_numbers 8 (measure_in (slice_index_or columns m [])) count) (range_with_len 0 measures)
 
 -- a key's number is one of a row
 abbrev pub IsKeyNumbered : Key → Type 0

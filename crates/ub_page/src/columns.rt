@@ -34,15 +34,15 @@ pub fn read_dims(columns: &mut Dims, page: &Page, dims: usize, offset: usize, co
     }
 }
 
-// One dimension of them.
+// One dimension of them, in a column that is blank.
 fn read_dim(column: &mut [u32; MAX_ROWS], page: &Page, dim: usize, offset: usize, count: usize)
     requires dim { dim < 4 }
     requires offset { offset ≤ 280 }
     requires count { count ≤ MAX_ROWS }
+    requires blank { column.old ≡ blank_dims }
     ensures { column.new
         ≡ block MAX_ROWS 0 (λ i. number_at 4 (offset + 4 * (count * dim + i)) page.now) count }
 {
-    *column = [0; MAX_ROWS];
     for i in 0..count {
         column[i] = u32_at(page, offset + 4 * (count * dim + i));
     }
@@ -70,7 +70,7 @@ pub fn read_measures(
     }
 }
 
-// One measure of them.
+// One measure of them, in a column that is blank.
 fn read_measure(
     column: &mut [i64; MAX_ROWS],
     page: &Page,
@@ -81,10 +81,10 @@ fn read_measure(
     requires measure { measure < 4 }
     requires offset { offset ≤ 1304 }
     requires count { count ≤ MAX_ROWS }
+    requires blank { column.old ≡ blank_measures }
     ensures { column.new ≡ block MAX_ROWS (pos 0)
         (λ i. cast_signed w64 (number_at 8 (offset + 8 * (count * measure + i)) page.now)) count }
 {
-    *column = [0; MAX_ROWS];
     for i in 0..count {
         column[i] = i64_at(page, offset + 8 * (count * measure + i));
     }
@@ -146,24 +146,6 @@ pub fn row_at(keys: &Keys, dims: &Dims, measures: &Measures, i: usize) -> Row
         number: keys[i].number,
         dims: point_at(dims, i),
         measures: values_at(measures, i),
-    }
-}
-
-/// Puts so many rows of the columns in the first places.
-pub fn make_rows(
-    rows: &mut [Row; MAX_ROWS],
-    keys: &Keys,
-    dims: &Dims,
-    measures: &Measures,
-    count: usize,
-)
-    requires { count ≤ MAX_ROWS }
-    ensures rows { take count rows.new
-        ≡ map (row_in keys.now dims.now measures.now) (range_with_len 0 count) }
-    ensures long { length rows.new ≡ MAX_ROWS }
-{
-    for i in 0..count {
-        rows[i] = row_at(keys, dims, measures, i);
     }
 }
 

@@ -1,12 +1,13 @@
 ghost use Rattle.std.specs.Prelude.{◌≡◌, ◌+◌, ◌*◌, ◌<◌, ◌≤◌, ◌^◌, [], ◌∷◌, ◌++◌, length, drop};
 ghost use Rattle.ub_page.specs.Bytes.{number_bytes, padded};
-ghost use Rattle.ub_page.specs.Region.{column, dim_of, measure_of};
+ghost use Rattle.ub_page.specs.Columns.{first_numbers, number_in, dim_in, measure_in};
 
+use crate::columns::Keys;
 use crate::page::Page;
 use crate::spelling::{write_dim, write_measure, write_numbers};
 use byteorder::{BigEndian, ByteOrder};
 use std::marker::Model;
-use ub_table::Row;
+use ub_table::MAX_ROWS;
 
 /// A page that is written from its front: the bytes so far, and zeros after them. Its memory takes one page after the other.
 #[derive(Drop)]
@@ -117,36 +118,37 @@ impl Draft {
         self.len += bytes.len();
     }
 
-    // Puts the numbers of all rows.
-    pub(crate) fn put_numbers(&mut self, rows: &[Row])
-        requires { length self.old + 4 * length rows.now ≤ 4096 }
-        ensures bytes { self.new ≡ self.old ++ column 4 (λ row. row.number) rows.now }
-        ensures len { length self.new ≡ length self.old + 4 * length rows.now }
+    // Puts the numbers of the first so many keys.
+    pub(crate) fn put_numbers(&mut self, keys: &Keys, count: usize)
+        requires few { count ≤ MAX_ROWS }
+        requires room { length self.old + 4 * count ≤ 4096 }
+        ensures bytes { self.new ≡ self.old ++ first_numbers 4 (number_in keys.now) count }
+        ensures len { length self.new ≡ length self.old + 4 * count }
     {
-        write_numbers(&mut self.page[self.len..], rows);
-        self.len += 4 * rows.len();
+        write_numbers(&mut self.page[self.len..], keys, count);
+        self.len += 4 * count;
     }
 
-    // Puts one dimension of all rows.
-    pub(crate) fn put_dim(&mut self, rows: &[Row], dim: usize)
-        requires dim { dim < 4 }
-        requires room { length self.old + 4 * length rows.now ≤ 4096 }
-        ensures bytes { self.new ≡ self.old ++ column 4 (dim_of dim) rows.now }
-        ensures len { length self.new ≡ length self.old + 4 * length rows.now }
+    // Puts a dimension of the first so many rows.
+    pub(crate) fn put_dim(&mut self, column: &[u32; MAX_ROWS], count: usize)
+        requires few { count ≤ MAX_ROWS }
+        requires room { length self.old + 4 * count ≤ 4096 }
+        ensures bytes { self.new ≡ self.old ++ first_numbers 4 (dim_in column.now) count }
+        ensures len { length self.new ≡ length self.old + 4 * count }
     {
-        write_dim(&mut self.page[self.len..], rows, dim);
-        self.len += 4 * rows.len();
+        write_dim(&mut self.page[self.len..], column, count);
+        self.len += 4 * count;
     }
 
-    // Puts one measure of all rows, in two's complement.
-    pub(crate) fn put_measure(&mut self, rows: &[Row], measure: usize)
-        requires measure { measure < 4 }
-        requires room { length self.old + 8 * length rows.now ≤ 4096 }
-        ensures bytes { self.new ≡ self.old ++ column 8 (measure_of measure) rows.now }
-        ensures len { length self.new ≡ length self.old + 8 * length rows.now }
+    // Puts a measure of the first so many rows, in two's complement.
+    pub(crate) fn put_measure(&mut self, column: &[i64; MAX_ROWS], count: usize)
+        requires few { count ≤ MAX_ROWS }
+        requires room { length self.old + 8 * count ≤ 4096 }
+        ensures bytes { self.new ≡ self.old ++ first_numbers 8 (measure_in column.now) count }
+        ensures len { length self.new ≡ length self.old + 8 * count }
     {
-        write_measure(&mut self.page[self.len..], rows, measure);
-        self.len += 8 * rows.len();
+        write_measure(&mut self.page[self.len..], column, count);
+        self.len += 8 * count;
     }
 }
 

@@ -1,15 +1,15 @@
 ghost use Rattle.std.specs.Prelude.{◌≡◌, ◌+◌, ◌-◌, ◌*◌, ◌≤◌, ◌<◌, [], ◌++◌, ◌↔◌, ℕ, Ok, Some, length, slice_get, IsTrue, IsOk, IfOk, IfErr, OnOk, OnErr};
 ghost use Rattle.std.specs.Int.{bit_at};
 ghost use Rattle.std.specs.List.{AllByRecursion, insert};
-ghost use Rattle.ub_page.specs.Bytes.{number_at, padded};
-ghost use Rattle.ub_page.specs.Columns.{end_with, IsKeyNumbered};
-ghost use Rattle.ub_page.specs.Region.{columns, dim_of, measure_of, region_page, region_on, empty_region, IsRegionKind, HasCounts, HasRows, HasOrder, HasFirst, IsRegionFault, IsRowInside};
+ghost use Rattle.ub_page.specs.Bytes.{number_at, layout, padded};
+ghost use Rattle.ub_page.specs.Columns.{end_with, dims_in, measures_in, IsKeyNumbered};
+ghost use Rattle.ub_page.specs.Region.{head_fields, region_page, region_on, empty_region, IsRegionKind, HasCounts, HasRows, HasOrder, HasFirst, IsRegionFault, IsRowInside};
 ghost use Rattle.ub_table.specs.Keys.{AreKeysAscending};
-ghost use Rattle.ub_table.specs.Region.{Region, keys_of, IsNumbered, IsFirst, AreFrom, IsRegion};
+ghost use Rattle.ub_table.specs.Region.{Region, keys_of, measures_of, IsNumbered, IsFirst, AreFrom, IsRegion};
 
 use crate::columns::{
-    Dims, Keys, Measures, make_rows, put_in, put_point, put_values, read_dims, read_keys,
-    read_measures, row_at,
+    Dims, Keys, Measures, put_in, put_point, put_values, read_dims, read_keys, read_measures,
+    row_at,
 };
 use crate::draft::Draft;
 use crate::laws::mask_between;
@@ -24,13 +24,6 @@ const KIND: u8 = 0x52;
 
 // The key that no key is before.
 const ORIGIN: Key = Key { z: 0, number: 0 };
-
-// What stands in the place of a row that is yet to be made.
-const BLANK: Row = Row {
-    number: 0,
-    dims: [0; 4],
-    measures: [0; 4],
-};
 
 /// A region's page that has been read: the first key, and the rows in the order of their keys, none before the first key.
 ///
@@ -81,9 +74,16 @@ impl RegionPage {
     pub fn empty(shape: Shape) -> RegionPage
         ensures { result ≡ empty_region shape }
     {
+        RegionPage::from_first(shape, ORIGIN)
+    }
+
+    // A region of no rows from a first key on.
+    fn from_first(shape: Shape, first: Key) -> RegionPage
+        ensures { result ≡ record { dims = shape; region = record { first = first; rows = [] } } }
+    {
         RegionPage {
             shape,
-            first: ORIGIN,
+            first,
             keys: [ORIGIN; MAX_ROWS],
             dims: [[0; MAX_ROWS]; 4],
             measures: [[0; MAX_ROWS]; 4],
@@ -261,13 +261,32 @@ impl RegionPage {
         self.len += 1;
     }
 
+    // The region of these rows from a first key on. The keys are not compared.
+    fn of(shape: Shape, first: Key, rows: &[Row]) -> RegionPage
+        requires { length rows.now ≤ MAX_ROWS }
+        ensures { result ≡ record {
+          dims = shape;
+          region = record { first = first; rows = rows.now };
+        } }
+    {
+        let mut region = RegionPage::from_first(shape, first);
+        for row in rows {
+            let end = region.len();
+            region.insert_at(end, row);
+        }
+        region
+    }
+
     /// Writes the page of the region over what was written before. Takes no memory.
     pub fn write(&self, schema: &Schema, draft: &mut Draft)
         ensures { padded draft.new ≡ region_page schema.now self.now.region }
     {
-        let mut rows = [BLANK; MAX_ROWS];
-        make_rows(&mut rows, &self.keys, &self.dims, &self.measures, self.len);
-        write_region(schema, self.first, &rows[..self.len], draft);
+        let count = self.len;
+        draft.clear();
+        put_head(draft, schema, self.first, count);
+        draft.put_numbers(&self.keys, count);
+        put_dims(draft, &self.dims, schema.dims() as usize, count);
+        put_measures(draft, &self.measures, schema.measures() as usize, count);
     }
 }
 
@@ -281,48 +300,47 @@ pub fn write_region(schema: &Schema, first: Key, rows: &[Row], draft: &mut Draft
     ensures reads_back { IsRegion schema.now (record { first = first; rows = rows.now })
         → region_on schema.now (padded draft.new) ≡ record { first = first; rows = rows.now } }
 {
-    draft.clear();
-    put_region(draft, schema, first, rows);
+    RegionPage::of(schema.shape(), first, rows).write(schema, draft);
 }
 
-// Puts a region, of which nothing is written.
-fn put_region(draft: &mut Draft, schema: &Schema, first: Key, rows: &[Row])
-    requires few { length rows.now ≤ MAX_ROWS }
+// Puts the kind of the page, how many dimensions, measures and rows there are, and the first key.
+fn put_head(draft: &mut Draft, schema: &Schema, first: Key, count: usize)
+    requires few { count ≤ MAX_ROWS }
     requires blank { draft.old ≡ [] }
-    ensures { padded draft.new
-        ≡ region_page schema.now (record { first = first; rows = rows.now }) }
+    ensures bytes { draft.new
+        ≡ layout (head_fields schema.now.dims (measures_of schema.now) count first) }
+    ensures len { length draft.new ≡ 24 }
 {
     draft.put_u8(KIND);
     draft.put_u8(schema.dims() as u8);
     draft.put_u8(schema.measures() as u8);
-    draft.put_u8(rows.len() as u8);
+    draft.put_u8(count as u8);
     draft.put_u128(first.z);
     draft.put_u32(first.number);
-    draft.put_numbers(rows);
-    put_dims(draft, rows, schema.dims() as usize);
-    put_measures(draft, rows, schema.measures() as usize);
 }
 
-// The first dimension of all rows, then the second, and so on.
-fn put_dims(draft: &mut Draft, rows: &[Row], dims: usize)
-    requires few { dims ≤ 4 }
-    requires room { length draft.old + 4 * (length rows.now * dims) ≤ 4096 }
-    ensures bytes { draft.new ≡ draft.old ++ columns 4 dim_of dims rows.now }
-    ensures len { length draft.new ≡ length draft.old + 4 * (length rows.now * dims) }
+// The first dimension of the first so many rows, then the second, and so on.
+fn put_dims(draft: &mut Draft, columns: &Dims, dims: usize, count: usize)
+    requires dims { dims ≤ 4 }
+    requires count { count ≤ MAX_ROWS }
+    requires room { length draft.old + 4 * (count * dims) ≤ 4096 }
+    ensures bytes { draft.new ≡ draft.old ++ dims_in columns.now dims count }
+    ensures len { length draft.new ≡ length draft.old + 4 * (count * dims) }
 {
     for dim in 0..dims {
-        draft.put_dim(rows, dim);
+        draft.put_dim(&columns[dim], count);
     }
 }
 
-// The first measure of all rows, then the second, and so on.
-fn put_measures(draft: &mut Draft, rows: &[Row], measures: usize)
-    requires few { measures ≤ 4 }
-    requires room { length draft.old + 8 * (length rows.now * measures) ≤ 4096 }
-    ensures { draft.new ≡ draft.old ++ columns 8 measure_of measures rows.now }
+// The first measure of the first so many rows, then the second, and so on.
+fn put_measures(draft: &mut Draft, columns: &Measures, measures: usize, count: usize)
+    requires measures { measures ≤ 4 }
+    requires count { count ≤ MAX_ROWS }
+    requires room { length draft.old + 8 * (count * measures) ≤ 4096 }
+    ensures { draft.new ≡ draft.old ++ measures_in columns.now measures count }
 {
     for measure in 0..measures {
-        draft.put_measure(rows, measure);
+        draft.put_measure(&columns[measure], count);
     }
 }
 

@@ -1,48 +1,45 @@
-// Columns of rows, written over the front of some bytes.
+// Columns of a region, written over the front of some bytes.
 ghost use Rattle.std.specs.Prelude.{◌≡◌, ◌+◌, ◌*◌, ◌<◌, ◌≤◌, ◌++◌, length, take, drop};
 ghost use Rattle.ub_page.specs.Bytes.{number_bytes};
-ghost use Rattle.ub_page.specs.Region.{column, dim_of, measure_of};
+ghost use Rattle.ub_page.specs.Columns.{first_numbers, number_in, dim_in, measure_in};
 
+use crate::columns::Keys;
 use byteorder::{BigEndian, ByteOrder};
-use ub_table::Row;
+use ub_table::MAX_ROWS;
 
-/// Writes the numbers of all rows.
-pub fn write_numbers(target: &mut [u8], rows: &[Row])
-    requires { 4 * length rows.now ≤ length target.old }
-    ensures { target.new ≡ column 4 (λ row. row.number) rows.now
-        ++ drop (4 * length rows.now) target.old }
+/// Writes the numbers of the first so many keys.
+pub fn write_numbers(target: &mut [u8], keys: &Keys, count: usize)
+    requires few { count ≤ MAX_ROWS }
+    requires room { 4 * count ≤ length target.old }
+    ensures { target.new
+        ≡ first_numbers 4 (number_in keys.now) count ++ drop (4 * count) target.old }
 {
-    let mut offset = 0;
-    for row in rows {
-        write_u32(target, offset, row.number);
-        offset += 4;
+    for i in 0..count {
+        write_u32(target, 4 * i, keys[i].number);
     }
 }
 
-/// Writes one dimension of all rows.
-pub fn write_dim(target: &mut [u8], rows: &[Row], dim: usize)
-    requires dim { dim < 4 }
-    requires room { 4 * length rows.now ≤ length target.old }
-    ensures { target.new ≡ column 4 (dim_of dim) rows.now ++ drop (4 * length rows.now) target.old }
+/// Writes a dimension of the first so many rows.
+pub fn write_dim(target: &mut [u8], column: &[u32; MAX_ROWS], count: usize)
+    requires few { count ≤ MAX_ROWS }
+    requires room { 4 * count ≤ length target.old }
+    ensures { target.new
+        ≡ first_numbers 4 (dim_in column.now) count ++ drop (4 * count) target.old }
 {
-    let mut offset = 0;
-    for row in rows {
-        write_u32(target, offset, row.dims[dim]);
-        offset += 4;
+    for i in 0..count {
+        write_u32(target, 4 * i, column[i]);
     }
 }
 
-/// Writes one measure of all rows, in two's complement.
-pub fn write_measure(target: &mut [u8], rows: &[Row], measure: usize)
-    requires measure { measure < 4 }
-    requires room { 8 * length rows.now ≤ length target.old }
-    ensures { target.new ≡ column 8 (measure_of measure) rows.now
-        ++ drop (8 * length rows.now) target.old }
+/// Writes a measure of the first so many rows, in two's complement.
+pub fn write_measure(target: &mut [u8], column: &[i64; MAX_ROWS], count: usize)
+    requires few { count ≤ MAX_ROWS }
+    requires room { 8 * count ≤ length target.old }
+    ensures { target.new
+        ≡ first_numbers 8 (measure_in column.now) count ++ drop (8 * count) target.old }
 {
-    let mut offset = 0;
-    for row in rows {
-        write_u64(target, offset, row.measures[measure].cast_unsigned());
-        offset += 8;
+    for i in 0..count {
+        write_u64(target, 8 * i, column[i].cast_unsigned());
     }
 }
 

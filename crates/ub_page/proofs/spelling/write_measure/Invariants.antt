@@ -1,9 +1,6 @@
-use Rattle.std.proofs.Common.{◌≡◌, ◌*◌, ◌++◌, take, drop}
-use Rattle.ub_page.specs.Region.{column, measure_of}
+use Rattle.std.proofs.Common.{◌≡◌, ◌*◌, ◌++◌, drop}
+use Rattle.ub_page.specs.Columns.{first_numbers, measure_in}
 use Rattle.ub_page.proofs.spelling.write_measure.Given as goal
 
-abbrev pub invariant-loop-row : goal.invariant-loop-row
-invariant-loop-row l = record {
-  offset : l.offset ≡ 8 * l.row-index;
-  bytes : l.target ≡ column 8 (measure_of l.measure) (take l.row-index l.rows) ++ drop (8 * l.row-index) l.initial.target;
-}
+abbrev pub invariant-loop-i : goal.invariant-loop-i
+invariant-loop-i l = l.target ≡ first_numbers 8 (measure_in l.column) l.i ++ drop (8 * l.i) l.initial.target

@@ -1,9 +1,6 @@
-use Rattle.std.proofs.Common.{◌≡◌, ◌*◌, ◌++◌, take, drop}
-use Rattle.ub_page.specs.Region.{column}
+use Rattle.std.proofs.Common.{◌≡◌, ◌*◌, ◌++◌, drop}
+use Rattle.ub_page.specs.Columns.{first_numbers, number_in}
 use Rattle.ub_page.proofs.spelling.write_numbers.Given as goal
 
-abbrev pub invariant-loop-row : goal.invariant-loop-row
-invariant-loop-row l = record {
-  offset : l.offset ≡ 4 * l.row-index;
-  bytes : l.target ≡ column 4 (λ row. row.number) (take l.row-index l.rows) ++ drop (4 * l.row-index) l.initial.target;
-}
+abbrev pub invariant-loop-i : goal.invariant-loop-i
+invariant-loop-i l = l.target ≡ first_numbers 4 (number_in l.keys) l.i ++ drop (4 * l.i) l.initial.target

@@ -1,20 +1,22 @@
-use Rattle.std.proofs.Common.{◌*◌, length, sym}
-use Rattle.ub_page.specs.Region.{column}
+use Rattle.std.proofs.Common.{◌*◌, sym}
+use Rattle.ub_page.specs.Columns.{first_numbers, number_in}
 use Rattle.ub_page.proofs.DraftFacts.{IsDraft, after_put}
-use Rattle.ub_page.proofs.RegionFacts.{length-column}
+use Rattle.ub_page.proofs.WriteFacts.{length-first_numbers}
 use Rattle.ub_page.proofs.draft.Draft.put_numbers.Goals as goal
 
 pub invariant_of-self : goal.invariant_of-self
 invariant_of-self c =
-    let rows = c.args.rows.now in
-    let draft : IsDraft 4096 c.self.inside.len (4 * length rows) c.self.inside.page c.args.self.now
-    = record { long = c.self.told; within = c.self.invariant.0; blank = c.self.invariant.1; is = c.self.view_is; room = c.requires } in
-    let after = after_put draft (column 4 (λ row. row.number) rows) c.write_numbers.new.target (sym (length-column 4 (λ row. row.number) rows)) c.write_numbers.ensures in
+    let count = c.args.count in
+    let keys = c.args.keys.now in
+    let draft : IsDraft 4096 c.self.inside.len (4 * count) c.self.inside.page c.args.self.now
+    = record { long = c.self.told; within = c.self.invariant.0; blank = c.self.invariant.1; is = c.self.view_is; room = c.requires.room } in
+    let after = after_put draft (first_numbers 4 (number_in keys) count) c.write_numbers.new.target (sym (length-first_numbers 4 (number_in keys) count)) c.write_numbers.ensures in
     (after.0, after.1)
 
 pub returns-clause-bytes : goal.returns-clause-bytes
 returns-clause-bytes c =
-    let rows = c.args.rows.now in
-    let draft : IsDraft 4096 c.self.inside.len (4 * length rows) c.self.inside.page c.args.self.now
-    = record { long = c.self.told; within = c.self.invariant.0; blank = c.self.invariant.1; is = c.self.view_is; room = c.requires } in
-    (after_put draft (column 4 (λ row. row.number) rows) c.write_numbers.new.target (sym (length-column 4 (λ row. row.number) rows)) c.write_numbers.ensures).2
+    let count = c.args.count in
+    let keys = c.args.keys.now in
+    let draft : IsDraft 4096 c.self.inside.len (4 * count) c.self.inside.page c.args.self.now
+    = record { long = c.self.told; within = c.self.invariant.0; blank = c.self.invariant.1; is = c.self.view_is; room = c.requires.room } in
+    (after_put draft (first_numbers 4 (number_in keys) count) c.write_numbers.new.target (sym (length-first_numbers 4 (number_in keys) count)) c.write_numbers.ensures).2
