@@ -6,6 +6,7 @@ use Rattle.std.proofs.lemmas.List.Folds.{flat_map-map}
 use Rattle.std.proofs.lemmas.List.FromFn.{length-map-range_with_len}
 use Rattle.std.specs.List.{flat_map, range_with_len}
 use Rattle.ub_page.proofs.BytesFacts.{length-number_bytes}
+use Rattle.ub_page.proofs.ColumnFacts.{all_same}
 use Rattle.ub_page.proofs.DraftFacts.{of_front}
 use Rattle.ub_page.specs.Bytes.{number_bytes, layout, padded}
 use Rattle.ub_page.specs.Columns.{first_numbers, number_in, dim_in, measure_in, dims_in, measures_in, row_in}
@@ -63,16 +64,11 @@ column_step column n start before after is put =
     ∙ ap (λ (ns : List ℕ). start ++ flat_map column ns) (sym (first_more n))
 
 -- pieces that agree
-pieces_same : (f g : ℕ → List ℕ) (a n : ℕ) → ((i : ℕ) → i < n → f (a + i) ≡ g (a + i)) → flat_map f (range_with_len a n) ≡ flat_map g (range_with_len a n)
-pieces_same f g a zero h = refl
-pieces_same f g a (suc n) h =
-    let here : a + 0 ≡ a = omega arith in
-    let first : f a ≡ g a = ap f (sym here) ∙ h 0 (omega arith) ∙ ap g here in
-    let more = pieces_same f g (a + 1) n (λ i less. let same : a + 1 + i ≡ a + suc i = omega arith in ap f same ∙ h (suc i) (omega arith) ∙ ap g (sym same)) in
-    rw (first, more) refl
-
-all_pieces_same : (f g : ℕ → List ℕ) (n : ℕ) → ((i : ℕ) → i < n → f i ≡ g i) → flat_map f (range_with_len 0 n) ≡ flat_map g (range_with_len 0 n)
-all_pieces_same f g n h = pieces_same f g 0 n (λ i less. let same : 0 + i ≡ i = omega arith in ap f same ∙ h i less ∙ ap g (sym same))
+pieces_same : (f g : ℕ → List ℕ) (n : ℕ) → ((i : ℕ) → i < n → f i ≡ g i) → flat_map f (range_with_len 0 n) ≡ flat_map g (range_with_len 0 n)
+pieces_same f g n h =
+    sym (flat_map-map (λ (ys : List ℕ). ys) f (range_with_len 0 n))
+    ∙ ap (flat_map (λ (ys : List ℕ). ys)) (all_same f g n h)
+    ∙ flat_map-map (λ (ys : List ℕ). ys) g (range_with_len 0 n)
 
 -- the head is written field by field
 pub head_written : (dims measures count : ℕ) (first : Key)
@@ -112,10 +108,10 @@ module _ (keys : List Key) (points : List (List ℕ)) (values : List (List ℤ))
   measure_is (suc (suc (suc (suc m)))) less = absurd (omega arith)
 
   dims_are : (n : ℕ) → n ≤ 4 → dims_in points n count ≡ columns 4 dim_of n rows
-  dims_are n few = all_pieces_same (λ d. first_numbers 4 (dim_in (get_or points d [])) count) (λ d. column 4 (dim_of d) rows) n (λ d less. dim_is d (omega arith))
+  dims_are n few = pieces_same (λ d. first_numbers 4 (dim_in (get_or points d [])) count) (λ d. column 4 (dim_of d) rows) n (λ d less. dim_is d (omega arith))
 
   measures_are : (n : ℕ) → n ≤ 4 → measures_in values n count ≡ columns 8 measure_of n rows
-  measures_are n few = all_pieces_same (λ m. first_numbers 8 (measure_in (get_or values m [])) count) (λ m. column 8 (measure_of m) rows) n (λ m less. measure_is m (omega arith))
+  measures_are n few = pieces_same (λ m. first_numbers 8 (measure_in (get_or values m [])) count) (λ m. column 8 (measure_of m) rows) n (λ m less. measure_is m (omega arith))
 
   -- the writer's bytes are those of the spelling
   pub written : (schema : Schema) (first : Key) → schema.dims ≤ 4 → measures_of schema ≤ 4
