@@ -8,6 +8,7 @@ use Rattle.ub_parser.specs.Spans.{IsWithin}
 use Rattle.ub_parser.proofs.GroupFacts.{all_grouped, first_not_grouped}
 use Rattle.ub_parser.proofs.KnownFacts.{names_of_items, names_of_group}
 use Rattle.ub_parser.proofs.grouping.not_grouped.Goals as goal
+use Rattle.std.proofs.Common.{rules}
 
 pub first_ungrouped-requires-clause-group : goal.first_ungrouped-requires-clause-group
 first_ungrouped-requires-clause-group c = names_of_group (λ (t : Token). IsWithin c.args.source.now t) (select_of c.args.syntax.now) c.requires
@@ -28,3 +29,6 @@ returns-in_ok-item-in-Listed c = (
   first_not_grouped c.args.source.now (select_of c.args.syntax.now) c.args.syntax.now.selection _ c.as_slice.result.now c.in_ok-item-in-Listed.item c.first_token.result c.in-Listed.is c.as_slice.ensures
       c.in_ok-item-in-Listed.ensures c.first_token.ensures,
 )
+
+pub returns-in-All : goal.returns-in-All
+returns-in-All c = search rules

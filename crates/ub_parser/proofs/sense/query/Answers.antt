@@ -6,6 +6,7 @@ use Rattle.ub_syntax.specs.declared.syntax.OrderKey.{OrderKey}
 use Rattle.ub_parser.specs.Known.{IsColumn, IsKnownItem}
 use Rattle.ub_parser.proofs.KnownFacts.{are_columns, known_items, known_filter, known_group, known_order, known_limit}
 use Rattle.ub_parser.proofs.sense.query.Goals as goal
+use Rattle.std.proofs.Common.{rules}
 
 pub items-requires : goal.items-requires
 items-requires c =
@@ -40,3 +41,6 @@ order-requires c =
 pub limit-requires : goal.limit-requires
 limit-requires c =
     known_limit c.args.source.now c.args.schema.now (select_of c.args.syntax.now) c.requires.written
+
+pub returns-clause-asked : goal.returns-clause-asked
+returns-clause-asked c = search rules

@@ -1,6 +1,7 @@
 use Rattle.std.proofs.Common.{arith}
 use Rattle.ub_script.proofs.HeldFacts.{Puts-none, Puts-step}
 use Rattle.ub_script.proofs.output.put_all.Goals as goal
+use Rattle.std.proofs.Common.{rules}
 
 pub loop-at-init : goal.loop-at-init
 loop-at-init g c = record { within = omega arith; put = Puts-none _ }
@@ -10,3 +11,6 @@ loop-at-preserved g c =
     let inv = c.loop-at.invariant in
     let on = Puts-step _ _ _ c.args.bytes.now c.loop-at.at c.in_ok-n.n inv.within inv.put c.if-n-eq0.false c.in_ok-n.ensures in
     record { within = on.0; put = on.1 }
+
+pub returns-then-n-eq0-clause-whole : goal.returns-then-n-eq0-clause-whole
+returns-then-n-eq0-clause-whole g c = search rules

@@ -2,6 +2,7 @@
 use Rattle.std.proofs.Common.{refl}
 use Rattle.ub_syntax.proofs.Counting.{span_of, counted_more, counted_told, counted_all}
 use Rattle.ub_syntax.proofs.limits.too_many.Goals as goal
+use Rattle.std.proofs.Common.{rules}
 
 pub symbol_of-requires-in-loop-token-clause-span : goal.symbol_of-requires-in-loop-token-clause-span
 symbol_of-requires-in-loop-token-clause-span c =
@@ -28,3 +29,6 @@ pub returns : goal.returns
 returns c =
     counted_all c.args.source.now c.args.tokens.now c.in_ok-first.others.now c.loop-token.token-index c.loop-token.counter.previous c.loop-token.counter.symbol
     c.loop-token.counter.parts c.loop-token.counter.comparisons c.loop-token-test.false c.loop-token.invariant
+
+pub loop-token-init : goal.loop-token-init
+loop-token-init c = search rules

@@ -3,6 +3,7 @@ use Rattle.clap.specs.declared.error.kind.ErrorKind.TheVariants.{DisplayHelp, Di
 use Rattle.clap.specs.Values.{kind_of}
 use Rattle.ub_words.proofs.AskFacts.{no_help_refused, nothing_by_refusal, some_fault}
 use Rattle.ub_words.proofs.words.asked_by_refused.Goals as goal
+use Rattle.std.proofs.Common.{rules}
 
 pub returns-in-Some : goal.returns-in-Some
 returns-in-Some c =
@@ -21,3 +22,6 @@ returns-in_ok-text-in-None c =
       | inl memory ↦ absurd (c.in_default.not-OutOfMemory (c.kind.ensures ∙ memory))
       | inr among ↦ (nothing_by_refusal _ (some_fault _ _ among) (no_help_refused _ _ among no_help no_version) c.in-None.ensures, c.in_ok-text-in-None.ensures)
     ]
+
+pub returns-in_ok-text-in-DisplayHelp : goal.returns-in_ok-text-in-DisplayHelp
+returns-in_ok-text-in-DisplayHelp c = search rules

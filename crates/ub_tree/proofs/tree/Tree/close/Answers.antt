@@ -2,6 +2,7 @@ use Rattle.std.proofs.Common.{ap}
 use Rattle.ub_store.specs.Facts.{StoreFacts}
 use Rattle.ub_tree.proofs.CloseFacts.{sound_pages, sound_unclosed, close_refused}
 use Rattle.ub_tree.proofs.tree.Tree.close.Goals as goal
+use Rattle.std.proofs.Common.{rules}
 
 pub returns-in-Ok-clause-closed : goal.returns-in-Ok-clause-closed
 returns-in-Ok-clause-closed g c =
@@ -20,3 +21,9 @@ returns-clause-refused g c =
     let t = c.self.inside in
     rw (c.into_store-in-Err.ensures, ← c.self.view_is)
     (close_refused t.schema t.directory.entries t.directory.chain t.next t.rows t.is_changed t.is_failed t.pager c.write_table.new.pager.store c.in-Err.fault c.in-Err.ensures.refused)
+
+pub returns-in-Ok-clause-unchanged : goal.returns-in-Ok-clause-unchanged
+returns-in-Ok-clause-unchanged g c = search rules
+
+pub returns-clause-unchanged : goal.returns-clause-unchanged
+returns-clause-unchanged g c = search rules
