@@ -1,7 +1,7 @@
-use Rattle.ub_boxes.proofs.GridFacts.{count_next}
-use Rattle.ub_boxes.proofs.interval.are_too_many.Goals as goal
 use Rattle.std.proofs.Common.{arith}
 use Rattle.std.proofs.lemmas.Grind.{common_steps}
+use Rattle.ub_boxes.proofs.GridFacts.{count_next}
+use Rattle.ub_boxes.proofs.interval.are_too_many.Goals as goal
 
 pub loop-side-preserved : goal.loop-side-preserved
 loop-side-preserved c =

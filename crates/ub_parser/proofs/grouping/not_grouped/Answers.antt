@@ -1,5 +1,6 @@
 use Rattle.std.specs.List.{All}
 use Rattle.std.proofs.lemmas.List.Elements.{All-same}
+use Rattle.std.proofs.Common.{rules}
 use Rattle.ub_lexer.specs.declared.token.Token.{Token}
 use Rattle.ub_syntax.specs.Tree.{select_of}
 use Rattle.ub_syntax.specs.declared.syntax.Item.{Item}
@@ -8,7 +9,6 @@ use Rattle.ub_parser.specs.Spans.{IsWithin}
 use Rattle.ub_parser.proofs.GroupFacts.{all_grouped, first_not_grouped}
 use Rattle.ub_parser.proofs.KnownFacts.{names_of_items, names_of_group}
 use Rattle.ub_parser.proofs.grouping.not_grouped.Goals as goal
-use Rattle.std.proofs.Common.{rules}
 
 pub first_ungrouped-requires-clause-group : goal.first_ungrouped-requires-clause-group
 first_ungrouped-requires-clause-group c = names_of_group (λ (t : Token). IsWithin c.args.source.now t) (select_of c.args.syntax.now) c.requires

@@ -1,12 +1,12 @@
 -- Each part of the statement has columns for names.
 use Rattle.std.proofs.lemmas.List.Elements.{All-same}
+use Rattle.std.proofs.Common.{rules}
 use Rattle.ub_lexer.specs.declared.token.Token.{Token}
 use Rattle.ub_syntax.specs.Tree.{select_of}
 use Rattle.ub_syntax.specs.declared.syntax.OrderKey.{OrderKey}
 use Rattle.ub_parser.specs.Known.{IsColumn, IsKnownItem}
 use Rattle.ub_parser.proofs.KnownFacts.{are_columns, known_items, known_filter, known_group, known_order, known_limit}
 use Rattle.ub_parser.proofs.sense.query.Goals as goal
-use Rattle.std.proofs.Common.{rules}
 
 pub items-requires : goal.items-requires
 items-requires c =

@@ -1,7 +1,6 @@
-use Rattle.std.proofs.Common.{arith}
+use Rattle.std.proofs.Common.{arith, rules}
 use Rattle.ub_script.proofs.HeldFacts.{Puts-none, Puts-step}
 use Rattle.ub_script.proofs.output.put_all.Goals as goal
-use Rattle.std.proofs.Common.{rules}
 
 pub loop-at-init : goal.loop-at-init
 loop-at-init g c = record { within = omega arith; put = Puts-none _ }

@@ -1,8 +1,7 @@
-use Rattle.std.proofs.Common.{Err}
+use Rattle.std.proofs.Common.{Err, rules}
 use Rattle.ub_shell.specs.Next.{answer_text}
 use Rattle.ub_shell.specs.declared.next.NextFault.TheVariants.{Memory}
 use Rattle.ub_shell.proofs.next.tell_next.Goals as goal
-use Rattle.std.proofs.Common.{rules}
 
 pub returns-in-Err : goal.returns-in-Err
 unfolding answer_text

@@ -1,8 +1,7 @@
 -- What was counted and what is still to be counted are all marks.
-use Rattle.std.proofs.Common.{refl}
+use Rattle.std.proofs.Common.{refl, rules}
 use Rattle.ub_syntax.proofs.Counting.{span_of, counted_more, counted_told, counted_all}
 use Rattle.ub_syntax.proofs.limits.too_many.Goals as goal
-use Rattle.std.proofs.Common.{rules}
 
 pub symbol_of-requires-in-loop-token-clause-span : goal.symbol_of-requires-in-loop-token-clause-span
 symbol_of-requires-in-loop-token-clause-span c =

@@ -1,9 +1,8 @@
-use Rattle.std.proofs.Common.{◌≢◌, ◌∙◌, inl, inr}
+use Rattle.std.proofs.Common.{◌≢◌, ◌∙◌, inl, inr, rules}
 use Rattle.clap.specs.declared.error.kind.ErrorKind.TheVariants.{DisplayHelp, DisplayVersion}
 use Rattle.clap.specs.Values.{kind_of}
 use Rattle.ub_words.proofs.AskFacts.{no_help_refused, nothing_by_refusal, some_fault}
 use Rattle.ub_words.proofs.words.asked_by_refused.Goals as goal
-use Rattle.std.proofs.Common.{rules}
 
 pub returns-in-Some : goal.returns-in-Some
 returns-in-Some c =

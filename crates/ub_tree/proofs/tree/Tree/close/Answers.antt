@@ -1,8 +1,7 @@
-use Rattle.std.proofs.Common.{ap}
+use Rattle.std.proofs.Common.{ap, rules}
 use Rattle.ub_store.specs.Facts.{StoreFacts}
 use Rattle.ub_tree.proofs.CloseFacts.{sound_pages, sound_unclosed, close_refused}
 use Rattle.ub_tree.proofs.tree.Tree.close.Goals as goal
-use Rattle.std.proofs.Common.{rules}
 
 pub returns-in-Ok-clause-closed : goal.returns-in-Ok-clause-closed
 returns-in-Ok-clause-closed g c =

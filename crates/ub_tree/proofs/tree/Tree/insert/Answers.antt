@@ -1,6 +1,6 @@
+use Rattle.std.proofs.Common.{rules}
 use Rattle.ub_tree.proofs.WriteFacts.{searched_by}
 use Rattle.ub_tree.proofs.tree.Tree.insert.Goals as goal
-use Rattle.std.proofs.Common.{rules}
 
 pub returns-in_err-room-clause-effect : goal.returns-in_err-room-clause-effect
 returns-in_err-room-clause-effect g c =
