@@ -17,7 +17,7 @@ use Rattle.ub_tree.specs.Change.{AreRowsAt, HasRoom, IsStored, IsSplitAt, IsInse
 use Rattle.ub_tree.specs.Spans.{ArePlaces, first_keys}
 use Rattle.ub_tree.specs.Tree.{known_pages, tree_view}
 use Rattle.ub_tree.specs.Placed.{placed_of, Placed, entry_of, regions_in}
-use Rattle.ub_tree.specs.Stored.{HasMark}
+use Rattle.ub_writing.specs.Marks.{HasMark}
 use Rattle.ub_tree.specs.View.{TreeView, IsSound, regions}
 use Rattle.ub_tree.specs.declared.fault.TreeFault.{TreeFault}
 use Rattle.ub_tree.proofs.TreeFacts.{firsts_back, length-placed}

@@ -15,7 +15,8 @@ use Rattle.ub_table.specs.Region.{Region, IsRegion}
 use Rattle.ub_table.specs.declared.row.Row.{Row}
 use Rattle.ub_table.specs.declared.schema.Schema.{Schema}
 use Rattle.ub_tree.specs.Calls.{IsCreated}
-use Rattle.ub_tree.specs.Tree.{known_pages, tree_view, empty_region, IsLaidOut}
+use Rattle.ub_tree.specs.Tree.{known_pages, tree_view}
+use Rattle.ub_writing.specs.Creation.{empty_region, IsLaidOut}
 use Rattle.ub_tree.specs.Placed.{Placed, ArePlaced, regions_in, placed_of}
 use Rattle.ub_tree.proofs.CallFacts.{known_is}
 

@@ -30,7 +30,8 @@ use Rattle.ub_tree.specs.Opened.{IsOpened, IsOpenFault, IsMarkFault, IsPassing}
 use Rattle.ub_tree.specs.Placed.{Placed, ArePlaced, placed_of, regions_in, entry_of}
 use Rattle.ub_tree.specs.Spans.{ArePlaces, first_keys}
 use Rattle.ub_directory.specs.Chain.{IsChain}
-use Rattle.ub_tree.specs.Stored.{AreSoundPages, HasMark}
+use Rattle.ub_tree.specs.Stored.{AreSoundPages}
+use Rattle.ub_writing.specs.Marks.{HasMark}
 use Rattle.ub_tree.specs.Tree.{known_pages, tree_view}
 use Rattle.ub_tree.specs.View.{TreeView, IsSound}
 use Rattle.ub_tree.specs.declared.fault.TreeFault.{TreeFault}

@@ -22,7 +22,7 @@ use Rattle.ub_directory.specs.View.{SeatView}
 use Rattle.ub_tree.specs.Change.{IsSeatIn, IsStored, placed_with, regions_with}
 use Rattle.ub_tree.specs.Placed.{Placed, ArePlaced, entry_of, placed_of, regions_in}
 use Rattle.ub_tree.specs.Spans.{first_keys}
-use Rattle.ub_tree.specs.Stored.{HasMark}
+use Rattle.ub_writing.specs.Marks.{HasMark}
 use Rattle.ub_tree.specs.View.{TreeView, IsSound, regions, tree_rows}
 use Rattle.ub_tree.specs.declared.fault.TreeFault.{TreeFault}
 use Rattle.ub_tree.proofs.GrowFacts.{firsts_placed, regions_placed, some_at}

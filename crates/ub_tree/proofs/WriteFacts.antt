@@ -19,15 +19,17 @@ use Rattle.ub_table.specs.Region.{Region, IsRegion}
 use Rattle.ub_table.specs.declared.row.Key.{Key}
 use Rattle.ub_table.specs.declared.row.Row.{Row}
 use Rattle.ub_table.specs.declared.schema.Schema.{Schema}
-use Rattle.ub_tree.specs.Change.{IsStored, IsFresh, IsWriteFault, Writes, Puts, PutsTwo, Marks, PutsMark, placed_with}
+use Rattle.ub_tree.specs.Change.{IsStored, IsFresh, IsWriteFault, Writes, placed_with}
 use Rattle.ub_directory.specs.Searching.{Searches as Looks}
 use Rattle.ub_directory.specs.Writing.{put_store}
-use Rattle.ub_tree.specs.Effects.{written_store, IsPageMissing, KeepsUnless, IsMarkedFirst, Leaves, HasEnded, IsLeft, Works, Changes, Searches}
+use Rattle.ub_tree.specs.Effects.{written_store, IsPageMissing, IsMarkedFirst, Leaves, HasEnded, IsLeft, Works, Changes, Searches}
 use Rattle.ub_tree.specs.Faults.{tree_fault}
 use Rattle.ub_tree.specs.Tree.{known_pages, tree_view}
 use Rattle.ub_tree.specs.Placed.{Placed, ArePlaced, placed_of, regions_in, entry_of}
 use Rattle.ub_directory.specs.Chain.{IsChain}
-use Rattle.ub_tree.specs.Stored.{AreSoundPages, IsMarkPage, HasMark}
+use Rattle.ub_tree.specs.Stored.{AreSoundPages}
+use Rattle.ub_writing.specs.Marks.{Marks, PutsMark, KeepsUnless, IsMarkPage, HasMark}
+use Rattle.ub_writing.specs.Puts.{Puts, PutsTwo}
 use Rattle.ub_tree.specs.View.{TreeView, IsSound}
 use Rattle.ub_tree.proofs.CallFacts.{known_is}
 use Rattle.ub_tree.proofs.StoredFacts.{IsTold, numbers_of, differs, rewritten_pages, split_pages, extended_pages, fresh_number}

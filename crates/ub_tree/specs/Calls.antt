@@ -1,11 +1,10 @@
 -- What reading a region tells, and what creation makes.
-use Rattle.std.specs.Prelude.{false, ◌≡◌, ◌≤◌, ◌⊎◌, ℕ, [], ◌∷◌, IsTrue, List, Contains}
-use Rattle.ub_store.specs.Facts.{StoreFacts, IsHonest, page_count}
+use Rattle.std.specs.Prelude.{false, ◌≡◌, ℕ, [], ◌∷◌, IsTrue, List, Contains}
+use Rattle.ub_store.specs.Facts.{StoreFacts, IsHonest}
 use Rattle.ub_table.specs.Keys.{origin}
 use Rattle.ub_table.specs.Region.{Region}
 use Rattle.ub_table.specs.declared.schema.Schema.{Schema}
 use Rattle.ub_tree.specs.Placed.{Placed}
-use Rattle.ub_tree.specs.Stored.{HasMark}
 use Rattle.ub_tree.specs.View.{TreeView, regions, IsSound}
 use Rattle.ub_tree.specs.declared.fault.TreeFault.{TreeFault}
 use Rattle.ub_tree.specs.declared.fault.TreeFault.TheVariants.{Store, Memory}
@@ -27,10 +26,6 @@ pub record IsCreated (store : StoreFacts) (schema : Schema) (t : TreeView) : Typ
   pub next_is : t.next ≡ 1
   pub trace_is : t.trace ≡ []
   pub fetches_are : t.fetches ≡ 0
-
--- of a creation that was refused: nothing stands in the store but the first page, or that marks the table as changed
-abbrev pub IsUncreated : Schema → StoreFacts → Type 0
-IsUncreated schema new = (page_count new ≤ 1) ⊎ HasMark schema new.pages
 
 -- why creation is refused: for want of memory, or the store failed in this call, which it then can
 abbrev pub IsCreateFault : StoreFacts → TreeFault → Type 0

@@ -1,12 +1,12 @@
 -- What a change of one region does to a tree.
-use Rattle.std.specs.Prelude.{IfSome, ◌≡◌, ◌≢◌, ◌<◌, ◌+◌, ◌-◌, ◌⊎◌, ◌++◌, ℕ, ℤ, pos, suc, Bool, true, false, List, [], ◌∷◌, Option, Some, MatchOption, IsTrue, Result, Err, IfErr, OnOk, length, map, take, drop, replicate, slice_get}
+use Rattle.std.specs.Prelude.{IfSome, ◌≡◌, ◌+◌, ◌-◌, ◌⊎◌, ◌++◌, ℕ, ℤ, pos, suc, Bool, true, false, List, [], ◌∷◌, Some, IsTrue, Result, Err, IfErr, OnOk, length, map, take, drop, replicate, slice_get}
 use Rattle.std.specs.Bool.{nat_eq}
 use Rattle.std.specs.List.{AllByRecursion, IsDistinct, insert as insert_at}
 use Rattle.ub_region.specs.Regions.{AreTableRows, insert, split_region}
 use Rattle.ub_region.specs.Rows.{Halves}
 use Rattle.ub_zaddr.specs.Address.{last_address}
 use Rattle.ub_tree.specs.Spans.{ArePlaces, first_keys}
-use Rattle.ub_store.specs.Facts.{StoreFacts, IsHonest, page_count}
+use Rattle.ub_store.specs.Facts.{IsHonest}
 use Rattle.ub_store.specs.View.{PagerView}
 use Rattle.ub_page.specs.Region.{region_page}
 use Rattle.ub_page.specs.declared.directory.Entry.{Entry}
@@ -15,7 +15,7 @@ use Rattle.ub_table.specs.Region.{Region, IsRegion, keys_of}
 use Rattle.ub_table.specs.declared.row.Key.{Key}
 use Rattle.ub_table.specs.declared.row.Row.{Row}
 use Rattle.ub_table.specs.declared.schema.Schema.{Schema}
-use Rattle.ub_tree.specs.Effects.{written_store, IsPageMissing, KeepsUnless, IsMarkedFirst, HasEnded, Changes}
+use Rattle.ub_tree.specs.Effects.{written_store, IsPageMissing, IsMarkedFirst, HasEnded, Changes}
 use Rattle.ub_tree.specs.Placed.{Placed, ArePlaced, entry_of}
 use Rattle.ub_tree.specs.Tree.{tree_view}
 use Rattle.ub_tree.specs.View.{TreeView, IsSound, regions}
@@ -36,32 +36,6 @@ pub record IsStored (t : TreeView) : Type 0 where
   pub working : t.is_failed ≡ false
   pub honest : IsHonest t.store
   pub placed_are : ArePlaced t.schema t.placed (reserved t.inner) t.store.pages
-
--- this page stands at the number now, and the others but the first are as they were
-pub record Puts (n : ℕ) (page : List ℕ) (old new : StoreFacts) : Type 0 where
-  pub there : n < page_count old
-  pub count : page_count new ≡ page_count old
-  pub written : IsHonest old → slice_get new.pages n ≡ Some page
-  pub others : IsHonest old → (m : ℕ) → m ≢ 0 → m ≢ n → slice_get new.pages m ≡ slice_get old.pages m
-
--- these pages stand at the numbers now, where the numbers differ, and the others but the first are as they were
-pub record PutsTwo (n : ℕ) (page : List ℕ) (m : ℕ) (other : List ℕ) (old new : StoreFacts) : Type 0 where
-  pub count : page_count new ≡ page_count old
-  pub written : IsHonest old → n ≢ 0 → n ≢ m → slice_get new.pages n ≡ Some page
-  pub written_other : IsHonest old → slice_get new.pages m ≡ Some other
-  pub others : IsHonest old → (k : ℕ) → k ≢ 0 → k ≢ n → k ≢ m → slice_get new.pages k ≡ slice_get old.pages k
-
--- where a mark is given it is the first page now, and else the first page is as it was
-abbrev pub PutsMark : Option (List ℕ) → StoreFacts → StoreFacts → Type 0
-PutsMark mark old new = MatchOption mark (slice_get new.pages 0 ≡ slice_get old.pages 0) (λ page. slice_get new.pages 0 ≡ Some page)
-
--- what a write of the pages of these numbers does, before which the mark is put that is given: until the table is marked as
--- changed no page but the first is written, and from then on that is the mark, unless another page stands there
-pub record Marks (mark : Option (List ℕ)) (numbers : List ℕ) (was now : Bool) (old new : StoreFacts) : Type 0 where
-  pub count : page_count new ≡ page_count old
-  pub stays : was ≡ true → now ≡ true
-  pub kept : KeepsUnless now old new
-  pub first : IsHonest old → AllByRecursion (λ n. n ≢ 0) numbers → now ≡ true → PutsMark mark old new
 
 -- the tree is as it was but for its pages, and is marked as changed
 abbrev pub IsElsewhereSame : TreeView → TreeView → Type 0

@@ -1,5 +1,5 @@
 -- What the calls of a tree leave, in a few words: a call that searches, one that reads regions, one that changes the tree.
-use Rattle.std.specs.Prelude.{◌+◌, ◌≡◌, ◌≢◌, ◌<◌, ◌≤◌, ◌⊎◌, ◌++◌, ℕ, Bool, true, false, [], ◌∷◌, IsTrue, Result, Ok, Err, IfErr, OnOk, length, map, slice_get, List, Option}
+use Rattle.std.specs.Prelude.{◌+◌, ◌≡◌, ◌<◌, ◌≤◌, ◌⊎◌, ◌++◌, ℕ, true, [], ◌∷◌, IsTrue, Result, Ok, Err, IfErr, OnOk, length, map, slice_get, List, Option}
 use Rattle.std.specs.List.{Contains}
 use Rattle.ub_store.specs.Facts.{StoreFacts, IsHonest, IsPage, page_count, raised}
 use Rattle.ub_table.specs.declared.row.TheConstants.{MAX_ROW_NUMBER}
@@ -13,7 +13,7 @@ use Rattle.ub_table.specs.declared.row.Row.{Row}
 use Rattle.ub_table.specs.declared.schema.Schema.{Schema}
 use Rattle.ub_tree.specs.Tree.{IsHeldBy}
 use Rattle.ub_tree.specs.Placed.{Placed, entry_of}
-use Rattle.ub_tree.specs.Stored.{HasMark}
+use Rattle.ub_writing.specs.Marks.{HasMark, KeepsUnless}
 use Rattle.ub_tree.specs.View.{TreeView, IsSound, KeepsTrace, spans_of}
 use Rattle.ub_tree.specs.declared.fault.TreeFault.{TreeFault}
 use Rattle.ub_tree.specs.declared.fault.TreeFault.TheVariants.{Full, Page, Store, Failed, Memory}
@@ -98,10 +98,6 @@ pub record ReadsRegion {A : Type 0} (span : Span) (old new : TreeView) (result :
   pub listed : OnOk result (HasNoted span.page old new)
   pub faults : Contains (spans_of old) span → IfErr result (IsReadFault old)
   pub refused : IfErr result (IsSpanFault span old)
-
--- unless the table is marked as changed, the pages but the first are as they were
-abbrev pub KeepsUnless : Bool → StoreFacts → StoreFacts → Type 0
-KeepsUnless is_changed old new = IsHonest old → is_changed ≡ false → (m : ℕ) → m ≢ 0 → m < page_count old → slice_get new.pages m ≡ slice_get old.pages m
 
 -- until a table is marked as changed no page but the first is written, and from then on the first page marks a sound tree's table
 pub record IsMarkedFirst (old new : TreeView) : Type 0 where

@@ -1,5 +1,5 @@
--- The pages of a closed table, format 1, and the mark of one that is being changed.
-use Rattle.std.specs.Prelude.{◌≡◌, ℕ, true, false, List, ◌∷◌, Some, length, map, slice_get}
+-- The pages of a closed table, format 1.
+use Rattle.std.specs.Prelude.{◌≡◌, ℕ, false, List, ◌∷◌, Some, length, map, slice_get}
 use Rattle.ub_page.specs.Header.{IsHeader, header_page}
 use Rattle.ub_page.specs.declared.header.Header.{Header}
 use Rattle.ub_region.specs.Regions.{AreRegions, rows_of}
@@ -23,18 +23,3 @@ pub record AreSoundPages (pages : List (List ℕ)) (schema : Schema) (placed : L
   pub directory : IsChain pages chain (map entry_of placed)
   pub well_formed : AreRegions schema next (regions_in placed)
   pub placed_are : ArePlaced schema placed (0 ∷ chain) pages
-
--- a header that marks a table of this schema as changed: it is unclean, and in range; its counts, and where it says that the
--- directory begins, mean nothing
-pub record IsMark (schema : Schema) (header : Header) : Type 0 where
-  pub in_range : IsHeader header
-  pub unclean : header.unclean ≡ true
-  pub schema_is : header.schema ≡ schema
-
--- the page spells such a header
-abbrev pub IsMarkPage : Schema → List ℕ → Type 0
-IsMarkPage schema page = (header : Header) × IsMark schema header × (page ≡ header_page header)
-
--- the first of the pages does
-abbrev pub HasMark : Schema → List (List ℕ) → Type 0
-HasMark schema pages = (page : List ℕ) × IsMarkPage schema page × (slice_get pages 0 ≡ Some page)

@@ -1,18 +1,16 @@
 -- A tree's parts, as contracts see them together.
-use Rattle.std.specs.Prelude.{◌+◌, ◌≡◌, ◌≤◌, ◌<◌, ◌^◌, ℕ, length, slice_get, Bool, if◌then◌else◌, List, [], Option, Some, IfSome}
+use Rattle.std.specs.Prelude.{◌+◌, ◌≡◌, ◌≤◌, ◌<◌, ◌^◌, ℕ, length, slice_get, Bool, if◌then◌else◌, List, [], Option, IfSome}
 use Rattle.std.specs.List.{AllByRecursion}
 use Rattle.ub_table.specs.declared.row.TheConstants.{MAX_ROW_NUMBER}
 use Rattle.ub_zaddr.specs.Address.{last_address}
-use Rattle.ub_page.specs.Region.{region_on, region_page}
 use Rattle.ub_page.specs.declared.directory.Entry.{Entry}
 use Rattle.ub_store.specs.Facts.{StoreFacts}
 use Rattle.ub_store.specs.View.{PagerView}
-use Rattle.ub_table.specs.Keys.{IsBefore, origin}
+use Rattle.ub_table.specs.Keys.{IsBefore}
 use Rattle.ub_table.specs.Region.{Region, keys_of}
 use Rattle.ub_table.specs.declared.row.Key.{Key}
 use Rattle.ub_table.specs.declared.schema.Schema.{Schema}
 use Rattle.ub_tree.specs.Placed.{placed_of}
-use Rattle.ub_tree.specs.Stored.{HasMark}
 use Rattle.ub_tree.specs.View.{TreeView}
 use Rattle.ub_directory.specs.Slots.{ArePlaces}
 
@@ -50,14 +48,3 @@ abbrev pub IsHeldBy : ℕ → Key → Option Key → Region → Type 0
 IsHeldBy dims first next region =
     (region.first ≡ first)
     × IfSome next (λ end. AllByRecursion (λ key. IsBefore key end) (keys_of dims region.rows))
-
--- a region with no rows that begins with the least key of all
-abbrev pub empty_region : Region
-empty_region = record { first = origin; rows = [] }
-
--- three pages, of which the first marks the table as changed, and the second spells an empty region, and tells of it
-pub record IsLaidOut (schema : Schema) (pages : List (List ℕ)) : Type 0 where
-  pub count : length pages ≡ 3
-  pub marked : HasMark schema pages
-  pub spelled : slice_get pages 1 ≡ Some (region_page schema empty_region)
-  pub reads_back : region_on schema (region_page schema empty_region) ≡ empty_region

@@ -9,7 +9,8 @@ use Rattle.ub_table.specs.declared.row.Row.{Row}
 use Rattle.ub_table.specs.declared.schema.Schema.{Schema}
 use Rattle.ub_tree.specs.Placed.{Placed, ArePlaced, regions_in, entry_of}
 use Rattle.ub_tree.specs.Spans as spans
-use Rattle.ub_tree.specs.Stored.{AreSoundPages, HasMark}
+use Rattle.ub_tree.specs.Stored.{AreSoundPages}
+use Rattle.ub_writing.specs.Marks.{HasMark}
 use Rattle.ub_tree.specs.declared.region.Region.{Region as Span}
 use Rattle.ub_directory.specs.Inner.{Inner, reserved}
 

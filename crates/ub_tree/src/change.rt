@@ -9,15 +9,14 @@ ghost use Rattle.ub_store.specs.View.{SameTrace};
 ghost use Rattle.ub_table.specs.Keys.{AreKeysAscending, is_same};
 ghost use Rattle.ub_table.specs.Region.{IsRegion, key_of, keys_of, measures_of};
 ghost use Rattle.ub_tree.specs.Change as spec;
-ghost use Rattle.ub_tree.specs.Change.{AreRowsAt, IsStored, IsSeatIn, Puts, IsElsewhereSame, placed_with, IsInserted, IsSplitAt, HasRoom, IsExtensionFault, PutsAt, PutsRows, StoresRows, Writes};
+ghost use Rattle.ub_tree.specs.Change.{AreRowsAt, IsStored, IsSeatIn, IsElsewhereSame, placed_with, IsInserted, IsSplitAt, HasRoom, IsExtensionFault, PutsAt, PutsRows, StoresRows, Writes};
 ghost use Rattle.ub_tree.specs.Effects.{Searches, Changes};
 ghost use Rattle.ub_tree.specs.Placed.{Placed, entry_of};
-ghost use Rattle.ub_tree.specs.Stored.{IsMarkPage};
+ghost use Rattle.ub_writing.specs.Marks.{IsMarkPage};
+ghost use Rattle.ub_writing.specs.Puts.{Puts};
 ghost use Rattle.ub_tree.specs.View.{IsSound, regions};
 
 use crate::fault::TreeFault;
-use crate::header::write_mark;
-use crate::order::{write_page, write_pages};
 use crate::reading::take_region;
 use crate::room::{Drafts, Room, list_rows, new_room};
 use crate::tree::Tree;
@@ -26,6 +25,7 @@ use ub_page::{Draft, Page, RegionPage, write_region};
 use ub_region::{Halves, Rows, index_in, is_equal};
 use ub_store::{MAX_PAGES, PageStore, Pager, StoreFault};
 use ub_table::{Key, MAX_ROW_NUMBER, PageFault, Row};
+use ub_writing::{write_mark, write_page, write_pages};
 
 // One above the last number that a row can have.
 const NEXT_END: u32 = MAX_ROW_NUMBER + 1;

@@ -1,16 +1,17 @@
 ghost use Rattle.std.specs.Prelude.{◌≡◌, ◌<◌, false, length, map, IsTrue, IsOkAnd, IsErrAnd, IfOk, IfErr};
 ghost use Rattle.ub_store.specs.Facts.{IsHonest};
 ghost use Rattle.ub_directory.specs.Writing.{IsSaved};
-ghost use Rattle.ub_tree.specs.Closing.{IsUnclosed, IsCloseFault};
+ghost use Rattle.ub_tree.specs.Closing.{IsCloseFault};
+ghost use Rattle.ub_writing.specs.Closing.{IsUnclosed};
 ghost use Rattle.ub_tree.specs.Effects.{written_store};
 ghost use Rattle.ub_tree.specs.Placed.{entry_of};
 ghost use Rattle.ub_tree.specs.Stored.{AreSoundPages};
 ghost use Rattle.ub_tree.specs.View.{IsSound};
 
 use crate::fault::TreeFault;
-use crate::order::write_table;
 use crate::tree::Tree;
 use ub_store::{PageStore, Rejected};
+use ub_writing::write_table;
 
 impl<S: PageStore> Tree<S> {
     /// Hands the store back as a closed table. Where the tree was changed the directory is written first, on the pages of the
@@ -58,7 +59,7 @@ impl<S: PageStore> Tree<S> {
             Ok(()) => Ok(pager.into_store()),
             Err(fault) => Err(Rejected {
                 store: pager.into_store(),
-                fault,
+                fault: TreeFault::from(fault),
             }),
         }
     }

@@ -3,18 +3,18 @@ ghost use Rattle.ub_zaddr.specs.Address.{last_address};
 ghost use Rattle.ub_store.specs.Facts.{page_count, IsHonest};
 ghost use Rattle.ub_store.specs.View.{pager_view, SameTrace};
 ghost use Rattle.ub_table.specs.Keys.{origin};
-ghost use Rattle.ub_tree.specs.Calls.{IsCreated, IsUncreated, IsCreateFault};
+ghost use Rattle.ub_tree.specs.Calls.{IsCreated, IsCreateFault};
 ghost use Rattle.ub_tree.specs.Effects.{written_store};
-ghost use Rattle.ub_tree.specs.Tree.{IsLaidOut};
+ghost use Rattle.ub_writing.specs.Creation.{IsUncreated, IsLaidOut};
 
 use crate::fault::TreeFault;
-use crate::order::write_first_pages;
 use crate::tree::Tree;
 use std::alloc::Global;
 use std::num::NonZeroUsize;
 use ub_directory::Directory;
 use ub_store::{PageStore, Pager, Rejected};
 use ub_table::Schema;
+use ub_writing::write_first_pages;
 use ub_zaddr::last;
 
 // How many pages the cache of a tree holds.

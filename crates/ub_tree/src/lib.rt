@@ -4,11 +4,11 @@
 // `Effects` (what a call leaves), `Stored` (the pages of a closed table), `Opened` (which pages are
 // opened), `Closing`; the functions of `law` ensure the laws of a sound tree. The code: `creation`
 // and `opening` to begin, `tree` to search and read, `change` to put rows in, `removal` to take
-// them out, `closing` to end; `seats` asks the directory where a region is; `order` says in which
-// order pages go out, and writes them; the header that marks a table as changed stands in `header`.
+// them out, `closing` to end; `seats` asks the directory where a region is.
 //
-// What belongs here is what a tree does over a store, and in which order its pages go out. Where each region's page is, stands in
-// `ub_directory`; what regions are, in `ub_region`; how pages are spelled, and stores kept, in the other crates below.
+// What belongs here is what a tree does over a store. In which order its pages go out, and the mark of a changed table, stand in
+// `ub_writing`; where each region's page is, in `ub_directory`; what regions are, in `ub_region`; how pages are spelled, and
+// stores kept, in the other crates below.
 
 #![tactic(auto)]
 
@@ -16,10 +16,8 @@ mod change;
 mod closing;
 mod creation;
 pub mod fault;
-mod header;
 pub mod law;
 mod opening;
-mod order;
 mod reading;
 pub mod region;
 mod removal;

@@ -7,7 +7,8 @@ ghost use Rattle.ub_table.specs.declared.schema.Schema.{Schema};
 ghost use Rattle.ub_tree.specs.Opened.{IsOpened, IsOpenFault, IsMarkFault, IsPassing};
 ghost use Rattle.ub_tree.specs.Effects.{read_store};
 ghost use Rattle.ub_tree.specs.Placed.{Placed};
-ghost use Rattle.ub_tree.specs.Stored.{AreSoundPages, HasMark};
+ghost use Rattle.ub_tree.specs.Stored.{AreSoundPages};
+ghost use Rattle.ub_writing.specs.Marks.{HasMark};
 ghost use Rattle.ub_tree.specs.View.{IsSound};
 
 use crate::creation::pager_over;

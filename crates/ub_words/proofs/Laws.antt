@@ -1,5 +1,5 @@
 -- The laws of what words ask for, as specs/Laws.antt states them.
-use Rattle.std.proofs.Common.{◌≡◌, ◌≢◌, ◌∙◌, ℕ, List, [], ◌∷◌, Option, Some, ap, inl, inr, sym, codes, subst}
+use Rattle.std.proofs.Common.{◌≡◌, ◌≢◌, ◌∙◌, ℕ, List, [], ◌∷◌, Some, inl, inr, sym, codes, subst}
 use Rattle.clap.specs.Words.{IsAmong, Row, fault_of}
 use Rattle.clap.specs.declared.error.kind.ErrorKind.{ErrorKind}
 use Rattle.clap.specs.declared.error.kind.ErrorKind.TheVariants as kind

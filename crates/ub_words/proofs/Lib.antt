@@ -1,4 +1,3 @@
 pub mod AskFacts
-pub mod CommandFacts
 pub mod GivenFacts
 pub mod Laws

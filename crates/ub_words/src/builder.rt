@@ -1,5 +1,5 @@
 ghost use Rattle.std.specs.Prelude.{IfOk, codes};
-ghost use Rattle.clap.specs.Words.{App, Rule};
+ghost use Rattle.clap.specs.Words.{App, Rule, with_rule, with_subcommand};
 ghost use Rattle.ub_words.specs.CommandLine.{IsArgFor, IsCommandFor, data_app, dims_rule, load_app, next_app, option_rule, page_rows_rule, run_app, try_app, ubq_app, word_rule};
 
 use clap::{Arg, Command, value_parser};
@@ -76,6 +76,26 @@ Status:
   4  the output failed
   5  memory was refused";
 
+// A command in the making, unless memory was refused.
+type Making<'a> = Result<Command<'a>, AllocError>;
+
+// Adds an argument to a command. Each `?` lets a whole command go, so there is one here, and none where commands are made.
+fn with_arg<'a>(command: Making<'a>, arg: Arg<'a>) -> Making<'a>
+    ensures { (app : App) (rule : Rule) → IfOk command.entry (IsCommandFor app) → IsArgFor rule arg.entry
+        → IfOk result (IsCommandFor (with_rule app rule)) }
+{
+    command?.arg(arg)
+}
+
+// Adds a command below another one.
+fn with_command<'a>(command: Making<'a>, below: Making<'a>) -> Making<'a>
+    ensures { (app under : App) → IfOk command.entry (IsCommandFor app)
+        → IfOk below.entry (IsCommandFor under)
+        → IfOk result (IsCommandFor (with_subcommand app under.top)) }
+{
+    command?.subcommand(below?)
+}
+
 // A word that is to be given at its place.
 fn word_arg<'a>(alloc: Global, id: &'a str, help: &'a str) -> Arg<'a>
     ensures { IsArgFor (word_rule id.entry.now) result }
@@ -111,23 +131,21 @@ fn page_rows_arg<'a>(alloc: Global) -> Arg<'a>
 }
 
 // The path of a CSV file, which is another command's argument beside this one, and how a table is made of it.
-fn with_data<'a>(
-    alloc: Global,
-    command: Command<'a>,
-    other: Arg<'a>,
-) -> Result<Command<'a>, AllocError>
+fn with_data<'a>(alloc: Global, command: Command<'a>, other: Arg<'a>) -> Making<'a>
     ensures { (app : App) (rule : Rule) → IsCommandFor app command.entry → IsArgFor rule other.entry
         → IfOk result (IsCommandFor (data_app app rule)) }
 {
     let data =
         "A CSV file with a header, the dimensions first and then the measures; - is standard input";
     let name = "The name of the table in the statements";
-    command
-        .arg(word_arg(alloc, "DATA", data))?
-        .arg(other)?
-        .arg(dims_arg(alloc))?
-        .arg(page_rows_arg(alloc))?
-        .arg(option_arg(alloc, "name", "T", name).default_value("t"))
+    let command = with_arg(Ok(command), word_arg(alloc, "DATA", data));
+    let command = with_arg(command, other);
+    let command = with_arg(command, dims_arg(alloc));
+    let command = with_arg(command, page_rows_arg(alloc));
+    with_arg(
+        command,
+        option_arg(alloc, "name", "T", name).default_value("t"),
+    )
 }
 
 // A word for the file of a script.
@@ -139,7 +157,7 @@ fn script_arg<'a>(alloc: Global) -> Arg<'a>
 }
 
 // The command `load` as `clap` reads it.
-fn load_command<'a>(alloc: Global) -> Result<Command<'a>, AllocError>
+fn load_command<'a>(alloc: Global) -> Making<'a>
     ensures { IfOk result (IsCommandFor load_app) }
 {
     let table = "The table file to make; what it held is lost";
@@ -150,19 +168,19 @@ fn load_command<'a>(alloc: Global) -> Result<Command<'a>, AllocError>
 }
 
 // The command `run` as `clap` reads it.
-fn run_command<'a>(alloc: Global) -> Result<Command<'a>, AllocError>
+fn run_command<'a>(alloc: Global) -> Making<'a>
     ensures { IfOk result (IsCommandFor run_app) }
 {
     let table = "A table file that `load` made";
-    Command::new(alloc, "run")
+    let command = Command::new(alloc, "run")
         .about("Run a script of statements on a table file")
-        .after_help(RUN_HELP)
-        .arg(word_arg(alloc, "TABLE", table))?
-        .arg(script_arg(alloc))
+        .after_help(RUN_HELP);
+    let command = with_arg(Ok(command), word_arg(alloc, "TABLE", table));
+    with_arg(command, script_arg(alloc))
 }
 
 // The command `try` as `clap` reads it.
-fn try_command<'a>(alloc: Global) -> Result<Command<'a>, AllocError>
+fn try_command<'a>(alloc: Global) -> Making<'a>
     ensures { IfOk result (IsCommandFor try_app) }
 {
     let command = Command::new(alloc, "try")
@@ -172,31 +190,31 @@ fn try_command<'a>(alloc: Global) -> Result<Command<'a>, AllocError>
 }
 
 // The command `next` as `clap` reads it.
-fn next_command<'a>(alloc: Global) -> Result<Command<'a>, AllocError>
+fn next_command<'a>(alloc: Global) -> Making<'a>
     ensures { IfOk result (IsCommandFor next_app) }
 {
     let low = "The least coordinate in each dimension, joined by commas, as in 2,2";
     let high = "The greatest coordinate in each dimension, joined by commas, as in 6,3";
     let address = "The Z-address from which to look, as in 19";
-    Command::new(alloc, "next")
+    let command = Command::new(alloc, "next")
         .about("Find the addresses of a box that are nearest to a Z-address, on either side")
-        .after_help(NEXT_HELP)
-        .arg(word_arg(alloc, "LO", low))?
-        .arg(word_arg(alloc, "HI", high))?
-        .arg(word_arg(alloc, "Z", address))
+        .after_help(NEXT_HELP);
+    let command = with_arg(Ok(command), word_arg(alloc, "LO", low));
+    let command = with_arg(command, word_arg(alloc, "HI", high));
+    with_arg(command, word_arg(alloc, "Z", address))
 }
 
 // The whole command line.
-pub(crate) fn program<'a>(alloc: Global) -> Result<Command<'a>, AllocError>
+pub(crate) fn program<'a>(alloc: Global) -> Making<'a>
     ensures { IfOk result (IsCommandFor ubq_app) }
 {
-    Command::new(alloc, "ubq")
+    let command = Command::new(alloc, "ubq")
         .version("0.1.0")
         .about("Queries in SQL over a table of points, kept as a UB-tree in one file")
         .after_help(PROGRAM_HELP)
-        .subcommand_required(true)
-        .subcommand(load_command(alloc)?)?
-        .subcommand(run_command(alloc)?)?
-        .subcommand(try_command(alloc)?)?
-        .subcommand(next_command(alloc)?)
+        .subcommand_required(true);
+    let command = with_command(Ok(command), load_command(alloc));
+    let command = with_command(command, run_command(alloc));
+    let command = with_command(command, try_command(alloc));
+    with_command(command, next_command(alloc))
 }

@@ -1,4 +1,4 @@
-use Rattle.std.proofs.Common.{◌≡◌, ◌<◌, ◌∙◌, ap, length, arith, length-take}
+use Rattle.std.proofs.Common.{ap, length, arith, length-take}
 use Rattle.ub_tree.proofs.RoomFacts.{listed_more}
 use Rattle.ub_tree.proofs.room.list_rows.Goals as goal
 

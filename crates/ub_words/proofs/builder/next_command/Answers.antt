@@ -1,13 +1,11 @@
 use Rattle.std.proofs.Common.{codes, rules}
-use Rattle.std.proofs.lemmas.Result.{IfOk-weaker}
 use Rattle.clap.specs.Words.{new_app}
-use Rattle.ub_words.specs.CommandLine.{IsCommandFor}
-use Rattle.ub_words.proofs.CommandFacts.{with_arg}
+use Rattle.ub_words.specs.CommandLine.{IsCommandFor, word_rule}
 use Rattle.ub_words.proofs.builder.next_command.Goals as goal
 
 pub returns : goal.returns
 returns c =
-    let bare : IsCommandFor (new_app (codes "next")) c.after_help.result = (search rules, search rules) in
-    let first = with_arg _ _ _ _ _ bare c.in_ok-arg.ensures c.word_arg.ensures in
-    let second = with_arg _ _ _ _ _ first c.in_ok-arg-2.ensures c.word_arg-2.ensures in
-    IfOk-weaker c.arg-3.result _ _ (λ r adds. with_arg _ _ r _ _ second adds c.word_arg-3.ensures) c.arg-3.ensures
+    let bare : IsCommandFor (new_app (codes "next")) c.after_help-command.result = (search rules, search rules) in
+    let first = c.with_arg-command.ensures (new_app (codes "next")) (word_rule (codes "LO")) bare c.word_arg.ensures in
+    let second = c.with_arg-command-2.ensures _ (word_rule (codes "HI")) first c.word_arg-2.ensures in
+    c.with_arg.ensures _ (word_rule (codes "Z")) second c.word_arg-3.ensures

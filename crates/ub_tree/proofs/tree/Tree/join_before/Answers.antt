@@ -1,4 +1,4 @@
-use Rattle.std.proofs.Common.{◌≡◌, ◌∙◌, ◌++◌, ap, if◌then◌else◌, refl}
+use Rattle.std.proofs.Common.{◌∙◌, ap}
 use Rattle.ub_tree.proofs.ShrinkFacts.{joins_one}
 use Rattle.ub_tree.proofs.TreeFacts.{seat_within}
 use Rattle.ub_tree.specs.View.{TreeView}

@@ -1,6 +1,6 @@
 use Rattle.std.proofs.Common.{◌∙◌, refl, rules}
-use Rattle.ub_tree.proofs.CloseFacts.{header_in_range}
-use Rattle.ub_tree.proofs.header.write_mark.Goals as goal
+use Rattle.ub_writing.proofs.CloseFacts.{header_in_range}
+use Rattle.ub_writing.proofs.header.write_mark.Goals as goal
 
 pub returns : goal.returns
 returns c = (

@@ -1,6 +1,6 @@
 use Rattle.std.proofs.Common.{arith, rules}
 use Rattle.std.proofs.lemmas.Grind.{elements}
-use Rattle.ub_tree.proofs.order.write_page.Goals as goal
+use Rattle.ub_writing.proofs.order.write_page.Goals as goal
 
 pub returns-in_err-put-clause-marks : goal.returns-in_err-put-clause-marks
 returns-in_err-put-clause-marks g c = search rules

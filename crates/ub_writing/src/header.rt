@@ -1,7 +1,7 @@
 ghost use Rattle.std.specs.Prelude.{◌+◌, ◌<◌, ◌≤◌};
 ghost use Rattle.std.specs.List.{AllByRecursion};
 ghost use Rattle.ub_table.specs.Name.{IsName};
-ghost use Rattle.ub_tree.specs.Stored.{IsMarkPage};
+ghost use Rattle.ub_writing.specs.Marks.{IsMarkPage};
 
 use ub_directory::levels_of;
 use ub_page::{Draft, Header, Page, write_header};
@@ -37,8 +37,8 @@ pub fn write_mark<'a>(
     draft.page()
 }
 
-/// Each of these is a name: it tells this to the proof alone.
-pub fn tell_names(names: &[Name])
+// Each of these is a name: it tells this to the proof alone.
+pub(crate) fn tell_names(names: &[Name])
     ensures { AllByRecursion IsName names.now }
 {
     for name in names {
@@ -46,8 +46,8 @@ pub fn tell_names(names: &[Name])
     }
 }
 
-/// This is a name: it tells this to the proof alone.
-pub fn tell_name(name: &Name)
+// This is a name: it tells this to the proof alone.
+pub(crate) fn tell_name(name: &Name)
     ensures { IsName name.now }
 {
     let _bytes = name.bytes();

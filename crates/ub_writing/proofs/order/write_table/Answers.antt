@@ -1,7 +1,7 @@
 use Rattle.std.proofs.Common.{◌∙◌, ap, refl}
 use Rattle.ub_store.specs.Facts.{StoreFacts}
-use Rattle.ub_tree.proofs.CloseFacts.{on_err, unclosed_before, unclosed_of, closed_of}
-use Rattle.ub_tree.proofs.order.write_table.Goals as goal
+use Rattle.ub_writing.proofs.CloseFacts.{on_err, unclosed_before, unclosed_of, closed_of}
+use Rattle.ub_writing.proofs.order.write_table.Goals as goal
 
 pub returns-in_err-write_clean-clause-left : goal.returns-in_err-write_clean-clause-left
 returns-in_err-write_clean-clause-left g c = λ numbers honest own.

@@ -1,7 +1,7 @@
 use Rattle.std.proofs.Common.{arith, inr}
 use Rattle.std.proofs.lemmas.Grind.{common_steps}
-use Rattle.ub_tree.proofs.CloseFacts.{on_err}
-use Rattle.ub_tree.proofs.order.write_first_pages.Goals as goal
+use Rattle.ub_writing.proofs.CloseFacts.{on_err}
+use Rattle.ub_writing.proofs.order.write_first_pages.Goals as goal
 
 pub returns-in_err-extend-2-clause-first : goal.returns-in_err-extend-2-clause-first
 returns-in_err-extend-2-clause-first g c =

@@ -1,4 +1,4 @@
-// In which order the pages of a tree go out.
+// In which order the pages of a table go out.
 //
 // A table: first the header, marked as changed, and then the page of its one region.
 // A change: first the header, marked as changed, unless it is marked already: a table of which any other page was written is not
@@ -13,14 +13,12 @@ ghost use Rattle.ub_page.specs.Region.{region_on, region_page};
 ghost use Rattle.ub_store.specs.Facts.{page_count, IsHonest};
 ghost use Rattle.ub_store.specs.View.{SameTrace};
 ghost use Rattle.ub_directory.specs.Chain.{AreOwn};
-ghost use Rattle.ub_directory.specs.Writing.{KeepsBut, IsSaved, WritesStore};
-ghost use Rattle.ub_tree.specs.Calls.{IsUncreated, IsCreateFault};
-ghost use Rattle.ub_tree.specs.Change.{Puts, PutsTwo, Marks};
-ghost use Rattle.ub_tree.specs.Closing.{IsClosed, IsUnclosed, IsSaveFault};
-ghost use Rattle.ub_tree.specs.Effects.{written_store};
-ghost use Rattle.ub_tree.specs.Tree.{IsLaidOut, empty_region};
+ghost use Rattle.ub_directory.specs.Writing.{KeepsBut, IsSaved, IsSaveFault, WritesStore, put_store};
+ghost use Rattle.ub_writing.specs.Closing.{IsClosed, IsUnclosed};
+ghost use Rattle.ub_writing.specs.Creation.{IsLaidOut, IsLayoutFault, IsUncreated, empty_region};
+ghost use Rattle.ub_writing.specs.Marks.{Marks};
+ghost use Rattle.ub_writing.specs.Puts.{Puts, PutsTwo};
 
-use crate::fault::TreeFault;
 use crate::header::{tell_name, tell_names, write_mark};
 use ub_directory::{Directory, ORIGIN, levels_of};
 use ub_page::{Draft, Header, Page, write_header, write_region};
@@ -31,15 +29,15 @@ use ub_table::{MAX_ROW_NUMBER, Schema};
 pub fn write_first_pages<S: PageStore>(
     pager: &mut Pager<S>,
     schema: &Schema,
-) -> Result<(), TreeFault>
+) -> Result<(), StoreFault>
     requires { page_count pager.old.store ≡ 0 }
     ensures pages { OnOk result (IsHonest pager.old.store
         → IsLaidOut schema.now pager.new.store.pages) }
     ensures first { OnErr result (IsHonest pager.old.store
         → IsUncreated schema.now pager.new.store) }
     ensures trace { SameTrace pager.old pager.new }
-    ensures left { pager.new.store ≡ written_store result pager.old.store pager.new.store }
-    ensures refused { IfErr result (IsCreateFault pager.old.store) }
+    ensures left { pager.new.store ≡ put_store result pager.old.store pager.new.store }
+    ensures refused { IfErr result (IsLayoutFault pager.old.store) }
 {
     let mut draft = Draft::new();
     pager.extend()?;
@@ -121,7 +119,7 @@ pub fn write_table<S: PageStore>(
     schema: Schema,
     next: u32,
     rows: u32,
-) -> Result<(), TreeFault>
+) -> Result<(), StoreFault>
     requires few { length directory.entries < 2 ^ 32 }
     requires counts { (rows < next) × (next ≤ MAX_ROW_NUMBER + 1) }
     ensures closed { (numbers : List ℕ) → IsHonest pager.old.store
@@ -133,7 +131,7 @@ pub fn write_table<S: PageStore>(
         → OnErr result (IsUnclosed numbers directory.entries pager.old.store pager.new.store) }
     ensures saved { OnOk result (IsSaved (length directory.entries)
         (length directory.chain) pager.old.store pager.new.store) }
-    ensures same { pager.new.store ≡ written_store result pager.old.store pager.new.store }
+    ensures same { pager.new.store ≡ put_store result pager.old.store pager.new.store }
     ensures refused { IfErr result (IsSaveFault directory.chain pager.old.store pager.new.store) }
 {
     tell_names(schema.columns());

@@ -1,0 +1,4 @@
+pub mod Marks
+pub mod Puts
+pub mod Creation
+pub mod Closing

@@ -1,0 +1,109 @@
+#!/usr/bin/env python3
+"""Runs the gate, and tells what docs/GATE.md has of it: the minutes of processor of each crate's proof, tests and edits, the
+dearest edits, and how much of the processors the host took back.
+
+    docs/gate_times.py LOG      in a clean clone; what `rt ci` prints goes to LOG
+
+It looks every second at the processes that `rt ci` starts, so what runs for less than a second can be missed."""
+
+import collections
+import os
+import pathlib
+import re
+import subprocess
+import sys
+import time
+
+TOP = pathlib.Path(__file__).resolve().parent.parent
+TICK = os.sysconf("SC_CLK_TCK")
+# The check from which a crate's edits begin, and one of an edit, by the folder of its kept work.
+OF_EDITS = re.compile(r"/rt-edits-[^/]*/(\w+)$")
+KINDS = ("proof", "tests", "edits")
+
+
+def processors():
+    """The times that all processors have spent so far, in user, system, idle and stolen ticks."""
+    words = [int(word) for word in pathlib.Path("/proc/stat").read_text().split("\n")[0].split()[1:9]]
+    return words[0] + words[1], words[2], words[3] + words[4], words[7]
+
+
+def what_runs(pid):
+    """The crate, the kind of work, and the number of the edit that a process is for, if it is one of the prover's."""
+    words = pathlib.Path(f"/proc/{pid}/cmdline").read_text(errors="replace").split("\0")
+    if "--crate-name" not in words:
+        return None
+    crate = words[words.index("--crate-name") + 1]
+    kept = words[words.index("--incremental") + 1] if "--incremental" in words else ""
+    of_edits = OF_EDITS.search(kept)
+    if of_edits:
+        return crate, "edits", of_edits[1]
+    return crate, "tests" if "--test" in words else "proof", ""
+
+
+def ticks_of(pid):
+    """When a process began, and what it has used."""
+    words = pathlib.Path(f"/proc/{pid}/stat").read_text().rsplit(")", 1)[1].split()
+    return words[19], int(words[11]) + int(words[12])
+
+
+class Sampler:
+    """Adds up what the prover's processes use."""
+
+    def __init__(self):
+        self.seen, self.used = {}, collections.Counter()
+
+    def sample(self):
+        for pid in filter(str.isdigit, os.listdir("/proc")):
+            try:
+                began, ticks = ticks_of(pid)
+                key = pid, began
+                if key not in self.seen:
+                    self.seen[key] = what_runs(pid), 0
+                work, before = self.seen[key]
+            except (OSError, ValueError, IndexError):
+                continue
+            if work:
+                self.used[work] += (ticks - before) / TICK
+                self.seen[key] = work, ticks
+
+
+def edits_of(crate):
+    return sorted(file.stem for file in (TOP / "crates" / crate / "must-fail").glob("*.edit"))
+
+
+def tell(used, wall, before, after):
+    """Prints the table, the dearest edits and what the processors did."""
+    crates = [line.split("#")[0].split(":")[0].strip() for line in (TOP / "crates.txt").read_text().splitlines()]
+    minutes = collections.Counter()
+    for (crate, kind, _), seconds in used.items():
+        minutes[crate, kind] += seconds / 60
+    print("| Crate | Proof | Its tests and their proof | Edits | Number |\n|---|---|---|---|---|")
+    for crate in filter(None, crates):
+        cells = [f"{minutes[crate, kind]:.1f}" if minutes[crate, kind] >= 0.05 else "" for kind in KINDS]
+        print(f"| `{crate}` | {' | '.join(cells)} | {len(edits_of(crate)) or ''} |")
+    sums = [sum(it for (_, kind), it in minutes.items() if kind == wanted) for wanted in KINDS]
+    print("\nIn sum, in minutes: " + ", ".join(f"{kind} {it:.1f}" for kind, it in zip(KINDS, sums)))
+    dearest = sorted(((s, c, n) for (c, kind, n), s in used.items() if kind == "edits" and n.isdigit()), reverse=True)
+    for seconds, crate, number in dearest[:15]:
+        print(f"  {seconds:5.0f} s {crate}/{edits_of(crate)[int(number)]}")
+    spent = [after[at] - before[at] for at in range(4)]
+    shares = [f"{name} {100 * it / sum(spent):.1f} %" for name, it in zip(("user", "system", "idle", "stolen"), spent)]
+    print(f"\nwall {wall // 60:.0f}:{wall % 60:02.0f}; of {os.cpu_count()} processors: " + ", ".join(shares))
+
+
+def main():
+    if len(sys.argv) != 2:
+        sys.exit(__doc__)
+    sampler, began, before = Sampler(), time.time(), processors()
+    with open(sys.argv[1], "w", encoding="utf-8") as log:
+        gate = subprocess.Popen(["bash", ".ci/run"], cwd=TOP, stdin=subprocess.DEVNULL, stdout=log, stderr=subprocess.STDOUT)
+        while gate.poll() is None:
+            sampler.sample()
+            time.sleep(1)
+    tell(sampler.used, time.time() - began, before, processors())
+    times = os.times()
+    print(f"user and system of the gate: {(times.children_user + times.children_system) / 60:.0f} minutes; its status: {gate.returncode}")
+    sys.exit(gate.returncode)
+
+
+main()
