@@ -9,3 +9,6 @@ returns-clause-pages g c = search rules
 
 pub returns-in_err-rows-clause-broken : goal.returns-in_err-rows-clause-broken
 returns-in_err-rows-clause-broken g c = search rules
+
+pub returns-in_err-rows-clause-effect : goal.returns-in_err-rows-clause-effect
+returns-in_err-rows-clause-effect g c = search rules

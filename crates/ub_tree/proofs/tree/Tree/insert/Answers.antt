@@ -14,3 +14,6 @@ returns-in_err-room-clause-failed g c = search rules
 
 pub returns-clause-failed : goal.returns-clause-failed
 returns-clause-failed g c = search rules
+
+pub insert_within-inserted-requires-clause-working : goal.insert_within-inserted-requires-clause-working
+insert_within-inserted-requires-clause-working g c = search rules

@@ -1,4 +1,4 @@
-use Rattle.std.proofs.Common.{◌≡◌, ◌≢◌, ◌<◌, ◌+◌, ◌^◌, ◌∙◌, ℕ, Err, sym, ap, subst, length, arith, inr, map, refl, true, false, Some, slice_get, List}
+use Rattle.std.proofs.Common.{◌≡◌, ◌≢◌, ◌<◌, ◌+◌, ◌^◌, ◌∙◌, ℕ, Err, sym, ap, subst, length, arith, inr, map, refl, true, false, Some, slice_get, List, rules}
 use Rattle.std.specs.List.{list_any}
 use Rattle.ub_page.specs.declared.directory.Entry.{Entry}
 use Rattle.ub_table.specs.Region.{key_of, keys_of}
@@ -162,3 +162,9 @@ returns-then-has_key-clause-effect g c =
     let on : p.page ≡ c.page.result = page ∙ sym c.page.ensures in
     subst (λ (v : TreeView). Changes {A = ℕ} a v (Err (Page c.page.result BadOrder))) (sym same)
     (unchanged (Page c.page.result BadOrder) a (taken.0, inr (inr (refl, subst (λ (n : ℕ). IsNumberTaken a n) on taken.1)), refl))
+
+pub invariant_of-self : goal.invariant_of-self
+invariant_of-self g c = search rules
+
+pub returns-clause-counted : goal.returns-clause-counted
+returns-clause-counted g c = search rules
