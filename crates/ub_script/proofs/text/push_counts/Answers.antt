@@ -1,5 +1,6 @@
-use Rattle.std.proofs.Common.{rules}
+use Rattle.std.proofs.Common.{arith}
+use Rattle.std.proofs.lemmas.Grind.{common_steps}
 use Rattle.ub_script.proofs.text.push_counts.Goals as goal
 
 pub returns : goal.returns
-returns c = search rules
+returns c = grind (arith, common_steps) steps 2000000

@@ -1,3 +1,4 @@
+use Rattle.std.proofs.Common.{rules}
 use Rattle.ub_shell.proofs.closing.close_table.Goals as goal
 
 pub returns-in-Err : goal.returns-in-Err
@@ -8,3 +9,6 @@ returns-in-Err g c = record {
   unchanged = λ changed failed. absurd (c.in-Err.ensures.unchanged changed failed);
   refused = c.in-Err.ensures.refused;
 }
+
+pub returns-in-Ok : goal.returns-in-Ok
+returns-in-Ok g c = search rules
