@@ -1,122 +1,104 @@
-// The addresses of boxes that are nearest to one, the coordinates that boxes have within a span, and one way of a jump beside
-// the other.
-ghost use Rattle.std.specs.Prelude.{◌≡◌, ◌<◌, length, All, IfOk};
+// The addresses of boxes that are nearest to one, the coordinates that boxes have within a span,
+// and one way of a jump beside the other.
+ghost use Rattle.std.specs.Prelude.{◌≡◌, ◌<◌, length, All, IfOk, IfSome};
 
-use std::test::Fail;
 use ub_bigmin::laws::{next_by_bits, next_by_words, prev_by_bits, prev_by_words};
 use ub_bigmin::{ZBox, greatest_value, least_value, next_in_any};
 use ub_zaddr::{Point, Shape, ZFault, interleave};
 
-// The box of two dimensions between two corners.
-fn rectangle(lo: [u32; 2], hi: [u32; 2]) -> Result<ZBox, Fail>
-    ensures { IfOk result (λ b. length b.lo ≡ 2) }
+// Addresses, and the nearest ones of the box from (2,2) to (6,3) at or above and at or below them.
+const NEIGHBOURS: &[(u128, Option<u128>, Option<u128>)] = &[
+    (19, Some(36), Some(15)),
+    (0, Some(12), None),
+    (46, None, Some(45)),
+    (11, Some(12), None),
+    (12, Some(12), Some(12)),
+];
+
+// Spans, and the least and the greatest first coordinate that this box has there.
+const SPANS: &[(u128, u128, Option<u32>, Option<u32>)] = &[
+    (13, 35, Some(2), Some(3)),
+    (16, 35, None, None),
+    (16, 36, Some(4), Some(4)),
+    (40, 45, Some(6), Some(6)),
+];
+
+// The box of so many dimensions between two corners.
+fn box_between(dims: u32, lo: &[u32], hi: &[u32]) -> Option<ZBox>
+    ensures { IfSome result (λ b. length b.lo ≡ dims) }
 {
-    let shape = Shape::new(2)?;
-    let lo = Point::new(shape, &lo)?;
-    let hi = Point::new(shape, &hi)?;
-    let zbox = ZBox::new(shape, &lo, &hi).ok_or("an empty box")?;
-    Ok(zbox)
+    let Ok(shape) = Shape::new(dims) else {
+        return None;
+    };
+    let (Ok(lo), Ok(hi)) = (Point::new(shape, lo), Point::new(shape, hi)) else {
+        return None;
+    };
+    ZBox::new(shape, &lo, &hi)
 }
 
-#[test]
-fn neighbours(rt: HostRuntime) -> Result<(), Fail> {
-    let zbox = rectangle([2, 2], [6, 3])?;
-    for (z, next, prev) in [
-        (19, Some(36), Some(15)),
-        (0, Some(12), None),
-        (46, None, Some(45)),
-        (11, Some(12), None),
-        (12, Some(12), Some(12)),
-    ] {
-        assert_eq!(rt;
-            (zbox.next_in_box(z), zbox.prev_in_box(z)),
-            (next, prev),
-            "{z}"
-        );
+// Whether this box has the corners (2,2) and (6,3), holds what lies between them, and leads to its
+// neighbours.
+fn is_as_told(zbox: &ZBox) -> bool {
+    for (z, next, prev) in NEIGHBOURS {
+        if zbox.next_in_box(*z) != *next || zbox.prev_in_box(*z) != *prev {
+            return false;
+        }
     }
-    Ok(())
+    zbox.shape().dims() == 2
+        && zbox.lo().values() == [2, 2].as_slice()
+        && zbox.hi().values() == [6, 3].as_slice()
+        && zbox.holds(12)
+        && zbox.holds(45)
+        && !zbox.holds(19)
+        && !zbox.holds(u128::MAX)
 }
 
-// The neighbours of the last address in the whole space of four dimensions, and whether there is a box from its last point to
-// its first.
-fn ends_of_the_whole_space() -> Result<(Option<u128>, Option<u128>, bool), ZFault> {
-    let shape = Shape::new(4)?;
-    let lo = Point::new(shape, &[0; 4])?;
-    let hi = Point::new(shape, &[4294967295; 4])?;
-    let is_backwards = ZBox::new(shape, &hi, &lo).is_some();
-    Ok(match ZBox::new(shape, &lo, &hi) {
-        Some(whole) => (
-            whole.next_in_box(u128::MAX),
-            whole.prev_in_box(u128::MAX),
-            is_backwards,
-        ),
-        None => (None, None, is_backwards),
-    })
-}
-
-#[test]
-fn the_whole_space(rt: HostRuntime) -> Result<(), Fail> {
-    let last = Some(u128::MAX);
-    assert_eq!(rt; ends_of_the_whole_space()?, (last, last, false));
-    Ok(())
-}
-
-#[test]
-fn members(rt: HostRuntime) -> Result<(), Fail> {
-    let zbox = rectangle([2, 2], [6, 3])?;
-    for (z, is_held) in [(12, true), (45, true), (19, false), (u128::MAX, false)] {
-        assert_eq!(rt; zbox.holds(z), is_held, "{z}");
-    }
-    Ok(())
-}
-
-#[test]
-fn corners(rt: HostRuntime) -> Result<(), Fail> {
-    let zbox = rectangle([2, 2], [6, 3])?;
-    assert!(rt;
-        zbox.shape().dims() == 2
-            && zbox.lo().values() == [2, 2].as_slice()
-            && zbox.hi().values() == [6, 3].as_slice()
-    );
-    Ok(())
-}
-
-// The least and the greatest first coordinate that boxes have within a span.
-fn values(boxes: &[ZBox], from: u128, to: u128) -> (Option<u32>, Option<u32>)
+// Whether boxes have these least and greatest first coordinates within these spans.
+fn have_values(boxes: &[ZBox], spans: &[(u128, u128, Option<u32>, Option<u32>)]) -> bool
     requires { All (λ b. 0 < length b.lo) boxes.now }
 {
-    (
-        least_value(boxes, from, to, 0),
-        greatest_value(boxes, from, to, 0),
-    )
+    for (from, to, least, greatest) in spans {
+        if least_value(boxes, *from, *to, 0) != *least
+            || greatest_value(boxes, *from, *to, 0) != *greatest
+        {
+            return false;
+        }
+    }
+    true
 }
 
 #[test]
-fn event_values(rt: HostRuntime) -> Result<(), Fail> {
-    let boxes = [rectangle([2, 2], [6, 3])?];
-    for (from, to, least, greatest) in [
-        (13, 35, Some(2), Some(3)),
-        (16, 35, None, None),
-        (16, 36, Some(4), Some(4)),
-        (40, 45, Some(6), Some(6)),
-    ] {
-        assert_eq!(rt; values(&boxes, from, to), (least, greatest), "{from} {to}");
-    }
-    Ok(())
+fn one_box(rt: HostRuntime) {
+    let zbox = box_between(2, &[2, 2], &[6, 3]).expect(&rt, "a box");
+    assert!(rt; is_as_told(&zbox) && have_values(&[zbox], SPANS));
 }
 
 #[test]
-fn several_boxes(rt: HostRuntime) -> Result<(), Fail> {
-    let boxes = [rectangle([6, 3], [6, 3])?, rectangle([2, 2], [3, 3])?];
-    assert_eq!(rt; values(&boxes, 15, 45), (Some(3), Some(6)));
-    for (z, next) in [(13, Some(13)), (16, Some(45)), (46, None)] {
-        assert_eq!(rt; next_in_any(&boxes, z), next, "{z}");
-    }
-    Ok(())
+fn several_boxes(rt: HostRuntime) {
+    let high = box_between(2, &[6, 3], &[6, 3]).expect(&rt, "a box");
+    let low = box_between(2, &[2, 2], &[3, 3]).expect(&rt, "a box");
+    let boxes = [high, low];
+    assert!(rt;
+        have_values(&boxes, &[(15, 45, Some(3), Some(6))])
+            && next_in_any(&boxes, 13) == Some(13)
+            && next_in_any(&boxes, 16) == Some(45)
+            && next_in_any(&boxes, 46).is_none()
+    );
 }
 
-// The coordinates of the boxes that both ways of a jump are compared on: each up to 7, and those at the ends and in the
-// middle of the 32 bits.
+// The last address is its own neighbour, and there is no box from the last point to the first.
+#[test]
+fn the_whole_space(rt: HostRuntime) {
+    let whole = box_between(4, &[0; 4], &[4294967295; 4]).expect(&rt, "a space");
+    assert!(rt;
+        whole.next_in_box(u128::MAX) == Some(u128::MAX)
+            && whole.prev_in_box(u128::MAX) == Some(u128::MAX)
+            && box_between(4, &[4294967295; 4], &[0; 4]).is_none()
+    );
+}
+
+// The coordinates of the boxes that both ways of a jump are compared on: each up to 7, and those at
+// the ends and in the middle of the 32 bits.
 const SMALL: [u32; 8] = [0, 1, 2, 3, 4, 5, 6, 7];
 
 const ENDS: [u32; 4] = [0, 1, 2147483648, 4294967295];
@@ -144,83 +126,64 @@ fn agrees(zbox: &ZBox, z: u128) -> bool {
     next == next_by_bits(zbox, z) && prev == prev_by_bits(zbox, z)
 }
 
-// From how many of the addresses up to 64 both ways agree.
-fn agree_up_to_64(zbox: &ZBox) -> u64 {
-    let mut count = 0u64;
-    for z in 0..65u32 {
-        count = count.wrapping_add(u64::from(agrees(zbox, u128::from(z))));
+// From how many of the first points with these coordinates, and of the address 64, both ways agree.
+fn agreements_in(zbox: &ZBox, values: &[u32], points: usize) -> u64
+    requires { 0 < length values.now }
+{
+    let shape = zbox.shape();
+    let mut count = u64::from(agrees(zbox, 64));
+    for n in 0..points {
+        if let Ok(point) = point_among(shape, values, n) {
+            let z = interleave(shape, &point);
+            count = count.wrapping_add(u64::from(agrees(zbox, z)));
+        }
     }
     count
 }
 
-// From how many of the first points with coordinates at the ends both ways agree.
-fn agree_at_ends(zbox: &ZBox, points: usize) -> Result<u64, ZFault> {
-    let shape = zbox.shape();
-    let mut count = 0u64;
-    for n in 0..points {
-        let z = interleave(shape, &point_among(shape, &ENDS, n)?);
-        count = count.wrapping_add(u64::from(agrees(zbox, z)));
-    }
-    Ok(count)
-}
-
-// In how many boxes with corners at the ends, the lower one of these numbers, and from how many points there, both ways
-// agree.
-fn agreements_at_ends(dims: u32, points: usize, from: usize, to: usize) -> Result<u64, ZFault> {
-    let shape = Shape::new(dims)?;
+// In how many boxes with these coordinates, the lower corner one of those from one number to
+// another, and from how many addresses there both ways agree.
+fn agreements(dims: u32, values: &[u32], points: usize, from: usize, to: usize) -> u64
+    requires { 0 < length values.now }
+{
+    let Ok(shape) = Shape::new(dims) else {
+        return 0;
+    };
     let mut count = 0u64;
     for low in from..to {
-        let lo = point_among(shape, &ENDS, low)?;
         for high in 0..points {
-            let hi = point_among(shape, &ENDS, high)?;
+            let (Ok(lo), Ok(hi)) = (
+                point_among(shape, values, low),
+                point_among(shape, values, high),
+            ) else {
+                return 0;
+            };
             if let Some(zbox) = ZBox::new(shape, &lo, &hi) {
-                count = count.wrapping_add(agree_at_ends(&zbox, points)?);
+                count = count.wrapping_add(agreements_in(&zbox, values, points));
             }
         }
     }
-    Ok(count)
+    count
 }
 
-// In how many boxes of the plane with corners up to 7, and from how many addresses up to 64, both ways agree.
-fn agreements_up_to_7() -> Result<u64, ZFault> {
-    let plane = Shape::new(2)?;
-    let mut count = 0u64;
-    for low in 0..64 {
-        let lo = point_among(plane, &SMALL, low)?;
-        for high in 0..64 {
-            let hi = point_among(plane, &SMALL, high)?;
-            if let Some(zbox) = ZBox::new(plane, &lo, &hi) {
-                count = count.wrapping_add(agree_up_to_64(&zbox));
-            }
-        }
-    }
-    Ok(count)
-}
-
-// 36 pairs of corners in each of two dimensions, and 65 addresses.
+// 36 pairs of corners up to 7 in each of two dimensions, and the 65 addresses up to 64; and 10
+// pairs at the ends in each of three, 4 coordinates there, and the address 64.
 #[test]
-fn words_and_bits_agree_in_the_plane(rt: HostRuntime) -> Result<(), Fail> {
-    assert_eq!(rt; agreements_up_to_7()?, 36 * 36 * 65);
-    Ok(())
+fn words_and_bits_agree_in_two_and_three_dimensions(rt: HostRuntime) {
+    let plane = agreements(2, &SMALL, 64, 0, 64);
+    let space = agreements(3, &ENDS, 64, 0, 64);
+    assert!(rt; plane == 84240 && space == 65000);
 }
 
-// 10 pairs of corners and 4 coordinates in each dimension.
+// Where the lower corner has the least of the 4 coordinates in the last dimension, 4 pairs there,
+// and 10 in the others.
 #[test]
-fn words_and_bits_agree_at_the_ends_of_three_dimensions(rt: HostRuntime) -> Result<(), Fail> {
-    assert_eq!(rt; agreements_at_ends(3, 64, 0, 64)?, 1000 * 64);
-    Ok(())
-}
-
-// Where the lower corner has the least of the 4 coordinates in the last dimension, 4 pairs there, and 10 in the others.
-#[test]
-fn words_and_bits_agree_from_the_start_of_four_dimensions(rt: HostRuntime) -> Result<(), Fail> {
-    assert_eq!(rt; agreements_at_ends(4, 256, 0, 64)?, 4000 * 256);
-    Ok(())
+fn words_and_bits_agree_from_the_start_of_four_dimensions(rt: HostRuntime) {
+    assert!(rt; agreements(4, &ENDS, 256, 0, 64) == 1028000);
 }
 
 // And 3, 2 and 1 pairs.
 #[test]
-fn words_and_bits_agree_at_the_ends_of_four_dimensions(rt: HostRuntime) -> Result<(), Fail> {
-    assert_eq!(rt; agreements_at_ends(4, 256, 64, 256)?, 6000 * 256);
-    Ok(())
+fn words_and_bits_agree_at_the_ends_of_four_dimensions(rt: HostRuntime) {
+    assert!(rt; agreements(4, &ENDS, 256, 64, 256) == 1542000);
 }

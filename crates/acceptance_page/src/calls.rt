@@ -11,7 +11,8 @@ pub(crate) enum Call {
     Sync,
 }
 
-// How many pages there are, the number of the page that was added, the byte that the page is full of, or 0.
+// How many pages there are, the number of the page that was added, the byte that the page is full
+// of, or 0.
 pub(crate) type Answer = Result<u32, StoreFault>;
 
 // The byte that a page is full of; 256 where it has two.
@@ -23,22 +24,40 @@ pub(crate) fn byte_of(page: &Page) -> u32 {
     }
 }
 
+// What a call answers.
 fn answer<S: PageStore>(store: &mut S, call: Call) -> Answer {
     match call {
         Call::Pages => Ok(store.pages()),
         Call::Extend => store.extend(),
         Call::Read(n) => Ok(byte_of(&store.read_page(n)?)),
-        Call::Write(n, byte) => store.write_page(n, &[byte; 4096]).map(|()| 0),
-        Call::Sync => store.sync().map(|()| 0),
+        Call::Write(n, byte) => {
+            store.write_page(n, &[byte; 4096])?;
+            Ok(0)
+        }
+        Call::Sync => {
+            store.sync()?;
+            Ok(0)
+        }
     }
 }
 
-// The first of the calls that is answered otherwise, if there is one.
-pub(crate) fn first_wrong<S: PageStore>(store: &mut S, calls: &[(Call, Answer)]) -> Option<usize> {
-    for (i, (call, wanted)) in calls.iter().enumerate() {
+// Whether each of the calls is answered so.
+pub(crate) fn answers<S: PageStore>(store: &mut S, calls: &[(Call, Answer)]) -> bool {
+    for (call, wanted) in calls {
         if answer(store, *call) != *wanted {
-            return Some(i);
+            return false;
         }
     }
-    None
+    true
+}
+
+// Whether there is a store, and it answers each of the calls so.
+pub(crate) fn made_answers<S: PageStore>(
+    made: Result<S, StoreFault>,
+    calls: &[(Call, Answer)],
+) -> bool {
+    match made {
+        Ok(mut store) => answers(&mut store, calls),
+        Err(_) => false,
+    }
 }

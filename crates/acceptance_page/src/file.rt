@@ -3,29 +3,21 @@
 ghost use Rattle.std.specs.Prelude.{◌≡◌, ◌<◌, IfOk};
 ghost use Rattle.ub_store.specs.Facts.{IsHonest, raised};
 
-use crate::calls::{Answer, Call, byte_of, first_wrong};
-use std::alloc::{AllocError, Global};
-use std::test::Fail;
+use crate::calls::{Answer, Call, answers, byte_of, made_answers};
+use std::alloc::Global;
 use std::{fs, process};
 use ub_file::host::{create_store, open_store};
 use ub_file::{FileStore, Medium, MemMedium};
 use ub_store::{Page, PageStore, StoreFault};
 
-// The store on a medium of so many pages of zeros and bytes after them, that fails at its k-th call.
-fn open_zeros(
-    alloc: Global,
-    pages: u16,
-    rest: u16,
-    k: u64,
-) -> Result<FileStore<MemMedium>, StoreFault>
+// A medium of so many pages that are full of one byte and bytes after them, that fails at its k-th
+// call.
+fn medium(alloc: Global, pages: u16, byte: u8, rest: u16, k: u64) -> Result<MemMedium, StoreFault>
     requires { rest < 4096 }
 {
-    let Ok(pages) = vec![in alloc; [0; 4096]; usize::from(pages)] else {
-        return Err(StoreFault::Memory);
-    };
-    match FileStore::open(MemMedium::new(pages, rest, k)) {
-        Ok(store) => Ok(store),
-        Err(refused) => Err(refused.fault),
+    match vec![in alloc; [byte; 4096]; usize::from(pages)] {
+        Ok(pages) => Ok(MemMedium::new(pages, rest, k)),
+        Err(_) => Err(StoreFault::Memory),
     }
 }
 
@@ -84,6 +76,24 @@ impl Medium for Measured {
     }
 }
 
+// Lengths in bytes, and whether a medium of each is a store.
+const LENGTHS: &[(u64, bool)] = &[
+    (0, true),
+    (4096, true),
+    (8192, true),
+    (17592186040320, true),
+    (1, false),
+    (100, false),
+    (2048, false),
+    (4095, false),
+    (4097, false),
+    (17592186040321, false),
+    (17592186044416, false),
+];
+
+// Pages, and bytes after them that are no page.
+const PARTS: &[(u16, u16)] = &[(0, 1), (0, 100), (1, 1), (1, 2048)];
+
 // Whether a medium of so many bytes is a store.
 fn is_store(bytes: u64) -> bool {
     let medium = Measured {
@@ -94,155 +104,178 @@ fn is_store(bytes: u64) -> bool {
     FileStore::open(medium).is_ok()
 }
 
-#[test]
-fn takes_whole_pages_alone(rt: HostRuntime) {
-    for (length, is_right) in [
-        (0, true),
-        (4096, true),
-        (8192, true),
-        (17592186040320, true),
-        (1, false),
-        (100, false),
-        (2048, false),
-        (4095, false),
-        (4097, false),
-        (17592186040321, false),
-        (17592186044416, false),
-    ] {
-        assert_eq!(rt; is_store(length), is_right, "{length}");
-    }
-}
-
-#[test]
-fn refuses_part_of_a_page(rt: HostRuntime) {
-    for (pages, rest) in [(0, 1), (0, 100), (1, 1), (1, 2048)] {
-        let fault = open_zeros(rt.alloc(), pages, rest, 0).err();
-        assert_eq!(rt; fault, Some(StoreFault::BadSize), "{pages} {rest}");
-    }
-}
-
-// Whether a store of so many pages of zeros, that fails at its k-th call, answers these calls so.
-fn answers(alloc: Global, pages: u16, k: u64, calls: &[(Call, Answer)]) -> bool {
-    match open_zeros(alloc, pages, 0, k) {
-        Ok(mut store) => first_wrong(&mut store, calls).is_none(),
+// Whether so many pages and bytes after them are no store.
+fn is_part(alloc: Global, pages: u16, rest: u16) -> bool {
+    match medium(alloc, pages, 0, rest % 4096, 0) {
+        Ok(medium) => is_left(medium, Err(StoreFault::BadSize)),
         Err(_) => false,
     }
 }
 
 #[test]
-fn answers_calls(rt: HostRuntime) {
-    for (pages, calls) in [
-        (
-            0,
-            [
-                (Call::Pages, Ok(0)),
-                (Call::Read(0), Err(StoreFault::NoPage)),
-                (Call::Write(0, 7), Err(StoreFault::NoPage)),
-            ]
-            .as_slice(),
-        ),
-        (
-            3,
-            [
-                (Call::Write(1, 7), Ok(0)),
-                (Call::Write(2, 8), Ok(0)),
-                (Call::Read(0), Ok(0)),
-                (Call::Read(1), Ok(7)),
-                (Call::Read(2), Ok(8)),
-                (Call::Read(3), Err(StoreFault::NoPage)),
-                (Call::Write(3, 9), Err(StoreFault::NoPage)),
-                (Call::Pages, Ok(3)),
-            ]
-            .as_slice(),
-        ),
-        (
-            2,
-            [
-                (Call::Extend, Ok(2)),
-                (Call::Pages, Ok(3)),
-                (Call::Read(2), Ok(0)),
-                (Call::Sync, Ok(0)),
-            ]
-            .as_slice(),
-        ),
-    ] {
-        assert!(rt; answers(rt.alloc(), pages, 0, calls), "{pages}");
+fn takes_whole_pages_alone(rt: HostRuntime) {
+    for (bytes, is_right) in LENGTHS {
+        assert!(rt; is_store(*bytes) == *is_right, "{bytes}");
+    }
+    for (pages, rest) in PARTS {
+        assert!(rt; is_part(rt.alloc(), *pages, *rest));
     }
 }
 
-#[test]
-fn tells_the_failed_call_alone(rt: HostRuntime) {
-    for k in 0..=4usize {
-        let mut calls = [
+// What is left of a store's medium: another store that answers these calls so, or why it is none.
+type Left = Result<&'static [(Call, Answer)], StoreFault>;
+
+// Whether this is left of a medium.
+fn is_left(medium: MemMedium, left: Left) -> bool {
+    match FileStore::open(medium) {
+        Ok(mut store) => match left {
+            Ok(calls) => answers(&mut store, calls),
+            Err(_) => false,
+        },
+        Err(refused) => match left {
+            Ok(_) => false,
+            Err(fault) => fault == refused.fault,
+        },
+    }
+}
+
+// Whether the store on so many pages of zeros, whose medium fails at its k-th call, answers these
+// calls so, and this is left then.
+fn is_played(alloc: Global, pages: u16, k: u64, calls: &[(Call, Answer)], left: Left) -> bool {
+    let Ok(medium) = medium(alloc, pages, 0, 0, k) else {
+        return false;
+    };
+    match FileStore::open(medium) {
+        Ok(mut store) => answers(&mut store, calls) && is_left(store.into_medium(), left),
+        Err(_) => false,
+    }
+}
+
+// The pages of zeros that a store begins with, the call of its medium that fails, the calls of the
+// store with their answers, and what is left then.
+const SCRIPTS: &[(u16, u64, &[(Call, Answer)], Left)] = &[
+    (
+        0,
+        0,
+        &[
+            (Call::Pages, Ok(0)),
+            (Call::Read(0), Err(StoreFault::NoPage)),
+            (Call::Write(0, 7), Err(StoreFault::NoPage)),
+        ],
+        Ok(&[(Call::Pages, Ok(0))]),
+    ),
+    (
+        3,
+        0,
+        &[
+            (Call::Write(1, 7), Ok(0)),
+            (Call::Write(2, 8), Ok(0)),
+            (Call::Read(0), Ok(0)),
+            (Call::Read(1), Ok(7)),
+            (Call::Read(2), Ok(8)),
+            (Call::Read(3), Err(StoreFault::NoPage)),
+            (Call::Write(3, 9), Err(StoreFault::NoPage)),
+            (Call::Pages, Ok(3)),
+        ],
+        Ok(&[(Call::Pages, Ok(3)), (Call::Read(1), Ok(7))]),
+    ),
+    (
+        2,
+        0,
+        &[
+            (Call::Extend, Ok(2)),
+            (Call::Pages, Ok(3)),
+            (Call::Read(2), Ok(0)),
+            (Call::Sync, Ok(0)),
+        ],
+        Ok(&[(Call::Pages, Ok(3))]),
+    ),
+    (
+        1,
+        0,
+        &[
             (Call::Read(0), Ok(0)),
             (Call::Write(0, 7), Ok(0)),
             (Call::Extend, Ok(1)),
             (Call::Sync, Ok(0)),
-        ];
-        if k > 0 {
-            calls[k - 1].1 = Err(StoreFault::Device);
-        }
-        assert!(rt; answers(rt.alloc(), 1, k as u64, &calls), "{k}");
-    }
-}
+        ],
+        Ok(&[(Call::Pages, Ok(2)), (Call::Read(0), Ok(7))]),
+    ),
+    (
+        1,
+        1,
+        &[
+            (Call::Read(0), Err(StoreFault::Device)),
+            (Call::Write(0, 7), Ok(0)),
+            (Call::Extend, Ok(1)),
+            (Call::Sync, Ok(0)),
+        ],
+        Ok(&[(Call::Pages, Ok(2)), (Call::Read(0), Ok(7))]),
+    ),
+    (
+        1,
+        2,
+        &[
+            (Call::Read(0), Ok(0)),
+            (Call::Write(0, 7), Err(StoreFault::Device)),
+            (Call::Extend, Ok(1)),
+            (Call::Sync, Ok(0)),
+        ],
+        Ok(&[(Call::Pages, Ok(2)), (Call::Read(0), Ok(0))]),
+    ),
+    (
+        1,
+        3,
+        &[
+            (Call::Read(0), Ok(0)),
+            (Call::Write(0, 7), Ok(0)),
+            (Call::Extend, Err(StoreFault::Device)),
+            (Call::Sync, Ok(0)),
+        ],
+        Err(StoreFault::BadSize),
+    ),
+    (
+        1,
+        4,
+        &[
+            (Call::Read(0), Ok(0)),
+            (Call::Write(0, 7), Ok(0)),
+            (Call::Extend, Ok(1)),
+            (Call::Sync, Err(StoreFault::Device)),
+        ],
+        Ok(&[(Call::Pages, Ok(2)), (Call::Read(0), Ok(7))]),
+    ),
+    // A failed growth of this medium leaves half a page, which is no page; the next one is put in
+    // its place.
+    (
+        1,
+        1,
+        &[
+            (Call::Extend, Err(StoreFault::Device)),
+            (Call::Pages, Ok(1)),
+            (Call::Read(1), Err(StoreFault::NoPage)),
+            (Call::Extend, Ok(1)),
+            (Call::Pages, Ok(2)),
+            (Call::Read(1), Ok(0)),
+        ],
+        Ok(&[(Call::Pages, Ok(2))]),
+    ),
+    (
+        1,
+        1,
+        &[(Call::Extend, Err(StoreFault::Device))],
+        Err(StoreFault::BadSize),
+    ),
+];
 
-// Why a medium is no store.
-fn refusal_of(medium: MemMedium) -> Option<StoreFault> {
-    match FileStore::open(medium) {
-        Ok(_) => None,
-        Err(refused) => Some(refused.fault),
-    }
-}
-
-// Whether a store of one page, whose first call fails, answers these calls so, and why its medium is no store then.
-fn reopened(alloc: Global, calls: &[(Call, Answer)]) -> (bool, Option<StoreFault>) {
-    match open_zeros(alloc, 1, 0, 1) {
-        Ok(mut store) => {
-            let is_right = first_wrong(&mut store, calls).is_none();
-            (is_right, refusal_of(store.into_medium()))
-        }
-        Err(_) => (false, None),
-    }
-}
-
-// A failed growth of this medium leaves half a page, which is no page; the next one is put in its place.
 #[test]
-fn counts_no_page_that_was_not_added(rt: HostRuntime) {
-    let calls = [
-        (Call::Extend, Err(StoreFault::Device)),
-        (Call::Pages, Ok(1)),
-        (Call::Read(1), Err(StoreFault::NoPage)),
-        (Call::Extend, Ok(1)),
-        (Call::Pages, Ok(2)),
-        (Call::Read(1), Ok(0)),
-    ];
-    assert_eq!(rt; reopened(rt.alloc(), &calls), (true, None));
-    let torn = reopened(rt.alloc(), &calls[..1]);
-    assert_eq!(rt; torn, (true, Some(StoreFault::BadSize)));
-}
-
-// A store that is created on a medium of two pages and 100 bytes, which fails at its k-th call.
-fn created(alloc: Global, k: u64) -> Result<FileStore<MemMedium>, StoreFault> {
-    let Ok(pages) = vec![in alloc; [7; 4096]; 2] else {
-        return Err(StoreFault::Memory);
-    };
-    match FileStore::create(MemMedium::new(pages, 100, k)) {
-        Ok(store) => Ok(store),
-        Err(refused) => Err(refused.fault),
+fn answers_calls(rt: HostRuntime) {
+    for (pages, k, calls, left) in SCRIPTS {
+        assert!(rt;
+            is_played(rt.alloc(), *pages, *k, calls, *left),
+            "{pages} {k}"
+        );
     }
-}
-
-#[test]
-fn creates_with_no_pages(rt: HostRuntime) -> Result<(), Fail> {
-    let calls = [
-        (Call::Pages, Ok(0)),
-        (Call::Extend, Ok(0)),
-        (Call::Read(0), Ok(0)),
-    ];
-    let wrong = first_wrong(&mut created(rt.alloc(), 0)?, &calls);
-    let fault = created(rt.alloc(), 1).err();
-    assert_eq!(rt; (wrong, fault), (None, Some(StoreFault::Device)));
-    Ok(())
 }
 
 // What is written is what is read, over any honest medium.
@@ -258,52 +291,56 @@ fn write_and_read<M: Medium>(
     store.read_page(n)
 }
 
-#[test]
-fn gives_back_the_medium(rt: HostRuntime) -> Result<(), Fail> {
-    let mut store = open_zeros(rt.alloc(), 2, 0, 0)?;
-    let read = byte_of(&write_and_read(&mut store, 1, &[7; 4096])?);
-    let wrong = match FileStore::open(store.into_medium()) {
-        Ok(mut again) => first_wrong(&mut again, &[(Call::Pages, Ok(2)), (Call::Read(1), Ok(7))]),
-        Err(_) => Some(0),
-    };
-    assert_eq!(rt; (read, wrong), (7, None));
-    Ok(())
-}
+// What the store of two pages answers then.
+const GIVEN_BACK: &[(Call, Answer)] = &[(Call::Pages, Ok(2)), (Call::Read(1), Ok(7))];
 
-// Whether the store that is made in a file answers these calls so.
-fn answers_made(rt: &HostRuntime, path: &str, calls: &[(Call, Answer)]) -> bool {
-    match create_store(rt, path) {
-        Ok(mut store) => first_wrong(&mut store, calls).is_none(),
-        Err(_) => false,
-    }
-}
-
-// Why there is no store in a file.
-fn opening_refusal(rt: &HostRuntime, path: &str) -> Option<StoreFault> {
-    open_store(rt, path).err()
-}
-
-// Why none can be made there.
-fn making_refusal(rt: &HostRuntime, path: &str) -> Option<StoreFault> {
-    create_store(rt, path).err()
-}
-
-// Why a file with these bytes is no store.
-fn refusal(rt: &HostRuntime, path: &str, bytes: &[u8]) -> Option<StoreFault> {
-    match fs::write(rt, path, bytes) {
-        Ok(()) => opening_refusal(rt, path),
-        Err(_) => None,
-    }
-}
-
-// Whether the store in a file answers these calls so, where the file is cut to so many bytes once it is open.
-fn answers_opened(rt: &HostRuntime, path: &str, cut: usize, calls: &[(Call, Answer)]) -> bool {
-    let Ok(mut store) = open_store(rt, path) else {
+// Whether a page that is written and read stands on the medium that is given back.
+fn is_given_back(alloc: Global) -> bool {
+    let Ok(zeros) = medium(alloc, 2, 0, 0, 0) else {
         return false;
     };
-    let bytes = [65; 8192];
-    let is_cut = cut == 8192 || fs::write(rt, path, &bytes[..cut.min(8192)]).is_ok();
-    is_cut && first_wrong(&mut store, calls).is_none()
+    let Ok(mut store) = FileStore::open(zeros) else {
+        return false;
+    };
+    let is_read = match write_and_read(&mut store, 1, &[7; 4096]) {
+        Ok(page) => byte_of(&page) == 7,
+        Err(_) => false,
+    };
+    is_read && is_left(store.into_medium(), Ok(GIVEN_BACK))
+}
+
+// What a store answers that is created on a medium of two pages and 100 bytes, which fails at its
+// k-th call.
+const CREATED: &[(Call, Answer)] = &[
+    (Call::Pages, Ok(0)),
+    (Call::Extend, Ok(0)),
+    (Call::Read(0), Ok(0)),
+];
+
+// Whether it is created and answers so.
+fn is_created(alloc: Global, k: u64) -> Result<bool, StoreFault> {
+    let full = medium(alloc, 2, 7, 100, k)?;
+    match FileStore::create(full) {
+        Ok(mut store) => Ok(answers(&mut store, CREATED)),
+        Err(refused) => Err(refused.fault),
+    }
+}
+
+#[test]
+fn creates_with_no_pages_and_gives_back_the_medium(rt: HostRuntime) {
+    assert!(rt; matches!(is_created(rt.alloc(), 0), Ok(true)));
+    assert!(rt; matches!(is_created(rt.alloc(), 1), Err(StoreFault::Device)));
+    assert!(rt; is_given_back(rt.alloc()));
+}
+
+// Whether these bytes are written as a file.
+fn is_written(rt: &HostRuntime, path: &str, bytes: &[u8]) -> bool {
+    fs::write(rt, path, bytes).is_ok()
+}
+
+// Whether what stands there is no store, for this fault.
+fn is_refused(rt: &HostRuntime, path: &str, fault: StoreFault) -> bool {
+    open_store(rt, path).err() == Some(fault)
 }
 
 // Whether a file holds a page of zeros and one of the byte 65.
@@ -314,71 +351,75 @@ fn holds_two_pages(rt: &HostRuntime, path: &str) -> bool {
     }
 }
 
-// A path that no other run of these tests takes.
-fn own_path(rt: &HostRuntime, name: &str) -> Result<String, AllocError> {
+// Calls of a store that is made in a file, and of the same once it is opened again.
+const MADE: &[(Call, Answer)] = &[
+    (Call::Pages, Ok(0)),
+    (Call::Extend, Ok(0)),
+    (Call::Extend, Ok(1)),
+    (Call::Write(1, 65), Ok(0)),
+    (Call::Read(0), Ok(0)),
+    (Call::Read(1), Ok(65)),
+    (Call::Read(2), Err(StoreFault::NoPage)),
+    (Call::Sync, Ok(0)),
+];
+
+const OPENED: &[(Call, Answer)] = &[
+    (Call::Pages, Ok(2)),
+    (Call::Read(0), Ok(0)),
+    (Call::Read(1), Ok(65)),
+];
+
+// Whether a store is made in a file, and its pages are kept there.
+fn keeps_pages(rt: &HostRuntime, path: &str) -> bool {
+    is_written(rt, path, b"nothing that is kept")
+        && made_answers(create_store(rt, path), MADE)
+        && made_answers(open_store(rt, path), OPENED)
+        && holds_two_pages(rt, path)
+}
+
+// Whether there is no store in no file, in a folder, and in one that is no whole number of pages;
+// and an empty one has no page.
+fn refuses_what_is_no_store(rt: &HostRuntime, path: &str) -> bool {
+    is_refused(rt, path, StoreFault::Device)
+        && is_refused(rt, "/tmp", StoreFault::Device)
+        && create_store(rt, "/tmp").err() == Some(StoreFault::Device)
+        && is_written(rt, path, &[65])
+        && is_refused(rt, path, StoreFault::BadSize)
+        && is_written(rt, path, &[65; 4097])
+        && is_refused(rt, path, StoreFault::BadSize)
+        && is_written(rt, path, b"")
+        && made_answers(
+            open_store(rt, path),
+            &[(Call::Read(0), Err(StoreFault::NoPage))],
+        )
+}
+
+// Calls of a store of two pages whose file is cut to 5000 bytes while it is open: no part of a page
+// is given.
+const CUT: &[(Call, Answer)] = &[
+    (Call::Read(0), Ok(65)),
+    (Call::Read(1), Err(StoreFault::Device)),
+    (Call::Read(1), Err(StoreFault::Device)),
+];
+
+// Whether a short read is taken for a failure.
+fn takes_short_reads(rt: &HostRuntime, path: &str) -> bool {
+    if !is_written(rt, path, &[65; 8192]) {
+        return false;
+    }
+    let store = open_store(rt, path);
+    is_written(rt, path, &[65; 5000]) && made_answers(store, CUT)
+}
+
+// The path is one that no other run of these tests takes, and nothing stands there at first.
+#[test]
+fn stores_in_files(rt: HostRuntime) {
     let id = process::id(rt.process());
-    format!(in rt.alloc(); "/tmp/hablozen-{name}-{id}.ub")
-}
-
-#[test]
-fn keeps_pages_in_a_file(rt: HostRuntime) -> Result<(), Fail> {
-    let path = own_path(&rt, "pages")?;
+    let path = format!(in rt.alloc(); "/tmp/hablozen-{id}.ub").expect(&rt, "memory");
     let path = path.as_str();
-    let made = [
-        (Call::Pages, Ok(0)),
-        (Call::Extend, Ok(0)),
-        (Call::Extend, Ok(1)),
-        (Call::Write(1, 65), Ok(0)),
-        (Call::Read(0), Ok(0)),
-        (Call::Read(1), Ok(65)),
-        (Call::Read(2), Err(StoreFault::NoPage)),
-        (Call::Sync, Ok(0)),
-    ];
-    let opened = [
-        (Call::Pages, Ok(2)),
-        (Call::Read(0), Ok(0)),
-        (Call::Read(1), Ok(65)),
-    ];
-    let is_right = fs::write(&rt, path, "nothing that is kept").is_ok()
-        && answers_made(&rt, path, &made)
-        && answers_opened(&rt, path, 8192, &opened)
-        && holds_two_pages(&rt, path)
+    let is_right = refuses_what_is_no_store(&rt, path)
+        && keeps_pages(&rt, path)
+        && takes_short_reads(&rt, path)
         && fs::remove_file(&rt, path).is_ok();
     assert!(rt; is_right);
-    Ok(())
-}
-
-#[test]
-fn refuses_what_is_no_store(rt: HostRuntime) -> Result<(), Fail> {
-    let path = own_path(&rt, "sizes")?;
-    let path = path.as_str();
-    let device = Some(StoreFault::Device);
-    let is_right = opening_refusal(&rt, path) == device
-        && opening_refusal(&rt, "/tmp") == device
-        && making_refusal(&rt, "/tmp") == device
-        && refusal(&rt, path, &[65]) == Some(StoreFault::BadSize)
-        && refusal(&rt, path, &[65; 4097]) == Some(StoreFault::BadSize)
-        && fs::write(&rt, path, "").is_ok()
-        && answers_opened(&rt, path, 8192, &[(Call::Read(0), Err(StoreFault::NoPage))])
-        && fs::remove_file(&rt, path).is_ok();
-    assert!(rt; is_right);
-    Ok(())
-}
-
-// A file that is cut while it is open gives no part of a page.
-#[test]
-fn takes_a_short_read_for_a_failure(rt: HostRuntime) -> Result<(), Fail> {
-    let path = own_path(&rt, "cut")?;
-    let path = path.as_str();
-    let calls = [
-        (Call::Read(0), Ok(65)),
-        (Call::Read(1), Err(StoreFault::Device)),
-        (Call::Read(1), Err(StoreFault::Device)),
-    ];
-    let bytes = [65u8; 8192];
-    let is_right = fs::write(&rt, path, bytes.as_slice()).is_ok()
-        && answers_opened(&rt, path, 5000, &calls)
-        && fs::remove_file(&rt, path).is_ok();
-    assert!(rt; is_right);
-    Ok(())
 }

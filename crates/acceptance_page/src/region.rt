@@ -1,6 +1,5 @@
 // The rows of a region, which are put in, taken out, split and joined.
 use crate::samples::row;
-use std::test::Fail;
 use ub_region::Rows;
 use ub_region::rows::MAX_LEN;
 use ub_table::{Key, Row};
@@ -17,17 +16,19 @@ fn rows(all: &[(u32, u32, u32)]) -> Rows {
     rows
 }
 
+// Whether these rows have these numbers.
 fn numbers_are(rows: &[Row], numbers: &[u32]) -> bool {
-    rows.len() == numbers.len() && rows.iter().zip(numbers).all(|(row, n)| row.number == *n)
+    for (row, number) in rows.iter().zip(numbers) {
+        if row.number != *number {
+            return false;
+        }
+    }
+    rows.len() == numbers.len()
 }
 
-// Whether three rows of two dimensions, where a page holds two, have these numbers in the left half and in the right one,
-// which begins with this key.
-fn are_split(points: &[(u32, u32, u32)], left: &[u32], right: &[u32], first: Key) -> bool {
-    let Ok(shape) = Shape::new(2) else {
-        return false;
-    };
-    let all = rows(points);
+// Whether three rows, where a page holds two, have these numbers in the left half and in the right
+// one, which begins with this key.
+fn are_split(shape: Shape, all: &Rows, left: &[u32], right: &[u32], first: Key) -> bool {
     if all.as_slice().len() != 3 {
         return false;
     }
@@ -37,15 +38,16 @@ fn are_split(points: &[(u32, u32, u32)], left: &[u32], right: &[u32], first: Key
 
 #[test]
 fn halves_of_three(rt: HostRuntime) {
-    for (points, left, right, z, number) in [
-        ([(1, 1, 1), (3, 3, 0), (2, 2, 3)], [1, 3], [2], 13, 0),
-        ([(1, 7, 7), (2, 7, 7), (3, 7, 7)], [1, 2], [3], 63, 3),
-    ] {
-        assert!(rt; are_split(&points, &left, &right, Key { z, number }), "{z}");
-    }
+    let shape = Shape::new(2).expect(&rt, "a plane");
+    let apart = rows(&[(1, 1, 1), (3, 3, 0), (2, 2, 3)]);
+    let together = rows(&[(1, 7, 7), (2, 7, 7), (3, 7, 7)]);
+    let is_right = are_split(shape, &apart, &[1, 3], &[2], Key { z: 13, number: 0 })
+        && are_split(shape, &together, &[1, 2], &[3], Key { z: 63, number: 3 });
+    assert!(rt; is_right);
 }
 
-// Whether a row is put in between two, and rows at addresses 3 and 13 are taken out where they are, and only then.
+// Whether a row is put in between two, and rows at addresses 3 and 13 are taken out where they are,
+// and only then.
 fn are_put_in_and_taken_out(shape: Shape, all: &mut Rows) -> bool {
     if all.as_slice().len() != 2 {
         return false;
@@ -58,27 +60,24 @@ fn are_put_in_and_taken_out(shape: Shape, all: &mut Rows) -> bool {
         && numbers_are(all.as_slice(), &[3])
 }
 
-// Whether two regions of a row each are joined where a page holds two, and not where it holds one.
+// Whether two regions of a row each are joined where a page holds two, and not where it holds one;
+// and the two rows with one before them where it holds three, and not where it holds two.
 fn are_joined(all: &mut Rows, other: &Rows) -> bool {
-    all.are_few(4) && !all.are_few(2) && !all.join(other, 1) && all.join(other, 2)
-}
-
-// Whether two rows and one before them are joined where a page holds three, and not where it holds two.
-fn are_joined_before(all: &mut Rows, other: &Rows) -> bool {
-    !all.join_before(other, 2) && all.join_before(other, 3)
+    all.are_few(4)
+        && !all.are_few(2)
+        && !all.join(other, 1)
+        && all.join(other, 2)
+        && !all.join_before(other, 2)
+        && all.join_before(other, 3)
+        && numbers_are(all.as_slice(), &[4, 3, 4])
 }
 
 #[test]
-fn rows_taken_out_and_joined(rt: HostRuntime) -> Result<(), Fail> {
+fn rows_taken_out_and_joined(rt: HostRuntime) {
+    let shape = Shape::new(2).expect(&rt, "a plane");
     let mut all = rows(&[(1, 1, 1), (2, 2, 3)]);
     let other = rows(&[(4, 0, 2)]);
-    assert!(rt; are_put_in_and_taken_out(Shape::new(2)?, &mut all));
-    assert!(rt;
-        are_joined(&mut all, &other)
-            && are_joined_before(&mut all, &other)
-            && numbers_are(all.as_slice(), &[4, 3, 4])
-    );
+    let is_right = are_put_in_and_taken_out(shape, &mut all) && are_joined(&mut all, &other);
     all.clear();
-    assert!(rt; all.as_slice().is_empty());
-    Ok(())
+    assert!(rt; is_right && all.as_slice().is_empty());
 }

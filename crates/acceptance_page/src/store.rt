@@ -1,12 +1,12 @@
-// The happy paths of each store and of the pager, and what the contracts promise over memory, where no call fails but the one
-// that is told to.
+// The happy paths of each store and of the pager, and what the contracts promise over memory, where
+// no call fails but the one that is told to.
 
 ghost use Rattle.std.specs.Prelude.{◌≡◌, ◌≢◌, ◌<◌, [], Err, Some, length, slice_get, slice_set, IfOk, IsOk, IsOkAnd, OnOk};
 ghost use Rattle.ub_store.specs.Facts.{memory_facts, IsHonest};
 ghost use Rattle.ub_store.specs.Faulty.{faulty_facts, faulty_view};
 ghost use Rattle.ub_store.specs.View.{IsCached};
 
-use crate::calls::{Answer, Call, byte_of, first_wrong};
+use crate::calls::{Answer, Call, answers, byte_of, made_answers};
 use std::alloc::Global;
 use std::num::NonZeroUsize;
 use std::test::Fail;
@@ -76,67 +76,77 @@ fn fail_once(store: &mut FaultyStore<MemStore>)
     let _ = store.sync();
 }
 
-// The first call that a store in memory answers otherwise, where its k-th call fails.
-fn wrong_in_memory(alloc: Global, k: u64, calls: &[(Call, Answer)]) -> Option<usize> {
-    first_wrong(&mut store_failing_at(alloc, k), calls)
-}
+// Calls of a store in memory and their answers, where the k-th call fails.
+const IN_MEMORY: &[(u64, &[(Call, Answer)])] = &[
+    (
+        2,
+        &[
+            (Call::Extend, Ok(0)),
+            (Call::Extend, Err(StoreFault::Device)),
+            (Call::Pages, Ok(1)),
+            (Call::Sync, Ok(0)),
+            (Call::Extend, Ok(1)),
+        ],
+    ),
+    (
+        0,
+        &[
+            (Call::Extend, Ok(0)),
+            (Call::Write(0, 7), Ok(0)),
+            (Call::Read(0), Ok(7)),
+            (Call::Read(1), Err(StoreFault::NoPage)),
+            (Call::Sync, Ok(0)),
+        ],
+    ),
+];
+
+// The same of a store over such a one: each call is passed on once.
+const OVER_MEMORY: &[(u64, &[(Call, Answer)])] = &[
+    (
+        2,
+        &[
+            (Call::Extend, Ok(0)),
+            (Call::Extend, Err(StoreFault::Device)),
+            (Call::Extend, Ok(1)),
+        ],
+    ),
+    (
+        2,
+        &[
+            (Call::Sync, Ok(0)),
+            (Call::Sync, Err(StoreFault::Device)),
+            (Call::Sync, Ok(0)),
+        ],
+    ),
+    (
+        3,
+        &[
+            (Call::Extend, Ok(0)),
+            (Call::Read(0), Ok(0)),
+            (Call::Read(0), Err(StoreFault::Device)),
+            (Call::Read(0), Ok(0)),
+        ],
+    ),
+    (
+        3,
+        &[
+            (Call::Extend, Ok(0)),
+            (Call::Write(0, 7), Ok(0)),
+            (Call::Write(0, 8), Err(StoreFault::Device)),
+            (Call::Read(0), Ok(7)),
+        ],
+    ),
+];
 
 #[test]
-fn fails_at_the_second_call_alone(rt: HostRuntime) {
-    let calls = [
-        (Call::Extend, Ok(0)),
-        (Call::Extend, Err(StoreFault::Device)),
-        (Call::Pages, Ok(1)),
-        (Call::Sync, Ok(0)),
-        (Call::Extend, Ok(1)),
-    ];
-    assert_eq!(rt; wrong_in_memory(rt.alloc(), 2, &calls), None);
-}
-
-#[test]
-fn never_fails_at_zero(rt: HostRuntime) {
-    let calls = [
-        (Call::Extend, Ok(0)),
-        (Call::Write(0, 7), Ok(0)),
-        (Call::Read(0), Ok(7)),
-        (Call::Read(1), Err(StoreFault::NoPage)),
-        (Call::Sync, Ok(0)),
-    ];
-    assert_eq!(rt; wrong_in_memory(rt.alloc(), 0, &calls), None);
-}
-
-// The first call that a store over such a one answers otherwise.
-fn wrong_over_memory(alloc: Global, k: u64, calls: &[(Call, Answer)]) -> Option<usize> {
-    first_wrong(&mut store_over_one_failing_at(alloc, k), calls)
-}
-
-#[test]
-fn passes_each_extension_and_sync_once(rt: HostRuntime) {
-    for (call, first, second) in [(Call::Extend, 0, 1), (Call::Sync, 0, 0)] {
-        let calls = [
-            (call, Ok(first)),
-            (call, Err(StoreFault::Device)),
-            (call, Ok(second)),
-        ];
-        assert_eq!(rt; wrong_over_memory(rt.alloc(), 2, &calls), None);
+fn fails_at_one_call_alone(rt: HostRuntime) {
+    for (k, calls) in IN_MEMORY {
+        assert!(rt; made_answers(Ok(store_failing_at(rt.alloc(), *k)), calls));
+    }
+    for (k, calls) in OVER_MEMORY {
+        assert!(rt; made_answers(Ok(store_over_one_failing_at(rt.alloc(), *k)), calls));
     }
     fail_once(&mut store_failing_at(rt.alloc(), 1));
-}
-
-#[test]
-fn passes_each_read_and_write_once(rt: HostRuntime) {
-    for (call, failing, byte) in [
-        (Call::Read(0), Call::Read(0), 0),
-        (Call::Write(0, 7), Call::Write(0, 8), 7),
-    ] {
-        let calls = [
-            (Call::Extend, Ok(0)),
-            (call, Ok(0)),
-            (failing, Err(StoreFault::Device)),
-            (Call::Read(0), Ok(byte)),
-        ];
-        assert_eq!(rt; wrong_over_memory(rt.alloc(), 3, &calls), None);
-    }
 }
 
 // What is put is what is brought and lent, cached or not.
@@ -162,10 +172,13 @@ fn three_pages<S: PageStore>(alloc: Global, store: S) -> Result<Pager<S>, StoreF
         Ok(pager) => pager,
         Err(refused) => return Err(refused.fault),
     };
-    pager.extend()?;
-    pager.extend()?;
-    pager.extend()?;
-    Ok(pager)
+    let first = pager.extend();
+    let second = pager.extend();
+    let third = pager.extend();
+    match first.and(second).and(third) {
+        Ok(_) => Ok(pager),
+        Err(fault) => Err(fault),
+    }
 }
 
 type MemPager = Pager<FaultyStore<MemStore>>;
@@ -175,97 +188,94 @@ fn three_in_memory(alloc: Global, k: u64) -> Result<MemPager, StoreFault> {
     three_pages(alloc, store_failing_at(alloc, k))
 }
 
-// The byte that the page is full of which is put and brought.
-fn put_in_memory(alloc: Global) -> Answer {
-    let mut pager = three_pages(alloc, store_failing_at(alloc, 0))?;
-    put_and_bring(&mut pager, 1, &[8; 4096])?;
-    Ok(byte_of(pager.cached(1)))
-}
-
-// What a pager of three pages of zeros lends of a page, before another one was put in its place and after that.
-fn lends(pager: &mut MemPager) -> [Answer; 5] {
-    [
-        lent(pager, 1),
-        lent(pager, 2),
-        pager.put(1, &[7; 4096]).map(|()| 0),
-        lent(pager, 1),
-        lent(pager, 3),
-    ]
-}
-
+// The byte that a page is full of which is brought.
 fn lent(pager: &mut MemPager, n: u32) -> Answer {
     pager.bring(n)?;
     Ok(byte_of(pager.cached(n)))
 }
 
-#[test]
-fn lends_the_page_last_put(rt: HostRuntime) -> Result<(), Fail> {
-    assert_eq!(rt; put_in_memory(rt.alloc()), Ok(8));
-    let mut pager = three_in_memory(rt.alloc(), 0)?;
-    let told = (pager.pages(), lends(&mut pager), pager.sync());
-    let lent = [Ok(0), Ok(0), Ok(0), Ok(7), Err(StoreFault::NoPage)];
-    assert_eq!(rt; told, (3, lent, Ok(())));
-    let wrong = first_wrong(&mut pager.into_store(), &[(Call::Read(1), Ok(7))]);
-    assert_eq!(rt; wrong, None);
-    Ok(())
+// Whether a pager of three pages of zeros lends them, and then the page that is put in the place of
+// one.
+fn lends(pager: &mut MemPager) -> bool {
+    matches!(lent(pager, 1), Ok(0))
+        && matches!(lent(pager, 2), Ok(0))
+        && pager.put(1, &[7; 4096]).is_ok()
+        && matches!(lent(pager, 1), Ok(7))
+        && matches!(lent(pager, 3), Err(StoreFault::NoPage))
+        && pager.sync().is_ok()
+        && pager.pages() == 3
 }
 
-// Whether the pages of regions that are brought are noted, and no others.
-fn notes_pages(pager: &mut MemPager) -> Result<bool, StoreFault> {
-    pager.bring_region(1)?;
-    pager.bring_region(2)?;
-    pager.bring(0)?;
-    pager.bring_region(1)?;
+#[test]
+fn lends_the_page_last_put(rt: HostRuntime) {
+    let store = store_failing_at(rt.alloc(), 0);
+    let mut pager = three_pages(rt.alloc(), store).expect(&rt, "a pager");
+    let byte = match put_and_bring(&mut pager, 0, &[8; 4096]) {
+        Ok(()) => byte_of(pager.cached(0)),
+        Err(_) => 0,
+    };
+    let is_lent = lends(&mut pager);
+    let is_kept = answers(&mut pager.into_store(), &[(Call::Read(1), Ok(7))]);
+    assert!(rt; byte == 8 && is_lent && is_kept);
+}
+
+// Whether a page that is brought twice is held then and noted once, and the fifth call is the sync,
+// after three extensions and one read.
+fn brings_twice(pager: &mut MemPager) -> bool {
+    if pager.bring(1).is_err() || pager.bring_region(1).is_err() {
+        return false;
+    }
+    pager.sync() == Err(StoreFault::Device)
+        && byte_of(pager.cached(1)) == 0
+        && pager.trace() == [1].as_slice()
+}
+
+// Whether the pages of regions that are brought since the trace began are noted, and no others.
+fn notes_pages(pager: &mut MemPager) -> bool {
+    pager.begin();
+    let is_brought = pager.bring_region(1).is_ok()
+        && pager.bring_region(2).is_ok()
+        && pager.bring(0).is_ok()
+        && pager.bring_region(1).is_ok();
     let are_noted = pager.trace() == [1, 2, 1].as_slice();
     pager.begin();
-    Ok(are_noted && pager.trace().is_empty())
+    is_brought && are_noted && pager.trace().is_empty()
 }
 
 #[test]
-fn notes_region_pages_in_order(rt: HostRuntime) -> Result<(), Fail> {
-    let mut pager = three_in_memory(rt.alloc(), 0)?;
-    assert_eq!(rt; notes_pages(&mut pager), Ok(true));
-    Ok(())
+fn notes_region_pages_and_reads_each_once(rt: HostRuntime) {
+    let mut pager = three_in_memory(rt.alloc(), 5).expect(&rt, "a pager");
+    let is_right = brings_twice(&mut pager) && notes_pages(&mut pager);
+    assert!(rt; is_right);
 }
 
-// What a sync answers once a page is brought twice, and whether the page is held then, and was noted once.
-fn brings_twice(pager: &mut MemPager) -> Result<(bool, Result<(), StoreFault>), StoreFault> {
-    pager.bring(1)?;
-    pager.bring_region(1)?;
-    let synced = pager.sync();
-    let is_right = *pager.cached(1) == [0; 4096] && pager.trace() == [1].as_slice();
-    Ok((is_right, synced))
-}
-
-// Three extensions and one read: the sync is the fifth call.
-#[test]
-fn brings_a_cached_page_without_a_read(rt: HostRuntime) -> Result<(), Fail> {
-    let mut pager = three_in_memory(rt.alloc(), 5)?;
-    let told = brings_twice(&mut pager);
-    assert_eq!(rt; told, Ok((true, Err(StoreFault::Device))));
-    Ok(())
-}
-
-// Whether a region's page is noted that memory is refused for, or isn't; and brought, in this call or in the next.
+// Whether a region's page is noted that memory is refused for, or isn't; and brought, in this call
+// or in the next.
 fn brings_at_last(pager: &mut MemPager) -> Result<bool, StoreFault> {
     pager.bring_region(0)?;
     pager.begin();
-    let is_brought = match pager.bring_region(1) {
-        Ok(()) => pager.trace() == [1].as_slice(),
+    let brought = pager.bring_region(1);
+    let is_noted = pager.trace() == [1].as_slice();
+    let is_right = match brought {
+        Ok(()) => is_noted,
         Err(fault) => {
-            let is_noted = pager.trace() == [1].as_slice();
             pager.bring_region(1)?;
             fault == StoreFault::Memory && is_noted && pager.trace() == [1, 1].as_slice()
         }
     };
-    Ok(is_brought && *pager.cached(1) == [0; 4096])
+    Ok(is_right && byte_of(pager.cached(1)) == 0)
 }
 
-// The trace has room from the call before, so what memory is refused for is the page. `tests/store_allocations.sh` makes each
-// allocation of this test fail in turn.
+// The same of a new pager.
+fn brings_at_last_of_three(alloc: Global) -> Result<bool, StoreFault> {
+    let mut pager = three_in_memory(alloc, 0)?;
+    brings_at_last(&mut pager)
+}
+
+// The trace has room from the call before, so what memory is refused for is the page.
+// `tests/store_allocations.sh` makes each allocation of this test fail in turn.
 #[test]
 fn notes_a_page_that_memory_is_refused_for(rt: HostRuntime) -> Result<(), Fail> {
-    let mut pager = three_in_memory(rt.alloc(), 0)?;
-    assert!(rt; brings_at_last(&mut pager)?);
+    assert!(rt; brings_at_last_of_three(rt.alloc())?);
     Ok(())
 }
