@@ -18,38 +18,56 @@ pub struct Left {
     pub checksum: u128,
 }
 
-// Whether each row of a region's page is one of the model's, in that region.
-fn are_there(model: &Model, first: &Key, page: &RegionPage) -> bool {
+// Reads the region after this one, or the first where there is none, and tells whether it is there.
+fn read_next(
+    tree: &mut Tree<Store>,
+    region: &mut Option<Region>,
+    page: &mut RegionPage,
+) -> Result<bool, TreeFault> {
+    *region = tree.seek(0, region.as_ref())?;
+    match region {
+        Some(next) => {
+            tree.read_region(next, page)?;
+            Ok(true)
+        }
+        None => Ok(false),
+    }
+}
+
+// Whether a region of the model is that of the page: with its first key and its rows.
+fn is_read(model: &Model, region: usize, page: &RegionPage) -> bool {
+    let first = page.first();
+    if model.region_of(&first) != region || !model.firsts.contains(&first) {
+        return false;
+    }
     for i in 0..page.len() {
         let row = page.row(i);
         let key = Key {
             z: address(row.dims[0], row.dims[1]),
             number: row.number,
         };
-        if !model.keys().contains(&key) || model.holder(&key) != *first {
+        if !model.keys.contains(&key) || model.region_of(&key) != region {
             return false;
         }
     }
-    page.len() == model.size(first)
+    page.len() == model.size(region)
 }
 
 /// Whether the tree has the regions and the rows of the model.
 pub fn is_like(tree: &mut Tree<Store>, model: &Model) -> Result<bool, TreeFault> {
     let mut page = tree.empty_region();
-    let mut after: Option<Region> = None;
-    let mut first = Some(ORIGIN);
+    let mut region: Option<Region> = None;
+    let mut count = 0usize;
     for _ in 0..tree.regions() {
-        let Some(region) = tree.seek(0, after.as_ref())? else {
-            return Ok(false);
-        };
-        tree.read_region(&region, &mut page)?;
-        if first != Some(region.first) || !are_there(model, &region.first, &page) {
+        if !read_next(tree, &mut region, &mut page)? {
             return Ok(false);
         }
-        first = model.next(&region.first);
-        after = Some(region);
+        count = count.wrapping_add(1);
+        if !is_read(model, count, &page) {
+            return Ok(false);
+        }
     }
-    Ok(first.is_none() && tree.rows() as usize == model.keys().len())
+    Ok(count == model.firsts.len() && tree.rows() as usize == model.keys.len())
 }
 
 // Puts a row in, once more where memory was refused, if the tree is as it was then; else it answers Full.
@@ -72,7 +90,6 @@ fn remove_again(tree: &mut Tree<Store>, model: &Model, key: &Key) -> Result<bool
 
 /// Puts a row in at random, or takes one out, in the tree and in the model. Gives whether they answered alike.
 pub fn change(
-    alloc: Global,
     tree: &mut Tree<Store>,
     model: &mut Model,
     numbers: &mut Numbers,
@@ -87,10 +104,10 @@ pub fn change(
         })?;
         return Ok(true);
     }
-    let place = numbers.below(model.keys().len() as u64) as usize;
-    let key = model.keys().get(place).copied().unwrap_or(ORIGIN);
+    let place = numbers.below(model.keys.len() as u64) as usize;
+    let key = model.keys.get(place).copied().unwrap_or(ORIGIN);
     let is_there = remove_again(tree, model, &key)?;
-    Ok(is_there == model.remove(alloc, &key)?)
+    Ok(is_there == model.remove(place))
 }
 
 // The checksum with the rows of a region's page.
@@ -107,35 +124,38 @@ fn with_rows(page: &RegionPage, sum: u128) -> u128 {
 /// How many rows the regions have, one region after the other, and a checksum of their addresses and numbers.
 pub fn rows_read(tree: &mut Tree<Store>) -> Result<(usize, u128), TreeFault> {
     let mut page = tree.empty_region();
-    let mut after: Option<Region> = None;
+    let mut region: Option<Region> = None;
     let mut count = 0usize;
     let mut sum = 0u128;
     for _ in 0..tree.regions() {
-        let Some(region) = tree.seek(0, after.as_ref())? else {
+        if !read_next(tree, &mut region, &mut page)? {
             break;
-        };
-        tree.read_region(&region, &mut page)?;
+        }
         count = count.wrapping_add(page.len());
         sum = with_rows(&page, sum);
-        after = Some(region);
     }
     Ok((count, sum))
 }
 
-/// So many changes at random of a table with so many rows on a page, the tree compared with the definition after each one.
-pub fn changed_at_random(alloc: Global, page_rows: u32, changes: u32) -> Result<Left, Trouble> {
-    let mut model = Model::new(alloc, page_rows)?;
-    let mut numbers = Numbers::new(u64::from(page_rows));
-    let mut tree = created(alloc, page_rows, 0)?;
+// So many changes at random of a tree and the model, which are compared after each one.
+fn changed(tree: &mut Tree<Store>, model: &mut Model, changes: u32) -> Result<Left, Trouble> {
+    let mut numbers = Numbers::new(u64::from(tree.schema().page_rows()));
     for _ in 0..changes {
-        if !change(alloc, &mut tree, &mut model, &mut numbers)? || !is_like(&mut tree, &model)? {
+        if !change(tree, model, &mut numbers)? || !is_like(tree, model)? {
             return Err(Trouble::Wrong);
         }
     }
-    let (_, checksum) = rows_read(&mut tree)?;
+    let (_, checksum) = rows_read(tree)?;
     Ok(Left {
         rows: tree.rows(),
         regions: tree.regions(),
         checksum,
     })
+}
+
+/// So many changes at random of a table with so many rows on a page, the tree compared with the definition after each one.
+pub fn changed_at_random(alloc: Global, page_rows: u32, changes: u32) -> Result<Left, Trouble> {
+    let mut model = Model::new(alloc, page_rows)?;
+    let mut tree = created(alloc, page_rows, 0)?;
+    changed(&mut tree, &mut model, changes)
 }

@@ -1,4 +1,4 @@
-use crate::changes::{change, is_like};
+use crate::changes::{change, is_like, rows_read};
 use crate::model::Model;
 use crate::numbers::Numbers;
 use crate::plane::{Store, created, put};
@@ -14,7 +14,7 @@ const CHANGES: u32 = 12;
 
 // Whether a tree whose store failed in a change counts as before, and does no more unless only a read failed.
 fn is_left(tree: &mut Tree<Store>, model: &Model, regions: u32) -> Result<bool, TreeFault> {
-    if tree.regions() != regions || tree.rows() as usize != model.keys().len() {
+    if tree.regions() != regions || tree.rows() as usize != model.keys.len() {
         return Ok(false);
     }
     if !tree.has_failed() {
@@ -22,29 +22,33 @@ fn is_left(tree: &mut Tree<Store>, model: &Model, regions: u32) -> Result<bool, 
     }
     Ok(
         matches!(put(tree, 0, 0), Err(TreeFault::Failed))
-            && matches!(tree.seek(0, None), Err(TreeFault::Failed)),
+            && matches!(rows_read(tree), Err(TreeFault::Failed)),
     )
 }
 
-// Whether a tree over a store whose k-th call fails is left as it should be. `None` where no call failed.
-fn fails_well(alloc: Global, k: u64) -> Result<Option<bool>, Trouble> {
-    let mut tree = match created(alloc, 2, k) {
-        Ok(tree) => tree,
-        Err(TreeFault::Store(_)) => return Ok(Some(true)),
-        Err(fault) => return Err(fault.into()),
-    };
-    let mut model = Model::new(alloc, 2)?;
+// Whether a tree is left as it should be where a call of its store fails. `None` where no call failed.
+fn changed(tree: &mut Tree<Store>, model: &mut Model) -> Result<Option<bool>, TreeFault> {
     let mut numbers = Numbers::new(7);
     for _ in 0..CHANGES {
         let regions = tree.regions();
-        match change(alloc, &mut tree, &mut model, &mut numbers) {
+        match change(tree, model, &mut numbers) {
             Ok(true) => {}
             Ok(false) => return Ok(Some(false)),
-            Err(TreeFault::Memory) => return Err(TreeFault::Memory.into()),
-            Err(_) => return Ok(Some(is_left(&mut tree, &model, regions)?)),
+            Err(TreeFault::Memory) => return Err(TreeFault::Memory),
+            Err(_) => return Ok(Some(is_left(tree, model, regions)?)),
         }
     }
     Ok(None)
+}
+
+// The same of a tree over a store whose k-th call fails.
+fn fails_well(alloc: Global, k: u64) -> Result<Option<bool>, TreeFault> {
+    let mut model = Model::new(alloc, 2)?;
+    match created(alloc, 2, k) {
+        Ok(mut tree) => changed(&mut tree, &mut model),
+        Err(TreeFault::Store(_)) => Ok(Some(true)),
+        Err(fault) => Err(fault),
+    }
 }
 
 /// How many calls of the store were made to fail, each in a run of its own: all that the runs make.

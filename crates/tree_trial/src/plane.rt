@@ -21,9 +21,15 @@ pub fn address(x: u32, y: u32) -> u128 {
 
 /// An empty table with so many rows on a page, in a store that fails at its k-th call.
 pub fn created(alloc: Global, page_rows: u32, k: u64) -> Result<Tree<Store>, TreeFault> {
-    let schema = plane(page_rows).map_err(|fault| TreeFault::Page { page: 0, fault })?;
+    let schema = match plane(page_rows) {
+        Ok(schema) => schema,
+        Err(fault) => return Err(TreeFault::Page { page: 0, fault }),
+    };
     let store = FaultyStore::new(MemStore::new(alloc), k);
-    Tree::create(alloc, store, &schema).map_err(|refused| refused.fault)
+    match Tree::create(alloc, store, &schema) {
+        Ok(tree) => Ok(tree),
+        Err(refused) => Err(refused.fault),
+    }
 }
 
 /// Puts a row in, if the table is one of two dimensions and no measure; else it answers Full.

@@ -2,36 +2,47 @@ use crate::changes::rows_read;
 use crate::plane::{Store, created, put};
 use crate::trouble::Trouble;
 use std::alloc::Global;
-use ub_tree::Tree;
+use ub_tree::{Tree, TreeFault};
 
 // Rows that come in order fill a page each time that one more comes: n rows, two on a page, make n / 2 regions. A page of the
 // directory has 170 regions.
 const TABLES: [(u32, u32); 5] = [(2, 1), (340, 170), (342, 171), (680, 340), (682, 341)];
 
-// A tree with so many rows at points on a line, two on a page, closed and opened again.
-fn reopened(alloc: Global, rows: u32) -> Result<Tree<Store>, Trouble> {
-    let mut tree = created(alloc, 2, 0)?;
+// Puts so many rows at points on a line in.
+fn fill(tree: &mut Tree<Store>, rows: u32) -> Result<(), TreeFault> {
     for x in 0..rows {
-        put(&mut tree, x, 0)?;
+        put(tree, x, 0)?;
     }
+    Ok(())
+}
+
+// A tree with so many such rows, two on a page, closed and opened again.
+fn reopened(alloc: Global, rows: u32) -> Result<Tree<Store>, TreeFault> {
+    let mut tree = created(alloc, 2, 0)?;
+    fill(&mut tree, rows)?;
     let store = match tree.close() {
         Ok(store) => store,
-        Err(refused) => return Err(refused.fault.into()),
+        Err(refused) => return Err(refused.fault),
     };
     match Tree::open(alloc, store) {
         Ok(tree) => Ok(tree),
-        Err(refused) => Err(refused.fault.into()),
+        Err(refused) => Err(refused.fault),
     }
 }
 
+// Whether a tree has so many rows, in so many regions, and gives the next number.
+fn is_whole(tree: &mut Tree<Store>, rows: u32, regions: u32) -> Result<bool, TreeFault> {
+    if tree.rows() != rows || tree.regions() != regions {
+        return Ok(false);
+    }
+    let (count, _) = rows_read(tree)?;
+    Ok(count == rows as usize && put(tree, 1, 1)? == rows.wrapping_add(1))
+}
+
 // Whether a table of so many rows has so many regions when it is opened again, all its rows, and the next number.
-fn is_reopened(alloc: Global, rows: u32, regions: u32) -> Result<bool, Trouble> {
+fn is_reopened(alloc: Global, rows: u32, regions: u32) -> Result<bool, TreeFault> {
     let mut tree = reopened(alloc, rows)?;
-    Ok(
-        (tree.rows(), tree.regions()) == (rows, regions)
-            && rows_read(&mut tree)?.0 == rows as usize
-            && put(&mut tree, 1, 1)? == rows.wrapping_add(1),
-    )
+    is_whole(&mut tree, rows, regions)
 }
 
 /// How many tables were closed and opened again, with one page of directory or more.
