@@ -7,13 +7,15 @@ use ub_page::RegionPage;
 use ub_table::Key;
 use ub_tree::{Region, Tree, TreeFault};
 
-/// What some changes leave.
-#[derive(Drop)]
+/// What a tree has.
+#[derive(Clone, Copy)]
 pub struct Left {
-    /// How many rows there are.
+    /// How many rows it counts.
     pub rows: u32,
     /// In how many regions.
     pub regions: u32,
+    /// How many rows the regions have.
+    pub count: usize,
     /// Of the rows' addresses and numbers, in their order.
     pub checksum: u128,
 }
@@ -121,23 +123,27 @@ fn with_rows(page: &RegionPage, sum: u128) -> u128 {
     sum
 }
 
-/// How many rows the regions have, one region after the other, and a checksum of their addresses and numbers.
-pub fn rows_read(tree: &mut Tree<Store>) -> Result<(usize, u128), TreeFault> {
+/// What the tree has, its regions read one after the other.
+pub fn left_in(tree: &mut Tree<Store>) -> Result<Left, TreeFault> {
     let mut page = tree.empty_region();
     let mut region: Option<Region> = None;
-    let mut count = 0usize;
-    let mut sum = 0u128;
-    for _ in 0..tree.regions() {
+    let mut left = Left {
+        rows: tree.rows(),
+        regions: tree.regions(),
+        count: 0,
+        checksum: 0,
+    };
+    for _ in 0..left.regions {
         if !read_next(tree, &mut region, &mut page)? {
             break;
         }
-        count = count.wrapping_add(page.len());
-        sum = with_rows(&page, sum);
+        left.count = left.count.wrapping_add(page.len());
+        left.checksum = with_rows(&page, left.checksum);
     }
-    Ok((count, sum))
+    Ok(left)
 }
 
-// So many changes at random of a tree and the model, which are compared after each one.
+// What so many changes at random of a tree and the model leave, which are compared after each one.
 fn changed(tree: &mut Tree<Store>, model: &mut Model, changes: u32) -> Result<Left, Trouble> {
     let mut numbers = Numbers::new(u64::from(tree.schema().page_rows()));
     for _ in 0..changes {
@@ -145,12 +151,7 @@ fn changed(tree: &mut Tree<Store>, model: &mut Model, changes: u32) -> Result<Le
             return Err(Trouble::Wrong);
         }
     }
-    let (_, checksum) = rows_read(tree)?;
-    Ok(Left {
-        rows: tree.rows(),
-        regions: tree.regions(),
-        checksum,
-    })
+    Ok(left_in(tree)?)
 }
 
 /// So many changes at random of a table with so many rows on a page, the tree compared with the definition after each one.

@@ -1,4 +1,4 @@
-use crate::changes::{change, is_like, rows_read};
+use crate::changes::{change, is_like, left_in};
 use crate::model::Model;
 use crate::numbers::Numbers;
 use crate::plane::{Store, created, put};
@@ -22,7 +22,7 @@ fn is_left(tree: &mut Tree<Store>, model: &Model, regions: u32) -> Result<bool, 
     }
     Ok(
         matches!(put(tree, 0, 0), Err(TreeFault::Failed))
-            && matches!(rows_read(tree), Err(TreeFault::Failed)),
+            && matches!(left_in(tree), Err(TreeFault::Failed)),
     )
 }
 

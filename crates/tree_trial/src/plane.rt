@@ -1,5 +1,5 @@
 use std::alloc::Global;
-use ub_store::{FaultyStore, MemStore};
+use ub_store::{FaultyStore, MemStore, Rejected};
 use ub_table::{Name, PageFault, Schema};
 use ub_tree::{Tree, TreeFault};
 
@@ -19,16 +19,22 @@ pub fn address(x: u32, y: u32) -> u128 {
     (y & 1) | ((x & 1) << 1) | ((y & 2) << 1) | ((x & 2) << 2) | ((y & 4) << 2) | ((x & 4) << 3)
 }
 
+/// What a call answers that took a store, without the store that a refusal hands back.
+pub fn accepted<T>(answer: Result<T, Rejected<Store, TreeFault>>) -> Result<T, TreeFault> {
+    match answer {
+        Ok(value) => Ok(value),
+        Err(refused) => Err(refused.fault),
+    }
+}
+
 /// An empty table with so many rows on a page, in a store that fails at its k-th call.
 pub fn created(alloc: Global, page_rows: u32, k: u64) -> Result<Tree<Store>, TreeFault> {
-    let schema = match plane(page_rows) {
-        Ok(schema) => schema,
-        Err(fault) => return Err(TreeFault::Page { page: 0, fault }),
-    };
-    let store = FaultyStore::new(MemStore::new(alloc), k);
-    match Tree::create(alloc, store, &schema) {
-        Ok(tree) => Ok(tree),
-        Err(refused) => Err(refused.fault),
+    match plane(page_rows) {
+        Ok(schema) => {
+            let store = FaultyStore::new(MemStore::new(alloc), k);
+            accepted(Tree::create(alloc, store, &schema))
+        }
+        Err(fault) => Err(TreeFault::Page { page: 0, fault }),
     }
 }
 

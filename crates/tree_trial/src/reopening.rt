@@ -1,5 +1,5 @@
-use crate::changes::rows_read;
-use crate::plane::{Store, created, put};
+use crate::changes::left_in;
+use crate::plane::{Store, accepted, created, put};
 use crate::trouble::Trouble;
 use std::alloc::Global;
 use ub_tree::{Tree, TreeFault};
@@ -16,33 +16,22 @@ fn fill(tree: &mut Tree<Store>, rows: u32) -> Result<(), TreeFault> {
     Ok(())
 }
 
-// A tree with so many such rows, two on a page, closed and opened again.
-fn reopened(alloc: Global, rows: u32) -> Result<Tree<Store>, TreeFault> {
-    let mut tree = created(alloc, 2, 0)?;
-    fill(&mut tree, rows)?;
-    let store = match tree.close() {
-        Ok(store) => store,
-        Err(refused) => return Err(refused.fault),
-    };
-    match Tree::open(alloc, store) {
-        Ok(tree) => Ok(tree),
-        Err(refused) => Err(refused.fault),
-    }
-}
-
 // Whether a tree has so many rows, in so many regions, and gives the next number.
 fn is_whole(tree: &mut Tree<Store>, rows: u32, regions: u32) -> Result<bool, TreeFault> {
     if tree.rows() != rows || tree.regions() != regions {
         return Ok(false);
     }
-    let (count, _) = rows_read(tree)?;
-    Ok(count == rows as usize && put(tree, 1, 1)? == rows.wrapping_add(1))
+    let left = left_in(tree)?;
+    Ok(left.count == rows as usize && put(tree, 1, 1)? == rows.wrapping_add(1))
 }
 
-// Whether a table of so many rows has so many regions when it is opened again, all its rows, and the next number.
+// Whether a table of so many such rows, two on a page, is whole when it was closed and is opened again.
 fn is_reopened(alloc: Global, rows: u32, regions: u32) -> Result<bool, TreeFault> {
-    let mut tree = reopened(alloc, rows)?;
-    is_whole(&mut tree, rows, regions)
+    let mut tree = created(alloc, 2, 0)?;
+    fill(&mut tree, rows)?;
+    let store = accepted(tree.close())?;
+    let mut opened = accepted(Tree::open(alloc, store))?;
+    is_whole(&mut opened, rows, regions)
 }
 
 /// How many tables were closed and opened again, with one page of directory or more.
