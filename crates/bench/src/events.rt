@@ -5,19 +5,20 @@ use ub_zaddr::{Point, Shape, last};
 /// How many spans lie side by side from the first address to the last: about as many as the regions of 200,000 rows.
 const SPANS: u128 = 4400;
 
+/// The box between two corners of four dimensions, of which the shape's are taken.
+pub fn box_between(shape: Shape, low: &[u32; 4], high: &[u32; 4]) -> Option<ZBox> {
+    let dims = shape.dims() as usize;
+    let lo = Point::new(shape, &low[..dims]).ok()?;
+    let hi = Point::new(shape, &high[..dims]).ok()?;
+    ZBox::new(shape, &lo, &hi)
+}
+
 /// The checksum of the least values of one box in spans of addresses that follow one another, as regions do, in the first
 /// dimension; after the last address it begins anew.
 pub fn events(shape: Shape, calls: u64) -> u128 {
-    let dims = shape.dims() as usize;
     let low = [536870912, 268435456, 805306368, 134217728];
     let high = [3758096384, 4026531840, 3489660928, 4160749568];
-    let (Ok(lo), Ok(hi)) = (
-        Point::new(shape, &low[..dims]),
-        Point::new(shape, &high[..dims]),
-    ) else {
-        return 0;
-    };
-    let Some(space) = ZBox::new(shape, &lo, &hi) else {
+    let Some(space) = box_between(shape, &low, &high) else {
         return 0;
     };
     let boxes = [space];

@@ -26,8 +26,8 @@
 #![tactic(auto)]
 
 mod addresses;
+mod asking;
 mod conditions;
-mod counting;
 mod events;
 mod fill;
 mod generator;
@@ -40,11 +40,11 @@ mod timing;
 use addresses::{interleaved, spread_out};
 use conditions::boxes_of_many_cells;
 use events::events;
-use fill::{Order, fill, fill_and_walk};
+use fill::{Filling, Order};
 use generator::Generator;
 use pages::read_and_filter;
 use std::{env, io};
-use telling::{tell, tell_counting, tell_orders};
+use telling::{Report, tell};
 use ub_bigmin::ZBox;
 use ub_bigmin::laws::next_by_bits;
 use ub_zaddr::{Point, Shape, last};
@@ -110,36 +110,25 @@ fn checksum(way: Way, shape: Shape, calls: u64) -> u128 {
 }
 
 // The number that a word of the command line writes, if there is one.
-fn number(word: Option<String>) -> Option<u64> {
-    match word {
-        Some(text) => text.parse::<u64>().ok(),
-        None => None,
-    }
-}
-
-// Prints how many regions a tree of so many rows has, and how many rows so many walks of it read.
-fn tell_tree(rt: &HostRuntime, rows: u64, walks: u64) -> io::Result<()> {
-    match fill_and_walk(rt.alloc(), rows, walks) {
-        Ok((regions, read)) => println!(rt; "{regions} regions, {read} rows read"),
-        Err(fault) => println!(rt; "! {fault}"),
-    }
+fn number(word: &Option<String>) -> Option<u64> {
+    text(word).parse::<u64>().ok()
 }
 
 // The order that a word of the command line names.
-fn order_of(word: Option<String>) -> Order {
+fn order_of(word: &str) -> Order {
     match word {
-        Some(text) if text.as_str() == "ascending" => Order::Ascending,
-        Some(text) if text.as_str() == "clustered" => Order::Clustered,
+        "ascending" => Order::Ascending,
+        "clustered" => Order::Clustered,
         _ => Order::Random,
     }
 }
 
-// Prints how many regions a tree has into which so many rows were put.
-fn tell_fill(rt: &HostRuntime, rows: u64, dims: u64, order: Order) -> io::Result<()> {
-    let (rows, dims) = (rows.min(1 << 23) as u32, dims.clamp(2, 3) as u32);
-    match fill(rt.alloc(), rows, dims, order) {
-        Ok(regions) => println!(rt; "{regions} regions"),
-        Err(fault) => println!(rt; "! {fault}"),
+// So many rows of so many dimensions in this order.
+fn filling(order: Order, rows: u64, dims: u64) -> Filling {
+    Filling {
+        rows: rows.min(u64::from(u32::MAX)) as u32,
+        order,
+        dims: dims.clamp(2, 3) as u32,
     }
 }
 
@@ -178,38 +167,46 @@ fn tell_checksums(rt: &HostRuntime, calls: u64, only: Option<u64>, way: Way) -> 
     Ok(())
 }
 
+// Prints what the words of the command line ask for.
+fn run(rt: &HostRuntime, words: &[Option<String>; 4]) -> io::Result<()> {
+    let (second, third) = (number(&words[1]), number(&words[2]));
+    let rows = second.unwrap_or(1000);
+    match text(&words[0]) {
+        "tree" => tell(
+            rt,
+            filling(Order::MadeInPlane, rows, 2),
+            Report::Walks(third.unwrap_or(0)),
+        ),
+        "fill" => {
+            let order = order_of(text(&words[3]));
+            tell(
+                rt,
+                filling(order, rows.min(1 << 23), third.unwrap_or(2)),
+                Report::Regions,
+            )
+        },
+        "held" => tell(rt, filling(Order::Made, rows, 3), Report::Cubes),
+        "count" => tell(rt, filling(Order::Made, rows, 3), Report::Counting),
+        "orders" => tell(rt, filling(Order::Made, rows, 3), Report::Orders),
+        "boxes" => tell_boxes(rt, second.unwrap_or(1)),
+        "pages" => tell_pages(
+            rt,
+            second.unwrap_or(2),
+            third.unwrap_or(1),
+            words[3].is_some(),
+        ),
+        _ => tell_checksums(
+            rt,
+            number(&words[0]).unwrap_or(1000),
+            second,
+            way_of(text(&words[2])),
+        ),
+    }
+}
+
 fn main(rt: HostRuntime) -> io::Result<()> {
     let mut words = env::args(&rt)?;
     let _program = words.next();
-    let (first, second) = (words.next(), words.next());
-    let (third, fourth) = (words.next(), words.next());
-    match text(&first) {
-        "tree" => tell_tree(
-            &rt,
-            number(second).unwrap_or(1000),
-            number(third).unwrap_or(0),
-        ),
-        "fill" => tell_fill(
-            &rt,
-            number(second).unwrap_or(1000),
-            number(third).unwrap_or(2),
-            order_of(fourth),
-        ),
-        "held" => tell(&rt, number(second).unwrap_or(1000)),
-        "count" => tell_counting(&rt, number(second).unwrap_or(1000)),
-        "orders" => tell_orders(&rt, number(second).unwrap_or(1000)),
-        "boxes" => tell_boxes(&rt, number(second).unwrap_or(1)),
-        "pages" => tell_pages(
-            &rt,
-            number(second).unwrap_or(2),
-            number(third).unwrap_or(1),
-            fourth.is_some(),
-        ),
-        _ => tell_checksums(
-            &rt,
-            number(first).unwrap_or(1000),
-            number(second),
-            way_of(text(&third)),
-        ),
-    }
+    let asked = [words.next(), words.next(), words.next(), words.next()];
+    run(&rt, &asked)
 }

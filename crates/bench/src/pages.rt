@@ -1,11 +1,12 @@
 ghost use Rattle.std.specs.Prelude.{◌≤◌};
 
+use crate::events::box_between;
 use crate::generator::Generator;
 use crate::table::table;
 use ub_bigmin::ZBox;
 use ub_page::{Draft, Page, RegionPage, write_region};
 use ub_table::{Key, PageFault, Row, Schema};
-use ub_zaddr::{Point, Shape, last, spread};
+use ub_zaddr::{Shape, last, spread};
 
 /// How many rows stand on the page.
 const ROWS: u32 = 64;
@@ -36,14 +37,6 @@ fn rows_of(shape: Shape) -> [Row; 64] {
     rows
 }
 
-// The box of the middle half of each dimension.
-fn middle(shape: Shape) -> Option<ZBox> {
-    let dims = shape.dims() as usize;
-    let lo = Point::new(shape, &[1 << 30; 4][..dims]).ok()?;
-    let hi = Point::new(shape, &[3 << 30; 4][..dims]).ok()?;
-    ZBox::new(shape, &lo, &hi)
-}
-
 // The page's rows in the box, one bit for each: of a region made anew, or of this one, which takes them in.
 fn filtered(
     schema: &Schema,
@@ -70,7 +63,8 @@ pub fn read_and_filter(dims: u32, calls: u64, is_held: bool) -> Result<u64, Page
 {
     let schema = table(dims, true)?;
     let shape = schema.shape();
-    let Some(zbox) = middle(shape) else {
+    // The middle half of each dimension.
+    let Some(zbox) = box_between(shape, &[1 << 30; 4], &[3 << 30; 4]) else {
         return Ok(0);
     };
     let mut draft = Draft::new();

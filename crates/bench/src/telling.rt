@@ -1,9 +1,6 @@
-ghost use Rattle.std.specs.Prelude.{◌<◌};
-
-use crate::counting::counting;
-use crate::held::{COLUMNS, all_by, cube, filled};
-use crate::table::MemTree;
-use crate::timing::{Timed, Work, timed};
+use crate::asking::{Question, Selection};
+use crate::fill::{Filling, MemTree, empty, fill, walks};
+use crate::timing::{Timing, Work, timed};
 use std::io;
 use ub_tetris::SweepFault;
 
@@ -36,83 +33,99 @@ const CUBES: [Cube; 3] = [
     },
 ];
 
-/// Prints how long it takes to count all rows of a tree of so many, and beside it to go from region to region and read each.
-pub fn tell_counting(rt: &HostRuntime, rows: u64) -> io::Result<()> {
-    match filled(rt.alloc(), rows) {
-        Ok(mut tree) => match walk_and_count(rt, &mut tree) {
-            Ok((walk, count)) => println!(rt; "walk: {walk} ns, COUNT(*): {count} ns"),
-            Err(fault) => println!(rt; "! {fault}"),
-        },
+/// What is told of a tree.
+#[derive(Clone, Copy)]
+pub enum Report {
+    /// How many regions it has.
+    Regions,
+    /// The same, and how many rows so many walks read.
+    Walks(u64),
+    /// What sweeps of some cubes come to, and beside them a scan of the same regions.
+    Cubes,
+    /// How long it takes to count all rows, and beside it to go from region to region and read each.
+    Counting,
+    /// How long all rows take in the order of the first dimension, which is a sweep, and beside it in that of the measure, which
+    /// orders them alike and is a scan.
+    Orders,
+}
+
+/// Prints this of a tree that is filled with these rows.
+pub fn tell(rt: &HostRuntime, filling: Filling, report: Report) -> io::Result<()> {
+    match empty(rt.alloc(), filling) {
+        Ok(mut tree) => tell_filled(rt, &mut tree, filling, report),
         Err(fault) => println!(rt; "! {fault}"),
     }
 }
 
-// The nanoseconds of a walk that reads each region, and of counting.
-fn walk_and_count(rt: &HostRuntime, tree: &mut MemTree) -> Result<(u128, u128), SweepFault> {
-    let (_, walk) = timed_counting(rt, tree, Work::Walk)?;
-    let (_, count) = timed_counting(rt, tree, Work::Execution)?;
-    Ok((walk, count))
-}
-
-// What work comes to by the plan that counts all rows.
-fn timed_counting(rt: &HostRuntime, tree: &mut MemTree, work: Work) -> Result<Timed, SweepFault> {
-    let plan = counting(rt.alloc(), tree)?;
-    timed(rt, tree, &plan, work)
-}
-
-/// Prints how long all rows of a tree of so many take in the order of the first dimension, which is a sweep, and beside it in that of
-/// the measure, which orders them alike and is a scan.
-pub fn tell_orders(rt: &HostRuntime, rows: u64) -> io::Result<()> {
-    match filled(rt.alloc(), rows) {
-        Ok(mut tree) => {
-            tell_order(rt, &mut tree, "sweep", 0)?;
-            tell_order(rt, &mut tree, "scan", MEASURE)
+// Puts the rows in, and prints this of the tree.
+fn tell_filled(
+    rt: &HostRuntime,
+    tree: &mut MemTree,
+    filling: Filling,
+    report: Report,
+) -> io::Result<()> {
+    if let Err(fault) = fill(tree, filling) {
+        return println!(rt; "! {fault}");
+    }
+    match report {
+        Report::Regions => println!(rt; "{} regions", tree.regions()),
+        Report::Walks(times) => match walks(tree, times) {
+            Ok(read) => println!(rt; "{} regions, {read} rows read", tree.regions()),
+            Err(fault) => println!(rt; "! {fault}"),
+        },
+        Report::Cubes => tell_cubes(rt, tree),
+        Report::Counting => tell_counting(rt, tree),
+        Report::Orders => {
+            tell_order(rt, tree, "sweep", 0)?;
+            tell_order(rt, tree, "scan", MEASURE)
         }
-        Err(fault) => println!(rt; "! {fault}"),
+    }
+}
+
+// Prints how long a walk takes that reads each region, and counting.
+fn tell_counting(rt: &HostRuntime, tree: &mut MemTree) -> io::Result<()> {
+    let walk = timed(rt, tree, Question::Count, Work::Walk);
+    let count = timed(rt, tree, Question::Count, Work::Execution);
+    match (walk, count) {
+        (Ok(walk), Ok(count)) => {
+            println!(rt; "walk: {} ns, COUNT(*): {} ns", walk.time, count.time)
+        }
+        (Err(fault), _) | (Ok(_), Err(fault)) => println!(rt; "! {fault}"),
     }
 }
 
 // Prints how long all rows take in the order of a column, under this name.
-fn tell_order(rt: &HostRuntime, tree: &mut MemTree, name: &str, column: usize) -> io::Result<()>
-    requires { column < COLUMNS }
-{
-    match timed_order(rt, tree, column) {
-        Ok((_, time)) => println!(rt; "{name}: {time} ns"),
-        Err(fault) => println!(rt; "! {fault}"),
-    }
-}
-
-// What all rows in the order of a column come to.
-fn timed_order(rt: &HostRuntime, tree: &mut MemTree, column: usize) -> Result<Timed, SweepFault>
-    requires { column < COLUMNS }
-{
-    let plan = all_by(rt.alloc(), tree, column)?;
-    timed(rt, tree, &plan, Work::Execution)
-}
-
-/// Prints, over a tree of so many rows in random order, what sweeps of some cubes come to, and beside them a scan of the same
-/// regions.
-pub fn tell(rt: &HostRuntime, rows: u64) -> io::Result<()> {
-    match filled(rt.alloc(), rows) {
-        Ok(mut tree) => {
-            for cube in CUBES {
-                tell_cube(rt, &mut tree, cube)?;
-            }
-            Ok(())
-        }
-        Err(fault) => println!(rt; "! {fault}"),
-    }
-}
-
-// Prints a line for the scan, and one for each sweep.
-fn tell_cube(rt: &HostRuntime, tree: &mut MemTree, cube: Cube) -> io::Result<()> {
-    let percent = cube.percent;
-    let (scan, time) = match timed_in(rt, tree, cube, None, Work::Scan) {
-        Ok(timed) => timed,
-        Err(fault) => return println!(rt; "! {fault}"),
+fn tell_order(rt: &HostRuntime, tree: &mut MemTree, name: &str, column: usize) -> io::Result<()> {
+    let all = Selection {
+        low: 0,
+        high: u32::MAX,
+        column,
+        limit: None,
     };
-    let (rows, pages) = (scan.rows, scan.pages);
-    println!(rt; "{percent} % of the space, scan: {rows} rows, {pages} pages, {time} ns")?;
+    match timed(rt, tree, Question::Rows(all), Work::Execution) {
+        Ok(timed) => println!(rt; "{name}: {} ns", timed.time),
+        Err(fault) => println!(rt; "! {fault}"),
+    }
+}
+
+// Prints for each cube a line for the scan, and one for each sweep.
+fn tell_cubes(rt: &HostRuntime, tree: &mut MemTree) -> io::Result<()> {
+    for cube in CUBES {
+        match timed_in(rt, tree, cube, None, Work::Scan) {
+            Ok(scan) => tell_cube(rt, tree, cube, scan)?,
+            Err(fault) => println!(rt; "! {fault}")?,
+        }
+    }
+    Ok(())
+}
+
+// Prints a line for the scan, which came to this, and one for each sweep.
+fn tell_cube(rt: &HostRuntime, tree: &mut MemTree, cube: Cube, scan: Timing) -> io::Result<()> {
+    let (rows, pages, percent) = (scan.told.rows, scan.told.pages, cube.percent);
+    println!(rt;
+        "{percent} % of the space, scan: {rows} rows, {pages} pages, {} ns",
+        scan.time
+    )?;
     for limit in [Some(1), Some(10), Some(1000), None] {
         let most = limit.unwrap_or(u64::from(tree.rows()) + 1);
         match timed_in(rt, tree, cube, limit, Work::Sweep(most)) {
@@ -129,14 +142,14 @@ fn tell_sweep(
     percent: u32,
     limit: Option<u64>,
     meeting: usize,
-    timed: Timed,
+    timed: Timing,
 ) -> io::Result<()> {
-    let (told, time) = timed;
-    let (rows, pages, held) = (told.rows, told.pages, told.held);
+    let (rows, pages, held) = (timed.told.rows, timed.told.pages, timed.told.held);
     match limit {
         Some(most) => print!(rt; "{percent} % of the space, sweep, LIMIT {most}: ")?,
         None => print!(rt; "{percent} % of the space, sweep: ")?,
     }
+    let time = timed.time;
     println!(rt; "{rows} rows, {pages} pages of {meeting}, at most {held} rows held, {time} ns")
 }
 
@@ -144,10 +157,16 @@ fn tell_sweep(
 fn timed_in(
     rt: &HostRuntime,
     tree: &mut MemTree,
-    part: Cube,
+    cube: Cube,
     limit: Option<u64>,
     work: Work,
-) -> Result<Timed, SweepFault> {
-    let plan = cube(rt.alloc(), tree, part.low, part.high, limit)?;
-    timed(rt, tree, &plan, work)
+) -> Result<Timing, SweepFault> {
+    let (low, high) = (cube.low, cube.high);
+    let selection = Selection {
+        low,
+        high,
+        column: 0,
+        limit,
+    };
+    timed(rt, tree, Question::Rows(selection), work)
 }

@@ -1,10 +1,9 @@
 ghost use Rattle.ub_query.specs.Posed.{IsPosed};
 
-use crate::counting::{executed, walked};
-use crate::held::{COLUMNS, Told, scanned, swept};
-use crate::table::MemTree;
+use crate::asking::{COLUMNS, Question, planned};
+use crate::fill::MemTree;
+use crate::held::{Told, executed, scanned, swept, walked};
 use std::time::Instant;
-use ub_exec::ExecFault;
 use ub_plan::Plan;
 use ub_tetris::SweepFault;
 
@@ -24,42 +23,69 @@ pub enum Work {
     Sweep(u64),
 }
 
-/// What work came to, and its nanoseconds.
-pub type Timed = (Told, u128);
+/// What work came to, and how long it took.
+#[derive(Clone, Copy)]
+pub struct Timing {
+    /// What it came to.
+    pub told: Told,
+    /// Its nanoseconds.
+    pub time: u128,
+}
 
-/// What work by a plan comes to, and its nanoseconds, the least of some runs.
+/// What work by the plan of what is asked comes to, and its nanoseconds, the least of some runs.
 pub fn timed(
+    rt: &HostRuntime,
+    tree: &mut MemTree,
+    question: Question,
+    work: Work,
+) -> Result<Timing, SweepFault> {
+    let plan = planned(rt.alloc(), tree, question)?;
+    repeated(rt, tree, &plan, work)
+}
+
+// The same by a plan. The first run isn't timed.
+fn repeated(
     rt: &HostRuntime,
     tree: &mut MemTree,
     plan: &Plan,
     work: Work,
-) -> Result<Timed, SweepFault>
+) -> Result<Timing, SweepFault>
     requires { IsPosed COLUMNS plan.now.asked }
 {
-    let mut told = done(rt, tree, plan, work)?;
+    let mut told = Told {
+        rows: 0,
+        pages: 0,
+        held: 0,
+    };
     let mut least = u128::MAX;
-    for _ in 0..REPEATS {
+    for repeat in 0..=REPEATS {
         let start = Instant::now(rt).ok();
         told = done(rt, tree, plan, work)?;
-        least = least.min(since(rt, start));
+        let time = since(rt, start);
+        if repeat > 0 {
+            least = least.min(time);
+        }
     }
-    Ok((told, least))
+    Ok(Timing { told, time: least })
 }
 
 // What work comes to that is done once.
 fn done(rt: &HostRuntime, tree: &mut MemTree, plan: &Plan, work: Work) -> Result<Told, SweepFault>
     requires { IsPosed COLUMNS plan.now.asked }
 {
+    let mut told = Told {
+        rows: 0,
+        pages: 0,
+        held: 0,
+    };
     match work {
-        Work::Walk => Ok(walked(tree, plan)?),
-        Work::Execution => match executed(rt.alloc(), tree, plan) {
-            Ok(told) => Ok(told),
-            Err(ExecFault::Tree(fault)) => Err(SweepFault::Tree(fault)),
-            Err(ExecFault::Memory) => Err(SweepFault::Memory),
-        },
-        Work::Scan => Ok(scanned(tree, plan)?),
-        Work::Sweep(most) => swept(rt.alloc(), tree, plan, most),
+        Work::Walk => told.rows = walked(tree, plan)?,
+        Work::Execution => told.rows = executed(rt.alloc(), tree, plan)?,
+        Work::Scan => told.rows = scanned(tree, plan)?,
+        Work::Sweep(most) => told = swept(rt.alloc(), tree, plan, most)?,
     }
+    told.pages = tree.trace().len();
+    Ok(told)
 }
 
 // The nanoseconds from then to now; none where the clock isn't there.

@@ -1,0 +1,105 @@
+ghost use Rattle.std.specs.Prelude.{◌≡◌, Some, pos, [], ◌∷◌, length, IfOk, IfSome, ◌≤◌, ◌<◌};
+ghost use Rattle.ub_query.specs.Posed.{IsPosed};
+ghost use Rattle.ub_query.specs.Shape.{asked, between, both, shape};
+
+use crate::fill::MemTree;
+use std::alloc::{AllocError, Global};
+use ub_plan::{Plan, plan};
+use ub_query::{Cond, Item, Items, Query, SortKey};
+
+/// How many columns the table has.
+pub const COLUMNS: usize = 4;
+
+/// What is asked of the table.
+#[derive(Clone, Copy)]
+pub enum Question {
+    /// How many rows there are.
+    Count,
+    /// Rows in an order.
+    Rows(Selection),
+}
+
+/// The rows of a cube in the order of a column.
+#[derive(Clone, Copy)]
+pub struct Selection {
+    /// The least coordinate of the cube, in each dimension.
+    pub low: u32,
+    /// The greatest one.
+    pub high: u32,
+    /// The column that orders them: by a dimension it is a sweep, by the measure a scan.
+    pub column: usize,
+    /// How many rows are asked for at most.
+    pub limit: Option<u64>,
+}
+
+// SELECT COUNT(*) FROM t
+fn count_all(alloc: Global) -> Result<Query, AllocError>
+    ensures { IfOk result (λ q. IsPosed COLUMNS (asked q)) }
+{
+    Ok(Query {
+        items: Items::new(Vec::from_slice(alloc, &[Item::Count])?),
+        filter: None,
+        group: Items::new(Vec::new(alloc)),
+        order: Items::new(Vec::new(alloc)),
+        limit: None,
+    })
+}
+
+// That a column lies between two numbers.
+fn lies(column: usize, low: u32, high: u32) -> Cond
+    ensures { shape result ≡ between column (pos low) (pos high) }
+{
+    Cond::Between {
+        column,
+        low: i128::from(low),
+        high: i128::from(high),
+    }
+}
+
+// That each of the three dimensions does.
+fn inside(alloc: Global, low: u32, high: u32) -> Result<Cond, AllocError>
+    ensures { IfOk result (λ c. shape c ≡ both (between 0 (pos low) (pos high))
+        (both (between 1 (pos low) (pos high)) (between 2 (pos low) (pos high)))) }
+{
+    let last = Cond::And(
+        Box::new(alloc, lies(1, low, high))?,
+        Box::new(alloc, lies(2, low, high))?,
+    );
+    Ok(Cond::And(Box::new(alloc, lies(0, low, high))?, Box::new(alloc, last)?))
+}
+
+// SELECT x, y, z FROM t WHERE each lies between low and high ORDER BY a column LIMIT limit
+fn select(alloc: Global, selection: Selection) -> Result<Query, AllocError>
+    ensures { IfOk result (λ q. IsPosed COLUMNS (asked q)) }
+{
+    let by_column = SortKey {
+        item: Item::Column(selection.column.min(COLUMNS - 1)),
+        is_descending: false,
+    };
+    let items = [Item::Column(0), Item::Column(1), Item::Column(2)];
+    Ok(Query {
+        items: Items::new(Vec::from_slice(alloc, &items)?),
+        filter: Some(inside(alloc, selection.low, selection.high)?),
+        group: Items::new(Vec::new(alloc)),
+        order: Items::new(Vec::from_slice(alloc, &[by_column])?),
+        limit: selection.limit,
+    })
+}
+
+// The query that asks this.
+fn query(alloc: Global, question: Question) -> Result<Query, AllocError>
+    ensures { IfOk result (λ q. IsPosed COLUMNS (asked q)) }
+{
+    match question {
+        Question::Count => count_all(alloc),
+        Question::Rows(selection) => select(alloc, selection),
+    }
+}
+
+/// The plan of what is asked of a tree's table.
+pub fn planned(alloc: Global, tree: &MemTree, question: Question) -> Result<Plan, AllocError>
+    ensures { IfOk result (λ p. IsPosed COLUMNS p.asked) }
+{
+    let query = query(alloc, question)?;
+    plan(alloc, &query, tree.schema())
+}
