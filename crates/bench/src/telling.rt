@@ -84,13 +84,13 @@ fn tell_filled(
 
 // Prints how long a walk takes that reads each region, and counting.
 fn tell_counting(rt: &HostRuntime, tree: &mut MemTree) -> io::Result<()> {
-    let walk = timed(rt, tree, Question::Count, Work::Walk);
-    let count = timed(rt, tree, Question::Count, Work::Execution);
-    match (walk, count) {
-        (Ok(walk), Ok(count)) => {
-            println!(rt; "walk: {} ns, COUNT(*): {} ns", walk.time, count.time)
-        }
-        (Err(fault), _) | (Ok(_), Err(fault)) => println!(rt; "! {fault}"),
+    let walk = match timed(rt, tree, Question::Count, Work::Walk) {
+        Ok(walk) => walk.time,
+        Err(fault) => return println!(rt; "! {fault}"),
+    };
+    match timed(rt, tree, Question::Count, Work::Execution) {
+        Ok(count) => println!(rt; "walk: {walk} ns, COUNT(*): {} ns", count.time),
+        Err(fault) => println!(rt; "! {fault}"),
     }
 }
 
