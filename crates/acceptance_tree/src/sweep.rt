@@ -4,8 +4,9 @@ ghost use Rattle.std.specs.Prelude.{◌≡◌, ◌<◌, None, [], ◌∷◌, IfO
 ghost use Rattle.ub_query.specs.Posed.{IsPosed};
 ghost use Rattle.ub_query.specs.Shape.{asked};
 
-use crate::samples::{Store, five_rows, plane, stored};
+use crate::samples::{FIVE_ROWS, Store, plane, stored};
 use std::alloc::{AllocError, Global};
+use std::process::Abort;
 use ub_plan::{Plan, plan};
 use ub_query::{Item, Items, Query, SortKey};
 use ub_store::StoreFault;
@@ -13,7 +14,8 @@ use ub_table::Schema;
 use ub_tetris::{Sweep, SweepFault};
 use ub_tree::{Tree, TreeFault};
 
-fn by(column: usize, is_descending: bool) -> SortKey
+// A key of a column, down or up.
+pub(crate) fn by(column: usize, is_descending: bool) -> SortKey
     ensures { result ≡ record { item = Item.Column column; is_descending = is_descending } }
 {
     SortKey {
@@ -22,21 +24,18 @@ fn by(column: usize, is_descending: bool) -> SortKey
     }
 }
 
-// SELECT m FROM t ORDER BY these two keys.
-fn select(alloc: Global, first: SortKey, second: SortKey) -> Result<Query, AllocError>
+// SELECT this item FROM t ORDER BY these keys.
+fn select(alloc: Global, item: Item, keys: &[SortKey]) -> Result<Query, AllocError>
     ensures { IfOk result (λ q. asked q ≡ record {
-      items = Item.Column 2 ∷ [];
+      items = item ∷ [];
       filter = None;
       group = [];
-      order = first ∷ second ∷ [];
+      order = keys.now;
       limit = None;
     }) }
 {
-    let mut items = Vec::new(alloc);
-    items.push(Item::Column(2))?;
-    let mut order = Vec::new(alloc);
-    order.push(first)?;
-    order.push(second)?;
+    let items = Vec::from_slice(alloc, &[item])?;
+    let order = Vec::from_slice(alloc, keys)?;
     Ok(Query {
         items: Items::new(items),
         filter: None,
@@ -46,21 +45,26 @@ fn select(alloc: Global, first: SortKey, second: SortKey) -> Result<Query, Alloc
     })
 }
 
-// The same by two columns, each of them down or up.
-fn ordered(alloc: Global, first: (usize, bool), second: (usize, bool)) -> Result<Query, AllocError>
-    requires first { first.0 < 3 }
-    requires second { second.0 < 3 }
-    ensures { IfOk result (λ q. IsPosed 3 (asked q)) }
+// The plan of it.
+pub(crate) fn planned(
+    alloc: Global,
+    schema: &Schema,
+    item: Item,
+    keys: &[SortKey],
+) -> Result<Plan, AllocError>
+    ensures { IfOk result (λ p. p.asked ≡ record {
+      items = item ∷ [];
+      filter = None;
+      group = [];
+      order = keys.now;
+      limit = None;
+    }) }
 {
-    select(alloc, by(first.0, first.1), by(second.0, second.1))
+    let query = select(alloc, item, keys)?;
+    plan(alloc, &query, schema)
 }
 
-fn planned(alloc: Global, query: &Query, schema: &Schema) -> Result<Plan, AllocError>
-    ensures { IfOk result (λ p. p.asked ≡ asked query.now) }
-{
-    plan(alloc, query, schema)
-}
-
+// The plan of SELECT m FROM t ORDER BY two columns, each of them down or up.
 fn plan_by(
     alloc: Global,
     schema: &Schema,
@@ -71,145 +75,337 @@ fn plan_by(
     requires second { second.0 < 3 }
     ensures { IfOk result (λ p. IsPosed 3 p.asked) }
 {
-    let query = ordered(alloc, first, second)?;
-    planned(alloc, &query, schema)
+    let keys = [by(first.0, first.1), by(second.0, second.1)];
+    planned(alloc, schema, Item::Column(2), &keys)
 }
 
-// The next row's measure, none or a fault; how many pages were fetched for rows so far, and how many rows are held.
-type Turn = (Result<Option<i64>, SweepFault>, usize, usize);
-
-fn next(sweep: &mut Sweep, tree: &mut Tree<Store>, plan: &Plan) -> Turn
-    requires { IsPosed 3 plan.now.asked }
-{
-    if tree.schema().columns().len() != 3 {
-        return (Err(SweepFault::Failed), 0, 0);
-    }
-    let given = match sweep.next(tree, plan) {
-        Ok(Some(row)) => Ok(Some(row.measures[0])),
-        Ok(None) => Ok(None),
-        Err(fault) => Err(fault),
-    };
-    (given, tree.trace().len(), sweep.held())
+// What a turn of a sweep gives: the next row's measure, none, the device's fault, or that the sweep failed before.
+#[derive(Clone, Copy, PartialEq, Eq)]
+enum Given {
+    Row(i64),
+    Nothing,
+    Device,
+    Failed,
+    Other,
 }
 
-// The table, over a store that fails at its k-th call.
-fn opened(alloc: Global, schema: &Schema, k: u64) -> Option<Tree<Store>> {
-    let store = stored(alloc, &five_rows(schema), k).ok()?;
-    Tree::open(alloc, store).ok()
-}
-
-// What stands before the first turn of the sweep by a plan, and the first eight turns.
-fn turns_by(alloc: Global, tree: &mut Tree<Store>, plan: &Plan) -> Option<[Turn; 9]>
-    requires { IsPosed 3 plan.now.asked }
-{
-    let mut sweep = Sweep::new(alloc, tree, plan).ok()?;
-    let mut turns = [(Ok(None), tree.trace().len(), sweep.held()); 9];
-    for turn in &mut turns[1..] {
-        *turn = next(&mut sweep, tree, plan);
-    }
-    Some(turns)
-}
-
-// The same by these two columns, over a store that fails at its k-th call.
-fn turns(alloc: Global, k: u64, first: (usize, bool), second: (usize, bool)) -> Option<[Turn; 9]>
-    requires first { first.0 < 3 }
-    requires second { second.0 < 3 }
-{
-    let schema = plane().ok()?;
-    let mut tree = opened(alloc, &schema, k)?;
-    match plan_by(alloc, &schema, first, second) {
-        Ok(plan) => turns_by(alloc, &mut tree, &plan),
-        Err(_) => None,
-    }
-}
-
-// Whether the sweep by these two columns gives just the rows with these measures, and then none, however often it is asked;
-// and reads every region. The store fails at its k-th call.
-fn shows(
-    alloc: Global,
+// A sweep by two columns, each down or up, over a store that fails at its k-th call.
+struct Case {
     k: u64,
     first: (usize, bool),
     second: (usize, bool),
-    measures: &[i64],
-) -> bool
-    requires first { first.0 < 3 }
-    requires second { second.0 < 3 }
+    // What its turns give.
+    given: [Given; 8],
+    // How many pages were fetched for rows after each of its first turns, and after all of them.
+    fetched: &'static [usize],
+    fetched_at_last: usize,
+    // How many rows are held after each of its first turns.
+    held: &'static [usize],
+}
+
+// What the next turn gives.
+fn next(sweep: &mut Sweep, tree: &mut Tree<Store>, plan: &Plan) -> Given
+    requires { IsPosed 3 plan.now.asked }
 {
-    let Some(turns) = turns(alloc, k, first, second) else {
+    if tree.schema().columns().len() != 3 {
+        return Given::Other;
+    }
+    match sweep.next(tree, plan) {
+        Ok(Some(row)) => Given::Row(row.measures[0]),
+        Ok(None) => Given::Nothing,
+        Err(SweepFault::Tree(TreeFault::Store(StoreFault::Device))) => Given::Device,
+        Err(SweepFault::Failed) => Given::Failed,
+        Err(_) => Given::Other,
+    }
+}
+
+// Whether the turns of a sweep, before the first of which nothing is fetched and held, are those of the case.
+fn takes_turns(sweep: &mut Sweep, tree: &mut Tree<Store>, plan: &Plan, case: &Case) -> bool
+    requires { IsPosed 3 plan.now.asked }
+{
+    if !tree.trace().is_empty() || sweep.held() != 0 {
         return false;
-    };
-    for (i, turn) in turns[1..].iter().enumerate() {
-        if turn.0 != Ok(measures.get(i).copied()) {
+    }
+    let mut fetched = [0; 8];
+    let mut held = [0; 8];
+    for (i, given) in case.given.iter().enumerate() {
+        if next(sweep, tree, plan) != *given {
             return false;
         }
+        fetched[i] = tree.trace().len();
+        held[i] = sweep.held();
     }
-    turns[8].1 == 3
+    fetched[7] == case.fetched_at_last
+        && fetched.starts_with(case.fetched)
+        && held.starts_with(case.held)
 }
 
-// In the order of one dimension, and of two keys.
+// Whether the sweep of this tree is that of the case.
+fn sweeps(alloc: Global, tree: &mut Tree<Store>, plan: &Plan, case: &Case) -> bool
+    requires { IsPosed 3 plan.now.asked }
+{
+    match Sweep::new(alloc, tree, plan) {
+        Ok(mut sweep) => takes_turns(&mut sweep, tree, plan, case),
+        Err(_) => false,
+    }
+}
+
+// Whether the sweep by the columns of the case, over this tree, is that of the case.
+fn sweeps_by(alloc: Global, tree: &mut Tree<Store>, case: &Case) -> bool {
+    if case.first.0 > 2 || case.second.0 > 2 {
+        return false;
+    }
+    match plan_by(alloc, tree.schema(), case.first, case.second) {
+        Ok(plan) => sweeps(alloc, tree, &plan, case),
+        Err(_) => false,
+    }
+}
+
+// Whether the table, once opened, is swept as the case says.
+fn goes(alloc: Global, case: &Case) -> bool {
+    let Ok(schema) = plane() else {
+        return false;
+    };
+    let Ok(store) = stored(alloc, &schema, &FIVE_ROWS, case.k) else {
+        return false;
+    };
+    match Tree::open(alloc, store) {
+        Ok(mut tree) => sweeps_by(alloc, &mut tree, case),
+        Err(_) => false,
+    }
+}
+
+// Asserts that the sweeps of these cases are so.
+fn all_go(rt: &impl Abort, alloc: Global, cases: &[Case]) {
+    for (i, case) in cases.iter().enumerate() {
+        assert!(rt; goes(alloc, case), "case {i}");
+    }
+}
+
+// In the order of one dimension, and of two keys: each of the rows, and then none, however often it is asked. Every region is
+// read.
+static ORDERS: [Case; 5] = [
+    Case {
+        k: 0,
+        first: (0, false),
+        second: (0, false),
+        given: [
+            Given::Row(7),
+            Given::Row(10),
+            Given::Row(20),
+            Given::Row(1),
+            Given::Row(5),
+            Given::Nothing,
+            Given::Nothing,
+            Given::Nothing,
+        ],
+        fetched: &[],
+        fetched_at_last: 3,
+        held: &[],
+    },
+    Case {
+        k: 0,
+        first: (1, true),
+        second: (1, true),
+        given: [
+            Given::Row(20),
+            Given::Row(1),
+            Given::Row(7),
+            Given::Row(10),
+            Given::Row(5),
+            Given::Nothing,
+            Given::Nothing,
+            Given::Nothing,
+        ],
+        fetched: &[],
+        fetched_at_last: 3,
+        held: &[],
+    },
+    Case {
+        k: 0,
+        first: (0, true),
+        second: (2, false),
+        given: [
+            Given::Row(5),
+            Given::Row(1),
+            Given::Row(20),
+            Given::Row(10),
+            Given::Row(7),
+            Given::Nothing,
+            Given::Nothing,
+            Given::Nothing,
+        ],
+        fetched: &[],
+        fetched_at_last: 3,
+        held: &[],
+    },
+    Case {
+        k: 0,
+        first: (0, true),
+        second: (2, true),
+        given: [
+            Given::Row(5),
+            Given::Row(20),
+            Given::Row(1),
+            Given::Row(10),
+            Given::Row(7),
+            Given::Nothing,
+            Given::Nothing,
+            Given::Nothing,
+        ],
+        fetched: &[],
+        fetched_at_last: 3,
+        held: &[],
+    },
+    Case {
+        k: 0,
+        first: (0, false),
+        second: (2, false),
+        given: [
+            Given::Row(7),
+            Given::Row(10),
+            Given::Row(1),
+            Given::Row(20),
+            Given::Row(5),
+            Given::Nothing,
+            Given::Nothing,
+            Given::Nothing,
+        ],
+        fetched: &[],
+        fetched_at_last: 3,
+        held: &[],
+    },
+];
+
 #[test]
 fn gives_rows_in_order(rt: HostRuntime) {
-    let alloc = rt.alloc();
-    assert!(rt; shows(alloc, 0, (0, false), (0, false), &[7, 10, 20, 1, 5]));
-    assert!(rt; shows(alloc, 0, (1, true), (1, true), &[20, 1, 7, 10, 5]));
-    assert!(rt; shows(alloc, 0, (0, true), (2, false), &[5, 1, 20, 10, 7]));
-    assert!(rt; shows(alloc, 0, (0, true), (2, true), &[5, 20, 1, 10, 7]));
-    assert!(rt; shows(alloc, 0, (0, false), (2, false), &[7, 10, 1, 20, 5]));
-}
-
-// Whether the sweep by these two columns comes to this before its first turn and in the first three.
-fn comes_to(alloc: Global, is_descending: bool, states: [Turn; 4]) -> bool {
-    match turns(alloc, 0, (0, is_descending), (2, false)) {
-        Some(turns) => &turns[..4] == states.as_slice(),
-        None => false,
-    }
+    all_go(&rt, rt.alloc(), &ORDERS);
 }
 
 // By x down the event values are 2, 3 and 4294967295: the last region comes first, and the first one only for a row at 2. By x
 // up they are 0, 2 and 0: two regions tie, and are both fetched before the first row.
+static NEEDS: [Case; 2] = [
+    Case {
+        k: 0,
+        first: (0, true),
+        second: (2, false),
+        given: [
+            Given::Row(5),
+            Given::Row(1),
+            Given::Row(20),
+            Given::Row(10),
+            Given::Row(7),
+            Given::Nothing,
+            Given::Nothing,
+            Given::Nothing,
+        ],
+        fetched: &[2, 3, 3],
+        fetched_at_last: 3,
+        held: &[2, 3, 2],
+    },
+    Case {
+        k: 0,
+        first: (0, false),
+        second: (2, false),
+        given: [
+            Given::Row(7),
+            Given::Row(10),
+            Given::Row(1),
+            Given::Row(20),
+            Given::Row(5),
+            Given::Nothing,
+            Given::Nothing,
+            Given::Nothing,
+        ],
+        fetched: &[2, 2, 3],
+        fetched_at_last: 3,
+        held: &[3, 2, 2],
+    },
+];
+
 #[test]
 fn fetches_what_the_next_row_needs(rt: HostRuntime) {
-    let begun = (Ok(None), 0, 0);
-    let down = [
-        begun,
-        (Ok(Some(5)), 2, 2),
-        (Ok(Some(1)), 3, 3),
-        (Ok(Some(20)), 3, 2),
-    ];
-    assert!(rt; comes_to(rt.alloc(), true, down));
-    let up = [
-        begun,
-        (Ok(Some(7)), 2, 3),
-        (Ok(Some(10)), 2, 2),
-        (Ok(Some(1)), 3, 2),
-    ];
-    assert!(rt; comes_to(rt.alloc(), false, up));
+    all_go(&rt, rt.alloc(), &NEEDS);
 }
 
-// Whether the first of these turns is the device's fault, and the next two answer that the sweep failed, and read no more.
-fn fail_ever_after(turns: &[Turn]) -> bool {
-    let device = Err(SweepFault::Tree(TreeFault::Store(StoreFault::Device)));
-    match turns {
-        [fault, first, second, ..] => {
-            let after = (Err(SweepFault::Failed), fault.1);
-            fault.0 == device && (first.0, first.1) == after && (second.0, second.1) == after
-        }
-        _ => false,
-    }
-}
+// Opening makes two calls of its store. Two regions are read for the first row, and the third one for the second. After the
+// device's fault the sweep answers that it failed, and reads no more.
+static FAULTS: [Case; 4] = [
+    Case {
+        k: 3,
+        first: (0, true),
+        second: (2, false),
+        given: [
+            Given::Device,
+            Given::Failed,
+            Given::Failed,
+            Given::Failed,
+            Given::Failed,
+            Given::Failed,
+            Given::Failed,
+            Given::Failed,
+        ],
+        fetched: &[1, 1, 1],
+        fetched_at_last: 1,
+        held: &[],
+    },
+    Case {
+        k: 4,
+        first: (0, true),
+        second: (2, false),
+        given: [
+            Given::Device,
+            Given::Failed,
+            Given::Failed,
+            Given::Failed,
+            Given::Failed,
+            Given::Failed,
+            Given::Failed,
+            Given::Failed,
+        ],
+        fetched: &[2, 2, 2],
+        fetched_at_last: 2,
+        held: &[],
+    },
+    Case {
+        k: 5,
+        first: (0, true),
+        second: (2, false),
+        given: [
+            Given::Row(5),
+            Given::Device,
+            Given::Failed,
+            Given::Failed,
+            Given::Failed,
+            Given::Failed,
+            Given::Failed,
+            Given::Failed,
+        ],
+        fetched: &[2, 3, 3, 3],
+        fetched_at_last: 3,
+        held: &[],
+    },
+    Case {
+        k: 6,
+        first: (0, true),
+        second: (2, false),
+        given: [
+            Given::Row(5),
+            Given::Row(1),
+            Given::Row(20),
+            Given::Row(10),
+            Given::Row(7),
+            Given::Nothing,
+            Given::Nothing,
+            Given::Nothing,
+        ],
+        fetched: &[],
+        fetched_at_last: 3,
+        held: &[],
+    },
+];
 
-// Whether the sweep by x down and m fails after so many rows, over a store that fails at its k-th call.
-fn fails_after(alloc: Global, k: u64, rows: usize) -> bool {
-    match turns(alloc, k, (0, true), (2, false)) {
-        Some(turns) => fail_ever_after(&turns[1 + rows.min(8)..]),
-        None => false,
-    }
-}
-
-// Opening makes two calls of its store. Two regions are read for the first row, and the third one for the second.
 #[test]
 fn fails_ever_after_a_fault(rt: HostRuntime) {
-    let alloc = rt.alloc();
-    assert!(rt; fails_after(alloc, 3, 0) && fails_after(alloc, 4, 0) && fails_after(alloc, 5, 1));
-    assert!(rt; shows(alloc, 6, (0, true), (2, false), &[5, 1, 20, 10, 7]));
+    all_go(&rt, rt.alloc(), &FAULTS);
 }

@@ -1,8 +1,9 @@
 // Steps on a tree and on its store, as data.
-use crate::samples::Store;
+use crate::samples::{FIVE_ROWS, NO_ROWS, Sheet, Store, page_of, plane, stored};
 use std::alloc::Global;
+use std::process::Abort;
 use ub_bigmin::ZBox;
-use ub_page::{Page, RegionPage, read_directory};
+use ub_page::{RegionPage, read_directory};
 use ub_store::{FaultyStore, MemStore, PageStore, Rejected, StoreFault};
 use ub_table::{Key, PageFault, Schema};
 use ub_tree::{Region, Tree, TreeFault};
@@ -11,6 +12,8 @@ use ub_zaddr::{Point, Shape};
 // A step on a tree, or on the store that it left.
 #[derive(Clone, Copy)]
 pub(crate) enum Step {
+    // Takes a store of these pages that fails at its k-th call, in place of all that there is.
+    Store(u64, &'static [Sheet]),
     // Makes an empty table in a store that fails at its k-th call.
     Create(u64),
     Open,
@@ -27,10 +30,10 @@ pub(crate) enum Step {
     Span(u128),
     // The same of that region, read from this page.
     Elsewhere(u128, u32),
-    // Goes from region to region, by looking for the first and for the first that meets the whole plane: how many regions
-    // both lead through, where there is none behind, and where the last begins.
+    // How many regions there are, of which each is both the first after the one before it and the first there that meets the
+    // whole plane, where the first and the last of them begin, and how many regions the tree counts.
     Walk,
-    // How many regions meet the box from a corner with these coordinates on, and where the first and the last of them begin.
+    // The same of the regions that meet the box from a corner with these coordinates on.
     Meet(u32),
     // How many pages the trace notes, and the last of them, or 0.
     Trace,
@@ -39,6 +42,10 @@ pub(crate) enum Step {
     List,
     // Reads page 0 of the store.
     Read,
+    // How many pages of the closed table of no rows the store has, from the first on.
+    HoldsNoRows,
+    // The same of the closed table of five rows.
+    HoldsFiveRows,
 }
 
 // What a step answers: numbers, and zeros behind them.
@@ -46,74 +53,87 @@ pub(crate) type Answer = Result<[u128; 4], TreeFault>;
 
 pub(crate) const DONE: Answer = Ok([0; 4]);
 
+pub(crate) const NO_PAGE: Answer = Err(TreeFault::Store(StoreFault::NoPage));
+
+// Page 0 is unclean.
+pub(crate) const UNCLEAN: Answer = Err(TreeFault::Page {
+    page: 0,
+    fault: PageFault::Unclean,
+});
+
 pub(crate) const DEVICE: Answer = Err(TreeFault::Store(StoreFault::Device));
 
 // The answer where there is no region for a step, no tree or no store.
 pub(crate) const NOTHING: Answer = Ok([u128::MAX; 4]);
 
-// That a page is refused.
-pub(crate) fn refuses(page: u32, fault: PageFault) -> Answer {
-    Err(TreeFault::Page { page, fault })
-}
+// For `goes` where nothing follows.
+pub(crate) static NO_STEPS: [(Step, Answer); 0] = [];
 
 // A tree of the plane, or the store that it left.
 #[derive(Drop)]
-pub(crate) struct Trial {
+struct Trial {
     alloc: Global,
     schema: Schema,
     tree: Option<Tree<Store>>,
     store: Option<Store>,
 }
 
+// Asserts that these steps are answered so, and then those.
+pub(crate) fn goes(
+    rt: &impl Abort,
+    alloc: Global,
+    first: &[(Step, Answer)],
+    then: &[(Step, Answer)],
+) {
+    let right = steps_right(alloc, first, then);
+    assert!(rt;
+        right == first.len().saturating_add(then.len()),
+        "{right} steps were right"
+    );
+}
+
+// How many of these steps, and then of those, are answered so, up to the first wrong one of each.
+fn steps_right(alloc: Global, first: &[(Step, Answer)], then: &[(Step, Answer)]) -> usize {
+    let Ok(schema) = plane() else {
+        return 0;
+    };
+    let mut trial = Trial {
+        alloc,
+        schema,
+        tree: None,
+        store: None,
+    };
+    let right = trial.count_right(first);
+    right.saturating_add(trial.count_right(then))
+}
+
 impl Trial {
-    // For tables of this schema, over a store if there is one.
-    pub(crate) fn new(alloc: Global, schema: &Schema, store: Option<Store>) -> Trial {
-        Trial {
-            alloc,
-            schema: schema.copy(),
-            tree: None,
-            store,
-        }
-    }
-
-    // The first of these steps that is answered otherwise, if there is one.
-    pub(crate) fn first_wrong(&mut self, steps: &[(Step, Answer)]) -> Option<usize> {
+    // How many of these steps are answered so, up to the first wrong one.
+    fn count_right(&mut self, steps: &[(Step, Answer)]) -> usize {
         for (i, (step, wanted)) in steps.iter().enumerate() {
-            if self.answer(*step) != *wanted {
-                return Some(i);
+            if self.answer(step) != *wanted {
+                return i;
             }
         }
-        None
+        steps.len()
     }
 
-    // Whether the store has these pages first.
-    pub(crate) fn has_pages(&mut self, pages: &[Page]) -> bool {
-        let Some(store) = &mut self.store else {
-            return false;
-        };
-        let mut n = 0;
-        for page in pages {
-            if !holds(store, n, page) {
-                return false;
-            }
-            n = n.wrapping_add(1);
-        }
-        true
-    }
-
-    fn answer(&mut self, step: Step) -> Answer {
+    // What a step answers.
+    fn answer(&mut self, step: &Step) -> Answer {
         match step {
+            Step::Store(k, sheets) => self.take_store(*k, sheets),
             Step::Create(k) => {
-                let store = FaultyStore::new(MemStore::new(self.alloc), k);
+                let store = FaultyStore::new(MemStore::new(self.alloc), *k);
                 let made = Tree::create(self.alloc, store, &self.schema);
                 self.take(made)
             }
             Step::Open => self.open(),
             Step::Close => self.close(),
-            Step::List | Step::Read => match &mut self.store {
-                Some(store) => look(&self.schema, store, step),
-                None => NOTHING,
-            },
+            Step::List | Step::Read | Step::HoldsNoRows | Step::HoldsFiveRows =>
+                match &mut self.store {
+                    Some(store) => look(&self.schema, store, step),
+                    None => NOTHING,
+                },
             _ => match &mut self.tree {
                 Some(tree) => ask(tree, step),
                 None => NOTHING,
@@ -121,6 +141,14 @@ impl Trial {
         }
     }
 
+    // Takes a store of these pages that fails at its k-th call.
+    fn take_store(&mut self, k: u64, sheets: &[Sheet]) -> Answer {
+        self.tree = None;
+        self.store = Some(stored(self.alloc, &self.schema, sheets, k)?);
+        DONE
+    }
+
+    // Opens the store.
     fn open(&mut self) -> Answer {
         match self.store.take() {
             Some(store) => {
@@ -145,6 +173,7 @@ impl Trial {
         }
     }
 
+    // Closes the tree.
     fn close(&mut self) -> Answer {
         let Some(tree) = self.tree.take() else {
             return NOTHING;
@@ -162,62 +191,89 @@ impl Trial {
     }
 }
 
-// Whether the store has this page under this number.
-fn holds(store: &mut Store, n: u32, page: &Page) -> bool {
-    match store.read_page(n) {
-        Ok(read) => read == *page,
-        Err(_) => false,
+// What a step on a store answers.
+fn look(schema: &Schema, store: &mut Store, step: &Step) -> Answer {
+    match step {
+        Step::List => list(schema, store),
+        Step::HoldsNoRows => have(schema, store, &NO_ROWS),
+        Step::HoldsFiveRows => have(schema, store, &FIVE_ROWS),
+        _ => match store.read_page(0) {
+            Ok(_) => DONE,
+            Err(fault) => Err(TreeFault::Store(fault)),
+        },
     }
 }
 
-fn look(schema: &Schema, store: &mut Store, step: Step) -> Answer {
-    let is_list = matches!(step, Step::List);
-    let n = if is_list { 2 } else { 0 };
-    let page = store.read_page(n)?;
-    if !is_list {
-        return DONE;
-    }
+// How many regions page 2 lists.
+fn list(schema: &Schema, store: &mut Store) -> Answer {
+    let page = store.read_page(2)?;
     match read_directory(schema, &page) {
         Ok(directory) => Ok([directory.entries().len() as u128, 0, 0, 0]),
-        Err(fault) => refuses(n, fault),
+        Err(fault) => Err(TreeFault::Page { page: 2, fault }),
     }
 }
 
-fn ask(tree: &mut Tree<Store>, step: Step) -> Answer {
-    let told = match step {
-        Step::Put(x, y, m) => [u128::from(put(tree, x, y, m)?), 0, 0, 0],
-        Step::Remove(z, number) => [u128::from(tree.remove(Key { z, number })?), 0, 0, 0],
-        Step::Count => [
+// How many of these pages a store has.
+fn have(schema: &Schema, store: &mut Store, sheets: &[Sheet]) -> Answer {
+    let mut count = 0u32;
+    for sheet in sheets {
+        if store.read_page(count) != Ok(page_of(schema, sheet)) {
+            break;
+        }
+        count = count.saturating_add(1);
+    }
+    Ok([u128::from(count), 0, 0, 0])
+}
+
+// What a step on a tree answers.
+fn ask(tree: &mut Tree<Store>, step: &Step) -> Answer {
+    match step {
+        Step::Put(x, y, m) => put(tree, *x, *y, *m),
+        Step::Remove(z, number) => remove(tree, *z, *number),
+        Step::Count => Ok([
             u128::from(tree.rows()),
             u128::from(tree.regions()),
             u128::from(tree.has_failed()),
             0,
-        ],
-        Step::Seek(z) => match tree.seek(z, None)? {
-            Some(_) => [0; 4],
-            None => return NOTHING,
-        },
-        Step::Span(z) => return read(tree, z, None),
-        Step::Elsewhere(z, page) => return read(tree, z, Some(page)),
-        Step::Walk => return walk(tree),
-        Step::Meet(low) => return meet(tree, low),
+        ]),
+        Step::Seek(z) => seek(tree, *z),
+        Step::Span(z) => read(tree, *z, None),
+        Step::Elsewhere(z, page) => read(tree, *z, Some(*page)),
+        Step::Walk => meet(tree, 0, true),
+        Step::Meet(low) => meet(tree, *low, false),
         Step::Trace => traced(tree.trace()),
         Step::Begin => {
             tree.begin();
-            [0; 4]
+            DONE
         }
-        _ => [u128::MAX; 4],
-    };
-    Ok(told)
+        _ => NOTHING,
+    }
 }
 
-fn put(tree: &mut Tree<Store>, x: u32, y: u32, m: i64) -> Result<u32, TreeFault> {
+// The number of a row that is put in.
+fn put(tree: &mut Tree<Store>, x: u32, y: u32, m: i64) -> Answer {
     if tree.schema().dims() != 2 || tree.schema().measures() != 1 {
         return Err(TreeFault::Failed);
     }
-    tree.insert(&[x, y], &[m])
+    let number = tree.insert(&[x, y], &[m])?;
+    Ok([u128::from(number), 0, 0, 0])
 }
 
+// 1 where a row was there that is taken out.
+fn remove(tree: &mut Tree<Store>, z: u128, number: u32) -> Answer {
+    let is_there = tree.remove(Key { z, number })?;
+    Ok([u128::from(is_there), 0, 0, 0])
+}
+
+// Whether there is a region whose span ends at z or later.
+fn seek(tree: &mut Tree<Store>, z: u128) -> Answer {
+    if tree.seek(z, None)?.is_none() {
+        return NOTHING;
+    }
+    DONE
+}
+
+// What stands in the region whose span ends at z or later, on its own page or on another one.
 fn read(tree: &mut Tree<Store>, z: u128, page: Option<u32>) -> Answer {
     let Some(mut region) = tree.seek(z, None)? else {
         return NOTHING;
@@ -233,38 +289,36 @@ fn read(tree: &mut Tree<Store>, z: u128, page: Option<u32>) -> Answer {
     ])
 }
 
-fn walk(tree: &mut Tree<Store>) -> Answer {
-    let Some(plane) = box_from(0) else {
-        return NOTHING;
-    };
-    let mut after: Option<Region> = None;
-    for _ in 0..tree.regions() {
-        let found = tree.seek(0, after.as_ref())?;
-        if found.is_none() || tree.next_meeting(&[plane], after.as_ref())? != found {
-            return NOTHING;
-        }
-        after = found;
+// The first region after another one that meets the box; where all regions are walked, `Full` if it isn't the first of all.
+fn next_region(
+    tree: &mut Tree<Store>,
+    corner: ZBox,
+    after: Option<&Region>,
+    is_walk: bool,
+) -> Result<Option<Region>, TreeFault> {
+    let met = tree.next_meeting(&[corner], after)?;
+    if is_walk && tree.seek(0, after)? != met {
+        return Err(TreeFault::Full);
     }
-    match (after, tree.seek(0, after.as_ref())?) {
-        (Some(last), None) => Ok([u128::from(tree.regions()), last.from, 0, 0]),
-        _ => NOTHING,
-    }
+    Ok(met)
 }
 
-fn meet(tree: &mut Tree<Store>, low: u32) -> Answer {
+// How many regions follow each other so, where the first and the last of them begin, and how many the tree counts.
+fn meet(tree: &mut Tree<Store>, low: u32, is_walk: bool) -> Answer {
     let Some(corner) = box_from(low) else {
         return NOTHING;
     };
+    let regions = tree.regions();
     let mut after: Option<Region> = None;
-    let mut told = [0; 4];
-    for _ in 0..tree.regions() {
-        let Some(region) = tree.next_meeting(&[corner], after.as_ref())? else {
+    let mut told = [0, 0, 0, u128::from(regions)];
+    for turn in 0..=regions {
+        let Some(region) = next_region(tree, corner, after.as_ref(), is_walk)? else {
             break;
         };
-        told[0] = u128::saturating_add(told[0], 1);
-        if after.is_none() {
+        if turn == 0 {
             told[1] = region.from;
         }
+        told[0] = u128::from(turn) + 1;
         told[2] = region.from;
         after = Some(region);
     }
@@ -288,7 +342,8 @@ fn number_at(page: &RegionPage, i: usize) -> u128 {
     }
 }
 
-fn traced(trace: &[u32]) -> [u128; 4] {
+// How many pages a trace notes, and the last of them, or 0.
+fn traced(trace: &[u32]) -> Answer {
     let last = trace.last().copied().unwrap_or(0);
-    [trace.len() as u128, u128::from(last), 0, 0]
+    Ok([trace.len() as u128, u128::from(last), 0, 0])
 }
