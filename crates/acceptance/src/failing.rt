@@ -10,19 +10,25 @@ fn schema() -> Result<Schema, PageFault> {
     Schema::new(Name::new(b"t")?, &[Name::new(b"x")?], 1, 2)
 }
 
-// Whether an EXPLAIN is refused as Failed, over a tree whose store failed at its k-th call, as a row was put into it.
-fn is_refused(alloc: Global, schema: &Schema, k: u64) -> bool {
-    let store = FaultyStore::new(MemStore::new(alloc), k);
-    let Ok(mut tree) = Tree::create(alloc, store, schema) else {
-        return false;
-    };
-    let schema = tree.schema();
-    if schema.dims() != 1 || schema.measures() != 0 || tree.insert(&[1], &[]).is_ok() {
+// Whether an EXPLAIN over a tree of one dimension is refused as Failed, once no row could be put into it.
+fn is_refused(alloc: Global, tree: &mut Tree<FaultyStore<MemStore>>) -> bool {
+    if tree.schema().dims() != 1
+        || tree.schema().measures() != 0
+        || tree.insert(&[1], &[]).is_ok()
+    {
         return false;
     }
     let mut out = Over::new(Vec::new(alloc));
-    let ended = run(alloc, &mut tree, b"EXPLAIN SELECT x FROM t;", &mut out);
-    ended.err() == Some(RunFault::Tree(TreeFault::Failed))
+    let ended = run(alloc, tree, b"EXPLAIN SELECT x FROM t;", &mut out);
+    matches!(ended, Err(RunFault::Tree(TreeFault::Failed)))
+}
+
+// The same of a tree whose store fails at its k-th call.
+fn is_refused_after(alloc: Global, schema: &Schema, k: u64) -> bool {
+    match Tree::create(alloc, FaultyStore::new(MemStore::new(alloc), k), schema) {
+        Ok(mut tree) => is_refused(alloc, &mut tree),
+        Err(_) => false,
+    }
 }
 
 #[test]
@@ -30,7 +36,7 @@ fn is_not_explained(rt: HostRuntime) {
     let mut refused = false;
     if let Ok(schema) = schema() {
         for k in 1..20u64 {
-            refused = is_refused(rt.alloc(), &schema, k) || refused;
+            refused = is_refused_after(rt.alloc(), &schema, k) || refused;
         }
     }
     assert!(rt; refused);

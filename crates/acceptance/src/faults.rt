@@ -6,8 +6,101 @@ use ub_store::StoreFault;
 use ub_table::PageFault;
 use ub_tree::TreeFault;
 
+// Faults, and how they are displayed.
+static SHOWN: [(LoadFault, &str); 23] = [
+    (LoadFault::NoHeader, "NoHeader"),
+    (LoadFault::BadName(0), "BadName table"),
+    (LoadFault::BadName(3), "BadName column 3"),
+    (LoadFault::ColumnCount, "ColumnCount"),
+    (
+        LoadFault::BadNumber { row: 12, column: 3 },
+        "BadNumber row 12 column 3",
+    ),
+    (
+        LoadFault::OutOfRange { row: 12, column: 3 },
+        "OutOfRange row 12 column 3",
+    ),
+    (LoadFault::Csv, "Csv"),
+    (LoadFault::Memory, "Memory"),
+    (LoadFault::Tree(TreeFault::Full), "Full"),
+    (LoadFault::Tree(TreeFault::Failed), "Device"),
+    (LoadFault::Tree(TreeFault::Memory), "Memory"),
+    (
+        LoadFault::Tree(TreeFault::Store(StoreFault::Device)),
+        "Device",
+    ),
+    (
+        LoadFault::Tree(TreeFault::Store(StoreFault::NoPage)),
+        "NoPage",
+    ),
+    (
+        LoadFault::Tree(TreeFault::Store(StoreFault::BadSize)),
+        "BadSize",
+    ),
+    (
+        LoadFault::Tree(TreeFault::Store(StoreFault::Memory)),
+        "Memory",
+    ),
+    (
+        LoadFault::Tree(TreeFault::Page {
+            page: 7,
+            fault: PageFault::WrongKind,
+        }),
+        "WrongKind page 7",
+    ),
+    (
+        LoadFault::Tree(TreeFault::Page {
+            page: 7,
+            fault: PageFault::Unclean,
+        }),
+        "Unclean page 7",
+    ),
+    (
+        LoadFault::Tree(TreeFault::Page {
+            page: 7,
+            fault: PageFault::BadCount,
+        }),
+        "BadCount page 7",
+    ),
+    (
+        LoadFault::Tree(TreeFault::Page {
+            page: 7,
+            fault: PageFault::BadName,
+        }),
+        "BadName page 7",
+    ),
+    (
+        LoadFault::Tree(TreeFault::Page {
+            page: 7,
+            fault: PageFault::BadRow,
+        }),
+        "BadRow page 7",
+    ),
+    (
+        LoadFault::Tree(TreeFault::Page {
+            page: 7,
+            fault: PageFault::BadOrder,
+        }),
+        "BadOrder page 7",
+    ),
+    (
+        LoadFault::Tree(TreeFault::Page {
+            page: 7,
+            fault: PageFault::OutOfRegion,
+        }),
+        "OutOfRegion page 7",
+    ),
+    (
+        LoadFault::Tree(TreeFault::Page {
+            page: 7,
+            fault: PageFault::BadPadding,
+        }),
+        "BadPadding page 7",
+    ),
+];
+
 // Whether a fault is displayed as this text.
-fn is_shown(alloc: Global, fault: LoadFault, text: &str) -> bool {
+fn is_shown(alloc: Global, fault: &LoadFault, text: &str) -> bool {
     match format!(in alloc; "{fault}") {
         Ok(shown) => shown.as_str() == text,
         Err(_) => false,
@@ -15,59 +108,8 @@ fn is_shown(alloc: Global, fault: LoadFault, text: &str) -> bool {
 }
 
 #[test]
-fn of_loading(rt: HostRuntime) {
-    let (row, column) = (12, 3);
-    let cases = [
-        (LoadFault::NoHeader, "NoHeader"),
-        (LoadFault::BadName(0), "BadName table"),
-        (LoadFault::BadName(3), "BadName column 3"),
-        (LoadFault::ColumnCount, "ColumnCount"),
-        (
-            LoadFault::BadNumber { row, column },
-            "BadNumber row 12 column 3",
-        ),
-        (
-            LoadFault::OutOfRange { row, column },
-            "OutOfRange row 12 column 3",
-        ),
-        (LoadFault::Csv, "Csv"),
-        (LoadFault::Memory, "Memory"),
-    ];
-    for (fault, text) in cases {
-        assert!(rt; is_shown(rt.alloc(), fault, text));
-    }
-}
-
-#[test]
-fn of_trees_and_stores(rt: HostRuntime) {
-    let cases = [
-        (TreeFault::Full, "Full"),
-        (TreeFault::Failed, "Device"),
-        (TreeFault::Memory, "Memory"),
-        (TreeFault::Store(StoreFault::Device), "Device"),
-        (TreeFault::Store(StoreFault::NoPage), "NoPage"),
-        (TreeFault::Store(StoreFault::BadSize), "BadSize"),
-        (TreeFault::Store(StoreFault::Memory), "Memory"),
-    ];
-    for (fault, text) in cases {
-        assert!(rt; is_shown(rt.alloc(), LoadFault::Tree(fault), text));
-    }
-}
-
-#[test]
-fn of_pages(rt: HostRuntime) {
-    let cases = [
-        (PageFault::WrongKind, "WrongKind page 7"),
-        (PageFault::Unclean, "Unclean page 7"),
-        (PageFault::BadCount, "BadCount page 7"),
-        (PageFault::BadName, "BadName page 7"),
-        (PageFault::BadRow, "BadRow page 7"),
-        (PageFault::BadOrder, "BadOrder page 7"),
-        (PageFault::OutOfRegion, "OutOfRegion page 7"),
-        (PageFault::BadPadding, "BadPadding page 7"),
-    ];
-    for (fault, text) in cases {
-        let fault = LoadFault::Tree(TreeFault::Page { page: 7, fault });
-        assert!(rt; is_shown(rt.alloc(), fault, text));
+fn are_displayed_in_known_words(rt: HostRuntime) {
+    for (fault, text) in &SHOWN {
+        assert!(rt; is_shown(rt.alloc(), fault, text), "{text}");
     }
 }

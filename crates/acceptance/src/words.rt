@@ -3,54 +3,84 @@ use std::alloc::{AllocError, Global};
 use std::str;
 use ub_words::{Asked, read_words};
 
-// The text that these words after the program's name are told, and whether it is the help; none for a command.
-fn told(alloc: Global, words: &[&str]) -> Result<(bool, Vec<u8>), AllocError> {
-    let mut all = Vec::new(alloc);
-    all.push(String::from_str(alloc, "ubq")?)?;
-    for word in words {
-        all.push(String::from_str(alloc, word)?)?;
+// The words of a command line, the first of which is the program's name.
+fn words_of(alloc: Global, line: &str) -> Result<Vec<String>, AllocError> {
+    let mut words = Vec::new(alloc);
+    for word in line.split_whitespace() {
+        words.push(String::from_str(alloc, word)?)?;
     }
-    match read_words(alloc, all.as_slice())? {
-        Asked::Help(text) => Ok((true, text)),
-        Asked::Wrong(text) => Ok((false, text)),
-        Asked::Try(_) | Asked::Load(_) | Asked::Run(_) | Asked::Next(_) => Ok((
-            false,
-            Vec::new(alloc),
-        )),
+    Ok(words)
+}
+
+// Whether this is a line of a text.
+fn has_line(text: &[u8], wanted: &str) -> bool {
+    let Ok(text) = str::from_utf8(text) else {
+        return false;
+    };
+    for line in text.lines() {
+        if line == wanted {
+            return true;
+        }
     }
+    false
 }
 
 // Whether one of the lines that these words are told is this one, and they are the help or not.
-fn has_line(alloc: Global, words: &[&str], is_help: bool, wanted: &str) -> bool {
-    let Ok((help, bytes)) = told(alloc, words) else {
-        return false;
-    };
-    let Ok(text) = str::from_utf8(bytes.as_slice()) else {
-        return false;
-    };
-    help == is_help && text.lines().any(|line| line == wanted)
+fn is_told(alloc: Global, words: &[String], is_help: bool, wanted: &str) -> bool {
+    match read_words(alloc, words) {
+        Ok(Asked::Help(text)) => is_help && has_line(text.as_slice(), wanted),
+        Ok(Asked::Wrong(text)) => !is_help && has_line(text.as_slice(), wanted),
+        _ => false,
+    }
 }
+
+// The same of the words of a command line.
+fn tells(alloc: Global, line: &str, is_help: bool, wanted: &str) -> bool {
+    match words_of(alloc, line) {
+        Ok(words) => is_told(alloc, words.as_slice(), is_help, wanted),
+        Err(_) => false,
+    }
+}
+
+// Command lines, and one of the lines of their help.
+static HELPS: [(&str, &str); 6] = [
+    ("ubq --help", "Usage: ubq <COMMAND>"),
+    (
+        "ubq try --help",
+        "Usage: ubq try [OPTIONS] --dims <D> <DATA> <SCRIPT>",
+    ),
+    ("ubq load --help", "  5  memory was refused"),
+    ("ubq run --help", "  5  memory was refused"),
+    ("ubq try --help", "  5  memory was refused"),
+    ("ubq next --help", "  5  memory was refused"),
+];
 
 #[test]
 fn help_has_known_lines(rt: HostRuntime) {
-    let alloc = rt.alloc();
-    assert!(rt; has_line(alloc, &["--help"], true, "Usage: ubq <COMMAND>"));
-    let usage = "Usage: ubq try [OPTIONS] --dims <D> <DATA> <SCRIPT>";
-    assert!(rt; has_line(alloc, &["try", "--help"], true, usage));
-    for command in ["load", "run", "try", "next"] {
-        assert!(rt; has_line(alloc, &[command, "--help"], true, "  5  memory was refused"));
+    for (line, wanted) in &HELPS {
+        assert!(rt; tells(rt.alloc(), line, true, wanted), "{line}");
     }
 }
 
+// Command lines that are wrong, and one of the lines that they are told.
+static WRONGS: [(&str, &str); 6] = [
+    (
+        "ubq",
+        "error: 'ubq' requires a subcommand but one was not provided",
+    ),
+    ("ubq", "Usage: ubq <COMMAND>"),
+    ("ubq", "For more information, try '--help'."),
+    ("ubq ask", "Usage: ubq <COMMAND>"),
+    ("ubq ask", "For more information, try '--help'."),
+    (
+        "ubq try a b --dims 5",
+        "error: invalid value '5' for '--dims <D>': 5 is not in 1..=4",
+    ),
+];
+
 #[test]
 fn wrong_words_are_told(rt: HostRuntime) {
-    let alloc = rt.alloc();
-    let no_command = "error: 'ubq' requires a subcommand but one was not provided";
-    assert!(rt; has_line(alloc, &[], false, no_command));
-    for words in [&[][..], &["ask"][..]] {
-        assert!(rt; has_line(alloc, words, false, "Usage: ubq <COMMAND>"));
-        assert!(rt; has_line(alloc, words, false, "For more information, try '--help'."));
+    for (line, wanted) in &WRONGS {
+        assert!(rt; tells(rt.alloc(), line, false, wanted), "{line}");
     }
-    let five = "error: invalid value '5' for '--dims <D>': 5 is not in 1..=4";
-    assert!(rt; has_line(alloc, &["try", "a", "b", "--dims", "5"], false, five));
 }
