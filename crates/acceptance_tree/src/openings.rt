@@ -17,6 +17,7 @@ const BAD_ORDER: Answer = Err(TreeFault::Page {
     fault: PageFault::BadOrder,
 });
 
+// The table of five rows.
 static OPENED: [(Step, Answer); 8] = [
     (Step::Store(0, &FIVE_ROWS), DONE),
     (Step::Open, DONE),
@@ -27,11 +28,6 @@ static OPENED: [(Step, Answer); 8] = [
     (Step::Span(LAST), Ok([13, LAST, 2, 5])),
     (Step::Put(1, 1, 0), Ok([6, 0, 0, 0])),
 ];
-
-#[test]
-fn opens_a_closed_table(rt: HostRuntime) {
-    goes(&rt, rt.alloc(), &OPENED, &NO_STEPS);
-}
 
 // A row at (1,1) is put into a table of one region. There is no number left; the region has a row already of the number that is
 // next, at the new row's point.
@@ -79,11 +75,6 @@ static REFUSED_ROWS: [(Step, Answer); 8] = [
     (Step::Count, Ok([1, 1, 0, 0])),
 ];
 
-#[test]
-fn refuses_rows(rt: HostRuntime) {
-    goes(&rt, rt.alloc(), &REFUSED_ROWS, &NO_STEPS);
-}
-
 // Two regions of the directory have one page, which is the first one's.
 static ONE_PAGE: [(Step, Answer); 4] = [
     (
@@ -118,8 +109,8 @@ static ONE_PAGE: [(Step, Answer); 4] = [
 ];
 
 #[test]
-fn refuses_a_page_of_another_region(rt: HostRuntime) {
-    goes(&rt, rt.alloc(), &ONE_PAGE, &NO_STEPS);
+fn refuses_rows_and_pages_of_regions(rt: HostRuntime) {
+    goes(&rt, rt.alloc(), &REFUSED_ROWS, &ONE_PAGE);
 }
 
 // The header is unclean; there is no page; page 0 is no header.
@@ -147,11 +138,6 @@ static REFUSED_HEADERS: [(Step, Answer); 6] = [
         }),
     ),
 ];
-
-#[test]
-fn refuses_a_header(rt: HostRuntime) {
-    goes(&rt, rt.alloc(), &REFUSED_HEADERS, &NO_STEPS);
-}
 
 // Tables of no rows. A page of directory has 170 regions at most.
 static DIRECTORIES: [(Step, Answer); 30] = [
@@ -347,8 +333,8 @@ static REFUSED_DIRECTORIES: [(Step, Answer); 4] = [
 ];
 
 #[test]
-fn refuses_a_page_of_directory(rt: HostRuntime) {
-    goes(&rt, rt.alloc(), &REFUSED_DIRECTORIES, &NO_STEPS);
+fn refuses_headers_and_pages_of_directories(rt: HostRuntime) {
+    goes(&rt, rt.alloc(), &REFUSED_HEADERS, &REFUSED_DIRECTORIES);
 }
 
 const TWO_PARTS: [Sheet; 4] = [
@@ -371,6 +357,6 @@ static SEARCHED: [(Step, Answer); 7] = [
 ];
 
 #[test]
-fn reads_the_header_and_the_directory_alone(rt: HostRuntime) {
-    goes(&rt, rt.alloc(), &SEARCHED, &NO_STEPS);
+fn opens_closed_tables(rt: HostRuntime) {
+    goes(&rt, rt.alloc(), &OPENED, &SEARCHED);
 }
