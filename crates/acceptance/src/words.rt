@@ -42,45 +42,37 @@ fn tells(alloc: Global, line: &str, is_help: bool, wanted: &str) -> bool {
     }
 }
 
-// Command lines, and one of the lines of their help.
-static HELPS: [(&str, &str); 6] = [
-    ("ubq --help", "Usage: ubq <COMMAND>"),
+// Command lines, whether they are told the help, and one of the lines that they are told.
+static TOLD: [(&str, bool, &str); 12] = [
+    ("ubq --help", true, "Usage: ubq <COMMAND>"),
     (
         "ubq try --help",
+        true,
         "Usage: ubq try [OPTIONS] --dims <D> <DATA> <SCRIPT>",
     ),
-    ("ubq load --help", "  5  memory was refused"),
-    ("ubq run --help", "  5  memory was refused"),
-    ("ubq try --help", "  5  memory was refused"),
-    ("ubq next --help", "  5  memory was refused"),
-];
-
-#[test]
-fn help_has_known_lines(rt: HostRuntime) {
-    for (line, wanted) in &HELPS {
-        assert!(rt; tells(rt.alloc(), line, true, wanted), "{line}");
-    }
-}
-
-// Command lines that are wrong, and one of the lines that they are told.
-static WRONGS: [(&str, &str); 6] = [
+    ("ubq load --help", true, "  5  memory was refused"),
+    ("ubq run --help", true, "  5  memory was refused"),
+    ("ubq try --help", true, "  5  memory was refused"),
+    ("ubq next --help", true, "  5  memory was refused"),
     (
         "ubq",
+        false,
         "error: 'ubq' requires a subcommand but one was not provided",
     ),
-    ("ubq", "Usage: ubq <COMMAND>"),
-    ("ubq", "For more information, try '--help'."),
-    ("ubq ask", "Usage: ubq <COMMAND>"),
-    ("ubq ask", "For more information, try '--help'."),
+    ("ubq", false, "Usage: ubq <COMMAND>"),
+    ("ubq", false, "For more information, try '--help'."),
+    ("ubq ask", false, "Usage: ubq <COMMAND>"),
+    ("ubq ask", false, "For more information, try '--help'."),
     (
         "ubq try a b --dims 5",
+        false,
         "error: invalid value '5' for '--dims <D>': 5 is not in 1..=4",
     ),
 ];
 
 #[test]
-fn wrong_words_are_told(rt: HostRuntime) {
-    for (line, wanted) in &WRONGS {
-        assert!(rt; tells(rt.alloc(), line, false, wanted), "{line}");
+fn words_that_are_no_command_are_told_known_lines(rt: HostRuntime) {
+    for (line, is_help, wanted) in &TOLD {
+        assert!(rt; tells(rt.alloc(), line, *is_help, wanted), "{line}");
     }
 }
