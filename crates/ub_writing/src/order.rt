@@ -26,6 +26,8 @@ use ub_store::{PageStore, Pager, StoreFault};
 use ub_table::{MAX_ROW_NUMBER, Schema};
 
 /// Three pages: first the header, marked unclean, and then the empty region, and one of zeros.
+///
+/// Memory comes where memory was refused, and Device where the store failed in this call.
 pub fn write_first_pages<S: PageStore>(
     pager: &mut Pager<S>,
     schema: &Schema,
@@ -58,6 +60,8 @@ fn write_empty<'a>(schema: &Schema, draft: &'a mut Draft) -> &'a Page
 }
 
 /// Puts two pages in their places, and before them the header, where one is given: then the table is marked as changed.
+///
+/// Device comes where the store failed in this call, and NoPage where it has no such page.
 pub fn write_pages<S: PageStore>(
     pager: &mut Pager<S>,
     is_changed: &mut bool,
@@ -86,6 +90,8 @@ pub fn write_pages<S: PageStore>(
 
 /// Puts a page in the place of that of this number, and before it the header, where one is given: then the table is marked
 /// as changed.
+///
+/// Device comes where the store failed in this call, and NoPage where it has no such page.
 pub fn write_page<S: PageStore>(
     pager: &mut Pager<S>,
     is_changed: &mut bool,
@@ -112,7 +118,10 @@ pub fn write_page<S: PageStore>(
     pager.put(n, page)
 }
 
-/// Writes the directory, on its pages and on new ones, and then a clean header.
+/// Writes the directory, on its pages and on new ones, and then a clean header, each followed by a sync.
+///
+/// Memory comes where memory was refused, Device where the store failed in this call, BadSize where it has room for no more
+/// pages, and NoPage where it hasn't the pages that the directory stood on.
 pub fn write_table<S: PageStore>(
     pager: &mut Pager<S>,
     directory: Directory,
