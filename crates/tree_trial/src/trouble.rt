@@ -1,27 +1,20 @@
 use std::alloc::AllocError;
-use std::fmt::{self, Display, Formatter, Write};
 use std::io;
+use thiserror::Error;
 use ub_tree::TreeFault;
 
 /// Why a trial ended early.
-#[derive(Drop)]
+#[derive(Debug, Drop, Error)]
 pub enum Trouble {
     /// The tree isn't as the definition says, or isn't left as it should be.
+    #[error("Wrong")]
     Wrong,
     /// The tree refused what it should have done.
+    #[error("{0}")]
     Tree(TreeFault),
     /// A line wasn't written.
+    #[error("Output")]
     Output,
-}
-
-impl Display for Trouble {
-    fn fmt<W: Write>(&self, f: &mut Formatter<W>) -> fmt::Result {
-        match self {
-            Trouble::Wrong => f.write_str("Wrong"),
-            Trouble::Tree(fault) => fault.fmt(f),
-            Trouble::Output => f.write_str("Output"),
-        }
-    }
 }
 
 impl From<TreeFault> for Trouble {
