@@ -14,7 +14,7 @@ runs=3
 command -v sqlite3 > /dev/null || { echo "peers.sh: no sqlite3 on the path" >&2; exit 2; }
 
 bash "$top/bench/table.sh" "$rows" > "$work/data.csv"
-"$top/bin/ubq" --version > /dev/null
+"$top/bin/ubq" --prove
 program=$top/crates/ubq/out/ubq
 
 microseconds() { # COMMAND..: its least time in microseconds

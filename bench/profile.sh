@@ -11,7 +11,7 @@ command -v perf > /dev/null || { echo "profile.sh: no perf on the path" >&2; exi
 shown=12
 
 bash "$top/bench/table.sh" "$rows" > "$work/data.csv"
-"$top/bin/ubq" --version > /dev/null
+"$top/bin/ubq" --prove
 program=$top/crates/ubq/out/ubq
 : > "$work/empty.sql"
 for ((i = 0; i < 100; i++)); do echo "SELECT COUNT(*) FROM t;"; done > "$work/count.sql"

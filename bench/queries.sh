@@ -11,7 +11,7 @@ trap 'rm -rf "$work"' EXIT
 repeats=3
 
 bash "$top/bench/table.sh" "$rows" > "$work/data.csv"
-"$top/bin/ubq" --version > /dev/null
+"$top/bin/ubq" --prove
 program=$top/crates/ubq/out/ubq
 
 # The least nanoseconds that a script takes.

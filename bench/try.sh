@@ -9,7 +9,7 @@ work=$(mktemp -d)
 trap 'rm -rf "$work"' EXIT
 awk -v n="$rows" 'BEGIN { print "x,y,m"; a = 1; for (i = 0; i < n; i++) { a = (a * 16807) % 2147483647; x = a; a = (a * 16807) % 2147483647; print x "," a "," i } }' > "$work/data.csv"
 awk -v n="$statements" 'BEGIN { for (i = 0; i < n; i++) printf "SELECT * FROM t WHERE x BETWEEN %d AND %d;\n", i * 20000000, i * 20000000 + 10000000 }' > "$work/script.sql"
-"$top/bin/ubq" --version > /dev/null
+"$top/bin/ubq" --prove
 start=$(date +%s%N)
 "$top/bin/ubq" try "$work/data.csv" "$work/script.sql" --dims 2 > "$work/result"
 end=$(date +%s%N)

@@ -1,10 +1,11 @@
 #!/usr/bin/env bash
-# Tries `bin/ubq` in a fresh clone, by hand: a first run, interrupted and begun again; runs with nothing changed; a build that
-# fails. It takes as long as proving the program from nothing does, twice at most. With --warm what was proved here is taken
-# along, but for the crate `ub_words`, and it takes some minutes. The last line says whether all was as it should be; the status
-# is 1 where it was not.
+# Tries `bin/ubq` in a fresh clone, by hand: answers of the build that is not proved yet, by files of all kinds and standard
+# input; `--prove`, interrupted and begun again; runs with nothing changed, with a source touched or changed; a `load`; a mistake
+# in the program; a proof that fails. It takes as long as proving the program from nothing does and some 20 answers of a minute.
+# With --warm what was proved here is taken along, but for the crate `ub_words`. With --answers the program is not proved:
+# only the unproved answers are tried. The last line says whether all was as it should be; the status is 1 where it was not.
 #
-#   tests/bin_ubq.sh [--warm]
+#   tests/bin_ubq.sh [--warm | --answers]
 set -u
 
 root=$(cd "$(dirname "$(readlink -f "${BASH_SOURCE[0]}")")/.." && pwd)
@@ -12,15 +13,6 @@ room=$(mktemp -d "${TMPDIR:-/tmp}/bin-ubq-XXXXXX") || exit 2
 trap 'rm -rf "$room"' EXIT
 git clone -q "$root" "$room/clone" || exit 2
 cd "$room/clone" || exit 2
-if [ "${1:-}" = --warm ]; then
-    for out in "$root"/crates/*/out; do
-        crate=$(basename "$(dirname "$out")")
-        case $crate in
-        ub_words | ubq) ;;
-        *) [ -d "crates/$crate" ] && cp -a "$out" "crates/$crate" ;;
-        esac
-    done
-fi
 
 wrong=0
 check() { # what holds, and a command that shows it
@@ -33,47 +25,186 @@ check() { # what holds, and a command that shows it
         wrong=$((wrong + 1))
     fi
 }
-first() {
-    bin/ubq try examples/s.csv examples/between.sql --dims 2 >"$room/out" 2>"$room/err"
+# Runs a command by the words after the name of what it is given, and keeps what it writes and how it ends.
+ask() {
+    local start=$SECONDS
+    bin/ubq "$@" >"$room/out" 2>"$room/err"
+    status=$?
+    took=$((SECONDS - start))
 }
-worked() {
-    printf 'x,y,m\n2,3,20\n3,0,5\n2,3,1\n-- rows 3, pages 1\n' | cmp -s - "$room/out"
+ended() {
+    [ "$status" -eq "$1" ]
+}
+wrote() {
+    printf "$1" | cmp -s - "$room/out"
+}
+told() {
+    grep -q "$1" "$room/err"
+}
+worked='x,y,m\n2,3,20\n3,0,5\n2,3,1\n-- rows 3, pages 1\n'
+is_unproved() {
+    told 'comes from a build that is not proved yet'
 }
 # Whether none of the processes of a session, whose number a file holds, is left.
 is_over() {
     [ -z "$(ps -o pid= -s "$(cat "$1")")" ]
 }
 
-# Some seconds, and then an interrupt to all that was started.
-setsid bash -c 'echo $$ >"$0"; exec timeout -s INT 45 bin/ubq --version' "$room/session" >"$room/out" 2>"$room/err"
-check "an interrupt is told" grep -q 'stopped; what was proved is kept' "$room/err"
-sleep 2
-check "an interrupt leaves nothing running" is_over "$room/session"
+# ---- Answers of the build that is not proved yet
 
-SECONDS=0
-first
-check "the first run ends with status 0" test $? -eq 0
-echo "    in $SECONDS s:"
-sed 's/^/    /' "$room/err"
-check "it writes the worked lines" worked
-check "it tells what it proved" grep -q 'proved: ub_words' "$room/err"
+answers() {
+    local here=$PWD
+    ask try examples/s.csv examples/between.sql --dims 2
+    check "the first answer has the worked lines ($took s)" wrote "$worked"
+    check "its status is the program's" ended 0
+    check "it says that it is not proved" is_unproved
 
-first
-check "a second run builds nothing" test ! -s "$room/err"
-check "and writes the same lines" worked
-find crates -name '*.rt' -exec touch {} +
-first
-check "files that are newer and say the same build nothing" test ! -s "$room/err"
-check "and the lines are the same" worked
+    mkdir -p "$room/with blank"
+    cp examples/s.csv "$room/with blank/a table.csv"
+    cp examples/between.sql "$room/with blank/a script.sql"
+    ask try "$room/with blank/a table.csv" "crates/../../with blank/a script.sql" --dims 2
+    check "absolute paths, with .. and with blanks" wrote "$worked"
+    cd "$room/with blank" || exit 2
+    "$here/bin/ubq" try 'a table.csv' 'a script.sql' --dims=2 >"$room/out" 2>"$room/err"
+    check "from another folder" wrote "$worked"
+    cd "$here" || exit 2
 
-sed -i 's/ensures { result.now ≡ self.now.schema }/ensures { ⊥ }/' crates/ub_tree/src/tree.rt
-check "a contract was made wrong" test -n "$(git status --porcelain crates/ub_tree)"
-first
-check "a build that fails ends with status 125" test $? -eq 125
-check "it names the crate" grep -q 'not proved: .*ub_tree' "$room/err"
-log=$(sed -n 's/.*said: \(.*\))/\1/p' "$room/err")
-check "it says where the log is" test -s "$log"
-rm -f "$log"
+    bin/ubq try examples/s.csv - --dims 2 <examples/between.sql >"$room/out" 2>"$room/err"
+    check "a script from a file as standard input" wrote "$worked"
+    { head -c 20 examples/between.sql; sleep 5; tail -c +21 examples/between.sql; } | bin/ubq try examples/s.csv - --dims 2 \
+        >"$room/out" 2>"$room/err"
+    check "a script from a pipe that is silent for 5 seconds" wrote "$worked"
+    if command -v script >/dev/null; then
+        # A terminal: what is typed comes back too, and each line ends with a carriage return.
+        { sleep 2; cat examples/between.sql; sleep 1; printf '\004'; sleep 150; } | timeout 140 script -qec \
+            'bin/ubq try examples/s.csv - --dims 2 2>/dev/null; kill -TERM 0' /dev/null >"$room/typed" 2>/dev/null
+        check "a script that is typed at a terminal" \
+            grep -q 'rows 3, pages 1' <(tr -d '\r' <"$room/typed")
+    else
+        echo "skipped: a script that is typed at a terminal (no command script)"
+    fi
+    printf 'one\ntwo\n' | while read -r line; do
+        bin/ubq next 2,2 6,3 19 >"$room/next.$line" 2>/dev/null
+    done
+    check "a call in a loop that reads lines takes none of them" test -s "$room/next.two"
+    check "and writes the worked lines" cmp -s "$room/next.two" <(printf 'next 36\nprev 15\n')
+
+    ask try no.csv examples/between.sql --dims 2
+    check "a file that isn't there is told as the program tells it" wrote '! Device\n'
+    check "with its status" ended 4
+    ask run no.ub examples/between.sql
+    check "and so is a table" wrote '! Device\n'
+    check "with that status" ended 4
+    cp examples/s.csv "$room/none.ub"
+    ask run "$room/none.ub" examples/between.sql
+    check "a table file that is none is refused" ended 3
+    check "and stands as it was" cmp -s examples/s.csv "$room/none.ub"
+    ask try examples/s.csv examples/between.sql
+    check "a wrong command line has status 2" ended 2
+    ask load --help
+    check "help of load needs no proof" grep -q 'Usage: ubq load' "$room/out"
+
+    awk 'BEGIN { print "x"; for (i = 0; i < 200000; i++) print i }' >"$room/long.csv"
+    echo 'SELECT * FROM t;' >"$room/all.sql"
+    ask try "$room/long.csv" "$room/all.sql" --dims 1
+    check "an answer past 1 MiB is not given" test ! -s "$room/out"
+    check "with a status of none of the program's" ended 125
+    check "and says what it needs" told 'needs the proved program'
+    head -c $((64 * 1024 * 1024 + 1)) /dev/zero | bin/ubq try examples/s.csv - --dims 2 >"$room/out" 2>"$room/err"
+    status=$?
+    check "so does standard input past 64 MiB" told 'more than 64 MiB'
+    check "with that status" ended 125
+
+    setsid bash -c 'echo $$ >"$0"; exec timeout -s INT 10 bin/ubq --version' "$room/session" >"$room/out" 2>"$room/err"
+    sleep 3
+    check "an interrupt leaves nothing running" is_over "$room/session"
+    check "and nothing is written" test ! -s "$room/out"
+
+    # A sum that passes the greatest number of 8 bits, where the program begins.
+    sed -i 's/^fn main(rt: HostRuntime) -> ExitCode {/&\n    let mut sum = 250u8;\n    for it in 0..10u8 {\n        sum += it;\n    }\n    if sum == 5 {\n        return ExitCode::from(9);\n    }/' \
+        crates/ubq/src/main.rt
+    check "the program was made wrong" test -n "$(git status --porcelain crates/ubq)"
+    ask next 2,2 6,3 19
+    check "an overflow gives no answer" test ! -s "$room/out"
+    check "ends with a status of none of the program's" ended 125
+    check "and is told" told 'fault'
+    sed 's/^/    /' "$room/err"
+    git checkout -q crates/ubq
+}
+
+# ---- The proof
+
+take_along() {
+    local out crate
+    for out in "$root"/crates/*/out; do
+        crate=$(basename "$(dirname "$out")")
+        case $crate in
+        ub_words | ubq) ;;
+        *) [ -d "crates/$crate" ] && cp -a "$out" "crates/$crate" ;;
+        esac
+    done
+}
+
+proof() {
+    # Some seconds, and then an interrupt to all that was started.
+    setsid bash -c 'echo $$ >"$0"; exec timeout -s INT 45 bin/ubq --prove' "$room/session" >"$room/out" 2>"$room/err"
+    check "an interrupt is told" told 'stopped; what was proved is kept'
+    sleep 2
+    check "an interrupt leaves nothing running" is_over "$room/session"
+
+    # A load proves first. Its table is the proved program's.
+    ask load examples/s.csv "$room/s.ub" --dims 2
+    check "a load ends with status 0" ended 0
+    echo "    in $took s:"
+    sed 's/^/    /' "$room/err"
+    check "it says that it proves first" told 'made by the proved program alone'
+    check "it tells what it proved" told 'proved: ub_words'
+    check "it writes its line" wrote '-- rows 5, regions 1\n'
+
+    ask try examples/s.csv examples/between.sql --dims 2
+    check "then the proved program answers" test ! -s "$room/err"
+    check "with the worked lines" wrote "$worked"
+    ask run "$room/s.ub" examples/between.sql
+    check "also of the table" wrote "$worked"
+    ask --prove
+    check "and there is nothing more to prove" test "$(cat "$room/err")" = 'ubq: proved: crates/ubq/out/ubq'
+    find crates -name '*.rt' -exec touch {} +
+    ask try examples/s.csv examples/between.sql --dims 2
+    check "files that are newer and say the same prove nothing" test ! -s "$room/err"
+    check "and the lines are the same" wrote "$worked"
+
+    echo '// Nothing more.' >>crates/ubq/src/main.rt
+    ask next 2,2 6,3 19
+    check "a source that has changed is answered unproved" is_unproved
+    ask --prove
+    check "and proved again by its name ($took s)" ended 0
+    check "alone" test -z "$(grep ' of .* proved: ' "$room/err")"
+
+    sed -i 's/ensures { result.now ≡ self.now.schema }/ensures { ⊥ }/' crates/ub_tree/src/tree.rt
+    check "a contract was made wrong" test -n "$(git status --porcelain crates/ub_tree)"
+    ask --prove
+    check "a proof that fails ends with status 125" ended 125
+    check "it names the crate" told 'not proved: .*ub_tree'
+    log=$(sed -n 's/.*prover said: //p' "$room/err")
+    check "it says where the log is" test -s "$log"
+    rm -f "$log"
+    ask load examples/s.csv "$room/other.ub" --dims 2
+    check "a load does nothing then" test ! -e "$room/other.ub"
+    rm -f "$(sed -n 's/.*prover said: //p' "$room/err")"
+}
+
+case ${1:-} in
+--answers) answers ;;
+--warm)
+    answers
+    take_along
+    proof
+    ;;
+*)
+    answers
+    proof
+    ;;
+esac
 
 if [ $wrong -eq 0 ]; then echo 'all as it should be'; else echo "$wrong wrong"; fi
 [ $wrong -eq 0 ]

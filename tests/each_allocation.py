@@ -75,7 +75,7 @@ def main():
     if len(sys.argv) > 1:
         program = os.path.abspath(sys.argv[1])
     else:
-        subprocess.run([TOP / "bin" / "ubq", "--version"], stdout=subprocess.DEVNULL, check=True)
+        subprocess.run([TOP / "bin" / "ubq", "--prove"], check=True)
         program = str(TOP / "crates" / "ubq" / "out" / "ubq")
     wrong = 0
     with tempfile.TemporaryDirectory() as work:

@@ -7,6 +7,7 @@
 set -u
 
 root=$(cd "$(dirname "$(readlink -f "${BASH_SOURCE[0]}")")/.." && pwd)
+[ $# -gt 0 ] || "$root/bin/ubq" --prove || exit 2
 ubq=$(readlink -f "${1:-$root/bin/ubq}")
 room=$(mktemp -d "${TMPDIR:-/tmp}/ubq-program-XXXXXX") || exit 2
 trap 'chmod -R u+w "$room"; rm -rf "$room"' EXIT

@@ -4,6 +4,7 @@
 # usage: [UBQ=PROGRAM] tests/statements.sh [PARTS]
 set -uo pipefail
 top=$(cd "$(dirname "$0")/.." && pwd)
+[ -n "${UBQ:-}" ] || "$top/bin/ubq" --prove || exit 2
 ubq=${UBQ:-$top/bin/ubq}
 parts=${1:-1000000}
 folder=$(mktemp -d)

@@ -4,6 +4,7 @@
 # usage: [UBQ=PROGRAM] tests/statuses.sh
 set -uo pipefail
 top=$(cd "$(dirname "$0")/.." && pwd)
+[ -n "${UBQ:-}" ] || "$top/bin/ubq" --prove || exit 2
 ubq=${UBQ:-$top/bin/ubq}
 room=$(mktemp -d) || exit 2
 trap 'rm -rf "$room"' EXIT

@@ -132,7 +132,7 @@ def example(rng):
 def main():
     count = int(sys.argv[1]) if len(sys.argv) > 1 else 500
     rng = random.Random(int(sys.argv[2]) if len(sys.argv) > 2 else 1)
-    subprocess.run([os.path.join(TOP, "bin", "ubq"), "--version"], stdout=subprocess.DEVNULL, check=True)
+    subprocess.run([os.path.join(TOP, "bin", "ubq"), "--prove"], check=True)
     program = os.path.join(TOP, "crates", "ubq", "out", "ubq")
     right = wrong = 0
     with tempfile.TemporaryDirectory() as work:
