@@ -16,8 +16,9 @@ import time
 
 TOP = pathlib.Path(__file__).resolve().parent.parent
 TICK = os.sysconf("SC_CLK_TCK")
-# The check from which a crate's edits begin, and one of an edit, by the folder of its kept work.
-OF_EDITS = re.compile(r"/rt-edits-[^/]*/(\w+)$")
+# A check of a crate's edits, by the folder of its kept work. Where `rt ci` has one folder for all edits of a crate, they are
+# tried in turn; where each has one of its own, the folder is named by the edit's number.
+OF_EDITS = re.compile(r"/rt-edits-[^/]*(?:/(\w+))?$")
 KINDS = ("proof", "tests", "edits")
 
 
@@ -50,7 +51,14 @@ class Sampler:
     """Adds up what the prover's processes use."""
 
     def __init__(self):
-        self.seen, self.used = {}, collections.Counter()
+        self.seen, self.used, self.begun = {}, collections.Counter(), collections.Counter()
+
+    def numbered(self, work):
+        """The same work, with the number of an edit that is known by its turn alone."""
+        if not work or work[1:] != ("edits", None):
+            return work
+        self.begun[work[0]] += 1
+        return work[0], "edits", str(self.begun[work[0]] - 1)
 
     def sample(self):
         for pid in filter(str.isdigit, os.listdir("/proc")):
@@ -58,7 +66,7 @@ class Sampler:
                 began, ticks = ticks_of(pid)
                 key = pid, began
                 if key not in self.seen:
-                    self.seen[key] = what_runs(pid), 0
+                    self.seen[key] = self.numbered(what_runs(pid)), 0
                 work, before = self.seen[key]
             except (OSError, ValueError, IndexError):
                 continue
@@ -85,7 +93,9 @@ def tell(used, wall, before, after):
     print("\nIn sum, in minutes: " + ", ".join(f"{kind} {it:.1f}" for kind, it in zip(KINDS, sums)))
     dearest = sorted(((s, c, n) for (c, kind, n), s in used.items() if kind == "edits" and n.isdigit()), reverse=True)
     for seconds, crate, number in dearest[:15]:
-        print(f"  {seconds:5.0f} s {crate}/{edits_of(crate)[int(number)]}")
+        # After the last edit the crate itself is checked once more.
+        name = dict(enumerate(edits_of(crate))).get(int(number), "(the crate itself)")
+        print(f"  {seconds:5.0f} s {crate}/{name}")
     spent = [after[at] - before[at] for at in range(4)]
     shares = [f"{name} {100 * it / sum(spent):.1f} %" for name, it in zip(("user", "system", "idle", "stolen"), spent)]
     print(f"\nwall {wall // 60:.0f}:{wall % 60:02.0f}; of {os.cpu_count()} processors: " + ", ".join(shares))
