@@ -102,7 +102,10 @@ answers() {
     ask try examples/s.csv examples/between.sql
     check "a wrong command line has status 2" ended 2
     ask load --help
-    check "help of load needs no proof" grep -q 'Usage: ubq load' "$room/out"
+    check "help of load needs no proof" grep -q '^Usage: ubq load ' "$room/out"
+    ask
+    check "no words at all have status 2" ended 2
+    check "and are shown how the program is called" grep -q '^Usage: ubq <COMMAND>' "$room/out"
 
     awk 'BEGIN { print "x"; for (i = 0; i < 200000; i++) print i }' >"$room/long.csv"
     echo 'SELECT * FROM t;' >"$room/all.sql"
