@@ -1,12 +1,12 @@
 #!/usr/bin/env python3
-"""Writes docs/DEFINITIONS.md from the comments of crates/*/specs, crate by crate in the order of crates.txt, and says which files
-of the libraries and of `ubq` the first table of docs/ARCHITECTURE.md doesn't name (status 1 where there are any).
+"""Writes docs/DEFINITIONS.md from the comments of crates/*/specs, crate by crate in the order of crates.txt, and says which
+files of the libraries and of `ubq` the first table of docs/ARCHITECTURE.md doesn't name (status 1 where there are any).
 
     docs/definitions.py            writes the page
     docs/definitions.py --check    says whether the page is what it would write (status 1 where it isn't)
 
-A file's head comment becomes a section's text, and the comment before each public definition its line; one with no comment has
-its type instead. What stands in a folder `specs/inner/` is for proofs and private clauses alone, and is left out."""
+A file's head comment becomes a section's text, and the comment before each public definition its line; one with no comment
+has its type instead. What stands in a folder `specs/inner/` is for proofs and private clauses alone, and is left out."""
 
 import re
 import sys
@@ -19,12 +19,13 @@ MAP_HEADING = "## Which crate a change belongs in"
 UNNAMED = {"lib", "law", "main"}
 HEAD = """# Definitions
 
-What the contracts' words mean, crate by crate, lowest first. This page is made from the comments of each crate's `specs/`
-by `docs/definitions.py`; the text of a definition stands below its comment in the file named. One that has no comment there
-is shown with its type, and often goes with the one above it. They are mathematics over lists and whole numbers. Most say
-what a result is. Some say how far the code has come, for the contracts of its steps: the places that a search has passed,
-the lanes of a word, the states of a reading of the grammar. What a reader must believe of all this to trust the program's
-promise stands, in reading order, in BELIEVE.md.
+What the contracts' words mean, crate by crate, lowest first. This page is made from the comments of
+each crate's `specs/` by `docs/definitions.py`; the text of a definition stands below its comment in
+the file named. One that has no comment there is shown with its type, and often goes with the one
+above it. They are mathematics over lists and whole numbers. Most say what a result is. Some say how
+far the code has come, for the contracts of its steps: the places that a search has passed, the
+lanes of a word, the states of a reading of the grammar. What a reader must believe of all this to
+trust the program's promise stands, in reading order and with its text, in BELIEVE.md.
 """
 
 

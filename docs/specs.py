@@ -1,5 +1,5 @@
-"""What the scripts of this folder that make pages share: the crates that crates.txt lists, the definitions in the `specs/` of
-each, and how a page is written or checked."""
+"""What the scripts of this folder that make pages share: the crates that crates.txt lists, the definitions in the `specs/`
+of each, and how a page is written or checked."""
 
 import pathlib
 import re
@@ -8,8 +8,8 @@ from collections import namedtuple
 TOP = pathlib.Path(__file__).resolve().parent.parent
 START = re.compile(r"(?P<words>(?:(?:abbrev|unfoldable|opaque|pub|record|data) )*)(?P<name>[^\s()]+)(?P<rest>.*)$")
 
-# A definition: its crate, its file (as `Visits`, or `inner.Stored`), its name, the comment before it (empty where there is none),
-# whether it is public, and its own lines.
+# A definition: its crate, its file (as `Visits`, or `inner.Stored`), its name, the comment before it (empty where there is
+# none), whether it is public, and its own lines.
 Definition = namedtuple("Definition", "crate file name comment is_public lines")
 
 # A file of definitions: the comment at its head, its lines after that, and its definitions.
@@ -92,9 +92,8 @@ def spec_file(crate, path):
 
 def spec_files(crate):
     """The files of definitions of a crate, by name, without those that only list others."""
-    specs = TOP / "crates" / crate / "specs"
-    paths = [path for path in sorted(specs.rglob("*.antt")) if not path.with_suffix("").is_dir() and path != specs / "Lib.antt"]
-    return [spec_file(crate, path) for path in paths]
+    paths = sorted((TOP / "crates" / crate / "specs").rglob("*.antt"))
+    return [spec_file(crate, path) for path in paths if path.name != "Lib.antt" and not path.with_suffix("").is_dir()]
 
 
 def path_of(crate, file):
