@@ -1,90 +1,100 @@
 #!/usr/bin/env python3
-"""Writes docs/DEFINITIONS.md from the comments of crates/*/specs, crate by crate in the order of crates.txt.
+"""Writes docs/DEFINITIONS.md from the comments of crates/*/specs, crate by crate in the order of crates.txt, and says which files
+of the libraries and of `ubq` the first table of docs/ARCHITECTURE.md doesn't name (status 1 where there are any).
 
     docs/definitions.py            writes the page
     docs/definitions.py --check    says whether the page is what it would write (status 1 where it isn't)
 
-A file's head comment becomes a section's text, and the comment before each public definition its line. What stands in a
-folder `specs/inner/` is for proofs and private clauses alone, and is left out."""
+A file's head comment becomes a section's text, and the comment before each public definition its line; one with no comment has
+its type instead. What stands in a folder `specs/inner/` is for proofs and private clauses alone, and is left out."""
 
-import pathlib
 import re
 import sys
 
-TOP = pathlib.Path(__file__).resolve().parent.parent
+from specs import TOP, program_crates, spec_files, write_or_check
+
 PAGE = TOP / "docs" / "DEFINITIONS.md"
+MAP = TOP / "docs" / "ARCHITECTURE.md"
+MAP_HEADING = "## Which crate a change belongs in"
+UNNAMED = {"lib", "law", "main"}
 HEAD = """# Definitions
 
 What the contracts' words mean, crate by crate, lowest first. This page is made from the comments of each crate's `specs/`
-by `docs/definitions.py`; the text of a definition stands below its comment in the file named. They are mathematics over
-lists and whole numbers: no loop, no mask, no cursor.
+by `docs/definitions.py`; the text of a definition stands below its comment in the file named. One that has no comment there
+is shown with its type, and often goes with the one above it. They are mathematics over lists and whole numbers. Most say
+what a result is. Some say how far the code has come, for the contracts of its steps: the places that a search has passed,
+the lanes of a word, the states of a reading of the grammar. What a reader must believe of all this to trust the program's
+promise stands, in reading order, in BELIEVE.md.
 """
-DEFINITION = re.compile(r"^(?:abbrev |unfoldable |opaque )*(?:pub )(?:record |data )?(\S+)|^(?:record|data) pub (\S+)")
 
 
-def crates():
-    """The crates of the repository, lowest first, as crates.txt lists them."""
-    for line in (TOP / "crates.txt").read_text().splitlines():
-        name = line.split("#")[0].split(":")[0].split()
-        if name:
-            yield name[0]
+def type_of(definition):
+    """What is shown of a definition with no comment: a record's fields, else its type."""
+    first = definition.lines[0]
+    if re.match("(pub )?(record|data) ", first):
+        fields = [re.match(r" +(?:pub )?(\S+) :", line) for line in definition.lines[1:]]
+        return "of " + ", ".join(f"`{field[1]}`" for field in fields if field)
+    stated = [first.split(" : ", 1)[-1]]
+    for line in definition.lines[1:]:
+        if not line.startswith(" "):
+            break
+        stated.append(line.strip())
+    return f"`{' '.join(stated)}`"
 
 
-def comment_of(line):
-    found = re.match(r"^--\s?(.*)$", line)
-    return found and found[1].strip()
+def entry(definition):
+    if definition.comment:
+        return f"- **`{definition.name}`**: {definition.comment}"
+    return f"- **`{definition.name}`**: {type_of(definition)}"
 
 
-def parts_of(text):
-    """The head comment of a file, and each public definition of its outermost level or of a module with its comment."""
-    head, kept, found, seen_code = [], [], [], False
-    for line in text.splitlines():
-        line = line[2:] if line.startswith("  ") and re.match(r"  (--|abbrev|pub|unfoldable)", line) else line
-        said = comment_of(line)
-        if said is not None:
-            (kept if seen_code else head).append(said)
-            continue
-        seen_code = seen_code or bool(line.strip())
-        name = DEFINITION.match(line)
-        if name and kept:
-            found.append((name[1] or name[2], " ".join(kept)))
-        if line.strip():
-            kept = []
-    return " ".join(head), found
+def section(file):
+    entries = [entry(definition) for definition in file.definitions if definition.is_public]
+    head = [file.head, ""] if file.head else []
+    return [f"### `{file.name}.antt`", "", *head, *entries, ""] if entries else []
 
 
-def section(file, crate):
-    head, found = parts_of(file.read_text())
-    if not found:
-        return []
-    name = file.relative_to(TOP / "crates" / crate / "specs")
-    lines = [f"### `{name}`", ""]
-    if head:
-        lines += [head, ""]
-    lines += [f"- **`{word}`**: {said}" for word, said in found]
-    return [*lines, ""]
+def files_outside_inner(crate):
+    return [file for file in spec_files(crate) if not file.name.startswith("inner.")]
 
 
 def page():
     lines = [HEAD]
-    for crate in crates():
-        files = sorted((TOP / "crates" / crate / "specs").rglob("*.antt"))
-        files = [it for it in files if it.stem != "Lib" and "inner" not in it.parts]
-        told = [line for file in files for line in section(file, crate)]
+    for crate in program_crates():
+        told = [line for file in files_outside_inner(crate) for line in section(file)]
         if told:
             lines += [f"## {crate}", "", *told]
     return "\n".join(lines).rstrip("\n") + "\n"
 
 
+def named_in_map():
+    """The pairs of a crate and a word in the same row of the first table of ARCHITECTURE.md."""
+    table = MAP.read_text().split(MAP_HEADING, 1)[-1].split("\n## ", 1)[0]
+    pairs = set()
+    for row in re.findall(r"^\|(.*)\|$", table, re.M):
+        cells = [re.findall("`([^`]+)`", cell) for cell in row.split("|")]
+        pairs |= {(crate, word) for crate in cells[1] for cell in cells[2:] for word in cell}
+    return pairs
+
+
+def lacking_in_map():
+    """The files of the libraries and of `ubq` that the table doesn't name in a row of their crate."""
+    named = named_in_map()
+    for crate in program_crates():
+        sources = sorted((TOP / "crates" / crate / "src").glob("*.rt"))
+        words = [(path.name, f"src/{path.name}") for path in sources if path.stem not in UNNAMED]
+        words += [(file.name, f"specs/{file.name}.antt") for file in files_outside_inner(crate)]
+        for word, path in words:
+            if (crate, word) not in named:
+                yield f"crates/{crate}/{path}"
+
+
 def main():
-    made = page()
-    if sys.argv[1:] == ["--check"]:
-        if PAGE.read_text() != made:
-            print("docs/DEFINITIONS.md is not what docs/definitions.py writes: run it")
-            return 1
-        return 0
-    PAGE.write_text(made)
-    return 0
+    status = write_or_check(PAGE, page(), "definitions.py", sys.argv[1:])
+    for path in lacking_in_map():
+        print(f"docs/ARCHITECTURE.md doesn't name {path} in a row of its crate (first table)")
+        status = 1
+    return status
 
 
 if __name__ == "__main__":
