@@ -1,10 +1,11 @@
 -- The laws of the boxes of a condition. Each is what the function of its name in `law` ensures, and is proved in
 -- proofs/Laws.antt.
-use Rattle.std.specs.Prelude.{◌≡◌, ◌≢◌, ◌↔◌, ℕ, ℤ, pos, ◌-ℤ◌, List, take, true, false, IsTrue, Option, Some, AllPairs, Contains}
+use Rattle.std.specs.Prelude.{◌≡◌, ◌≢◌, ◌↔◌, ℕ, ℤ, pos, ◌-ℤ◌, List, take, true, false, IsTrue, nat_lt, Option, Some, AllPairs, Contains}
 use Rattle.std.specs.List.Sorted.{IsStrictlyIncreasing}
 use Rattle.ub_bigmin.specs.Box.{Corners, IsInside}
 use Rattle.ub_boxes.specs.Boxes.{boxes_of, cover_of, is_wide}
 use Rattle.ub_boxes.specs.Cuts.{cuts, cut_of, turns, turns_of}
+use Rattle.ub_boxes.specs.Grid.{grid, number_of_cells}
 use Rattle.ub_boxes.specs.Truths.{covers}
 use Rattle.ub_query.specs.Groups.{is_selected}
 use Rattle.ub_query.specs.Shape.{Shape}
@@ -65,3 +66,8 @@ CutsAreTheTurns = (schema : Schema) (c : Shape) (dim : ℕ)
 abbrev pub TurnsAreWhereItTurns : Type 0
 TurnsAreWhereItTurns = (operator : Operator) (number value : ℤ) → Contains (turns_of operator number) value
     ↔ (holds operator value number ≢ holds operator (value -ℤ pos 1) number)
+
+-- a condition is wide where it has more than 4096 cells
+abbrev pub WideIsAbove4096 : Type 0
+WideIsAbove4096 = (schema : Schema) (filter : Option Shape)
+    → is_wide schema filter ≡ nat_lt 4096 (number_of_cells (grid schema filter))

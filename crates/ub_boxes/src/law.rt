@@ -1,4 +1,4 @@
-ghost use Rattle.ub_boxes.specs.Laws.{CutsAreTheTurns, TurnsAreWhereItTurns, BoxesAreApart, BoxesAreTheCover, WideBoxesAreTheSpace, SelectedAreInBoxes, ExactBoxesSelect};
+ghost use Rattle.ub_boxes.specs.Laws.{CutsAreTheTurns, TurnsAreWhereItTurns, BoxesAreApart, BoxesAreTheCover, WideBoxesAreTheSpace, SelectedAreInBoxes, ExactBoxesSelect, WideIsAbove4096};
 
 // Each function here does nothing, and its clause is a law of the definitions in specs/. So the law is proved, and is read
 // beside the code.
@@ -36,4 +36,9 @@ pub fn selected_are_in_boxes()
 /// The rows in exact boxes are the selected ones.
 pub fn exact_boxes_select()
     ensures { ExactBoxesSelect }
+{}
+
+/// A condition is wide where it has more than 4096 cells.
+pub fn wide_is_above_4096()
+    ensures { WideIsAbove4096 }
 {}
