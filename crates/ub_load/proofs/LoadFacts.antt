@@ -19,7 +19,7 @@ use Rattle.ub_load.specs.Field.{trimmed}
 use Rattle.ub_load.specs.LoadedTable.{IsSchemaOf, columns_of, records_of, row_of, rows_of}
 use Rattle.ub_load.specs.LoadedTree.{IsLoadedTree, insert_all}
 use Rattle.ub_load.specs.Loading.{HasTaken, IsLoadFault, IsTakeFault}
-use Rattle.ub_load.specs.Progress.{HasLoadedRecords, HasReadHeader, HoldsRows, IsAt, IsHeaded, IsHeaderFault, IsLoading, IsRecordsFault, Source, bytes_of}
+use Rattle.ub_load.specs.inner.Progress.{HasLoadedRecords, HasReadHeader, HoldsRows, IsAt, IsHeaded, IsHeaderFault, IsLoading, IsRecordsFault, Source, bytes_of}
 use Rattle.ub_load.proofs.ToldFacts.{header_is_of_text, told_after, told_first}
 use Rattle.ub_load.specs.Refusals.{first_of, first_refusal, header_refusal, header_refusals, record_refusals, refusals}
 use Rattle.ub_load.specs.declared.fault.LoadFault.{LoadFault}

@@ -5,7 +5,7 @@ ghost use Rattle.std.specs.Result.{OnOk};
 ghost use Rattle.csv.specs.Records.{fields_of};
 ghost use Rattle.ub_load.specs.LoadedTree.{IsLoadedTree};
 ghost use Rattle.ub_load.specs.Loading.{HasCounted, HasTaken, IsAtWork, IsLoadFault, IsNewFault, IsTakeFault};
-ghost use Rattle.ub_load.specs.Progress.{HasLoadedRecords, HasReadHeader, IsAt, IsHeaderFault, IsRecordsFault};
+ghost use Rattle.ub_load.specs.inner.Progress.{HasLoadedRecords, HasReadHeader, IsAt, IsHeaderFault, IsRecordsFault};
 ghost use Rattle.ub_store.specs.Facts.{page_count, IsHonest};
 ghost use Rattle.ub_table.specs.Region.{IsRow, measures_of};
 ghost use Rattle.ub_table.specs.declared.row.TheConstants.{MAX_ROW_NUMBER};
