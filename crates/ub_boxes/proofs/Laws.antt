@@ -1,15 +1,18 @@
 -- The laws of the boxes of a condition, as specs/Laws.antt states them.
-use Rattle.std.proofs.Common.{◌≡◌, ◌<◌, ℕ, zero, suc, List, [], ◌∷◌, Option, Some, None, Bool, true, false, not, ◌&&◌, nat_lt, take, get_or, refl, sym, ap, arith, ◌∙◌, inl, inr, rules}
+use Rattle.std.proofs.Common.{◌≡◌, ◌<◌, ◌-◌, ℕ, zero, suc, List, [], ◌∷◌, Option, Some, None, Bool, true, false, not, ◌&&◌, nat_lt, int_le, pos, slice_index, subst, take, get_or, refl, sym, ap, arith, ◌∙◌, inl, inr, rules}
 use Rattle.std.proofs.lemmas.Bool.{cases_Bool}
+use Rattle.ub_bigmin.specs.Box.{Corners}
 use Rattle.ub_boxes.proofs.ApartFacts.{boxes-apart, pairs-apart, among-some, some-among}
 use Rattle.ub_boxes.proofs.CellFacts.{Among, in_boxes}
 use Rattle.ub_boxes.proofs.GridFacts.{are_sides}
 use Rattle.ub_boxes.proofs.LinkFacts.{cut_lists, sides_are, length-cut_lists, all_cuts, cover-of_cells, is_over, space_has}
+use Rattle.ub_boxes.proofs.OrderFacts.{boxes-ordered, pairs-ordered, boxes-joined, space-joined}
 use Rattle.ub_boxes.proofs.TruthFacts.{IsAt, allows, known}
+use Rattle.ub_boxes.proofs.TurnFacts.{Member, contained-member}
 use Rattle.ub_boxes.specs.Boxes.{boxes_on, space, is_wide}
 use Rattle.ub_boxes.specs.Grid.{grid}
-use Rattle.ub_boxes.specs.Laws.{point_of, BoxesAreApart, BoxesAreTheCover, WideBoxesAreTheSpace, SelectedAreInBoxes, ExactBoxesSelect}
-use Rattle.ub_boxes.specs.Truths.{covers, is_of_dimensions}
+use Rattle.ub_boxes.specs.Laws.{point_of, BoxesAreApart, BoxesAreTheCover, WideBoxesAreTheSpace, SelectedAreInBoxes, ExactBoxesSelect, BoxesAreInOrder, BoxesAreJoined, BetweenCanBeAsTwo, Adjoin}
+use Rattle.ub_boxes.specs.Truths.{covers, is_of_dimensions, known_as, conjoined}
 use Rattle.ub_boxes.specs.declared.truths.Truths.{Truths}
 use Rattle.ub_query.specs.Groups.{is_selected}
 use Rattle.ub_query.specs.Shape.{Shape}
@@ -23,6 +26,47 @@ pub boxes_are_apart : BoxesAreApart
 boxes_are_apart schema filter = elim (cases_Bool (is_wide schema filter)) [
   | inl t ↦ rw t (pairs-apart (space schema.dims ∷ []) ((λ p i m. m), tt))
   | inr f ↦ rw f (pairs-apart _ (boxes-apart (covers schema filter) (grid schema filter) (are_sides schema filter)))
+]
+
+pub boxes_are_in_order : BoxesAreInOrder
+boxes_are_in_order schema filter = elim (cases_Bool (is_wide schema filter)) [
+  | inl t ↦ rw t (pairs-ordered (space schema.dims ∷ []) ((λ c m. absurd m), tt))
+  | inr f ↦ rw f (pairs-ordered _ (boxes-ordered (covers schema filter) (grid schema filter) (are_sides schema filter)))
+]
+
+space_joined : (last dims : ℕ) (a b : Corners) → dims ≡ suc last → Member (space dims ∷ []) a → Member (space dims ∷ []) b → Adjoin last a b → ⊥
+space_joined last dims a b e (inl p) (inl q) adjoin =
+    space-joined last dims e
+    (subst (λ (c : Corners). Adjoin last (space dims) c) (sym q) (subst (λ (c : Corners). Adjoin last c b) (sym p) adjoin))
+space_joined last dims a b e (inr m) n adjoin = absurd m
+space_joined last dims a b e m (inr n) adjoin = absurd n
+
+pub boxes_are_joined : BoxesAreJoined
+boxes_are_joined schema filter a b m n adjoin =
+    let some = schema.counts.some_dims in
+    let last : schema.dims ≡ suc (schema.dims - 1) = omega arith in
+    elim (cases_Bool (is_wide schema filter)) [
+      | inl t ↦
+          let whole = space schema.dims ∷ [] in
+          space_joined (schema.dims - 1) schema.dims a b last (contained-member whole a (rw t at m)) (contained-member whole b (rw t at n)) adjoin
+      | inr f ↦
+          let boxes = boxes_on (covers schema filter) (grid schema filter) in
+          boxes-joined (covers schema filter) (grid schema filter) (are_sides schema filter) (schema.dims - 1)
+          (length-sides schema filter schema.dims ∙ last) a b
+          (contained-member boxes a (rw f at m)) (contained-member boxes b (rw f at n)) adjoin
+    ]
+
+-- what is known of both of two is what is known of each, put together
+known_of_both : (a b : Bool) → known_as (Some (a && b)) ≡ conjoined (known_as (Some a)) (known_as (Some b))
+known_of_both true true = refl
+known_of_both true false = refl
+known_of_both false true = refl
+known_of_both false false = refl
+
+pub between_can_be_as_two : BetweenCanBeAsTwo
+between_can_be_as_two schema point column low high = elim (cases_Bool (nat_lt column schema.dims)) [
+  | inl t ↦ rw t (known_of_both (int_le low (pos (slice_index point column))) (int_le (pos (slice_index point column)) high))
+  | inr f ↦ rw f refl
 ]
 
 in_cover : (schema : Schema) (filter : Option Shape) (point : List ℕ) → IsPoint schema.dims point

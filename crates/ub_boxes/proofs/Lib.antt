@@ -11,3 +11,4 @@ pub mod LinkFacts
 pub mod Laws
 pub mod TurnFacts
 pub mod WhereFacts
+pub mod OrderFacts

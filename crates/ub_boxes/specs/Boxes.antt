@@ -5,7 +5,6 @@ use Rattle.ub_bigmin.specs.Box.{Corners}
 use Rattle.ub_boxes.specs.Cuts.{greatest}
 use Rattle.ub_boxes.specs.Grid.{grid, number_of_cells}
 use Rattle.ub_boxes.specs.Truths.{covers, is_of_dimensions}
-use Rattle.ub_boxes.specs.declared.cover.TheConstants.{MAX_CELLS}
 use Rattle.ub_boxes.specs.declared.interval.Interval.{Interval}
 use Rattle.ub_query.specs.Shape.{Shape}
 use Rattle.ub_table.specs.declared.schema.Schema.{Schema}
@@ -45,9 +44,13 @@ boxes_on test (side ∷ next ∷ sides) =
 abbrev pub space : ℕ → Corners
 space dims = record { lo = replicate dims 0; hi = replicate dims greatest }
 
--- a condition with too many cells is wide
+-- the most cells of which boxes are made
+abbrev pub most_cells : ℕ
+most_cells = 4096
+
+-- a condition with more cells is wide
 abbrev pub is_wide : Schema → Option Shape → Bool
-is_wide schema filter = nat_lt MAX_CELLS (number_of_cells (grid schema filter))
+is_wide schema filter = nat_lt most_cells (number_of_cells (grid schema filter))
 
 -- the boxes of a condition, or of none: of a wide one the whole space
 abbrev pub boxes_of : Schema → Option Shape → List Corners

@@ -1,4 +1,4 @@
-ghost use Rattle.ub_boxes.specs.Laws.{CutsAreTheTurns, TurnsAreWhereItTurns, BoxesAreApart, BoxesAreTheCover, WideBoxesAreTheSpace, SelectedAreInBoxes, ExactBoxesSelect};
+ghost use Rattle.ub_boxes.specs.Laws.{CutsAreTheTurns, TurnsAreWhereItTurns, BoxesAreApart, BoxesAreTheCover, WideBoxesAreTheSpace, SelectedAreInBoxes, ExactBoxesSelect, WideIsAbove4096, BoxesAreInOrder, BoxesAreJoined, BetweenTurnsTwice, BetweenCanBeAsTwo};
 
 // Each function here does nothing, and its clause is a law of the definitions in specs/. So the law is proved, and is read
 // beside the code.
@@ -16,6 +16,16 @@ pub fn cuts_are_the_turns()
 /// No two boxes of a condition have a point in common.
 pub fn boxes_are_apart()
     ensures { BoxesAreApart }
+{}
+
+/// The boxes of a condition are in lexicographic order.
+pub fn boxes_are_in_order()
+    ensures { BoxesAreInOrder }
+{}
+
+/// No two boxes of a condition adjoin along the last dimension and agree in the others.
+pub fn boxes_are_joined()
+    ensures { BoxesAreJoined }
 {}
 
 /// The points in the boxes of a condition that isn't wide are those of its cover.
@@ -36,4 +46,19 @@ pub fn selected_are_in_boxes()
 /// The rows in exact boxes are the selected ones.
 pub fn exact_boxes_select()
     ensures { ExactBoxesSelect }
+{}
+
+/// A condition is wide where it has more than 4096 cells.
+pub fn wide_is_above_4096()
+    ensures { WideIsAbove4096 }
+{}
+
+/// A BETWEEN turns where its two comparisons do.
+pub fn between_turns_twice()
+    ensures { BetweenTurnsTwice }
+{}
+
+/// A BETWEEN can be at a point what its two comparisons together can be.
+pub fn between_can_be_as_two()
+    ensures { BetweenCanBeAsTwo }
 {}

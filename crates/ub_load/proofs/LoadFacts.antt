@@ -1,8 +1,10 @@
--- What has been read of a text: the records so far, and the tree that holds the rows of those after the header.
-use Rattle.std.proofs.Common.{Bool, Bor, ◌≡◌, ◌≤◌, ◌+◌, ℕ, false, List, [], ◌∷◌, ◌++◌, length, map, Option, Some, None, true, refl, sym, ap, subst, ◌∙◌, arith, append_assoc, length-append, inl, inr}
+-- How the records that have been read of a text, and the tree that holds their rows, become more.
+use Rattle.std.proofs.Common.{Bool, ◌≡◌, ◌≤◌, ◌+◌, ℕ, false, List, [], ◌∷◌, ◌++◌, length, map, Some, None, true, refl, sym, ap, subst, ◌∙◌, arith, append_assoc, length-append, inl, inr}
 use Rattle.std.proofs.lemmas.List.{map-append, length-map}
 use Rattle.std.proofs.lemmas.List.FromFn.{length-enumerate_from}
-use Rattle.std.specs.List.{enumerate_from, flat_map}
+use Rattle.std.specs.List.{enumerate_from}
+use Rattle.std.specs.Prelude.{Result, Ok, Err, IfOk, IfErr}
+use Rattle.std.specs.Result.{OnOk}
 use Rattle.csv.proofs.ReadFacts.{rows-more, rows-end}
 use Rattle.csv.specs.Reading.{ReadRecord, Reached, Ready, builder_config, builder_names_headers, builder_trim, default_config, names_headers, reader_config, reader_headers, reader_state, reader_trim, source_of, strip_bom, took_first, with_names_headers}
 use Rattle.csv.specs.declared.reader.ReaderBuilder.{ReaderBuilder}
@@ -14,36 +16,22 @@ use Rattle.ub_tree.specs.Calls.{IsCreated}
 use Rattle.ub_tree.specs.Change.{IsInserted}
 use Rattle.ub_tree.specs.View.{TreeView, IsSound, regions}
 use Rattle.ub_load.specs.Field.{trimmed}
-use Rattle.ub_load.specs.LoadedTable.{records_of, row_of, rows_of}
-use Rattle.ub_load.specs.LoadedTree.{IsLoadedTree, insert_all, loaded_regions}
-use Rattle.ub_load.specs.Loading.{HasTaken, IsAtWork, IsLoadFault, IsTakeFault}
-use Rattle.ub_load.proofs.ToldFacts.{told_after}
-use Rattle.ub_load.specs.Refusals.{first_of, first_refusal, header_refusals, record_refusals, refusals}
+use Rattle.ub_load.specs.LoadedTable.{IsSchemaOf, columns_of, records_of, row_of, rows_of}
+use Rattle.ub_load.specs.LoadedTree.{IsLoadedTree, insert_all}
+use Rattle.ub_load.specs.Loading.{HasTaken, IsLoadFault, IsTakeFault}
+use Rattle.ub_load.specs.inner.Progress.{HasLoadedRecords, HasReadHeader, HoldsRows, IsAt, IsHeaded, IsHeaderFault, IsLoading, IsRecordsFault, Source, bytes_of}
+use Rattle.ub_load.proofs.ToldFacts.{header_is_of_text, told_after, told_first}
+use Rattle.ub_load.specs.Refusals.{first_of, first_refusal, header_refusal, header_refusals, record_refusals, refusals}
 use Rattle.ub_load.specs.declared.fault.LoadFault.{LoadFault}
 use Rattle.ub_load.specs.declared.fault.LoadFault.TheVariants.{NoHeader}
 use Rattle.ub_load.proofs.CsvFacts.{AreRecords-records, Reached-front}
 use Rattle.ub_load.proofs.RefusalFacts.{enumerate_from-append, first-here, first-skip, flat-more, flat-refused}
 use Rattle.ub_region.proofs.Laws.{insertion_adds_the_row}
-use Rattle.ub_region.specs.Regions.{AreTableRows, insert}
+use Rattle.ub_region.specs.Regions.{insert}
 use Rattle.ub_table.specs.Keys.{origin}
 use Rattle.ub_table.specs.Region.{Region, IsRow, measures_of}
 use Rattle.ub_table.specs.declared.row.Row.{Row}
 use Rattle.ub_table.specs.declared.schema.Schema.{Schema}
-
-abbrev pub Source : Type 0
-Source = Bor (List ℕ)
-
-abbrev pub bytes_of : Source → Option (List ℕ)
-bytes_of s = Some s.now
-
--- a reader of the text has given these records, and reads on
-pub record IsAt (text : List ℕ) (taken : List (List (List ℕ))) (rdr : Reader Source) : Type 0 where
-  pub trim : rdr.trim ≡ trim.None
-  pub ready : Ready rdr
-  pub config : rdr.config ≡ default_config
-  pub rest : List ℕ
-  pub source : source_of bytes_of rdr ≡ Some rest
-  pub reached : Reached default_config st.StartRecord (strip_bom text) taken rdr.state rest
 
 -- the next record was read, or that there is none
 abbrev pub Took : Reader Source → Reader Source → List (List ℕ) → Type 0
@@ -99,13 +87,6 @@ insert_all-more : (dims c : ℕ) (rows : List Row) (row : Row) (regions : List R
 insert_all-more dims c [] row regions = refl
 insert_all-more dims c (first ∷ rows) row regions = insert_all-more dims c rows row (insert dims c first regions)
 
--- the tree is sound, and its table has these rows, which were put in one after the other
-pub record HoldsRows (dims c : ℕ) (rows : List Row) (t : TreeView) : Type 0 where
-  pub sound : IsSound t
-  pub regions_are : regions t ≡ loaded_regions dims c rows
-  pub table : AreTableRows (regions t) rows
-  pub next : t.next ≡ length rows + 1
-
 -- a new tree holds no rows
 holds_none : (dims c : ℕ) (t : TreeView) → IsSound t → regions t ≡ record { first = origin; rows = [] } ∷ [] → t.next ≡ 1 → HoldsRows dims c [] t
 holds_none dims c t sound are next = record {
@@ -127,38 +108,19 @@ holds_more dims c rows row t u h dims_are page_rows_are good put =
       next = put.next ∙ (let old = h.next in let long = length-append rows (row ∷ []) in omega arith);
     }
 
--- the header and the records before the row of this number have been read, with nothing wrong in them; the tree works, and
--- where its store is honest it holds their rows
-pub record IsLoading (text : List ℕ) (dims page_rows : ℕ) (name : List ℕ) (store : StoreFacts) (number : ℕ) (t : TreeView) (rdr : Reader Source) : Type 0 where
-  pub header : List (List ℕ)
-  pub taken : List (List (List ℕ))
-  pub at : IsAt text (header ∷ taken) rdr
-  pub number_is : number ≡ 1 + length taken
-  pub few : number ≤ 16777216
-  pub fine : first_of (header_refusals dims name (map trimmed header)) ≡ None
-  pub accepted : first_of (flat_map (record_refusals dims (length header)) (enumerate_from 1 taken)) ≡ None
-  pub name_is : t.schema.name ≡ name
-  pub columns_are : t.schema.columns ≡ map trimmed header
-  pub dims_are : t.schema.dims ≡ dims
-  pub page_rows_are : t.schema.page_rows ≡ page_rows
-  pub next_is : t.next ≡ number
-  pub at_work : IsAtWork store t
-  pub holds : IsHonest store → HoldsRows dims page_rows (rows_of dims taken) t
-
 -- before the first record
-pub loading_none : {text : List ℕ} {header : List (List ℕ)} {a : Reader Source} → IsAt text (header ∷ []) a
-    → (dims page_rows : ℕ) (name : List ℕ) (store : StoreFacts) (schema : Schema) (t : TreeView) → first_of (header_refusals dims name (map trimmed header)) ≡ None
-    → (schema.name ≡ name) × (schema.columns ≡ map trimmed header) × (schema.dims ≡ dims) × (schema.page_rows ≡ page_rows) → IsCreated store schema t
-    → IsLoading text dims page_rows name store 1 t a
-loading_none {text} {header} is dims page_rows name store schema t fine parts made =
+pub loading_none : {text : List ℕ} {dims page_rows : ℕ} {name : List ℕ} {schema : Schema} {a : Reader Source} → IsHeaded text dims page_rows name schema a
+    → (store : StoreFacts) (t : TreeView) → IsCreated store schema t → IsLoading text dims page_rows name store 1 t a
+loading_none {text} {dims} {page_rows} {name} {schema} is store t made =
     let same : t.schema ≡ schema = made.schema_is in
+    let parts = is.schema_is in
     record {
-      header = header;
+      header = is.header;
       taken = [];
-      at = is;
+      at = is.at;
       number_is = refl;
       few = omega arith;
-      fine = fine;
+      fine = is.fine;
       accepted = refl;
       name_is = ap (λ (s : Schema). s.name) same ∙ parts.0;
       columns_are = ap (λ (s : Schema). s.columns) same ∙ parts.1;
@@ -248,6 +210,27 @@ pub refused_empty : {text : List ℕ} {a : Reader Source} → IsAt text [] a →
 unfolding refusals
 refused_empty is b fields s dims name = ap (first_refusal dims name) (sym (at_end is b fields s)) ∙ refl
 
+module _ (from b : Reader Source) (found : Bool) (header : List (List ℕ)) (reads : reader_trim from ≡ trim.None → Ready from → ReadRecord bytes_of from b found header)
+    (more : found ≡ true) (first : reader_trim from ≡ trim.None → took_first b ≡ true) (dims : ℕ) where
+  -- the first record was read and makes a schema
+  pub took_header : (page_rows : ℕ) (name : List ℕ) (result : Result Schema LoadFault) → IfOk result (IsSchemaOf header dims page_rows name)
+      → OnOk result (header_refusal dims name (columns_of header) ≡ None) → IfOk result (HasReadHeader dims page_rows name from b)
+  took_header page_rows name (Ok schema) is fine = λ text start. record {
+    header = header;
+    at = at_next start b header (took start b found header more reads first);
+    fine = fine;
+    schema_is = is;
+  }
+  took_header page_rows name (Err fault) is fine = tt
+
+  -- it makes none
+  pub told_header : (name : List ℕ) (result : Result Schema LoadFault) → IfErr result (λ fault. header_refusal dims name (columns_of header) ≡ Some fault)
+      → IfErr result (IsHeaderFault dims name from)
+  told_header name (Ok schema) bad = tt
+  told_header name (Err fault) bad = λ text store start.
+      let after = at_next start b header (took start b found header more reads first) in
+      inr (told_first _ _ _ fault (header_is_of_text dims name (map trimmed header) fault bad) (refused_header after dims name fault bad))
+
 -- at the end nothing is wrong, and all rows are in the tree
 pub all_loaded : {text : List ℕ} {dims page_rows : ℕ} {name : List ℕ} {store : StoreFacts} {number : ℕ} {t : TreeView} {a : Reader Source}
     → IsLoading text dims page_rows name store number t a → (b : Reader Source) (fields : List (List ℕ)) → TookNone a b fields → IsHonest store → IsLoadedTree text dims page_rows name t
@@ -272,6 +255,43 @@ all_loaded {text} {dims} {page_rows} {name} is b fields s honest =
       table = h.table;
       next = h.next;
     }
+
+-- the records before the row of this number have been put into a tree that had none
+pub record IsTaking (from : Reader Source) (old : TreeView) (number : ℕ) (t : TreeView) (rdr : Reader Source) : Type 0 where
+  pub some : 1 ≤ number
+  pub few : number ≤ 16777216
+  pub next_is : t.next ≡ number
+  pub working : t.is_failed ≡ false
+  pub loading : (text : List ℕ) (dims page_rows : ℕ) (name : List ℕ) (store : StoreFacts) → IsLoading text dims page_rows name store 1 old from
+      → IsLoading text dims page_rows name store number t rdr
+
+module _ {from : Reader Source} {old t : TreeView} {number : ℕ} {a : Reader Source} (is : IsTaking from old number t a) (b : Reader Source) (found : Bool) (r : List (List ℕ))
+    (reads : reader_trim a ≡ trim.None → Ready a → ReadRecord bytes_of a b found r) where
+  -- one more record
+  pub taking_more : found ≡ true → (reader_trim a ≡ trim.None → took_first b ≡ true) → (u : TreeView) → HasTaken (number, r) t u → IsTaking from old (number + 1) u b
+  taking_more more first u taken =
+      let least : number ≤ 16777215 = taken.number in
+      record {
+        some = omega arith;
+        few = omega arith;
+        next_is = taken.next ∙ ap (λ (k : ℕ). k + 1) is.next_is;
+        working = taken.working;
+        loading = λ text dims page_rows name store h.
+            let now = is.loading text dims page_rows name store h in
+            loading_more now u b r (took now.at b found r more reads first) taken;
+      }
+
+  -- a record is refused
+  pub taking_refused : found ≡ true → (reader_trim a ≡ trim.None → took_first b ≡ true) → (f : LoadFault) → IsTakeFault (number, r) t f → IsRecordsFault from old f
+  taking_refused more first f fault = λ text dims page_rows name store h.
+      let now = is.loading text dims page_rows name store h in
+      told_record now b r (took now.at b found r more reads first) f fault
+
+  -- there are no more
+  pub all_taken : found ≡ false → HasLoadedRecords from old t
+  all_taken none = λ text dims page_rows name store h.
+      let now = is.loading text dims page_rows name store h in
+      (now.at_work, λ honest. all_loaded now b r (took_none now.at b found r none reads) honest)
 
 -- a fresh reader of a text with no header row
 pub at_start : (text : Source) (fresh b : ReaderBuilder) (rdr : Reader Source)

@@ -1,3 +1,4 @@
+pub mod inner
 pub mod Field
 pub mod Refusals
 pub mod LoadedTable

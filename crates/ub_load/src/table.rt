@@ -1,10 +1,11 @@
 //! A whole CSV text as a table in a UB-tree.
 
-ghost use Rattle.std.specs.Prelude.{◌≡◌, ◌≤◌, ◌+◌, false, IfOk, IfErr};
+ghost use Rattle.std.specs.Prelude.{◌≡◌, ◌≤◌, ◌+◌, ℕ, false, List, [], IfOk, IfErr};
 ghost use Rattle.std.specs.Result.{OnOk};
 ghost use Rattle.csv.specs.Records.{fields_of};
 ghost use Rattle.ub_load.specs.LoadedTree.{IsLoadedTree};
 ghost use Rattle.ub_load.specs.Loading.{HasCounted, HasTaken, IsAtWork, IsLoadFault, IsNewFault, IsTakeFault};
+ghost use Rattle.ub_load.specs.inner.Progress.{HasLoadedRecords, HasReadHeader, IsAt, IsHeaderFault, IsRecordsFault};
 ghost use Rattle.ub_store.specs.Facts.{page_count, IsHonest};
 ghost use Rattle.ub_table.specs.Region.{IsRow, measures_of};
 ghost use Rattle.ub_table.specs.declared.row.TheConstants.{MAX_ROW_NUMBER};
@@ -16,7 +17,7 @@ ghost use Rattle.ub_tree.specs.View.{IsSound};
 use crate::fault::LoadFault;
 use crate::header::read_schema;
 use crate::row::read_row;
-use csv::{ByteRecord, ReaderBuilder};
+use csv::{ByteRecord, Reader, ReaderBuilder};
 use std::alloc::Global;
 use ub_store::PageStore;
 use ub_table::{Row, Schema};
@@ -54,17 +55,83 @@ pub fn load<S: PageStore>(
         .from_reader(alloc, text);
     // Each record is read into the place of the one before.
     let mut fields = ByteRecord::new(alloc);
-    if !reader.read_byte_record(&mut fields)? {
+    load_from(
+        alloc,
+        &mut reader,
+        &mut fields,
+        dims,
+        page_rows,
+        name,
+        store,
+    )
+}
+
+// Loads the table of this name that a reader's text holds, from its header on.
+fn load_from<S: PageStore>(
+    alloc: Global,
+    reader: &mut Reader<&[u8]>,
+    fields: &mut ByteRecord,
+    dims: u32,
+    page_rows: u32,
+    name: &[u8],
+    store: S,
+) -> Result<Tree<S>, LoadFault>
+    requires some_dims { 1 ≤ dims }
+    requires few_dims { dims ≤ 4 }
+    requires some_rows { 2 ≤ page_rows }
+    requires few_rows { page_rows ≤ 64 }
+    requires empty { page_count (S.facts store) ≡ 0 }
+    ensures loaded { (text : List ℕ) → IsAt text [] reader.old → IsHonest (S.facts store)
+        → IfOk result (IsLoadedTree text dims page_rows name.now) }
+    ensures working { (text : List ℕ) → IsAt text [] reader.old
+        → IfOk result (IsAtWork (S.facts store)) }
+    ensures refused { (text : List ℕ) → IsAt text [] reader.old
+        → IfErr result (IsLoadFault dims name.now text (S.facts store)) }
+{
+    let schema = read_header(reader, fields, dims, page_rows, name)?;
+    let mut tree = new_tree(alloc, store, &schema)?;
+    load_records(reader, fields, &mut tree)?;
+    Ok(tree)
+}
+
+// The schema of a table of this name whose columns are the fields of the first record, or why there is none.
+fn read_header(
+    reader: &mut Reader<&[u8]>,
+    fields: &mut ByteRecord,
+    dims: u32,
+    page_rows: u32,
+    name: &[u8],
+) -> Result<Schema, LoadFault>
+    requires some_dims { 1 ≤ dims }
+    requires few_dims { dims ≤ 4 }
+    requires some_rows { 2 ≤ page_rows }
+    requires few_rows { page_rows ≤ 64 }
+    ensures read { IfOk result (HasReadHeader dims page_rows name.now reader.old reader.new) }
+    ensures refused { IfErr result (IsHeaderFault dims name.now reader.old) }
+{
+    if !reader.read_byte_record(fields)? {
         return Err(LoadFault::NoHeader);
     }
-    let schema = read_schema(&fields, dims, page_rows, name)?;
-    let mut tree = new_tree(alloc, store, &schema)?;
+    read_schema(fields, dims, page_rows, name)
+}
+
+// Puts the rows of all other records into a tree that has none.
+fn load_records<S: PageStore>(
+    reader: &mut Reader<&[u8]>,
+    fields: &mut ByteRecord,
+    tree: &mut Tree<S>,
+) -> Result<(), LoadFault>
+    requires next { tree.old.next ≡ 1 }
+    requires working { tree.old.is_failed ≡ false }
+    ensures loaded { OnOk result (HasLoadedRecords reader.old tree.old tree.new) }
+    ensures refused { IfErr result (IsRecordsFault reader.old tree.old) }
+{
     let mut number = 1;
-    while reader.read_byte_record(&mut fields)? {
-        load_record(&mut tree, &fields, number)?;
+    while reader.read_byte_record(fields)? {
+        load_record(tree, fields, number)?;
         number += 1;
     }
-    Ok(tree)
+    Ok(())
 }
 
 // A tree of this schema with no rows. Where it is refused the store is dropped.

@@ -11,68 +11,102 @@ Example:
   ubq load sales.csv sales.ub --dims 2
   echo 'SELECT COUNT(*) FROM t WHERE day BETWEEN 1 AND 7;' | ubq run sales.ub -
 
-Statements are SELECT with WHERE, GROUP BY, ORDER BY and LIMIT, and EXPLAIN before one tells how it would be answered.
-docs/SQL.md describes the language, and docs/TABLE_FILES.md what a table file promises. After a fault the last line tells
-it, as ! NoPage.
+All values are whole numbers. Statements are SELECT with WHERE, GROUP BY, ORDER BY and LIMIT; ubq run --help has their
+grammar. EXPLAIN in front shows how a query would be answered, and reads no page of rows. If something fails, the last
+line says what, as ! NoPage.
 
 Status:
   0  all was done
   1  a statement was refused, and the others were run
-  2  the command line was refused
-  3  the data were refused: a CSV file, or a table file that is none or is damaged
+  2  wrong arguments
+  3  a CSV file was refused, or TABLE isn't a table file or is damaged
   4  a file or the output failed
   5  memory was refused";
 
 const LOAD_HELP: &str = "\
-Example: ubq load sales.csv sales.ub --dims 2 writes -- rows 1000, regions 24
+Example:
+  ubq load sales.csv sales.ub --dims 2
+writes
+  -- rows 1000, regions 24
 
-DATA is read before TABLE is touched; where DATA is refused TABLE stays as it was. docs/SQL.md describes the statements
-for `ubq run`, and docs/TABLE_FILES.md what a table file promises.
+DATA has a header, and whole numbers alone: first the dimensions, 0 to 4294967295, then up to 4 measures of 64 bits with
+sign. It is read before TABLE is touched; where DATA is refused TABLE stays as it was.
 
 Status:
   0  TABLE holds the rows of DATA
-  2  the command line was refused, or DATA and TABLE are one path
+  2  wrong arguments, or DATA and TABLE are one path
   3  DATA was refused, as ! BadNumber row 2 column 1
   4  a file or the output failed
   5  memory was refused";
 
 const RUN_HELP: &str = "\
-Example: ubq run sales.ub script.sql, or a script from standard input: ubq run sales.ub -
+Example:
+  ubq run sales.ub script.sql
+  echo 'SELECT * FROM t LIMIT 5;' | ubq run sales.ub -
 
-Each statement writes a title line, its rows, and -- rows R, pages P, or why it is refused, as ! Syntax at 7. EXPLAIN
-before it writes how it would be answered, and reads no page of rows. TABLE is left as it was, byte for byte. docs/SQL.md
-describes the language.
+Each statement writes a title line, its rows, and -- rows R, pages P, or why it is refused, as ! Syntax at 7: a name, and
+where in the script, in bytes from 0. TABLE is left as it was, byte for byte.
+
+Statements, each ended by a semicolon:
+  statement   = [EXPLAIN] SELECT items FROM name [WHERE condition] [GROUP BY name {, name}]
+                [ORDER BY key {, key}] [LIMIT number]
+  items       = * | item {, item}
+  item        = name | COUNT ( * ) | SUM ( name ) | MIN ( name ) | MAX ( name )
+  key         = item [ASC | DESC]
+  condition   = conjunction {OR conjunction}
+  conjunction = operand {AND operand}
+  operand     = NOT operand | ( condition ) | name operator literal
+              | name BETWEEN literal AND literal
+  operator    = = | <> | != | < | <= | > | >=
+  literal     = [-] number
+EXPLAIN shows how a query would be answered, and reads no page of rows.
+
+A statement is refused for the first of these that holds:
+  BadByte         a byte that no statement has
+  Syntax          the statement isn't one of the grammar
+  NumberTooLarge  a number over 18446744073709551615
+  TooDeep         over 64 parentheses and NOTs, one in the other
+  TooMany         over 64 comparisons, or over 8 items, columns after GROUP BY or keys
+  UnknownTable    the name after FROM isn't the table's
+  UnknownColumn   another name is no column
+  NotGrouped      with groups, an item is * or a column that isn't after GROUP BY
+  NotSelected     with groups, a key isn't among the items; without, a key is an aggregate
 
 Status:
   0  all statements were answered
   1  a statement was refused, and the others were run
-  2  the command line was refused
-  3  TABLE is no table file, or is damaged
+  2  wrong arguments
+  3  TABLE isn't a table file, or is damaged
   4  a file or the output failed
   5  memory was refused";
 
 const TRY_HELP: &str = "\
-Example: ubq try sales.csv script.sql --dims 2
+Example:
+  ubq try sales.csv script.sql --dims 2
 
-No file is written. Each statement writes what it does with `ubq run`, and so does EXPLAIN. docs/SQL.md describes the
-language.
+No file is written. Each statement writes what it does with ubq run, and so does EXPLAIN; ubq run --help has the grammar
+of statements, ubq load --help what DATA may hold.
 
 Status:
   0  all statements were answered
   1  a statement was refused, and the others were run
-  2  the command line was refused, or DATA and SCRIPT are both standard input
+  2  wrong arguments, or DATA and SCRIPT are both standard input
   3  DATA was refused, as ! BadNumber row 2 column 1
   4  a file or the output failed
   5  memory was refused";
 
 const NEXT_HELP: &str = "\
-Example: ubq next 2,2 6,3 19 writes next 36 and prev 15
+Example:
+  ubq next 2,2 6,3 19
+writes
+  next 36
+  prev 15
 
 The first is the least address of the box from Z on, the second the greatest one up to Z; none says that there is none.
 
 Status:
-  0  both were told
-  2  the command line was refused, or a word of it, as ! BadPoint
+  0  both were found, or none is there
+  2  wrong arguments, or a word that can't be, as ! BadPoint
   4  the output failed
   5  memory was refused";
 
@@ -114,7 +148,8 @@ fn option_arg<'a>(alloc: Global, id: &'a str, value: &'a str, help: &'a str) -> 
 fn dims_arg<'a>(alloc: Global) -> Arg<'a>
     ensures { IsArgFor dims_rule result }
 {
-    let help = "How many of the columns are dimensions, 1 to 4";
+    let help =
+        "How many of the first columns are dimensions, 1 to 4: those that the table is sorted by";
     option_arg(alloc, "dims", "D", help)
         .required(true)
         .value_parser(value_parser!(u32).range(1..=4))
@@ -210,7 +245,7 @@ pub(crate) fn program<'a>(alloc: Global) -> Making<'a>
 {
     let command = Command::new(alloc, "ubq")
         .version("0.1.0")
-        .about("Queries in SQL over a table of points, kept as a UB-tree in one file")
+        .about("Answer SQL queries over a table of whole numbers, kept as a UB-tree in one file")
         .after_help(PROGRAM_HELP)
         .subcommand_required(true);
     let command = with_command(Ok(command), load_command(alloc));

@@ -1,9 +1,9 @@
 use Rattle.std.proofs.Common.{◌-◌}
-use Rattle.ub_load.proofs.LoadFacts.{IsLoading}
-use Rattle.ub_load.proofs.table.load.Given as goal
+use Rattle.ub_load.proofs.LoadFacts.{IsTaking}
+use Rattle.ub_load.proofs.table.load_records.Given as goal
 
 abbrev pub invariant-loop-tree : goal.invariant-loop-tree
-invariant-loop-tree g l = IsLoading l.fn.text l.dims l.page_rows l.name (g.S.PageStore.facts l.fn.store) l.number l.tree l.reader
+invariant-loop-tree g l = IsTaking l.fn.reader l.fn.tree l.number l.tree l.reader
 
 -- there are only so many row numbers
 abbrev pub decreases-loop-tree : goal.decreases-loop-tree
