@@ -66,7 +66,7 @@ SECTIONS = [
     (
         "Which pages are read",
         "Addresses and boxes; regions; the boxes of a condition; the plan of a query, and which regions it visits.",
-        "ub_zaddr ub_bigmin ub_boxes ub_plan ub_tetris ub_exec ub_answer ub_table.Keys ub_table.Region ub_region.Spans",
+        "ub_zaddr ub_bigmin ub_boxes ub_planning ub_filter ub_plan ub_tetris ub_exec ub_answer ub_table.Keys ub_table.Region ub_region.Spans",
     ),
     (
         "Pages of a file",

@@ -1,6 +1,6 @@
 #!/usr/bin/env python3
-"""Runs the gate, and tells what docs/GATE.md has of it: the minutes of processor of each crate's proof, tests and edits, the
-dearest edits, and how much of the processors the host took back.
+"""Runs the gate, and tells what docs/GATE.md has of it: the minutes of processor of each crate's proof, tests and edits with the
+crate's sizes, the dearest edits, and how much of the processors the host took back.
 
     docs/gate_times.py LOG      in a clean clone; what `rt ci` prints goes to LOG
 
@@ -13,6 +13,8 @@ import re
 import subprocess
 import sys
 import time
+
+from sizes import HEADS, crates, edits_of, size
 
 TOP = pathlib.Path(__file__).resolve().parent.parent
 TICK = os.sysconf("SC_CLK_TCK")
@@ -75,20 +77,18 @@ class Sampler:
                 self.seen[key] = work, ticks
 
 
-def edits_of(crate):
-    return sorted(file.stem for file in (TOP / "crates" / crate / "must-fail").glob("*.edit"))
 
 
 def tell(used, wall, before, after):
     """Prints the table, the dearest edits and what the processors did."""
-    crates = [line.split("#")[0].split(":")[0].strip() for line in (TOP / "crates.txt").read_text().splitlines()]
     minutes = collections.Counter()
     for (crate, kind, _), seconds in used.items():
         minutes[crate, kind] += seconds / 60
-    print("| Crate | Proof | Its tests and their proof | Edits | Number |\n|---|---|---|---|---|")
-    for crate in filter(None, crates):
+    heads = ("Crate", "Proof", "Tests", "Edits, tried", *HEADS)
+    print(f"| {' | '.join(heads)} |\n|{'---|' * len(heads)}")
+    for crate in crates():
         cells = [f"{minutes[crate, kind]:.1f}" if minutes[crate, kind] >= 0.05 else "" for kind in KINDS]
-        print(f"| `{crate}` | {' | '.join(cells)} | {len(edits_of(crate)) or ''} |")
+        print(f"| `{crate}` | {' | '.join(cells)} | {' | '.join(map(str, size(crate)))} |")
     sums = [sum(it for (_, kind), it in minutes.items() if kind == wanted) for wanted in KINDS]
     print("\nIn sum, in minutes: " + ", ".join(f"{kind} {it:.1f}" for kind, it in zip(KINDS, sums)))
     dearest = sorted(((s, c, n) for (c, kind, n), s in used.items() if kind == "edits" and n.isdigit()), reverse=True)

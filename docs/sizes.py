@@ -1,12 +1,23 @@
 #!/usr/bin/env python3
-"""Prints the table of docs/GATE.md: each crate's functions, lines, must-fail edits and plants, in the order of crates.txt.
+"""Prints what docs/GATE.md has of each crate's size: functions, lines, must-fail edits and plants, in the order of crates.txt.
 
-    docs/sizes.py"""
+    docs/sizes.py
 
+`docs/gate_times.py` prints the same beside the times of the gate."""
+
+import collections
 import pathlib
 import re
 
 TOP = pathlib.Path(__file__).resolve().parent.parent
+HEADS = ("Functions", "src", "specs", "proofs", "Edits", "Plants")
+Size = collections.namedtuple("Size", "functions src specs proofs edits plants")
+
+
+def crates():
+    """The names of all crates, in the order of crates.txt."""
+    lines = (TOP / "crates.txt").read_text().splitlines()
+    return [name for name in (line.split("#")[0].split(":")[0].strip() for line in lines) if name]
 
 
 def lines(folder, pattern):
@@ -14,27 +25,34 @@ def lines(folder, pattern):
 
 
 def edits(folder):
-    return len(list(folder.glob("*.edit"))) if folder.is_dir() else 0
+    """The names of a folder's edits, in the order in which they are tried."""
+    return sorted(file.stem for file in folder.glob("*.edit")) if folder.is_dir() else []
+
+
+def edits_of(name):
+    return edits(TOP / "crates" / name / "must-fail")
+
+
+def size(name):
+    crate = TOP / "crates" / name
+    source = "".join(file.read_text() for file in (crate / "src").rglob("*.rt"))
+    return Size(
+        len(re.findall(r"^\s*(?:pub(?:\([a-z]+\))? )?fn ", source, re.M)),
+        lines(crate / "src", "*.rt"),
+        lines(crate / "specs", "*.antt"),
+        lines(crate / "proofs", "*.antt"),
+        len(edits_of(name)),
+        len(edits(TOP / "tests" / "plants" / name)),
+    )
 
 
 def main():
-    total = 0
-    print("| Crate | Functions | src | specs | proofs | must-fail edits | plants |")
-    print("|---|---|---|---|---|---|---|")
-    for line in (TOP / "crates.txt").read_text().splitlines():
-        name = line.split("#")[0].split(":")[0].strip()
-        if not name:
-            continue
-        crate = TOP / "crates" / name
-        source = "".join(file.read_text() for file in (crate / "src").rglob("*.rt"))
-        functions = len(re.findall(r"^\s*(?:pub(?:\([a-z]+\))? )?fn ", source, re.M))
-        count = edits(crate / "must-fail")
-        total += count
-        print(
-            f"| `{name}` | {functions} | {lines(crate / 'src', '*.rt')} | {lines(crate / 'specs', '*.antt')} |"
-            f" {lines(crate / 'proofs', '*.antt')} | {count} | {edits(TOP / 'tests' / 'plants' / name)} |"
-        )
-    print(f"\n{total} edits in all.")
+    print(f"| Crate | {' | '.join(HEADS)} |\n|{'---|' * (len(HEADS) + 1)}")
+    sizes = {name: size(name) for name in crates()}
+    for name, it in sizes.items():
+        print(f"| `{name}` | {' | '.join(map(str, it))} |")
+    print(f"\n{sum(it.edits for it in sizes.values())} edits in all, {sum(it.plants for it in sizes.values())} plants.")
 
 
-main()
+if __name__ == "__main__":
+    main()

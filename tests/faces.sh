@@ -1,12 +1,13 @@
 #!/usr/bin/env bash
-# Which crates look behind the face of another one.
+# Which crates look behind the face of another one, and how many names two crates or more define.
 #
-#     tests/faces.sh
+#     tests/faces.sh [--names]
 #
 # A crate of this repository may import another one's definitions (`specs/`) and the one proof file `Laws` (of `ub_bigmin` and
 # `ub_page`, which have a module `laws`, it is `BoxLaws` and `PageLaws`). It prints each line that imports another crate's other
 # proofs, or its `specs/inner`, and each that names a field `inner` in a crate over the tree that declares none. The status is 1
-# where there is such a line.
+# where there is such a line. Its last line counts the names that the definitions of two crates or more have, for one thing or for
+# two; with --names it lists them first. A proof that imports two such definitions must rename one.
 set -u
 
 crates=$(cd "$(dirname "$(readlink -f "${BASH_SOURCE[0]}")")/../crates" && pwd)
@@ -30,5 +31,14 @@ broken=$(
 )
 if [ -n "$broken" ]; then
     printf '%s\n' "$broken"
-    exit 1
 fi
+
+# The names of a crate's definitions, each once.
+defined() {
+    find "$1/specs" -name '*.antt' -exec grep -hoP '^(abbrev pub|unfoldable pub|pub record|pub data|pub) \K[A-Za-z][\w-]*(?= |$)' {} + |
+        grep -vxE 'mod|use|record|data' | sort -u
+}
+twice=$(for crate in ${names//|/ }; do [ -d "$crate/specs" ] && defined "$crate"; done | sort | uniq -d)
+[ "${1:-}" = --names ] && printf '%s\n' "$twice"
+echo "$(printf '%s\n' "$twice" | grep -c .) names are defined in two crates or more"
+[ -z "$broken" ]

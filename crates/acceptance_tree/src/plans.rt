@@ -2,7 +2,7 @@
 use crate::samples::plane;
 use crate::sweep::{by, planned};
 use std::alloc::Global;
-use ub_plan::Kind;
+use ub_planning::Kind;
 use ub_query::Item;
 
 // How SELECT COUNT(*) FROM t ORDER BY x reads the regions.

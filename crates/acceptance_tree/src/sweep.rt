@@ -7,7 +7,7 @@ ghost use Rattle.ub_query.specs.Shape.{asked};
 use crate::samples::{FIVE_ROWS, Store, plane, stored};
 use std::alloc::{AllocError, Global};
 use std::process::Abort;
-use ub_plan::{Plan, plan};
+use ub_planning::{Plan, plan};
 use ub_query::{Item, Items, Query, SortKey};
 use ub_store::StoreFault;
 use ub_table::Schema;

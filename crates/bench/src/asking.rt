@@ -4,7 +4,7 @@ ghost use Rattle.ub_query.specs.Shape.{asked, between, both, shape};
 
 use crate::fill::MemTree;
 use std::alloc::{AllocError, Global};
-use ub_plan::{Plan, plan};
+use ub_planning::{Plan, plan};
 use ub_query::{Cond, Item, Items, Query, SortKey};
 
 /// How many columns the table has.

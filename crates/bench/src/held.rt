@@ -4,7 +4,7 @@ use crate::asking::COLUMNS;
 use crate::fill::MemTree;
 use std::alloc::Global;
 use ub_exec::{ExecFault, execute};
-use ub_plan::Plan;
+use ub_planning::Plan;
 use ub_tetris::{Sweep, SweepFault};
 use ub_tree::{Region, TreeFault};
 

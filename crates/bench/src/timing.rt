@@ -4,7 +4,7 @@ use crate::asking::{COLUMNS, Question, planned};
 use crate::fill::MemTree;
 use crate::held::{Told, executed, scanned, swept, walked};
 use std::time::Instant;
-use ub_plan::Plan;
+use ub_planning::Plan;
 use ub_tetris::SweepFault;
 
 /// How often work is timed; the least counts, since what else the machine does only adds.

@@ -1,6 +1,6 @@
 -- How groups stand in the order asked.
-use Rattle.std.proofs.Common.{◌≡◌, ◌<◌, ◌+◌, ◌==◌, ◌<ℤ◌, ◌⊎◌, inl, inr, ℕ, suc, ℤ, Bool, true, ◌&&◌, cond, List, [], ◌∷◌, length, slice_index_or, Contains, refl, sym, ap, subst, arith, ◌∙◌}
-use Rattle.std.proofs.lemmas.Bool.{cases_Bool, and_parts, and_from, true≢false, eqb-true, eq-eqb}
+use Rattle.std.proofs.Common.{◌≡◌, ◌<◌, ◌+◌, ◌<ℤ◌, ◌⊎◌, inl, inr, ℕ, suc, ℤ, Bool, true, ◌&&◌, cond, List, [], ◌∷◌, length, slice_index_or, Contains, refl, sym, ap, subst, arith, rules, ◌∙◌}
+use Rattle.std.proofs.lemmas.Bool.{cases_Bool, true≢false}
 use Rattle.std.proofs.lemmas.Cmp.{int_ranked, int_cmp_total, lists_total, on_total}
 use Rattle.std.specs.Cmp.{IsTotalOrder}
 use Rattle.std.specs.Cmp.Lexicographic.{slice_cmp}
@@ -8,17 +8,15 @@ use Rattle.std.specs.Ordering.{int_cmp, int_eq, is_eq, ordering_then}
 use Rattle.std.specs.declared.cmp.Ordering.{Ordering}
 use Rattle.std.specs.declared.cmp.Ordering.TheVariants.{Less, Equal, Greater}
 use Rattle.ub_answer.proofs.CompareFacts.{keys_total}
-use Rattle.ub_answer.specs.Groups.{values_cmp, same_taken, same_item, cell_from, Entry, entry_cmp}
+use Rattle.ub_answer.specs.Groups.{values_cmp, cell_from, Entry, entry_cmp}
 use Rattle.ub_answer.specs.declared.groups.Values.{Values}
 use Rattle.ub_query.proofs.Laws.{contains_cases}
 use Rattle.ub_query.specs.Groups.{are_same}
 use Rattle.ub_query.specs.Order.{AreBelow}
 use Rattle.ub_query.specs.declared.cell.Cell.{Cell}
 use Rattle.ub_query.specs.declared.cell.Cell.TheVariants.{Null}
-use Rattle.ub_query.specs.declared.query.Aggregate.{Aggregate as Taken}
-use Rattle.ub_query.specs.declared.query.Aggregate.TheVariants.{Sum, Min, Max}
+use Rattle.ub_query.specs.contracts.query.ItemPartialEq.TheImpl as derived
 use Rattle.ub_query.specs.declared.query.Item.{Item}
-use Rattle.ub_query.specs.declared.query.Item.TheVariants.{Column, Count, Aggregate}
 use Rattle.ub_query.specs.declared.query.SortKey.{SortKey}
 
 -- ---- values
@@ -57,53 +55,25 @@ less-are-below (x ∷ xs) (y ∷ ys) long e = by_first (int_cmp x y) refl e (λ 
 
 -- ---- items
 
-same_taken-is : (s t : Taken) → same_taken s t ≡ true → s ≡ t
-same_taken-is Sum Sum e = refl
-same_taken-is Sum Min e = absurd (true≢false (sym e))
-same_taken-is Sum Max e = absurd (true≢false (sym e))
-same_taken-is Min Sum e = absurd (true≢false (sym e))
-same_taken-is Min Min e = refl
-same_taken-is Min Max e = absurd (true≢false (sym e))
-same_taken-is Max Sum e = absurd (true≢false (sym e))
-same_taken-is Max Min e = absurd (true≢false (sym e))
-same_taken-is Max Max e = refl
+same_item-is : (a b : Item) → derived.eq-value.it a b ≡ true → a ≡ b
+same_item-is a b e = search rules
 
-same_taken-itself : (t : Taken) → same_taken t t ≡ true
-same_taken-itself Sum = refl
-same_taken-itself Min = refl
-same_taken-itself Max = refl
-
-same_item-is : (a b : Item) → same_item a b ≡ true → a ≡ b
-same_item-is (Column a) (Column b) e = ap Column (eqb-true a b e)
-same_item-is (Column a) Count e = absurd (true≢false (sym e))
-same_item-is (Column a) (Aggregate t b) e = absurd (true≢false (sym e))
-same_item-is Count (Column b) e = absurd (true≢false (sym e))
-same_item-is Count Count e = refl
-same_item-is Count (Aggregate t b) e = absurd (true≢false (sym e))
-same_item-is (Aggregate s a) (Column b) e = absurd (true≢false (sym e))
-same_item-is (Aggregate s a) Count e = absurd (true≢false (sym e))
-same_item-is (Aggregate s a) (Aggregate t b) e =
-    let p = and_parts (same_taken s t) (a == b) e in
-    ap (λ (u : Taken). Aggregate u a) (same_taken-is s t p.0) ∙ ap (λ (n : ℕ). Aggregate t n) (eqb-true a b p.1)
-
-same_item-itself : (a : Item) → same_item a a ≡ true
-same_item-itself (Column a) = eq-eqb a a refl
-same_item-itself Count = refl
-same_item-itself (Aggregate t a) = and_from (same_taken t t) (a == a) (same_taken-itself t) (eq-eqb a a refl)
+same_item-itself : (a : Item) → derived.eq-value.it a a ≡ true
+same_item-itself a = search rules
 
 -- the cell for an item of a list is what each place shows of its item
 pub cell_from-is : (place : ℕ) (items : List Item) (cells : List Cell) (item : Item) (f : Item → Cell)
     → ((k : ℕ) (d : Item) (e : Cell) → k < length items → slice_index_or cells (place + k) e ≡ f (slice_index_or items k d)) → Contains items item
     → cell_from place items cells item ≡ f item
 cell_from-is place [] cells item f shown (k, within, is) = absurd (omega arith)
-cell_from-is place (other ∷ items) cells item f shown here = elim (cases_Bool (same_item other item)) [
+cell_from-is place (other ∷ items) cells item f shown here = elim (cases_Bool (derived.eq-value.it other item)) [
   | inl same ↦
       let zero_more : place + 0 ≡ place = omega arith in
       ap (λ (b : Bool). cond b (slice_index_or cells place Null) (cell_from (place + 1) items cells item)) same
       ∙ ap (λ (n : ℕ). slice_index_or cells n Null) (sym zero_more) ∙ shown 0 item Null (omega arith) ∙ ap f (same_item-is other item same)
   | inr apart ↦
       let there : Contains items item = elim (contains_cases other items item here) [
-        | inl e ↦ absurd (true≢false (sym (subst (λ (i : Item). same_item i item ≡ true) (sym e) (same_item-itself item)) ∙ apart))
+        | inl e ↦ absurd (true≢false (sym (subst (λ (i : Item). derived.eq-value.it i item ≡ true) (sym e) (same_item-itself item)) ∙ apart))
         | inr c ↦ c
       ] in
       ap (λ (b : Bool). cond b (slice_index_or cells place Null) (cell_from (place + 1) items cells item)) apart

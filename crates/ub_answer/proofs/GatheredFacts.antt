@@ -1,5 +1,5 @@
 -- Which rows a gathering has taken, and how many there can be.
-use Rattle.std.proofs.Common.{◌≡◌, ◌<◌, ◌≤◌, ◌+◌, inl, inr, ℕ, zero, suc, List, [], ◌∷◌, Option, length, map, slice_index, slice_index_or, Bool, true, nat_eq, IsPermutation, Contains, add-one, refl, sym, subst, arith, ◌∙◌}
+use Rattle.std.proofs.Common.{◌≡◌, ◌<◌, ◌≤◌, ◌+◌, ℕ, zero, suc, List, [], ◌∷◌, Option, length, map, slice_index, slice_index_or, Bool, true, nat_eq, IsPermutation, add-one, refl, sym, subst, arith, ◌∙◌}
 use Rattle.std.proofs.lemmas.Bool.{eqb-true}
 use Rattle.std.proofs.lemmas.List.{length-map}
 use Rattle.std.proofs.lemmas.List.Elements.{All-map}
@@ -9,7 +9,7 @@ use Rattle.std.specs.List.{All}
 use Rattle.std.specs.List.Sorted.{IsStrictlyIncreasing}
 use Rattle.ub_answer.specs.Tally.{many}
 use Rattle.ub_query.specs.Groups.{selected, is_selected}
-use Rattle.ub_query.specs.Posed.{IsGroupQuery, IsAggregate, IsGrouped}
+use Rattle.ub_query.specs.Posed.{IsAggregate, IsGrouped}
 use Rattle.ub_query.specs.Shape.{Asked, Shape}
 use Rattle.ub_query.specs.declared.query.Item.{Item}
 use Rattle.ub_query.specs.declared.query.Item.TheVariants.{Column, Count, Aggregate}
@@ -59,11 +59,6 @@ all_aggregates q none all k d below =
     aggregate (Column column) (k, within, is) = absurd (omega arith)
     aggregate Count here = tt
     aggregate (Aggregate taken column) here = tt
-
--- the kind of a query
-pub rows_asked : (q : Asked) → q.group ≡ [] → ¬ ((item : Item) × Contains q.items item × IsAggregate item) → ¬ IsGroupQuery q
-rows_asked q none plain (inl some) = some none
-rows_asked q none plain (inr aggregate) = plain aggregate
 
 pub none_there : (seen columns : List ℕ) (b : Bool) → seen ≡ columns → b ≡ nat_eq (length seen) 0 → b ≡ true → columns ≡ []
 none_there [] columns b same is holds = sym same

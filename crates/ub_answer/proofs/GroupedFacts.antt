@@ -4,7 +4,7 @@ use Rattle.std.proofs.lemmas.Bool.{cases_Bool, true≢false, eqb-true, eq-eqb}
 use Rattle.std.proofs.lemmas.Cmp.{eq_by_cmp_equiv, int_eq_equiv, lists_equiv, on_equiv, on_total}
 use Rattle.std.proofs.lemmas.List.{length-append, length-map, get_or_default}
 use Rattle.std.proofs.lemmas.List.Elements.{filter-append, recursion_from_All}
-use Rattle.std.proofs.lemmas.List.Sorted.{IsPermutation-map, IsPermutation-sym, Contains-permutation}
+use Rattle.std.proofs.lemmas.List.Sorted.{IsPermutation-map, IsPermutation-refl, IsPermutation-sym, Contains-permutation, length_permutation}
 use Rattle.std.proofs.lemmas.List.Sums.{length-filter, count_by-le-length}
 use Rattle.std.proofs.lemmas.Map.Entries.{lookup_from_place, place_from_lookup}
 use Rattle.std.proofs.lemmas.Option.{slice_get_read}
@@ -27,7 +27,7 @@ use Rattle.ub_answer.specs.Cut.{cut}
 use Rattle.ub_answer.specs.Groups.{values_cmp, values_eq, cells_at, IsGroupAt, HoldsGroups, AddsRow, Entry, entry_of, entry_cmp, cell_from}
 use Rattle.ub_answer.specs.Tally.{AreOfNone, of_none, with_row, IsNarrow, IsShown, AreShown, many}
 use Rattle.ub_answer.specs.declared.groups.Values.{Values}
-use Rattle.ub_query.proofs.Laws.{Rising, Rising-map, Rising-mapped, Rising-both, adjacent-from_Rising, contains_cases, contains_none, all_permutation, all_from_contains, all_weaker, are_same-true, are_same-itself, contains_map, contains_filter, contains_from_filter, grouping_from, whole_groups, cells-alike, IsWhole}
+use Rattle.ub_query.proofs.Laws.{Rising, Rising-map, Rising-mapped, Rising-both, adjacent-from_Rising, contains_cases, contains_none, all_permutation, all_from_contains, all_weaker, are_same-true, are_same-itself, contains_map, contains_filter, contains_from_filter, grouping_from, groups_have_an_arrangement, groups_have_one_arrangement, whole_groups, cells-alike, IsWhole}
 use Rattle.ub_query.specs.Cells.{Group, group_cell, value_among}
 use Rattle.ub_query.specs.Groups.{selected, values_of, are_same, rows_with, IsGrouping, AreGroups}
 use Rattle.ub_query.specs.Meaning.{IsGroupMeaning, limited}
@@ -412,6 +412,20 @@ grouped_meaning table q taken groups refs sorted shown items order cells items_a
           ∙ ap (λ (xs : List Item). cut (length (limited q.limit sorted)) (length xs) (flat_map (λ r. take (length xs) r.1.now) (limited q.limit sorted))) items_are
           ∙ cut_cells table.schema q.group q.items q.order rows taken same q.limit sorted fits all;
     }
+
+-- one entry is held for each group of the rows taken
+pub held_once : (schema : Schema) (columns : List ℕ) (items : List Item) (taken : List Row) (entries : List Entry) (groups : List Group) → columns ≢ []
+    → length taken < many → HoldsGroups schema columns items taken entries → IsDistinct values_eq (keys_of entries) → AreGroups schema columns taken groups
+    → length entries ≡ length groups
+held_once schema columns items taken entries groups some few held ordered theirs =
+    let mine = map (group_of schema columns items [] taken taken (IsPermutation-refl taken)) entries in
+    let are : AreGroups schema columns taken mine =
+    are_groups schema columns taken mine some (grouping schema columns items [] taken taken (IsPermutation-refl taken) entries ordered few held) in
+    let (first, a) = groups_have_an_arrangement schema columns [] taken mine are in
+    let (second, b) = groups_have_an_arrangement schema columns [] taken groups theirs in
+    let one : first ≡ second = groups_have_one_arrangement schema columns [] taken mine groups first second are theirs a b in
+    let lengths : length first ≡ length second = ap length one in
+    omega (arith, length-map entries (group_of schema columns items [] taken taken (IsPermutation-refl taken)), length_permutation mine first a.same, length_permutation groups second b.same, lengths)
 
 -- the cells of a group that isn't there yet
 pub was_none : (items : List Item) (o : Option (List Cell)) (cells : List Cell) → None ≡ o → AreOfNone items cells

@@ -1,5 +1,5 @@
 -- What is held of the groups of the rows taken, and how groups stand in the order asked.
-use Rattle.std.specs.Prelude.{◌≡◌, ◌≢◌, ◌<◌, ◌+◌, ◌==◌, ◌&&◌, ℕ, Bool, true, false, cond, if◌then◌else◌, List, [], ◌∷◌, length, Option, Some, None, MatchOption, slice_index_or, take}
+use Rattle.std.specs.Prelude.{◌≡◌, ◌≢◌, ◌<◌, ◌+◌, ℕ, Bool, cond, if◌then◌else◌, List, [], ◌∷◌, length, Option, Some, None, MatchOption, slice_index_or, take}
 use Rattle.std.specs.Cmp.Lexicographic.{pointwise, slice_cmp}
 use Rattle.std.specs.List.{All, flat_map}
 use Rattle.std.specs.Map.{lookup}
@@ -13,10 +13,8 @@ use Rattle.ub_query.specs.Cells.{Group}
 use Rattle.ub_query.specs.Groups.{rows_with}
 use Rattle.ub_query.specs.declared.cell.Cell.{Cell}
 use Rattle.ub_query.specs.declared.cell.Cell.TheVariants.{Null}
-use Rattle.ub_query.specs.declared.query.Aggregate.{Aggregate as Taken}
-use Rattle.ub_query.specs.declared.query.Aggregate.TheVariants.{Sum, Min, Max}
+use Rattle.ub_query.specs.contracts.query.ItemPartialEq.TheImpl as derived
 use Rattle.ub_query.specs.declared.query.Item.{Item}
-use Rattle.ub_query.specs.declared.query.Item.TheVariants.{Column, Count, Aggregate}
 use Rattle.ub_query.specs.declared.query.SortKey.{SortKey}
 use Rattle.ub_table.specs.declared.row.Row.{Row}
 use Rattle.ub_table.specs.declared.schema.Schema.{Schema}
@@ -67,32 +65,10 @@ pub record AddsRow (schema : Schema) (items : List Item) (row : Row) (values : V
 
 -- ---- the order asked
 
-abbrev pub same_taken : Taken → Taken → Bool
-same_taken Sum Sum = true
-same_taken Sum Min = false
-same_taken Sum Max = false
-same_taken Min Sum = false
-same_taken Min Min = true
-same_taken Min Max = false
-same_taken Max Sum = false
-same_taken Max Min = false
-same_taken Max Max = true
-
-abbrev pub same_item : Item → Item → Bool
-same_item (Column a) (Column b) = a == b
-same_item (Column a) Count = false
-same_item (Column a) (Aggregate t b) = false
-same_item Count (Column b) = false
-same_item Count Count = true
-same_item Count (Aggregate t b) = false
-same_item (Aggregate s a) (Column b) = false
-same_item (Aggregate s a) Count = false
-same_item (Aggregate s a) (Aggregate t b) = same_taken s t && a == b
-
--- the cell for an item, of cells from this place on for these items
+-- the cell for an item, of cells from this place on for these items; two items are compared by their derived `==`
 abbrev pub cell_from : ℕ → List Item → List Cell → Item → Cell
 cell_from place [] cells item = Null
-cell_from place (other ∷ items) cells item = if same_item other item then slice_index_or cells place Null else cell_from (place + 1) items cells item
+cell_from place (other ∷ items) cells item = if derived.eq-value.it other item then slice_index_or cells place Null else cell_from (place + 1) items cells item
 
 abbrev pub entry_of : Bor Values × Bor (List Cell) → Entry
 entry_of e = (e.0.now, e.1.now)

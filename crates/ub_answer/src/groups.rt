@@ -1,25 +1,26 @@
 ghost use Rattle.std.specs.Prelude.{◌≡◌, ◌≢◌, ◌+◌, ◌<◌, ◌≤◌, ◌∷◌, ◌++◌, [], ℕ, List, Option, length, map, take, IfOk, OnOk};
 ghost use Rattle.std.specs.HashMap.{IsUnique};
 ghost use Rattle.std.specs.List.{All, Contains, flat_map};
-ghost use Rattle.std.specs.List.Sorted.{IsPermutation, IsSorted};
+ghost use Rattle.std.specs.List.Sorted.{IsPermutation};
 ghost use Rattle.ub_answer.specs.Groups as spec;
 ghost use Rattle.ub_answer.specs.Held.{IsArranged};
 ghost use Rattle.ub_answer.specs.Tally.{many};
-ghost use Rattle.ub_query.specs.Groups.{selected, values_of};
+ghost use Rattle.ub_query.specs.Cells.{Group};
+ghost use Rattle.ub_query.specs.Groups.{AreGroups, selected, values_of};
 ghost use Rattle.ub_query.specs.Meaning.{IsGroupMeaning, limited};
 ghost use Rattle.ub_query.specs.Posed.{IsItemOver, IsGrouped};
+ghost use Rattle.ub_query.specs.contracts.query.ItemPartialEq.TheImpl as derived;
 ghost use Rattle.ub_query.specs.Shape.{Shape, asked};
 ghost use Rattle.ub_table.specs.Table.{Table};
 
 use crate::cells::Cells;
-use crate::order::compare_by;
+use crate::order::{arrange, compare_by};
 use crate::tally::{MAX_ITEMS, Tally, add_row, tally_of_none};
-use crate::values::value_in;
 use smallvec::SmallVec;
 use std::alloc::{AllocError, Global};
 use std::cmp::Ordering;
 use std::collections::HashMap;
-use ub_query::{Aggregate, Cell, Item, Query, SortKey};
+use ub_query::{Cell, Item, Query, SortKey};
 use ub_table::{Row, Schema};
 
 /// The values that the rows of a group share, in the order of the group columns.
@@ -30,16 +31,16 @@ pub struct Values {
 
 /// What a query with GROUP BY shows of the rows taken: one entry for each group. No row is held.
 #[derive(Drop)]
-pub struct GroupTaker {
+pub struct CollectedGroups {
     groups: HashMap<Values, Tally>,
 }
 
-impl GroupTaker {
+impl CollectedGroups {
     /// No row is taken yet. Takes no memory.
-    pub fn new(alloc: Global) -> GroupTaker
+    pub fn new(alloc: Global) -> CollectedGroups
         ensures { result.groups.entries ≡ [] }
     {
-        GroupTaker {
+        CollectedGroups {
             groups: HashMap::new(alloc),
         }
     }
@@ -74,7 +75,7 @@ impl GroupTaker {
     /// The answer: the groups in the order asked, the first n where LIMIT n stands, each as its cells.
     pub fn finish(self, alloc: Global, query: &Query) -> Result<Cells, AllocError>
         requires { length query.now.items ≤ MAX_ITEMS }
-        ensures { (table : Table) (filter : Option Shape) (taken : List _)
+        ensures answer { (table : Table) (filter : Option Shape) (taken : List _)
             → query.now.group ≢ [] → length taken < many
             → All (λ key. Contains query.now.items key.item) query.now.order
             → IsPermutation (selected table filter) taken
@@ -82,10 +83,15 @@ impl GroupTaker {
             self.groups.entries
             → IfOk result
             (λ cells. IsGroupMeaning table (record (asked query.now) { filter = filter }) cells) }
+        ensures held { (schema : _) (taken : List _) (groups : List Group)
+            → query.now.group ≢ [] → length taken < many
+            → spec.HoldsGroups schema query.now.group query.now.items taken self.groups.entries
+            → AreGroups schema query.now.group taken groups
+            → length self.groups.entries ≡ length groups }
     {
         let items = query.items.as_slice();
         let mut entries = entries_of(alloc, &self.groups)?;
-        arrange(&mut entries, items, query.order.as_slice(), query.limit);
+        arrange_entries(&mut entries, items, query.order.as_slice(), query.limit);
         cells_of_entries(alloc, items, entries.as_slice())
     }
 }
@@ -102,7 +108,7 @@ fn values_of(
 {
     let mut all = SmallVec::new(alloc);
     for column in columns {
-        all.push(value_in(schema, row, *column))?;
+        all.push(schema.value_of(row, *column))?;
     }
     Ok(Values { all })
 }
@@ -143,26 +149,9 @@ fn entries_of(
 
 // Whether two items are the same.
 fn is_same(a: Item, b: Item) -> bool
-    ensures { result ≡ spec.same_item a b }
+    ensures { result ≡ derived.eq-value.it a b }
 {
-    match (a, b) {
-        (Item::Column(a), Item::Column(b)) => a == b,
-        (Item::Count, Item::Count) => true,
-        (Item::Aggregate(first, a), Item::Aggregate(second, b)) => is_same_taken(first, second)
-            && a == b,
-        _ => false,
-    }
-}
-
-fn is_same_taken(a: Aggregate, b: Aggregate) -> bool
-    ensures { result ≡ spec.same_taken a b }
-{
-    match (a, b) {
-        (Aggregate::Sum, Aggregate::Sum)
-        | (Aggregate::Min, Aggregate::Min)
-        | (Aggregate::Max, Aggregate::Max) => true,
-        _ => false,
-    }
+    a == b
 }
 
 // The cell of a group for one of the items.
@@ -199,17 +188,8 @@ fn compare_entries(
     a.0.cmp(b.0)
 }
 
-// Puts groups into the order asked.
-fn sort_entries(entries: &mut Vec<(&Values, &Tally)>, items: &[Item], keys: &[SortKey])
-    requires { length items.now ≤ MAX_ITEMS }
-    ensures same { IsPermutation entries.old.items entries.new.items }
-    ensures sorted { IsSorted (spec.lent_cmp items.now keys.now) entries.new.items }
-{
-    entries.sort_unstable_by(|a, b| compare_entries(items, keys, a, b));
-}
-
 // Puts groups into the order asked, and lets all but the first n go where LIMIT n stands.
-fn arrange(
+fn arrange_entries(
     entries: &mut Vec<(&Values, &Tally)>,
     items: &[Item],
     keys: &[SortKey],
@@ -219,10 +199,7 @@ fn arrange(
     ensures { IsArranged (spec.lent_cmp items.now keys.now) limit entries.old.items
         entries.new.items }
 {
-    sort_entries(entries, items, keys);
-    if let Some(most) = limit {
-        entries.truncate(most as usize);
-    }
+    arrange(entries, |a, b| compare_entries(items, keys, a, b), limit);
 }
 
 // The cells of each group, one after the other.

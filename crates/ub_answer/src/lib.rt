@@ -3,8 +3,8 @@
 // A gathering holds what its answer needs and no more: `rows` those of a query of rows, with LIMIT n not many
 // more than n of them; `totals` the cells of aggregates over all rows; `groups` the cells of each group. So
 // memory grows with the answer and not with the table. `tally` takes a row into the cells of a group, `order`
-// compares entries by the keys of a query, and `cells` is the answer. No tree and no page is known here, and
-// what a query means stands in `ub_query`.
+// compares entries by the keys of a query, and `cells` is the answer. To whoever finds the rows a gathering is a
+// `RowSink` (`sink`). No tree and no page is known here, and what a query means stands in `ub_query`.
 #![tactic(auto)]
 
 pub mod cells;
@@ -12,6 +12,7 @@ pub mod gathering;
 mod groups;
 mod order;
 mod rows;
+mod sink;
 mod tally;
 mod totals;
 mod values;

@@ -1,7 +1,7 @@
-ghost use Rattle.std.specs.Prelude.{◌≡◌, length};
+ghost use Rattle.std.specs.Prelude.{◌≡◌, ◌≤◌, length, IfSome};
 ghost use Rattle.std.specs.List.{All};
-ghost use Rattle.std.specs.List.Sorted.{IsPermutation, IsSorted};
 ghost use Rattle.ub_answer.specs.Compare as spec;
+ghost use Rattle.ub_answer.specs.Held.{IsArrangedBy};
 ghost use Rattle.ub_query.specs.Posed.{IsItemOver};
 
 use crate::values::row_cell;
@@ -48,11 +48,18 @@ pub fn compare_rows(schema: &Schema, keys: &[SortKey], a: &Row, b: &Row) -> Orde
     a.number.cmp(&b.number)
 }
 
-/// Puts rows into the order asked.
-pub fn sort_rows(rows: &mut Vec<Row>, schema: &Schema, keys: &[SortKey])
-    requires { All (λ key. IsItemOver (length schema.now.columns) key.item) keys.now }
-    ensures same { IsPermutation rows.old.items rows.new.items }
-    ensures sorted { IsSorted (spec.row_cmp schema.now keys.now) rows.new.items }
+/// Puts entries into the order in which a comparison stands them, and lets all but the first n go where LIMIT n stands.
+pub fn arrange<E: Drop, F: FnMut(&E, &E) -> Ordering>(
+    entries: &mut Vec<E>,
+    compare: F,
+    limit: Option<u64>,
+)
+    requires { F.IsAlwaysCallable compare }
+    ensures arranged { IsArrangedBy F.FnMut compare limit entries.old.items entries.new.items }
+    ensures few { IfSome limit (λ n. length entries.new.items ≤ n) }
 {
-    rows.sort_unstable_by(|a, b| compare_rows(schema, keys, a, b));
+    entries.sort_unstable_by(compare);
+    if let Some(most) = limit {
+        entries.truncate(most as usize);
+    }
 }

@@ -1,7 +1,7 @@
 ghost use Rattle.std.specs.Prelude.{◌≡◌, ◌+◌, ◌≤◌, ◌∷◌, ◌++◌, [], ℕ, List, Option, length, map, take, IfOk, OnOk, IfSome, IsTrue, Some, None};
 ghost use Rattle.std.specs.List.{All};
 ghost use Rattle.std.specs.declared.cmp.Ordering.TheVariants.{Less};
-ghost use Rattle.std.specs.List.Sorted.{IsPermutation, IsSorted};
+ghost use Rattle.std.specs.List.Sorted.{IsPermutation};
 ghost use Rattle.ub_answer.specs.Compare.{row_cmp, lines};
 ghost use Rattle.ub_answer.specs.Held.{HoldsRows, IsArranged, StayFew, most_held};
 ghost use Rattle.ub_query.specs.Cells as sql;
@@ -12,7 +12,7 @@ ghost use Rattle.ub_query.specs.Shape.{Shape, asked};
 ghost use Rattle.ub_table.specs.Table.{Table, IsInOrder};
 
 use crate::cells::Cells;
-use crate::order::{compare_rows, sort_rows};
+use crate::order::{arrange, compare_rows};
 use crate::values::row_cell;
 use std::alloc::{AllocError, Global};
 use ub_query::{Cell, Item, Query, SortKey};
@@ -20,19 +20,19 @@ use ub_table::{Row, Schema};
 
 /// The rows that a query of rows was given, or with LIMIT n not many more than n of them.
 #[derive(Drop)]
-pub struct RowTaker {
+pub struct CollectedRows {
     rows: Vec<Row>,
     // With LIMIT n a row after which none is needed, since n of those held don't stand after it.
     last: Option<Row>,
 }
 
-impl RowTaker {
+impl CollectedRows {
     /// No row is taken yet. Takes no memory.
-    pub fn new(alloc: Global) -> RowTaker
+    pub fn new(alloc: Global) -> CollectedRows
         ensures rows { result.rows.items ≡ [] }
         ensures last { result.last ≡ None }
     {
-        RowTaker {
+        CollectedRows {
             rows: Vec::new(alloc),
             last: None,
         }
@@ -72,7 +72,7 @@ impl RowTaker {
             return;
         };
         if most_held(most) <= self.rows.len() as u64 {
-            arrange(&mut self.rows, schema, query.order.as_slice(), Some(most));
+            arrange_rows(&mut self.rows, schema, query.order.as_slice(), Some(most));
             self.last = self.rows.as_slice().last().copied();
         }
     }
@@ -90,22 +90,19 @@ impl RowTaker {
             (record (asked query.now) { filter = filter }) cells) }
     {
         let mut rows = self.rows;
-        arrange(&mut rows, schema, query.order.as_slice(), query.limit);
+        arrange_rows(&mut rows, schema, query.order.as_slice(), query.limit);
         cells_of_rows(alloc, schema, query.items.as_slice(), rows.as_slice())
     }
 }
 
 // Puts rows into the order asked, and lets all but the first n go where LIMIT n stands.
-fn arrange(rows: &mut Vec<Row>, schema: &Schema, keys: &[SortKey], limit: Option<u64>)
+fn arrange_rows(rows: &mut Vec<Row>, schema: &Schema, keys: &[SortKey], limit: Option<u64>)
     requires { All (λ key. IsItemOver (length schema.now.columns) key.item) keys.now }
     ensures arranged { IsArranged (row_cmp schema.now keys.now) limit rows.old.items
         rows.new.items }
     ensures few { IfSome limit (λ n. length rows.new.items ≤ n) }
 {
-    sort_rows(rows, schema, keys);
-    if let Some(most) = limit {
-        rows.truncate(most as usize);
-    }
+    arrange(rows, |a, b| compare_rows(schema, keys, a, b), limit);
 }
 
 // Whether a row stands after the one after which none is needed.

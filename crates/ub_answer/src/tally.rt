@@ -3,7 +3,6 @@ ghost use Rattle.std.specs.List.{All};
 ghost use Rattle.ub_answer.specs.Tally as spec;
 ghost use Rattle.ub_query.specs.Posed.{IsItemOver};
 
-use crate::values::value_in;
 use ub_query::{Aggregate, Cell, Item};
 use ub_table::{Row, Schema};
 
@@ -55,10 +54,10 @@ fn with_row(cell: Cell, schema: &Schema, item: Item, row: &Row) -> Cell
     ensures narrow { spec.IsNarrow schema.now row.now item }
 {
     match item {
-        Item::Column(column) => Cell::Number(i128::from(value_in(schema, row, column))),
+        Item::Column(column) => Cell::Number(i128::from(schema.value_of(row, column))),
         Item::Count => plus(cell, 1),
         Item::Aggregate(aggregate, column) => {
-            taken_in(aggregate, cell, value_in(schema, row, column))
+            taken_in(aggregate, cell, schema.value_of(row, column))
         }
     }
 }

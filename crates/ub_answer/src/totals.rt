@@ -16,17 +16,17 @@ use ub_table::{Row, Schema};
 
 /// What a query shows of all rows taken, where it has aggregates and no GROUP BY. No row is held.
 #[derive(Drop)]
-pub struct TotalTaker {
+pub struct CollectedTotals {
     tally: Tally,
 }
 
-impl TotalTaker {
+impl CollectedTotals {
     /// No row is taken yet. Takes no memory.
-    pub fn new(query: &Query) -> TotalTaker
+    pub fn new(query: &Query) -> CollectedTotals
         requires { length query.now.items ≤ MAX_ITEMS }
         ensures { (schema : _) → HoldsTotals schema query.now.items [] result.tally }
     {
-        TotalTaker {
+        CollectedTotals {
             tally: tally_of_none(query.items.as_slice()),
         }
     }

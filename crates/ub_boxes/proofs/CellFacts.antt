@@ -6,7 +6,7 @@ use Rattle.std.specs.List.{flat_map}
 use Rattle.ub_bigmin.specs.Box.{Corners, IsInside}
 use Rattle.ub_boxes.proofs.TruthFacts.{Agree}
 use Rattle.ub_boxes.specs.Boxes.{join, runs, beside, nowhere, boxes_on}
-use Rattle.ub_boxes.specs.Cuts.{greatest}
+use Rattle.ub_table.specs.Value.{greatest}
 use Rattle.ub_boxes.specs.Grid.{intervals}
 use Rattle.ub_boxes.specs.declared.interval.Interval.{Interval}
 use Rattle.ub_boxes.specs.inner.Sides.{AreCuts, AreFrom}

@@ -1,10 +1,15 @@
 -- How the cuts of a condition are put together.
-use Rattle.std.proofs.Common.{◌≡◌, ◌≢◌, ◌≤◌, ◌<◌, ◌+◌, ◌-◌, ◌==◌, ℕ, zero, suc, List, [], ◌∷◌, ◌++◌, Option, Some, None, true, false, nat_le, nat_lt, ℤ, slice_index, get_or, length, refl, sym, ap, arith, ◌∙◌, inl, inr, rules}
+use Rattle.std.proofs.Common.{◌≡◌, ◌≢◌, ◌≤◌, ◌<◌, ◌+◌, ◌-◌, ◌==◌, ℕ, zero, suc, List, [], ◌∷◌, ◌++◌, Option, Some, None, true, false, nat_le, nat_lt, ℤ, pos, negsuc, ◌+ℤ◌, ◌^◌, slice_index, get_or, length, refl, sym, ap, arith, ◌∙◌, inl, inr, rules}
 use Rattle.std.specs.List.{position_from, insert}
-use Rattle.std.proofs.lemmas.Bool.{cases_Bool}
-use Rattle.ub_boxes.specs.Cuts.{greatest, cut_of, put, put_some, put_cuts, cuts, turns}
+use Rattle.std.proofs.lemmas.Bool.{cases_Bool, cases_lt}
+use Rattle.std.proofs.lemmas.Int.{ints}
+use Rattle.std.specs.Int.{saturate_signed, w128}
+use mir.Val.{SFits}
+use Rattle.ub_boxes.specs.Cuts.{above_least, cut_of, put, put_some, put_cuts, cuts, turns}
 use Rattle.ub_boxes.specs.inner.Sides.{AreCuts}
 use Rattle.ub_query.specs.Shape.{Shape}
+use Rattle.ub_table.proofs.Laws.{coordinates_are_values, no_coordinate}
+use Rattle.ub_table.specs.Value.{coordinate, greatest}
 use Rattle.ub_table.specs.declared.schema.Schema.{Schema}
 
 pub put_cuts_append : (schema : Schema) (dim : ℕ) (xs ys : List ℤ) (ms : List ℕ)
@@ -95,15 +100,32 @@ put-keeps low n (m ∷ ms) lt le h = elim (cases_Bool (nat_lt n m)) [
   ]
 ]
 
-cut_of-fits : (schema : Schema) (dim : ℕ) (v : ℤ) (n : ℕ) → cut_of schema dim v ≡ Some n → (0 < n) × (n ≤ greatest)
-cut_of-fits schema dim (ℤ.pos m) n e = elim (cases_Bool (nat_lt 0 m)) [
-  | inl a ↦ elim (cases_Bool (nat_le m greatest)) [
-    | inl b ↦ let h = rw (a, b) at e in let same : m ≡ n = cc in (search (rules, a, same), search (rules, b, same))
-    | inr f ↦ let h = rw (a, f) at e in cc
-  ]
+above_is : (o : Option ℕ) (n : ℕ) → above_least o ≡ Some n → (0 < n) × (o ≡ Some n)
+above_is None n e = cc
+above_is (Some m) n e = elim (cases_Bool (nat_lt 0 m)) [
+  | inl a ↦ let h = rw a at e in let same : m ≡ n = cc in (search (rules, a, same), ap (λ (k : ℕ). Some k) same)
   | inr f ↦ let h = rw f at e in cc
 ]
-cut_of-fits schema dim (ℤ.negsuc m) n e = cc
+
+cut_of-fits : (schema : Schema) (dim : ℕ) (v : ℤ) (n : ℕ) → cut_of schema dim v ≡ Some n → (0 < n) × (n ≤ greatest)
+cut_of-fits schema dim v n e =
+    let above = above_is (coordinate schema dim v) n e in
+    (above.0, ((coordinates_are_values schema.dims dim n v).0 above.1).0)
+
+-- the cut after a value, where the value after it is the greatest that 128 bits with sign hold or less
+pub cut_after : (schema : Schema) (dim : ℕ) (v w : ℤ) → SFits w128 v → w ≡ saturate_signed w128 (v +ℤ pos 1) → cut_of schema dim w ≡ cut_of schema dim (v +ℤ pos 1)
+cut_after schema dim (pos n) w fits is = elim (cases_lt (n + 1) (2 ^ 127)) [
+  | inl lt ↦ ap (cut_of schema dim) (is ∙ ap pos (omega arith))
+  | inr ge ↦
+      let most : w ≡ pos 170141183460469231731687303715884105727 = is ∙ ap pos (omega arith) in
+      ap above_least (no_coordinate schema.dims dim w (omega (arith, ints, most)) ∙ sym (no_coordinate schema.dims dim (pos (n + 1)) (omega (arith, ints, ge))))
+]
+cut_after schema dim (negsuc zero) w fits is = ap (cut_of schema dim) (is ∙ refl)
+cut_after schema dim (negsuc (suc n)) w fits is =
+    let small : suc n < 2 ^ 127 = fits.sfits in
+    let next : negsuc (suc n) +ℤ pos 1 ≡ negsuc n = omega (arith, ints) in
+    let low : saturate_signed w128 (negsuc n) ≡ negsuc n = ap negsuc (omega (arith, small)) in
+    ap (cut_of schema dim) (is ∙ ap (saturate_signed w128) next ∙ low ∙ sym next)
 
 put_some-keeps : (schema : Schema) (dim : ℕ) (v : ℤ) (o : Option ℕ) (ms : List ℕ) → cut_of schema dim v ≡ o → AreCuts 0 ms → AreCuts 0 (put_some o ms)
 put_some-keeps schema dim v None ms e h = h

@@ -5,12 +5,13 @@ use Rattle.std.proofs.lemmas.List.{length-append}
 use Rattle.std.proofs.Math.Seq.{drop-cons}
 use Rattle.std.proofs.Math.Nat.{mul_assoc, mul_comm, mul-le-mul_right}
 use Rattle.ub_boxes.proofs.CutFacts.{are_cuts}
-use Rattle.ub_boxes.specs.Cuts.{greatest, cuts}
+use Rattle.ub_boxes.specs.Cuts.{cuts}
 use Rattle.ub_boxes.specs.Grid.{intervals, side, sides, grid, number_of_cells}
 use Rattle.ub_boxes.specs.declared.interval.Interval.{Interval}
 use Rattle.ub_boxes.specs.inner.Counts.{IsCountOf}
 use Rattle.ub_boxes.specs.inner.Sides.{AreCuts, AreFrom, AreSides}
 use Rattle.ub_query.specs.Shape.{Shape}
+use Rattle.ub_table.specs.Value.{greatest}
 use Rattle.ub_table.specs.declared.schema.Schema.{Schema}
 
 intervals-from : (low : ℕ) (ms : List ℕ) → AreCuts low ms → AreFrom low (intervals low ms)

@@ -1,9 +1,10 @@
 -- The laws of the boxes of a condition, as specs/Laws.antt states them.
-use Rattle.std.proofs.Common.{◌≡◌, ◌<◌, ◌-◌, ℕ, zero, suc, List, [], ◌∷◌, Option, Some, None, Bool, true, false, not, ◌&&◌, nat_lt, int_le, pos, slice_index, subst, take, get_or, refl, sym, ap, arith, ◌∙◌, inl, inr, rules}
+use Rattle.std.proofs.Common.{◌≡◌, ◌<◌, ◌-◌, ℕ, zero, suc, List, [], ◌∷◌, Option, Some, None, Bool, true, false, not, ◌&&◌, nat_lt, int_le, slice_index, subst, take, get_or, refl, sym, ap, arith, ◌∙◌, inl, inr, rules}
 use Rattle.std.proofs.lemmas.Bool.{cases_Bool}
 use Rattle.ub_bigmin.specs.Box.{Corners}
 use Rattle.ub_boxes.proofs.ApartFacts.{boxes-apart, pairs-apart, among-some, some-among}
 use Rattle.ub_boxes.proofs.CellFacts.{Among, in_boxes}
+use Rattle.ub_boxes.proofs.CountFacts.{points_counted}
 use Rattle.ub_boxes.proofs.GridFacts.{are_sides}
 use Rattle.ub_boxes.proofs.LinkFacts.{cut_lists, sides_are, length-cut_lists, all_cuts, cover-of_cells, is_over, space_has}
 use Rattle.ub_boxes.proofs.OrderFacts.{boxes-ordered, pairs-ordered, boxes-joined, space-joined}
@@ -11,12 +12,13 @@ use Rattle.ub_boxes.proofs.TruthFacts.{IsAt, allows, known}
 use Rattle.ub_boxes.proofs.TurnFacts.{Member, contained-member}
 use Rattle.ub_boxes.specs.Boxes.{boxes_on, space, is_wide}
 use Rattle.ub_boxes.specs.Grid.{grid}
-use Rattle.ub_boxes.specs.Laws.{point_of, BoxesAreApart, BoxesAreTheCover, WideBoxesAreTheSpace, SelectedAreInBoxes, ExactBoxesSelect, BoxesAreInOrder, BoxesAreJoined, BetweenCanBeAsTwo, Adjoin}
+use Rattle.ub_boxes.specs.Laws.{point_of, BoxesAreApart, BoxesAreTheCover, WideBoxesAreTheSpace, SelectedAreInBoxes, ExactBoxesSelect, BoxesAreInOrder, BoxesAreJoined, PointsAreCounted, BetweenCanBeAsTwo, Adjoin}
 use Rattle.ub_boxes.specs.Truths.{covers, is_of_dimensions, known_as, conjoined}
 use Rattle.ub_boxes.specs.declared.truths.Truths.{Truths}
 use Rattle.ub_query.specs.Groups.{is_selected}
 use Rattle.ub_query.specs.Shape.{Shape}
 use Rattle.ub_query.specs.Truth.{value_in}
+use Rattle.ub_table.specs.Value.{value}
 use Rattle.ub_table.specs.declared.row.Row.{Row}
 use Rattle.ub_table.specs.declared.schema.Schema.{Schema}
 use Rattle.ub_zaddr.specs.Address.{IsPoint}
@@ -33,6 +35,9 @@ boxes_are_in_order schema filter = elim (cases_Bool (is_wide schema filter)) [
   | inl t ↦ rw t (pairs-ordered (space schema.dims ∷ []) ((λ c m. absurd m), tt))
   | inr f ↦ rw f (pairs-ordered _ (boxes-ordered (covers schema filter) (grid schema filter) (are_sides schema filter)))
 ]
+
+pub points_are_counted : PointsAreCounted
+points_are_counted schema filter points differ are = points_counted schema filter points (boxes_are_apart schema filter) differ are
 
 space_joined : (last dims : ℕ) (a b : Corners) → dims ≡ suc last → Member (space dims ∷ []) a → Member (space dims ∷ []) b → Adjoin last a b → ⊥
 space_joined last dims a b e (inl p) (inl q) adjoin =
@@ -65,7 +70,7 @@ known_of_both false false = refl
 
 pub between_can_be_as_two : BetweenCanBeAsTwo
 between_can_be_as_two schema point column low high = elim (cases_Bool (nat_lt column schema.dims)) [
-  | inl t ↦ rw t (known_of_both (int_le low (pos (slice_index point column))) (int_le (pos (slice_index point column)) high))
+  | inl t ↦ rw t (known_of_both (int_le low (value schema column (slice_index point column))) (int_le (value schema column (slice_index point column)) high))
   | inr f ↦ rw f refl
 ]
 

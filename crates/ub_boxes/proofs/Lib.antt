@@ -8,6 +8,7 @@ pub mod TruthFacts
 pub mod CellFacts
 pub mod ApartFacts
 pub mod LinkFacts
+pub mod CountFacts
 pub mod Laws
 pub mod TurnFacts
 pub mod WhereFacts

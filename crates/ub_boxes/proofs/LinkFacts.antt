@@ -10,11 +10,12 @@ use Rattle.ub_boxes.proofs.CutFacts.{are_cuts}
 use Rattle.ub_boxes.proofs.GridFacts.{is_side}
 use Rattle.ub_boxes.proofs.TruthFacts.{Agree, same_cover}
 use Rattle.ub_boxes.specs.Boxes.{space}
-use Rattle.ub_boxes.specs.Cuts.{greatest, cuts}
+use Rattle.ub_boxes.specs.Cuts.{cuts}
 use Rattle.ub_boxes.specs.Grid.{intervals, side, sides}
 use Rattle.ub_boxes.specs.Truths.{covers}
 use Rattle.ub_boxes.specs.declared.interval.Interval.{Interval}
 use Rattle.ub_query.specs.Shape.{Shape}
+use Rattle.ub_table.specs.Value.{greatest}
 use Rattle.ub_table.specs.declared.schema.Schema.{Schema}
 use Rattle.ub_zaddr.specs.Address.{IsPoint}
 

@@ -21,13 +21,13 @@ member-parts (b ∷ bs) cs c (inr h) = elim (member-parts bs cs c h) [
   | inr k ↦ inr k
 ]
 
-member-beside : (i : Interval) (bs : List Corners) (c : Corners) → Member (map (beside i) bs) c
+pub member-beside : (i : Interval) (bs : List Corners) (c : Corners) → Member (map (beside i) bs) c
     → (b : Corners) × Member bs b × (beside i b ≡ c)
 member-beside i [] c h = absurd h
 member-beside i (b ∷ bs) c (inl e) = (b, inl refl, e)
 member-beside i (b ∷ bs) c (inr h) = let k = member-beside i bs c h in (k.0, inr k.1, k.2)
 
-member-lines : (rs : List Interval) (c : Corners) → Member (lines rs) c → (r : Interval) × Member rs r × (beside r nowhere ≡ c)
+pub member-lines : (rs : List Interval) (c : Corners) → Member (lines rs) c → (r : Interval) × Member rs r × (beside r nowhere ≡ c)
 member-lines [] c h = absurd h
 member-lines (r ∷ rs) c (inl e) = (r, inl refl, e)
 member-lines (r ∷ rs) c (inr h) = let k = member-lines rs c h in (k.0, inr k.1, k.2)

@@ -1,4 +1,4 @@
--- The cuts of a dimension are the values at which a comparison on it turns.
+-- The cuts of a dimension are the coordinates that stand for the values at which a comparison on it turns.
 use Rattle.std.proofs.Common.{◌≡◌, ◌<◌, ◌+◌, ◌==◌, ℕ, zero, suc, ℤ, List, [], ◌∷◌, length, get_or, slice_index_or, Option, Some, None, nat_lt, Contains, refl, sym, ap, arith, ◌∙◌, ◌⊎◌, inl, inr}
 use Rattle.std.proofs.lemmas.Bool.{cases_Bool, eqb-true}
 use Rattle.ub_boxes.proofs.CutFacts.{are_cuts}

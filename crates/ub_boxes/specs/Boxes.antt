@@ -2,7 +2,7 @@
 use Rattle.std.specs.Prelude.{ℕ, ◌+◌, Bool, not, ◌&&◌, ◌==◌, nat_lt, if◌then◌else◌, List, [], ◌∷◌, map, replicate, Option}
 use Rattle.std.specs.List.{flat_map}
 use Rattle.ub_bigmin.specs.Box.{Corners}
-use Rattle.ub_boxes.specs.Cuts.{greatest}
+use Rattle.ub_table.specs.Value.{greatest}
 use Rattle.ub_boxes.specs.Grid.{grid, number_of_cells}
 use Rattle.ub_boxes.specs.Truths.{covers, is_of_dimensions}
 use Rattle.ub_boxes.specs.declared.interval.Interval.{Interval}

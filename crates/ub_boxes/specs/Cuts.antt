@@ -1,18 +1,19 @@
 -- Where the comparisons of a condition turn: the cuts of a dimension.
-use Rattle.std.specs.Prelude.{ℕ, ℤ, pos, negsuc, ◌+ℤ◌, ◌==◌, ◌&&◌, nat_le, nat_lt, if◌then◌else◌, List, [], ◌∷◌, ◌++◌, Option, Some, None}
+use Rattle.std.specs.Prelude.{ℕ, ℤ, pos, ◌+ℤ◌, ◌==◌, nat_lt, if◌then◌else◌, List, [], ◌∷◌, ◌++◌, Option, Some, None}
 use Rattle.ub_query.specs.Shape.{Shape, both, either, neither, compares, between}
 use Rattle.ub_query.specs.declared.condition.Operator.{Operator}
 use Rattle.ub_query.specs.declared.condition.Operator.TheVariants.{Equal, NotEqual, Less, AtMost, Greater, AtLeast}
+use Rattle.ub_table.specs.Value.{coordinate}
 use Rattle.ub_table.specs.declared.schema.Schema.{Schema}
 
--- the greatest coordinate
-abbrev pub greatest : ℕ
-greatest = 4294967295
+-- a coordinate, if it is one from 1 on
+abbrev pub above_least : Option ℕ → Option ℕ
+above_least None = None
+above_least (Some n) = if nat_lt 0 n then Some n else None
 
--- the cut that a value of a dimension is: the coordinate that it names, if that is one from 1 on
+-- the cut that a value of a dimension is: the coordinate that stands for it, if that is one from 1 on
 abbrev pub cut_of : Schema → ℕ → ℤ → Option ℕ
-cut_of schema dim (pos n) = if nat_lt 0 n && nat_le n greatest then Some n else None
-cut_of schema dim (negsuc n) = None
+cut_of schema dim v = above_least (coordinate schema dim v)
 
 -- the values at which a comparison with a number turns: of the value and the one before, it holds of one alone
 abbrev pub turns_of : Operator → ℤ → List ℤ
@@ -46,7 +47,8 @@ abbrev pub put_cuts : Schema → ℕ → List ℤ → List ℕ → List ℕ
 put_cuts schema dim [] cuts = cuts
 put_cuts schema dim (v ∷ vs) cuts = put_cuts schema dim vs (put_some (cut_of schema dim v) cuts)
 
--- the cuts of a dimension: the values from 1 on at which a comparison on it turns, each once, in ascending order
+-- the cuts of a dimension: the coordinates from 1 on that stand for the values at which a comparison on it turns, each once, in
+-- ascending order
 abbrev pub cuts : Schema → Option Shape → ℕ → List ℕ
 cuts schema None dim = []
 cuts schema (Some c) dim = put_cuts schema dim (turns dim c) []

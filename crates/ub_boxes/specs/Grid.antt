@@ -1,8 +1,9 @@
 -- The intervals between the cuts of each dimension, and the cells: one interval of each dimension.
 use Rattle.std.specs.Prelude.{ℕ, zero, suc, ◌-◌, ◌*◌, List, [], ◌∷◌, ◌++◌, length, Option}
-use Rattle.ub_boxes.specs.Cuts.{cuts, greatest}
+use Rattle.ub_boxes.specs.Cuts.{cuts}
 use Rattle.ub_boxes.specs.declared.interval.Interval.{Interval}
 use Rattle.ub_query.specs.Shape.{Shape}
+use Rattle.ub_table.specs.Value.{greatest}
 use Rattle.ub_table.specs.declared.schema.Schema.{Schema}
 
 -- the intervals from a coordinate on: each ends before the next cut, the last at the greatest coordinate

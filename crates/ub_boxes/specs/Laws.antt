@@ -1,11 +1,12 @@
 -- The laws of the boxes of a condition. Each is what the function of its name in `law` ensures, and is proved in
 -- proofs/Laws.antt.
-use Rattle.std.specs.Prelude.{◌≡◌, ◌≢◌, ◌↔◌, ℕ, ◌+◌, ◌-◌, ◌<◌, ◌⊎◌, ℤ, pos, ◌-ℤ◌, List, [], ◌∷◌, take, slice_index, true, false, IsTrue, nat_lt, Option, Some, AllPairs, Contains}
+use Rattle.std.specs.Prelude.{◌≡◌, ◌≢◌, ◌↔◌, ℕ, ◌+◌, ◌-◌, ◌<◌, ◌⊎◌, ℤ, pos, ◌-ℤ◌, List, [], ◌∷◌, length, take, slice_index, true, false, IsTrue, nat_lt, Option, Some, AllPairs, Contains}
 use Rattle.std.specs.List.Sorted.{IsStrictlyIncreasing}
 use Rattle.ub_bigmin.specs.Box.{Corners, IsInside}
 use Rattle.ub_boxes.specs.Boxes.{boxes_of, cover_of, is_wide}
 use Rattle.ub_boxes.specs.Cuts.{cuts, cut_of, turns, turns_of}
 use Rattle.ub_boxes.specs.Grid.{grid, number_of_cells}
+use Rattle.ub_boxes.specs.Points.{total}
 use Rattle.ub_boxes.specs.Truths.{covers, can_be}
 use Rattle.ub_query.specs.Groups.{is_selected}
 use Rattle.ub_query.specs.Shape.{Shape, both, compares, between}
@@ -77,7 +78,7 @@ ExactBoxesSelect = (schema : Schema) (filter : Option Shape) (row : Row)
     → IsPoint schema.dims (point_of schema row) → IsTrue (cover_of schema filter).exact
     → IsInSome (boxes_of schema filter) (point_of schema row) ↔ IsTrue (is_selected schema filter row)
 
--- the cuts of a dimension ascend, and are the coordinates from 1 on at which a comparison on it turns
+-- the cuts of a dimension ascend, and are the coordinates from 1 on that stand for the values at which a comparison on it turns
 abbrev pub CutsAreTheTurns : Type 0
 CutsAreTheTurns = (schema : Schema) (c : Shape) (dim : ℕ)
     → IsStrictlyIncreasing (cuts schema (Some c) dim)
@@ -93,6 +94,11 @@ TurnsAreWhereItTurns = (operator : Operator) (number value : ℤ) → Contains (
 abbrev pub WideIsAbove4096 : Type 0
 WideIsAbove4096 = (schema : Schema) (filter : Option Shape)
     → is_wide schema filter ≡ nat_lt 4096 (number_of_cells (grid schema filter))
+
+-- how many points the boxes have together is how many points lie in them: so many has each list of just those, without repeats
+abbrev pub PointsAreCounted : Type 0
+PointsAreCounted = (schema : Schema) (filter : Option Shape) (points : List (List ℕ)) → AllPairs (λ p q. p ≢ q) points
+    → ((p : List ℕ) → Contains points p ↔ IsInSome (boxes_of schema filter) p) → length points ≡ total (boxes_of schema filter)
 
 -- a BETWEEN turns where its two comparisons do
 abbrev pub BetweenTurnsTwice : Type 0

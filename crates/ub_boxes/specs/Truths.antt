@@ -1,11 +1,12 @@
 -- What a condition can be at a point, of which the dimensions are known and the measures are not.
-use Rattle.std.specs.Prelude.{ℕ, ℤ, pos, Bool, true, not, ◌&&◌, ◌||◌, nat_lt, int_le, if◌then◌else◌, List, slice_index, Option, Some, None}
+use Rattle.std.specs.Prelude.{ℕ, ℤ, Bool, true, not, ◌&&◌, ◌||◌, nat_lt, int_le, if◌then◌else◌, List, slice_index, Option, Some, None}
 use Rattle.std.specs.Borrow.{Bor}
 use Rattle.std.specs.Option.{option_map}
 use Rattle.ub_boxes.specs.declared.truths.Truths.{Truths}
 use Rattle.ub_query.specs.Shape.{Shape, shape, both, either, neither, compares, between}
 use Rattle.ub_query.specs.Truth.{holds}
 use Rattle.ub_query.specs.declared.condition.Cond.{Cond}
+use Rattle.ub_table.specs.Value.{value}
 use Rattle.ub_table.specs.declared.schema.Schema.{Schema}
 
 -- what is known can be what it is alone, what isn't known can be both
@@ -32,9 +33,9 @@ abbrev pub exchanged : Truths → Truths
 exchanged a = record { can_be_true = a.can_be_false; can_be_false = a.can_be_true }
 
 -- the value of a point in a column, which is known of a dimension and not of a measure
-abbrev pub coordinate : Schema → List ℕ → ℕ → Option ℤ
-coordinate schema point column =
-    if nat_lt column schema.dims then Some (pos (slice_index point column)) else None
+abbrev pub known_value : Schema → List ℕ → ℕ → Option ℤ
+known_value schema point column =
+    if nat_lt column schema.dims then Some (value schema column (slice_index point column)) else None
 
 -- what a condition can be at a point
 abbrev pub can_be : Schema → List ℕ → Shape → Truths
@@ -42,9 +43,9 @@ can_be schema point (both a b) = conjoined (can_be schema point a) (can_be schem
 can_be schema point (either a b) = disjoined (can_be schema point a) (can_be schema point b)
 can_be schema point (neither a) = exchanged (can_be schema point a)
 can_be schema point (compares column operator value) =
-    known_as (option_map (λ x. holds operator x value) (coordinate schema point column))
+    known_as (option_map (λ x. holds operator x value) (known_value schema point column))
 can_be schema point (between column low high) =
-    known_as (option_map (λ x. int_le low x && int_le x high) (coordinate schema point column))
+    known_as (option_map (λ x. int_le low x && int_le x high) (known_value schema point column))
 
 -- the condition that is asked, without the boxes in which it lies in memory
 abbrev pub shape_of : Option (Bor Cond) → Option Shape

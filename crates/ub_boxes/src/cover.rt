@@ -49,7 +49,7 @@ impl Cover {
         self.boxes.as_slice()
     }
 
-    /// Whether the rows of a table that lie in the boxes are the selected ones.
+    /// Whether the condition names dimensions only and isn't wide; then the rows in the boxes are the selected ones.
     pub fn is_exact(&self) -> bool
         ensures { result ≡ self.now.exact }
     {

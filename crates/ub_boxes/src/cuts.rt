@@ -8,12 +8,12 @@ use std::alloc::{AllocError, Global};
 use ub_query::{Cond, Operator};
 use ub_table::Schema;
 
-// The cut that a value of a dimension is: the coordinate that it names, if that is one from 1 on.
+// The cut that a value of a dimension is: the coordinate that stands for it, if that is one from 1 on.
 fn cut_of(schema: &Schema, dim: usize, value: i128) -> Option<u32>
     ensures { result ≡ spec.cut_of schema.now dim value }
 {
-    match u32::try_from(value) {
-        Ok(cut) if cut > 0 => Some(cut),
+    match schema.coordinate(dim, value) {
+        Some(cut) if cut > 0 => Some(cut),
         _ => None,
     }
 }

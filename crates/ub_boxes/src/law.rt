@@ -1,4 +1,4 @@
-ghost use Rattle.ub_boxes.specs.Laws.{CutsAreTheTurns, TurnsAreWhereItTurns, BoxesAreApart, BoxesAreTheCover, WideBoxesAreTheSpace, SelectedAreInBoxes, ExactBoxesSelect, WideIsAbove4096, BoxesAreInOrder, BoxesAreJoined, BetweenTurnsTwice, BetweenCanBeAsTwo};
+ghost use Rattle.ub_boxes.specs.Laws.{CutsAreTheTurns, TurnsAreWhereItTurns, BoxesAreApart, BoxesAreTheCover, WideBoxesAreTheSpace, SelectedAreInBoxes, ExactBoxesSelect, WideIsAbove4096, BoxesAreInOrder, BoxesAreJoined, PointsAreCounted, BetweenTurnsTwice, BetweenCanBeAsTwo};
 
 // Each function here does nothing, and its clause is a law of the definitions in specs/. So the law is proved, and is read
 // beside the code.
@@ -8,7 +8,8 @@ pub fn turns_are_where_it_turns()
     ensures { TurnsAreWhereItTurns }
 {}
 
-/// The cuts of a dimension ascend, and are the coordinates from 1 on at which a comparison on it turns.
+/// The cuts of a dimension ascend, and are the coordinates from 1 on that stand for the values at which a comparison on
+/// it turns.
 pub fn cuts_are_the_turns()
     ensures { CutsAreTheTurns }
 {}
@@ -46,6 +47,11 @@ pub fn selected_are_in_boxes()
 /// The rows in exact boxes are the selected ones.
 pub fn exact_boxes_select()
     ensures { ExactBoxesSelect }
+{}
+
+/// How many points the boxes have together is how many points lie in them.
+pub fn points_are_counted()
+    ensures { PointsAreCounted }
 {}
 
 /// A condition is wide where it has more than 4096 cells.

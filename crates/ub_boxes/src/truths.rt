@@ -58,12 +58,12 @@ impl Truths {
 }
 
 // The value of a point in a column, which is known of a dimension and not of a measure.
-fn coordinate(schema: &Schema, point: &[u32], column: usize) -> Option<i128>
+fn known_value(schema: &Schema, point: &[u32], column: usize) -> Option<i128>
     requires { length point.now ≡ schema.now.dims }
-    ensures { result ≡ spec.coordinate schema.now point.now column }
+    ensures { result ≡ spec.known_value schema.now point.now column }
 {
     if column < schema.dims() as usize {
-        Some(i128::from(point[column]))
+        Some(i128::from(schema.value(column, point[column])))
     } else {
         None
     }
@@ -82,11 +82,11 @@ fn can_be(condition: &Cond, schema: &Schema, point: &[u32]) -> Truths
             column,
             operator,
             value,
-        } => match coordinate(schema, point, *column) {
+        } => match known_value(schema, point, *column) {
             Some(x) => Truths::known_as(Some(operator.holds(x, *value))),
             None => Truths::known_as(None),
         },
-        Cond::Between { column, low, high } => match coordinate(schema, point, *column) {
+        Cond::Between { column, low, high } => match known_value(schema, point, *column) {
             Some(x) => Truths::known_as(Some(*low <= x && x <= *high)),
             None => Truths::known_as(None),
         },

@@ -1,13 +1,13 @@
 -- A sweep that was ended by a fault has fetched the first of the visits.
 use Rattle.std.proofs.Common.{◌≡◌, ◌<◌, ◌∙◌, ◌++◌, ◌∷◌, ℕ, List, [], length, map, refl, subst}
 use Rattle.ub_exec.proofs.FirstFacts.{swept_first}
-use Rattle.ub_exec.proofs.KeptFacts.{Keeps, Keeps-by, begun_traced}
+use Rattle.ub_tree.proofs.Laws.{Keeps, Keeps-by, begun_traced}
 use Rattle.ub_exec.proofs.SweptFacts.{HasSwept, over, short}
 use Rattle.ub_exec.specs.Answers.{IsReady, begun}
 use Rattle.ub_exec.specs.Sweeping.{turns_of}
 use Rattle.ub_exec.specs.Visits.{HasFetchedFirst, fetches_then}
-use Rattle.ub_plan.specs.Plan.{PlanView}
-use Rattle.ub_plan.specs.Visits.{AreSweepVisits, Event}
+use Rattle.ub_planning.specs.Plan.{PlanView}
+use Rattle.ub_planning.specs.Visits.{AreSweepVisits, Event}
 use Rattle.ub_query.specs.declared.cell.Cell.{Cell}
 use Rattle.ub_table.specs.declared.row.Row.{Row}
 use Rattle.ub_table.specs.declared.schema.Schema.{Schema}

@@ -1,22 +1,22 @@
 -- Carrying out that was ended by a fault has fetched the first of the visits.
-use Rattle.std.proofs.Common.{◌≡◌, ◌+◌, ◌∙◌, ◌⊎◌, inl, inr, ℕ, zero, suc, Bool, List, [], ◌∷◌, ◌++◌, Option, Some, Result, Ok, Err, Contains, length, map, take, refl, sym, ap, subst, arith}
+use Rattle.std.proofs.Common.{◌≡◌, ◌∙◌, ◌⊎◌, inl, inr, ℕ, zero, suc, Bool, List, [], ◌∷◌, ◌++◌, Option, Some, Result, Ok, Err, Contains, length, map, take, refl, sym, ap, subst, arith}
 use Rattle.std.proofs.lemmas.List.{append-nil, length-append, length-map}
 use Rattle.std.specs.List.{AllByRecursion}
 use Rattle.std.specs.Prelude.{OnErr}
 use Rattle.ub_bigmin.specs.Box.{Corners}
-use Rattle.ub_exec.proofs.KeptFacts.{Keeps}
+use Rattle.ub_tree.proofs.Laws.{Keeps}
 use Rattle.ub_exec.proofs.MeantFacts.{scan_visits}
 use Rattle.ub_exec.proofs.VisitFacts.{meeting_there, those_among, visits_of}
 use Rattle.ub_exec.proofs.WalkFacts.{HasCome, turned_to, visited_by}
 use Rattle.ub_exec.specs.Answers.{IsReady, IsSwept, begun}
 use Rattle.ub_exec.specs.Visits.{AreMeeting, HasFetched, HasFetchedFirst, HasTurnedSome, HasWalkedFirst, MeetsIn, fetches_then}
-use Rattle.ub_plan.proofs.Laws.{plans_have_visits}
-use Rattle.ub_plan.specs.Plan.{PlanView}
-use Rattle.ub_plan.specs.Visits as plan
-use Rattle.ub_plan.specs.Visits.{AreSweepVisits, AreVisits, AreVisitsBy, Event}
+use Rattle.ub_planning.proofs.Laws.{plans_have_visits}
+use Rattle.ub_planning.specs.Plan.{PlanView}
+use Rattle.ub_planning.specs.Visits as plan
+use Rattle.ub_planning.specs.Visits.{AreSweepVisits, AreVisits, AreVisitsBy, Event}
 use Rattle.ub_region.specs.Those.{AreThose}
-use Rattle.ub_plan.specs.declared.planned.Kind.{Kind}
-use Rattle.ub_plan.specs.declared.planned.Kind.TheVariants.{Sweep}
+use Rattle.ub_planning.specs.declared.planned.Kind.{Kind}
+use Rattle.ub_planning.specs.declared.planned.Kind.TheVariants.{Sweep}
 use Rattle.ub_table.specs.Region.{Region}
 use Rattle.ub_table.specs.declared.row.Row.{Row}
 use Rattle.ub_tetris.proofs.Laws.{placed_of}

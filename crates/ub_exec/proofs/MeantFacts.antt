@@ -5,18 +5,19 @@ use Rattle.std.proofs.lemmas.List.Sorted.{IsPermutation-sym}
 use Rattle.std.proofs.lemmas.List.Elements.{Contains-append_cases, Contains-append_left, Contains-append_right}
 use Rattle.std.specs.List.{All, AllByRecursion}
 use Rattle.ub_bigmin.specs.Box.{Corners}
-use Rattle.ub_boxes.specs.Boxes.{Covering, boxes_of, cover_of}
+use Rattle.ub_boxes.specs.Boxes.{Covering, cover_of}
 use Rattle.ub_exec.proofs.VisitFacts.{visits_of, those_among}
 use Rattle.ub_exec.specs.Answers.{IsSwept}
-use Rattle.ub_plan.specs.Choice.{is_chosen}
-use Rattle.ub_plan.specs.declared.choice.Choice.{Choice}
+use Rattle.ub_filter.specs.Choice.{is_chosen}
+use Rattle.ub_filter.specs.declared.choice.Choice.{Choice}
 use Rattle.ub_exec.specs.Visits.{HasFetched, HasWalked, MeetsIn, fetches_then}
-use Rattle.ub_plan.specs.Plan.{PlanView, kind_asked, kind_for, kind_of, kept_by, plan_of}
-use Rattle.ub_plan.specs.declared.planned.Kind.{Kind}
-use Rattle.ub_plan.specs.declared.planned.Kind.TheVariants.{Empty, Scan, Sweep}
-use Rattle.ub_plan.specs.Visits as plan
-use Rattle.ub_plan.proofs.Laws.{chosen_are_selected, meeting_hold_the_tables}
-use Rattle.ub_plan.specs.Visits.{AreMeeting, AreVisitsBy, fetched_rows}
+use Rattle.ub_planning.specs.Plan.{PlanView, kind_of, kept_by, plan_of}
+use Rattle.ub_planning.specs.declared.planned.Kind.{Kind}
+use Rattle.ub_planning.specs.declared.planned.Kind.TheVariants.{Empty, Scan, Sweep}
+use Rattle.ub_planning.specs.Visits as plan
+use Rattle.ub_filter.proofs.Laws.{chosen_are_selected}
+use Rattle.ub_planning.proofs.Laws.{meeting_hold_the_tables, plans_are_empty}
+use Rattle.ub_planning.specs.Visits.{AreMeeting, AreVisitsBy, fetched_rows}
 use Rattle.ub_region.specs.Those.{AreThose}
 use Rattle.ub_query.proofs.Laws.{all_at, contains_none, contains_cases}
 use Rattle.ub_query.specs.Groups.{is_selected, selected}
@@ -31,13 +32,8 @@ use Rattle.ub_tree.specs.Placed.{Placed, regions_in}
 use Rattle.ub_tree.specs.View.{TreeView, IsSound, regions}
 
 -- where it is 0, a plan is empty
-empty_boxes : (boxes : List Corners) (limit : Option ℕ) (kind : Kind) → limit ≡ Some 0 → kind_for boxes limit kind ≡ Empty
-empty_boxes [] limit kind is = refl
-empty_boxes (b ∷ boxes) limit kind is = rw is refl
-
 pub empty_where : (schema : Schema) (p : PlanView) → p ≡ plan_of schema p.asked → p.asked.limit ≡ Some 0 → p.kind ≡ Empty
-empty_where schema p is none =
-    ap (λ (x : PlanView). x.kind) is ∙ empty_boxes (boxes_of schema p.asked.filter) p.asked.limit (kind_asked schema p.asked) none
+empty_where schema p is none = ap (λ (x : PlanView). x.kind) is ∙ (plans_are_empty schema p.asked).1 (inr none)
 
 pub nothing_fetched : (p : PlanView) (t new : TreeView) → p ≡ plan_of t.schema p.asked → p.asked.limit ≡ Some 0 → new.trace ≡ t.trace → new.fetches ≡ t.fetches → HasFetched p t new
 nothing_fetched p t new is limit trace fetches = record {

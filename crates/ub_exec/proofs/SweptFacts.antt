@@ -4,15 +4,15 @@ use Rattle.std.proofs.lemmas.List.{length-append, length-map, map-append}
 use Rattle.std.proofs.lemmas.List.Sorted.{length_permutation}
 use Rattle.std.specs.List.{All, AllByRecursion}
 use Rattle.ub_answer.specs.Compare.{lines}
-use Rattle.ub_exec.proofs.KeptFacts.{Keeps}
+use Rattle.ub_tree.proofs.Laws.{Keeps}
 use Rattle.ub_exec.proofs.MeantFacts.{empty_where}
 use Rattle.ub_exec.specs.Answers.{IsAnswer, IsSwept, begun}
 use Rattle.ub_exec.specs.Sweeping.{HasNotedMore, turns_of}
 use Rattle.ub_exec.specs.Visits.{HasFetched, fetches_then}
-use Rattle.ub_plan.specs.Plan.{PlanView}
-use Rattle.ub_plan.specs.Visits.{Event, AreSweepVisits, AreVisitsBy, selected_rows}
-use Rattle.ub_plan.specs.declared.planned.Kind.{Kind}
-use Rattle.ub_plan.specs.declared.planned.Kind.TheVariants.{Empty, Scan, Sweep}
+use Rattle.ub_planning.specs.Plan.{PlanView}
+use Rattle.ub_planning.specs.Visits.{Event, AreSweepVisits, AreVisitsBy, selected_rows}
+use Rattle.ub_planning.specs.declared.planned.Kind.{Kind}
+use Rattle.ub_planning.specs.declared.planned.Kind.TheVariants.{Empty, Scan, Sweep}
 use Rattle.ub_query.specs.Cells.{row_cell}
 use Rattle.ub_query.specs.Groups.{is_selected}
 use Rattle.ub_query.specs.Meaning.{IsMeaning}

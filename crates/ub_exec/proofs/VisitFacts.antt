@@ -2,11 +2,12 @@
 use Rattle.std.proofs.Common.{◌≡◌, inl, inr, ℕ, zero, suc, List, [], ◌∷◌, ◌↔◌, Some, Contains, length, map, ◌∙◌, sym, ap, refl, arith, subst, slice_get}
 use Rattle.std.specs.List.{AllByRecursion}
 use Rattle.ub_bigmin.specs.Box.{Corners}
-use Rattle.ub_exec.proofs.WalkFacts.{contains_at, keys_are, one_span}
+use Rattle.ub_exec.proofs.WalkFacts.{one_span}
+use Rattle.ub_tree.proofs.Laws.{contains_at, firsts_placed}
 use Rattle.ub_exec.specs.Visits.{MeetsIn, AreMeeting}
-use Rattle.ub_plan.proofs.Laws.{meeting_of}
-use Rattle.ub_plan.specs.Visits as plan
-use Rattle.ub_plan.specs.Visits.{spans_up_to}
+use Rattle.ub_planning.proofs.Laws.{meeting_of}
+use Rattle.ub_planning.specs.Visits as plan
+use Rattle.ub_planning.specs.Visits.{spans_up_to}
 use Rattle.ub_region.specs.Those.{AreThose}
 use Rattle.ub_query.proofs.Laws.{all_weaker, contains_here, contains_later}
 use Rattle.ub_region.specs.Regions.{firsts_of}
@@ -58,7 +59,7 @@ span_is last (q ∷ placed) zero p span at there =
       refl,
       ap (λ (x : Placed). x.region.first) same,
       ap (λ (s : plan.Span). s.from) is,
-      ap (span_end last) (keys_are placed) ∙ ap (λ (s : plan.Span). s.to) is,
+      ap (span_end last) (firsts_placed placed) ∙ ap (λ (s : plan.Span). s.to) is,
       ap (λ (x : Placed). x.region) (sym same) ∙ ap (λ (s : plan.Span). s.region) is,
     )
 span_is last (q ∷ placed) (suc k) p span at there = span_is last placed k p span at there

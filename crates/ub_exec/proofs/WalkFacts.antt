@@ -1,27 +1,24 @@
 -- Reading the regions that meet some boxes: which one comes next, and what has been read.
-use Rattle.std.proofs.Common.{◌≡◌, ◌<◌, ◌≤◌, inl, inr, ℕ, zero, suc, List, [], ◌∷◌, ◌++◌, true, false, Bool, Option, Some, None, IfSome, length, map, take, ◌∙◌, sym, ap, refl, arith, subst, slice_get, append_assoc}
+use Rattle.std.proofs.Common.{◌≡◌, ◌<◌, ◌≤◌, inl, inr, ℕ, zero, suc, List, [], ◌∷◌, ◌++◌, true, false, Bool, Option, Some, None, length, map, take, ◌∙◌, sym, ap, refl, arith, subst, slice_get, append_assoc}
 use Rattle.std.proofs.lemmas.Bool.{cases_lt, cases_eq}
 use Rattle.std.proofs.lemmas.List.{map-append, append-nil, length-append}
 use Rattle.std.proofs.lemmas.List.Elements.{filter-append}
-use Rattle.std.proofs.lemmas.Option.{slice_get_read, slice_get_within, get_or_from_slice_get, slice_get_cases}
-use Rattle.std.proofs.Math.Seq.{take-suc}
+use Rattle.std.proofs.lemmas.Option.{slice_get_within}
 use Rattle.std.specs.List.{Contains, filter}
 use Rattle.std.specs.Option.{is_some}
 use Rattle.ub_bigmin.specs.Box.{Corners}
-use Rattle.ub_exec.proofs.KeptFacts.{Keeps}
+use Rattle.ub_tree.proofs.Laws.{Keeps, before, contained_at, first_keys_ascend, firsts_placed, is_later, later_from, spans_long, take_all, those_next, those_up_to}
 use Rattle.ub_exec.specs.Visits.{MeetsIn, AreMeeting, fetches_then, HasWalked, HasTurned}
-use Rattle.ub_page.specs.declared.directory.Entry.{Entry}
 use Rattle.ub_region.specs.Those.{AreThose}
 use Rattle.ub_region.proofs.Laws.{are_ascending_of}
 use Rattle.ub_region.specs.Regions.{firsts_of, rows_of}
 use Rattle.ub_store.specs.Facts.{raised}
-use Rattle.ub_table.proofs.Laws.{before_of, not_both_before, not_before_self, ascending_get}
+use Rattle.ub_table.proofs.Laws.{before_of, not_before_self, ascending_get}
 use Rattle.ub_table.specs.Keys.{IsBefore, are_ascending}
 use Rattle.ub_table.specs.Region.{Region}
 use Rattle.ub_table.specs.declared.row.Key.{Key}
 use Rattle.ub_table.specs.declared.row.Row.{Row}
 use Rattle.ub_table.specs.declared.schema.Schema.{Schema}
-use Rattle.ub_tree.proofs.Laws.{region_first}
 use Rattle.ub_tree.specs.Calls.{StandsAt}
 use Rattle.ub_tree.specs.Effects.{HasNoted}
 use Rattle.ub_tree.specs.Placed.{Placed, regions_in, entry_of}
@@ -29,66 +26,6 @@ use Rattle.ub_tree.specs.Spans.{first_keys, regions_of, IsLater, Meets, First}
 use Rattle.ub_tree.specs.View.{TreeView, IsSound, KeepsTrace, regions, spans_in, spans_of}
 use Rattle.ub_tree.specs.declared.region.Region.{Region as Span}
 use Rattle.ub_zaddr.specs.Address.{last_address}
-
--- the span before the one at a place, if there is one
-abbrev pub before : ℕ → List Span → Option Span
-before zero spans = None
-before (suc k) spans = slice_get spans k
-
-module _ {X : Type 0} where
-  pub contained_at : (xs : List X) (x : X) (found : Contains xs x) → slice_get xs found.0 ≡ Some x
-  contained_at xs x found = slice_get_read xs (length xs) found.0 x refl found.1 (sym found.2)
-
-  pub contains_at : (xs : List X) (i : ℕ) (x : X) → slice_get xs i ≡ Some x → Contains xs x
-  contains_at xs i x at = (i, slice_get_within xs i x at, get_or_from_slice_get xs i x x at)
-
-  pub there_is : (xs : List X) (k : ℕ) → k < length xs → (x : X) × (slice_get xs k ≡ Some x)
-  there_is xs k below = elim ((slice_get_cases xs k).1) [
-    | inl some ↦ (some.0, some.2)
-    | inr past ↦ let far = past.0 in absurd (omega arith)
-  ]
-
-  some_at : (P : X → Type 0) (o : Option X) (x : X) → o ≡ Some x → IfSome o P → P x
-  some_at P None x e h = cc
-  some_at P (Some y) x e h = let same : y ≡ x = cc in subst P same h
-
-  at_some : (P : X → Type 0) (o : Option X) (x : X) → o ≡ Some x → P x → IfSome o P
-  at_some P None x e h = cc
-  at_some P (Some y) x e h = let same : x ≡ y = cc in subst P same h
-
-  pub take_next : (xs : List X) (k : ℕ) (x : X) → slice_get xs k ≡ Some x → take (suc k) xs ≡ take k xs ++ x ∷ []
-  take_next xs k x at = take-suc xs k x (slice_get_within xs k x at) ∙ ap (λ (y : X). take k xs ++ y ∷ []) (get_or_from_slice_get xs k x x at)
-
-  pub take_all : (n : ℕ) (xs : List X) → length xs ≤ n → take n xs ≡ xs
-  take_all zero [] h = refl
-  take_all zero (x ∷ xs) h = absurd (omega arith)
-  take_all (suc n) [] h = refl
-  take_all (suc n) (x ∷ xs) h = ap (λ (ys : List X). x ∷ ys) (take_all n xs (omega arith))
-
-  module _ (P : X → Type 0) where
-    -- one more entry that has the property, and one that doesn't
-    pub those_with : (xs those : List X) (x : X) → P x → AreThose P xs those → AreThose P (xs ++ x ∷ []) (those ++ x ∷ [])
-    those_with [] those x p are = inl (p, [], rw are refl, refl)
-    those_with (y ∷ xs) those x p (inl are) = let (q, rest, is, more) = are in inl (q, rest ++ x ∷ [], ap (λ (zs : List X). zs ++ x ∷ []) is, those_with xs rest x p more)
-    those_with (y ∷ xs) those x p (inr are) = inr (are.0, those_with xs those x p are.1)
-
-    pub those_without : (xs those : List X) (x : X) → ¬ (P x) → AreThose P xs those → AreThose P (xs ++ x ∷ []) those
-    those_without [] those x p are = inr (p, are)
-    those_without (y ∷ xs) those x p (inl are) = let (q, rest, is, more) = are in inl (q, rest, is, those_without xs rest x p more)
-    those_without (y ∷ xs) those x p (inr are) = inr (are.0, those_without xs those x p are.1)
-
-    -- between two places none has the property
-    pub those_up_to : (xs those : List X) (i place : ℕ) → place ≤ i → i ≤ length xs → ((m : ℕ) (x : X) → place ≤ m → m < i → slice_get xs m ≡ Some x → ¬ (P x))
-        → AreThose P (take place xs) those → AreThose P (take i xs) those
-    those_up_to xs those zero place le within none are = let e : place ≡ 0 = omega arith in subst (λ (n : ℕ). AreThose P (take n xs) those) e are
-    those_up_to xs those (suc i) place le within none are = elim (cases_eq place (suc i)) [
-      | inl e ↦ subst (λ (n : ℕ). AreThose P (take n xs) those) e are
-      | inr ne ↦
-          let there = there_is xs i (omega arith) in
-          let x = there.0 in
-          let more = those_up_to xs those i place (omega arith) (omega arith) (λ m y from below. none m y from (omega arith)) are in
-          subst (λ (ys : List X). AreThose P ys those) (sym (take_next xs i x there.1)) (those_without (take i xs) those x (none i x (omega arith) (omega arith) there.1) more)
-    ]
 
 -- the spans of regions that stand on pages, and their keys
 pub span_at : (last : ℕ) (placed : List Placed) (k : ℕ) (p : Placed) → slice_get placed k ≡ Some p
@@ -103,49 +40,14 @@ placed_at last [] k span at = cc
 placed_at last (q ∷ placed) zero span at = (q, refl, cc)
 placed_at last (q ∷ placed) (suc k) span at = placed_at last placed k span at
 
-spans_long : (last : ℕ) (placed : List Placed) → length (regions_of last (map entry_of placed)) ≡ length placed
-spans_long last [] = refl
-spans_long last (p ∷ placed) = ap suc (spans_long last placed)
-
 key_at : (placed : List Placed) (k : ℕ) (p : Placed) → slice_get placed k ≡ Some p → slice_get (first_keys (map entry_of placed)) k ≡ Some p.region.first
 key_at [] k p at = cc
 key_at (q ∷ placed) zero p at = let same : q ≡ p = cc in ap (λ (x : Placed). Some x.region.first) same
 key_at (q ∷ placed) (suc k) p at = key_at placed k p at
 
-pub keys_are : (placed : List Placed) → first_keys (map entry_of placed) ≡ firsts_of (regions_in placed)
-keys_are [] = refl
-keys_are (p ∷ placed) = ap (λ (keys : List Key). p.region.first ∷ keys) (keys_are placed)
-
-module _ (last : ℕ) (entries : List Entry) (up : are_ascending (first_keys entries) ≡ true) where
-  ordered : (i j : ℕ) (a b : Span) → i < j → slice_get (regions_of last entries) i ≡ Some a → slice_get (regions_of last entries) j ≡ Some b → IsBefore a.first b.first
-  ordered i j a b lt at_i at_j =
-      before_of a.first b.first (ascending_get (first_keys entries) up i j lt a.first b.first (region_first last entries i a at_i) (region_first last entries j b at_j))
-
-  -- the regions from a place on are later than the one before it
-  is_later : (k i : ℕ) (r : Span) → k ≤ i → slice_get (regions_of last entries) i ≡ Some r → IsLater (before k (regions_of last entries)) r
-  is_later zero i r le at = tt
-  is_later (suc k) i r le at =
-      let within = slice_get_within (regions_of last entries) i r at in
-      let there = there_is (regions_of last entries) k (omega arith) in
-      at_some (λ (other : Span). IsBefore other.first r.first) (slice_get (regions_of last entries) k) there.0 there.1 (ordered k i there.0 r (omega arith) there.1 at)
-
-  -- and they alone
-  later_from : (k i : ℕ) (x : Span) → k ≤ length (regions_of last entries) → slice_get (regions_of last entries) i ≡ Some x
-      → IsLater (before k (regions_of last entries)) x → k ≤ i
-  later_from zero i x far there h = omega arith
-  later_from (suc k) i x far there h =
-      let (a, at_k) = there_is (regions_of last entries) k (omega arith) in
-      let after : IsBefore a.first x.first = some_at (λ (other : Span). IsBefore other.first x.first) (slice_get (regions_of last entries) k) a at_k h in
-      elim (cases_lt k i) [
-        | inl lt ↦ omega arith
-        | inr ge ↦ elim (cases_eq i k) [
-          | inl e ↦
-              let again : slice_get (regions_of last entries) k ≡ Some x = ap (slice_get (regions_of last entries)) (sym e) ∙ there in
-              let same : a ≡ x = cc in
-              absurd (not_before_self a.first (subst (λ (s : Span). IsBefore a.first s.first) (sym same) after))
-          | inr ne ↦ absurd (not_both_before a.first x.first after (ordered i k x a (omega arith) there at_k))
-        ]
-      ]
+-- the first keys of a sound tree's regions ascend
+in_order : (t : TreeView) → IsSound t → (i j : ℕ) (a b : Span) → i < j → slice_get (spans_of t) i ≡ Some a → slice_get (spans_of t) j ≡ Some b → IsBefore a.first b.first
+in_order t sound i j a b lt at_i at_j = first_keys_ascend t i j a b sound lt at_i at_j
 
 -- the region that begins with a key stands at one place
 same_place : (placed : List Placed) (k j : ℕ) (p q : Placed) → are_ascending (first_keys (map entry_of placed)) ≡ true → slice_get placed k ≡ Some p → slice_get placed j ≡ Some q
@@ -163,7 +65,7 @@ same_place placed k j p q up at_k at_j e = elim (cases_lt k j) [
 ]
 
 pub up_of : (t : TreeView) → IsSound t → are_ascending (first_keys (map entry_of t.placed)) ≡ true
-up_of t sound = ap are_ascending (keys_are t.placed) ∙ are_ascending_of (firsts_of (regions t)) sound.regions_are.ascending
+up_of t sound = ap are_ascending (firsts_placed t.placed) ∙ are_ascending_of (firsts_of (regions t)) sound.regions_are.ascending
 
 pub same_spans : (old new : TreeView) → Keeps old new → spans_of new ≡ spans_of old
 same_spans old new kept =
@@ -172,14 +74,12 @@ same_spans old new kept =
 -- the span that begins with a key stands at one place
 pub one_span : (t : TreeView) → IsSound t → (k : ℕ) (own span : Span) → slice_get (spans_of t) k ≡ Some own → Contains (spans_of t) span → own.first ≡ span.first → own ≡ span
 one_span t sound k own span at there e =
-    let last = last_address t.schema.dims in
-    let entries = map entry_of t.placed in
     let span_at = contained_at (spans_of t) span there in
     elim (cases_lt k there.0) [
-      | inl lt ↦ absurd (not_before_self own.first (subst (λ (key : Key). IsBefore own.first key) (sym e) (ordered last entries (up_of t sound) k there.0 own span lt at span_at)))
+      | inl lt ↦ absurd (not_before_self own.first (subst (λ (key : Key). IsBefore own.first key) (sym e) (in_order t sound k there.0 own span lt at span_at)))
       | inr ge ↦ elim (cases_eq there.0 k) [
         | inl same ↦ let again : slice_get (spans_of t) k ≡ Some span = ap (slice_get (spans_of t)) (sym same) ∙ span_at in cc
-        | inr ne ↦ absurd (not_before_self own.first (subst (λ (key : Key). IsBefore key own.first) (sym e) (ordered last entries (up_of t sound) there.0 k span own (omega arith) span_at at)))
+        | inr ne ↦ absurd (not_before_self own.first (subst (λ (key : Key). IsBefore key own.first) (sym e) (in_order t sound there.0 k span own (omega arith) span_at at)))
       ]
     ]
 
@@ -196,7 +96,7 @@ module _ (t : TreeView) (sound : IsSound t) (boxes : List Corners) (place : ℕ)
   later_that_meets m p from at meets =
       let (span, there, begins, some) = meets in
       let (own, own_at, own_begins) = span_at (last_address t.schema.dims) t.placed m p at in
-      let later = is_later (last_address t.schema.dims) (map entry_of t.placed) (up_of t sound) place m own from own_at in
+      let later = is_later (spans_of t) (in_order t sound) place m own from own_at in
       let moved : (o : Option Span) → IsLater o own → IsLater o span = by_other own span (own_begins ∙ sym begins) in
       (span, there, (moved (before place (spans_of t)) later, some), begins)
     where
@@ -225,22 +125,19 @@ module _ (t : TreeView) (sound : IsSound t) (boxes : List Corners) (place : ℕ)
       let (q, q_at, q_begins) = placed_at (last_address t.schema.dims) t.placed i span at in
       let same : q ≡ p = same_place t.placed i there.0 q p (up_of t sound) q_at (contained_at t.placed p there) (begins ∙ sym q_begins) in
       let p_at : slice_get t.placed i ≡ Some p = q_at ∙ ap (λ (x : Placed). Some x) same in
-      let within = slice_get_within t.placed i p p_at in
-      let from = later_from (last_address t.schema.dims) (map entry_of t.placed) (up_of t sound) place i span (omega (arith, long)) at first.1.0 in
-      let so_far = those_up_to (MeetsIn t boxes) t.placed visited i place from (omega arith)
-      (λ m x after below m_at meets.
-      let found = later_that_meets m x after m_at meets in
-      let own = span_at (last_address t.schema.dims) t.placed m x m_at in
-      let ahead = ordered (last_address t.schema.dims) (map entry_of t.placed) (up_of t sound) m i own.0 span below own.1 at in
-      first.2 found.0 found.1 found.2 (subst (λ (key : Key). IsBefore key span.first) (own.2 ∙ sym found.3) ahead)) visits in
+      let from = later_from (spans_of t) (in_order t sound) place i span (omega (arith, long)) at first.1.0 in
       let meets : MeetsIn t boxes p = (span, first.0, sym begins, first.1.1) in (
         i,
         record {
           from = from;
           at = p_at;
           span_is = at;
-          those = subst (λ (placed : List Placed). AreThose (MeetsIn t boxes) placed (visited ++ p ∷ [])) (sym (take_next t.placed i p p_at))
-              (those_with (MeetsIn t boxes) (take i t.placed) visited p meets so_far);
+          those = those_next (MeetsIn t boxes) t.placed visited i place p from p_at meets
+              (λ m x after below m_at meets.
+              let found = later_that_meets m x after m_at meets in
+              let own = span_at (last_address t.schema.dims) t.placed m x m_at in
+              let ahead = in_order t sound m i own.0 span below own.1 at in
+              first.2 found.0 found.1 found.2 (subst (λ (key : Key). IsBefore key span.first) (own.2 ∙ sym found.3) ahead)) visits;
         },
       )
 

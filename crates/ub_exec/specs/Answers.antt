@@ -1,8 +1,8 @@
 -- What carrying out a plan answers.
 use Rattle.std.specs.Prelude.{◌≡◌, List, []}
-use Rattle.ub_plan.specs.Plan.{PlanView, plan_of}
-use Rattle.ub_plan.specs.declared.planned.Kind.{Kind}
-use Rattle.ub_plan.specs.declared.planned.Kind.TheVariants.{Empty, Scan, Sweep}
+use Rattle.ub_planning.specs.Plan.{PlanView, plan_of}
+use Rattle.ub_planning.specs.declared.planned.Kind.{Kind}
+use Rattle.ub_planning.specs.declared.planned.Kind.TheVariants.{Empty, Scan, Sweep}
 use Rattle.ub_query.specs.Meaning.{IsMeaning}
 use Rattle.ub_query.specs.Shape.{Asked}
 use Rattle.ub_query.specs.declared.cell.Cell.{Cell}

@@ -1,4 +1,3 @@
 pub mod Answers
-pub mod Faults
 pub mod Sweeping
 pub mod Visits

@@ -2,9 +2,9 @@
 use Rattle.std.specs.Prelude.{◌≡◌, ◌≤◌, ◌⊎◌, ◌++◌, ℕ, Bool, List, [], Option, Some, None, length, map, take}
 use Rattle.std.specs.List.{AllByRecursion, Contains, filter}
 use Rattle.ub_bigmin.specs.Box.{Corners}
-use Rattle.ub_plan.specs.Plan.{PlanView}
-use Rattle.ub_plan.specs.Visits as plan
-use Rattle.ub_plan.specs.Visits.{AreVisits}
+use Rattle.ub_planning.specs.Plan.{PlanView}
+use Rattle.ub_planning.specs.Visits as plan
+use Rattle.ub_planning.specs.Visits.{AreVisits}
 use Rattle.ub_region.specs.Those.{AreThose}
 use Rattle.ub_region.specs.Regions.{rows_of}
 use Rattle.ub_table.specs.declared.row.Row.{Row}
@@ -40,15 +40,10 @@ pub record HasFetchedFirst (p : PlanView) (old new : TreeView) (count : ℕ) : T
 
 -- ---- what a walk does
 
--- of some rows those that are chosen were handed over, after the rows that were taken before
-abbrev pub HandsThese : {T : Type 0} → (List Row → T → Type 0) → (Row → Bool) → T → T → List Row → Type 0
-HandsThese HasTaken chosen old new rows =
-    (taken : List Row) → HasTaken taken old → HasTaken (taken ++ filter chosen rows) new
-
--- the same of some rows that are told of
-abbrev pub Hands : {T : Type 0} → (List Row → T → Type 0) → (Row → Bool) → T → T → (List Row → Type 0) → Type 0
-Hands HasTaken chosen old new Are =
-    (taken : List Row) → HasTaken taken old → (rows : List Row) × HasTaken (taken ++ filter chosen rows) new × Are rows
+-- of some rows that are told of a sink took those that are chosen, after those that it took before
+abbrev pub Hands : {K : Type 0} → (K → List Row → K → Type 0) → (Row → Bool) → K → K → (List Row → Type 0) → Type 0
+Hands {K = K} HasTaken chosen old new Are = (before : K) (taken : List Row) → HasTaken before taken old
+    → (rows : List Row) × HasTaken before (taken ++ filter chosen rows) new × Are rows
 
 -- a region of the tree meets the boxes: some address of the span that begins with its first key lies in one of them
 abbrev pub MeetsIn : TreeView → List Corners → Placed → Type 0

@@ -1,18 +1,18 @@
 ghost use Rattle.std.specs.Prelude.{◌≡◌, ◌↔◌, ℕ, Some, length, IsTrue, IfOk, OnErr, OnOk};
 ghost use Rattle.ub_exec.specs.Answers.{IsReady, IsAnswer, IsSwept, begun};
-ghost use Rattle.ub_exec.specs.Faults.{ReadsTree};
 ghost use Rattle.ub_exec.specs.Visits.{HasFetched, HasFetchedFirst};
 ghost use Rattle.ub_query.specs.Posed.{IsPosed};
+ghost use Rattle.ub_tree.specs.Reading.{ReadsTree};
 
-use crate::fault::ExecFault;
 use crate::sweeping::swept_rows;
 use crate::walking::walk;
 use std::alloc::Global;
 use ub_answer::{Cells, Gathering};
-use ub_plan::{Choice, Kind, Plan};
+use ub_filter::Choice;
+use ub_planning::{Kind, Plan};
 use ub_query::Query;
 use ub_store::PageStore;
-use ub_tree::Tree;
+use ub_tree::{ReadFault, Tree};
 
 /// What a query answers.
 #[derive(Drop)]
@@ -33,7 +33,7 @@ pub fn execute<S: PageStore>(
     alloc: Global,
     tree: &mut Tree<S>,
     plan: &Plan,
-) -> Result<Answer, ExecFault>
+) -> Result<Answer, ReadFault>
     requires { IsPosed (length tree.old.schema.columns) plan.now.asked }
     ensures rows { IsReady tree.old plan.now → IfOk result
         (λ a. IsAnswer tree.old plan.now.asked a.rows) }
@@ -56,7 +56,7 @@ fn result_rows<S: PageStore>(
     alloc: Global,
     tree: &mut Tree<S>,
     plan: &Plan,
-) -> Result<Cells, ExecFault>
+) -> Result<Cells, ReadFault>
     requires { IsPosed (length tree.old.schema.columns) plan.now.asked }
     ensures rows { IsReady tree.old plan.now → IfOk result
         (λ cells. IsAnswer tree.old plan.now.asked cells) }
@@ -80,7 +80,7 @@ fn scanned_rows<S: PageStore>(
     alloc: Global,
     tree: &mut Tree<S>,
     plan: &Plan,
-) -> Result<Cells, ExecFault>
+) -> Result<Cells, ReadFault>
     requires { IsPosed (length tree.old.schema.columns) plan.now.asked }
     ensures rows { IsReady tree.old plan.now → IfOk result
         (λ cells. IsAnswer tree.old plan.now.asked cells) }

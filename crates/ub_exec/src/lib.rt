@@ -1,17 +1,15 @@
 // Plans carried out over a tree: the answer of a query, of which no more regions are fetched than its plan visits.
 //
-// A walk reads the regions that meet the plan's boxes, each once, in the order of their keys, and hands each selected row to a
-// taker (`walking`, `taker`); by what the rows of a page are told from the others is chosen once (`Choice`). The taker of a query
-// is its gathering, which makes the answer of them (`executing`).
+// A walk reads the regions that meet the plan's boxes, each once, in the order of their keys, and hands the chosen rows of each
+// to a sink (`walking`; which are chosen, and the loop over them, stand in `ub_filter`). The sink of a query is its gathering,
+// which makes the answer of them (`executing`). Where the plan is a sweep, the rows come from it in the order asked (`sweeping`).
 #![tactic(auto)]
 
 mod executing;
-mod fault;
 mod sweeping;
-mod taker;
 mod walking;
 
 pub use executing::{Answer, execute};
-pub use fault::ExecFault;
 pub use ub_answer::Cells;
-pub use ub_plan::Plan;
+pub use ub_planning::Plan;
+pub use ub_tree::ReadFault as ExecFault;

@@ -1,23 +1,22 @@
 ghost use Rattle.std.specs.Prelude.{◌≡◌, ◌++◌, false, ℕ, List, length, IfOk, OnErr, OnOk};
 ghost use Rattle.ub_exec.specs.Answers.{IsReady, IsAnswer, IsSwept, begun};
-ghost use Rattle.ub_exec.specs.Faults.{ReadsTree};
 ghost use Rattle.ub_exec.specs.Sweeping.{HasNotedMore, turns_of};
 ghost use Rattle.ub_exec.specs.Visits.{HasFetched, HasFetchedFirst};
-ghost use Rattle.ub_plan.specs.Visits.{Event};
+ghost use Rattle.ub_planning.specs.Visits.{Event};
 ghost use Rattle.ub_query.specs.Posed.{IsPosed};
 ghost use Rattle.ub_table.specs.declared.row.Row.{Row as RowView};
 ghost use Rattle.ub_tetris.specs.Sweep.{AreItsRegions, HasBegun, HasBroken, HasStepped, IsSweeping};
 ghost use Rattle.ub_tetris.specs.Sweep as sweep;
+ghost use Rattle.ub_tree.specs.Reading.{ReadsTree};
 ghost use Rattle.ub_tree.specs.View.{KeepsTrace};
 
-use crate::fault::ExecFault;
 use std::alloc::Global;
 use ub_answer::Cells;
-use ub_plan::Plan;
+use ub_planning::Plan;
 use ub_store::PageStore;
 use ub_table::Row;
 use ub_tetris::Sweep;
-use ub_tree::Tree;
+use ub_tree::{ReadFault, Tree};
 
 /// The rows of the result by a sweep, each put in as the sweep gives it. Once the limit is filled no more is asked of the sweep,
 /// so that no region is fetched for a row that isn't asked for. The trace begins anew.
@@ -25,7 +24,7 @@ pub(crate) fn swept_rows<S: PageStore>(
     alloc: Global,
     tree: &mut Tree<S>,
     plan: &Plan,
-) -> Result<Cells, ExecFault>
+) -> Result<Cells, ReadFault>
     requires { IsPosed (length tree.old.schema.columns) plan.now.asked }
     ensures rows { IsReady tree.old plan.now → IsSwept plan.now.kind
         → IfOk result (λ cells. IsAnswer tree.old plan.now.asked cells) }
@@ -64,7 +63,7 @@ fn begin_sweep<S: PageStore>(
     alloc: Global,
     tree: &mut Tree<S>,
     plan: &Plan,
-) -> Result<Sweep, ExecFault>
+) -> Result<Sweep, ReadFault>
     ensures begun { (dim : ℕ) (is_descending : _) → sweep.IsSwept tree.old plan.now dim
         is_descending
         → IfOk result (HasBegun plan.now tree.new) }
@@ -74,10 +73,7 @@ fn begin_sweep<S: PageStore>(
     ensures broken { OnErr result (KeepsTrace (begun tree.old) tree.new) }
     ensures effect { ReadsTree tree.old tree.new result }
 {
-    match Sweep::new(alloc, tree, plan) {
-        Ok(sweep) => Ok(sweep),
-        Err(fault) => Err(ExecFault::of_sweep(fault)),
-    }
+    Ok(Sweep::new(alloc, tree, plan)?)
 }
 
 // The next row of a sweep that hasn't failed.
@@ -85,7 +81,7 @@ fn next_row<S: PageStore>(
     sweep: &mut Sweep,
     tree: &mut Tree<S>,
     plan: &Plan,
-) -> Result<Option<Row>, ExecFault>
+) -> Result<Option<Row>, ReadFault>
     requires posed { IsPosed (length tree.old.schema.columns) plan.now.asked }
     requires working { sweep.old.is_failed ≡ false }
     requires regions { AreItsRegions tree.old sweep.old }
@@ -100,8 +96,5 @@ fn next_row<S: PageStore>(
     ensures noted { HasNotedMore tree.old tree.new }
     ensures effect { ReadsTree tree.old tree.new result }
 {
-    match sweep.next(tree, plan) {
-        Ok(found) => Ok(found),
-        Err(fault) => Err(ExecFault::of_sweep(fault)),
-    }
+    Ok(sweep.next(tree, plan)?)
 }

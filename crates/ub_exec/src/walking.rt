@@ -1,36 +1,34 @@
 ghost use Rattle.std.specs.Prelude.{◌≡◌, ◌++◌, List, length, option_copied, IfOk, OnErr, OnOk};
 ghost use Rattle.std.specs.List.{filter};
-ghost use Rattle.ub_plan.specs.Choice.{IsFit, is_chosen};
-ghost use Rattle.ub_exec.specs.Faults.{ReadsTree};
-ghost use Rattle.ub_exec.specs.Visits.{Hands, HandsThese, HasTurned, HasTurnedSome, HasWalked, HasWalkedFirst};
+ghost use Rattle.ub_filter.specs.Choice.{IsFit, is_chosen};
+ghost use Rattle.ub_exec.specs.Visits.{Hands, HasTurned, HasTurnedSome, HasWalked, HasWalkedFirst};
 ghost use Rattle.ub_query.specs.Posed.{IsPosed};
 ghost use Rattle.ub_table.specs.declared.row.Row.{Row as RowView};
+ghost use Rattle.ub_tree.specs.Reading.{ReadsTree};
 ghost use Rattle.ub_tree.specs.View.{IsSound};
 
-use crate::fault::ExecFault;
-use crate::taker::Taker;
-use std::alloc::AllocError;
+use ub_filter::{Choice, push_chosen};
 use ub_page::RegionPage;
-use ub_plan::{Choice, Plan, is_set, is_true};
+use ub_planning::Plan;
+use ub_query::RowSink;
 use ub_store::PageStore;
-use ub_table::Schema;
-use ub_tree::{Region, Tree};
+use ub_tree::{ReadFault, Region, Tree};
 
-/// Reads each region that meets the plan's boxes, once, in the order of their keys, and hands over the rows in them that are
+/// Reads each region that meets the plan's boxes, once, in the order of their keys, and hands a sink the rows in them that are
 /// chosen.
-pub(crate) fn walk<S: PageStore, T: Taker>(
+pub(crate) fn walk<S: PageStore, K: RowSink>(
     tree: &mut Tree<S>,
     plan: &Plan,
     choice: Choice,
-    taker: &mut T,
-) -> Result<(), ExecFault>
+    sink: &mut K,
+) -> Result<(), ReadFault>
     requires posed { IsPosed (length tree.old.schema.columns) plan.now.asked }
     requires fit { IsFit tree.old.schema plan.now choice }
-    ensures rows { OnOk result (Hands (T.HasTaken tree.old.schema plan.now.asked)
-        (is_chosen choice tree.old.schema plan.now) taker.old taker.new
+    ensures rows { OnOk result (Hands (K.HasTaken tree.old.schema plan.now.asked)
+        (is_chosen choice tree.old.schema plan.now) sink.old sink.new
         (λ rows. IsSound tree.old → HasWalked plan.now.covering.boxes tree.old tree.new rows)) }
-    ensures broken { (taken : List RowView) → T.HasTaken tree.old.schema plan.now.asked taken
-        taker.old
+    ensures broken { (before : K) (taken : List RowView)
+        → K.HasTaken tree.old.schema plan.now.asked before taken sink.old
         → IsSound tree.old → OnErr result (HasWalkedFirst plan.now.covering.boxes tree.old
         tree.new) }
     ensures effect { ReadsTree tree.old tree.new result }
@@ -38,7 +36,7 @@ pub(crate) fn walk<S: PageStore, T: Taker>(
     let mut page = tree.empty_region();
     let mut after = None;
     for _turn in 0..tree.regions() {
-        after = visit_next(tree, plan, choice, after.as_ref(), &mut page, taker)?;
+        after = visit_next(tree, plan, choice, after.as_ref(), &mut page, sink)?;
         if after.is_none() {
             return Ok(());
         }
@@ -46,20 +44,20 @@ pub(crate) fn walk<S: PageStore, T: Taker>(
     Ok(())
 }
 
-// Reads the next region that meets the boxes, later than the one given, into the page, and hands over its chosen rows; None
+// Reads the next region that meets the boxes, later than the one given, into the page, and hands the sink its chosen rows; None
 // where there is no more.
-fn visit_next<S: PageStore, T: Taker>(
+fn visit_next<S: PageStore, K: RowSink>(
     tree: &mut Tree<S>,
     plan: &Plan,
     choice: Choice,
     after: Option<&Region>,
     page: &mut RegionPage,
-    taker: &mut T,
-) -> Result<Option<Region>, ExecFault>
+    sink: &mut K,
+) -> Result<Option<Region>, ReadFault>
     requires posed { IsPosed (length tree.old.schema.columns) plan.now.asked }
     requires fit { IsFit tree.old.schema plan.now choice }
-    ensures rows { IfOk result (λ found. Hands (T.HasTaken tree.old.schema plan.now.asked)
-        (is_chosen choice tree.old.schema plan.now) taker.old taker.new
+    ensures rows { IfOk result (λ found. Hands (K.HasTaken tree.old.schema plan.now.asked)
+        (is_chosen choice tree.old.schema plan.now) sink.old sink.new
         (λ rows. IsSound tree.old
         → HasTurned plan.now.covering.boxes (option_copied after.entry) tree.old tree.new found
         rows)) }
@@ -71,34 +69,6 @@ fn visit_next<S: PageStore, T: Taker>(
         return Ok(None);
     };
     tree.read_region(&region, page)?;
-    hand_over(taker, tree.schema(), plan, choice, page)?;
+    push_chosen(sink, tree.schema(), plan, choice, page)?;
     Ok(Some(region))
-}
-
-// Hands over the rows of a page that are chosen.
-fn hand_over<T: Taker>(
-    taker: &mut T,
-    schema: &Schema,
-    plan: &Plan,
-    choice: Choice,
-    page: &RegionPage,
-) -> Result<(), AllocError>
-    requires posed { IsPosed (length schema.now.columns) plan.now.asked }
-    requires fit { IsFit schema.now plan.now choice }
-    requires dims { page.now.dims ≡ schema.now.dims }
-    ensures { OnOk result (HandsThese (T.HasTaken schema.now plan.now.asked)
-        (is_chosen choice schema.now plan.now) taker.old taker.new page.now.region.rows) }
-{
-    let near = choice.near(plan, schema, page);
-    let condition = choice.asked(plan);
-    let query = plan.query();
-    for place in 0..page.len() {
-        if is_set(near, place) {
-            let row = page.row(place);
-            if is_true(condition, schema, &row) {
-                taker.take(schema, query, &row)?;
-            }
-        }
-    }
-    Ok(())
 }

@@ -1,5 +1,5 @@
 -- Spaces at the ends, and numbers as `parse` reads them.
-use Rattle.std.proofs.Common.{◌≡◌, ◌↔◌, ◌<◌, ◌==◌, ℕ, zero, suc, true, false, List, [], ◌∷◌, refl, arith, inl, inr}
+use Rattle.std.proofs.Common.{◌≡◌, ◌↔◌, ◌<◌, ◌+◌, ◌==◌, ℕ, zero, suc, true, List, [], ◌∷◌, Some, refl, arith, inl, inr}
 use Rattle.std.proofs.lemmas.Bool.{and_parts, and_from, false≢true, cases_Bool, ltb-true, lt-ltb, leb-true, le-leb, eqb-true}
 use Rattle.std.proofs.lemmas.Bool.Decides.{nat_tests}
 use Rattle.std.proofs.lemmas.Str.Parse.{digit_from_value}
@@ -8,10 +8,14 @@ use Rattle.std.specs.List.{list_all}
 use Rattle.std.specs.Str.{IsAscii, IsUtf8}
 use Rattle.std.proofs.lemmas.Str.{IsUtf8-from_ascii}
 use Rattle.std.specs.Str.Parse.{AllDigits, IsNumeral, ParsesSigned, without_leading_sign}
-use Rattle.std.specs.Prelude.{ℤ, pos, negsuc, nat_abs, FitsSigned, nat_le, Result, Ok, Err, IfSome, IsSome}
+use Rattle.std.specs.Prelude.{ℤ, pos, negsuc, FitsSigned, Result, Ok, Err, IfSome, IsSome}
 use Rattle.std.specs.Result.{result_ok}
 use Rattle.std.specs.Int.{w64}
-use Rattle.ub_load.specs.Field.{is_number, number_of, fits_column}
+use Rattle.ub_load.specs.Field.{IsWord, is_number, number_of, trimmed}
+use Rattle.ub_load.specs.Refusals.{field_refusal}
+use Rattle.ub_load.specs.declared.fault.LoadFault.TheVariants.{OutOfRange}
+use Rattle.ub_table.proofs.Laws.{fits_some_measure}
+use Rattle.ub_table.specs.Value.{fits_at, fits_measure}
 
 digit_is : (c : ℕ) → is_ascii_digit c ≡ true → digit_value c < 10
 digit_is c h = grind (arith, nat_tests)
@@ -39,22 +43,13 @@ unfolding is_number
 number_from text h = and_from _ _ (lt-ltb 0 _ h.0) (all_from_digits _ h.1)
 
 -- what fits a measure's column is what fits 64 bits
-pub fits_from : (z : ℤ) → FitsSigned w64 z → fits_column false z ≡ true
+pub fits_from : (z : ℤ) → FitsSigned w64 z → fits_measure z ≡ true
 fits_from (pos n) h = let l : n < 9223372036854775808 = h.sfits in le-leb n 9223372036854775807 (omega arith)
 fits_from (negsuc n) h = let l : n < 9223372036854775808 = h.sfits in and_from _ true (le-leb n 9223372036854775807 (omega arith)) refl
 
-pub fits_to : (z : ℤ) → fits_column false z ≡ true → FitsSigned w64 z
+pub fits_to : (z : ℤ) → fits_measure z ≡ true → FitsSigned w64 z
 fits_to (pos n) h = let l = leb-true n 9223372036854775807 h in record { sfits = omega arith }
 fits_to (negsuc n) h = let l = leb-true n 9223372036854775807 (and_parts _ true h).0 in record { sfits = omega arith }
-
--- a dimension's values are 64-bit numbers, none below 0
-pub smaller_fits : (z : ℤ) → fits_column true z ≡ true → fits_column false z ≡ true
-smaller_fits (pos n) h = let l = leb-true n 4294967295 (and_parts (nat_le 0 n) _ h).1 in le-leb n 9223372036854775807 (omega arith)
-smaller_fits (negsuc n) h = cc
-
-pub dimension_is : (z : ℤ) → fits_column true z ≡ true → (z ≡ pos (nat_abs z)) × (nat_abs z < 4294967296)
-dimension_is (pos n) h = let l = leb-true n 4294967295 (and_parts (nat_le 0 n) _ h).1 in (refl, omega arith)
-dimension_is (negsuc n) h = cc
 
 -- what `parse` reads
 pub parsed_value : {E : Type 0} (text : List ℕ) (r : Result ℤ E) → ParsesSigned w64 10 text r → IfSome (result_ok r) (λ v. v ≡ number_of text)
@@ -63,10 +58,18 @@ parsed_value text (Ok v) h = h.1
 parsed_value text (Err e) h = tt
 
 pub parsed_valid : {E : Type 0} (text : List ℕ) (r : Result ℤ E) → ParsesSigned w64 10 text r
-    → IsSome (result_ok r) ↔ ((is_number text ≡ true) × (fits_column false (number_of text) ≡ true))
+    → IsSome (result_ok r) ↔ ((is_number text ≡ true) × (fits_measure (number_of text) ≡ true))
 unfolding number_of
 parsed_valid text (Ok v) h = (λ _. (number_from text h.0.0, fits_from (number_of text) h.0.1), λ _. refl)
 parsed_valid text (Err e) h = (λ bad. absurd (false≢true bad), λ p. absurd (h (numeral_from text p.0, fits_to (number_of text) p.1)))
+
+-- a number that 64 bits with sign don't hold is refused in each column
+pub out_of_range : (dims row place : ℕ) (field : List ℕ) → is_number (trimmed field) ≡ true → ¬ (IsWord (trimmed field))
+    → field_refusal dims row (place, field) ≡ Some (OutOfRange row (place + 1))
+out_of_range dims row place field is none = elim (cases_Bool (fits_at dims place (number_of (trimmed field)))) [
+  | inl t ↦ absurd (none (is, fits_some_measure dims place (number_of (trimmed field)) t))
+  | inr f ↦ rw (is, f) refl
+]
 
 digits_ascii : (ds : List ℕ) → AllDigits 10 ds → IsAscii ds
 digits_ascii [] h i = omega arith

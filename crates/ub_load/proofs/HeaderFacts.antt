@@ -10,7 +10,7 @@ use Rattle.ub_load.specs.declared.fault.LoadFault.{LoadFault}
 use Rattle.ub_load.specs.declared.fault.LoadFault.TheVariants.{BadName, ColumnCount}
 use Rattle.ub_load.proofs.RefusalFacts.{take_one}
 use Rattle.ub_table.specs.Name.{is_name}
-use Rattle.ub_table.specs.Schema.{AreCounts, AreDistinct}
+use Rattle.ub_table.specs.Schema.{AreCounts, AreDistinct, AreTableNumbers}
 
 pub get-map : {X Y : Type 0} (h : X → Y) (xs : List X) (i : ℕ) (x : X) → slice_get xs i ≡ Some x → slice_get (map h xs) i ≡ Some (h x)
 get-map h [] i x e = cc
@@ -101,8 +101,9 @@ header_with_names dims name names o low high h e =
     rw (a, b, h) e
 
 -- the numbers of a table whose header is fine
-pub counts : (columns dims page_rows : ℕ) → 1 ≤ dims → dims ≤ 4 → dims ≤ columns → columns ≤ dims + 4 → 2 ≤ page_rows → page_rows ≤ 64 → AreCounts columns dims page_rows
-counts columns dims page_rows a b c d e f = record { some_dims = a; few_dims = b; covers_dims = c; few_measures = d; some_rows = e; few_rows = f }
+pub counts : (columns dims page_rows : ℕ) → AreTableNumbers dims page_rows → dims ≤ columns → columns ≤ dims + 4 → AreCounts columns dims page_rows
+counts columns dims page_rows are covers few =
+    record { some_dims = are.some_dims; few_dims = are.few_dims; covers_dims = covers; few_measures = few; some_rows = are.some_rows; few_rows = are.few_rows }
 
 pub never_true : (b : Bool) → (b ≡ true → ⊥) → b ≡ false
 never_true true h = absurd (h refl)

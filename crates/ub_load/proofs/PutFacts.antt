@@ -3,19 +3,22 @@ use Rattle.std.proofs.Common.{◌≡◌, ◌+◌, ◌-◌, ◌<◌, ◌≤◌, �
 use Rattle.std.specs.Prelude.{FitsSigned, nat_lt, if◌then◌else◌}
 use Rattle.std.specs.Int.{w64}
 use Rattle.std.specs.List.{AllByRecursion, enumerate_from}
-use Rattle.std.proofs.lemmas.Bool.{cases_Bool, eqb-true, lt-ltb, le-ltb}
+use Rattle.std.proofs.lemmas.Bool.{cases_Bool, eqb-true, le-ltb}
 use Rattle.std.proofs.lemmas.List.{length-map, take-append-drop}
+use Rattle.std.proofs.lemmas.List.FromFn.{length-enumerate_from}
 use Rattle.std.proofs.lemmas.List.Elements.{All-from_recursion}
 use Rattle.ub_tree.proofs.Laws.{new_row}
 use Rattle.ub_tree.specs.Change.{row_of as made_of}
-use Rattle.ub_load.specs.Field.{trimmed, is_number, number_of, fits_column}
-use Rattle.ub_load.specs.LoadedTable.{row_of}
+use Rattle.ub_load.specs.Field.{trimmed, is_number, number_of}
+use Rattle.ub_load.specs.LoadedTable.{coordinate_of, row_of}
 use Rattle.ub_load.specs.Refusals.{content_refusal, content_refusals, field_refusal, fields_refusal, first_of}
 use Rattle.ub_load.specs.declared.fault.LoadFault.{LoadFault}
 use Rattle.ub_load.specs.declared.fault.LoadFault.TheVariants.{Csv, BadNumber, OutOfRange}
-use Rattle.ub_load.proofs.FieldFacts.{dimension_is, fits_to}
-use Rattle.ub_load.proofs.RowFacts.{coordinate, measure}
+use Rattle.ub_load.proofs.FieldFacts.{fits_to}
+use Rattle.ub_load.proofs.RowFacts.{measure}
+use Rattle.ub_table.proofs.Laws.{fitting_coordinate}
 use Rattle.ub_table.specs.Region.{IsRow, HasRest}
+use Rattle.ub_table.specs.Value.{fits_at}
 use Rattle.ub_table.specs.declared.row.Row.{Row}
 
 none_head : (o : Option LoadFault) (rest : List (Option LoadFault)) → first_of (o ∷ rest) ≡ None → (o ≡ None) × (first_of rest ≡ None)
@@ -23,23 +26,24 @@ none_head None rest h = (refl, h)
 none_head (Some f) rest h = cc
 
 -- a field that is accepted fits its column
-field_fits : (dims n k : ℕ) (f : List ℕ) → field_refusal dims n (k, f) ≡ None → fits_column (nat_lt k dims) (number_of (trimmed f)) ≡ true
+field_fits : (dims n k : ℕ) (f : List ℕ) → field_refusal dims n (k, f) ≡ None → fits_at dims k (number_of (trimmed f)) ≡ true
 field_fits dims n k f h = elim (cases_Bool (is_number (trimmed f))) [
-  | inl t ↦ elim (cases_Bool (fits_column (nat_lt k dims) (number_of (trimmed f)))) [
+  | inl t ↦ elim (cases_Bool (fits_at dims k (number_of (trimmed f)))) [
     | inl u ↦ u
     | inr u ↦ let bad : Some (OutOfRange n (k + 1)) ≡ None = rw (t, u) at h in cc
   ]
   | inr m ↦ let bad : Some (BadNumber n (k + 1)) ≡ None = rw m at h in cc
 ]
 
-coordinates_fit : (dims n k d : ℕ) (fs : List (List ℕ)) → k + d ≤ dims → first_of (map (field_refusal dims n) (enumerate_from k fs)) ≡ None → AllByRecursion (λ x. x < 2 ^ 32) (map coordinate (take d fs))
+coordinates_fit : (dims n k d : ℕ) (fs : List (List ℕ)) → k + d ≤ dims → first_of (map (field_refusal dims n) (enumerate_from k fs)) ≡ None
+    → AllByRecursion (λ x. x < 2 ^ 32) (map (coordinate_of dims) (enumerate_from k (take d fs)))
 coordinates_fit dims n k zero fs le h = tt
 coordinates_fit dims n k (suc d) [] le h = tt
 coordinates_fit dims n k (suc d) (f ∷ fs) le h =
     let parts = none_head (field_refusal dims n (k, f)) (map (field_refusal dims n) (enumerate_from (k + 1) fs)) h in
-    let before : nat_lt k dims ≡ true = lt-ltb k dims (omega arith) in
-    let fit = rw before at (field_fits dims n k f parts.0) in
-    ((dimension_is (number_of (trimmed f)) fit).1, coordinates_fit dims n (k + 1) d fs (omega arith) parts.1)
+    let found = fitting_coordinate dims k (number_of (trimmed f)) (omega arith) (field_fits dims n k f parts.0) in
+    let small = found.2 in
+    (rw found.1 (omega (arith, small)), coordinates_fit dims n (k + 1) d fs (omega arith) parts.1)
 
 measures_fit : (dims n k d : ℕ) (fs : List (List ℕ)) → dims ≤ k + d → first_of (map (field_refusal dims n) (enumerate_from k fs)) ≡ None → AllByRecursion (λ x. FitsSigned w64 x) (map measure (drop d fs))
 measures_fit dims n k zero [] le h = tt
@@ -98,10 +102,11 @@ accepted_row dims width number fields few covers most some last h =
     let long : length fields ≡ width = parts.0 in
     let taken = length_taken dims fields (omega arith) in
     let left = length_left dims fields in
-    let ds = length-map (take dims fields) coordinate in
+    let numbered = enumerate_from 0 (take dims fields) in
+    let ds = length-map numbered (coordinate_of dims) ∙ length-enumerate_from 0 (take dims fields) in
     let ms = length-map (drop dims fields) measure in
-    let made = new_row dims (width - dims) number (map coordinate (take dims fields)) (map measure (drop dims fields)) (ds ∙ taken) (ms ∙ left ∙ omega arith) few (omega arith) some last
-    (All-from_recursion (λ x. x < 2 ^ 32) (map coordinate (take dims fields)) (coordinates_fit dims number 0 dims fields (omega arith) parts.1))
+    let made = new_row dims (width - dims) number (map (coordinate_of dims) numbered) (map measure (drop dims fields)) (ds ∙ taken) (ms ∙ left ∙ omega arith) few (omega arith) some last
+    (All-from_recursion (λ x. x < 2 ^ 32) (map (coordinate_of dims) numbered) (coordinates_fit dims number 0 dims fields (omega arith) parts.1))
     (measures_fit dims number 0 dims fields (omega arith) parts.1) in
     rw (ds, ms) at made
 

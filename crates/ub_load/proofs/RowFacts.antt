@@ -1,10 +1,14 @@
 -- The values of a record's fields, one field at a time.
-use Rattle.std.proofs.Common.{Bor, ◌≡◌, ◌+◌, ◌-◌, ◌<◌, ◌≤◌, ℕ, zero, suc, List, [], ◌∷◌, ◌++◌, length, take, drop, map, replicate, slice_get, slice_set, Option, Some, None, refl, sym, ap, ◌∙◌, arith, length-append, add-one}
-use Rattle.std.specs.Prelude.{ℤ, pos, nat_abs, IsSome, option_map}
+use Rattle.std.proofs.Common.{Bor, ◌≡◌, ◌+◌, ◌-◌, ◌<◌, ◌≤◌, ℕ, true, zero, suc, List, [], ◌∷◌, ◌++◌, length, take, drop, map, replicate, slice_get, slice_set, Option, Some, None, refl, sym, ap, ◌∙◌, arith, length-append, add-one}
+use Rattle.std.specs.Prelude.{ℤ, pos, IsSome, option_map}
+use Rattle.std.proofs.lemmas.List.FromFn.{length-enumerate_from}
+use Rattle.std.specs.List.{enumerate_from}
 use Rattle.csv.specs.Records.{field_at}
-use Rattle.ub_load.proofs.RefusalFacts.{take_one, length-taken}
+use Rattle.ub_load.proofs.RefusalFacts.{enumerate_from-append, take_one, length-taken}
 use Rattle.ub_load.specs.Field.{trimmed, number_of}
-use Rattle.ub_load.specs.LoadedTable.{coordinates_of, measures_of, row_of}
+use Rattle.ub_load.specs.LoadedTable.{coordinate_of, coordinates_of, measures_of, row_of}
+use Rattle.ub_table.proofs.Laws.{fitting_coordinate}
+use Rattle.ub_table.specs.Value.{coordinate_at, fits_at}
 use Rattle.ub_table.specs.declared.row.Row.{Row}
 
 module _ {X A : Type 0} (g : X → A) (z : A) where
@@ -23,6 +27,18 @@ module _ {X A : Type 0} (g : X → A) (z : A) where
       let before : suc n - suc (length ys) ≡ n - length ys = omega arith in
       let after : suc n - suc (length (ys ++ x ∷ [])) ≡ n - length (ys ++ x ∷ []) = omega arith in
       rw (before, after) (ap (λ r. g y ∷ r) (padded-more n ys x (omega arith)))
+
+module _ {X A : Type 0} (g : ℕ × X → A) (z : A) where
+  -- the same of items with their places
+  pub numbered-more : (n : ℕ) (xs : List X) (x : X) → length xs < n
+      → map g (enumerate_from 0 (xs ++ x ∷ [])) ++ replicate (n - length (xs ++ x ∷ [])) z
+      ≡ slice_set (map g (enumerate_from 0 xs) ++ replicate (n - length xs) z) (length xs) (g (length xs, x))
+  numbered-more n xs x h =
+      let long = length-enumerate_from 0 xs in
+      let more = length-enumerate_from 0 (xs ++ x ∷ []) in
+      let place : 0 + length xs ≡ length xs = omega arith in
+      let items = enumerate_from-append 0 xs (x ∷ []) ∙ ap (λ (k : ℕ). enumerate_from 0 xs ++ (k, x) ∷ []) place in
+      rw (long, ← items, more) at (padded-more g z n (enumerate_from 0 xs) (length xs, x) (omega arith))
 
 take_short : {X : Type 0} (n : ℕ) (xs : List X) → length xs ≤ n → take n xs ≡ xs
 take_short zero [] h = refl
@@ -51,20 +67,18 @@ length_left zero xs = omega arith
 length_left (suc n) [] = omega arith
 length_left (suc n) (x ∷ xs) = length_left n xs ∙ omega arith
 
--- the value of a field
-abbrev pub coordinate : List ℕ → ℕ
-coordinate f = nat_abs (number_of (trimmed f))
-
+-- the measure of a field
 abbrev pub measure : List ℕ → ℤ
 measure f = number_of (trimmed f)
 
 -- a dimension's field goes to its place among the coordinates
 pub more_coordinates : (dims : ℕ) (fs : List (List ℕ)) (f : List ℕ) → length fs < dims → dims ≤ 4
-    → (coordinates_of dims (fs ++ f ∷ []) ≡ slice_set (coordinates_of dims fs) (length fs) (coordinate f)) × (measures_of dims (fs ++ f ∷ []) ≡ measures_of dims fs)
+    → (coordinates_of dims (fs ++ f ∷ []) ≡ slice_set (coordinates_of dims fs) (length fs) (coordinate_of dims (length fs, f)))
+    × (measures_of dims (fs ++ f ∷ []) ≡ measures_of dims fs)
 more_coordinates dims fs f h le =
     let more : length (fs ++ f ∷ []) ≤ dims = omega (arith, length-append fs (f ∷ [])) in
     rw (take_short dims (fs ++ f ∷ []) more, drop_short dims (fs ++ f ∷ []) more, take_short dims fs (omega arith), drop_short dims fs (omega arith))
-    (padded-more coordinate 0 4 fs f (omega arith), refl)
+    (numbered-more (coordinate_of dims) 0 4 fs f (omega arith), refl)
 
 -- a measure's to its own
 pub more_measures : (dims : ℕ) (fs : List (List ℕ)) (f : List ℕ) → dims ≤ length fs → length fs < dims + 4
@@ -97,7 +111,7 @@ got_is fs i o r e h = sym (at_place fs i) ∙ sym h ∙ ap (option_map (λ s. s.
 
 -- one more field of a row
 pub coordinate_more : (dims number : ℕ) (fs : List (List ℕ)) (f : List ℕ) → length fs < dims → dims ≤ 4
-    → row_of dims (number, fs ++ f ∷ []) ≡ record (row_of dims (number, fs)) { dims = slice_set (row_of dims (number, fs)).dims (length fs) (coordinate f) }
+    → row_of dims (number, fs ++ f ∷ []) ≡ record (row_of dims (number, fs)) { dims = slice_set (row_of dims (number, fs)).dims (length fs) (coordinate_of dims (length fs, f)) }
 unfolding row_of
 coordinate_more dims number fs f h le =
     let m = more_coordinates dims fs f h le in
@@ -120,13 +134,24 @@ pub take_all : {X : Type 0} (n : ℕ) (xs : List X) → length xs ≤ n → take
 take_all n xs h = take_short n xs h
 
 -- the row with the value of one more field in its place
-pub row_with_coordinate : (dims number place : ℕ) (fs : List (List ℕ)) (f : List ℕ) (row new : Row) (v : ℤ) → slice_get fs place ≡ Some f → row ≡ row_of dims (number, take place fs)
-    → place < dims → dims ≤ 4 → v ≡ number_of (trimmed f) → new ≡ record { number = row.number; dims = slice_set row.dims place (nat_abs v); measures = row.measures }
+pub row_with_coordinate : (dims number place : ℕ) (fs : List (List ℕ)) (f : List ℕ) (row new : Row) (x : ℕ) → slice_get fs place ≡ Some f → row ≡ row_of dims (number, take place fs)
+    → place < dims → dims ≤ 4 → x ≡ coordinate_of dims (place, f) → new ≡ record { number = row.number; dims = slice_set row.dims place x; measures = row.measures }
     → new ≡ row_of dims (number, take (place + 1) fs)
-row_with_coordinate dims number place fs f row new v at is h le val e =
+row_with_coordinate dims number place fs f row new x at is h le val e =
     let long : length (take place fs) ≡ place = length-taken fs place f at in
     let more = coordinate_more dims number (take place fs) f (omega arith) le in
     e ∙ rw (is, val, add-one, take_one fs place f at) (sym (rw long at more))
+
+-- the coordinate of a field that fits its dimension: there is one
+pub some_coordinate : (dims place : ℕ) (v : ℤ) (o : Option ℕ) → place < dims → fits_at dims place v ≡ true → o ≡ coordinate_at dims place v → IsSome o
+some_coordinate dims place v o lt fits is = rw (is ∙ (fitting_coordinate dims place v lt fits).1) refl
+
+-- and this is it
+pub told_coordinate : (dims place : ℕ) (f : List ℕ) (v : ℤ) (o : Option ℕ) (x : ℕ) → v ≡ number_of (trimmed f) → o ≡ coordinate_at dims place v → o ≡ Some x
+    → x ≡ coordinate_of dims (place, f)
+told_coordinate dims place f v o x val is some =
+    let e : coordinate_at dims place (number_of (trimmed f)) ≡ Some x = rw val at (sym is ∙ some) in
+    rw e refl
 
 pub row_with_measure : (dims number place : ℕ) (fs : List (List ℕ)) (f : List ℕ) (row new : Row) (v : ℤ) → slice_get fs place ≡ Some f → row ≡ row_of dims (number, take place fs)
     → dims ≤ place → place < dims + 4 → v ≡ number_of (trimmed f) → new ≡ record { number = row.number; dims = row.dims; measures = slice_set row.measures (place - dims) v }

@@ -11,12 +11,13 @@ use Rattle.ub_tree.specs.Effects.{IsLeft}
 use Rattle.ub_tree.specs.View.{TreeView, IsSound, KeepsTrace}
 use Rattle.ub_tree.specs.declared.fault.TreeFault.{TreeFault}
 use Rattle.ub_tree.specs.declared.fault.TreeFault.TheVariants as tree
-use Rattle.ub_load.specs.Field.{trimmed, is_number, number_of, fits_column}
+use Rattle.ub_load.specs.Field.{trimmed, is_number, number_of}
 use Rattle.ub_load.specs.Loading.{IsNewFault, IsToldOf}
 use Rattle.ub_load.specs.Refusals.{content_refusal, content_refusals, fault_of_tree, field_refusal, first_of, header_refusals, name_refusal}
 use Rattle.ub_load.specs.declared.fault.LoadFault.{LoadFault}
 use Rattle.ub_load.specs.declared.fault.LoadFault.TheVariants.{NoHeader, Csv, Tree, Memory, BadName, BadNumber, OutOfRange, ColumnCount}
 use Rattle.ub_table.specs.Name.{is_name}
+use Rattle.ub_table.specs.Value.{fits_at}
 
 -- what is told where something is the first thing wrong is told where that is the first thing wrong of more
 pub told_after : {first later : Option LoadFault} {F B G C : Type 0} → ((f : LoadFault) → first ≡ Some f → later ≡ Some f) → (F → G) → (B → C) → (f : LoadFault)
@@ -137,7 +138,7 @@ all_found g P h (x ∷ xs) = (h x, all_found g P h xs)
 
 field_is_of_text : (dims row : ℕ) (f : ℕ × List ℕ) → IfSome (field_refusal dims row f) IsOfText
 field_is_of_text dims row f = elim (cases_Bool (is_number (trimmed f.1))) [
-  | inl t ↦ elim (cases_Bool (fits_column (nat_lt f.0 dims) (number_of (trimmed f.1)))) [
+  | inl t ↦ elim (cases_Bool (fits_at dims f.0 (number_of (trimmed f.1)))) [
     | inl u ↦ rw (t, u) tt
     | inr u ↦ rw (t, u) (λ fault e. cc)
   ]

@@ -1,9 +1,11 @@
 -- The table that a CSV text holds: the first record is the header, and record k of the rest is row k.
-use Rattle.std.specs.Prelude.{◌≡◌, ℕ, ◌-◌, ℤ, pos, nat_abs, List, ◌∷◌, ◌++◌, length, map, take, drop, replicate, None}
+use Rattle.std.specs.Prelude.{◌≡◌, ℕ, ◌-◌, ℤ, pos, List, ◌∷◌, ◌++◌, length, map, take, drop, replicate, None}
 use Rattle.std.specs.List.{enumerate_from}
+use Rattle.std.specs.Option.{unwrap_or}
 use Rattle.csv.specs.Reading.{default_config, strip_bom, records}
 use Rattle.ub_load.specs.Field.{trimmed, number_of}
 use Rattle.ub_load.specs.Refusals.{first_refusal}
+use Rattle.ub_table.specs.Value.{coordinate_at}
 use Rattle.ub_table.specs.declared.row.Row.{Row}
 use Rattle.ub_table.specs.declared.schema.Schema.{Schema}
 
@@ -12,10 +14,14 @@ use Rattle.ub_table.specs.declared.schema.Schema.{Schema}
 abbrev pub records_of : List ℕ → List (List (List ℕ))
 records_of text = records default_config (strip_bom text)
 
+-- the coordinate that stands for the number of a field (with its place from 0); 0 where there is none, of a field that is refused
+abbrev pub coordinate_of : ℕ → ℕ × List ℕ → ℕ
+coordinate_of dims f = unwrap_or (coordinate_at dims f.0 (number_of (trimmed f.1))) 0
+
 -- the coordinates of a record, four with the unused ones 0
 abbrev pub coordinates_of : ℕ → List (List ℕ) → List ℕ
 coordinates_of dims fields =
-    map (λ f. nat_abs (number_of (trimmed f))) (take dims fields) ++ replicate (4 - length (take dims fields)) 0
+    map (coordinate_of dims) (enumerate_from 0 (take dims fields)) ++ replicate (4 - length (take dims fields)) 0
 
 -- the measures of a record, four with the unused ones 0
 abbrev pub measures_of : ℕ → List (List ℕ) → List ℤ

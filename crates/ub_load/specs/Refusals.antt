@@ -2,7 +2,7 @@
 use Rattle.std.specs.Prelude.{◌≡◌, ℕ, ℤ, Bool, true, ◌+◌, ◌==◌, ◌&&◌, ◌||◌, not, nat_lt, nat_le, if◌then◌else◌, List, [], ◌∷◌, ◌++◌, length, map, take, Option, Some, None, slice_get}
 use Rattle.std.specs.List.{filter_map, flat_map, enumerate_from, list_any}
 use Rattle.std.specs.Str.{bytes_eq}
-use Rattle.ub_load.specs.Field.{trimmed, is_number, number_of, fits_column}
+use Rattle.ub_load.specs.Field.{trimmed, is_number, number_of}
 use Rattle.ub_load.specs.declared.fault.LoadFault.{LoadFault}
 use Rattle.ub_load.specs.declared.fault.LoadFault.TheVariants.{NoHeader, BadName, ColumnCount, BadNumber, OutOfRange, Csv, Tree, Memory}
 use Rattle.ub_tree.specs.declared.fault.TreeFault.{TreeFault}
@@ -10,6 +10,7 @@ use Rattle.ub_tree.specs.declared.fault.TreeFault.TheVariants as tree
 use Rattle.csv.specs.declared.error.ErrorKind.{ErrorKind}
 use Rattle.csv.specs.declared.error.ErrorKind.TheVariants as kind
 use Rattle.ub_table.specs.Name.{is_name}
+use Rattle.ub_table.specs.Value.{fits_at}
 use Rattle.ub_table.specs.declared.row.TheConstants.{MAX_ROW_NUMBER}
 
 -- whether a text is a name that none of these is
@@ -31,12 +32,12 @@ header_refusals dims name names =
 abbrev pub field_refusal : ℕ → ℕ → ℕ × List ℕ → Option LoadFault
 field_refusal dims row f =
     if not (is_number (trimmed f.1)) then Some (BadNumber row (f.0 + 1))
-    else (if fits_column (nat_lt f.0 dims) (number_of (trimmed f.1)) then None else Some (OutOfRange row (f.0 + 1)))
+    else (if fits_at dims f.0 (number_of (trimmed f.1)) then None else Some (OutOfRange row (f.0 + 1)))
 
 -- a field (with its place from 0) of a row that isn't refused, and the value that it holds
 abbrev pub HoldsValue : ℕ → ℕ → ℕ × List ℕ → ℤ → Type 0
 HoldsValue dims row f v =
-    (field_refusal dims row f ≡ None) × (v ≡ number_of (trimmed f.1)) × (fits_column (nat_lt f.0 dims) v ≡ true)
+    (field_refusal dims row f ≡ None) × (v ≡ number_of (trimmed f.1)) × (fits_at dims f.0 v ≡ true)
 
 -- what can be wrong with what a record (with its row number) holds, in order: its length, each field
 unfoldable pub content_refusals : ℕ → ℕ → ℕ × List (List ℕ) → List (Option LoadFault)

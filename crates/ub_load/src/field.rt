@@ -9,6 +9,7 @@ ghost use Rattle.ub_load.specs.Field as spec;
 
 use crate::fault::LoadFault;
 use std::str;
+use ub_table::fits_at;
 
 /// The field without the spaces (32) at its two ends. No other byte is taken away, a tab neither.
 #[tactic(auto, unfolding(crate::specs::Field::trimmed))]
@@ -97,14 +98,7 @@ pub fn read_field(field: &[u8], place: usize, dims: u32, row: u32) -> Result<i64
         return Err(LoadFault::BadNumber { row, column });
     }
     match read_number(text) {
-        Some(value) if fits_column(place < dims as usize, value) => Ok(value),
+        Some(value) if fits_at(dims, place, i128::from(value)) => Ok(value),
         _ => Err(LoadFault::OutOfRange { row, column }),
     }
-}
-
-// Whether a dimension or a measure can hold the value.
-fn fits_column(is_dimension: bool, value: i64) -> bool
-    ensures { result ≡ spec.fits_column is_dimension value }
-{
-    !is_dimension || (0 <= value && value <= i64::from(u32::MAX))
 }

@@ -6,6 +6,7 @@ ghost use Rattle.csv.specs.Records.{fields_of};
 ghost use Rattle.ub_load.specs.Field.{trimmed};
 ghost use Rattle.ub_load.specs.LoadedTable.{columns_of, IsSchemaOf};
 ghost use Rattle.ub_load.specs.Refusals.{header_refusal, is_new_name, names_refusal};
+ghost use Rattle.ub_table.specs.Schema.{AreTableNumbers};
 
 use crate::fault::LoadFault;
 use crate::field::trim_spaces;
@@ -21,10 +22,7 @@ pub fn read_schema(
     page_rows: u32,
     name: &[u8],
 ) -> Result<Schema, LoadFault>
-    requires some_dims { 1 ≤ dims }
-    requires few_dims { dims ≤ 4 }
-    requires some_rows { 2 ≤ page_rows }
-    requires few_rows { page_rows ≤ 64 }
+    requires numbers { AreTableNumbers dims page_rows }
     ensures schema { IfOk result (IsSchemaOf (fields_of header.now) dims page_rows name.now) }
     ensures few_columns { OnOk result (length (fields_of header.now) ≤ dims + 4) }
     ensures accepted { OnOk result (header_refusal dims name.now (columns_of (fields_of header.now)) ≡ None) }

@@ -9,7 +9,7 @@ ghost use Rattle.ub_load.specs.Refusals.{content_refusal, fields_refusal};
 use crate::fault::LoadFault;
 use crate::field::read_field;
 use csv::ByteRecord;
-use ub_table::Row;
+use ub_table::{Row, coordinate_at};
 
 /// The row of this number that a record holds, for a table with so many dimensions and columns (the width), or the first
 /// thing that is wrong with what it holds: `Csv` for another length, or a field's refusal.
@@ -42,7 +42,8 @@ fn read_values(fields: &ByteRecord, dims: u32, number: u32) -> Result<Row, LoadF
     for place in 0..fields.len() {
         let value = read_field(field_at(fields, place), place, dims, number)?;
         if place < dims as usize {
-            row.dims[place] = value as u32;
+            // The number fits its dimension, so there is such a coordinate.
+            row.dims[place] = coordinate_at(dims, place, i128::from(value)).unwrap();
         } else {
             row.measures[place - dims as usize] = value;
         }

@@ -8,6 +8,7 @@ ghost use Rattle.ub_load.specs.Loading.{HasCounted, HasTaken, IsAtWork, IsLoadFa
 ghost use Rattle.ub_load.specs.inner.Progress.{HasLoadedRecords, HasReadHeader, IsAt, IsHeaderFault, IsRecordsFault};
 ghost use Rattle.ub_store.specs.Facts.{page_count, IsHonest};
 ghost use Rattle.ub_table.specs.Region.{IsRow, measures_of};
+ghost use Rattle.ub_table.specs.Schema.{AreTableNumbers};
 ghost use Rattle.ub_table.specs.declared.row.TheConstants.{MAX_ROW_NUMBER};
 ghost use Rattle.ub_tree.specs.Calls.{IsCreated};
 ghost use Rattle.ub_tree.specs.Change.{IsInserted};
@@ -41,10 +42,7 @@ pub fn load<S: PageStore>(
     name: &[u8],
     store: S,
 ) -> Result<Tree<S>, LoadFault>
-    requires some_dims { 1 ≤ dims }
-    requires few_dims { dims ≤ 4 }
-    requires some_rows { 2 ≤ page_rows }
-    requires few_rows { page_rows ≤ 64 }
+    requires numbers { AreTableNumbers dims page_rows }
     requires empty { page_count (S.facts store) ≡ 0 }
     ensures loaded { IsHonest (S.facts store) → IfOk result (IsLoadedTree text.now dims page_rows name.now) }
     ensures working { IfOk result (IsAtWork (S.facts store)) }
@@ -76,10 +74,7 @@ fn load_from<S: PageStore>(
     name: &[u8],
     store: S,
 ) -> Result<Tree<S>, LoadFault>
-    requires some_dims { 1 ≤ dims }
-    requires few_dims { dims ≤ 4 }
-    requires some_rows { 2 ≤ page_rows }
-    requires few_rows { page_rows ≤ 64 }
+    requires numbers { AreTableNumbers dims page_rows }
     requires empty { page_count (S.facts store) ≡ 0 }
     ensures loaded { (text : List ℕ) → IsAt text [] reader.old → IsHonest (S.facts store)
         → IfOk result (IsLoadedTree text dims page_rows name.now) }
@@ -102,10 +97,7 @@ fn read_header(
     page_rows: u32,
     name: &[u8],
 ) -> Result<Schema, LoadFault>
-    requires some_dims { 1 ≤ dims }
-    requires few_dims { dims ≤ 4 }
-    requires some_rows { 2 ≤ page_rows }
-    requires few_rows { page_rows ≤ 64 }
+    requires numbers { AreTableNumbers dims page_rows }
     ensures read { IfOk result (HasReadHeader dims page_rows name.now reader.old reader.new) }
     ensures refused { IfErr result (IsHeaderFault dims name.now reader.old) }
 {

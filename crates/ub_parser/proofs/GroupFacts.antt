@@ -1,18 +1,22 @@
 -- What is grouped by and selected, from what was found among the items.
-use Rattle.std.proofs.Common.{◌≡◌, ◌≢◌, ◌↔◌, inl, inr, ◌≤◌, ℕ, Bool, true, false, not, IsTrue, List, ◌∷◌, map, length, take, Contains, refl, sym, ap, ◌∙◌, subst, take_all}
-use Rattle.std.specs.List.{All}
+use Rattle.std.proofs.Common.{◌≡◌, ◌≢◌, ◌↔◌, inl, inr, ◌≤◌, ℕ, Bool, true, false, not, IsTrue, List, [], ◌∷◌, map, length, take, Contains, refl, sym, ap, ◌∙◌, subst, take_all, arith}
+use Rattle.std.specs.List.{All, enumerate_from}
 use Rattle.std.proofs.lemmas.List.{map-append}
 use Rattle.std.proofs.lemmas.List.Elements.{All-contains, All-head, All-map, All-same}
 use Rattle.ub_lexer.specs.Tokens.{text_of}
 use Rattle.ub_lexer.specs.declared.token.Token.{Token}
+use Rattle.ub_query.proofs.Laws.{contains_map, contains_from_map}
+use Rattle.ub_query.specs.Posed.{IsGroupQuery, IsAggregate as IsTaken}
+use Rattle.ub_query.specs.declared.query.Item.{Item as Asked}
+use Rattle.ub_query.specs.declared.query.Item.TheVariants as asked
 use Rattle.ub_syntax.specs.Tree.{Select}
 use Rattle.ub_syntax.specs.declared.syntax.Item.{Item}
-use Rattle.ub_syntax.specs.declared.syntax.Item.TheVariants.{Column}
+use Rattle.ub_syntax.specs.declared.syntax.Item.TheVariants.{Column, Count, Aggregate}
 use Rattle.ub_syntax.specs.declared.syntax.Selection.{Selection}
-use Rattle.ub_syntax.specs.declared.syntax.Selection.TheVariants.{Listed}
+use Rattle.ub_syntax.specs.declared.syntax.Selection.TheVariants.{All as Star, Listed}
 use Rattle.ub_syntax.specs.Limits.{first_token, listed}
 use Rattle.ub_parser.specs.Refusals.{IsAggregate, IsFirst, IsGrouping, IsNotGrouped, IsUngrouped, IsUnselected}
-use Rattle.ub_parser.specs.Sense.{item_of}
+use Rattle.ub_parser.specs.Sense.{column_of, item_of, items_of, sense_of}
 use Rattle.ub_parser.proofs.FirstFacts.{fails}
 use Rattle.ub_parser.proofs.KnownFacts.{all_right}
 use Rattle.ub_table.specs.declared.schema.Schema.{Schema}
@@ -65,3 +69,47 @@ module _ (source : List ℕ) (schema : Schema) (s : Select) where
 
   pub unselected_plain : (key : Item) (r : Bool) → (¬ IsGrouping s) → (IsTrue r ↔ IsAggregate key) → IsTrue r ↔ IsUnselected source schema s key
   unselected_plain key r plain tells = (λ t. inr (plain, tells.0 t), λ h. elim h [ inl k ↦ absurd (plain k.0) | inr k ↦ tells.1 k.1 ])
+
+-- ---- the query that a statement asks
+
+module _ (source : List ℕ) (schema : Schema) where
+  pub taken_item : (x : Item) → IsAggregate x → IsTaken (item_of source schema x)
+  taken_item (Column name) h = h
+  taken_item (Count first) h = tt
+  taken_item (Aggregate a first name) h = tt
+
+  pub spelled_item : (x : Item) → IsTaken (item_of source schema x) → IsAggregate x
+  spelled_item (Column name) h = h
+  spelled_item (Count first) h = tt
+  spelled_item (Aggregate a first name) h = tt
+
+  no_aggregate : (columns : List (ℕ × List ℕ)) (x : Asked) → Contains (map (λ c. asked.Column c.0) columns) x → ¬ IsTaken x
+  no_aggregate columns x is h = let found = contains_from_map (λ (c : ℕ × List ℕ). asked.Column c.0) columns x is in (rw (sym found.2) at h)
+
+  listed_aggregate : (selection : Selection) (x : Asked) → Contains (items_of source schema selection) x → IsTaken x → (y : Item) × Contains (listed selection) y × IsAggregate y
+  listed_aggregate (Star star) x is h = absurd (no_aggregate (enumerate_from 0 schema.columns) x is h)
+  listed_aggregate (Listed items) x is h =
+      let found = contains_from_map (item_of source schema) items x is in
+      (found.0, found.1, spelled_item found.0 (subst IsTaken (sym found.2) h))
+
+  asked_aggregate : (selection : Selection) (y : Item) → Contains (listed selection) y → IsAggregate y → (x : Asked) × Contains (items_of source schema selection) x × IsTaken x
+  asked_aggregate (Star star) y is h = let within = is.1 in absurd (omega arith)
+  asked_aggregate (Listed items) y is h = (item_of source schema y, contains_map (item_of source schema) items y is, taken_item y h)
+
+  no_names : (group : List Token) → map (column_of source schema) group ≡ [] → group ≡ []
+  no_names [] e = refl
+  no_names (t ∷ group) e = cc
+
+  pub groups_syntax : (s : Select) → IsGroupQuery (sense_of source schema s) → IsGrouping s
+  groups_syntax s (inl some) = inl (λ none. some (ap (map (column_of source schema)) none))
+  groups_syntax s (inr (x, is, taken)) = inr (listed_aggregate s.selection x is taken)
+
+  pub groups_query : (s : Select) → IsGrouping s → IsGroupQuery (sense_of source schema s)
+  groups_query s (inl some) = inl (λ none. some (no_names s.group none))
+  groups_query s (inr (y, is, h)) = inr (asked_aggregate s.selection y is h)
+
+  pub tells_grouping : (s : Select) (r : Bool) → (IsTrue r ↔ IsGroupQuery (sense_of source schema s)) → IsTrue r ↔ IsGrouping s
+  tells_grouping s r tells = (λ t. groups_syntax s (tells.0 t), λ h. tells.1 (groups_query s h))
+
+  pub tells_aggregate : (x : Item) (r : Bool) → (IsTrue r ↔ IsTaken (item_of source schema x)) → IsTrue r ↔ IsAggregate x
+  tells_aggregate x r tells = (λ t. spelled_item x (tells.0 t), λ h. tells.1 (taken_item x h))

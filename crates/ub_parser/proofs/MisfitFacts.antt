@@ -7,7 +7,7 @@ use Rattle.ub_lexer.specs.Tokens.{text_of}
 use Rattle.ub_lexer.specs.declared.token.Token.{Token}
 use Rattle.ub_syntax.specs.Tree.{Select}
 use Rattle.ub_syntax.specs.declared.syntax.Item.{Item}
-use Rattle.ub_parser.specs.Known.{IsUnknown}
+use Rattle.ub_parser.specs.Known.{IsNamed, IsUnknown}
 use Rattle.ub_syntax.specs.Limits.{first_token, key_items, past_limits}
 use Rattle.ub_parser.specs.Refusals.{IsFirst, IsFirstMisfit, IsGrouping, IsMisfit, IsNotGrouped, IsUnselected, names, rank}
 use Rattle.ub_parser.specs.declared.fault.SqlFault.{SqlFault}
@@ -67,16 +67,26 @@ module _ (source : List ℕ) (schema : Schema) (s : Select) where
   unfolding No
   no_selected none at h = no_first (λ (key : Item). IsUnselected source schema s key) (key_items s.order) h.0 none h.1
 
-  -- each kind of misfit is the first where there is none of those before it
-  pub first_grouped : No (λ at. TooMany at) → No (λ at. UnknownTable at) → No (λ at. UnknownColumn at) → (t : Token) → IsGrouping s → IsNotGrouped source s s.selection t
-      → IsFirstMisfit source schema s (NotGrouped t.from)
-  first_grouped many table column t grouping h =
-      ((grouping, t, h, refl), below 8 (λ lt. many) (λ lt. table) (λ lt. column) (λ lt. absurd (omega arith)) (λ lt. absurd (omega arith)))
+  -- the names are known where there is no misfit of the first three kinds
+  pub named : No (λ at. TooMany at) → No (λ at. UnknownTable at) → No (λ at. UnknownColumn at) → IsNamed source schema s
+  named many table column =
+      below 8 (λ lt. many) (λ lt. table) (λ lt. column) (λ lt. absurd (omega arith)) (λ lt. absurd (omega arith))
 
-  pub first_selected : No (λ at. TooMany at) → No (λ at. UnknownTable at) → No (λ at. UnknownColumn at) → No (λ at. NotGrouped at) → (key : Item) (at : ℕ)
+  -- and below a rank there is none where the names are known and there is none of the other two kinds
+  beyond : (n : ℕ) → IsNamed source schema s → (8 < n → No (λ at. NotGrouped at)) → (9 < n → No (λ at. NotSelected at)) → (other : SqlFault) → rank other < n
+      → ¬ IsMisfit source schema s other
+  unfolding No
+  beyond n known grouped selected = below n (λ lt at. known (TooMany at) (omega arith)) (λ lt at. known (UnknownTable at) (omega arith)) (λ lt at. known (UnknownColumn at) (omega arith)) grouped selected
+
+  -- each kind of misfit is the first where there is none of those before it
+  pub first_grouped : IsNamed source schema s → (t : Token) → IsGrouping s → IsNotGrouped source s s.selection t
+      → IsFirstMisfit source schema s (NotGrouped t.from)
+  first_grouped known t grouping h = ((grouping, t, h, refl), known)
+
+  pub first_selected : IsNamed source schema s → No (λ at. NotGrouped at) → (key : Item) (at : ℕ)
       → IsFirst (λ key. IsUnselected source schema s key) (key_items s.order) key → at ≡ (first_token key).from → IsFirstMisfit source schema s (NotSelected at)
-  first_selected many table column grouped key at first same =
-      ((key, first, same), below 9 (λ lt. many) (λ lt. table) (λ lt. column) (λ lt. grouped) (λ lt. absurd (omega arith)))
+  first_selected known grouped key at first same =
+      ((key, first, same), beyond 9 known (λ lt. grouped) (λ lt. absurd (omega arith)))
 
   rank_small : (fault : SqlFault) → rank fault < 11
   rank_small (BadByte at) = omega arith
@@ -90,6 +100,5 @@ module _ (source : List ℕ) (schema : Schema) (s : Select) where
   rank_small (NotSelected at) = omega arith
   rank_small Memory = omega arith
 
-  pub no_misfit : No (λ at. TooMany at) → No (λ at. UnknownTable at) → No (λ at. UnknownColumn at) → No (λ at. NotGrouped at) → No (λ at. NotSelected at) → (fault : SqlFault)
-      → ¬ IsMisfit source schema s fault
-  no_misfit many table column grouped selected fault = below 11 (λ lt. many) (λ lt. table) (λ lt. column) (λ lt. grouped) (λ lt. selected) fault (rank_small fault)
+  pub no_misfit : IsNamed source schema s → No (λ at. NotGrouped at) → No (λ at. NotSelected at) → (fault : SqlFault) → ¬ IsMisfit source schema s fault
+  no_misfit known grouped selected fault = beyond 11 known (λ lt. grouped) (λ lt. selected) fault (rank_small fault)

@@ -5,16 +5,15 @@ use Rattle.std.proofs.lemmas.Int.{ints}
 use Rattle.std.proofs.lemmas.List.{length-append, length-map}
 use Rattle.std.proofs.lemmas.List.Elements.{All-cons, All-head, All-map, All-nil, All-tail, All-weaker}
 use Rattle.std.proofs.lemmas.List.FromFn.{length-enumerate_from}
-use Rattle.std.specs.List.{All, enumerate_from, fold, position_from}
+use Rattle.std.specs.List.{All, fold, position_from}
 use Rattle.std.specs.Option.{option_map}
 use Rattle.std.specs.Str.{bytes_eq}
 use Rattle.ub_lexer.specs.Tokens.{text_of}
 use Rattle.ub_lexer.specs.declared.token.Token.{Token}
 use Rattle.ub_query.proofs.Laws.{contains_map, contains_from_map}
-use Rattle.ub_query.specs.Posed.{IsOver, IsLiteral, AreLiterals, IsPosedCondition, IsPosed, IsGroupQuery, IsGrouped, greatest_number, nesting, comparisons as count, IsAggregate as IsTaken}
+use Rattle.ub_query.specs.Posed.{IsOver, IsLiteral, AreLiterals, IsPosedCondition, IsPosed, IsGrouped, greatest_number, nesting, comparisons as count, IsAggregate as IsTaken}
 use Rattle.ub_query.specs.contracts.query.ItemPartialEq.TheImpl.{eq-value}
 use Rattle.ub_query.specs.declared.query.Item.{Item as Asked}
-use Rattle.ub_query.specs.declared.query.Item.TheVariants as asked
 use Rattle.ub_query.specs.declared.query.SortKey.{SortKey}
 use Rattle.ub_syntax.specs.Grammar.{Lexeme, AreJoined, IsChain, IsComparison, IsDisjunction, IsOperand, IsOptional, IsFilter, IsSelection, IsStatement}
 use Rattle.ub_syntax.specs.Limits.{compared, comparisons, first_token, key_items, listed, past_limits}
@@ -27,12 +26,13 @@ use Rattle.ub_syntax.specs.declared.syntax.OrderKey.{OrderKey}
 use Rattle.ub_syntax.specs.declared.syntax.Selection.{Selection}
 use Rattle.ub_syntax.specs.declared.syntax.Selection.TheVariants.{All as Star, Listed}
 use Rattle.ub_parser.specs.Known.{IsAskedOver, IsKnown}
-use Rattle.ub_parser.specs.Refusals.{IsAggregate, IsFirst, IsGrouping, IsMisfit, IsNotGrouped, IsUngrouped, IsUnselected}
+use Rattle.ub_parser.specs.Refusals.{IsFirst, IsMisfit, IsNotGrouped, IsUngrouped, IsUnselected}
 use Rattle.ub_parser.specs.Sense.{column_of, item_of, items_of, key_of, number_of, place_of, sense_of, shape_of}
 use Rattle.ub_parser.specs.Spans.{IsNumber}
 use Rattle.ub_parser.specs.declared.fault.SqlFault.{SqlFault}
 use Rattle.ub_parser.specs.declared.fault.SqlFault.TheVariants.{TooMany, NotGrouped, NotSelected}
 use Rattle.ub_parser.proofs.Among.{Each}
+use Rattle.ub_parser.proofs.GroupFacts.{groups_query, groups_syntax, spelled_item}
 use Rattle.ub_parser.proofs.MisfitFacts.{stable_at}
 use Rattle.ub_table.specs.declared.schema.Schema.{Schema}
 
@@ -147,41 +147,6 @@ module _ (source : List ℕ) (schema : Schema) where
       let found = contains_from_map (text_of source) group text is in
       subst (λ (place : ℕ). Contains (map (column_of source schema) group) place) (ap (λ (t : List ℕ). place_of t schema.columns) found.2)
       (contains_map (column_of source schema) group found.0 found.1)
-
-  taken_item : (x : Item) → IsAggregate x → IsTaken (item_of source schema x)
-  taken_item (Column name) h = h
-  taken_item (Count first) h = tt
-  taken_item (Aggregate a first name) h = tt
-
-  spelled_item : (x : Item) → IsTaken (item_of source schema x) → IsAggregate x
-  spelled_item (Column name) h = h
-  spelled_item (Count first) h = tt
-  spelled_item (Aggregate a first name) h = tt
-
-  no_aggregate : (columns : List (ℕ × List ℕ)) (x : Asked) → Contains (map (λ c. asked.Column c.0) columns) x → ¬ IsTaken x
-  no_aggregate columns x is h = let found = contains_from_map (λ (c : ℕ × List ℕ). asked.Column c.0) columns x is in (rw (sym found.2) at h)
-
-  listed_aggregate : (selection : Selection) (x : Asked) → Contains (items_of source schema selection) x → IsTaken x → (y : Item) × Contains (listed selection) y × IsAggregate y
-  listed_aggregate (Star star) x is h = absurd (no_aggregate (enumerate_from 0 schema.columns) x is h)
-  listed_aggregate (Listed items) x is h =
-      let found = contains_from_map (item_of source schema) items x is in
-      (found.0, found.1, spelled_item found.0 (subst IsTaken (sym found.2) h))
-
-  asked_aggregate : (selection : Selection) (y : Item) → Contains (listed selection) y → IsAggregate y → (x : Asked) × Contains (items_of source schema selection) x × IsTaken x
-  asked_aggregate (Star star) y is h = let within = is.1 in absurd (omega arith)
-  asked_aggregate (Listed items) y is h = (item_of source schema y, contains_map (item_of source schema) items y is, taken_item y h)
-
-  no_names : (group : List Token) → map (column_of source schema) group ≡ [] → group ≡ []
-  no_names [] e = refl
-  no_names (t ∷ group) e = cc
-
-  groups_syntax : (s : Select) → IsGroupQuery (sense_of source schema s) → IsGrouping s
-  groups_syntax s (inl some) = inl (λ none. some (ap (map (column_of source schema)) none))
-  groups_syntax s (inr (x, is, taken)) = inr (listed_aggregate s.selection x is taken)
-
-  groups_query : (s : Select) → IsGrouping s → IsGroupQuery (sense_of source schema s)
-  groups_query s (inl some) = inl (λ none. some (no_names s.group none))
-  groups_query s (inr (y, is, h)) = inr (asked_aggregate s.selection y is h)
 
   is_grouped : (s : Select) (x : Item) → ¬ IsUngrouped source s x → IsGrouped (map (column_of source schema) s.group) (item_of source schema x)
   is_grouped s (Column name) h =

@@ -5,10 +5,11 @@ use Rattle.ub_lexer.specs.Tokens.{text_of}
 use Rattle.ub_lexer.specs.declared.token.Token.{Token}
 use Rattle.ub_query.specs.Posed.{IsItemOver, IsOver}
 use Rattle.ub_query.specs.Shape.{Asked}
-use Rattle.ub_syntax.specs.Tree.{Shape, both, either, neither, compares, between}
+use Rattle.ub_syntax.specs.Tree.{Select, Shape, both, either, neither, compares, between}
 use Rattle.ub_syntax.specs.declared.syntax.Item.{Item}
-use Rattle.ub_parser.specs.Refusals.{item_names}
+use Rattle.ub_parser.specs.Refusals.{IsMisfit, item_names, rank}
 use Rattle.ub_parser.specs.Spans.{IsWithin, IsNumber}
+use Rattle.ub_parser.specs.declared.fault.SqlFault.{SqlFault}
 use Rattle.ub_table.specs.declared.schema.Schema.{Schema}
 
 -- the token lies in the source and names a column
@@ -45,3 +46,7 @@ pub record IsAskedOver (columns : ℕ) (q : Asked) : Type 0 where
   pub filter : IfSome q.filter (λ c. IsOver columns c)
   pub group : All (λ column. column < columns) q.group
   pub order : All (λ key. IsItemOver columns key.item) q.order
+
+-- nothing for which a statement is refused before what it selects with groups: so its names are known
+abbrev pub IsNamed : List ℕ → Schema → Select → Type 0
+IsNamed source schema s = (fault : SqlFault) → rank fault < 8 → ¬ IsMisfit source schema s fault

@@ -8,7 +8,7 @@ ghost use Rattle.ub_syntax.specs.declared.syntax.Item.{Item};
 ghost use Rattle.ub_parser.specs.Firsts.{IsFirstOrNone};
 ghost use Rattle.ub_parser.specs.Known.{IsColumn, IsKnownItem};
 ghost use Rattle.ub_syntax.specs.Limits.{key_items, listed};
-ghost use Rattle.ub_parser.specs.Refusals.{IsAggregate, IsGrouping, IsNotGrouped, IsUngrouped, IsUnselected, item_names, names};
+ghost use Rattle.ub_parser.specs.Refusals.{IsGrouping, IsNotGrouped, IsUngrouped, IsUnselected, item_names, names};
 ghost use Rattle.ub_parser.specs.Sense.{item_of};
 ghost use Rattle.ub_parser.specs.Spans.{IsWithin};
 
@@ -20,15 +20,16 @@ use ub_syntax::{Item, OrderKey, Selection, Syntax};
 use ub_table::Schema;
 
 /// In a statement with groups, the `*`, or the first token of the first item that is a column by which is not grouped.
-pub(crate) fn not_grouped(source: &[u8], syntax: &Syntax) -> Option<Token>
-    requires { All (λ t. IsWithin source.now t) (names (select_of syntax.now)) }
+pub(crate) fn not_grouped(source: &[u8], syntax: &Syntax, has_groups: bool) -> Option<Token>
+    requires names { All (λ t. IsWithin source.now t) (names (select_of syntax.now)) }
+    requires groups { IsTrue has_groups ↔ IsGrouping (select_of syntax.now) }
     ensures { MatchOption result
         ((t : Token) → IsGrouping (select_of syntax.now)
         → ¬ IsNotGrouped source.now (select_of syntax.now) syntax.now.selection t)
         (λ t. IsGrouping (select_of syntax.now)
         × IsNotGrouped source.now (select_of syntax.now) syntax.now.selection t) }
 {
-    if !is_grouping(syntax) {
+    if !has_groups {
         return None;
     }
     match &syntax.selection {
@@ -41,12 +42,18 @@ pub(crate) fn not_grouped(source: &[u8], syntax: &Syntax) -> Option<Token>
 }
 
 /// The first key by which may not be ordered: with groups, one that is none of the items; without, an aggregate.
-pub(crate) fn not_selected(source: &[u8], schema: &Schema, syntax: &Syntax) -> Option<Item>
-    requires { All (λ t. IsColumn source.now schema.now t) (names (select_of syntax.now)) }
+pub(crate) fn not_selected(
+    source: &[u8],
+    schema: &Schema,
+    syntax: &Syntax,
+    has_groups: bool,
+) -> Option<Item>
+    requires names { All (λ t. IsColumn source.now schema.now t) (names (select_of syntax.now)) }
+    requires groups { IsTrue has_groups ↔ IsGrouping (select_of syntax.now) }
     ensures { IsFirstOrNone (λ key. IsUnselected source.now schema.now (select_of syntax.now) key)
         (key_items syntax.now.order) result }
 {
-    first_unselected(source, schema, syntax, syntax.order.as_slice())
+    first_unselected(source, schema, syntax, has_groups, syntax.order.as_slice())
 }
 
 // The first of these keys by which may not be ordered.
@@ -54,8 +61,10 @@ fn first_unselected(
     source: &[u8],
     schema: &Schema,
     syntax: &Syntax,
+    has_groups: bool,
     keys: &[OrderKey],
 ) -> Option<Item>
+    requires groups { IsTrue has_groups ↔ IsGrouping (select_of syntax.now) }
     requires keys { All (λ key. IsKnownItem source.now schema.now key.item) keys.now }
     requires items { All (λ item. IsKnownItem source.now schema.now item)
         (listed syntax.now.selection) }
@@ -63,35 +72,11 @@ fn first_unselected(
         (key_items keys.now) result }
 {
     for key in keys {
-        if is_unselected(source, schema, syntax, &key.item) {
+        if is_unselected(source, schema, syntax, has_groups, &key.item) {
             return Some(key.item);
         }
     }
     None
-}
-
-// Whether the statement has GROUP BY or an aggregate among its items.
-fn is_grouping(syntax: &Syntax) -> bool
-    ensures { IsTrue result ↔ IsGrouping (select_of syntax.now) }
-{
-    !syntax.group.as_slice().is_empty() || has_aggregate(listed(&syntax.selection))
-}
-
-// Whether one of the items is an aggregate.
-fn has_aggregate(items: &[Item]) -> bool
-    ensures { IsTrue result ↔ (item : Item) × Contains items.now item × IsAggregate item }
-{
-    items.iter().any(|item| is_aggregate(item))
-}
-
-// Whether the item is COUNT, SUM, MIN or MAX.
-fn is_aggregate(item: &Item) -> bool
-    ensures { IsTrue result ↔ IsAggregate item.now }
-{
-    match item {
-        Item::Column(_) => false,
-        Item::Count(_) | Item::Aggregate(_, _, _) => true,
-    }
 }
 
 // The first of these items that is a column by which is not grouped.
@@ -143,16 +128,23 @@ fn is_same(a: &[u8], b: &[u8]) -> bool
 }
 
 // Whether by this may not be ordered.
-fn is_unselected(source: &[u8], schema: &Schema, syntax: &Syntax, key: &Item) -> bool
+fn is_unselected(
+    source: &[u8],
+    schema: &Schema,
+    syntax: &Syntax,
+    has_groups: bool,
+    key: &Item,
+) -> bool
+    requires groups { IsTrue has_groups ↔ IsGrouping (select_of syntax.now) }
     requires key { IsKnownItem source.now schema.now key.now }
     requires items { All (λ item. IsKnownItem source.now schema.now item)
         (listed syntax.now.selection) }
     ensures { IsTrue result ↔ IsUnselected source.now schema.now (select_of syntax.now) key.now }
 {
-    if is_grouping(syntax) {
+    if has_groups {
         !is_selected(source, schema, listed(&syntax.selection), key)
     } else {
-        is_aggregate(key)
+        item(source, schema, key).is_aggregate()
     }
 }
 

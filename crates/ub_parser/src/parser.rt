@@ -10,7 +10,7 @@ ghost use Rattle.ub_query.specs.Posed.{IsPosed};
 ghost use Rattle.ub_query.specs.Shape.{asked};
 ghost use Rattle.ub_parser.specs.declared.fault.SqlFault.{SqlFault};
 
-use crate::check::misfit;
+use crate::check::{misgrouped, unknown_name};
 use crate::fault::SqlFault;
 use crate::sense::query;
 use crate::statement::Statement;
@@ -84,10 +84,13 @@ fn sense(
     ensures posed { IfOk result (λ s. IsPosed (length schema.now.columns) (told s).asked) }
 {
     let syntax = build(alloc, source, tokens)?;
-    if let Some(fault) = misfit(source, schema, &syntax) {
+    if let Some(fault) = unknown_name(source, schema, &syntax) {
         return Err(fault);
     }
     let query = query(alloc, source, schema, &syntax)?;
+    if let Some(fault) = misgrouped(source, schema, &syntax, query.has_groups()) {
+        return Err(fault);
+    }
     Ok(statement(syntax.is_explained, query))
 }
 

@@ -1,17 +1,4 @@
-pub mod InsideFacts
-pub mod ChoiceFacts
-pub mod SpanFacts
-pub mod TakeFacts
-pub mod MeaningFacts
-pub mod PlanFacts
-pub mod ThoseFacts
-pub mod VisitFacts
-pub mod FoundFacts
-pub mod ValueFacts
-pub mod EventFacts
-pub mod SweepFacts
 pub mod MetFacts
 pub mod LineFacts
 pub mod SideFacts
-pub mod SearchFacts
 pub mod Laws

@@ -7,6 +7,8 @@ use Rattle.std.specs.List.{flat_map, join_by}
 use Rattle.std.specs.Option.{SomeIff}
 use Rattle.std.specs.Result.{is_ok}
 use Rattle.ub_plan.specs.Explained.{side_text, sides}
+use Rattle.ub_table.specs.Value.{value}
+use Rattle.ub_table.specs.declared.schema.Schema.{Schema}
 
 take_get : {X : Type 0} (xs : List X) (i : ℕ) (x : X) → slice_get xs i ≡ Some x → take (suc i) xs ≡ take i xs ++ x ∷ []
 take_get [] i x h = cc
@@ -23,37 +25,43 @@ join_next gap (y ∷ ys) (suc i) x true e h = absurd (let no : suc i ≡ 0 = eqb
 join_next gap (y ∷ ys) (suc i) x false e h =
     ap (λ (t : List (List ℕ)). y ++ flat_map (λ s. gap ++ s) t) (take_get ys i x h) ∙ sym (flat_map_more (λ s. gap ++ s) y (take i ys) x)
 
-side_at : (names : List (List ℕ)) (lo hi : List ℕ) (i : ℕ) (name : List ℕ) → slice_get names i ≡ Some name → i < length lo → i < length hi
-    → slice_get (sides names lo hi) i ≡ Some (side_text name (slice_index lo i) (slice_index hi i))
-side_at [] lo hi i name at b c = cc
-side_at (n ∷ names) [] hi i name at b c = absurd (omega arith)
-side_at (n ∷ names) (low ∷ lo) [] i name at b c = absurd (omega arith)
-side_at (n ∷ names) (low ∷ lo) (high ∷ hi) zero name at b c =
-    let same : n ≡ name = cc in ap (λ (t : List ℕ). Some (side_text t low high)) same
-side_at (n ∷ names) (low ∷ lo) (high ∷ hi) (suc i) name at b c = side_at names lo hi i name at (omega arith) (omega arith)
+-- the side of the i-th dimension from d on, which is dimension k
+side_at : (schema : Schema) (d k : ℕ) (names : List (List ℕ)) (lo hi : List ℕ) (i : ℕ) (name : List ℕ) → d + i ≡ k → slice_get names i ≡ Some name → i < length lo
+    → i < length hi → slice_get (sides schema d names lo hi) i ≡ Some (side_text name (value schema k (slice_index lo i)) (value schema k (slice_index hi i)))
+side_at schema d k [] lo hi i name is at b c = cc
+side_at schema d k (n ∷ names) [] hi i name is at b c = absurd (omega arith)
+side_at schema d k (n ∷ names) (low ∷ lo) [] i name is at b c = absurd (omega arith)
+side_at schema d k (n ∷ names) (low ∷ lo) (high ∷ hi) zero name is at b c =
+    let same : n ≡ name = cc in
+    let here : d ≡ k = omega arith in
+    rw (same, here) refl
+side_at schema d k (n ∷ names) (low ∷ lo) (high ∷ hi) (suc i) name is at b c =
+    side_at schema (d + 1) k names lo hi i name (omega arith) at (omega arith) (omega arith)
 
 -- one more dimension
-pub side_next : (before text next more : List ℕ) (names : List (List ℕ)) (lo hi : List ℕ) (i : ℕ) (first : Bool) (name : List ℕ)
-    → text ≡ before ++ join_by (λ s. s) (codes ", ") (take i (sides names lo hi)) → next ≡ text ++ (if first then [] else codes ", ")
-    → more ≡ next ++ side_text name (slice_index lo i) (slice_index hi i) → (i == 0) ≡ first
+pub side_next : (schema : Schema) (before text next more : List ℕ) (names : List (List ℕ)) (lo hi : List ℕ) (i : ℕ) (first : Bool) (name : List ℕ)
+    → text ≡ before ++ join_by (λ s. s) (codes ", ") (take i (sides schema 0 names lo hi)) → next ≡ text ++ (if first then [] else codes ", ")
+    → more ≡ next ++ side_text name (value schema i (slice_index lo i)) (value schema i (slice_index hi i)) → (i == 0) ≡ first
     → slice_get names i ≡ Some name → i < length lo → i < length hi
-    → more ≡ before ++ join_by (λ s. s) (codes ", ") (take (i + 1) (sides names lo hi))
-side_next before text next more names lo hi i first name is parted grown e at b c =
-    let piece = side_text name (slice_index lo i) (slice_index hi i) in
-    rw (grown, parted, is, add-one, join_next (codes ", ") (sides names lo hi) i piece first e (side_at names lo hi i name at b c))
-    (append_assoc (before ++ join_by (λ s. s) (codes ", ") (take i (sides names lo hi))) (if first then [] else codes ", ") piece
-    ∙ append_assoc before (join_by (λ s. s) (codes ", ") (take i (sides names lo hi))) ((if first then [] else codes ", ") ++ piece))
+    → more ≡ before ++ join_by (λ s. s) (codes ", ") (take (i + 1) (sides schema 0 names lo hi))
+side_next schema before text next more names lo hi i first name is parted grown e at b c =
+    let piece = side_text name (value schema i (slice_index lo i)) (value schema i (slice_index hi i)) in
+    rw (grown, parted, is, add-one, join_next (codes ", ") (sides schema 0 names lo hi) i piece first e (side_at schema 0 i names lo hi i name (omega arith) at b c))
+    (append_assoc (before ++ join_by (λ s. s) (codes ", ") (take i (sides schema 0 names lo hi))) (if first then [] else codes ", ") piece
+    ∙ append_assoc before (join_by (λ s. s) (codes ", ") (take i (sides schema 0 names lo hi))) ((if first then [] else codes ", ") ++ piece))
 
 -- those were all dimensions
-pub sides_all : (names : List (List ℕ)) (lo hi : List ℕ) (n : ℕ) → min (min (length names) (length lo)) (length hi) ≤ n → take n (sides names lo hi) ≡ sides names lo hi
-sides_all [] lo hi zero h = refl
-sides_all [] lo hi (suc n) h = refl
-sides_all (name ∷ names) [] hi zero h = refl
-sides_all (name ∷ names) [] hi (suc n) h = refl
-sides_all (name ∷ names) (low ∷ lo) [] zero h = refl
-sides_all (name ∷ names) (low ∷ lo) [] (suc n) h = refl
-sides_all (name ∷ names) (low ∷ lo) (high ∷ hi) zero h = absurd (omega arith)
-sides_all (name ∷ names) (low ∷ lo) (high ∷ hi) (suc n) h = ap (λ (t : List (List ℕ)). side_text name low high ∷ t) (sides_all names lo hi n (omega arith))
+pub sides_all : (schema : Schema) (d : ℕ) (names : List (List ℕ)) (lo hi : List ℕ) (n : ℕ) → min (min (length names) (length lo)) (length hi) ≤ n
+    → take n (sides schema d names lo hi) ≡ sides schema d names lo hi
+sides_all schema d [] lo hi zero h = refl
+sides_all schema d [] lo hi (suc n) h = refl
+sides_all schema d (name ∷ names) [] hi zero h = refl
+sides_all schema d (name ∷ names) [] hi (suc n) h = refl
+sides_all schema d (name ∷ names) (low ∷ lo) [] zero h = refl
+sides_all schema d (name ∷ names) (low ∷ lo) [] (suc n) h = refl
+sides_all schema d (name ∷ names) (low ∷ lo) (high ∷ hi) zero h = absurd (omega arith)
+sides_all schema d (name ∷ names) (low ∷ lo) (high ∷ hi) (suc n) h =
+    ap (λ (t : List (List ℕ)). side_text name (value schema d low) (value schema d high) ∷ t) (sides_all schema (d + 1) names lo hi n (omega arith))
 
 -- one more line
 pub lines_next : {X : Type 0} (f : X → List ℕ) (before text more : List ℕ) (xs : List X) (i : ℕ) (x : X) → text ≡ before ++ flat_map f (take i xs)

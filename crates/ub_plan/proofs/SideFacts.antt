@@ -1,5 +1,5 @@
 -- The line of each box of a plan names every dimension.
-use Rattle.std.proofs.Common.{◌≡◌, ◌≤◌, ℕ, suc, List, [], ◌∷◌, Bool, Option, length, map, Contains, inl, inr, ap, ◌∙◌, refl, subst, arith}
+use Rattle.std.proofs.Common.{◌≡◌, ◌≤◌, ◌+◌, ℕ, suc, List, [], ◌∷◌, Bool, Option, length, map, Contains, inl, inr, ap, ◌∙◌, refl, subst, arith}
 use Rattle.std.proofs.lemmas.Bool.{cases_Bool}
 use Rattle.std.proofs.lemmas.List.{length-replicate}
 use Rattle.std.proofs.lemmas.List.Elements.{Contains-append_cases}
@@ -7,13 +7,13 @@ use Rattle.std.specs.List.{flat_map}
 use Rattle.ub_bigmin.specs.Box.{Corners}
 use Rattle.ub_boxes.proofs.Laws.{length-sides}
 use Rattle.ub_boxes.specs.Boxes.{beside, boxes_of, boxes_on, cover_of, is_wide, nowhere, runs, space}
-use Rattle.ub_boxes.specs.Cuts.{greatest}
+use Rattle.ub_table.specs.Value.{greatest}
 use Rattle.ub_boxes.specs.Grid.{grid}
 use Rattle.ub_boxes.specs.Truths.{covers}
 use Rattle.ub_plan.specs.Explained.{sides}
-use Rattle.ub_plan.specs.Plan.{kept_by, kind_of, plan_of}
-use Rattle.ub_plan.specs.declared.planned.Kind.{Kind}
-use Rattle.ub_plan.specs.declared.planned.Kind.TheVariants.{Empty, Scan, Sweep}
+use Rattle.ub_planning.specs.Plan.{kept_by, kind_of, plan_of}
+use Rattle.ub_planning.specs.declared.planned.Kind.{Kind}
+use Rattle.ub_planning.specs.declared.planned.Kind.TheVariants.{Empty, Scan, Sweep}
 use Rattle.ub_query.proofs.Laws.{contains_here, contains_later, contains_cases, contains_none, contains_from_map}
 use Rattle.ub_query.specs.Shape.{Shape, Asked}
 use Rattle.ub_table.specs.declared.schema.Schema.{Schema}
@@ -64,17 +64,18 @@ kept_among Empty schema filter b there = absurd (contains_none b there)
 kept_among Scan schema filter b there = there
 kept_among (Sweep dim t) schema filter b there = there
 
-sides-long : (names : List (List ℕ)) (lo hi : List ℕ) (n : ℕ) → length lo ≡ n → length hi ≡ n → n ≤ length names → length (sides names lo hi) ≡ n
-sides-long [] lo hi n a b few = omega arith
-sides-long (name ∷ names) [] hi n a b few = a
-sides-long (name ∷ names) (low ∷ lo) [] n a b few = absurd (omega arith)
-sides-long (name ∷ names) (low ∷ lo) (high ∷ hi) n a b few =
-    let rest = sides-long names lo hi (length lo) refl (omega arith) (omega arith) in
+sides-long : (schema : Schema) (dim : ℕ) (names : List (List ℕ)) (lo hi : List ℕ) (n : ℕ) → length lo ≡ n → length hi ≡ n → n ≤ length names
+    → length (sides schema dim names lo hi) ≡ n
+sides-long schema dim [] lo hi n a b few = omega arith
+sides-long schema dim (name ∷ names) [] hi n a b few = a
+sides-long schema dim (name ∷ names) (low ∷ lo) [] n a b few = absurd (omega arith)
+sides-long schema dim (name ∷ names) (low ∷ lo) (high ∷ hi) n a b few =
+    let rest = sides-long schema (dim + 1) names lo hi (length lo) refl (omega arith) (omega arith) in
     ap suc rest ∙ a
 
-pub each_dimension : (schema : Schema) (q : Asked) (b : Corners) → Contains (plan_of schema q).covering.boxes b → length (sides schema.columns b.lo b.hi) ≡ schema.dims
+pub each_dimension : (schema : Schema) (q : Asked) (b : Corners) → Contains (plan_of schema q).covering.boxes b → length (sides schema 0 schema.columns b.lo b.hi) ≡ schema.dims
 unfolding IsLong
 each_dimension schema q b there =
     let long = of-long schema q.filter b (kept_among (kind_of schema q) schema q.filter b there) in
     let few = schema.counts.covers_dims in
-    sides-long schema.columns b.lo b.hi schema.dims long.0 long.1 few
+    sides-long schema 0 schema.columns b.lo b.hi schema.dims long.0 long.1 few

@@ -1,15 +1,17 @@
 -- The text of an EXPLAIN: how a plan reads a table, before it is carried out.
-use Rattle.std.specs.Prelude.{◌≡◌, ℕ, Bool, true, false, List, [], ◌∷◌, ◌++◌, Option, Some, None, length, codes, decimal}
+use Rattle.std.specs.Prelude.{◌≡◌, ℕ, ◌+◌, ℤ, Bool, true, false, List, [], ◌∷◌, ◌++◌, Option, Some, None, length, codes, decimal}
+use Rattle.std.specs.Fmt.{signed_decimal}
 use Rattle.std.specs.List.{flat_map, join_by}
 use Rattle.ub_bigmin.specs.Box.{Corners}
 use Rattle.ub_boxes.specs.Points.{total}
-use Rattle.ub_plan.specs.Plan.{PlanView, residual_of}
-use Rattle.ub_plan.specs.Visits.{Span, AreMeeting}
-use Rattle.ub_plan.specs.declared.planned.Kind.{Kind}
-use Rattle.ub_plan.specs.declared.planned.Kind.TheVariants.{Empty, Scan, Sweep}
+use Rattle.ub_planning.specs.Plan.{PlanView, residual_of}
+use Rattle.ub_planning.specs.Visits.{Span, AreMeeting}
+use Rattle.ub_planning.specs.declared.planned.Kind.{Kind}
+use Rattle.ub_planning.specs.declared.planned.Kind.TheVariants.{Empty, Scan, Sweep}
 use Rattle.ub_query.specs.Cells.{name_of}
 use Rattle.ub_query.specs.Shape.{Shape}
 use Rattle.ub_table.specs.Region.{Region}
+use Rattle.ub_table.specs.Value.{value}
 use Rattle.ub_table.specs.declared.schema.Schema.{Schema}
 
 -- a line of the text
@@ -34,19 +36,21 @@ abbrev pub filter_text : Option Shape → List ℕ
 filter_text None = codes "no"
 filter_text (Some condition) = codes "yes"
 
--- the coordinates of a box in one dimension
-abbrev pub side_text : List ℕ → ℕ → ℕ → List ℕ
-side_text name low high = name ++ codes " " ++ decimal low ++ codes ".." ++ decimal high
+-- the values of a box in one dimension, from the least to the greatest
+abbrev pub side_text : List ℕ → ℤ → ℤ → List ℕ
+side_text name low high = name ++ codes " " ++ signed_decimal low ++ codes ".." ++ signed_decimal high
 
--- the same of each dimension, by the columns' names and the two corners
-abbrev pub sides : List (List ℕ) → List ℕ → List ℕ → List (List ℕ)
-sides [] lo hi = []
-sides (name ∷ names) [] hi = []
-sides (name ∷ names) (low ∷ lo) [] = []
-sides (name ∷ names) (low ∷ lo) (high ∷ hi) = side_text name low high ∷ sides names lo hi
+-- the same of each dimension from this one on, by the columns' names and the coordinates of the two corners
+abbrev pub sides : Schema → ℕ → List (List ℕ) → List ℕ → List ℕ → List (List ℕ)
+sides schema dim [] lo hi = []
+sides schema dim (name ∷ names) [] hi = []
+sides schema dim (name ∷ names) (low ∷ lo) [] = []
+sides schema dim (name ∷ names) (low ∷ lo) (high ∷ hi) =
+    side_text name (value schema dim low) (value schema dim high) ∷ sides schema (dim + 1) names lo hi
 
-abbrev pub box_text : List (List ℕ) → Corners → List ℕ
-box_text names b = codes "box " ++ join_by (λ side. side) (codes ", ") (sides names b.lo b.hi)
+-- the line of a box
+abbrev pub box_text : Schema → Corners → List ℕ
+box_text schema b = codes "box " ++ join_by (λ side. side) (codes ", ") (sides schema 0 schema.columns b.lo b.hi)
 
 -- the lines of a plan, where of so many regions so many meet its boxes: how the regions are read, the cover, the filter, each
 -- box, how many points the boxes have together, and how many regions
@@ -55,7 +59,7 @@ explain_text schema plan met regions =
     line (codes "plan " ++ kind_text schema plan.kind)
     ++ line (codes "cover " ++ cover_text plan.covering.exact plan.covering.wide)
     ++ line (codes "filter " ++ filter_text (residual_of plan))
-    ++ flat_map (λ b. line (box_text schema.columns b)) plan.covering.boxes
+    ++ flat_map (λ b. line (box_text schema b)) plan.covering.boxes
     ++ line (codes "points " ++ decimal (total plan.covering.boxes))
     ++ line (codes "regions " ++ decimal met ++ codes " of " ++ decimal regions)
 

@@ -1,87 +1,11 @@
--- The laws of plans. Each is what the function of its name in `law` ensures. That a plan means what its query means is what
--- `plan` ensures (`MeansAs`).
-use Rattle.std.specs.Prelude.{◌≡◌, ◌≢◌, ◌↔◌, ℕ, Bool, List, [], Some, IsTrue, Contains, length}
-use Rattle.std.specs.List.{filter}
-use Rattle.std.specs.List.Sorted.{IsPermutation}
+-- The laws of an EXPLAIN. Each is what the function of its name in `law` ensures.
+use Rattle.std.specs.Prelude.{◌≡◌, ℕ, List, Contains, length}
 use Rattle.ub_bigmin.specs.Box.{Corners}
-use Rattle.ub_plan.specs.Choice.{is_chosen}
 use Rattle.ub_plan.specs.Explained.{IsExplained, sides}
-use Rattle.ub_plan.specs.Plan.{PlanView, plan_of, takes}
-use Rattle.ub_plan.specs.declared.choice.Choice.{Choice}
-use Rattle.ub_plan.specs.Visits.{Span, Event, AreMeeting, AreEvents, AreVisits, fetched_rows, selected_rows}
-use Rattle.ub_query.specs.Groups.{is_selected, selected}
-use Rattle.ub_query.specs.Meaning.{IsMeaning}
+use Rattle.ub_planning.specs.Plan.{PlanView, plan_of}
 use Rattle.ub_query.specs.Shape.{Asked}
-use Rattle.ub_query.specs.declared.cell.Cell.{Cell}
-use Rattle.ub_region.specs.Regions.{AreRegions, AreTableRows, rows_of}
 use Rattle.ub_table.specs.Region.{Region}
-use Rattle.ub_table.specs.Table.{Table, IsInOrder}
-use Rattle.ub_table.specs.declared.row.Row.{Row}
 use Rattle.ub_table.specs.declared.schema.Schema.{Schema}
-
--- unless the limit is 0, each selected row stands in a region that meets the plan's boxes
-abbrev pub SelectedRowsAreMet : Type 0
-SelectedRowsAreMet = (schema : Schema) (q : Asked) (next : ℕ) (regions : List Region) (meeting : List Span) (row : Row)
-    → q.limit ≢ Some 0 → AreRegions schema next regions
-    → AreMeeting schema (plan_of schema q).covering.boxes regions meeting
-    → Contains (rows_of regions) row → IsTrue (is_selected schema q.filter row) → Contains (fetched_rows meeting) row
-
--- and of the rows of the regions the plan takes the selected ones
-abbrev pub PlansTakeTheSelected : Type 0
-PlansTakeTheSelected = (schema : Schema) (q : Asked) (next : ℕ) (regions : List Region) (row : Row) → q.limit ≢ Some 0
-    → AreRegions schema next regions → Contains (rows_of regions) row
-    → takes schema (plan_of schema q) row ≡ is_selected schema q.filter row
-
--- so does each choice
-abbrev pub ChosenAreSelected : Type 0
-ChosenAreSelected = (choice : Choice) (schema : Schema) (q : Asked) (next : ℕ) (regions : List Region) (rows : List Row)
-    → q.limit ≢ Some 0 → AreRegions schema next regions
-    → ((row : Row) → Contains rows row → Contains (rows_of regions) row)
-    → filter (is_chosen choice schema (plan_of schema q)) rows ≡ filter (is_selected schema q.filter) rows
-
--- so the selected rows of the regions that meet are those of all regions, each as often
-abbrev pub MeetingHoldTheSelected : Type 0
-MeetingHoldTheSelected = (schema : Schema) (q : Asked) (next : ℕ) (regions : List Region) (meeting : List Span)
-    → q.limit ≢ Some 0 → AreRegions schema next regions
-    → AreMeeting schema (plan_of schema q).covering.boxes regions meeting
-    → IsPermutation (filter (is_selected schema q.filter) (fetched_rows meeting))
-    (selected_rows schema (plan_of schema q) regions)
-
--- and those of the table
-abbrev pub MeetingHoldTheTables : Type 0
-MeetingHoldTheTables = (schema : Schema) (q : Asked) (next : ℕ) (regions : List Region) (rows : List Row) (meeting : List Span)
-    → q.limit ≢ Some 0 → AreRegions schema next regions → AreTableRows regions rows
-    → AreMeeting schema (plan_of schema q).covering.boxes regions meeting
-    → IsPermutation (filter (is_selected schema q.filter) (fetched_rows meeting))
-    (selected (record { schema = schema; rows = rows }) q.filter)
-
--- where the limit is 0, the result has no row
-abbrev pub LimitOfZeroMeansNothing : Type 0
-LimitOfZeroMeansNothing = (table : Table) (q : Asked) (cells : List (List Cell)) → q.limit ≡ Some 0 → IsInOrder table.rows
-    → IsMeaning table q cells ↔ (cells ≡ [])
-
--- the regions that meet some boxes are one list
-abbrev pub MeetingAreOne : Type 0
-MeetingAreOne = (schema : Schema) (boxes : List Corners) (regions : List Region) (first second : List Span)
-    → AreMeeting schema boxes regions first → AreMeeting schema boxes regions second → first ≡ second
-
--- a sweep comes to them in one order
-abbrev pub EventsAreOne : Type 0
-EventsAreOne = (schema : Schema) (boxes : List Corners) (dim : ℕ) (is_descending : Bool) (next : ℕ) (regions : List Region)
-    (first second : List Event) → AreRegions schema next regions
-    → AreEvents schema boxes dim is_descending regions first → AreEvents schema boxes dim is_descending regions second
-    → first ≡ second
-
--- each plan of a query has visits on the regions of each table
-abbrev pub PlansHaveVisits : Type 0
-PlansHaveVisits = (schema : Schema) (q : Asked) (next : ℕ) (regions : List Region) → AreRegions schema next regions
-    → (visits : List Span) × AreVisits schema (plan_of schema q) regions visits
-
--- and only one list of them
-abbrev pub VisitsAreOne : Type 0
-VisitsAreOne = (schema : Schema) (q : Asked) (next : ℕ) (regions : List Region) (first second : List Span)
-    → AreRegions schema next regions → AreVisits schema (plan_of schema q) regions first
-    → AreVisits schema (plan_of schema q) regions second → first ≡ second
 
 -- an EXPLAIN of a plan has a text
 abbrev pub ExplainsHaveAText : Type 0
@@ -96,4 +20,4 @@ ExplainsHaveOneText = (schema : Schema) (plan : PlanView) (regions : List Region
 -- where the plan is a query's, it names every dimension of each box
 abbrev pub ExplainsNameEachDimension : Type 0
 ExplainsNameEachDimension = (schema : Schema) (q : Asked) (b : Corners) → Contains (plan_of schema q).covering.boxes b
-    → length (sides schema.columns b.lo b.hi) ≡ schema.dims
+    → length (sides schema 0 schema.columns b.lo b.hi) ≡ schema.dims

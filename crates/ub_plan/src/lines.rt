@@ -1,4 +1,5 @@
 ghost use Rattle.std.specs.Prelude.{◌≡◌, ◌≤◌, ◌^◌, ◌∷◌, [], ◌++◌, if◌then◌else◌, codes, decimal, IfOk, OnOk};
+ghost use Rattle.std.specs.Fmt.{signed_decimal};
 ghost use Rattle.std.specs.List.{flat_map, join_by};
 ghost use Rattle.ub_boxes.specs.Points as points;
 ghost use Rattle.ub_plan.specs.Explained as spec;
@@ -6,11 +7,11 @@ ghost use Rattle.ub_query.specs.Cells as sql;
 ghost use Rattle.ub_query.specs.Shape.{shape};
 ghost use Rattle.std.specs.Option.{option_map};
 
-use crate::planned::{Kind, Plan};
 use itoa::Buffer;
 use std::alloc::{AllocError, Global};
 use ub_bigmin::ZBox;
 use ub_boxes::total;
+use ub_planning::{Kind, Plan};
 use ub_query::Cond;
 use ub_table::{Name, Schema};
 
@@ -33,7 +34,7 @@ pub(crate) fn plan_text(
         cover_word(plan.is_exact(), plan.is_wide()),
     )?;
     push_line(&mut text, b"filter ", filter_word(plan.residual()))?;
-    push_boxes(&mut text, schema.columns(), plan.boxes())?;
+    push_boxes(&mut text, schema, plan.boxes())?;
     push_points(&mut text, plan.boxes())?;
     push_regions(&mut text, met, regions)?;
     Ok(text)
@@ -90,35 +91,39 @@ fn filter_word(residual: Option<&Cond>) -> &'static [u8]
 }
 
 // Puts a line for each box.
-fn push_boxes(text: &mut Vec<u8>, names: &[Name], boxes: &[ZBox]) -> Result<(), AllocError>
+fn push_boxes(text: &mut Vec<u8>, schema: &Schema, boxes: &[ZBox]) -> Result<(), AllocError>
     ensures { OnOk result (text.new.items
-        ≡ text.old.items ++ flat_map (λ b. spec.line (spec.box_text names.now b)) boxes.now) }
+        ≡ text.old.items ++ flat_map (λ b. spec.line (spec.box_text schema.now b)) boxes.now) }
 {
     for space in boxes {
-        push_box(text, names, space)?;
+        push_box(text, schema, space)?;
     }
     Ok(())
 }
 
 // Puts the line of a box.
-fn push_box(text: &mut Vec<u8>, names: &[Name], space: &ZBox) -> Result<(), AllocError>
+fn push_box(text: &mut Vec<u8>, schema: &Schema, space: &ZBox) -> Result<(), AllocError>
     ensures { OnOk result (text.new.items
-        ≡ text.old.items ++ spec.line (spec.box_text names.now space.now)) }
+        ≡ text.old.items ++ spec.line (spec.box_text schema.now space.now)) }
 {
     text.extend_from_slice(b"box ")?;
-    push_sides(text, names, space.lo().values(), space.hi().values())?;
+    push_sides(text, schema, space.lo().values(), space.hi().values())?;
     text.extend_from_slice(b"\n")
 }
 
-// Puts the coordinates of a box in each dimension.
-fn push_sides(text: &mut Vec<u8>, names: &[Name], lo: &[u32], hi: &[u32]) -> Result<(), AllocError>
+// Puts the values of a box in each dimension.
+fn push_sides(text: &mut Vec<u8>, schema: &Schema, lo: &[u32], hi: &[u32]) -> Result<(), AllocError>
     ensures { OnOk result (text.new.items
-        ≡ text.old.items ++ join_by (λ side. side) (codes ", ") (spec.sides names.now lo.now hi.now)) }
+        ≡ text.old.items ++ join_by (λ side. side) (codes ", ")
+        (spec.sides schema.now 0 schema.now.columns lo.now hi.now)) }
 {
+    let names = schema.columns();
     let dims = names.len().min(lo.len()).min(hi.len());
     for dim in 0..dims {
         push_gap(text, dim == 0)?;
-        push_side(text, &names[dim], lo[dim], hi[dim])?;
+        let low = schema.value(dim, lo[dim]);
+        let high = schema.value(dim, hi[dim]);
+        push_side(text, &names[dim], low, high)?;
     }
     Ok(())
 }
@@ -134,15 +139,15 @@ fn push_gap(text: &mut Vec<u8>, is_first: bool) -> Result<(), AllocError>
     Ok(())
 }
 
-// Puts the coordinates of a box in one dimension.
-fn push_side(text: &mut Vec<u8>, name: &Name, low: u32, high: u32) -> Result<(), AllocError>
+// Puts the values of a box in one dimension.
+fn push_side(text: &mut Vec<u8>, name: &Name, low: i64, high: i64) -> Result<(), AllocError>
     ensures { OnOk result (text.new.items ≡ text.old.items ++ spec.side_text name.now low high) }
 {
     text.extend_from_slice(name.bytes())?;
     text.push(b' ')?;
-    push_number(text, u128::from(low))?;
+    push_value(text, low)?;
     text.extend_from_slice(b"..")?;
-    push_number(text, u128::from(high))
+    push_value(text, high)
 }
 
 // Puts the line of how many points the boxes have together.
@@ -186,6 +191,12 @@ fn push_line(text: &mut Vec<u8>, label: &[u8], word: &[u8]) -> Result<(), AllocE
     text.extend_from_slice(label)?;
     text.extend_from_slice(word)?;
     text.extend_from_slice(b"\n")
+}
+
+fn push_value(text: &mut Vec<u8>, value: i64) -> Result<(), AllocError>
+    ensures { OnOk result (text.new.items ≡ text.old.items ++ signed_decimal value) }
+{
+    text.extend_from_slice(Buffer::new().format(value).as_bytes())
 }
 
 fn push_number(text: &mut Vec<u8>, number: u128) -> Result<(), AllocError>

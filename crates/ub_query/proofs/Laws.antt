@@ -1,7 +1,8 @@
 -- The laws of the definitions, as specs/Laws.antt states them.
-use Rattle.std.proofs.Common.{◌≡◌, ◌≢◌, ℕ, ◌+◌, ◌<◌, ◌≤◌, ℤ, pos, neg_ℤ, ◌≤ℤ◌, List, [], ◌∷◌, map, fold, ◌⊎◌, inl, inr, ⊎_elim, Contains, refl, sym, ◌∙◌, ap, subst, arith}
+use Rattle.std.proofs.Common.{◌≡◌, ◌≢◌, ◌↔◌, ℕ, ◌+◌, ◌<◌, ◌≤◌, ◌==◌, true, false, not, ◌||◌, IsTrue, length, ℤ, pos, neg_ℤ, ◌≤ℤ◌, List, [], ◌∷◌, map, fold, ◌⊎◌, inl, inr, ⊎_elim, Contains, refl, sym, ◌∙◌, ap, subst, arith}
 use Rattle.std.specs.Int.{int_min, int_max}
-use Rattle.std.specs.List.{AllByRecursion}
+use Rattle.std.specs.List.{AllByRecursion, list_any}
+use Rattle.std.proofs.lemmas.Bool.{cases_Bool, eqb-true, true≢false}
 use Rattle.std.proofs.lemmas.Int.{ints, fold-int_min_bounds, fold-int_min_reached, fold-int_max_bounds, fold-int_max_reached}
 use Rattle.std.proofs.lemmas.List.Elements.{All-cons}
 use Rattle.std.proofs.lemmas.List.Kept.{AllPairs-from_increasing}
@@ -11,10 +12,10 @@ use Rattle.ub_query.proofs.GroupFacts.{some_groups, same_groups}
 use Rattle.ub_query.proofs.OrderFacts.{lists-never, lists-chain, lists-sides}
 use Rattle.ub_query.specs.Cells.{Group, row_cell, group_cell}
 use Rattle.ub_query.specs.Groups.{selected, is_selected}
-use Rattle.ub_query.specs.Laws.{PosedIsLow, MinIsLeast, MaxIsGreatest, RowsHaveAnArrangement, RowsHaveOneArrangement, SelectedAreInOrder, RowsInOrderAreArranged, RowsFallIntoGroups, GroupsHaveAnArrangement, GroupsHaveOneArrangement, PlainQueriesMean, QueriesHaveAMeaning, QueriesHaveOneMeaning}
+use Rattle.ub_query.specs.Laws.{PosedIsLow, BetweenIsTwo, GroupQueriesAreTold, MinIsLeast, MaxIsGreatest, RowsHaveAnArrangement, RowsHaveOneArrangement, SelectedAreInOrder, RowsInOrderAreArranged, RowsFallIntoGroups, GroupsHaveAnArrangement, GroupsHaveOneArrangement, PlainQueriesMean, QueriesHaveAMeaning, QueriesHaveOneMeaning}
 use Rattle.ub_query.specs.Meaning.{IsRowMeaning, IsGroupMeaning, limited}
 use Rattle.ub_query.specs.Order.{IsArrangement, IsRowBefore, IsGroupBefore, AreBelow}
-use Rattle.ub_query.specs.Posed.{greatest_number, IsLiteral, comparisons, nesting, height, IsGroupQuery, IsAggregate}
+use Rattle.ub_query.specs.Posed.{greatest_number, IsLiteral, comparisons, nesting, height, IsGroupQuery, IsAggregate, is_aggregate, has_groups}
 use Rattle.ub_query.specs.Shape.{Shape, both, either, neither, compares, between, Asked}
 use Rattle.ub_query.specs.declared.cell.Cell.{Cell}
 use Rattle.ub_query.specs.declared.query.Item.{Item}
@@ -41,6 +42,45 @@ posed_is_low columns c posed = let h = height-le c in omega (arith, posed.few, p
 -- a number that may be written is one with a minus too
 pub is_literal : (n : ℕ) → n ≤ greatest_number → IsLiteral (pos n) × IsLiteral (neg_ℤ (pos n))
 is_literal n h = ((omega (arith, ints), omega (arith, ints)), (omega (arith, ints), omega (arith, ints)))
+
+pub between_is_two : BetweenIsTwo
+between_is_two value column low high = refl
+
+-- ---- group queries
+
+some_aggregate : (items : List Item) → list_any is_aggregate items ≡ true → (item : Item) × Contains items item × IsAggregate item
+some_aggregate [] t = absurd (true≢false (sym t))
+some_aggregate (Count ∷ items) t = (Count, contains_here Count items, tt)
+some_aggregate (Aggregate taken column ∷ items) t = (Aggregate taken column, contains_here (Aggregate taken column) items, tt)
+some_aggregate (Column column ∷ items) t =
+    let later = some_aggregate items t in (later.0, contains_later (Column column) items later.0 later.1, later.2)
+
+from_aggregate : (items : List Item) (item : Item) → Contains items item → IsAggregate item → list_any is_aggregate items ≡ true
+from_aggregate [] item there is = absurd (contains_none item there)
+from_aggregate (Count ∷ items) item there is = refl
+from_aggregate (Aggregate taken column ∷ items) item there is = refl
+from_aggregate (Column column ∷ items) item there is =
+    ⊎_elim (λ (same : Column column ≡ item). absurd (subst (λ (i : Item). IsAggregate i) (sym same) is))
+    (λ (later : Contains items item). from_aggregate items item later is)
+    (contains_cases (Column column) items item there)
+
+some_columns : (column : ℕ) (columns : List ℕ) → (length (column ∷ columns) == 0) ≡ false
+some_columns column columns =
+    ⊎_elim (λ (t : (length (column ∷ columns) == 0) ≡ true). absurd (let none = eqb-true (length (column ∷ columns)) 0 t in omega arith))
+    (λ (f : (length (column ∷ columns) == 0) ≡ false). f)
+    (cases_Bool (length (column ∷ columns) == 0))
+
+told_by : (group : List ℕ) (items : List Item) → IsTrue (not (length group == 0) || list_any is_aggregate items)
+    ↔ ((group ≢ []) ⊎ ((item : Item) × Contains items item × IsAggregate item))
+told_by [] items = (
+  λ t. inr (some_aggregate items t),
+  λ h. ⊎_elim (λ (some : [] ≢ []). absurd (some refl))
+      (λ (found : (item : Item) × Contains items item × IsAggregate item). from_aggregate items found.0 found.1 found.2) h,
+)
+told_by (column ∷ columns) items = (λ t. inl (λ (e : column ∷ columns ≡ []). cc), λ h. rw (some_columns column columns) refl)
+
+pub group_queries_are_told : GroupQueriesAreTold
+group_queries_are_told q = told_by q.group q.items
 
 -- ---- least and greatest
 
@@ -161,35 +201,11 @@ groups_have_one_arrangement schema columns keys rows groups others first second 
 
 -- ---- meaning
 
--- some item is an aggregate, or none is
-aggregate_or_none : (items : List Item)
-    → ((item : Item) × Contains items item × IsAggregate item) ⊎ (¬ ((item : Item) × Contains items item × IsAggregate item))
-aggregate_or_none [] = inr (λ (item, here, is). contains_none item here)
-aggregate_or_none (Count ∷ items) = inl (Count, contains_here Count items, tt)
-aggregate_or_none (Aggregate taken column ∷ items) = inl (Aggregate taken column, contains_here (Aggregate taken column) items, tt)
-aggregate_or_none (Column column ∷ items) =
-    ⊎_elim (λ (h : (item : Item) × Contains items item × IsAggregate item). inl (h.0, contains_later (Column column) items h.0 h.1, h.2))
-    (λ (h : ¬ ((item : Item) × Contains items item × IsAggregate item)).
-    inr (λ (k : (item : Item) × Contains (Column column ∷ items) item × IsAggregate item).
-    ⊎_elim (λ (e : Column column ≡ k.0). subst (λ (i : Item). IsAggregate i) (sym e) k.2)
-    (λ (c : Contains items k.0). h (k.0, c, k.2))
-    (contains_cases (Column column) items k.0 k.1)))
-    (aggregate_or_none items)
-
-empty_or_not : (columns : List ℕ) → (columns ≡ []) ⊎ (columns ≢ [])
-empty_or_not [] = inl refl
-empty_or_not (c ∷ cs) = inr (λ (e : c ∷ cs ≡ []). cc)
-
 group_or_row : (q : Asked) → IsGroupQuery q ⊎ (¬ IsGroupQuery q)
 group_or_row q =
-    ⊎_elim (λ (none : q.group ≡ []).
-    ⊎_elim (λ (h : (item : Item) × Contains q.items item × IsAggregate item). inl (inr h))
-    (λ (h : ¬ ((item : Item) × Contains q.items item × IsAggregate item)).
-    inr (λ (g : IsGroupQuery q). ⊎_elim (λ (some : q.group ≢ []). some none)
-    (λ (k : (item : Item) × Contains q.items item × IsAggregate item). h k) g))
-    (aggregate_or_none q.items))
-    (λ (some : q.group ≢ []). inl (inl some))
-    (empty_or_not q.group)
+    ⊎_elim (λ (t : has_groups q ≡ true). inl ((group_queries_are_told q).0 t))
+    (λ (f : has_groups q ≡ false). inr (λ (g : IsGroupQuery q). true≢false (sym ((group_queries_are_told q).1 g) ∙ f)))
+    (cases_Bool (has_groups q))
 
 group_meaning : (table : Table) (q : Asked) → (rows : List (List Cell)) × IsGroupMeaning table q rows
 group_meaning table q =

@@ -1,10 +1,10 @@
--- Worked examples: two small tables, some queries, and what they mean, worked out by hand. Each is what the function of its name in
+-- Worked examples: three small tables, some queries, and what they mean, worked out by hand. Each is what the function of its name in
 -- `example` ensures.
 use Rattle.std.specs.Prelude.{◌≡◌, ℕ, zero, suc, ℤ, pos, true, false, List, [], ◌∷◌, map, Option, Some, None, codes}
 use Rattle.std.proofs.Common.{◌≢◌, eqb, refl, arith}
 use Rattle.std.proofs.lemmas.Bool.{eqb-false}
 use Rattle.ub_query.specs.Meaning.{IsMeaning, titles}
-use Rattle.ub_query.specs.Shape.{Asked, compares}
+use Rattle.ub_query.specs.Shape.{Asked, Shape, neither, compares, between}
 use Rattle.ub_query.specs.declared.cell.Cell.{Cell}
 use Rattle.ub_query.specs.declared.cell.Cell.TheVariants.{Number, Null}
 use Rattle.ub_query.specs.declared.condition.Operator.TheVariants.{Greater}
@@ -57,6 +57,13 @@ two = record {
   rows = row 1 0 0 (pos 9223372036854775807) ∷ row 2 5 0 (pos 9223372036854775807) ∷ [];
 }
 
+-- four rows, of which two have one value of the measure m
+abbrev pub four : Table
+four = record {
+  schema = record { name = codes "t"; columns = codes "x" ∷ codes "m" ∷ []; dims = 1; page_rows = 2; counts = counts_two; distinct = distinct_two };
+  rows = row 1 0 0 (pos 5) ∷ row 2 1 0 (pos 3) ∷ row 3 2 0 (pos 5) ∷ row 4 3 0 (pos 4) ∷ [];
+}
+
 abbrev pub ascending : ℕ → SortKey
 ascending column = record { item = Column column; is_descending = false }
 
@@ -69,6 +76,10 @@ numbers xs = map (λ x. Number (pos x)) xs
 -- SELECT * of three columns, in this order
 abbrev pub everything : List SortKey → Option ℕ → Asked
 everything order limit = record { items = Column 0 ∷ Column 1 ∷ Column 2 ∷ []; filter = None; group = []; order = order; limit = limit }
+
+-- SELECT of the third column, where this holds
+abbrev pub measures : Option Shape → Asked
+measures condition = record { items = Column 2 ∷ []; filter = condition; group = []; order = []; limit = None }
 
 -- select * from t order by y desc
 abbrev pub RowsByY : Type 0
@@ -99,6 +110,32 @@ abbrev pub SumOfGreatest : Type 0
 SumOfGreatest = IsMeaning two
     (record { items = Aggregate Sum 1 ∷ Aggregate Min 0 ∷ Aggregate Max 0 ∷ []; filter = None; group = []; order = []; limit = None })
     (numbers (18446744073709551614 ∷ 0 ∷ 5 ∷ []) ∷ [])
+
+-- SELECT m FROM t WHERE m BETWEEN 7 AND 5
+abbrev pub NoneBetween : Type 0
+NoneBetween = IsMeaning five (measures (Some (between 2 (pos 7) (pos 5)))) []
+
+-- SELECT m FROM t WHERE NOT m > 4
+abbrev pub OneNotGreater : Type 0
+OneNotGreater = IsMeaning five (measures (Some (neither (compares 2 Greater (pos 4))))) (numbers (1 ∷ []) ∷ [])
+
+-- SELECT COUNT(*) FROM t LIMIT 0
+abbrev pub NothingCounted : Type 0
+NothingCounted = IsMeaning five
+    (record { items = Count ∷ []; filter = None; group = []; order = []; limit = Some 0 })
+    []
+
+-- SELECT m, COUNT(*) FROM t GROUP BY m, m ORDER BY COUNT(*) DESC
+abbrev pub CountsByMeasure : Type 0
+CountsByMeasure = IsMeaning four
+    (record {
+      items = Column 1 ∷ Count ∷ [];
+      filter = None;
+      group = 1 ∷ 1 ∷ [];
+      order = record { item = Count; is_descending = true } ∷ [];
+      limit = None;
+    })
+    (numbers (5 ∷ 2 ∷ []) ∷ numbers (3 ∷ 1 ∷ []) ∷ numbers (4 ∷ 1 ∷ []) ∷ [])
 
 -- the titles of SELECT x, COUNT(*), SUM(m), MIN(y), MAX(y)
 abbrev pub TitlesOfItems : Type 0

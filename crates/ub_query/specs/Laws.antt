@@ -1,14 +1,16 @@
 -- The laws of the definitions. Each is what the function of its name in `law` ensures, and is proved in proofs/Laws.antt.
-use Rattle.std.specs.Prelude.{◌≡◌, ℕ, ◌≤◌, ℤ, ◌≤ℤ◌, List, [], map, Option}
+use Rattle.std.specs.Prelude.{◌≡◌, ◌↔◌, ℕ, ◌≤◌, ℤ, ◌≤ℤ◌, List, [], map, Option, IsTrue}
 use Rattle.std.specs.List.{All, Contains}
 use Rattle.ub_query.specs.Cells.{Group, row_cell, least_of, greatest_of}
 use Rattle.ub_query.specs.Groups.{AreGroups, selected}
 use Rattle.ub_query.specs.Meaning.{IsMeaning, limited}
 use Rattle.ub_query.specs.Order.{IsArrangement, IsRowBefore, IsGroupBefore}
-use Rattle.ub_query.specs.Posed.{IsPosedCondition, IsGroupQuery, height}
-use Rattle.ub_query.specs.Shape.{Shape, Asked}
+use Rattle.ub_query.specs.Posed.{IsPosedCondition, IsGroupQuery, has_groups, height}
+use Rattle.ub_query.specs.Shape.{Shape, Asked, both, compares, between}
+use Rattle.ub_query.specs.Truth.{truth}
 use Rattle.ub_query.specs.declared.cell.Cell.{Cell}
 use Rattle.ub_query.specs.declared.cell.Cell.TheVariants.{Number}
+use Rattle.ub_query.specs.declared.condition.Operator.TheVariants.{AtMost, AtLeast}
 use Rattle.ub_query.specs.declared.query.SortKey.{SortKey}
 use Rattle.ub_table.specs.Table.{Table, IsInOrder}
 use Rattle.ub_table.specs.declared.row.Row.{Row}
@@ -17,6 +19,15 @@ use Rattle.ub_table.specs.declared.schema.Schema.{Schema}
 -- a condition that is accepted is at most 128 high
 abbrev pub PosedIsLow : Type 0
 PosedIsLow = (columns : ℕ) (c : Shape) → IsPosedCondition columns c → height c ≤ 128
+
+-- BETWEEN is its two comparisons, also where its ends are crossed
+abbrev pub BetweenIsTwo : Type 0
+BetweenIsTwo = (value : ℕ → ℤ) (column : ℕ) (low high : ℤ)
+    → truth value (between column low high) ≡ truth value (both (compares column AtLeast low) (compares column AtMost high))
+
+-- a group query is one that the test tells
+abbrev pub GroupQueriesAreTold : Type 0
+GroupQueriesAreTold = (q : Asked) → IsTrue (has_groups q) ↔ IsGroupQuery q
 
 -- MIN of some numbers is one of them, and not above any
 abbrev pub MinIsLeast : Type 0

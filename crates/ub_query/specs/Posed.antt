@@ -1,6 +1,6 @@
 -- What is true of each query that is accepted over a table with so many columns.
-use Rattle.std.specs.Prelude.{◌≢◌, ℕ, ◌+◌, ◌<◌, ◌≤◌, max, ℤ, pos, neg_ℤ, ◌≤ℤ◌, List, [], length, ◌⊎◌, IfSome}
-use Rattle.std.specs.List.{All, Contains}
+use Rattle.std.specs.Prelude.{◌≢◌, ℕ, ◌+◌, ◌<◌, ◌≤◌, ◌==◌, max, ℤ, pos, neg_ℤ, ◌≤ℤ◌, Bool, true, false, not, ◌||◌, List, [], length, ◌⊎◌, IfSome}
+use Rattle.std.specs.List.{All, Contains, list_any}
 use Rattle.ub_query.specs.Shape.{Asked, Shape, both, either, neither, compares, between}
 use Rattle.ub_query.specs.declared.query.Item.{Item}
 use Rattle.ub_query.specs.declared.query.Item.TheVariants.{Column, Count, Aggregate}
@@ -75,6 +75,16 @@ IsAggregate (Aggregate aggregate column) = Unit {0}
 -- a query with GROUP BY or with an aggregate among its items; the others are row queries
 abbrev pub IsGroupQuery : Asked → Type 0
 IsGroupQuery q = (q.group ≢ []) ⊎ ((item : Item) × Contains q.items item × IsAggregate item)
+
+-- the test that tells an aggregate
+abbrev pub is_aggregate : Item → Bool
+is_aggregate (Column column) = false
+is_aggregate Count = true
+is_aggregate (Aggregate aggregate column) = true
+
+-- the test that tells a query with GROUP BY or with an aggregate among its items (`Laws`)
+abbrev pub has_groups : Asked → Bool
+has_groups q = not (length q.group == 0) || list_any is_aggregate q.items
 
 -- an aggregate, or a column by which is grouped
 abbrev pub IsGrouped : List ℕ → Item → Type 0

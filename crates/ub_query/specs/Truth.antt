@@ -10,7 +10,7 @@ use Rattle.ub_table.specs.declared.schema.Schema.{Schema}
 
 -- the value of a row of this schema, as a function of the column
 abbrev pub value_in : Schema → Row → ℕ → ℤ
-value_in schema row column = column_value schema.dims row column
+value_in schema row column = column_value schema row column
 
 -- whether one whole number compares so with another (SQL's comparison predicate)
 abbrev pub holds : Operator → ℤ → ℤ → Bool

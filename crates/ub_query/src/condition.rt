@@ -69,9 +69,9 @@ impl Cond {
                 column,
                 operator,
                 value,
-            } => operator.holds(value_in(row, schema, *column), *value),
+            } => operator.holds(i128::from(schema.value_of(row, *column)), *value),
             Cond::Between { column, low, high } => {
-                let value = value_in(row, schema, *column);
+                let value = i128::from(schema.value_of(row, *column));
                 *low <= value && value <= *high
             }
         }
@@ -107,12 +107,4 @@ impl Cond {
             }),
         }
     }
-}
-
-// The value of a row in a column of the schema.
-fn value_in(row: &Row, schema: &Schema, column: usize) -> i128
-    requires { column < length schema.now.columns }
-    ensures { result ≡ spec.value_in schema.now row.now column }
-{
-    row.column_value(schema.dims(), column)
 }

@@ -1,4 +1,4 @@
-ghost use Rattle.ub_query.specs.Examples.{RowsByY, TwoRowsByX, NoRowsCounted, SumsByX, SumOfGreatest, TitlesOfItems};
+ghost use Rattle.ub_query.specs.Examples.{RowsByY, TwoRowsByX, NoRowsCounted, SumsByX, SumOfGreatest, NoneBetween, OneNotGreater, NothingCounted, CountsByMeasure, TitlesOfItems};
 
 // Each function here does nothing, and its clause is a worked example of the definitions in specs/.
 
@@ -25,6 +25,26 @@ pub fn sums_by_x()
 /// `SELECT SUM(m), MIN(x), MAX(x) FROM t`, over two of the greatest values
 pub fn sum_of_greatest()
     ensures { SumOfGreatest }
+{}
+
+/// `SELECT m FROM t WHERE m BETWEEN 7 AND 5`
+pub fn none_between()
+    ensures { NoneBetween }
+{}
+
+/// `SELECT m FROM t WHERE NOT m > 4`
+pub fn one_not_greater()
+    ensures { OneNotGreater }
+{}
+
+/// `SELECT COUNT(*) FROM t LIMIT 0`
+pub fn nothing_counted()
+    ensures { NothingCounted }
+{}
+
+/// `SELECT m, COUNT(*) FROM t GROUP BY m, m ORDER BY COUNT(*) DESC`
+pub fn counts_by_measure()
+    ensures { CountsByMeasure }
 {}
 
 /// The titles of a column, COUNT(*), SUM, MIN and MAX

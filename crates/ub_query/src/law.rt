@@ -1,4 +1,4 @@
-ghost use Rattle.ub_query.specs.Laws.{PosedIsLow, MinIsLeast, MaxIsGreatest, RowsHaveAnArrangement, RowsHaveOneArrangement, SelectedAreInOrder, RowsInOrderAreArranged, RowsFallIntoGroups, GroupsHaveAnArrangement, GroupsHaveOneArrangement, PlainQueriesMean, QueriesHaveAMeaning, QueriesHaveOneMeaning};
+ghost use Rattle.ub_query.specs.Laws.{PosedIsLow, BetweenIsTwo, GroupQueriesAreTold, MinIsLeast, MaxIsGreatest, RowsHaveAnArrangement, RowsHaveOneArrangement, SelectedAreInOrder, RowsInOrderAreArranged, RowsFallIntoGroups, GroupsHaveAnArrangement, GroupsHaveOneArrangement, PlainQueriesMean, QueriesHaveAMeaning, QueriesHaveOneMeaning};
 
 // Each function here does nothing, and its clause is a law of the definitions in specs/. So the law is proved, and is read
 // beside the code.
@@ -6,6 +6,16 @@ ghost use Rattle.ub_query.specs.Laws.{PosedIsLow, MinIsLeast, MaxIsGreatest, Row
 /// A condition which is accepted is at most 128 high.
 pub fn posed_is_low()
     ensures { PosedIsLow }
+{}
+
+/// BETWEEN is its two comparisons, also where its ends are crossed.
+pub fn between_is_two()
+    ensures { BetweenIsTwo }
+{}
+
+/// A group query is one that the test tells.
+pub fn group_queries_are_told()
+    ensures { GroupQueriesAreTold }
 {}
 
 /// MIN of some numbers is one of them, and not above any.

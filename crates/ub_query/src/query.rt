@@ -1,5 +1,7 @@
-ghost use Rattle.std.specs.Prelude.{◌≡◌, IfOk};
+ghost use Rattle.std.specs.Prelude.{◌≡◌, ◌↔◌, IfOk, IsTrue};
+ghost use Rattle.std.specs.List.{list_any};
 ghost use Rattle.std.specs.Option.{option_map};
+ghost use Rattle.ub_query.specs.Posed as spec;
 ghost use Rattle.ub_query.specs.Shape.{asked, shape};
 
 use crate::condition::Cond;
@@ -34,6 +36,21 @@ impl Query {
             limit: self.limit,
         })
     }
+
+    /// Whether the query gives groups: it has GROUP BY, or an aggregate among its items. Takes no memory.
+    pub fn has_groups(&self) -> bool
+        ensures told { result ≡ spec.has_groups (asked self.now) }
+        ensures groups { IsTrue result ↔ spec.IsGroupQuery (asked self.now) }
+    {
+        !self.group.as_slice().is_empty() || has_aggregate(self.items.as_slice())
+    }
+}
+
+// Whether some item is an aggregate.
+fn has_aggregate(items: &[Item]) -> bool
+    ensures { result ≡ list_any spec.is_aggregate items.now }
+{
+    items.iter().any(|item| item.is_aggregate())
 }
 
 // The same condition in memory of its own, if there is one.
@@ -55,6 +72,19 @@ pub enum Item {
     Count,
     /// SUM, MIN or MAX of a column.
     Aggregate(Aggregate, usize),
+}
+
+impl Item {
+    /// Whether the item is COUNT, SUM, MIN or MAX. Takes no memory.
+    pub fn is_aggregate(self) -> bool
+        ensures told { result ≡ spec.is_aggregate self }
+        ensures aggregate { IsTrue result ↔ spec.IsAggregate self }
+    {
+        match self {
+            Item::Column(_) => false,
+            Item::Count | Item::Aggregate(_, _) => true,
+        }
+    }
 }
 
 /// What is taken of a column's values.

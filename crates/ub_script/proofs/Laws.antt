@@ -3,9 +3,10 @@ use Rattle.std.proofs.Common.{◌≡◌, ◌+◌, ℕ, Bool, true, false, List, 
 use Rattle.ub_lexer.proofs.Laws.{same_statements, same_tokens}
 use Rattle.ub_lexer.specs.Statements.{AreStatements}
 use Rattle.ub_lexer.specs.declared.token.Token.{Token}
-use Rattle.ub_plan.proofs.Laws.{explains_have_one_text, visits_are_one}
-use Rattle.ub_plan.specs.Plan.{plan_of}
-use Rattle.ub_plan.specs.Visits.{Span}
+use Rattle.ub_plan.proofs.Laws.{explains_have_one_text}
+use Rattle.ub_planning.proofs.Laws.{visits_are_one}
+use Rattle.ub_planning.specs.Plan.{plan_of}
+use Rattle.ub_planning.specs.Visits.{Span}
 use Rattle.ub_query.proofs.Laws.{queries_have_one_meaning}
 use Rattle.ub_query.specs.Shape.{Asked}
 use Rattle.ub_query.specs.declared.cell.Cell.{Cell}

@@ -7,8 +7,8 @@ use Rattle.std.specs.List.Sorted.{IsStrictlyIncreasing}
 use Rattle.ub_exec.specs.Answers.{begun, IsReady, IsAnswer as IsPlanAnswer}
 use Rattle.ub_exec.specs.Visits.{HasFetched as IsFetchedBy, fetches_then}
 use Rattle.ub_plan.specs.Explained.{IsExplained}
-use Rattle.ub_plan.specs.Plan.{PlanView, plan_of}
-use Rattle.ub_plan.specs.Visits.{Span, AreVisits}
+use Rattle.ub_planning.specs.Plan.{PlanView, plan_of}
+use Rattle.ub_planning.specs.Visits.{Span, AreVisits}
 use Rattle.ub_load.specs.LoadedTree.{IsLoadedTree}
 use Rattle.ub_script.specs.declared.fault.RunFault.{RunFault}
 use Rattle.ub_script.specs.declared.fault.RunFault.TheVariants.{Write}

@@ -3,8 +3,8 @@ use Rattle.std.proofs.Common.{◌≡◌, ◌≤◌, ℕ, false, List, Ok, Err, R
 use Rattle.std.specs.Prelude.{OnErr}
 use Rattle.ub_exec.specs.Answers.{begun}
 use Rattle.ub_exec.specs.Visits.{HasFetched, HasFetchedFirst, fetches_then}
-use Rattle.ub_plan.specs.Plan.{PlanView, plan_of}
-use Rattle.ub_plan.specs.Visits.{Span, AreVisits}
+use Rattle.ub_planning.specs.Plan.{PlanView, plan_of}
+use Rattle.ub_planning.specs.Visits.{Span, AreVisits}
 use Rattle.ub_query.proofs.Laws.{queries_have_a_meaning}
 use Rattle.ub_query.specs.Shape.{Asked}
 use Rattle.ub_script.specs.Loop.{Starts}

@@ -1,15 +1,13 @@
--- Which fault of a run a fault of loading is, and which one of carrying out a plan.
+-- Which fault of a run a fault of loading is, and which one of reading a tree.
 use Rattle.std.specs.Prelude.{◌≡◌, ◌≢◌, ℕ, Result, Err, IfErr}
-use Rattle.ub_exec.specs.declared.fault.ExecFault.{ExecFault}
-use Rattle.ub_exec.specs.declared.fault.ExecFault.TheVariants.{Memory as no_memory_to_read, Tree as of_tree}
-use Rattle.ub_plan.specs.declared.fault.PlanFault.{PlanFault}
-use Rattle.ub_plan.specs.declared.fault.PlanFault.TheVariants.{Memory as no_memory_to_explain, Tree as of_explain}
 use Rattle.ub_load.specs.declared.fault.LoadFault.{LoadFault}
 use Rattle.ub_load.specs.declared.fault.LoadFault.TheVariants.{Memory as no_memory_to_load}
 use Rattle.ub_store.specs.Facts.{raised}
 use Rattle.ub_tree.specs.Effects.{IsReadFault, raised_by}
 use Rattle.ub_tree.specs.View.{TreeView}
 use Rattle.ub_tree.specs.declared.fault.TreeFault.TheVariants.{Memory as no_memory}
+use Rattle.ub_tree.specs.declared.read_fault.ReadFault.{ReadFault}
+use Rattle.ub_tree.specs.declared.read_fault.ReadFault.TheVariants.{Memory as no_memory_to_read, Tree as of_tree}
 use Rattle.ub_script.specs.declared.fault.RunFault.{RunFault}
 use Rattle.ub_script.specs.declared.fault.RunFault.TheVariants.{Memory, Write, Load, Tree}
 
@@ -18,13 +16,9 @@ abbrev pub fault_of_load : LoadFault → RunFault
 fault_of_load no_memory_to_load = Memory
 fault_of_load fault = Load fault
 
-abbrev pub fault_of_plan : ExecFault → RunFault
-fault_of_plan no_memory_to_read = Memory
-fault_of_plan (of_tree fault) = Tree fault
-
-abbrev pub fault_of_explain : PlanFault → RunFault
-fault_of_explain no_memory_to_explain = Memory
-fault_of_explain (of_explain fault) = Tree fault
+abbrev pub fault_of_read : ReadFault → RunFault
+fault_of_read no_memory_to_read = Memory
+fault_of_read (of_tree fault) = Tree fault
 
 -- what a run over a tree can answer: a fault of the tree as its reading calls answer it
 abbrev pub IsGiven : TreeView → RunFault → Type 0

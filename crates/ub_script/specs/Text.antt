@@ -5,8 +5,8 @@ use Rattle.std.specs.List.{flat_map, join_with_byte, sum_by}
 use Rattle.ub_parser.specs.declared.fault.SqlFault.{SqlFault}
 use Rattle.ub_parser.specs.declared.fault.SqlFault.TheVariants.{BadByte, Syntax, NumberTooLarge, TooDeep, TooMany, UnknownTable, UnknownColumn, NotGrouped, NotSelected, Memory}
 use Rattle.ub_plan.specs.Explained.{IsExplained}
-use Rattle.ub_plan.specs.Plan.{plan_of}
-use Rattle.ub_plan.specs.Visits.{Span, AreVisits}
+use Rattle.ub_planning.specs.Plan.{plan_of}
+use Rattle.ub_planning.specs.Visits.{Span, AreVisits}
 use Rattle.ub_query.specs.Meaning.{IsMeaning, titles}
 use Rattle.ub_query.specs.Shape.{Asked}
 use Rattle.ub_query.specs.declared.cell.Cell.{Cell}

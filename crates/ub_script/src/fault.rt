@@ -1,14 +1,12 @@
 ghost use Rattle.std.specs.Prelude.{◌≡◌};
 ghost use Rattle.ub_script.specs.declared.fault.RunFault.TheVariants.{Memory, Write};
-ghost use Rattle.ub_script.specs.Faults.{fault_of_explain, fault_of_load, fault_of_plan};
+ghost use Rattle.ub_script.specs.Faults.{fault_of_load, fault_of_read};
 
 use crate::output::OutFault;
 use std::alloc::AllocError;
 use thiserror::Error;
-use ub_exec::ExecFault;
 use ub_load::LoadFault;
-use ub_plan::PlanFault;
-use ub_tree::TreeFault;
+use ub_tree::{ReadFault, TreeFault};
 
 /// Why a script was not run to its end.
 #[derive(Clone, Copy, PartialEq, Eq, Debug, Error)]
@@ -46,24 +44,13 @@ impl From<LoadFault> for RunFault {
     }
 }
 
-impl From<ExecFault> for RunFault {
-    ghost from_gives = { λ plan fault. fault ≡ fault_of_plan plan };
+impl From<ReadFault> for RunFault {
+    ghost from_gives = { λ read fault. fault ≡ fault_of_read read };
 
-    fn from(fault: ExecFault) -> RunFault {
+    fn from(fault: ReadFault) -> RunFault {
         match fault {
-            ExecFault::Memory => RunFault::Memory,
-            ExecFault::Tree(fault) => RunFault::Tree(fault),
-        }
-    }
-}
-
-impl From<PlanFault> for RunFault {
-    ghost from_gives = { λ plan fault. fault ≡ fault_of_explain plan };
-
-    fn from(fault: PlanFault) -> RunFault {
-        match fault {
-            PlanFault::Memory => RunFault::Memory,
-            PlanFault::Tree(fault) => RunFault::Tree(fault),
+            ReadFault::Memory => RunFault::Memory,
+            ReadFault::Tree(fault) => RunFault::Tree(fault),
         }
     }
 }

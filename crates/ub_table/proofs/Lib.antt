@@ -2,4 +2,5 @@ pub mod DistinctFacts
 pub mod KeyFacts
 pub mod NameFacts
 pub mod SchemaFacts
+pub mod ValueFacts
 pub mod Laws

@@ -11,6 +11,10 @@ pub record AreCounts (columns dims page_rows : ℕ) : Type 0 where
   pub some_rows : 2 ≤ page_rows
   pub few_rows : page_rows ≤ MAX_ROWS
 
+-- so many dimensions and page rows are a table's: with no measures beside the dimensions its numbers are in range
+abbrev pub AreTableNumbers : ℕ → ℕ → Type 0
+AreTableNumbers dims page_rows = AreCounts dims dims page_rows
+
 -- no two columns have one name
 abbrev pub AreDistinct : List (List ℕ) → Type 0
 AreDistinct columns = (i j : ℕ) → i < j → j < length columns → slice_get columns i ≢ slice_get columns j

@@ -12,9 +12,11 @@ pub mod columns;
 pub mod fault;
 pub mod items;
 pub mod keyword;
+pub mod law;
 pub mod name;
 pub mod row;
 pub mod schema;
+pub mod value;
 
 pub use columns::Columns;
 pub use fault::PageFault;
@@ -23,3 +25,4 @@ pub use keyword::is_keyword;
 pub use name::Name;
 pub use row::{Key, MAX_ROW_NUMBER, Row};
 pub use schema::{MAX_ROWS, Schema};
+pub use value::{coordinate_at, fits_at};

@@ -31,7 +31,6 @@ pub struct Key {
 impl Row {
     ghost use Rattle.std.specs.Prelude.{◌≡◌, ◌+◌, ◌<◌};
     ghost use Rattle.ub_table.specs.Region.{key_of};
-    ghost use Rattle.ub_table.specs.Table as spec;
 
     /// The key of this row in a space of this shape: the address of its coordinates, and its number.
     pub fn key(&self, shape: Shape) -> Key
@@ -43,20 +42,6 @@ impl Row {
                 number: self.number,
             },
             Err(_) => unreachable!(),
-        }
-    }
-
-    /// The value in a column, from 0, of a table with so many dimensions: coordinates first, then measures.
-    pub fn column_value(&self, dims: u32, column: usize) -> i128
-        requires dims { dims < 5 }
-        requires column { column < dims + 4 }
-        ensures { result ≡ spec.column_value dims self.now column }
-    {
-        let dims = dims as usize;
-        if column < dims {
-            i128::from(self.dims[column])
-        } else {
-            i128::from(self.measures[column - dims])
         }
     }
 }

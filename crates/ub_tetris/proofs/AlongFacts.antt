@@ -1,20 +1,19 @@
 -- Coordinates along a sweep, event values, and the order asked where its first key is the sweep's dimension.
-use Rattle.std.proofs.Common.{◌≡◌, ◌≢◌, ◌<◌, ◌+◌, ◌==◌, ℕ, List, [], ◌∷◌, Bool, true, false, nat_lt, Option, Some, None, length, get_or, slice_index, Contains, ◌⊎◌, inl, inr, refl, sym, ap, ◌∙◌, subst, arith}
-use Rattle.std.proofs.lemmas.Bool.{cases_Bool, cases_lt, ltb-true, lt-ltb, true≢false}
+use Rattle.std.proofs.Common.{◌≡◌, ◌≢◌, ◌<◌, ◌+◌, ℕ, List, [], ◌∷◌, Bool, true, false, nat_lt, Some, length, get_or, slice_get, slice_index, inl, inr, refl, sym, ap, ◌∙◌, subst, arith}
+use Rattle.std.proofs.lemmas.Bool.{cases_lt, lt-ltb}
 use Rattle.std.proofs.lemmas.Int.{ints}
-use Rattle.std.specs.List.{AllAdjacentBelow, list_any}
-use Rattle.ub_bigmin.specs.Box.{Corners}
+use Rattle.std.specs.List.{AllAdjacentBelow}
 use Rattle.ub_boxes.specs.Boxes.{Covering, boxes_of, cover_of}
-use Rattle.ub_plan.specs.Plan.{PlanView, gives_groups, is_aggregate, kept_by, kind_asked, kind_by, kind_for, kind_led, kind_of, kind_within, plan_of}
-use Rattle.ub_plan.specs.Visits.{Event, IsAlong, IsEventBefore}
-use Rattle.ub_plan.specs.declared.planned.Kind.{Kind}
-use Rattle.ub_plan.specs.declared.planned.Kind.TheVariants.{Empty, Scan, Sweep}
-use Rattle.ub_query.proofs.Laws.{Rising, Rising-from_adjacent, contains_cases, contains_none}
+use Rattle.ub_planning.proofs.Laws.{plans_are_empty, sweeps_are_led}
+use Rattle.ub_planning.specs.Plan.{PlanView, kept_by, kind_of, plan_of}
+use Rattle.ub_planning.specs.Visits.{Event, IsAlong, IsEventBefore}
+use Rattle.ub_planning.specs.declared.planned.Kind.{Kind}
+use Rattle.ub_planning.specs.declared.planned.Kind.TheVariants.{Empty, Scan, Sweep}
+use Rattle.ub_query.proofs.Laws.{Rising, Rising-from_adjacent}
 use Rattle.ub_query.specs.Order.{IsRowBefore}
-use Rattle.ub_query.specs.Posed.{IsAggregate, IsGroupQuery}
+use Rattle.ub_query.specs.Posed.{IsGroupQuery}
 use Rattle.ub_query.specs.Shape.{Asked}
-use Rattle.ub_query.specs.declared.query.Item.{Item}
-use Rattle.ub_query.specs.declared.query.Item.TheVariants.{Column, Count, Aggregate}
+use Rattle.ub_query.specs.declared.query.Item.TheVariants.{Column}
 use Rattle.ub_query.specs.declared.query.SortKey.{SortKey}
 use Rattle.ub_table.specs.declared.row.Row.{Row}
 use Rattle.ub_table.specs.declared.schema.Schema.{Schema}
@@ -77,18 +76,6 @@ values_rise down events next =
 
 -- ---- the query of a sweep
 
-kind_by_sweep : (dims : ℕ) (item : Item) (down : Bool) (dim : ℕ) (is_descending : Bool) → kind_by dims item down ≡ Sweep dim is_descending
-    → (item ≡ Column dim) × (down ≡ is_descending) × (dim < dims)
-kind_by_sweep dims (Column column) down dim is_descending is = elim (cases_Bool (nat_lt column dims)) [
-  | inl t ↦
-      let same : Sweep column down ≡ Sweep dim is_descending = rw t at is in
-      let at : column ≡ dim = cc in
-      (ap Column at, cc, subst (λ (d : ℕ). d < dims) at (ltb-true column dims t))
-  | inr f ↦ let same : Scan ≡ Sweep dim is_descending = rw f at is in absurd cc
-]
-kind_by_sweep dims Count down dim is_descending is = absurd cc
-kind_by_sweep dims (Aggregate taken column) down dim is_descending is = absurd cc
-
 -- the first key is the dimension, and the query gives rows
 pub record IsLed (schema : Schema) (q : Asked) (dim : ℕ) (is_descending : Bool) : Type 0 where
   pub first : SortKey
@@ -97,42 +84,30 @@ pub record IsLed (schema : Schema) (q : Asked) (dim : ℕ) (is_descending : Bool
   pub item : first.item ≡ Column dim
   pub descending : first.is_descending ≡ is_descending
   pub within : dim < schema.dims
-  pub plain : gives_groups q.group q.items ≡ false
+  pub plain : ¬ IsGroupQuery q
 
-led_by : (schema : Schema) (q : Asked) (dim : ℕ) (is_descending : Bool) (keys : List SortKey) → q.order ≡ keys → gives_groups q.group q.items ≡ false
-    → kind_led schema.dims keys ≡ Sweep dim is_descending → IsLed schema q dim is_descending
-led_by schema q dim is_descending [] same plain is = absurd cc
-led_by schema q dim is_descending (key ∷ keys) same plain is =
-    let parts = kind_by_sweep schema.dims key.item key.is_descending dim is_descending is in
-    record { first = key; keys = keys; order = same; item = parts.0; descending = parts.1; within = parts.2; plain = plain }
+led_by : (schema : Schema) (q : Asked) (dim : ℕ) (is_descending : Bool) (keys : List SortKey) → q.order ≡ keys → ¬ IsGroupQuery q → dim < schema.dims
+    → slice_get keys 0 ≡ Some (record { item = Column dim; is_descending = is_descending }) → IsLed schema q dim is_descending
+led_by schema q dim is_descending [] same plain within is = absurd cc
+led_by schema q dim is_descending (key ∷ keys) same plain within is =
+    let first : key ≡ record { item = Column dim; is_descending = is_descending } = cc in
+    record {
+      first = key;
+      keys = keys;
+      order = same;
+      item = ap (λ (k : SortKey). k.item) first;
+      descending = ap (λ (k : SortKey). k.is_descending) first;
+      within = within;
+      plain = plain;
+    }
 
-led_asked : (schema : Schema) (q : Asked) (dim : ℕ) (is_descending : Bool) → kind_asked schema q ≡ Sweep dim is_descending → IsLed schema q dim is_descending
-led_asked schema q dim is_descending is = elim (cases_Bool (gives_groups q.group q.items)) [
-  | inl t ↦ let same : Scan ≡ Sweep dim is_descending = rw t at is in absurd cc
-  | inr f ↦ led_by schema q dim is_descending q.order refl f (rw f at is)
-]
-
-within_sweep : (limit : Option ℕ) (kind : Kind) (dim : ℕ) (is_descending : Bool) → kind_within limit kind ≡ Sweep dim is_descending → kind ≡ Sweep dim is_descending
-within_sweep None kind dim is_descending is = is
-within_sweep (Some n) kind dim is_descending is = elim (cases_Bool (n == 0)) [
-  | inl t ↦ let same : Empty ≡ Sweep dim is_descending = rw t at is in absurd cc
-  | inr f ↦ rw f at is
-]
-
-for_sweep : (boxes : List Corners) (limit : Option ℕ) (kind : Kind) (dim : ℕ) (is_descending : Bool) → kind_for boxes limit kind ≡ Sweep dim is_descending → kind ≡ Sweep dim is_descending
-for_sweep [] limit kind dim is_descending is = absurd cc
-for_sweep (b ∷ boxes) limit kind dim is_descending is = within_sweep limit kind dim is_descending is
-
-within_some : (limit : Option ℕ) (kind : Kind) (dim : ℕ) (is_descending : Bool) → kind_within limit kind ≡ Sweep dim is_descending → limit ≢ Some 0
-within_some limit kind dim is_descending is none =
-    let same : Empty ≡ Sweep dim is_descending = ap (λ (o : Option ℕ). kind_within o kind) (sym none) ∙ is in absurd cc
-
-for_some : (boxes : List Corners) (limit : Option ℕ) (kind : Kind) (dim : ℕ) (is_descending : Bool) → kind_for boxes limit kind ≡ Sweep dim is_descending → limit ≢ Some 0
-for_some [] limit kind dim is_descending is = absurd cc
-for_some (b ∷ boxes) limit kind dim is_descending is = within_some limit kind dim is_descending is
+no_sweep_of_none : (kind : Kind) (dim : ℕ) (is_descending : Bool) → kind ≡ Sweep dim is_descending → kind ≢ Empty
+no_sweep_of_none kind dim is_descending is none = let same : Empty ≡ Sweep dim is_descending = sym none ∙ is in absurd cc
 
 pub led : (schema : Schema) (q : Asked) (dim : ℕ) (is_descending : Bool) → kind_of schema q ≡ Sweep dim is_descending → IsLed schema q dim is_descending
-led schema q dim is_descending is = led_asked schema q dim is_descending (for_sweep (boxes_of schema q.filter) q.limit (kind_asked schema q) dim is_descending is)
+led schema q dim is_descending is =
+    let (plain, within, first) = (sweeps_are_led schema q dim is_descending (no_sweep_of_none (kind_of schema q) dim is_descending is)).0 is in
+    led_by schema q dim is_descending q.order refl plain within first
 
 kept_boxes : (kind : Kind) (covering : Covering) (dim : ℕ) (is_descending : Bool) → kind ≡ Sweep dim is_descending → (kept_by kind covering).boxes ≡ covering.boxes
 kept_boxes Empty covering dim is_descending is = absurd cc
@@ -164,24 +139,11 @@ along_before schema q dim is_descending a b of along =
 
 -- ---- a query that is led by a dimension gives rows
 
-no_aggregate : (items : List Item) (item : Item) → list_any is_aggregate items ≡ false → Contains items item → IsAggregate item → ⊥
-no_aggregate [] item none there is = contains_none item there
-no_aggregate (Column column ∷ items) item none there is = elim (contains_cases (Column column) items item there) [
-  | inl same ↦ subst (λ (i : Item). IsAggregate i) (sym same) is
-  | inr later ↦ no_aggregate items item none later is
-]
-no_aggregate (Count ∷ items) item none there is = absurd (true≢false none)
-no_aggregate (Aggregate taken column ∷ items) item none there is = absurd (true≢false none)
-
-no_groups : (group : List ℕ) (items : List Item) → gives_groups group items ≡ false → (group ≢ []) ⊎ ((item : Item) × Contains items item × IsAggregate item) → ⊥
-no_groups [] items none (inl some) = some refl
-no_groups [] items none (inr some) = no_aggregate items some.0 none some.1 some.2
-no_groups (column ∷ group) items none some = absurd (true≢false none)
-
 pub led_is_plain : (schema : Schema) (q : Asked) (dim : ℕ) (is_descending : Bool) → IsLed schema q dim is_descending → ¬ (IsGroupQuery q)
-led_is_plain schema q dim is_descending of grouped = no_groups q.group q.items of.plain grouped
+led_is_plain schema q dim is_descending of = of.plain
 
 -- and asks for a row at least
 pub led_asks : (schema : Schema) (plan : PlanView) (dim : ℕ) (is_descending : Bool) → plan ≡ plan_of schema plan.asked → plan.kind ≡ Sweep dim is_descending → plan.asked.limit ≢ Some 0
-led_asks schema plan dim is_descending planned kind =
-    for_some (boxes_of schema plan.asked.filter) plan.asked.limit (kind_asked schema plan.asked) dim is_descending (sym (ap (λ (p : PlanView). p.kind) planned) ∙ kind)
+led_asks schema plan dim is_descending planned kind zero =
+    no_sweep_of_none plan.kind dim is_descending kind
+    (ap (λ (p : PlanView). p.kind) planned ∙ (plans_are_empty schema plan.asked).1 (inr zero))

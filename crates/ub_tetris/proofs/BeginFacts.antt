@@ -1,44 +1,46 @@
 -- A sweep begins: the trace begins anew, and the regions that it awaits are found.
-use Rattle.std.proofs.Common.{◌≡◌, ◌<◌, ◌∙◌, ◌∷◌, ℕ, Bool, false, List, [], All, Option, Some, Result, Ok, Err, Contains, length, refl, sym, ap, subst}
+use Rattle.std.proofs.Common.{◌≡◌, ◌<◌, ◌∙◌, ◌∷◌, ℕ, Bool, List, [], All, Option, Some, Result, Ok, Err, Contains, length, refl, sym, ap, subst}
 use Rattle.std.specs.List.{AllByRecursion}
 use Rattle.std.specs.Result.{IsErrAnd}
 use Rattle.ub_bigmin.specs.Box.{Corners}
-use Rattle.ub_plan.specs.Plan.{PlanView, plan_of}
-use Rattle.ub_plan.specs.declared.planned.Kind.TheVariants.{Sweep}
+use Rattle.ub_planning.specs.Plan.{PlanView, plan_of}
+use Rattle.ub_planning.specs.declared.planned.Kind.TheVariants.{Sweep}
 use Rattle.ub_query.proofs.Laws.{all_permutation}
 use Rattle.ub_table.specs.declared.schema.Schema.{Schema}
 use Rattle.ub_tetris.proofs.BegunFacts.{begun}
 use Rattle.ub_tetris.proofs.BoxFacts.{have_dimension}
-use Rattle.ub_tetris.proofs.EffectFacts.{begun_traced, same_traced, sweep_fault_before, traced_sound}
-use Rattle.ub_tetris.specs.Effects.{Begins, Searches, IsSweepFault, read_store}
+use Rattle.ub_tetris.proofs.SpanFacts.{of_regions}
+use Rattle.ub_tetris.specs.Effects.{Begins, of_read}
 use Rattle.ub_tetris.specs.Sweep.{AwaitedRegion, HasBegun, IsStarted, IsSwept, SweepView}
 use Rattle.ub_tetris.specs.declared.course.Course.{Course}
 use Rattle.ub_tetris.specs.declared.event.Awaited.{Awaited}
 use Rattle.ub_tetris.specs.declared.fault.SweepFault.{SweepFault}
-use Rattle.ub_tetris.specs.inner.Events.{AreQueued, IsFirstValue}
+use Rattle.ub_tetris.specs.inner.Events.{AreQueued}
 use Rattle.ub_tetris.specs.inner.Turns.{awaited_of, begun_view}
+use Rattle.ub_tree.proofs.Laws.{Keeps-by, begun_traced, given_before, unchanged_traced}
+use Rattle.ub_tree.specs.Reading.{IsGiven, SearchesTree, counted}
 use Rattle.ub_tree.specs.View.{TreeView, spans_of}
+use Rattle.ub_tree.specs.declared.read_fault.ReadFault.{ReadFault}
+use Rattle.ub_tree.specs.declared.read_fault.ReadFault.TheVariants as read
 
 -- a search after the trace began anew, whose fault is handed on
-pub begins_by : {T U : Type 0} (r : Result T SweepFault) (e : SweepFault) (old mid new : TreeView) → IsErrAnd r (λ x. x ≡ e) → mid ≡ record old { trace = [] }
-    → Searches {A = U} mid new (Err e) → Begins old new r
+pub begins_by : {T U : Type 0} (r : Result T SweepFault) (e : ReadFault) (old mid new : TreeView) → IsErrAnd r (λ x. x ≡ of_read e) → mid ≡ record old { trace = [] }
+    → SearchesTree {A = U} mid new (Err e) → Begins old new r
 begins_by (Ok x) e old mid new is began searches = absurd is
-begins_by {T = T} (Err f) e old mid new is began searches = rw is (begins e searches.same searches.faults)
+begins_by {T = T} (Err f) e old mid new is began searches = rw is (begins e same (given_before old mid e (begun_traced old mid began) searches.faults))
   where
-    begins : (e : SweepFault) → new ≡ record mid { store = read_store {A = T} (Err e) mid.store } → IsSweepFault false mid e → Begins {A = T} old new (Err e)
-    begins e same fault = record {
-      same = same ∙ ap (λ (t : TreeView). record t { store = read_store {A = T} (Err e) t.store }) began;
-      faults = sweep_fault_before false old mid e (begun_traced old mid began) fault;
-    }
+    same : new ≡ record old { store = record old.store { failed_reads = counted {A = T} (Err e) old.store.failed_reads }; trace = [] }
+    same = searches.same ∙ ap (λ (t : TreeView). record t { store = record t.store { failed_reads = counted {A = T} (Err e) t.store.failed_reads } }) began
+
+    begins : (e : ReadFault) → new ≡ record old { store = record old.store { failed_reads = counted {A = T} (Err e) old.store.failed_reads }; trace = [] } → IsGiven old e
+        → Begins {A = T} old new (Err (of_read e))
+    begins read.Memory same fault = record { same = same; faults = tt }
+    begins (read.Tree of_tree) same fault = record { same = same; faults = fault }
 
 ours : (t : TreeView) (awaited : List Awaited) → AllByRecursion (λ a. Contains (spans_of t) a.region) awaited
     → AllByRecursion (λ (a : AwaitedRegion). Contains (spans_of t) a.region) (awaited_of awaited)
 ours t [] all = tt
 ours t (a ∷ awaited) all = (all.0, ours t awaited all.1)
-
-valued : (P Q : Awaited → Type 0) (awaited : List Awaited) → AllByRecursion (λ a. P a × Q a) awaited → AllByRecursion Q awaited
-valued P Q [] all = tt
-valued P Q (a ∷ awaited) all = (all.0.1, valued P Q awaited all.1)
 
 pub started_by : (mid new : TreeView) (boxes : List Corners) (course : Course) (awaited : List Awaited) (view : SweepView) → new ≡ mid → AreQueued boxes course mid awaited
     → view ≡ begun_view course awaited → IsStarted new view
@@ -47,7 +49,7 @@ started_by mid new boxes course awaited view same queued is =
       none = refl;
       working = refl;
       regions = ours mid awaited (all_permutation (λ a. Contains (spans_of mid) a.region) queued.met awaited queued.same
-          (valued (λ a. IsFirstValue boxes course.dim course.is_descending a.region a.value) (λ a. Contains (spans_of mid) a.region) queued.met queued.met_are.valued));
+          (of_regions (Contains (spans_of mid)) queued.met queued.met_are.met.there));
     }))
 
 same_course : (course : Course) (dim : ℕ) (is_descending : Bool) (found : Option Course) → found ≡ Some course → found ≡ Some (record { dim = dim; is_descending = is_descending })
@@ -64,10 +66,10 @@ begun_by t mid new plan course awaited view found boxes began same is some of_pl
     let told = some dim is_descending swept.kind (have_dimension t.schema plan dim is_descending swept.planned swept.kind) in
     let on : course ≡ record { dim = dim; is_descending = is_descending } = same_course course dim is_descending found is told in
     let of_mid : IsSwept mid plan course.dim course.is_descending = record {
-      sound = traced_sound t mid (begun_traced t mid began) swept.sound;
+      sound = (Keeps-by t mid (begun_traced t mid began)).sound swept.sound;
       planned = swept.planned ∙ ap (λ (s : Schema). plan_of s plan.asked) (sym (ap (λ (v : TreeView). v.schema) began));
       kind = swept.kind ∙ ap (λ (c : Course). Sweep c.dim c.is_descending) (sym on);
     } in
     subst (λ (v : SweepView). HasBegun plan new v) (sym seen)
-    (begun mid new plan course awaited of_mid (same_traced mid new same) (ap (λ (v : TreeView). v.trace) same ∙ ap (λ (v : TreeView). v.trace) began)
+    (begun mid new plan course awaited of_mid (unchanged_traced mid new same) (ap (λ (v : TreeView). v.trace) same ∙ ap (λ (v : TreeView). v.trace) began)
     (subst (λ (bs : List Corners). AreQueued bs course mid awaited) of_plan queued))

@@ -1,7 +1,6 @@
 -- A sweep that was begun over a tree stands to it as it should.
 use Rattle.std.proofs.Common.{◌≡◌, ℕ, List, [], refl, sym, subst}
-use Rattle.ub_plan.specs.Plan.{PlanView}
-use Rattle.ub_tetris.proofs.EffectFacts.{IsTraced, traced_sound}
+use Rattle.ub_planning.specs.Plan.{PlanView}
 use Rattle.ub_tetris.proofs.MachineFacts.{begins}
 use Rattle.ub_tetris.proofs.QueueFacts.{queued}
 use Rattle.ub_tetris.proofs.StepFacts.{awaited_after}
@@ -10,6 +9,7 @@ use Rattle.ub_tetris.specs.declared.course.Course.{Course}
 use Rattle.ub_tetris.specs.declared.event.Awaited.{Awaited}
 use Rattle.ub_tetris.specs.inner.Events.{AreQueued}
 use Rattle.ub_tetris.specs.inner.Turns.{awaited_of, begun_view}
+use Rattle.ub_tree.proofs.Laws.{IsTraced, Keeps-by}
 use Rattle.ub_tree.specs.View.{TreeView, regions}
 
 begun_at : (t : TreeView) (trace : List ℕ) (count : ℕ) (plan : PlanView) (course : Course) (awaited : List Awaited) → IsSwept t plan course.dim course.is_descending → trace ≡ []
@@ -23,7 +23,7 @@ begun_at t trace count plan course awaited swept none queue =
       unread = events;
       sweeping = record {
         working = refl;
-        swept = record { sound = traced_sound t (record t { trace = trace; fetches = count }) refl swept.sound; planned = swept.planned; kind = swept.kind };
+        swept = record { sound = (Keeps-by t (record t { trace = trace; fetches = count }) refl).sound swept.sound; planned = swept.planned; kind = swept.kind };
         under_way = under_way;
         values = tt;
         noted = record { placed = []; there = tt; regions_are = refl; trace_is = none };

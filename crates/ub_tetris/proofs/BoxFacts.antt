@@ -8,8 +8,8 @@ use Rattle.ub_boxes.proofs.Laws.{length-sides}
 use Rattle.ub_boxes.specs.Boxes.{beside, boxes_of, boxes_on, is_wide, nowhere, runs, space}
 use Rattle.ub_boxes.specs.Grid.{grid}
 use Rattle.ub_boxes.specs.Truths.{covers}
-use Rattle.ub_plan.specs.Plan.{PlanView, plan_of}
-use Rattle.ub_plan.specs.declared.planned.Kind.TheVariants.{Sweep}
+use Rattle.ub_planning.specs.Plan.{PlanView, plan_of}
+use Rattle.ub_planning.specs.declared.planned.Kind.TheVariants.{Sweep}
 use Rattle.ub_query.proofs.Laws.{contains_cases, contains_none, contains_from_map}
 use Rattle.ub_query.specs.Shape.{Shape}
 use Rattle.ub_table.specs.declared.schema.Schema.{Schema}

@@ -7,89 +7,24 @@ use Rattle.std.specs.Result.{IsErrAnd}
 use Rattle.ub_query.proofs.Laws.{contains_here}
 use Rattle.ub_store.specs.Facts.{raised}
 use Rattle.ub_store.specs.declared.fault.StoreFault.TheVariants as store
-use Rattle.ub_tetris.specs.Effects.{Searches, Sweeps, IsSweepFault, IsAwaitedFault, fault_of_tree, fetches_then, read_store}
+use Rattle.ub_tetris.specs.Effects.{Sweeps, IsSweepFault, IsAwaitedFault, as_reading, fetches_then, of_read}
 use Rattle.ub_tetris.specs.Sweep.{AwaitedRegion, SweepView, AreItsRegions}
 use Rattle.ub_tetris.specs.declared.fault.SweepFault.{SweepFault}
 use Rattle.ub_tetris.specs.declared.fault.SweepFault.TheVariants as sweep
-use Rattle.ub_tree.specs.Effects.{IsReadFault, IsPageRefused, IsPageMissing, IsSpanFault, HasNoted, ReadsRegion, raised_by}
-use Rattle.ub_tree.specs.View.{TreeView, IsSound, KeepsRegions, KeepsTrace, spans_of}
+use Rattle.ub_tree.proofs.Laws.{IsTraced, given_before}
+use Rattle.ub_tree.specs.Effects.{IsReadFault, IsSpanFault, HasNoted, ReadsRegion, raised_by}
+use Rattle.ub_tree.specs.Reading.{fault_of_tree, read_store}
+use Rattle.ub_tree.specs.View.{TreeView, KeepsTrace, spans_of}
 use Rattle.ub_tree.specs.declared.region.Region.{Region as Span}
 use Rattle.ub_tree.specs.declared.fault.TreeFault.{TreeFault}
 use Rattle.ub_tree.specs.declared.fault.TreeFault.TheVariants.{Full, Page, Store, Failed as HasFailed, Memory}
-
--- nothing but the trace and the count of fetches has changed
-abbrev pub IsTraced : TreeView → TreeView → Type 0
-IsTraced old new = new ≡ record old { trace = new.trace; fetches = new.fetches }
-
-retraced : (t : TreeView) (trace : List ℕ) (fetches : ℕ) → IsSound t → IsSound (record t { trace = trace; fetches = fetches })
-retraced t trace fetches h = record {
-  working = h.working;
-  honest = h.honest;
-  regions_are = h.regions_are;
-  placed_are = h.placed_are;
-  rows_are = h.rows_are;
-  some_next = h.some_next;
-  last_next = h.last_next;
-  few = h.few;
-  closed = h.closed;
-  marked = h.marked;
-}
-
-pub traced_sound : (old new : TreeView) → IsTraced old new → IsSound old → IsSound new
-traced_sound old new is sound = subst IsSound (sym is) (retraced old new.trace new.fetches sound)
-
-pub traced_regions : (old new : TreeView) → IsTraced old new → KeepsRegions old new
-traced_regions old new is = subst (λ (t : TreeView). KeepsRegions old t) (sym is) (record { schema = refl; placed = refl; rows = refl; next = refl })
-
-pub traced_spans : (old new : TreeView) → IsTraced old new → spans_of new ≡ spans_of old
-traced_spans old new is = ap spans_of is
-
--- where the trace begins anew, and where nothing has changed
-pub begun_traced : (old new : TreeView) → new ≡ record old { trace = [] } → IsTraced old new
-begun_traced old new is = is ∙ ap (λ (t : TreeView). record old { trace = t.trace; fetches = t.fetches }) (sym is)
-
-pub same_traced : (old new : TreeView) → new ≡ old → IsTraced old new
-same_traced old new is = is ∙ ap (λ (t : TreeView). record old { trace = t.trace; fetches = t.fetches }) (sym is)
-
-pub traced_then : (a b c : TreeView) → IsTraced a b → IsTraced b c → IsTraced a c
-traced_then a b c h k = k ∙ ap (λ (t : TreeView). record t { trace = c.trace; fetches = c.fetches }) h
+use Rattle.ub_tree.specs.declared.read_fault.ReadFault.TheVariants as read
 
 -- a call's fault, seen from before an earlier call that only read
-pub read_fault_before : (a b : TreeView) (fault : TreeFault) → IsTraced a b → IsReadFault b fault → IsReadFault a fault
-read_fault_before a b Full h is = is
-read_fault_before a b HasFailed h is = subst (λ (t : TreeView). IsTrue t.is_failed) h is
-read_fault_before a b Memory h is = tt
-read_fault_before a b (Page page of_page) h is = ((λ sound. is.0 (traced_sound a b h sound)), subst (λ (t : TreeView). IsPageRefused t page of_page) h is.1)
-read_fault_before a b (Store store.Device) h is = subst (λ (t : TreeView). IsTrue t.store.can_fail) h is
-read_fault_before a b (Store store.NoPage) h is = ((λ sound. is.0 (traced_sound a b h sound)), subst (λ (t : TreeView). IsPageMissing t) h is.1)
-read_fault_before a b (Store store.Memory) h is = is
-read_fault_before a b (Store store.BadSize) h is = is
-
 pub sweep_fault_before : (failed : Bool) (a b : TreeView) (fault : SweepFault) → IsTraced a b → IsSweepFault failed b fault → IsSweepFault failed a fault
 sweep_fault_before failed a b sweep.Memory h is = tt
-sweep_fault_before failed a b (sweep.Tree fault) h is = (read_fault_before a b fault h is.0, is.1)
+sweep_fault_before failed a b (sweep.Tree fault) h is = given_before a b (read.Tree fault) h is
 sweep_fault_before failed a b sweep.Failed h is = is
-
--- ---- calls that only search
-
-pub memory_searched : {T : Type 0} (r : Result T SweepFault) (a b : TreeView) → IsErrAnd r (λ x. x ≡ sweep.Memory) → b ≡ a → Searches a b r
-memory_searched (Ok x) a b is same = absurd is
-memory_searched (Err f) a b is same = rw is (record { same = same; faults = tt })
-
-pub tree_searched : {T : Type 0} (r : Result T SweepFault) (e : TreeFault) (a b c : TreeView) → IsErrAnd r (λ x. x ≡ fault_of_tree e) → b ≡ a
-    → c ≡ record b { store = record b.store { failed_reads = raised_by e b.store.failed_reads } } → IsReadFault b e → Searches a c r
-tree_searched (Ok x) e a b c is before same fault = absurd is
-tree_searched (Err f) Memory a b c is before same fault = rw is (record { same = same ∙ before; faults = tt })
-tree_searched (Err f) Full a b c is before same fault = absurd fault
-tree_searched (Err f) HasFailed a b c is before same fault =
-    rw is (record { same = same ∙ before; faults = (subst (λ (t : TreeView). IsReadFault t HasFailed) before fault, λ e. cc) })
-tree_searched (Err f) (Page page of_page) a b c is before same fault =
-    rw is (record { same = same ∙ before; faults = (subst (λ (t : TreeView). IsReadFault t (Page page of_page)) before fault, λ e. cc) })
-tree_searched (Err f) (Store of_store) a b c is before same fault =
-    rw is (record {
-      same = same ∙ ap (λ (t : TreeView). record t { store = record t.store { failed_reads = raised_by (Store of_store) t.store.failed_reads } }) before;
-      faults = (subst (λ (t : TreeView). IsReadFault t (Store of_store)) before fault, λ e. cc);
-    })
 
 -- ---- calls that fetch a region
 
@@ -111,7 +46,7 @@ noted_as old new page (inr noted) = (page ∷ [], noted.0, noted.1)
 
 -- the next region awaited was come to, and nothing is known yet of the result but what it leaves of the store
 module _ {T : Type 0} (r : Result T SweepFault) (s new_s : SweepView) (a : AwaitedRegion) (old new : TreeView) (one : s.awaited ≡ a ∷ new_s.awaited)
-    (same : new ≡ record old { store = read_store r old.store; trace = new.trace; fetches = new.fetches }) (noted : KeepsTrace old new ⊎ HasNoted a.region.page old new) where
+    (same : new ≡ record old { store = read_store (as_reading r) old.store; trace = new.trace; fetches = new.fetches }) (noted : KeepsTrace old new ⊎ HasNoted a.region.page old new) where
   pub its_region : AreItsRegions old s → Contains (spans_of old) a.region
   its_region all = (subst (λ (those : List AwaitedRegion). AllByRecursion (λ b. Contains (spans_of old) b.region) those) one all).0
 
@@ -120,8 +55,8 @@ module _ {T : Type 0} (r : Result T SweepFault) (s new_s : SweepView) (a : Await
       let (pages, trace, fetches) = noted_as old new a.region.page noted in
       record {
         noted = pages;
-        same = same ∙ ap (λ (pages : List ℕ). record old { store = read_store r old.store; trace = pages; fetches = new.fetches }) trace
-            ∙ ap (λ (count : ℕ). record old { store = read_store r old.store; trace = old.trace ++ pages; fetches = count }) fetches;
+        same = same ∙ ap (λ (pages : List ℕ). record old { store = read_store (as_reading r) old.store; trace = pages; fetches = new.fetches }) trace
+            ∙ ap (λ (count : ℕ). record old { store = read_store (as_reading r) old.store; trace = old.trace ++ pages; fetches = count }) fetches;
         left = (a ∷ [], one);
         refused = refused;
         faults = faults;
@@ -151,7 +86,7 @@ first_awaited s new_s a one = subst (λ (those : List AwaitedRegion). Contains t
 
 -- the tree refused it
 module _ {T : Type 0} (s new_s : SweepView) (a : AwaitedRegion) (old new : TreeView) (one : s.awaited ≡ a ∷ new_s.awaited) (noted : KeepsTrace old new ⊎ HasNoted a.region.page old new) where
-  refused_by : (r : Result T SweepFault) (e : TreeFault) → IsErrAnd r (λ x. x ≡ fault_of_tree e)
+  refused_by : (r : Result T SweepFault) (e : TreeFault) → IsErrAnd r (λ x. x ≡ of_read (fault_of_tree e))
       → new ≡ record old { store = record old.store { failed_reads = raised_by e old.store.failed_reads }; trace = new.trace; fetches = new.fetches }
       → IsSpanFault a.region old e → (Contains (spans_of old) a.region → IsReadFault old e) → Sweeps s new_s old new r
   refused_by (Ok x) e is same refused faults = absurd is
@@ -167,7 +102,7 @@ module _ {T : Type 0} (s new_s : SweepView) (a : AwaitedRegion) (old new : TreeV
       rw is (swept_one (Err (sweep.Tree (Store of_store))) s new_s a old new one same noted ((a, first_awaited s new_s a one, refused), λ x. cc)
       (λ all. (faults (its_region {T = T} (Err (sweep.Tree (Store of_store))) s new_s a old new one same noted all), λ x. cc)))
 
-pub tree_swept : {T A : Type 0} (r : Result T SweepFault) (e : TreeFault) (s new_s : SweepView) (a : AwaitedRegion) (old new : TreeView) → IsErrAnd r (λ x. x ≡ fault_of_tree e)
+pub tree_swept : {T A : Type 0} (r : Result T SweepFault) (e : TreeFault) (s new_s : SweepView) (a : AwaitedRegion) (old new : TreeView) → IsErrAnd r (λ x. x ≡ of_read (fault_of_tree e))
     → s.awaited ≡ a ∷ new_s.awaited → ReadsRegion {A = A} a.region old new (Err e) → Sweeps s new_s old new r
 tree_swept {A = A} r e s new_s a old new is one reads =
     refused_by s new_s a old new one (either_noted {A = A} (Err e) old new a.region.page reads.noted) r e is reads.same reads.refused reads.faults
@@ -209,10 +144,10 @@ sweeps_then x r a b c t m n failed first second =
     record {
       noted = first.noted ++ second.noted;
       same = second.same
-          ∙ ap (λ (v : TreeView). record v { store = read_store r v.store; trace = v.trace ++ second.noted; fetches = fetches_then v.fetches (length second.noted) }) first.same
-          ∙ ap (λ (pages : List ℕ). record t { store = read_store r t.store; trace = pages; fetches = fetches_then (fetches_then t.fetches (length first.noted)) (length second.noted) })
+          ∙ ap (λ (v : TreeView). record v { store = read_store (as_reading r) v.store; trace = v.trace ++ second.noted; fetches = fetches_then v.fetches (length second.noted) }) first.same
+          ∙ ap (λ (pages : List ℕ). record t { store = read_store (as_reading r) t.store; trace = pages; fetches = fetches_then (fetches_then t.fetches (length first.noted)) (length second.noted) })
           (append_assoc t.trace first.noted second.noted)
-          ∙ ap (λ (count : ℕ). record t { store = read_store r t.store; trace = t.trace ++ (first.noted ++ second.noted); fetches = count })
+          ∙ ap (λ (count : ℕ). record t { store = read_store (as_reading r) t.store; trace = t.trace ++ (first.noted ++ second.noted); fetches = count })
           (fetched_then t.fetches (length first.noted) (length second.noted) ∙ ap (fetches_then t.fetches) (sym (length-append first.noted second.noted)));
       left = (
         first.left.0 ++ second.left.0,

@@ -1,15 +1,16 @@
 -- The region at a sweep's place is fetched.
 use Rattle.std.proofs.Common.{◌≡◌, ◌<◌, ◌+◌, ◌∙◌, ◌∷◌, ℕ, zero, suc, true, List, [], Option, Some, Contains, drop, length, slice_get, slice_index_or, sym, ap, subst, arith}
 use Rattle.std.specs.List.{filter}
-use Rattle.ub_plan.specs.Choice.{is_chosen}
-use Rattle.ub_plan.specs.Plan.{PlanView}
-use Rattle.ub_plan.specs.declared.choice.Choice.{Choice}
+use Rattle.ub_filter.specs.Choice.{is_chosen}
+use Rattle.ub_planning.specs.Plan.{PlanView}
+use Rattle.ub_filter.specs.declared.choice.Choice.{Choice}
 use Rattle.ub_table.specs.Region.{Region}
 use Rattle.ub_table.specs.declared.row.Row.{Row}
 use Rattle.ub_table.specs.declared.schema.Schema.{Schema}
 use Rattle.ub_tetris.specs.declared.event.Awaited.{Awaited}
 use Rattle.ub_tetris.specs.declared.state.State.{State}
-use Rattle.ub_tetris.specs.inner.Turns.{HasFetchedNext, HoldsAlso, IsDue, awaited_of, is_due_by}
+use Rattle.ub_tetris.specs.inner.Kept.{HoldsAlso}
+use Rattle.ub_tetris.specs.inner.Turns.{HasFetchedNext, IsDue, awaited_of, is_due_by}
 use Rattle.ub_tree.specs.Calls.{StandsAt}
 use Rattle.ub_tree.specs.Effects.{HasNoted}
 use Rattle.ub_tree.specs.View.{TreeView, IsSound, spans_of}

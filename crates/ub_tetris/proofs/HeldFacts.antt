@@ -1,25 +1,19 @@
 -- The rows held: what a push and a pop of the heap make of them.
-use Rattle.std.proofs.Common.{◌≡◌, ◌<◌, ◌+◌, ℕ, ℤ, zero, suc, List, [], ◌∷◌, ◌++◌, Bool, true, false, Some, Contains, length, map, take, slice_index_or, refl, sym, ap, subst, ◌∙◌, arith, append_assoc, add-one}
+use Rattle.std.proofs.Common.{◌≡◌, ◌<◌, ℕ, ℤ, zero, suc, List, [], ◌∷◌, ◌++◌, true, false, Some, Result, Ok, Err, OnOk, Contains, length, map, slice_index_or, refl, sym, ap, subst, ◌∙◌, arith, append_assoc}
 use Rattle.std.proofs.lemmas.List.{append-nil, map-append}
-use Rattle.std.proofs.lemmas.List.Elements.{filter-append}
-use Rattle.std.proofs.lemmas.List.Sorted.{IsPermutation-append_comm, IsPermutation-cons, IsPermutation-map, IsPermutation-trans}
-use Rattle.std.proofs.Math.Seq.{take-suc}
+use Rattle.std.proofs.lemmas.List.Sorted.{IsPermutation-append_comm, IsPermutation-cons, IsPermutation-map, IsPermutation-refl, IsPermutation-trans}
 use Rattle.std.specs.BinaryHeap.{IsUpperBound}
-use Rattle.std.specs.List.{filter}
 use Rattle.std.specs.List.Sorted.{IsPermutation}
 use Rattle.std.specs.Ordering.{is_lt}
 use Rattle.std.specs.declared.cmp.Ordering.{Ordering}
 use Rattle.std.specs.declared.cmp.Ordering.TheVariants.{Less}
-use Rattle.ub_query.specs.Groups.{is_selected}
-use Rattle.ub_query.specs.Shape.{Asked}
 use Rattle.ub_query.specs.declared.query.SortKey.{SortKey}
 use Rattle.ub_table.specs.declared.row.Row.{Row}
 use Rattle.ub_table.specs.declared.schema.Schema.{Schema}
 use Rattle.ub_tetris.specs.Held.{HeldRow, held_row, values_by}
 use Rattle.ub_tetris.specs.declared.place.Held.{Held}
 use Rattle.ub_tetris.specs.declared.ranked.Ranked.{Ranked}
-use Rattle.ub_tetris.specs.inner.Kept.{held_of, held_cmp, IsFirstAmong, IsFirstOf, TakesFirst}
-use Rattle.ub_tetris.specs.inner.Turns.{HoldsAlso}
+use Rattle.ub_tetris.specs.inner.Kept.{held_of, held_cmp, HoldsAlso, IsFirstAmong, IsFirstOf, TakesFirst}
 
 -- one of those held
 abbrev pub as_held : Ranked → HeldRow
@@ -58,25 +52,21 @@ pub held_more : (entry : Ranked) (old new : List Ranked) (schema : Schema) (keys
 held_more entry old new schema keys row same is =
     subst (λ (h : HeldRow). IsPermutation (h ∷ held_of old) (held_of new)) is (IsPermutation-map as_held (entry ∷ old) new same)
 
--- ---- the chosen ones of some rows
+-- ---- rows held beside others
 
--- none more are chosen
-pub none_held_more : (schema : Schema) (keys : List SortKey) (rows more : List Row) (old mid new : List HeldRow) → more ≡ rows → new ≡ mid
-    → HoldsAlso schema keys rows old mid → HoldsAlso schema keys more old new
-none_held_more schema keys rows more old mid new none same so_far =
-    subst (λ (rs : List Row). HoldsAlso schema keys rs old new) (sym none) (subst (λ (held : List HeldRow). HoldsAlso schema keys rows old held) (sym same) so_far)
+pub HoldsAlso-none : (schema : Schema) (keys : List SortKey) (held : List HeldRow) → HoldsAlso schema keys [] held held
+HoldsAlso-none schema keys held = subst (λ (rows : List HeldRow). IsPermutation rows held) (sym (append-nil held)) (IsPermutation-refl held)
 
--- one more is, and it was put to those held
-pub one_held_more : (schema : Schema) (keys by : List SortKey) (rows more : List Row) (row : Row) (old mid got new : List HeldRow) → more ≡ rows ++ row ∷ [] → new ≡ got → by ≡ keys
-    → HoldsAlso schema keys rows old mid → IsPermutation (held_row schema by row ∷ mid) got → HoldsAlso schema keys more old new
-one_held_more schema keys by rows more row old mid got new one same by_keys so_far put =
+-- one more was put to those held, by the same keys
+pub HoldsAlso-more : {A E : Type 0} (r : Result A E) (schema : Schema) (keys by : List SortKey) (rows : List Row) (row : Row) (old mid new : List HeldRow) → by ≡ keys
+    → HoldsAlso schema keys rows old mid → OnOk r (IsPermutation (held_row schema by row ∷ mid) new) → OnOk r (HoldsAlso schema keys (rows ++ row ∷ []) old new)
+HoldsAlso-more (Err e) schema keys by rows row old mid new same so_far put = tt
+HoldsAlso-more (Ok x) schema keys by rows row old mid new same so_far put =
     let before : List HeldRow = old ++ map (held_row schema keys) rows in
     let h : HeldRow = held_row schema keys row in
-    let put_there : IsPermutation (h ∷ mid) new =
-    subst (λ (held : List HeldRow). IsPermutation (h ∷ mid) held) (sym same) (subst (λ (ks : List SortKey). IsPermutation (held_row schema ks row ∷ mid) got) by_keys put) in
-    let split : old ++ map (held_row schema keys) more ≡ before ++ h ∷ [] =
-    ap (λ (rs : List Row). old ++ map (held_row schema keys) rs) one ∙ ap (λ (held : List HeldRow). old ++ held) (map-append (held_row schema keys) rows (row ∷ []))
-    ∙ sym (append_assoc old (map (held_row schema keys) rows) (h ∷ [])) in
+    let put_there : IsPermutation (h ∷ mid) new = subst (λ (ks : List SortKey). IsPermutation (held_row schema ks row ∷ mid) new) same put in
+    let split : old ++ map (held_row schema keys) (rows ++ row ∷ []) ≡ before ++ h ∷ [] =
+    ap (λ (held : List HeldRow). old ++ held) (map-append (held_row schema keys) rows (row ∷ [])) ∙ sym (append_assoc old (map (held_row schema keys) rows) (h ∷ [])) in
     subst (λ (held : List HeldRow). IsPermutation held new) (sym split)
     (IsPermutation-trans (before ++ h ∷ []) (h ∷ before) new (IsPermutation-append_comm before (h ∷ []))
     (IsPermutation-trans (h ∷ before) (h ∷ mid) new (IsPermutation-cons h before mid so_far) put_there))

@@ -9,9 +9,9 @@ use Rattle.std.proofs.lemmas.List.Sorted.{Contains-permutation, IsPermutation-ap
 use Rattle.std.proofs.lemmas.List.Sums.{sum_by-append}
 use Rattle.std.proofs.Math.Seq.{take-append_seam}
 use Rattle.std.specs.List.{All, AllByRecursion, sum_by}
-use Rattle.ub_plan.proofs.Laws.{filter_none, arranged_of, Differ}
-use Rattle.ub_plan.specs.Plan.{PlanView}
-use Rattle.ub_plan.specs.Visits.{AreArranged, AreEvents, AreSweepVisits, Event, IsAlong, coordinates, is_filled, is_past, last_of, reached, selected_rows}
+use Rattle.ub_planning.proofs.Laws.{filter_none, arranged_of, Differ}
+use Rattle.ub_planning.specs.Plan.{PlanView}
+use Rattle.ub_planning.specs.Visits.{AreArranged, AreEvents, AreSweepVisits, Event, IsAlong, coordinates, is_filled, is_past, last_of, reached, selected_rows}
 use Rattle.ub_query.proofs.Laws.{Rising, Rising-from_adjacent, all_at, all_weaker, contains_cases, contains_here, contains_later, contains_none, contains_filter, contains_from_filter}
 use Rattle.ub_query.specs.Cells.{row_cell}
 use Rattle.ub_query.specs.Groups.{is_selected, selected}

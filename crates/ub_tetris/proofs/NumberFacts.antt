@@ -2,9 +2,9 @@
 use Rattle.std.proofs.Common.{◌≡◌, ◌≢◌, ◌<◌, ℕ, List, Some, filter, IsPermutation, ap, subst}
 use Rattle.std.proofs.lemmas.List.Sorted.{IsPermutation-sym, IsPermutation-trans}
 use Rattle.ub_bigmin.specs.Box.{Corners}
-use Rattle.ub_plan.proofs.Laws.{meeting_hold_the_selected, meeting_hold_the_tables, Differ, rows_differ}
-use Rattle.ub_plan.specs.Plan.{PlanView, plan_of}
-use Rattle.ub_plan.specs.Visits.{AreMeeting, Span, fetched_rows, selected_rows}
+use Rattle.ub_planning.proofs.Laws.{meeting_hold_the_selected, meeting_hold_the_tables, Differ, rows_differ}
+use Rattle.ub_planning.specs.Plan.{PlanView, plan_of}
+use Rattle.ub_planning.specs.Visits.{AreMeeting, Span, fetched_rows, selected_rows}
 use Rattle.ub_query.proofs.Laws.{Rising, Rising-filter, numbers-chain, numbers-never, before-chain, before-never}
 use Rattle.ub_query.specs.Cells.{row_cell}
 use Rattle.ub_query.specs.Groups.{is_selected, selected}

@@ -9,9 +9,9 @@ use Rattle.std.specs.Ordering.{nat_cmp, ordering_then}
 use Rattle.std.specs.declared.cmp.Ordering.{Ordering}
 use Rattle.std.specs.declared.cmp.Ordering.TheVariants.{Less, Equal, Greater}
 use Rattle.ub_bigmin.specs.Box.{Corners}
-use Rattle.ub_plan.proofs.Laws.{meeting_of, Rising-those}
-use Rattle.ub_plan.specs.Visits as plan
-use Rattle.ub_plan.specs.Visits.{AreEvents, Event, IsAlong, IsEventBefore, IsEventValue, Span, spans_up_to}
+use Rattle.ub_planning.proofs.Laws.{meeting_of, Rising-those}
+use Rattle.ub_planning.specs.Visits as plan
+use Rattle.ub_planning.specs.Visits.{AreEvents, Event, IsAlong, IsEventBefore, IsEventValue, Span, spans_up_to}
 use Rattle.ub_region.specs.Those.{AreThose}
 use Rattle.ub_query.proofs.Laws.{Rising, Rising-map, Rising-mapped, Rising-one, Rising-from_adjacent, adjacent-from_Rising, all_permutation, an_arrangement, contains_cases, contains_here, contains_later, contains_none, contains_from_map, contains_map}
 use Rattle.ub_region.proofs.Laws.{before_cases, before_or_same}
@@ -24,12 +24,13 @@ use Rattle.ub_table.specs.declared.row.Key.{Key}
 use Rattle.ub_tetris.proofs.ArrangeFacts.{rising_two}
 use Rattle.ub_tetris.proofs.EventFacts.{events_total}
 use Rattle.ub_tetris.proofs.SortedFacts.{keys_rise, rising_permutation, rising_weaker, strictly_from_sorted}
-use Rattle.ub_tetris.proofs.SpanFacts.{keys_are}
+use Rattle.ub_tetris.proofs.SpanFacts.{of_regions}
 use Rattle.ub_tetris.specs.Sweep.{AreAwaited}
 use Rattle.ub_tetris.specs.declared.course.Course.{Course}
 use Rattle.ub_tetris.specs.declared.event.Awaited.{Awaited}
 use Rattle.ub_tetris.specs.inner.Events.{AreQueued, IsFirstValue, along_cmp, event_cmp, regions_awaited}
 use Rattle.ub_tetris.specs.inner.Turns.{awaited_of}
+use Rattle.ub_tree.proofs.Laws.{firsts_placed}
 use Rattle.ub_tree.specs.Placed.{Placed, entry_of, regions_in}
 use Rattle.ub_tree.specs.Spans.{Meets, first_keys, regions_of}
 use Rattle.ub_tree.specs.View.{IsSound, TreeView, regions, spans_of}
@@ -81,7 +82,7 @@ span_for last (p ∷ placed) r there = elim (contains_cases _ (regions_of last (
     record { region = p.region; from = p.region.first.z; to = span_end last (firsts_of (regions_in placed)) },
     contains_here _ (spans_up_to last (regions_in placed)),
     subst (λ (x : TreeRegion). IsOne x (record { region = p.region; from = p.region.first.z; to = span_end last (firsts_of (regions_in placed)) })) same
-        (record { first = refl; from = refl; to = ap (λ (keys : List Key). span_end last keys) (keys_are placed) }),
+        (record { first = refl; from = refl; to = ap (λ (keys : List Key). span_end last keys) (firsts_placed placed) }),
   )
   | inr later ↦ let (span, here, one) = span_for last placed r later in (span, contains_later _ (spans_up_to last (regions_in placed)) span here, one)
 ]
@@ -93,7 +94,7 @@ region_for last (p ∷ placed) span there = elim (contains_cases _ (spans_up_to 
     _,
     contains_here _ (regions_of last (map entry_of placed)),
     subst (λ (x : Span). IsOne (record { first = p.region.first; next = slice_get (first_keys (map entry_of placed)) 0; from = p.region.first.z; to = span_end last (first_keys (map entry_of placed)); page = p.page }) x) same
-        (record { first = refl; from = refl; to = ap (λ (keys : List Key). span_end last keys) (keys_are placed) }),
+        (record { first = refl; from = refl; to = ap (λ (keys : List Key). span_end last keys) (firsts_placed placed) }),
   )
   | inr later ↦ let (r, here, one) = region_for last placed span later in (r, contains_later _ (regions_of last (map entry_of placed)) r here, one)
 ]
@@ -306,10 +307,6 @@ meets_span boxes r span one (z, holds, from, to) = (z, holds, subst (λ (n : ℕ
 meets_region : (boxes : List Corners) (r : TreeRegion) (span : Span) → IsOne r span → plan.Meets boxes span.from span.to → Meets boxes r
 meets_region boxes r span one (z, holds, from, to) = (z, holds, subst (λ (n : ℕ). n ≤ z) (sym one.from) from, subst (λ (n : ℕ). z ≤ n) (sym one.to) to)
 
-all_second : {E : Type 0} (P Q : E → Type 0) (xs : List E) → AllByRecursion (λ x. P x × Q x) xs → AllByRecursion Q xs
-all_second P Q [] all = tt
-all_second P Q (x ∷ xs) all = (all.0.1, all_second P Q xs all.1)
-
 begins_alike : (t : TreeView) (a : Awaited) (event : Event) (r : TreeRegion) (span : Span) → IsMatched t a event → a.region ≡ r → IsOne r span → event.span.region.first ≡ span.region.first
 begins_alike t a event r span match same one = sym match.one.first ∙ ap (λ (r : TreeRegion). r.first) same ∙ one.first
 
@@ -320,7 +317,7 @@ SpanBefore a b = IsBefore a.region.first b.region.first
 
 module _ (t : TreeView) (sound : IsSound t) (boxes : List Corners) (course : Course) (awaited : List Awaited) (queue : AreQueued boxes course t awaited) (events : List Event) (are : AreMatched t awaited events) where
   those_met : AreThose (Meets boxes) (spans_of t) (regions_awaited queue.met)
-  those_met = queue.met_are.those sound
+  those_met = queue.met_are.met.those sound
 
   apart : Rising (λ a b. same_first a b ≡ false) awaited
   apart =
@@ -374,16 +371,15 @@ module _ (t : TreeView) (sound : IsSound t) (boxes : List Corners) (course : Cou
         meeting_are = those;
         same = IsPermutation-sym spans meeting (subst (λ (ss : List Span). IsPermutation spans ss) same arranged.same);
         values = All-from_recursion (λ (event : Event). IsEventValue boxes course.dim course.is_descending event.span event.value) events
-            (matched_all t (λ a. IsFirstValue boxes course.dim course.is_descending a.region a.value × Contains (spans_of t) a.region)
-            (λ event. IsEventValue boxes course.dim course.is_descending event.span event.value)
-            (λ a event is match. event_value t boxes course.dim course.is_descending a event is.0 match) awaited events are
-            (all_permutation (λ (a : Awaited). IsFirstValue boxes course.dim course.is_descending a.region a.value × Contains (spans_of t) a.region) queue.met awaited queue.same queue.met_are.valued));
+            (matched_all t (λ a. IsFirstValue boxes course.dim course.is_descending a.region a.value) (λ event. IsEventValue boxes course.dim course.is_descending event.span event.value)
+            (λ a event is match. event_value t boxes course.dim course.is_descending a event is match) awaited events are
+            (all_permutation (λ (a : Awaited). IsFirstValue boxes course.dim course.is_descending a.region a.value) queue.met awaited queue.same queue.met_are.valued));
         ordered = adjacent-from_Rising (IsEventBefore course.is_descending) events events_rise;
       }
 
 pub queued : (t : TreeView) (boxes : List Corners) (course : Course) (awaited : List Awaited) → IsSound t → AreQueued boxes course t awaited
     → (events : List Event) × AreEvents t.schema boxes course.dim course.is_descending (regions t) events × AreAwaited t (awaited_of awaited) events
 queued t boxes course awaited sound queue =
-    let there = all_permutation (λ (a : Awaited). IsFirstValue boxes course.dim course.is_descending a.region a.value × Contains (spans_of t) a.region) queue.met awaited queue.same queue.met_are.valued in
-    let (events, are) = matched t awaited (all_second (λ (a : Awaited). IsFirstValue boxes course.dim course.is_descending a.region a.value) (λ (a : Awaited). Contains (spans_of t) a.region) awaited there) in
+    let there = all_permutation (λ (a : Awaited). Contains (spans_of t) a.region) queue.met awaited queue.same (of_regions (Contains (spans_of t)) queue.met queue.met_are.met.there) in
+    let (events, are) = matched t awaited there in
     (events, are_events t sound boxes course awaited queue events are, matched_awaited t awaited events are)

@@ -8,11 +8,11 @@ use Rattle.std.specs.List.{sum_by}
 use Rattle.ub_bigmin.specs.Box.{Corners, IsValueInSpan}
 use Rattle.ub_boxes.proofs.Laws.{selected_are_in_boxes}
 use Rattle.ub_boxes.specs.Laws.{IsInSome}
-use Rattle.ub_plan.proofs.Laws.{of_some_span, of_span, rows_are_points, parts_back}
-use Rattle.ub_plan.specs.Plan.{PlanView, plan_of}
-use Rattle.ub_plan.specs.Visits.{AreEvents, Event, IsEventValue, Meets, Span, fetched_rows, selected_rows, spans_of, spans_up_to}
+use Rattle.ub_planning.proofs.Laws.{of_some_span, of_span, rows_are_points, parts_back}
+use Rattle.ub_planning.specs.Plan.{PlanView, plan_of}
+use Rattle.ub_planning.specs.Visits.{AreEvents, Event, IsEventValue, Meets, Span, fetched_rows, selected_rows, spans_of, spans_up_to}
 use Rattle.ub_region.specs.Those.{AreThose}
-use Rattle.ub_plan.specs.declared.planned.Kind.TheVariants.{Sweep}
+use Rattle.ub_planning.specs.declared.planned.Kind.TheVariants.{Sweep}
 use Rattle.ub_query.proofs.Laws.{contains_here, contains_later, contains_cases, contains_filter, contains_from_filter, contains_from_map, contains_map}
 use Rattle.ub_query.specs.Groups.{is_selected}
 use Rattle.ub_region.proofs.Laws.{IsChain, chain_of}

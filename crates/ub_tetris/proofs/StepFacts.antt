@@ -5,11 +5,11 @@ use Rattle.std.proofs.lemmas.List.{append-nil, map-append}
 use Rattle.std.proofs.lemmas.List.Elements.{All-nil, Contains-append_left, Contains-append_right}
 use Rattle.std.proofs.lemmas.List.Sorted.{Contains-permutation, IsPermutation-map, IsPermutation-sym}
 use Rattle.std.specs.List.{All, AllByRecursion}
-use Rattle.ub_plan.proofs.Laws.{chosen_are_selected}
-use Rattle.ub_plan.specs.Choice.{is_chosen}
-use Rattle.ub_plan.specs.Plan.{PlanView}
-use Rattle.ub_plan.specs.Visits.{Event, IsAlong, Span, is_past, spans_up_to}
-use Rattle.ub_plan.specs.declared.choice.Choice.{Choice}
+use Rattle.ub_filter.proofs.Laws.{chosen_are_selected}
+use Rattle.ub_filter.specs.Choice.{is_chosen}
+use Rattle.ub_planning.specs.Plan.{PlanView}
+use Rattle.ub_planning.specs.Visits.{Event, IsAlong, Span, is_past, spans_up_to}
+use Rattle.ub_filter.specs.declared.choice.Choice.{Choice}
 use Rattle.ub_query.proofs.Laws.{Rising-map, all_at, all_permutation, contains_cases, contains_here, contains_later, contains_none, contains_from_map, contains_map}
 use Rattle.ub_query.specs.Groups.{is_selected}
 use Rattle.ub_query.specs.Order.{IsRowBefore}
@@ -23,7 +23,6 @@ use Rattle.ub_table.specs.declared.row.Row.{Row}
 use Rattle.ub_table.specs.declared.schema.Schema.{Schema}
 use Rattle.ub_tetris.proofs.AlongFacts.{IsUpTo, along_before, along_up_to, led_asks, led_plan, up_to_along}
 use Rattle.ub_tetris.proofs.ArrangeFacts.{all_of, rising_two}
-use Rattle.ub_tetris.proofs.EffectFacts.{IsTraced, traced_sound}
 use Rattle.ub_tetris.proofs.MachineFacts.{IsBeforeNext, IsSweepOver, ends, fetches, gives, is_past_of, past_is}
 use Rattle.ub_tetris.proofs.OrderFacts.{held_before}
 use Rattle.ub_tetris.proofs.ReachFacts.{event_span}
@@ -33,8 +32,9 @@ use Rattle.ub_tetris.specs.Machine.{IsRowAlong, IsUnderWay, regions_at}
 use Rattle.ub_tetris.specs.Sweep.{AreAwaited, AreNoted, AwaitedRegion, HasEnded, HasGiven, HasStepped, IsAwaited, IsSweeping, SweepView}
 use Rattle.ub_tetris.specs.declared.event.Awaited.{Awaited}
 use Rattle.ub_tetris.specs.declared.state.State.{State}
-use Rattle.ub_tetris.specs.inner.Kept.{IsFirstAmong, IsFirstOf, IsHeldBefore, TakesFirst}
-use Rattle.ub_tetris.specs.inner.Turns.{HasFetchedNext, HoldsAlso, IsDue, IsOnward, awaited_of, is_due_by, view_of}
+use Rattle.ub_tetris.specs.inner.Kept.{HoldsAlso, IsFirstAmong, IsFirstOf, IsHeldBefore, TakesFirst}
+use Rattle.ub_tetris.specs.inner.Turns.{HasFetchedNext, IsDue, IsOnward, awaited_of, is_due_by, view_of}
+use Rattle.ub_tree.proofs.Laws.{IsTraced, Keeps-by}
 use Rattle.ub_tree.specs.Placed.{Placed}
 use Rattle.ub_tree.specs.View.{TreeView, regions}
 use Rattle.ub_zaddr.specs.Address.{last_address}
@@ -149,7 +149,7 @@ module _ (plan : PlanView) (t : TreeView) (s : SweepView) (held_then : List Held
       subst (λ (rows : List Row). IsPermutation rows (rows_held held_then)) rows (IsPermutation-map (λ (h : HeldRow). h.row) (s.held ++ map (held_row t.schema plan.asked.order) chosen) held_then holds) in
       record {
         working = of.working;
-        swept = record { sound = traced_sound t after refl of.swept.sound; planned = of.swept.planned; kind = of.swept.kind };
+        swept = record { sound = (Keeps-by t after refl).sound of.swept.sound; planned = of.swept.planned; kind = of.swept.kind };
         under_way = fetches t.schema plan s.dim s.is_descending t.next (regions t) (rows_held s.held) (rows_held held_then) given rest fetched event left
             (sweep_over plan t s given rest fetched (event ∷ left) of) of.under_way
             (subst (λ (v : ℕ). All (λ row. ¬ (IsRowAlong s.dim s.is_descending row v)) (rows_held s.held)) is_awaited.value past)

@@ -2,8 +2,8 @@
 use Rattle.std.proofs.Common.{◌≡◌, ◌<◌, ◌≤◌, ◌+◌, ◌-◌, ◌++◌, ◌∷◌, ◌∙◌, ℕ, true, false, List, [], Option, Result, Ok, Err, length, refl, sym, ap, subst, arith, append_assoc}
 use Rattle.std.proofs.lemmas.List.{append-nil}
 use Rattle.std.specs.Prelude.{OnErr}
-use Rattle.ub_plan.specs.Plan.{PlanView}
-use Rattle.ub_plan.specs.Visits.{Event}
+use Rattle.ub_planning.specs.Plan.{PlanView}
+use Rattle.ub_planning.specs.Visits.{Event}
 use Rattle.ub_table.specs.declared.row.Row.{Row}
 use Rattle.ub_tetris.proofs.BrokenFacts.{at_end, broken_by, broken_for, rests_by}
 use Rattle.ub_tetris.proofs.EffectFacts.{Sweeps-none, sweeps_then, swept_traced}

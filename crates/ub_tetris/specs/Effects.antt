@@ -1,25 +1,37 @@
 -- What the calls of a sweep can answer, and what they leave of the tree.
 use Rattle.std.specs.Prelude.{◌≡◌, ◌≢◌, ◌++◌, [], ℕ, zero, suc, Bool, true, false, IsTrue, List, Option, None, Result, Ok, Err, IfErr, OnOk, Contains, length}
-use Rattle.ub_store.specs.Facts.{StoreFacts, raised}
+use Rattle.ub_store.specs.Facts.{raised}
 use Rattle.ub_table.specs.declared.row.Row.{Row}
 use Rattle.ub_tetris.specs.Sweep.{AwaitedRegion, SweepView, AreItsRegions}
 use Rattle.ub_tetris.specs.declared.fault.SweepFault.{SweepFault}
 use Rattle.ub_tetris.specs.declared.fault.SweepFault.TheVariants.{Memory, Tree, Failed}
-use Rattle.ub_tree.specs.Effects.{IsReadFault, IsSpanFault, raised_by}
+use Rattle.ub_tree.specs.Effects.{IsSpanFault}
+use Rattle.ub_tree.specs.Reading.{IsGiven, read_store}
 use Rattle.ub_tree.specs.View.{TreeView}
-use Rattle.ub_tree.specs.declared.fault.TreeFault.{TreeFault}
-use Rattle.ub_tree.specs.declared.fault.TreeFault.TheVariants.{Memory as no_memory}
+use Rattle.ub_tree.specs.declared.fault.TreeFault.TheVariants.{Failed as has_failed, Memory as no_memory}
+use Rattle.ub_tree.specs.declared.read_fault.ReadFault.{ReadFault}
+use Rattle.ub_tree.specs.declared.read_fault.ReadFault.TheVariants as read
 
--- want of memory is one fault wherever it comes
-abbrev pub fault_of_tree : TreeFault → SweepFault
-fault_of_tree no_memory = Memory
-fault_of_tree fault = Tree fault
+-- a fault of a call that reads a tree, as a sweep's
+abbrev pub of_read : ReadFault → SweepFault
+of_read (read.Tree fault) = Tree fault
+of_read read.Memory = Memory
 
--- a fault of the tree as its reading calls answer it, but for want of memory; or the sweep has failed before
+-- a sweep's fault as one of a call that reads a tree: a sweep that has failed before is as a tree that has
+abbrev pub as_read : SweepFault → ReadFault
+as_read (Tree fault) = read.Tree fault
+as_read Memory = read.Memory
+as_read Failed = read.Tree has_failed
+
+-- the same of what a call of a sweep answers
+abbrev pub as_reading : {A : Type 0} → Result A SweepFault → Result A ReadFault
+as_reading (Ok x) = Ok x
+as_reading (Err fault) = Err (as_read fault)
+
+-- a fault that a call gives which reads the tree; or the sweep has failed before
 abbrev pub IsSweepFault : Bool → TreeView → SweepFault → Type 0
-IsSweepFault is_failed old Memory = Unit {0}
-IsSweepFault is_failed old (Tree fault) = IsReadFault old fault × (fault ≢ no_memory)
 IsSweepFault is_failed old Failed = IsTrue is_failed
+IsSweepFault is_failed old fault = IsGiven old (as_read fault)
 
 -- a fault of the reading of a region that the sweep awaits, also where it isn't one of the tree
 abbrev pub IsAwaitedFault : SweepView → TreeView → SweepFault → Type 0
@@ -28,15 +40,6 @@ IsAwaitedFault s old (Tree fault) =
     ((a : AwaitedRegion) × Contains s.awaited a × IsSpanFault a.region old fault) × (fault ≢ no_memory)
 IsAwaitedFault s old Failed = IsTrue s.is_failed
 
--- a count of failed reads after a call with this result
-abbrev pub counted : {A : Type 0} → Result A SweepFault → ℕ → ℕ
-counted (Err (Tree fault)) n = raised_by fault n
-counted _ n = n
-
--- a store after a call with this result that only reads
-abbrev pub read_store : {A : Type 0} → Result A SweepFault → StoreFacts → StoreFacts
-read_store result old = record old { failed_reads = counted result old.failed_reads }
-
 -- a count of fetches after so many more
 abbrev pub fetches_then : ℕ → ℕ → ℕ
 fetches_then fetches zero = fetches
@@ -44,7 +47,7 @@ fetches_then fetches (suc n) = raised fetches (suc n)
 
 -- a sweep was begun: the trace is empty, and else the tree is as it was
 pub record Begins {A : Type 0} (old new : TreeView) (result : Result A SweepFault) : Type 0 where
-  pub same : new ≡ record old { store = read_store result old.store; trace = [] }
+  pub same : new ≡ record old { store = read_store (as_reading result) old.store; trace = [] }
   pub faults : IfErr result (IsSweepFault false old)
 
 -- a sweep read the tree and no more: pages were noted after those that stood in the trace, and the first of the regions awaited
@@ -52,7 +55,7 @@ pub record Begins {A : Type 0} (old new : TreeView) (result : Result A SweepFaul
 -- those still awaited.
 pub record Sweeps {A : Type 0} (s new_s : SweepView) (old new : TreeView) (result : Result A SweepFault) : Type 0 where
   pub noted : List ℕ
-  pub same : new ≡ record old { store = read_store result old.store; trace = old.trace ++ noted; fetches = fetches_then old.fetches (length noted) }
+  pub same : new ≡ record old { store = read_store (as_reading result) old.store; trace = old.trace ++ noted; fetches = fetches_then old.fetches (length noted) }
   pub left : (come : List AwaitedRegion) × (s.awaited ≡ come ++ new_s.awaited)
   pub refused : IfErr result (IsAwaitedFault s old)
   pub faults : AreItsRegions old s → IfErr result (IsSweepFault s.is_failed old)
@@ -69,8 +72,3 @@ pub record Rests (s new_s : SweepView) (old new : TreeView) (result : Result (Op
   pub none : result ≡ Ok None
   pub sweep_is : new_s ≡ s
   pub tree_is : new ≡ old
-
--- a tree was searched and no more
-pub record Searches {A : Type 0} (old new : TreeView) (result : Result A SweepFault) : Type 0 where
-  pub same : new ≡ record old { store = read_store result old.store }
-  pub faults : IfErr result (IsSweepFault false old)

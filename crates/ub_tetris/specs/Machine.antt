@@ -3,8 +3,8 @@
 use Rattle.std.specs.Prelude.{◌++◌, ℕ, Bool, List, map, slice_index}
 use Rattle.std.specs.List.{All}
 use Rattle.std.specs.List.Sorted.{IsPermutation}
-use Rattle.ub_plan.specs.Plan.{PlanView}
-use Rattle.ub_plan.specs.Visits.{Event, IsAlong, AreEvents, AreArranged, selected_rows}
+use Rattle.ub_planning.specs.Plan.{PlanView}
+use Rattle.ub_planning.specs.Visits.{Event, IsAlong, AreEvents, AreArranged, selected_rows}
 use Rattle.ub_table.specs.Region.{Region}
 use Rattle.ub_table.specs.declared.row.Row.{Row}
 use Rattle.ub_table.specs.declared.schema.Schema.{Schema}

@@ -1,9 +1,9 @@
 -- What contracts see of a sweep, and how it stands to its plan and to the tree over which it goes.
 use Rattle.std.specs.Prelude.{◌≡◌, ◌++◌, ◌∷◌, [], ℕ, Bool, false, List, Option, Some, None, map, Contains}
 use Rattle.std.specs.List.{All, AllByRecursion}
-use Rattle.ub_plan.specs.Plan.{PlanView, plan_of}
-use Rattle.ub_plan.specs.Visits.{Event}
-use Rattle.ub_plan.specs.declared.planned.Kind.TheVariants.{Sweep}
+use Rattle.ub_planning.specs.Plan.{PlanView, plan_of}
+use Rattle.ub_planning.specs.Visits.{Event}
+use Rattle.ub_planning.specs.declared.planned.Kind.TheVariants.{Sweep}
 use Rattle.ub_table.specs.declared.row.Row.{Row}
 use Rattle.ub_tetris.specs.Held.{HeldRow, AreHeldBy, rows_held}
 use Rattle.ub_tetris.specs.Machine.{IsUnderWay, IsRowAlong, regions_at}

@@ -1,16 +1,14 @@
 ghost use Rattle.std.specs.Prelude.{◌≡◌, ◌<◌, All, IfOk, length};
 ghost use Rattle.std.specs.List.Sorted.{IsPermutation, IsSorted};
-ghost use Rattle.ub_tetris.specs.Effects.{Searches};
-ghost use Rattle.ub_tetris.specs.inner.Events.{AreMet, AreQueued, event_cmp};
-ghost use Rattle.ub_tree.specs.View.{IsSound};
+ghost use Rattle.ub_tetris.specs.inner.Events.{AreMet, AreQueued, HasMet, event_cmp};
+ghost use Rattle.ub_tree.specs.Reading.{SearchesTree};
 
 use crate::course::Course;
 use crate::event::{Awaited, compare_events};
-use crate::fault::SweepFault;
-use std::alloc::Global;
+use std::alloc::{AllocError, Global};
 use ub_bigmin::ZBox;
 use ub_store::PageStore;
-use ub_tree::Tree;
+use ub_tree::{ReadFault, Region, RegionSink, Tree};
 
 /// The regions that meet the boxes, each with its event value, in the order in which a sweep comes to them. Fetches none.
 pub fn await_regions<S: PageStore>(
@@ -18,37 +16,50 @@ pub fn await_regions<S: PageStore>(
     tree: &mut Tree<S>,
     boxes: &[ZBox],
     course: Course,
-) -> Result<Vec<Awaited>, SweepFault>
+) -> Result<Vec<Awaited>, ReadFault>
     requires { All (λ b. course.dim < length b.lo) boxes.now }
     ensures queued { IfOk result (λ awaited. AreQueued boxes.now course tree.old awaited.items) }
-    ensures effect { Searches tree.old tree.new result }
+    ensures effect { SearchesTree tree.old tree.new result }
 {
-    let mut awaited = walk(alloc, tree, boxes, course)?;
+    let mut awaited = meet(alloc, tree, boxes, course)?;
     sort_events(&mut awaited, course.is_descending);
     Ok(awaited)
 }
 
 // The same regions in the order of their first keys.
-fn walk<S: PageStore>(
+fn meet<S: PageStore>(
     alloc: Global,
     tree: &mut Tree<S>,
     boxes: &[ZBox],
     course: Course,
-) -> Result<Vec<Awaited>, SweepFault>
+) -> Result<Vec<Awaited>, ReadFault>
     requires { All (λ b. course.dim < length b.lo) boxes.now }
     ensures met { IfOk result (λ awaited. AreMet boxes.now course tree.old awaited.items) }
-    ensures effect { Searches tree.old tree.new result }
+    ensures effect { SearchesTree tree.old tree.new result }
 {
-    let mut awaited = Vec::new(alloc);
-    let mut after = None;
-    for _turn in 0..tree.regions() {
-        let Some(region) = tree.next_meeting(boxes, after.as_ref())? else {
-            return Ok(awaited);
-        };
-        awaited.push(Awaited::new(boxes, region, course))?;
-        after = Some(region);
+    let mut met = MetRegions {
+        course,
+        awaited: Vec::new(alloc),
+    };
+    tree.for_each_meeting(boxes, &mut met)?;
+    Ok(met.awaited)
+}
+
+/// The regions that a sweep is to come to, each put in with its event value as the tree hands it over.
+#[derive(Drop)]
+pub struct MetRegions {
+    course: Course,
+    awaited: Vec<Awaited>,
+}
+
+impl RegionSink for MetRegions {
+    ghost Takes = { λ boxes start taken now. HasMet boxes start taken now };
+
+    fn push(&mut self, boxes: &[ZBox], region: &Region) -> Result<(), AllocError> {
+        self.awaited
+            .push(Awaited::new(boxes, *region, self.course))?;
+        Ok(())
     }
-    Ok(awaited)
 }
 
 // Puts regions into the order in which a sweep comes to them.

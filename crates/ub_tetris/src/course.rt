@@ -1,8 +1,8 @@
 ghost use Rattle.std.specs.Prelude.{◌≡◌, ◌<◌, ◌↔◌, All, Some, IfSome, IsTrue, length};
-ghost use Rattle.ub_plan.specs.declared.planned.Kind.TheVariants.{Sweep};
+ghost use Rattle.ub_planning.specs.declared.planned.Kind.TheVariants.{Sweep};
 
 use ub_bigmin::ZBox;
-use ub_plan::{Kind, Plan};
+use ub_planning::{Kind, Plan};
 
 /// Where a sweep goes: along which dimension, and in which direction.
 #[derive(Clone, Copy, PartialEq, Eq, Debug)]

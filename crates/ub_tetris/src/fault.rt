@@ -1,10 +1,11 @@
 ghost use Rattle.std.specs.Prelude.{◌≡◌};
-ghost use Rattle.ub_tetris.specs.Effects.{fault_of_tree};
+ghost use Rattle.ub_tetris.specs.Effects.{as_read, of_read};
 ghost use Rattle.ub_tetris.specs.declared.fault.SweepFault.TheVariants.{Memory};
+ghost use Rattle.ub_tree.specs.Reading.{fault_of_tree};
 
-use std::alloc::{AllocError, AllocFailed};
+use std::alloc::AllocError;
 use thiserror::Error;
-use ub_tree::TreeFault;
+use ub_tree::{ReadFault, TreeFault};
 
 /// Why a sweep gave no row.
 #[derive(Clone, Copy, PartialEq, Eq, Debug, Error)]
@@ -20,6 +21,25 @@ pub enum SweepFault {
     Failed,
 }
 
+impl From<ReadFault> for SweepFault {
+    ghost from_gives = { λ read fault. fault ≡ of_read read };
+
+    fn from(fault: ReadFault) -> SweepFault {
+        match fault {
+            ReadFault::Tree(fault) => SweepFault::Tree(fault),
+            ReadFault::Memory => SweepFault::Memory,
+        }
+    }
+}
+
+impl From<TreeFault> for SweepFault {
+    ghost from_gives = { λ tree fault. fault ≡ of_read (fault_of_tree tree) };
+
+    fn from(fault: TreeFault) -> SweepFault {
+        SweepFault::from(ReadFault::from(fault))
+    }
+}
+
 impl From<AllocError> for SweepFault {
     ghost from_gives = { λ _ fault. fault ≡ Memory };
 
@@ -28,21 +48,15 @@ impl From<AllocError> for SweepFault {
     }
 }
 
-impl<T: Drop> From<AllocFailed<T>> for SweepFault {
-    ghost from_gives = { λ _ fault. fault ≡ Memory };
+impl From<SweepFault> for ReadFault {
+    ghost from_gives = { λ sweep fault. fault ≡ as_read sweep };
 
-    fn from(_refused: AllocFailed<T>) -> SweepFault {
-        SweepFault::Memory
-    }
-}
-
-impl From<TreeFault> for SweepFault {
-    ghost from_gives = { λ tree fault. fault ≡ fault_of_tree tree };
-
-    fn from(fault: TreeFault) -> SweepFault {
+    /// The sweep's fault; of a sweep that failed before, that of a tree that did.
+    fn from(fault: SweepFault) -> ReadFault {
         match fault {
-            TreeFault::Memory => SweepFault::Memory,
-            fault => SweepFault::Tree(fault),
+            SweepFault::Tree(fault) => ReadFault::Tree(fault),
+            SweepFault::Memory => ReadFault::Memory,
+            SweepFault::Failed => ReadFault::Tree(TreeFault::Failed),
         }
     }
 }

@@ -3,19 +3,20 @@ ghost use Rattle.std.specs.List.{All};
 ghost use Rattle.std.specs.List.Sorted.{IsPermutation};
 ghost use Rattle.ub_query.specs.Posed.{IsItemOver};
 ghost use Rattle.ub_tetris.specs.Held as spec;
-ghost use Rattle.ub_tetris.specs.inner.Kept.{IsFirstOf, TakesFirst};
+ghost use Rattle.ub_tetris.specs.inner.Kept.{HoldsAlso, IsFirstOf, TakesFirst};
 
 use crate::place::Held;
 use crate::ranked::Ranked;
 use std::alloc::{AllocError, Global};
 use std::collections::BinaryHeap;
 use std::marker::Model;
-use ub_query::SortKey;
+use ub_query::{Query, RowSink, SortKey};
 use ub_table::{Row, Schema};
 
 /// The rows that a sweep holds, of which the first in the order asked is found at once.
 #[derive(Drop)]
 pub struct HeldRows {
+    alloc: Global,
     heap: BinaryHeap<Ranked>,
     // Memory of rows that were given, for those that are held next.
     spare: Vec<Box<Held>>,
@@ -40,6 +41,7 @@ impl HeldRows {
         ensures { result ≡ [] }
     {
         HeldRows {
+            alloc,
             heap: BinaryHeap::new(alloc),
             spare: Vec::new(alloc),
         }
@@ -53,19 +55,13 @@ impl HeldRows {
     }
 
     /// Holds one more row, in the order of these keys. Refused memory leaves those held as they were.
-    pub fn hold(
-        &mut self,
-        alloc: Global,
-        schema: &Schema,
-        keys: &[SortKey],
-        row: &Row,
-    ) -> Result<(), AllocError>
+    pub fn hold(&mut self, schema: &Schema, keys: &[SortKey], row: &Row) -> Result<(), AllocError>
         requires { All (λ key. IsItemOver (length schema.now.columns) key.item) keys.now }
         ensures ok { OnOk result (IsPermutation
             (spec.held_row schema.now keys.now row.now ∷ self.old) self.new) }
         ensures err { OnErr result (self.new ≡ self.old) }
     {
-        let mut held = room(&mut self.spare, alloc)?;
+        let mut held = room(&mut self.spare, self.alloc)?;
         held.fill(schema, keys, row)?;
         self.heap.push(Ranked::new(held))?;
         Ok(())
@@ -88,6 +84,15 @@ impl HeldRows {
         // Where this is refused, the memory is given back.
         let _ = self.spare.push(held);
         Some(row)
+    }
+}
+
+/// The sink of a sweep: its rows are held, in the order of the query's keys, until they are given.
+impl RowSink for HeldRows {
+    ghost HasTaken = { λ schema q before taken now. HoldsAlso schema q.order taken before now };
+
+    fn push(&mut self, schema: &Schema, query: &Query, row: &Row) -> Result<(), AllocError> {
+        self.hold(schema, query.order.as_slice(), row)
     }
 }
 

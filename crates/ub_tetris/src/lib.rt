@@ -2,7 +2,8 @@
 // region that isn't fetched yet can hold an earlier one.
 //
 // A sweep goes over the regions that meet the plan's boxes in the order of their event values, and holds the selected rows of
-// those that it has fetched. It borrows nothing: each call is given the plan and the tree.
+// those that it has fetched: these are the sink that `ub_filter` hands them to (`held`). It borrows nothing: each call is given
+// the plan and the tree.
 //
 // Held rows stand in a heap (`held`), of which an element (`ranked`) is the first of a row's values and
 // a pointer: a row given costs some comparisons and moves for each power of two of those held, and

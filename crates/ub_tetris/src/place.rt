@@ -5,7 +5,7 @@ ghost use Rattle.ub_tetris.specs.Held.{item_value, turned, values_by};
 
 use smallvec::SmallVec;
 use std::alloc::{AllocError, Global};
-use ub_query::{Item, SortKey, value_in};
+use ub_query::{Item, SortKey};
 use ub_table::{Row, Schema};
 
 /// A row that is held, and the values by which it stands in the order asked, one for each key.
@@ -54,7 +54,7 @@ fn item_value(schema: &Schema, row: &Row, item: Item) -> i64
     ensures { result ≡ item_value schema.now row.now item }
 {
     match item {
-        Item::Column(column) => value_in(schema, row, column),
+        Item::Column(column) => schema.value_of(row, column),
         Item::Count | Item::Aggregate(_, _) => 0,
     }
 }

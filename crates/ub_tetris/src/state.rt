@@ -1,28 +1,26 @@
 ghost use Rattle.std.specs.Prelude.{◌≡◌, ◌<◌, [], length, List, IfOk, OnErr, OnOk, slice_index};
-ghost use Rattle.std.specs.List.{filter};
-ghost use Rattle.ub_plan.specs.Choice.{IsFit, is_chosen};
-ghost use Rattle.ub_plan.specs.Visits.{Event};
+ghost use Rattle.ub_planning.specs.Visits.{Event};
 ghost use Rattle.ub_query.specs.Posed.{IsPosed};
 ghost use Rattle.ub_table.specs.declared.row.Row.{Row as RowView};
 ghost use Rattle.ub_tetris.specs.Effects.{Rests, Sweeps};
 ghost use Rattle.ub_tetris.specs.Sweep.{IsSweeping, HasBroken, HasStepped};
-ghost use Rattle.ub_tetris.specs.inner.Turns.{HoldsAlso, HasAskedNext, HasFetchedNext, IsDue, IsOnward, view_of};
+ghost use Rattle.ub_tetris.specs.inner.Turns.{HasAskedNext, HasFetchedNext, IsDue, IsOnward, view_of};
 
 use crate::course::Course;
 use crate::event::{Awaited, is_past};
 use crate::fault::SweepFault;
 use crate::held::HeldRows;
-use std::alloc::{AllocError, Global};
+use std::alloc::Global;
+use ub_filter::{Choice, push_chosen};
 use ub_page::RegionPage;
-use ub_plan::{Choice, Plan, is_set, is_true};
+use ub_planning::Plan;
 use ub_store::PageStore;
-use ub_table::{Row, Schema};
+use ub_table::Row;
 use ub_tree::Tree;
 
 /// How far a sweep has come.
 #[derive(Drop)]
 pub struct State {
-    alloc: Global,
     course: Course,
     held: HeldRows,
     // The regions that it comes to, in order, and how many of them were fetched.
@@ -41,7 +39,6 @@ impl State {
         ensures fetched { result.fetched ≡ 0 }
     {
         State {
-            alloc,
             course,
             held: HeldRows::new(alloc),
             queue,
@@ -110,45 +107,9 @@ impl State {
         tree.read_region(&region, &mut self.page)?;
         // Each call is given its plan, so the choice is made for that one.
         let choice = Choice::of(plan, tree.schema());
-        hold_chosen(
-            &mut self.held,
-            self.alloc,
-            tree.schema(),
-            plan,
-            choice,
-            &self.page,
-        )?;
+        push_chosen(&mut self.held, tree.schema(), plan, choice, &self.page)?;
         Ok(())
     }
-}
-
-// Holds the rows of a page that are chosen.
-fn hold_chosen(
-    held: &mut HeldRows,
-    alloc: Global,
-    schema: &Schema,
-    plan: &Plan,
-    choice: Choice,
-    page: &RegionPage,
-) -> Result<(), AllocError>
-    requires posed { IsPosed (length schema.now.columns) plan.now.asked }
-    requires fit { IsFit schema.now plan.now choice }
-    requires dims { page.now.dims ≡ schema.now.dims }
-    ensures { OnOk result (HoldsAlso schema.now plan.now.asked.order
-        (filter (is_chosen choice schema.now plan.now) page.now.region.rows) held.old held.new) }
-{
-    let near = choice.near(plan, schema, page);
-    let condition = choice.asked(plan);
-    let keys = plan.query().order.as_slice();
-    for place in 0..page.len() {
-        if is_set(near, place) {
-            let row = page.row(place);
-            if is_true(condition, schema, &row) {
-                held.hold(alloc, schema, keys, &row)?;
-            }
-        }
-    }
-    Ok(())
 }
 
 // The coordinate of a row in a dimension; 0 in one that no row has.

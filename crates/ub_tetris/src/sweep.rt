@@ -6,7 +6,7 @@ use crate::state::State;
 use std::alloc::Global;
 use std::marker::Model;
 use ub_page::RegionPage;
-use ub_plan::Plan;
+use ub_planning::Plan;
 use ub_store::PageStore;
 use ub_table::Row;
 use ub_tree::Tree;
@@ -32,7 +32,7 @@ impl Model for Sweep {
 
 impl Sweep {
     ghost use Rattle.std.specs.Prelude.{◌≡◌, ℕ, Bool, List, [], length, IfOk, OnErr};
-    ghost use Rattle.ub_plan.specs.Visits.{Event};
+    ghost use Rattle.ub_planning.specs.Visits.{Event};
     ghost use Rattle.ub_query.specs.Posed.{IsPosed};
     ghost use Rattle.ub_table.specs.declared.row.Row.{Row as RowView};
     ghost use Rattle.ub_tetris.specs.Effects.{Begins, FailsOnce, Rests, Sweeps};

@@ -9,10 +9,12 @@ use Rattle.ub_region.specs.Spans.{span_end}
 use Rattle.ub_store.specs.Facts.{StoreFacts, IsHonest, IsPage, Reads, page_count, counted as counted_there}
 use Rattle.ub_store.specs.View.{PagerView, SameTrace}
 use Rattle.ub_store.specs.declared.fault.StoreFault.{StoreFault}
+use Rattle.ub_page.specs.Region.{region_page}
+use Rattle.ub_table.specs.Region.{Region, IsRegion}
 use Rattle.ub_table.specs.declared.fault.PageFault.{PageFault}
 use Rattle.ub_table.specs.declared.schema.Schema.{Schema}
-use Rattle.ub_tree.specs.Change.{IsSeatIn, IsWriteFault}
-use Rattle.ub_tree.specs.Effects.{Searches, read_store, IsReadFault, IsRegionRefused, IsPageRefused, IsPageMissing, IsSpanFault, HasEnded}
+use Rattle.ub_tree.specs.Change.{IsSeatIn, IsSeatThere, IsWriteFault}
+use Rattle.ub_tree.specs.Effects.{Searches, read_store, IsReadFault, IsRegionRefused, IsPageRefused, IsPageMissing, IsSpanFault, HasEnded, IsTakenIn}
 use Rattle.ub_directory.specs.Searching.{Searches as Looks}
 use Rattle.ub_directory.specs.Slots.{IsSeat}
 use Rattle.ub_directory.specs.View.{SeatView}
@@ -20,11 +22,11 @@ use Rattle.ub_directory.specs.declared.fault.DirectoryFault.{DirectoryFault}
 use Rattle.ub_directory.specs.declared.fault.DirectoryFault.TheVariants as directory
 use Rattle.ub_tree.specs.Faults.{tree_fault, opening_fault}
 use Rattle.ub_tree.specs.Spans.{first_keys, regions_of}
-use Rattle.ub_tree.specs.Tree.{known_pages, tree_view}
+use Rattle.ub_tree.specs.Tree.{IsHeldBy, known_pages, tree_view}
 use Rattle.ub_tree.specs.Placed.{Placed, ArePlaced, placed_of, entry_of}
 use Rattle.ub_tree.specs.View.{TreeView, IsSound, spans_of}
 use Rattle.ub_tree.specs.declared.fault.TreeFault.{TreeFault}
-use Rattle.ub_tree.specs.declared.fault.TreeFault.TheVariants.{Page, Store}
+use Rattle.ub_tree.specs.declared.fault.TreeFault.TheVariants.{Failed, Page, Store}
 use Rattle.ub_tree.specs.declared.region.Region.{Region as Span}
 use Rattle.ub_tree.proofs.SpanFacts.{region_is, region_with}
 use Rattle.ub_tree.proofs.TreeFacts.{IsKnownAt, entry_known, IsKnown, span_known, spans_are, entries_back, span_entry, contained_at}
@@ -109,6 +111,25 @@ span_unread U (Err e) fault span old is device missing size = rw is (by_fault fa
     by_fault store.Memory device missing size = tt
     by_fault store.BadSize device missing size = size refl
 
+-- neither the store's faults nor those of a page say that the tree has failed
+pub never_failed : {T : Type 0} (r : Result T TreeFault) (fault : StoreFault) (old new : TreeView) → IsErrAnd r (λ e. e ≡ tree_fault fault) → r ≡ Err Failed → new ≡ old
+never_failed (Ok x) fault old new is failed = absurd is
+never_failed (Err e) store.Device old new is failed = cc
+never_failed (Err e) store.NoPage old new is failed = cc
+never_failed (Err e) store.Memory old new is failed = cc
+never_failed (Err e) store.BadSize old new is failed = cc
+
+pub told_failed : {T : Type 0} (Q : PageFault → Type 0) (r : Result T TreeFault) (number : ℕ) (old new : TreeView) → IfErr r (IsTold number Q) → r ≡ Err Failed → new ≡ old
+told_failed Q (Ok x) number old new is failed = cc
+told_failed Q (Err e) number old new is failed = let told = is.1 in cc
+
+-- what a page told is taken in
+pub taken_in : {T : Type 0} (t : TreeView) (r : Result T TreeFault) (span : Span) (region : Region) (page : List ℕ)
+    → OnOk r (IsRegion t.schema region × (page ≡ region_page t.schema region)) → OnOk r (IsHeldBy t.schema.dims span.first span.next region) → IsPage t.store span.page page
+    → OnOk r (IsTakenIn t span region)
+taken_in t (Ok x) span region page found held is = (found.0, held, subst (λ (p : List ℕ). IsPage t.store span.page p) found.1 is)
+taken_in t (Err e) span region page found held is = tt
+
 module _ {U : Type 0} (old : TreeView) where
   fault_refused : (fault : StoreFault) → (IsErrOf {T = U} (Err fault) store.Device → IsTrue old.store.can_fail) → (IsErrOf {T = U} (Err fault) store.NoPage → (¬ (IsSound old)) × IsPageMissing old)
       → (¬ (IsErrOf {T = U} (Err fault) store.BadSize)) → IsReadFault old (tree_fault fault)
@@ -162,28 +183,29 @@ tree_entry_known schema entries chain next rows changed failed pager index e sou
     subst (λ (pages : List (List ℕ)). ArePlaced schema (placed_of schema (known_pages pager.store) entries) (0 ∷ chain) pages) (sym known) sound.placed_are in
     entry_known schema entries (known_pages pager.store) next (0 ∷ chain) index e sound.regions_are placed at
 
-pub write_refused : {U : Type 0} (fault : StoreFault) (old new : TreeView) → (fault ≡ store.Device) ⊎ (fault ≡ store.NoPage)
-    → (IsErrOf {T = U} (Err fault) store.Device → IsTrue old.store.can_fail) → (IsErrOf {T = U} (Err fault) store.NoPage → (¬ (IsSound old)) × IsPageMissing old) → HasEnded (Store fault) old new
+-- a write whose page is there is refused where its store fails, and never else
+pub only_device : {U : Type 0} (fault : StoreFault) → (fault ≡ store.Device) ⊎ (fault ≡ store.NoPage) → (IsErrOf {T = U} (Err fault) store.NoPage → ⊥) → fault ≡ store.Device
+only_device fault (inl e) missing = e
+only_device fault (inr e) missing = absurd (missing (rw e refl))
+
+pub write_refused : {U : Type 0} (fault : StoreFault) (old new : TreeView) → fault ≡ store.Device → (IsErrOf {T = U} (Err fault) store.Device → IsTrue old.store.can_fail) → HasEnded (Store fault) old new
     → IsWriteFault old new (Store fault)
-write_refused fault old new (inl e) device missing ended = subst (λ (f : StoreFault). IsWriteFault old new (Store f)) (sym e) (device (rw e refl), subst (λ (f : StoreFault). HasEnded (Store f) old new) e ended)
-write_refused fault old new (inr e) device missing ended =
-    let gone = missing (rw e refl) in
-    subst (λ (f : StoreFault). IsWriteFault old new (Store f)) (sym e) (gone.0, gone.1, subst (λ (f : StoreFault). HasEnded (Store f) old new) e ended)
+write_refused fault old new e device ended = subst (λ (f : StoreFault). IsWriteFault old new (Store f)) (sym e) (device (rw e refl), subst (λ (f : StoreFault). HasEnded (Store f) old new) e ended)
 
 pub page_refused_by : {T : Type 0} (Q : PageFault → Type 0) (r : Result T TreeFault) (e : TreeFault) (number : ℕ) (old : TreeView) → IsErrAnd r (λ x. x ≡ e)
     → IsTold number Q e → ¬ (IsSound old) → ((f : PageFault) → Q f → IsPageRefused old number f) → IfErr r (IsReadFault old)
 page_refused_by Q (Ok x) e number old is by never told = tt
 page_refused_by Q (Err f) e number old is by never told = rw (is, by.1) (never, told by.0 by.2)
 
--- a write that found no page found none where it wrote
-pub past_page : (count page : ℕ) → (count ≡ 0) ⊎ (count ≤ page) → count ≤ page
-past_page count page (inl none) = omega arith
-past_page count page (inr past) = past
+-- a write finds no page only where none is
+pub past_page : (count page : ℕ) → page < count → (count ≡ 0) ⊎ (count ≤ page) → ⊥
+past_page count page there (inl none) = omega arith
+past_page count page there (inr past) = omega arith
 
-pub past_pages : (count number page : ℕ) → number < count → (count ≡ 0) ⊎ (count ≤ number) ⊎ (count ≤ page) → count ≤ page
-past_pages count number page there (inl none) = omega arith
-past_pages count number page there (inr (inl past)) = absurd (omega arith)
-past_pages count number page there (inr (inr past)) = past
+pub past_pages : (count number page : ℕ) → number < count → page < count → (count ≡ 0) ⊎ (count ≤ number) ⊎ (count ≤ page) → ⊥
+past_pages count number page there also (inl none) = omega arith
+past_pages count number page there also (inr (inl past)) = omega arith
+past_pages count number page there also (inr (inr past)) = omega arith
 
 -- the entries of a tree's regions are those of its directory, and a seat among either is one among the other
 pub entries_are : (schema : Schema) (entries : List Entry) (chain : List ℕ) (next rows : ℕ) (changed failed : Bool) (pager : PagerView) (v : TreeView)
@@ -198,6 +220,9 @@ seated schema entries chain next rows changed failed pager v seat view h =
 
 pub same_seat : (a b : TreeView) (seat : SeatView) → b ≡ a → IsSeatIn a seat → IsSeatIn b seat
 same_seat a b seat same h = subst (λ (v : TreeView). IsSeatIn v seat) (sym same) h
+
+pub same_there : (a b : TreeView) (seat : SeatView) → b ≡ a → IsSeatThere a seat → IsSeatThere b seat
+same_there a b seat same h = subst (λ (v : TreeView). IsSeatThere v seat) (sym same) h
 
 -- a search after one that changed nothing, and the answers of searches as those of others
 pub then_searched : {T : Type 0} (r : Result T TreeFault) (a b c : TreeView) → b ≡ a → Searches b c r → Searches a c r

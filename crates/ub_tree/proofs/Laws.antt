@@ -1,14 +1,13 @@
 -- The laws of a sound tree, as specs/Laws.antt states them, and what else the proofs of crates above use.
-use Rattle.std.proofs.Common.{◌≡◌, ◌<◌, inl, inr, ℕ, zero, suc, List, [], ◌∷◌, ◌++◌, false, Some, Contains, length, map, drop, nat_eq, slice_get, sym, ap, refl, arith, ◌∙◌}
+use Rattle.std.proofs.Common.{◌≡◌, ◌<◌, inl, inr, ℕ, zero, suc, List, [], ◌∷◌, ◌++◌, false, Some, map, drop, nat_eq, slice_get, sym, ap, refl, arith, ◌∙◌}
 use Rattle.std.proofs.lemmas.Bool.{cases_lt, cases_eq, eq-eqb}
 use Rattle.std.proofs.lemmas.Map.Keys.{apart_from_distinct, IsDistinct-tail}
-use Rattle.std.proofs.lemmas.Option.{slice_get_read, slice_get_within, get_or_from_slice_get}
+use Rattle.std.proofs.lemmas.Option.{slice_get_within, get_or_from_slice_get}
 use Rattle.std.specs.List.{IsDistinct}
 use Rattle.ub_region.proofs.Laws as lists
 use Rattle.ub_region.specs.Regions.{firsts_of}
 use Rattle.ub_region.specs.Spans.{span_end}
 use Rattle.ub_table.specs.Region.{Region}
-use Rattle.ub_tree.proofs.GrowFacts.{firsts_placed}
 use Rattle.ub_tree.proofs.WalkFacts.{answers_are_those}
 use Rattle.ub_tree.specs.Laws.{FirstKeysAscend, PagesDiffer, EachAddressHasASpan, RowsLieInTheirSpans, AnswersAreThoseThatMeet}
 use Rattle.ub_tree.specs.Placed.{Placed, entry_of, regions_in}
@@ -16,16 +15,11 @@ use Rattle.ub_tree.specs.Spans.{Meets, first_keys, regions_of}
 use Rattle.ub_tree.specs.View.{TreeView, IsSound, regions, spans_of}
 use Rattle.ub_tree.specs.declared.region.Region.{Region as Span}
 use Rattle.ub_zaddr.specs.Address.{last_address}
-pub use Rattle.ub_tree.proofs.GrowFacts.{new_row}
+pub use Rattle.ub_tree.proofs.GrowFacts.{firsts_placed, new_row}
+pub use Rattle.ub_tree.proofs.MeetFacts.{before, contained_at, contains_at, is_later, later_from, spans_long, take_all, those_next, those_up_to}
+pub use Rattle.ub_tree.proofs.ReadFacts.{IsTraced, Keeps, Keeps-by, Keeps-more, Keeps-none, begun_traced, given_before, memory_searches, read_fault_before, reads_by, reads_then, sound_fault, traced_spans, tree_reads, tree_searches, unchanged_trace, unchanged_traced, SearchesTree-regions, SearchesTree-sound, SearchesTree-trace}
 pub use Rattle.ub_tree.proofs.SeekFacts.{region_first}
 use Rattle.ub_directory.specs.Inner.{reserved}
-
-module _ {X : Type 0} where
-  contained_at : (xs : List X) (x : X) (found : Contains xs x) → slice_get xs found.0 ≡ Some x
-  contained_at xs x found = slice_get_read xs (length xs) found.0 x refl found.1 (sym found.2)
-
-  contains_at : (xs : List X) (i : ℕ) (x : X) → slice_get xs i ≡ Some x → Contains xs x
-  contains_at xs i x at = (i, slice_get_within xs i x at, get_or_from_slice_get xs i x x at)
 
 -- the region of a span, with its page
 record HasSpan (last i : ℕ) (placed : List Placed) (span : Span) (p : Placed) : Type 0 where

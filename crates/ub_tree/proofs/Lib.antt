@@ -2,6 +2,8 @@ pub mod SpanFacts
 pub mod SeekFacts
 pub mod TreeFacts
 pub mod CallFacts
+pub mod ReadFacts
+pub mod MeetFacts
 pub mod MadeFacts
 pub mod RoomFacts
 pub mod WriteFacts

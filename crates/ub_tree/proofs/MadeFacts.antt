@@ -65,6 +65,7 @@ created facts schema pager same trace fetches laid = record {
       };
   store_is = same;
   working = refl;
+  changed = refl;
   rows_are = refl;
   next_is = refl;
   trace_is = trace;

@@ -1,10 +1,10 @@
 -- Answers, each the first one later than the answer before it, are the elements that have the property asked for.
-use Rattle.std.proofs.Common.{◌≡◌, ◌<◌, ◌≤◌, ◌+◌, ◌-◌, ◌↔◌, inl, inr, ℕ, zero, suc, List, [], ◌∷◌, Option, Some, None, length, drop, sym, ap, refl, arith, subst, slice_get, Contains, ◌∙◌}
+use Rattle.std.proofs.Common.{◌≡◌, ◌<◌, ◌≤◌, ◌+◌, ◌-◌, ◌↔◌, inl, inr, ℕ, zero, suc, List, [], ◌∷◌, Option, Some, None, drop, sym, ap, refl, arith, subst, slice_get, ◌∙◌}
 use Rattle.std.proofs.lemmas.Bool.{cases_lt, cases_eq}
-use Rattle.std.proofs.lemmas.Option.{slice_get_read, slice_get_within, get_or_from_slice_get}
 use Rattle.ub_region.specs.Those.{AreThose}
 use Rattle.ub_table.proofs.Laws.{not_both_before, not_before_self}
 use Rattle.ub_table.specs.Keys.{IsBefore}
+use Rattle.ub_tree.proofs.MeetFacts.{contained_at, contains_at}
 use Rattle.ub_tree.specs.Laws.{AreAnswers}
 use Rattle.ub_tree.specs.Spans.{IsLater}
 use Rattle.ub_tree.specs.declared.region.Region.{Region as Span}
@@ -14,12 +14,6 @@ module _ {X : Type 0} where
   drop_get zero i xs = let same : i ≡ 0 + i = omega arith in ap (slice_get xs) same
   drop_get (suc n) i [] = refl
   drop_get (suc n) i (x ∷ xs) = let same : suc (n + i) ≡ suc n + i = omega arith in drop_get n i xs ∙ ap (slice_get (x ∷ xs)) same
-
-  contained_at : (xs : List X) (x : X) (found : Contains xs x) → slice_get xs found.0 ≡ Some x
-  contained_at xs x found = slice_get_read xs (length xs) found.0 x refl found.1 (sym found.2)
-
-  contains_at : (xs : List X) (i : ℕ) (x : X) → slice_get xs i ≡ Some x → Contains xs x
-  contains_at xs i x at = (i, slice_get_within xs i x at, get_or_from_slice_get xs i x x at)
 
   module _ (P : X → Type 0) where
     -- where none has the property

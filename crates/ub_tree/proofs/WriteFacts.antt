@@ -4,7 +4,7 @@ use Rattle.std.proofs.lemmas.Bool.{eq-eqb}
 use Rattle.std.proofs.lemmas.List.Elements.{recursion_from_All}
 use Rattle.std.proofs.lemmas.Map.Keys.{IsDistinct-head}
 use Rattle.std.proofs.lemmas.Option.{slice_get_within}
-use Rattle.std.specs.List.{AllByRecursion, Contains, IsDistinct, insert}
+use Rattle.std.specs.List.{AllByRecursion, IsDistinct, insert}
 use Rattle.std.specs.Result.{IsErrAnd}
 use Rattle.ub_page.specs.Region.{region_on, region_page}
 use Rattle.ub_page.specs.declared.directory.Entry.{Entry}
@@ -12,7 +12,7 @@ use Rattle.ub_region.proofs.Laws.{all_right}
 use Rattle.ub_region.specs.Regions.{AreRegions, rows_of}
 use Rattle.ub_tree.specs.declared.fault.TreeFault.{TreeFault}
 use Rattle.ub_tree.specs.declared.fault.TreeFault.TheVariants.{Full, Page, Store, Failed as HasFailed, Memory}
-use Rattle.ub_store.specs.Facts.{StoreFacts, IsHonest, Appends, page_count, zero_page}
+use Rattle.ub_store.specs.Facts.{StoreFacts, IsHonest, Appends, MayFlush, page_count, zero_page}
 use Rattle.ub_store.specs.View.{PagerView, SameTrace}
 use Rattle.ub_store.specs.declared.fault.StoreFault.{StoreFault}
 use Rattle.ub_table.specs.Region.{Region, IsRegion}
@@ -22,7 +22,7 @@ use Rattle.ub_table.specs.declared.schema.Schema.{Schema}
 use Rattle.ub_tree.specs.Change.{IsStored, IsFresh, IsWriteFault, Writes, placed_with}
 use Rattle.ub_directory.specs.Searching.{Searches as Looks}
 use Rattle.ub_directory.specs.Writing.{put_store}
-use Rattle.ub_tree.specs.Effects.{written_store, IsPageMissing, IsMarkedFirst, Leaves, HasEnded, IsLeft, Works, Changes, Searches}
+use Rattle.ub_tree.specs.Effects.{written_store, IsMarkedFirst, Leaves, HasEnded, IsLeft, Works, Changes, Searches}
 use Rattle.ub_tree.specs.Faults.{tree_fault}
 use Rattle.ub_tree.specs.Tree.{known_pages, tree_view}
 use Rattle.ub_tree.specs.Placed.{Placed, ArePlaced, placed_of, regions_in, entry_of}
@@ -83,11 +83,6 @@ pub unmarked : (mark : Option (Bor (List ℕ))) (P : Type 0) → IsNone mark ↔
 unmarked None P h = (λ none. h.0 refl, λ p. refl)
 unmarked (Some page) P h = (λ none. cc, λ p. (let none = h.1 p in cc))
 
--- a page that is refused is one of no sound tree
-pub missing_page : (t : TreeView) (count page : ℕ) (found : List ℕ) → IsSound t → count ≡ length t.store.pages → slice_get t.store.pages page ≡ Some found → (count ≡ 0) ⊎ (count ≤ page) → ⊥
-missing_page t count page found sound is at (inl none) = let lt = slice_get_within t.store.pages page found at in omega arith
-missing_page t count page found sound is at (inr past) = let lt = slice_get_within t.store.pages page found at in omega arith
-
 numbers_get : (schema : Schema) (pages : List (List ℕ)) (entries : List Entry) (i : ℕ) (e : Entry) → slice_get entries i ≡ Some e → slice_get (numbers_of (placed_of schema pages entries)) i ≡ Some e.page
 numbers_get schema pages [] i e at = cc
 numbers_get schema pages (f ∷ entries) zero e at = let same : f ≡ e = cc in ap (λ (x : Entry). Some x.page) same
@@ -116,26 +111,29 @@ pub record IsExtended (old new : StoreFacts) : Type 0 where
   pub honesty : new.honest ≡ old.honest
   pub kept : IsHonest old → (m : ℕ) → m < length old.pages → slice_get new.pages m ≡ slice_get old.pages m
   pub more : length old.pages ≤ length new.pages
+  pub flushed : MayFlush old new
 
 appended_get : (pages : List (List ℕ)) (page : List ℕ) (m : ℕ) → m < length pages → slice_get (pages ++ page ∷ []) m ≡ slice_get pages m
 appended_get [] page m lt = absurd (omega arith)
 appended_get (q ∷ pages) page zero lt = refl
 appended_get (q ∷ pages) page (suc m) lt = appended_get pages page m (omega arith)
 
-pub extended_appends : (page : List ℕ) (old new : StoreFacts) → new.honest ≡ old.honest → Appends page old new → IsExtended old new
-extended_appends page old new honesty a = record {
+pub extended_appends : (page : List ℕ) (old new : StoreFacts) → new.honest ≡ old.honest → MayFlush old new → Appends page old new → IsExtended old new
+extended_appends page old new honesty flushed a = record {
   honesty = honesty;
   kept = λ honest m lt. ap (λ (pages : List (List ℕ)). slice_get pages m) (a.1 honest) ∙ appended_get old.pages page m lt;
   more = (let count = a.0 in omega arith);
+  flushed = flushed;
 }
 
-pub extended_may : (old new : StoreFacts) → new.honest ≡ old.honest → (new.pages ≡ old.pages) ⊎ ((page : List ℕ) × Appends page old new) → IsExtended old new
-extended_may old new honesty (inl same) = record {
+pub extended_may : (old new : StoreFacts) → new.honest ≡ old.honest → MayFlush old new → (new.pages ≡ old.pages) ⊎ ((page : List ℕ) × Appends page old new) → IsExtended old new
+extended_may old new honesty flushed (inl same) = record {
   honesty = honesty;
   kept = λ honest m lt. ap (λ (pages : List (List ℕ)). slice_get pages m) same;
   more = (let count = ap length same in omega arith);
+  flushed = flushed;
 }
-extended_may old new honesty (inr a) = extended_appends a.0 old new honesty a.1
+extended_may old new honesty flushed (inr a) = extended_appends a.0 old new honesty flushed a.1
 
 chain_extended : (pages new : List (List ℕ)) (chain : List ℕ) (entries : List Entry) → ((m : ℕ) → m < length pages → slice_get new m ≡ slice_get pages m) → IsChain pages chain entries → IsChain new chain entries
 chain_extended pages new [] entries kept h = h
@@ -214,6 +212,7 @@ module _ (schema : Schema) (entries : List Entry) (chain : List ℕ) (next rows 
     entries = entries_back schema (known_pages new.store) entries ∙ sym (entries_back schema (known_pages old.store) entries);
     more = extended.more;
     pages = extended.kept;
+    flushed = extended.flushed;
     sound = extended_sound;
   }
 
@@ -228,7 +227,7 @@ module _ (schema : Schema) (entries : List Entry) (chain : List ℕ) (next rows 
 
 -- a directory was made ready, and then a page was added: the tree is then as it was but for that page
 module _ (schema : Schema) (entries : List Entry) (chain : List ℕ) (next rows : ℕ) (changed failed : Bool) (old ready new : PagerView) (U : Type 0) (x : U) (looked : Looks {A = U} old ready (Ok x))
-    (added : Appends zero_page ready.store new.store) (left : new.store ≡ record ready.store { pages = new.store.pages; synced = new.store.synced }) (trace : SameTrace ready new) where
+    (added : Appends zero_page ready.store new.store) (flushed : MayFlush ready.store new.store) (left : new.store ≡ record ready.store { pages = new.store.pages; synced = new.store.synced }) (trace : SameTrace ready new) where
   abbrev at_first : TreeView
   at_first = tree_view schema entries chain next rows changed failed old
 
@@ -239,7 +238,7 @@ module _ (schema : Schema) (entries : List Entry) (chain : List ℕ) (next rows 
   still = ap (λ (p : PagerView). tree_view schema entries chain next rows changed failed p) looked.same
 
   longer : IsExtended ready.store new.store
-  longer = extended_appends zero_page ready.store new.store (ap (λ (s : StoreFacts). s.honest) left) added
+  longer = extended_appends zero_page ready.store new.store (ap (λ (s : StoreFacts). s.honest) left) flushed added
 
   pub ready_leaves : Leaves at_first at_last
   ready_leaves = subst (λ (v : TreeView). Leaves v at_last) still (extended_leaves schema entries chain next rows changed failed ready new longer left trace)
@@ -413,12 +412,6 @@ module _ (schema : Schema) (entries : List Entry) (chain : List ℕ) (next rows 
           let both = split_known (known_pages old.store) (known_pages new.store) (known_is old.store stored.honest) (known_is new.store now) stored.honest stored.placed_are fresh told_left told_right in
           (record { working = stored.working; honest = now; placed_are = both.0 }, both.1)
 
-pub halves_missing : (t : TreeView) (count n page : ℕ) (found : List ℕ) → IsSound t → count ≡ length t.store.pages → n < count → slice_get t.store.pages page ≡ Some found
-    → (count ≡ 0) ⊎ (count ≤ n) ⊎ (count ≤ page) → ⊥
-halves_missing t count n page found sound is there at (inl none) = omega arith
-halves_missing t count n page found sound is there at (inr (inl past)) = omega arith
-halves_missing t count n page found sound is there at (inr (inr past)) = let lt = slice_get_within t.store.pages page found at in omega arith
-
 -- a call that only writes, after pages were added
 module _ (a b c : TreeView) (grown : Leaves a b) where
   more_unless : (changed : Bool) → b.store.honest ≡ a.store.honest → KeepsUnless changed b.store c.store → KeepsUnless changed a.store c.store
@@ -435,16 +428,13 @@ module _ (a b c : TreeView) (grown : Leaves a b) where
     entries = h.entries ∙ grown.entries;
   }
 
-  more_missing : IsPageMissing b → IsPageMissing a
-  more_missing h = (h.0, subst (λ (es : List Entry). Contains es h.0) grown.entries h.1, (let more = grown.more in let past = h.2 in omega arith))
-
   more_faults : (fault : TreeFault) → IsWriteFault b c fault → IsLeft a c fault
   more_faults Full h = absurd h
   more_faults HasFailed h = absurd h
   more_faults Memory h = absurd h
   more_faults (Page page fault) h = absurd h
   more_faults (Store store.Device) h = (subst (λ (v : TreeView). IsTrue v.store.can_fail) grown.same h.0, inr (more_ended (Store store.Device) h.1))
-  more_faults (Store store.NoPage) h = ((λ sound. h.0 (grown.sound sound).1), more_missing h.1, inr (more_ended (Store store.NoPage) h.2))
+  more_faults (Store store.NoPage) h = absurd h
   more_faults (Store store.BadSize) h = absurd h
   more_faults (Store store.Memory) h = absurd h
 
@@ -475,7 +465,7 @@ same_marked : (a : TreeView) → IsMarkedFirst a a
 same_marked a = record { kept = λ honest unmarked m not_first lt. refl; marked = λ sound e. sound.marked e }
 
 pub same_leaves : (a : TreeView) → Leaves a a
-same_leaves a = record { same = refl; entries = refl; more = omega arith; pages = λ honest m lt. refl; sound = λ sound. (refl, sound) }
+same_leaves a = record { same = refl; entries = refl; more = omega arith; pages = λ honest m lt. refl; flushed = inl refl; sound = λ sound. (refl, sound) }
 
 -- a call that only writes is a change
 pub changed_by : {T : Type 0} (r : Result T TreeFault) (a c : TreeView) → Writes a c r → Changes a c r
@@ -497,7 +487,7 @@ searched_left HasFailed a c h = (h.faults, h.same)
 searched_left Memory a c h = subst (λ (v : TreeView). Leaves a v) (sym h.same) (same_leaves a)
 searched_left (Page page fault) a c h = (h.faults.0, inl h.faults.1, h.same)
 searched_left (Store store.Device) a c h = (h.faults, inl h.same)
-searched_left (Store store.NoPage) a c h = (h.faults.0, h.faults.1, inl h.same)
+searched_left (Store store.NoPage) a c h = (h.faults.0, h.faults.1, h.same)
 searched_left (Store store.BadSize) a c h = absurd h.faults
 searched_left (Store store.Memory) a c h = absurd h.faults
 

@@ -1,12 +1,12 @@
 -- What a change of one region does to a tree.
-use Rattle.std.specs.Prelude.{IfSome, ◌≡◌, ◌+◌, ◌-◌, ◌⊎◌, ◌++◌, ℕ, ℤ, pos, suc, Bool, true, false, List, [], ◌∷◌, Some, IsTrue, Result, Err, IfErr, OnOk, length, map, take, drop, replicate, slice_get}
+use Rattle.std.specs.Prelude.{IfSome, ◌≡◌, ◌+◌, ◌-◌, ◌<◌, ◌++◌, ℕ, ℤ, pos, suc, Bool, true, false, List, [], ◌∷◌, Some, IsTrue, Result, Err, IfErr, OnOk, length, map, take, drop, replicate, slice_get}
 use Rattle.std.specs.Bool.{nat_eq}
 use Rattle.std.specs.List.{AllByRecursion, IsDistinct, insert as insert_at}
 use Rattle.ub_region.specs.Regions.{AreTableRows, insert, split_region}
 use Rattle.ub_region.specs.Rows.{Halves}
 use Rattle.ub_zaddr.specs.Address.{last_address}
 use Rattle.ub_tree.specs.Spans.{ArePlaces, first_keys}
-use Rattle.ub_store.specs.Facts.{IsHonest}
+use Rattle.ub_store.specs.Facts.{IsHonest, page_count}
 use Rattle.ub_store.specs.View.{PagerView}
 use Rattle.ub_page.specs.Region.{region_page}
 use Rattle.ub_page.specs.declared.directory.Entry.{Entry}
@@ -15,7 +15,7 @@ use Rattle.ub_table.specs.Region.{Region, IsRegion, keys_of}
 use Rattle.ub_table.specs.declared.row.Key.{Key}
 use Rattle.ub_table.specs.declared.row.Row.{Row}
 use Rattle.ub_table.specs.declared.schema.Schema.{Schema}
-use Rattle.ub_tree.specs.Effects.{written_store, IsPageMissing, IsMarkedFirst, HasEnded, Changes}
+use Rattle.ub_tree.specs.Effects.{written_store, IsMarkedFirst, HasEnded, Changes}
 use Rattle.ub_tree.specs.Placed.{Placed, ArePlaced, entry_of}
 use Rattle.ub_tree.specs.Tree.{tree_view}
 use Rattle.ub_tree.specs.View.{TreeView, IsSound, regions}
@@ -48,7 +48,6 @@ placed_with index news placed = take index placed ++ news ++ drop (suc index) pl
 -- what a call within that only writes can answer, and what it leaves then
 abbrev pub IsWriteFault : TreeView → TreeView → TreeFault → Type 0
 IsWriteFault old new (Store store.Device) = IsTrue old.store.can_fail × HasEnded (Store store.Device) old new
-IsWriteFault old new (Store store.NoPage) = (¬ (IsSound old)) × IsPageMissing old × HasEnded (Store store.NoPage) old new
 IsWriteFault old new _ = ⊥
 
 -- a call within that only writes
@@ -70,7 +69,7 @@ pub record PutsAt {A : Type 0} (seat : SeatView) (page : List ℕ) (old new : Tr
   pub same : OnOk result (IsElsewhereSame old new)
   pub written : PutsRows seat page old new result
   pub count : length new.placed ≡ length old.placed
-  pub faults : IfErr result (λ fault. (fault ≡ Store store.Device) ⊎ (fault ≡ Store store.NoPage))
+  pub faults : IfErr result (λ fault. fault ≡ Store store.Device)
   pub effect : Writes old new result
 
 -- what an extension of the store can answer a tree, and what it leaves of it then, whatever its other parts are
@@ -96,6 +95,10 @@ IsFresh n t = IsDistinct nat_eq (n ∷ (reserved t.inner ++ map (λ p. p.page) t
 -- the seat of a region of the tree
 abbrev pub IsSeatIn : TreeView → SeatView → Type 0
 IsSeatIn t seat = IsSeat (map entry_of t.placed) seat
+
+-- the same, and the store has that region's page
+abbrev pub IsSeatThere : TreeView → SeatView → Type 0
+IsSeatThere t seat = IsSeatIn t seat × (seat.page < page_count t.store)
 
 -- the rows are those of a region which begins as that at an index does, and they stand before the next region
 abbrev pub AreRowsAt : Schema → List Entry → ℕ → List Row → Type 0

@@ -1,7 +1,7 @@
 -- What the calls of a tree leave, in a few words: a call that searches, one that reads regions, one that changes the tree.
 use Rattle.std.specs.Prelude.{◌+◌, ◌≡◌, ◌<◌, ◌≤◌, ◌⊎◌, ◌++◌, ℕ, true, [], ◌∷◌, IsTrue, Result, Ok, Err, IfErr, OnOk, length, map, slice_get, List, Option}
 use Rattle.std.specs.List.{Contains}
-use Rattle.ub_store.specs.Facts.{StoreFacts, IsHonest, IsPage, page_count, raised}
+use Rattle.ub_store.specs.Facts.{StoreFacts, IsHonest, IsPage, MayFlush, page_count, raised}
 use Rattle.ub_table.specs.declared.row.TheConstants.{MAX_ROW_NUMBER}
 use Rattle.ub_page.specs.Region.{IsRegionFault, region_page}
 use Rattle.ub_page.specs.declared.directory.Entry.{Entry}
@@ -91,11 +91,17 @@ IsSpanFault span old (Store store.Device) = IsTrue old.store.can_fail
 IsSpanFault span old (Store store.NoPage) = page_count old.store ≤ span.page
 IsSpanFault span old _ = ⊥
 
+-- the region that is taken in is the one that this one's page spells; it begins as this one does, and stands before the next one
+abbrev pub IsTakenIn : TreeView → Span → Region → Type 0
+IsTakenIn t span region =
+    IsRegion t.schema region × IsHeldBy t.schema.dims span.first span.next region × IsPage t.store span.page (region_page t.schema region)
+
 -- a call that reads this region, whose page is noted first; which region of the tree it is the caller says
 pub record ReadsRegion {A : Type 0} (span : Span) (old new : TreeView) (result : Result A TreeFault) : Type 0 where
   pub same : new ≡ record old { store = read_store result old.store; trace = new.trace; fetches = new.fetches }
   pub noted : (KeepsTrace old new × ((result ≡ Err Failed) ⊎ (result ≡ Err Memory))) ⊎ HasNoted span.page old new
   pub listed : OnOk result (HasNoted span.page old new)
+  pub failed : result ≡ Err Failed → new ≡ old
   pub faults : Contains (spans_of old) span → IfErr result (IsReadFault old)
   pub refused : IfErr result (IsSpanFault span old)
 
@@ -108,12 +114,14 @@ pub record IsMarkedFirst (old new : TreeView) : Type 0 where
 abbrev pub IsFull : TreeView → Type 0
 IsFull t = (4294967295 ≤ page_count t.store) ⊎ (length t.placed ≡ 4294967295)
 
--- the store can have pages more after those that there were, which hold nothing of the tree; all else is as it was
+-- the store can have pages more after those that there were, which hold nothing of the tree; all else is as it was. What lasts
+-- is what lasted before, or the pages that there are now
 pub record Leaves (old new : TreeView) : Type 0 where
   pub same : new ≡ record old { placed = new.placed; store = record old.store { pages = new.store.pages; synced = new.store.synced } }
   pub entries : map entry_of new.placed ≡ map entry_of old.placed
   pub more : page_count old.store ≤ page_count new.store
   pub pages : IsHonest old.store → (m : ℕ) → m < page_count old.store → slice_get new.store.pages m ≡ slice_get old.store.pages m
+  pub flushed : MayFlush old.store new.store
   pub sound : IsSound old → (new.placed ≡ old.placed) × IsSound new
 
 -- a write or an extension met this fault: the tree has failed, with the directory and the counts that it had
@@ -145,7 +153,7 @@ IsLeft old new Failed = IsTrue old.is_failed × (new ≡ old)
 IsLeft old new Memory = Leaves old new
 IsLeft old new (Page page fault) = (¬ (IsSound old)) × IsChangeRefused old page fault × (new ≡ old)
 IsLeft old new (Store store.Device) = IsTrue old.store.can_fail × (HasMissed old new ⊎ HasEnded (Store store.Device) old new)
-IsLeft old new (Store store.NoPage) = (¬ (IsSound old)) × IsPageMissing old × ((new ≡ old) ⊎ HasEnded (Store store.NoPage) old new)
+IsLeft old new (Store store.NoPage) = (¬ (IsSound old)) × IsPageMissing old × (new ≡ old)
 IsLeft old new (Store store.BadSize) = IsFull old × Leaves old new
 IsLeft old new (Store store.Memory) = ⊥
 

@@ -3,6 +3,8 @@ pub mod Placed
 pub mod View
 pub mod Stored
 pub mod Effects
+pub mod Reading
+pub mod Handing
 pub mod Calls
 pub mod Faults
 pub mod Tree

@@ -4,12 +4,12 @@ ghost use Rattle.std.specs.List.{AllByRecursion, insert, list_any};
 ghost use Rattle.ub_page.specs.Bytes.{padded};
 ghost use Rattle.ub_region.specs.Rows.{insert_row, split};
 ghost use Rattle.ub_store.specs.Facts as facts;
-ghost use Rattle.ub_store.specs.Facts.{page_count, zero_page, Appends};
+ghost use Rattle.ub_store.specs.Facts.{page_count, zero_page, Appends, MayFlush};
 ghost use Rattle.ub_store.specs.View.{SameTrace};
 ghost use Rattle.ub_table.specs.Keys.{AreKeysAscending, is_same};
 ghost use Rattle.ub_table.specs.Region.{IsRegion, key_of, keys_of, measures_of};
 ghost use Rattle.ub_tree.specs.Change as spec;
-ghost use Rattle.ub_tree.specs.Change.{AreRowsAt, IsStored, IsSeatIn, IsElsewhereSame, placed_with, IsInserted, IsSplitAt, HasRoom, IsExtensionFault, PutsAt, PutsRows, StoresRows, Writes};
+ghost use Rattle.ub_tree.specs.Change.{AreRowsAt, IsStored, IsSeatIn, IsSeatThere, IsElsewhereSame, placed_with, IsInserted, IsSplitAt, HasRoom, IsExtensionFault, PutsAt, PutsRows, StoresRows, Writes};
 ghost use Rattle.ub_tree.specs.Effects.{Searches, Changes};
 ghost use Rattle.ub_tree.specs.Placed.{Placed, entry_of};
 ghost use Rattle.ub_writing.specs.Marks.{IsMarkPage};
@@ -56,6 +56,7 @@ impl<S: PageStore> Tree<S> {
         ensures rows { facts.IsHonest self.old.store
             → OnOk result ((p : Placed) → slice_get self.old.placed seat.now.index ≡ Some p
             → rows.new ≡ p.region.rows) }
+        ensures there { OnOk result (seat.now.page < page_count self.old.store) }
         ensures effect { Searches self.old self.new result }
     {
         self.read_at(seat, region)?;
@@ -75,6 +76,7 @@ impl<S: PageStore> Tree<S> {
         ensures rows { facts.IsHonest self.old.store
             → OnOk result ((p : Placed) → slice_get self.old.placed seat.now.index ≡ Some p
             → region.new.region.rows ≡ p.region.rows) }
+        ensures there { OnOk result (seat.now.page < page_count self.old.store) }
         ensures effect { Searches self.old self.new result }
     {
         let number = seat.page();
@@ -123,7 +125,7 @@ impl<S: PageStore> Tree<S> {
         rows: &[Row],
         drafts: &mut Drafts,
     ) -> Result<(), TreeFault>
-        requires seat { IsSeatIn self.old seat.now }
+        requires seat { IsSeatThere self.old seat.now }
         requires few { length rows.now ≤ 64 }
         ensures same { OnOk result (IsElsewhereSame self.old self.new) }
         ensures written { IsStored self.old → (p : Placed)
@@ -135,8 +137,7 @@ impl<S: PageStore> Tree<S> {
               region = record { first = p.region.first; rows = rows.now };
             } ∷ []) self.old.placed)) }
         ensures count { length self.new.placed ≡ length self.old.placed }
-        ensures faults { IfErr result (λ fault. (fault ≡ TreeFault.Store StoreFault.Device)
-            ⊎ (fault ≡ TreeFault.Store StoreFault.NoPage)) }
+        ensures faults { IfErr result (λ fault. fault ≡ TreeFault.Store StoreFault.Device) }
         ensures effect { Writes self.old self.new result }
     {
         write_region(&self.schema, seat.first(), rows, &mut drafts.page);
@@ -146,7 +147,7 @@ impl<S: PageStore> Tree<S> {
     // Puts the page that was spelled in the place of that of the region of a seat, and before it the
     // mark, unless the table is marked already. After a fault the tree has failed.
     fn put_page(&mut self, seat: &Seat, drafts: &mut Drafts) -> Result<(), TreeFault>
-        requires { IsSeatIn self.old seat.now }
+        requires { IsSeatThere self.old seat.now }
         ensures { PutsAt seat.now (padded drafts.old.page) self.old self.new result }
     {
         let mark = self.mark(&mut drafts.mark);
@@ -155,15 +156,14 @@ impl<S: PageStore> Tree<S> {
 
     // Puts a page there with this mark, which is given where the table isn't marked.
     fn put_marked(&mut self, mark: Option<&Page>, seat: &Seat, page: &Page) -> Result<(), TreeFault>
-        requires seat { IsSeatIn self.old seat.now }
+        requires seat { IsSeatThere self.old seat.now }
         requires mark { IfSome (option_copied mark)
             (λ page. IsMarkPage self.old.schema page) }
         requires unmarked { IsNone mark ↔ IsTrue self.old.is_changed }
         ensures same { OnOk result (IsElsewhereSame self.old self.new) }
         ensures written { PutsRows seat.now page.now self.old self.new result }
         ensures count { length self.new.placed ≡ length self.old.placed }
-        ensures faults { IfErr result (λ fault. (fault ≡ TreeFault.Store StoreFault.Device)
-            ⊎ (fault ≡ TreeFault.Store StoreFault.NoPage)) }
+        ensures faults { IfErr result (λ fault. fault ≡ TreeFault.Store StoreFault.Device) }
         ensures effect { Writes self.old self.new result }
     {
         match write_page(
@@ -183,15 +183,15 @@ impl<S: PageStore> Tree<S> {
 
     // Puts these halves of the rows of the region of a seat on its page and on a new one. All that
     // can be refused comes before the first page is written, and what the directory needs before the
-    // store has a page more. After a failure of the device that isn't the directory's, or a write
-    // that found no page, the tree has failed.
+    // store has a page more. After a failure of the device that isn't the directory's the tree has
+    // failed.
     fn split(
         &mut self,
         seat: &Seat,
         halves: &Halves<'_>,
         drafts: &mut Drafts,
     ) -> Result<(), TreeFault>
-        requires seat { IsSeatIn self.old seat.now }
+        requires seat { IsSeatThere self.old seat.now }
         requires room { HasRoom seat.now.index halves.now.first self.old }
         requires few { (length halves.now.left.now ≤ 64) × (length halves.now.right.now ≤ 64) }
         ensures same { OnOk result (IsElsewhereSame self.old self.new) }
@@ -245,7 +245,7 @@ impl<S: PageStore> Tree<S> {
         row: &Row,
         room: &mut Room,
     ) -> Result<(), TreeFault>
-        requires seat { IsSeatIn self.old seat.now }
+        requires seat { IsSeatThere self.old seat.now }
         requires key { key.now ≡ key_of self.old.schema.dims row.now }
         requires dims { room.old.region.dims ≡ self.old.schema.dims }
         requires first { room.old.region.region.first ≡ seat.now.first }
@@ -279,7 +279,7 @@ impl<S: PageStore> Tree<S> {
         row: &Row,
         room: &mut Room,
     ) -> Result<(), TreeFault>
-        requires seat { IsSeatIn self.old seat.now }
+        requires seat { IsSeatThere self.old seat.now }
         requires full { length room.old.region.region.rows ≡ self.old.schema.page_rows }
         requires within { index ≤ length room.old.region.region.rows }
         requires room { HasRoom seat.now.index (split self.old.schema.dims
@@ -298,7 +298,7 @@ impl<S: PageStore> Tree<S> {
     // Puts the rows of the region of a seat, of which there is one more than a page holds, on its
     // page and a new one.
     fn split_rows(&mut self, seat: &Seat, rows: &Rows, drafts: &mut Drafts) -> Result<(), TreeFault>
-        requires seat { IsSeatIn self.old seat.now }
+        requires seat { IsSeatThere self.old seat.now }
         requires over { length rows.now ≡ self.old.schema.page_rows + 1 }
         requires room { HasRoom seat.now.index
             (split self.old.schema.dims self.old.schema.page_rows rows.now).first self.old }
@@ -382,6 +382,7 @@ impl<S: PageStore> Tree<S> {
 fn add_page<S: PageStore>(pager: &mut Pager<S>, is_failed: &mut bool) -> Result<u32, TreeFault>
     ensures number { IfOk result (λ n. n ≡ page_count pager.old.store) }
     ensures added { OnOk result (Appends zero_page pager.old.store pager.new.store) }
+    ensures flushed { OnOk result (MayFlush pager.old.store pager.new.store) }
     ensures left { OnOk result (pager.new.store ≡ record pager.old.store {
       pages = pager.new.store.pages;
       synced = pager.new.store.synced;

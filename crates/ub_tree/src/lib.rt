@@ -18,13 +18,18 @@ mod creation;
 pub mod fault;
 pub mod law;
 mod opening;
+pub mod read_fault;
 mod reading;
 pub mod region;
 mod removal;
 mod room;
 mod seats;
+pub mod sink;
 pub mod tree;
+mod walking;
 
 pub use fault::TreeFault;
+pub use read_fault::ReadFault;
 pub use region::Region;
+pub use sink::RegionSink;
 pub use tree::Tree;

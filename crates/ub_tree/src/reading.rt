@@ -25,7 +25,8 @@ pub fn take_region(
 ) -> Result<(), TreeFault>
     ensures dims { OnOk result (region.new.dims ≡ schema.now.dims) }
     ensures on { OnOk result (region.new.region ≡ spec.region_on schema.now page.now) }
-    ensures region { OnOk result (IsRegion schema.now region.new.region) }
+    ensures found { OnOk result (IsRegion schema.now region.new.region
+        × (page.now ≡ region_page schema.now region.new.region)) }
     ensures first { OnOk result (region.new.region.first ≡ first.now) }
     ensures held { OnOk result (IsHeldBy schema.now.dims first.now next region.new.region) }
     ensures exact { (r : Region) → IsRegion schema.now r

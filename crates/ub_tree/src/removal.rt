@@ -4,7 +4,7 @@ ghost use Rattle.ub_region.specs.Joins.{JoinsNext, JoinsBefore, put_rows};
 ghost use Rattle.ub_region.specs.Regions.{settle};
 ghost use Rattle.ub_store.specs.Facts as facts;
 ghost use Rattle.ub_table.specs.Region.{Region, IsRegion};
-ghost use Rattle.ub_tree.specs.Change.{IsStored, IsSeatIn, IsElsewhereSame};
+ghost use Rattle.ub_tree.specs.Change.{IsStored, IsSeatIn, IsSeatThere, IsElsewhereSame};
 ghost use Rattle.ub_tree.specs.Effects.{Searches, Changes};
 ghost use Rattle.ub_tree.specs.Removal.{IsRemoved, IsNotFull};
 ghost use Rattle.ub_tree.specs.View.{IsSound, regions};
@@ -37,7 +37,7 @@ impl<S: PageStore> Tree<S> {
         rows: &[Row],
         drafts: &mut Drafts,
     ) -> Result<(), TreeFault>
-        requires seat { IsSeatIn self.old seat.now }
+        requires seat { IsSeatThere self.old seat.now }
         requires next { IsSeatIn self.old next.now × (next.now.index ≡ seat.now.index + 1) }
         requires few { length rows.now ≤ 64 }
         ensures same { OnOk result (IsElsewhereSame self.old self.new) }
@@ -87,7 +87,7 @@ impl<S: PageStore> Tree<S> {
         requires few { length room.old.rows ≤ self.old.schema.page_rows }
         ensures few { length room.new.rows ≤ self.old.schema.page_rows }
         ensures before { IfOk result (λ found. IfSome found (λ before.
-            IsSeatIn self.old before × (seat.now.index ≡ before.index + 1))) }
+            IsSeatThere self.old before × (seat.now.index ≡ before.index + 1))) }
         ensures joined { facts.IsHonest self.old.store
             → IfOk result (λ found. JoinsBefore self.old.schema.page_rows seat.now.index
             room.old.rows room.new.rows (is_some found) (regions self.old)) }
@@ -108,7 +108,7 @@ impl<S: PageStore> Tree<S> {
     // Puts the rows that are left of the region of a seat on its page. Few rows are joined with
     // those of the next region, or else of the one before, where a page holds both.
     fn settle(&mut self, seat: &Seat, room: &mut Room) -> Result<(), TreeFault>
-        requires seat { IsSeatIn self.old seat.now }
+        requires seat { IsSeatThere self.old seat.now }
         requires few { length room.old.rows ≤ self.old.schema.page_rows }
         ensures same { OnOk result (IsElsewhereSame self.old self.new) }
         ensures written { IsStored self.old
@@ -138,8 +138,8 @@ impl<S: PageStore> Tree<S> {
     /// their rows fit on one page.
     ///
     /// Failed comes where the tree has failed, Page where a page is refused or there is such a row though none is counted,
-    /// Memory where memory was refused, and Store where the store failed in this call or has no such page. After Store the
-    /// tree may have failed; after another fault it is as it was.
+    /// Memory where memory was refused, and Store where the store failed in this call or has no such page. After Store with
+    /// Device the tree may have failed; after another fault it is as it was.
     pub fn remove(&mut self, key: Key) -> Result<bool, TreeFault>
         ensures removed { IsSound self.old
             → IfOk result (λ found. IsRemoved key found self.old self.new) }

@@ -2,7 +2,7 @@ ghost use Rattle.std.specs.Prelude.{◌≡◌, ◌≤◌, [], IsTrue, Err, lengt
 ghost use Rattle.std.specs.List.{Contains};
 ghost use Rattle.ub_page.specs.Region.{empty_region};
 ghost use Rattle.ub_tree.specs.Calls.{StandsAt};
-ghost use Rattle.ub_tree.specs.Effects.{Searches, ReadsRegion};
+ghost use Rattle.ub_tree.specs.Effects.{IsTakenIn, ReadsRegion, Searches};
 ghost use Rattle.ub_tree.specs.Spans.{IsLater, Meets, First};
 ghost use Rattle.ub_tree.specs.View.{IsSound, spans_of};
 
@@ -147,6 +147,7 @@ impl<S: PageStore> Tree<S> {
     pub fn read_region(&mut self, region: &Region, page: &mut RegionPage) -> Result<(), TreeFault>
         ensures dims { OnOk result (page.new.dims ≡ self.old.schema.dims) }
         ensures first { OnOk result (page.new.region.first ≡ region.now.first) }
+        ensures taken { OnOk result (IsTakenIn self.old region.now page.new.region) }
         ensures stands { IsSound self.old → Contains (spans_of self.old) region.now
             → OnOk result (StandsAt self.old.placed region.now.page page.new.region) }
         ensures failed { IsTrue self.old.is_failed → result ≡ Err TreeFault.Failed }

@@ -1,6 +1,6 @@
 -- What is true of each list of cuts, and of the intervals between them.
 use Rattle.std.specs.Prelude.{◌≡◌, ℕ, suc, ◌≤◌, ◌<◌, List, [], ◌∷◌}
-use Rattle.ub_boxes.specs.Cuts.{greatest}
+use Rattle.ub_table.specs.Value.{greatest}
 use Rattle.ub_boxes.specs.declared.interval.Interval.{Interval}
 
 -- the numbers ascend from one above the first, and are coordinates

@@ -1,16 +1,16 @@
 -- The regions of a tree that a sweep awaits, with their event values, and the order of the sweep as a comparison.
-use Rattle.std.specs.Prelude.{ℕ, Bool, true, false, List, Option, Some, map}
-use Rattle.std.specs.List.{AllByRecursion, Contains}
+use Rattle.std.specs.Prelude.{◌≡◌, ◌<◌, ℕ, Bool, true, false, All, List, Option, Some, length, map}
+use Rattle.std.specs.List.{AllByRecursion}
 use Rattle.std.specs.List.Sorted.{IsPermutation, IsSorted}
 use Rattle.std.specs.Ordering.{nat_cmp, ordering_then}
 use Rattle.std.specs.declared.cmp.Ordering.{Ordering}
 use Rattle.ub_bigmin.specs.Box.{Corners, IsValueInSpan}
 use Rattle.ub_bigmin.specs.Extremes.{Least, Greatest}
-use Rattle.ub_region.specs.Those.{AreThose}
+use Rattle.ub_tetris.specs.declared.awaiting.MetRegions.{MetRegions}
 use Rattle.ub_tetris.specs.declared.course.Course.{Course}
 use Rattle.ub_tetris.specs.declared.event.Awaited.{Awaited}
-use Rattle.ub_tree.specs.Spans.{Meets}
-use Rattle.ub_tree.specs.View.{TreeView, IsSound, spans_of}
+use Rattle.ub_tree.specs.Handing.{AreMetBy}
+use Rattle.ub_tree.specs.View.{TreeView}
 use Rattle.ub_tree.specs.declared.region.Region.{Region}
 
 -- the first along the sweep of a set of coordinates, if there is one
@@ -22,18 +22,24 @@ IsFirstOn true P found = Greatest P found
 abbrev pub IsFirstValue : List Corners → ℕ → Bool → Region → ℕ → Type 0
 IsFirstValue boxes dim is_descending region v = IsFirstOn is_descending (IsValueInSpan boxes region.from region.to dim) (Some v)
 
--- each has its event value, and is a region of the tree
-abbrev pub AreValued : List Corners → Course → TreeView → List Awaited → Type 0
-AreValued boxes course t awaited =
-    AllByRecursion (λ a. IsFirstValue boxes course.dim course.is_descending a.region a.value × Contains (spans_of t) a.region) awaited
+-- each has its event value
+abbrev pub AreValued : List Corners → Course → List Awaited → Type 0
+AreValued boxes course awaited = AllByRecursion (λ a. IsFirstValue boxes course.dim course.is_descending a.region a.value) awaited
 
 abbrev pub regions_awaited : List Awaited → List Region
 regions_awaited awaited = map (λ a. a.region) awaited
 
--- regions of the tree with their event values; of a sound one those that meet the boxes, in the order of their first keys
+-- the regions of the tree that meet the boxes, with their event values
 pub record AreMet (boxes : List Corners) (course : Course) (t : TreeView) (awaited : List Awaited) : Type 0 where
-  pub valued : AreValued boxes course t awaited
-  pub those : IsSound t → AreThose (Meets boxes) (spans_of t) (regions_awaited awaited)
+  pub valued : AreValued boxes course awaited
+  pub met : AreMetBy boxes t (regions_awaited awaited)
+
+-- these regions were put in with their event values, along a course in a dimension that the boxes have
+pub record HasMet (boxes : List Corners) (start : MetRegions) (taken : List Region) (now : MetRegions) : Type 0 where
+  pub course : now.course ≡ start.course
+  pub within : All (λ b. now.course.dim < length b.lo) boxes
+  pub valued : AreValued boxes now.course now.awaited.items
+  pub regions : regions_awaited now.awaited.items ≡ taken
 
 -- coordinates along the sweep
 abbrev pub along_cmp : Bool → ℕ → ℕ → Ordering

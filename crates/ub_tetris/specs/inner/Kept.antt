@@ -1,5 +1,5 @@
 -- The rows held as a heap stores them, and which of them is the first.
-use Rattle.std.specs.Prelude.{◌≡◌, [], ◌∷◌, ℕ, ℤ, List, Option, Some, None, map, Contains}
+use Rattle.std.specs.Prelude.{◌≡◌, ◌++◌, [], ◌∷◌, ℕ, ℤ, List, Option, Some, None, map, Contains}
 use Rattle.std.specs.Cmp.{IsTotalOrder, back_total, int_cmp_total, nat_cmp_total, on_total, then_total}
 use Rattle.std.specs.Cmp.Lexicographic.{lists_total, slice_cmp}
 use Rattle.std.specs.List.{AllByRecursion}
@@ -7,8 +7,10 @@ use Rattle.std.specs.List.Sorted.{IsPermutation}
 use Rattle.std.specs.Ordering.{nat_cmp, int_cmp, ordering_then}
 use Rattle.std.specs.declared.cmp.Ordering.{Ordering}
 use Rattle.std.specs.declared.cmp.Ordering.TheVariants.{Less}
+use Rattle.ub_query.specs.declared.query.SortKey.{SortKey}
 use Rattle.ub_table.specs.declared.row.Row.{Row}
-use Rattle.ub_tetris.specs.Held.{HeldRow}
+use Rattle.ub_table.specs.declared.schema.Schema.{Schema}
+use Rattle.ub_tetris.specs.Held.{HeldRow, held_row}
 use Rattle.ub_tetris.specs.declared.ranked.Ranked.{Ranked}
 use Rattle.ub_tetris.specs.inner.Firsts.{first_of}
 
@@ -52,3 +54,7 @@ IsFirstOf held (Some row) = (first : HeldRow) × Contains held first × (first.r
 abbrev pub TakesFirst : List HeldRow → List HeldRow → Option Row → Type 0
 TakesFirst held left None = (held ≡ []) × (left ≡ [])
 TakesFirst held left (Some row) = (first : HeldRow) × IsPermutation held (first ∷ left) × (first.row ≡ row) × IsFirstAmong first left
+
+-- some rows are held by these keys beside those that were
+abbrev pub HoldsAlso : Schema → List SortKey → List Row → List HeldRow → List HeldRow → Type 0
+HoldsAlso schema keys rows old new = IsPermutation (old ++ map (held_row schema keys) rows) new

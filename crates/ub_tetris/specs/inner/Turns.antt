@@ -1,20 +1,16 @@
 -- What the turns of a sweep do to its state: the next region is fetched, or the first row is taken.
-use Rattle.std.specs.Prelude.{◌≡◌, ◌++◌, ◌+◌, ◌⊎◌, Bool, false, true, not, List, [], Option, Some, None, map, drop, slice_get, slice_index}
+use Rattle.std.specs.Prelude.{◌≡◌, ◌+◌, ◌⊎◌, Bool, false, true, not, List, [], Option, Some, None, map, drop, slice_get, slice_index}
 use Rattle.std.specs.List.{filter, Contains}
-use Rattle.std.specs.List.Sorted.{IsPermutation}
-use Rattle.ub_plan.specs.Choice.{is_chosen}
-use Rattle.ub_plan.specs.Plan.{PlanView}
-use Rattle.ub_plan.specs.Visits.{is_past}
-use Rattle.ub_plan.specs.declared.choice.Choice.{Choice}
-use Rattle.ub_query.specs.declared.query.SortKey.{SortKey}
+use Rattle.ub_filter.specs.Choice.{is_chosen}
+use Rattle.ub_planning.specs.Plan.{PlanView}
+use Rattle.ub_planning.specs.Visits.{is_past}
+use Rattle.ub_filter.specs.declared.choice.Choice.{Choice}
 use Rattle.ub_table.specs.declared.row.Row.{Row}
-use Rattle.ub_table.specs.declared.schema.Schema.{Schema}
-use Rattle.ub_tetris.specs.Held.{HeldRow, held_row}
 use Rattle.ub_tetris.specs.Sweep.{AwaitedRegion, SweepView}
 use Rattle.ub_tetris.specs.declared.course.Course.{Course}
 use Rattle.ub_tetris.specs.declared.event.Awaited.{Awaited}
 use Rattle.ub_tetris.specs.declared.state.State.{State}
-use Rattle.ub_tetris.specs.inner.Kept.{IsFirstOf}
+use Rattle.ub_tetris.specs.inner.Kept.{HoldsAlso, IsFirstOf}
 use Rattle.ub_tree.specs.Effects.{HasNoted}
 use Rattle.ub_tree.specs.Placed.{Placed}
 use Rattle.ub_tree.specs.View.{TreeView, IsSound, KeepsTrace, spans_of}
@@ -47,10 +43,6 @@ is_due_by course (Some awaited) (Some row) = not (is_past course.is_descending (
 
 abbrev pub IsDue : State → Bool → Type 0
 IsDue s due = (first : Option Row) × IsFirstOf s.held first × (due ≡ is_due_by s.course (slice_get s.queue.items s.fetched) first)
-
--- some rows are held by these keys beside those that were
-abbrev pub HoldsAlso : Schema → List SortKey → List Row → List HeldRow → List HeldRow → Type 0
-HoldsAlso schema keys rows old new = IsPermutation (old ++ map (held_row schema keys) rows) new
 
 -- one region more is behind
 abbrev pub IsOnward : State → State → Type 0

@@ -2,7 +2,7 @@ use Rattle.std.proofs.Common.{rules}
 use Rattle.ub_exec.proofs.executing.execute.Goals as goal
 
 pub returns-clause-rows : goal.returns-clause-rows
-returns-clause-rows g c = search rules
+returns-clause-rows g c ready = c.in_ok-rows.ensures.rows ready
 
 pub returns-clause-pages : goal.returns-clause-pages
 returns-clause-pages g c = search rules

@@ -1,11 +1,11 @@
 use Rattle.std.proofs.Common.{◌≡◌, ◌⊎◌, inl, inr, ℕ, IfOk, OnOk, subst, sym}
 use Rattle.std.specs.Prelude.{OnErr}
-use Rattle.ub_exec.proofs.KeptFacts.{Keeps-by, begun_traced, reads_then}
+use Rattle.ub_tree.proofs.Laws.{Keeps-by, begun_traced, reads_then}
 use Rattle.ub_exec.specs.Answers.{IsReady, IsAnswer, IsSwept, begun}
 use Rattle.ub_exec.specs.Visits.{HasFetched, HasFetchedFirst}
-use Rattle.ub_plan.specs.Plan.{PlanView, plan_of}
-use Rattle.ub_plan.specs.declared.planned.Kind.{Kind}
-use Rattle.ub_plan.specs.declared.planned.Kind.TheVariants.{Empty, Scan, Sweep}
+use Rattle.ub_planning.specs.Plan.{PlanView, plan_of}
+use Rattle.ub_planning.specs.declared.planned.Kind.{Kind}
+use Rattle.ub_planning.specs.declared.planned.Kind.TheVariants.{Empty, Scan, Sweep}
 use Rattle.ub_table.specs.declared.schema.Schema.{Schema}
 use Rattle.ub_tree.specs.View.{TreeView}
 use Rattle.ub_exec.proofs.executing.result_rows.Goals as goal

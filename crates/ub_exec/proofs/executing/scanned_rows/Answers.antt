@@ -1,11 +1,15 @@
-use Rattle.std.proofs.Common.{◌≡◌, ◌≢◌, ◌∙◌, Bool, true, false, [], Some, ap, refl, subst, sym}
+use Rattle.std.proofs.Common.{◌≡◌, ◌≢◌, ◌∙◌, Bool, true, false, List, [], Some, ap, refl, subst, sym}
+use Rattle.std.proofs.lemmas.List.{append-nil}
 use Rattle.std.specs.List.{filter}
 use Rattle.ub_answer.specs.Gathered.{IsGathered}
+use Rattle.ub_answer.specs.Sink.{HasGathered}
+use Rattle.ub_answer.specs.declared.gathering.Gathering.{Gathering}
 use Rattle.ub_exec.proofs.FirstFacts.{all_fetched, on_err, walked_first}
 use Rattle.ub_exec.proofs.MeantFacts.{nothing_fetched, walk_fetched, answered}
-use Rattle.ub_plan.specs.Choice.{is_chosen}
-use Rattle.ub_plan.proofs.Laws.{limit_of_zero_means_nothing}
+use Rattle.ub_filter.specs.Choice.{is_chosen}
+use Rattle.ub_planning.proofs.Laws.{limit_of_zero_means_nothing}
 use Rattle.ub_query.specs.Shape.{Asked, asked}
+use Rattle.ub_table.specs.declared.row.Row.{Row}
 use Rattle.ub_table.specs.declared.schema.Schema.{Schema}
 use Rattle.ub_tree.specs.View.{TreeView}
 use Rattle.ub_exec.proofs.executing.scanned_rows.Goals as goal
@@ -23,6 +27,10 @@ returns-then-asks_for_none-clause-pages g c ready apart =
     let limit = sym (ap (λ (q : Asked). q.limit) c.query-query.ensures) ∙ c.asks_for_none.ensures.0 c.if-asks_for_none.true in
     nothing_fetched _ _ _ ready.planned limit refl refl
 
+-- a gathering that was handed nothing has taken nothing more
+none_taken : (schema : Schema) (q : Asked) (gathering : Gathering) → HasGathered schema q gathering [] gathering
+none_taken schema q gathering first has = subst (λ (rows : List Row). IsGathered schema q rows gathering) (sym (append-nil first)) has
+
 pub returns-clause-rows : goal.returns-clause-rows
 returns-clause-rows g c ready rows are =
     let query = asked c.query-query.result.now in
@@ -30,32 +38,26 @@ returns-clause-rows g c ready rows are =
     let some : c.args.plan.now.asked.limit ≢ Some 0 = λ none. absurd (is_some c.asks_for_none.result c.if-asks_for_none.false (c.asks_for_none.ensures.1 (ap (λ (q : Asked). q.limit) same ∙ none))) in
     let f = is_chosen c.of-choice.result c.args.tree.now.schema c.args.plan.now in
     let begun = subst (λ (q : Asked). IsGathered c.args.tree.now.schema q [] c.new-gathering.result) same (subst (λ (s : Schema). IsGathered s query [] c.new-gathering.result) c.schema.ensures c.new-gathering.ensures.gathered) in
-    let (handed, held, walk) = c.in_ok-walk.ensures.rows [] begun in
+    let (handed, held, walk) = c.in_ok-walk.ensures.rows c.new-gathering.result [] (none_taken c.args.tree.now.schema c.args.plan.now.asked c.new-gathering.result) in
     let after : c.schema-3.result.now ≡ c.args.tree.now.schema = c.schema-3.ensures ∙ ap (λ (t : TreeView). t.schema) c.in_ok-walk.ensures.effect.same in
     answered c.args.tree.now ready.sound rows are c.args.plan.now ready.planned some c.of-choice.result query same c.walk.new.tree handed (walk ready.sound) _
     (λ table condition schema order numbers chosen.
-    c.in_ok-finish.ensures table condition (filter f handed) (schema ∙ sym after) order numbers chosen
-    (subst (λ (q : Asked). IsGathered c.schema-3.result.now q (filter f handed) c.walk.new.taker) (sym same)
-    (subst (λ (s : Schema). IsGathered s c.args.plan.now.asked (filter f handed) c.walk.new.taker) (sym after) held)))
+    c.in_ok-finish.ensures.answer table condition (filter f handed) (schema ∙ sym after) order numbers chosen
+    (subst (λ (q : Asked). IsGathered c.schema-3.result.now q (filter f handed) c.walk.new.sink) (sym same)
+    (subst (λ (s : Schema). IsGathered s c.args.plan.now.asked (filter f handed) c.walk.new.sink) (sym after) (held [] begun))))
 
 pub returns-clause-pages : goal.returns-clause-pages
 returns-clause-pages g c ready apart =
-    let query = asked c.query-query.result.now in
-    let same : query ≡ c.args.plan.now.asked = c.query-query.ensures in
-    let begun = subst (λ (q : Asked). IsGathered c.args.tree.now.schema q [] c.new-gathering.result) same (subst (λ (s : Schema). IsGathered s query [] c.new-gathering.result) c.schema.ensures c.new-gathering.ensures.gathered) in
-    let (handed, held, walk) = c.in_ok-walk.ensures.rows [] begun in
+    let (handed, held, walk) = c.in_ok-walk.ensures.rows c.new-gathering.result [] (none_taken c.args.tree.now.schema c.args.plan.now.asked c.new-gathering.result) in
     walk_fetched c.args.plan.now c.args.tree.now c.walk.new.tree handed ready.sound ready.planned apart (walk ready.sound)
 
 pub returns-in_err-walk-clause-broken : goal.returns-in_err-walk-clause-broken
 returns-in_err-walk-clause-broken g c ready apart =
-    let query = asked c.query-query.result.now in
-    let begun = subst (λ (q : Asked). IsGathered c.args.tree.now.schema q [] c.new-gathering.result) c.query-query.ensures (subst (λ (s : Schema). IsGathered s query [] c.new-gathering.result) c.schema.ensures c.new-gathering.ensures.gathered) in
-    on_err c.from_residual.result _ (walked_first c.args.plan.now c.args.tree.now c.walk.new.tree ready apart (c.in_err-walk.ensures.broken [] begun ready.sound))
+    let nothing = none_taken c.args.tree.now.schema c.args.plan.now.asked c.new-gathering.result in
+    on_err c.from_residual.result _ (walked_first c.args.plan.now c.args.tree.now c.walk.new.tree ready apart (c.in_err-walk.ensures.broken c.new-gathering.result [] nothing ready.sound))
 
 pub returns-in_err-finish-clause-broken : goal.returns-in_err-finish-clause-broken
 returns-in_err-finish-clause-broken g c ready apart =
-    let query = asked c.query-query.result.now in
-    let begun = subst (λ (q : Asked). IsGathered c.args.tree.now.schema q [] c.new-gathering.result) c.query-query.ensures (subst (λ (s : Schema). IsGathered s query [] c.new-gathering.result) c.schema.ensures c.new-gathering.ensures.gathered) in
-    let (handed, held, walk) = c.in_ok-walk.ensures.rows [] begun in
+    let (handed, held, walk) = c.in_ok-walk.ensures.rows c.new-gathering.result [] (none_taken c.args.tree.now.schema c.args.plan.now.asked c.new-gathering.result) in
     on_err c.from_residual-in_err-finish.result _
     (all_fetched c.args.plan.now c.args.tree.now c.walk.new.tree (walk_fetched c.args.plan.now c.args.tree.now c.walk.new.tree handed ready.sound ready.planned apart (walk ready.sound)))

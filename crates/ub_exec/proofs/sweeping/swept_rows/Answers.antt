@@ -3,7 +3,7 @@ use Rattle.std.proofs.lemmas.List.{length-map}
 use Rattle.std.specs.List.{AllByRecursion}
 use Rattle.ub_exec.proofs.BreakFacts.{ready_begun, swept_after, swept_before}
 use Rattle.ub_exec.proofs.FirstFacts.{none_fetched, on_err}
-use Rattle.ub_exec.proofs.KeptFacts.{Keeps-by, Keeps-more, begun_traced, reads_by}
+use Rattle.ub_tree.proofs.Laws.{Keeps-by, Keeps-more, begun_traced, reads_by}
 use Rattle.ub_exec.proofs.SweptFacts.{HasSwept, HasSwept-none, HasSwept-more, swept_kind, begun_fetches, noted_more, wide_more, end_is, at_end, ended_fetched, ended_answered, filled_fetched, filled_answered}
 use Rattle.ub_query.specs.Cells.{row_cell}
 use Rattle.ub_query.specs.Shape.{Asked, asked}

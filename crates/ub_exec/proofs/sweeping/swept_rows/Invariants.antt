@@ -1,6 +1,6 @@
 use Rattle.std.proofs.Common.{◌≡◌, ◌≤◌, false, length}
 use Rattle.std.specs.List.{AllByRecursion}
-use Rattle.ub_exec.proofs.KeptFacts.{Keeps}
+use Rattle.ub_tree.proofs.Laws.{Keeps}
 use Rattle.ub_exec.proofs.SweptFacts.{HasSwept}
 use Rattle.ub_exec.specs.Answers.{IsReady, IsSwept}
 use Rattle.ub_exec.specs.Visits.{fetches_then}

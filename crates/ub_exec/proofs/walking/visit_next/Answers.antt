@@ -2,7 +2,7 @@ use Rattle.std.proofs.Common.{◌≡◌, ◌∙◌, inl, inr, List, [], Some, No
 use Rattle.std.proofs.lemmas.List.{append-nil}
 use Rattle.std.specs.Option.{option_copied}
 use Rattle.ub_bigmin.specs.Box.{Corners}
-use Rattle.ub_exec.proofs.KeptFacts.{Keeps-by, tree_fault, unchanged_trace, unchanged_traced}
+use Rattle.ub_tree.proofs.Laws.{Keeps-by, tree_reads, unchanged_trace, unchanged_traced}
 use Rattle.ub_exec.proofs.FirstFacts.{asked_some, on_err}
 use Rattle.ub_exec.proofs.WalkFacts.{visited_by}
 use Rattle.ub_table.specs.declared.row.Row.{Row}
@@ -12,9 +12,9 @@ use Rattle.ub_tree.specs.View.{TreeView, spans_of}
 use Rattle.ub_exec.proofs.walking.visit_next.Goals as goal
 
 pub returns-in_default-clause-rows : goal.returns-in_default-clause-rows
-returns-in_default-clause-rows g c taken has = (
+returns-in_default-clause-rows g c before taken has = (
   [],
-  subst (λ (rows : List Row). g.T.Taker.HasTaken c.args.tree.now.schema c.args.plan.now.asked rows c.args.taker.now) (sym (append-nil taken)) has,
+  subst (λ (rows : List Row). g.K.RowSink.HasTaken c.args.tree.now.schema c.args.plan.now.asked before rows c.args.sink.now) (sym (append-nil taken)) has,
   λ sound. (
     subst (λ (boxes : List Corners). First (λ s. IsLater (option_copied c.args.after) s × Meets boxes s) (spans_of c.args.tree.now) None) c.boxes.ensures.boxes (rw c.in_default.is at c.in_ok-region.ensures.found),
     unchanged_trace c.args.tree.now c.next_meeting.new.self c.in_ok-region.ensures.effect.same,
@@ -23,12 +23,12 @@ returns-in_default-clause-rows g c taken has = (
 )
 
 pub returns-clause-rows : goal.returns-clause-rows
-returns-clause-rows g c taken has =
+returns-clause-rows g c before taken has =
     let same = c.in_ok-region.ensures.effect.same in
     let schema : c.schema.result.now ≡ c.args.tree.now.schema =
     c.schema.ensures ∙ ap (λ (t : TreeView). t.schema) c.in_ok-read_region.ensures.effect.same ∙ ap (λ (t : TreeView). t.schema) same in (
       c.read_region.new.page.region.rows,
-      (rw schema at (c.in_ok-hand_over.ensures taken)) has,
+      (rw schema at (c.in_ok-push_chosen.ensures before taken)) has,
       λ sound. visited_by c.args.tree.now _ c.read_region.new.self _ _ c.in-Some.region c.read_region.new.page.region _ sound
           (subst (λ (boxes : List Corners). First (λ s. IsLater (option_copied c.args.after) s × Meets boxes s) (spans_of c.args.tree.now) (Some c.in-Some.region)) c.boxes.ensures.boxes (rw c.in-Some.is at c.in_ok-region.ensures.found))
           (Keeps-by _ _ (unchanged_traced _ _ same)) (unchanged_trace _ _ same) c.in_ok-read_region.ensures.stands c.in_ok-read_region.ensures.first c.in_ok-read_region.ensures.effect.listed refl,
@@ -38,7 +38,7 @@ pub returns-in_err-read_region-clause-effect : goal.returns-in_err-read_region-c
 returns-in_err-read_region-clause-effect g c =
     let same = c.in_ok-region.ensures.effect.same in
     let first = rw c.in-Some.is at c.in_ok-region.ensures.found in
-    tree_fault c.from_residual-in_err-read_region.result _ c.args.tree.now _ c.read_region.new.self c.from_residual-in_err-read_region.ensures.1 (unchanged_traced _ _ same) c.in_err-read_region.ensures.effect.same
+    tree_reads c.from_residual-in_err-read_region.result _ c.args.tree.now _ c.read_region.new.self c.from_residual-in_err-read_region.ensures.1 (unchanged_traced _ _ same) c.in_err-read_region.ensures.effect.same
     (c.in_err-read_region.ensures.effect.faults (subst (λ (t : TreeView). Contains (spans_of t) c.in-Some.region) (sym same) first.0))
 
 pub returns-in_err-region-clause-broken : goal.returns-in_err-region-clause-broken
@@ -53,10 +53,10 @@ returns-in_err-read_region-clause-broken g c sound =
     (subst (λ (boxes : List Corners). First (λ s. IsLater (option_copied c.args.after) s × Meets boxes s) (spans_of c.args.tree.now) (Some c.in-Some.region)) c.boxes.ensures.boxes (rw c.in-Some.is at c.in_ok-region.ensures.found))
     (Keeps-by c.args.tree.now c.next_meeting.new.self (unchanged_traced c.args.tree.now c.next_meeting.new.self same)) (unchanged_trace c.args.tree.now c.next_meeting.new.self same) (either_noted _ c.next_meeting.new.self c.read_region.new.self _ c.in_err-read_region.ensures.effect.noted))
 
-pub returns-in_err-hand_over-clause-broken : goal.returns-in_err-hand_over-clause-broken
-returns-in_err-hand_over-clause-broken g c sound =
+pub returns-in_err-push_chosen-clause-broken : goal.returns-in_err-push_chosen-clause-broken
+returns-in_err-push_chosen-clause-broken g c sound =
     let same = c.in_ok-region.ensures.effect.same in
-    on_err c.from_residual-in_err-hand_over.result _
+    on_err c.from_residual-in_err-push_chosen.result _
     (asked_some c.args.tree.now c.next_meeting.new.self c.read_region.new.self _ _ c.in-Some.region sound
     (subst (λ (boxes : List Corners). First (λ s. IsLater (option_copied c.args.after) s × Meets boxes s) (spans_of c.args.tree.now) (Some c.in-Some.region)) c.boxes.ensures.boxes (rw c.in-Some.is at c.in_ok-region.ensures.found))
     (Keeps-by c.args.tree.now c.next_meeting.new.self (unchanged_traced c.args.tree.now c.next_meeting.new.self same)) (unchanged_trace c.args.tree.now c.next_meeting.new.self same) (inr c.in_ok-read_region.ensures.effect.listed))

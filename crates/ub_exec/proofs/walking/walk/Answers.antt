@@ -2,9 +2,9 @@ use Rattle.std.proofs.Common.{◌++◌, ◌+◌, List, [], sym, subst, arith}
 use Rattle.std.proofs.lemmas.List.{append-nil}
 use Rattle.std.specs.List.{filter}
 use Rattle.ub_exec.proofs.FirstFacts.{on_err, turned_first}
-use Rattle.ub_exec.proofs.KeptFacts.{Keeps-by, Keeps-more, Keeps-none}
+use Rattle.ub_tree.proofs.Laws.{Keeps-by, Keeps-more, Keeps-none}
 use Rattle.ub_exec.proofs.WalkFacts.{HasCome-none, ended_by, turned_to, handed_more}
-use Rattle.ub_plan.specs.Choice.{is_chosen}
+use Rattle.ub_filter.specs.Choice.{is_chosen}
 use Rattle.ub_table.specs.declared.row.Row.{Row}
 use Rattle.ub_table.specs.declared.schema.Schema.{Schema}
 use Rattle.ub_exec.proofs.walking.walk.Goals as goal
@@ -12,24 +12,24 @@ use Rattle.ub_exec.proofs.walking.walk.Goals as goal
 pub loop-turn-init : goal.loop-turn-init
 loop-turn-init g c = record {
   kept = Keeps-none c.args.tree.now;
-  come = λ taken has. (
+  come = λ before taken has. (
     [],
-    subst (λ (rows : List Row). g.T.Taker.HasTaken c.args.tree.now.schema c.args.plan.now.asked rows c.args.taker.now) (sym (append-nil taken)) has,
+    subst (λ (rows : List Row). g.K.RowSink.HasTaken c.args.tree.now.schema c.args.plan.now.asked before rows c.args.sink.now) (sym (append-nil taken)) has,
     λ sound. HasCome-none c.args.plan.now.covering.boxes c.args.tree.now,
   );
 }
 
 pub returns-then-is_none-clause-rows : goal.returns-then-is_none-clause-rows
-returns-then-is_none-clause-rows g c taken has =
+returns-then-is_none-clause-rows g c before taken has =
     let inv = c.loop-turn.invariant in
-    let (rows, held, come) = inv.come taken has in
+    let (rows, held, come) = inv.come before taken has in
     let schema = inv.kept.regions.schema in
     let asked = c.args.plan.now.asked in
-    let (more, then, turn) = c.in_ok-after.ensures.rows (taken ++ filter (is_chosen c.args.choice c.args.tree.now.schema c.args.plan.now) rows)
-    (subst (λ (s : Schema). g.T.Taker.HasTaken s asked (taken ++ filter (is_chosen c.args.choice c.args.tree.now.schema c.args.plan.now) rows) c.loop-turn.taker) (sym schema) held) in (
+    let (more, then, turn) = c.in_ok-after.ensures.rows before (taken ++ filter (is_chosen c.args.choice c.args.tree.now.schema c.args.plan.now) rows)
+    (subst (λ (s : Schema). g.K.RowSink.HasTaken s asked before (taken ++ filter (is_chosen c.args.choice c.args.tree.now.schema c.args.plan.now) rows) c.loop-turn.sink) (sym schema) held) in (
       rows ++ more,
-      subst (λ (rs : List Row). g.T.Taker.HasTaken c.args.tree.now.schema asked rs c.visit_next.new.taker) (handed_more (is_chosen c.args.choice c.args.tree.now.schema c.args.plan.now) taken rows more)
-          (subst (λ (s : Schema). g.T.Taker.HasTaken s asked ((taken ++ filter (is_chosen c.args.choice c.args.tree.now.schema c.args.plan.now) rows) ++ filter (is_chosen c.args.choice s c.args.plan.now) more) c.visit_next.new.taker) schema then),
+      subst (λ (rs : List Row). g.K.RowSink.HasTaken c.args.tree.now.schema asked before rs c.visit_next.new.sink) (handed_more (is_chosen c.args.choice c.args.tree.now.schema c.args.plan.now) taken rows more)
+          (subst (λ (s : Schema). g.K.RowSink.HasTaken s asked before ((taken ++ filter (is_chosen c.args.choice c.args.tree.now.schema c.args.plan.now) rows) ++ filter (is_chosen c.args.choice s c.args.plan.now) more) c.visit_next.new.sink) schema then),
       λ sound. ended_by c.args.plan.now.covering.boxes c.loop-turn._turn c.args.tree.now c.loop-turn.tree c.visit_next.new.tree sound inv.kept c.loop-turn.after rows more (come sound)
           c.in_ok-after.after _ c.as_ref.ensures.value c.if-is_none.ensures (turn (inv.kept.sound sound)),
     )
@@ -41,22 +41,22 @@ loop-turn-preserved g c =
     let asked = c.args.plan.now.asked in
     record {
       kept = Keeps-more _ _ _ inv.kept (Keeps-by _ _ c.in_ok-after.ensures.effect.same);
-      come = λ taken has.
-          let (rows, held, come) = inv.come taken has in
-          let (more, then, turn) = c.in_ok-after.ensures.rows (taken ++ filter (is_chosen c.args.choice c.args.tree.now.schema c.args.plan.now) rows)
-          (subst (λ (s : Schema). g.T.Taker.HasTaken s asked (taken ++ filter (is_chosen c.args.choice c.args.tree.now.schema c.args.plan.now) rows) c.loop-turn.taker) (sym schema) held) in (
+      come = λ before taken has.
+          let (rows, held, come) = inv.come before taken has in
+          let (more, then, turn) = c.in_ok-after.ensures.rows before (taken ++ filter (is_chosen c.args.choice c.args.tree.now.schema c.args.plan.now) rows)
+          (subst (λ (s : Schema). g.K.RowSink.HasTaken s asked before (taken ++ filter (is_chosen c.args.choice c.args.tree.now.schema c.args.plan.now) rows) c.loop-turn.sink) (sym schema) held) in (
             rows ++ more,
-            subst (λ (rs : List Row). g.T.Taker.HasTaken c.args.tree.now.schema asked rs c.visit_next.new.taker) (handed_more (is_chosen c.args.choice c.args.tree.now.schema c.args.plan.now) taken rows more)
-                (subst (λ (s : Schema). g.T.Taker.HasTaken s asked ((taken ++ filter (is_chosen c.args.choice c.args.tree.now.schema c.args.plan.now) rows) ++ filter (is_chosen c.args.choice s c.args.plan.now) more) c.visit_next.new.taker) schema then),
+            subst (λ (rs : List Row). g.K.RowSink.HasTaken c.args.tree.now.schema asked before rs c.visit_next.new.sink) (handed_more (is_chosen c.args.choice c.args.tree.now.schema c.args.plan.now) taken rows more)
+                (subst (λ (s : Schema). g.K.RowSink.HasTaken s asked before ((taken ++ filter (is_chosen c.args.choice c.args.tree.now.schema c.args.plan.now) rows) ++ filter (is_chosen c.args.choice s c.args.plan.now) more) c.visit_next.new.sink) schema then),
             λ sound. turned_to c.args.plan.now.covering.boxes c.loop-turn._turn c.args.tree.now c.loop-turn.tree c.visit_next.new.tree sound inv.kept c.loop-turn.after rows more (come sound)
                 (c.loop-turn._turn + 1) c.in_ok-after.after _ (omega arith) c.as_ref.ensures.value c.if-is_none.ensures (turn (inv.kept.sound sound)),
           );
     }
 
 pub returns-in_err-after-clause-broken : goal.returns-in_err-after-clause-broken
-returns-in_err-after-clause-broken g c taken has sound =
+returns-in_err-after-clause-broken g c before taken has sound =
     let inv = c.loop-turn.invariant in
-    let (rows, held, come) = inv.come taken has in
+    let (rows, held, come) = inv.come before taken has in
     on_err c.from_residual.result _
     (turned_first c.args.plan.now.covering.boxes c.loop-turn._turn c.args.tree.now c.loop-turn.tree c.visit_next.new.tree sound inv.kept c.loop-turn.after _ rows (come sound) c.as_ref.ensures.value
     (c.in_err-after.ensures.broken (inv.kept.sound sound)))

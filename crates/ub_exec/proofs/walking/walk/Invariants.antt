@@ -1,8 +1,8 @@
 use Rattle.std.proofs.Common.{◌++◌, List}
 use Rattle.std.specs.List.{filter}
-use Rattle.ub_exec.proofs.KeptFacts.{Keeps}
+use Rattle.ub_tree.proofs.Laws.{Keeps}
 use Rattle.ub_exec.proofs.WalkFacts.{HasCome}
-use Rattle.ub_plan.specs.Choice.{is_chosen}
+use Rattle.ub_filter.specs.Choice.{is_chosen}
 use Rattle.ub_table.specs.declared.row.Row.{Row as RowView}
 use Rattle.ub_tree.specs.View.{IsSound}
 use Rattle.ub_exec.proofs.walking.walk.Given as goal
@@ -10,7 +10,7 @@ use Rattle.ub_exec.proofs.walking.walk.Given as goal
 abbrev pub invariant-loop-turn : goal.invariant-loop-turn
 invariant-loop-turn g l = record {
   kept : Keeps l.initial.tree l.tree;
-  come : (taken : List RowView) → g.T.Taker.HasTaken l.initial.tree.schema l.plan.asked taken l.initial.taker
-      → (rows : List RowView) × g.T.Taker.HasTaken l.initial.tree.schema l.plan.asked (taken ++ filter (is_chosen l.fn.choice l.initial.tree.schema l.plan) rows) l.taker
+  come : (before : _) (taken : List RowView) → g.K.RowSink.HasTaken l.initial.tree.schema l.plan.asked before taken l.initial.sink
+      → (rows : List RowView) × g.K.RowSink.HasTaken l.initial.tree.schema l.plan.asked before (taken ++ filter (is_chosen l.fn.choice l.initial.tree.schema l.plan) rows) l.sink
       × (IsSound l.initial.tree → HasCome l.plan.covering.boxes l._turn l.initial.tree l.tree rows l.after);
 }

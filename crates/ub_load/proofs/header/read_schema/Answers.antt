@@ -35,8 +35,7 @@ unwrap-requires c =
     let names = ap (λ n. take n c.in_ok-columns.columns) c.len-width.ensures ∙ c.in_ok-columns.ensures.names in
     c.new-2.ensures.valid.1
     (rw names (
-      counts (length (map trimmed (fields_of c.args.header.now))) c.args.dims c.args.page_rows c.requires.some_dims c.requires.few_dims (omega arith) (omega arith) c.requires.some_rows
-          c.requires.few_rows,
+      counts (length (map trimmed (fields_of c.args.header.now))) c.args.dims c.args.page_rows c.requires.numbers (omega arith) (omega arith),
       distinct,
     ))
 

@@ -1,11 +1,11 @@
 use Rattle.std.proofs.Common.{rules, sym, refl, arith}
 use Rattle.std.proofs.lemmas.Int.{to_z-of_z}
-use Rattle.std.specs.Int.{w64}
+use Rattle.std.specs.Int.{w64, w128}
 use Rattle.std.specs.Prelude.{FitsSigned}
 use Rattle.std.proofs.lemmas.Result.{err_from_is_err_and}
 use Rattle.csv.specs.Records.{fields_of}
 use Rattle.ub_load.specs.Refusals.{field_refusal}
-use Rattle.ub_load.proofs.RowFacts.{row_of_none, row_with_coordinate, row_with_measure}
+use Rattle.ub_load.proofs.RowFacts.{row_of_none, row_with_coordinate, row_with_measure, some_coordinate, told_coordinate}
 use Rattle.ub_load.proofs.RefusalFacts.{each-more, each-refused}
 use Rattle.ub_load.proofs.row.read_values.Goals as goal
 use Rattle.ub_load.proofs.row.read_values.Goals.{then-place-dims, else-place-dims}
@@ -29,8 +29,11 @@ loop-place-preserved c =
     record {
       row = elim c.if-place-dims.branch [
         | then-place-dims w ↦
-            row_with_coordinate c.args.dims c.args.number c.loop-place.place fs c.field_at.result.now c.loop-place.row c.if-place-dims.row c.in_ok-value.value c.field_at.ensures
-            c.loop-place.invariant.row w.if-place-dims.true c.requires.few_dims value (rw same at w.row-is)
+            let wide = to_z-of_z w128 w.from.result (search rules) in
+            let of = rw (wide, w.from.ensures, same) at w.coordinate_at.ensures in
+            row_with_coordinate c.args.dims c.args.number c.loop-place.place fs c.field_at.result.now c.loop-place.row c.if-place-dims.row w.unwrap.result c.field_at.ensures
+            c.loop-place.invariant.row w.if-place-dims.true c.requires.few_dims
+            (told_coordinate c.args.dims c.loop-place.place c.field_at.result.now c.in_ok-value.value w.coordinate_at.result w.unwrap.result value of w.unwrap.ensures) w.row-is
         | else-place-dims w ↦
             row_with_measure c.args.dims c.args.number c.loop-place.place fs c.field_at.result.now c.loop-place.row c.if-place-dims.row c.in_ok-value.value c.field_at.ensures
             c.loop-place.invariant.row w.if-place-dims.false (omega arith) value (rw same at w.row-is)
@@ -38,3 +41,11 @@ loop-place-preserved c =
       accepted = each-more (field_refusal c.args.dims c.args.number) fs c.loop-place.place c.field_at.result.now c.field_at.ensures
           c.loop-place.invariant.accepted c.in_ok-value.ensures.0;
     }
+
+pub unwrap-requires : goal.unwrap-requires
+unwrap-requires c =
+    let fit : FitsSigned w64 c.in_ok-value.value = search rules in
+    let same = to_z-of_z w64 c.in_ok-value.value fit in
+    let wide = to_z-of_z w128 c.from.result (search rules) in
+    let of = rw (wide, c.from.ensures, same) at c.coordinate_at.ensures in
+    some_coordinate c.args.dims c.loop-place.place c.in_ok-value.value c.coordinate_at.result c.if-place-dims.true c.in_ok-value.ensures.2 of

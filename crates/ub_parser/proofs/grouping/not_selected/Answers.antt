@@ -14,10 +14,10 @@ use Rattle.ub_parser.proofs.grouping.not_selected.Goals as goal
 pub first_unselected-requires-clause-keys : goal.first_unselected-requires-clause-keys
 first_unselected-requires-clause-keys c =
     All-same (λ (key : OrderKey). IsKnownItem c.args.source.now c.args.schema.now key.item) c.as_slice.result.now _ c.as_slice.ensures
-    (names_of_keys (λ (t : Token). IsColumn c.args.source.now c.args.schema.now t) (select_of c.args.syntax.now) c.requires)
+    (names_of_keys (λ (t : Token). IsColumn c.args.source.now c.args.schema.now t) (select_of c.args.syntax.now) c.requires.names)
 
 pub first_unselected-requires-clause-items : goal.first_unselected-requires-clause-items
-first_unselected-requires-clause-items c = names_of_items (λ (t : Token). IsColumn c.args.source.now c.args.schema.now t) (select_of c.args.syntax.now) c.requires
+first_unselected-requires-clause-items c = names_of_items (λ (t : Token). IsColumn c.args.source.now c.args.schema.now t) (select_of c.args.syntax.now) c.requires.names
 
 pub returns : goal.returns
 returns c =

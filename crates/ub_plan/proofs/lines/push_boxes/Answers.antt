@@ -6,5 +6,5 @@ use Rattle.ub_plan.proofs.lines.push_boxes.Goals as goal
 
 pub loop-space-preserved : goal.loop-space-preserved
 loop-space-preserved c =
-    lines_next (λ b. line (box_text c.args.names.now b)) _ _ _ c.args.boxes.now c.loop-space.space-index _ c.loop-space.invariant
+    lines_next (λ b. line (box_text c.args.schema.now b)) _ _ _ c.args.boxes.now c.loop-space.space-index _ c.loop-space.invariant
     (slice_get_read c.args.boxes.now (length c.args.boxes.now) c.loop-space.space-index _ refl c.loop-space-test.true c.space-item.is) c.in_ok-push_box.ensures

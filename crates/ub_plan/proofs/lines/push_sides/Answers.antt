@@ -1,5 +1,7 @@
-use Rattle.std.proofs.Common.{◌≡◌, ◌++◌, List, ℕ, codes, length, refl, subst, arith}
+use Rattle.std.proofs.Common.{◌≡◌, ◌++◌, List, ℕ, codes, length, refl, subst, arith, rules}
+use Rattle.std.proofs.lemmas.Int.{to_z-of_z}
 use Rattle.std.proofs.lemmas.Option.{slice_get_read}
+use Rattle.std.specs.Int.{w64}
 use Rattle.std.specs.List.{join_by}
 use Rattle.ub_plan.proofs.LineFacts.{side_next, sides_all}
 use Rattle.ub_plan.proofs.lines.push_sides.Goals as goal
@@ -7,15 +9,20 @@ use Rattle.ub_plan.proofs.lines.push_sides.Goals as goal
 pub loop-dim-preserved : goal.loop-dim-preserved
 loop-dim-preserved c =
     let before = c.loop-dim-test.true in
-    let first = c.min.ensures in
+    let names = c.columns-names.ensures.columns in
+    let first = rw names at c.min.ensures in
     let both = c.min-dims.ensures in
-    side_next _ _ _ _ c.args.names.now c.args.lo.now c.args.hi.now c.loop-dim.dim _ _ c.loop-dim.invariant c.in_ok-push_gap.ensures c.in_ok-push_side.ensures refl
-    (slice_get_read c.args.names.now (length c.args.names.now) c.loop-dim.dim _ refl (omega arith) c.index-names-dim.is) (omega arith) (omega arith)
+    let a = to_z-of_z w64 c.value-low.result (search rules) in
+    let b = to_z-of_z w64 c.value-high.result (search rules) in
+    let side = rw (a, b, c.value-low.ensures.value, c.value-high.ensures.value) at c.in_ok-push_side.ensures in
+    side_next c.args.schema.now _ _ _ _ c.args.schema.now.columns c.args.lo.now c.args.hi.now c.loop-dim.dim _ _ c.loop-dim.invariant c.in_ok-push_gap.ensures side refl
+    (slice_get_read c.args.schema.now.columns (length c.args.schema.now.columns) c.loop-dim.dim _ refl (omega arith) (rw names at c.index-names-dim.is)) (omega arith) (omega arith)
 
 pub returns : goal.returns
 returns c =
     let after = c.loop-dim-test.false in
-    let first = c.min.ensures in
+    let names = c.columns-names.ensures.columns in
+    let first = rw names at c.min.ensures in
     let both = c.min-dims.ensures in
     subst (λ (t : List (List ℕ)). c.loop-dim.text.items ≡ c.args.text.now.items ++ join_by (λ side. side) (codes ", ") t)
-    (sides_all c.args.names.now c.args.lo.now c.args.hi.now c.loop-dim.dim (omega arith)) c.loop-dim.invariant
+    (sides_all c.args.schema.now 0 c.args.schema.now.columns c.args.lo.now c.args.hi.now c.loop-dim.dim (omega arith)) c.loop-dim.invariant

@@ -1,5 +1,5 @@
 use Rattle.std.proofs.Common.{◌≡◌, ◌∙◌, ap, refl}
-use Rattle.ub_plan.specs.Plan.{plan_of}
+use Rattle.ub_planning.specs.Plan.{plan_of}
 use Rattle.ub_query.specs.Shape.{asked}
 use Rattle.ub_script.proofs.RowsFacts.{ready_of, reply_of_plan}
 use Rattle.ub_script.proofs.StartFacts.{on_err, starts_none, starts_of_all, starts_of_plan}

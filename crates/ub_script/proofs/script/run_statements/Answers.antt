@@ -1,5 +1,6 @@
 use Rattle.std.proofs.Common.{◌≡◌, ◌≤◌, ◌+◌, ◌∙◌, Bool, cond, length, arith, refl, rules, sym}
-use Rattle.ub_script.proofs.KeptFacts.{Keeps-none, Keeps-by, Keeps-more, regions_kept, runs_by, table_kept}
+use Rattle.ub_script.proofs.KeptFacts.{regions_kept, runs_by, table_kept}
+use Rattle.ub_tree.proofs.Laws.{Keeps-none, Keeps-by, Keeps-more}
 use Rattle.ub_script.proofs.RunFacts.{come_none, come_more, come_broken, come_stopped, come_whole, other_err, same_failures}
 use Rattle.ub_script.proofs.script.run_statements.Goals as goal
 use Rattle.ub_script.proofs.script.run_statements.Goals.{then-branch, else-branch}

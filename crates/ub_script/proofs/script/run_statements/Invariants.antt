@@ -1,6 +1,6 @@
 use Rattle.std.proofs.Common.{◌≡◌, ◌≤◌}
 use Rattle.ub_script.specs.Loop.{OfTable}
-use Rattle.ub_script.proofs.KeptFacts.{Keeps}
+use Rattle.ub_tree.proofs.Laws.{Keeps}
 use Rattle.ub_script.proofs.RunFacts.{HasCome}
 use Rattle.ub_script.proofs.script.run_statements.Given as goal
 

@@ -3,7 +3,7 @@ use Rattle.std.proofs.lemmas.Result.{err_from_is_err_and}
 use Rattle.ub_load.specs.LoadedTable.{records_of}
 use Rattle.ub_load.specs.Refusals.{first_refusal}
 use Rattle.ub_script.proofs.LoadedFacts.{first_wrong, tree_wrong}
-use Rattle.ub_script.proofs.KeptFacts.{sound_fault}
+use Rattle.ub_tree.proofs.Laws.{sound_fault}
 use Rattle.ub_script.proofs.RowsFacts.{loaded_done, loaded_broken, loaded_stopped}
 use Rattle.ub_script.proofs.RunFacts.{if_ok}
 use Rattle.ub_script.proofs.script.try_text.Goals as goal

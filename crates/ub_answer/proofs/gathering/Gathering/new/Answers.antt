@@ -3,4 +3,4 @@ use Rattle.ub_answer.proofs.gathering.Gathering.new.Goals as goal
 
 pub returns-clause-gathered : goal.returns-clause-gathered
 unfolding IsGathered
-returns-clause-gathered c = c.taker_for.ensures.taken c.args.schema.now
+returns-clause-gathered c = c.nothing_collected.ensures.taken c.args.schema.now

@@ -1,6 +1,7 @@
-use Rattle.std.proofs.Common.{◌∙◌, ap, inr, refl}
+use Rattle.std.proofs.Common.{◌∙◌, [], ap, inr, refl}
 use Rattle.ub_tetris.proofs.EffectFacts.{either_noted, memory_swept, read_swept, tree_swept}
 use Rattle.ub_tetris.proofs.FetchFacts.{has_fetched, next_at, next_awaited}
+use Rattle.ub_tetris.proofs.HeldFacts.{HoldsAlso-none}
 use Rattle.ub_tetris.specs.inner.Turns.{view_of}
 use Rattle.ub_tree.specs.View.{TreeView}
 use Rattle.ub_tetris.proofs.state.State.fetch.Goals as goal
@@ -12,8 +13,8 @@ returns-in_err-read_region-clause-asked g c = record {
   noted = either_noted _ c.args.tree.now c.read_region.new.self _ c.in_err-read_region.ensures.effect.noted;
 }
 
-pub returns-in_err-hold_chosen-clause-asked : goal.returns-in_err-hold_chosen-clause-asked
-returns-in_err-hold_chosen-clause-asked g c = record {
+pub returns-in_err-push_chosen-clause-asked : goal.returns-in_err-push_chosen-clause-asked
+returns-in_err-push_chosen-clause-asked g c = record {
   next = c.index.result.now;
   at = next_at c.args.self.now.queue.items c.args.self.now.fetched c.index.result.now c.requires.some c.index.ensures;
   noted = inr c.in_ok-read_region.ensures.effect.listed;
@@ -32,9 +33,9 @@ returns-in_err-read_region-clause-effect g c =
     (next_awaited c.args.self.now.queue.items c.args.self.now.fetched _ c.index.result.now refl (next_at c.args.self.now.queue.items c.args.self.now.fetched c.index.result.now c.requires.some c.index.ensures))
     c.in_err-read_region.ensures.effect
 
-pub returns-in_err-hold_chosen-clause-effect : goal.returns-in_err-hold_chosen-clause-effect
-returns-in_err-hold_chosen-clause-effect g c =
-    memory_swept c.from_residual-in_err-hold_chosen.result (view_of c.args.self.now) _ _ c.args.tree.now c.read_region.new.self c.from_residual-in_err-hold_chosen.ensures.1
+pub returns-in_err-push_chosen-clause-effect : goal.returns-in_err-push_chosen-clause-effect
+returns-in_err-push_chosen-clause-effect g c =
+    memory_swept c.from_residual-in_err-push_chosen.result (view_of c.args.self.now) _ _ c.args.tree.now c.read_region.new.self c.from_residual-in_err-push_chosen.ensures.1
     (next_awaited c.args.self.now.queue.items c.args.self.now.fetched _ c.index.result.now refl (next_at c.args.self.now.queue.items c.args.self.now.fetched c.index.result.now c.requires.some c.index.ensures))
     c.in_ok-read_region.ensures.effect.same c.in_ok-read_region.ensures.effect.listed
 
@@ -48,4 +49,4 @@ pub returns-clause-rows : goal.returns-clause-rows
 returns-clause-rows g c =
     has_fetched c.args.plan.now c.of-choice.result c.args.tree.now c.read_region.new.self c.args.self.now _ c.index.result.now c.read_region.new.page.region c.schema-2.result.now
     (next_at c.args.self.now.queue.items c.args.self.now.fetched c.index.result.now c.requires.some c.index.ensures) c.in_ok-read_region.ensures.effect.listed c.in_ok-read_region.ensures.stands
-    c.in_ok-read_region.ensures.first (c.schema-2.ensures ∙ ap (λ (t : TreeView). t.schema) c.in_ok-read_region.ensures.effect.same) c.in_ok-hold_chosen.ensures
+    c.in_ok-read_region.ensures.first (c.schema-2.ensures ∙ ap (λ (t : TreeView). t.schema) c.in_ok-read_region.ensures.effect.same) (c.in_ok-push_chosen.ensures c.args.self.now.held [] (HoldsAlso-none c.schema-2.result.now c.args.plan.now.asked.order c.args.self.now.held))

@@ -6,7 +6,7 @@ use Rattle.ub_table.specs.declared.row.Row.{Row}
 use Rattle.ub_tree.specs.Change.{AreRowsAt, IsInserted, row_of}
 use Rattle.ub_tree.specs.Effects.{Changes, IsNumberTaken}
 use Rattle.ub_tree.specs.Tree.{known_pages, tree_view}
-use Rattle.ub_tree.proofs.CallFacts.{entries_are, same_seat, seated}
+use Rattle.ub_tree.proofs.CallFacts.{entries_are, same_seat, same_there, seated}
 use Rattle.ub_tree.proofs.TreeFacts.{entries_back, length-placed, seat_placed}
 use Rattle.ub_tree.proofs.GrowFacts.{IsReady, ready, room_ready, grown, words_of}
 use Rattle.ub_tree.proofs.WriteFacts.{counted_anew, left_by, searched_by, then_changed, unchanged}
@@ -26,7 +26,8 @@ use Rattle.ub_tree.proofs.tree.Tree.insert_within.Goals as goal
 
 pub store_with-requires-clause-seat : goal.store_with-requires-clause-seat
 store_with-requires-clause-seat g c =
-    same_seat c.args.self.now c.read_at.new.self c.in_ok-seat.seat (c.in_ok-read_at.ensures.effect.same ∙ c.in_ok-seat.ensures.effect.same) c.in_ok-seat.ensures.seat
+    same_there c.seat_of.new.self c.read_at.new.self c.in_ok-seat.seat c.in_ok-read_at.ensures.effect.same
+    (same_seat c.args.self.now c.seat_of.new.self c.in_ok-seat.seat c.in_ok-seat.ensures.effect.same c.in_ok-seat.ensures.seat, c.in_ok-read_at.ensures.there)
 
 pub store_with-requires-clause-key : goal.store_with-requires-clause-key
 store_with-requires-clause-key g c =

@@ -6,7 +6,7 @@ use Rattle.ub_tree.specs.Change.{IsStored, placed_with}
 use Rattle.std.proofs.lemmas.List.{length-map}
 use Rattle.ub_tree.specs.View.{TreeView}
 use Rattle.ub_tree.specs.Placed.{Placed, entry_of}
-use Rattle.ub_tree.proofs.CallFacts.{same_seat}
+use Rattle.ub_tree.proofs.CallFacts.{same_there}
 use Rattle.ub_tree.proofs.ShrinkFacts.{rewritten_joined}
 use Rattle.ub_tree.proofs.WriteFacts.{changed_by, changes_by, counted_anew, searched_by, then_changed}
 use Rattle.ub_tree.proofs.tree.Tree.join_at.Goals as goal
@@ -16,7 +16,7 @@ returns-in_err-dropping-clause-effect g c =
     searched_by c.from_residual.result c.in_err-dropping.field-0.0 c.args.self.now c.prepare_drop.new.self c.from_residual.ensures.1 c.in_err-dropping.ensures.effect
 
 pub rewrite-requires-clause-seat : goal.rewrite-requires-clause-seat
-rewrite-requires-clause-seat g c = same_seat c.args.self.now c.prepare_drop.new.self c.args.seat.now c.in_ok-dropping.ensures.effect.same c.requires.seat
+rewrite-requires-clause-seat g c = same_there c.args.self.now c.prepare_drop.new.self c.args.seat.now c.in_ok-dropping.ensures.effect.same c.requires.seat
 
 pub forget-requires : goal.forget-requires
 forget-requires g c =
@@ -34,7 +34,7 @@ returns-clause-written g c = λ stored.
     let mid = c.rewrite.new.self in
     let rows = c.args.rows.now in
     let i = c.args.seat.now.index in
-    let lt = c.requires.seat.within in
+    let lt = c.requires.seat.0.within in
     let long = length-map a.placed entry_of in
     let written = subst (λ (v : TreeView). IsStored v → (p : Placed) → slice_get v.placed i ≡ Some p → IsRegion v.schema (record { first = p.region.first; rows = rows })
     → IsStored mid × (mid.placed ≡ placed_with i (record { page = p.page; region = record { first = p.region.first; rows = rows } } ∷ []) v.placed)) c.in_ok-dropping.ensures.effect.same c.in_ok-rewrite.ensures.written in

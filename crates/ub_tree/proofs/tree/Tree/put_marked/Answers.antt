@@ -1,20 +1,19 @@
-use Rattle.std.proofs.Common.{◌∙◌, ◌≡◌, ◌∷◌, [], true, Some, Err, refl, length, slice_get, ap, option_copied}
+use Rattle.std.proofs.Common.{◌∙◌, ◌≡◌, ◌∷◌, ◌<◌, [], true, Some, Err, refl, length, slice_get, ap, option_copied}
 use Rattle.ub_page.proofs.PageLaws.{region_parts}
-use Rattle.ub_page.specs.Region.{region_page}
 use Rattle.ub_page.specs.declared.directory.Entry.{Entry}
 use Rattle.ub_store.specs.Facts.{StoreFacts}
+use Rattle.ub_store.specs.declared.fault.StoreFault.{StoreFault}
 use Rattle.ub_tree.specs.declared.fault.TreeFault.TheVariants.{Store}
 use Rattle.ub_tree.specs.Tree.{tree_view, known_pages}
 use Rattle.ub_tree.specs.View.{TreeView}
-use Rattle.ub_tree.proofs.CallFacts.{missing_there, past_page, tree_entry_known, write_refused, known_is, seated}
-use Rattle.ub_tree.proofs.TreeFacts.{contained_at, placed_at}
-use Rattle.ub_tree.proofs.WriteFacts.{rewritten, missing_page, marks_first, unmarked, own_page, wrote, ended_by, put_is}
+use Rattle.ub_tree.proofs.CallFacts.{only_device, past_page, write_refused, seated}
+use Rattle.ub_tree.proofs.WriteFacts.{rewritten, marks_first, unmarked, own_page, wrote, ended_by, put_is}
 use Rattle.ub_tree.proofs.tree.Tree.put_marked.Goals as goal
 
 pub returns-in-Ok-clause-written : goal.returns-in-Ok-clause-written
 returns-in-Ok-clause-written g c =
     let t = c.self.inside in
-    let stands = seated t.schema t.directory.entries t.directory.chain t.next t.rows t.is_changed t.is_failed t.pager c.args.self.now c.args.seat.now c.self.view_is c.requires.seat in
+    let stands = seated t.schema t.directory.entries t.directory.chain t.next t.rows t.is_changed t.is_failed t.pager c.args.self.now c.args.seat.now c.self.view_is c.requires.seat.0 in
     let e : Entry = record { first = c.args.seat.now.first; page = c.page.result } in
     let at : slice_get t.directory.entries c.args.seat.now.index ≡ Some e = rw c.page.ensures stands.entry in
     rw (← c.self.view_is, c.in-Ok.ensures.marked) (λ stored p rows there good spells.
@@ -24,7 +23,7 @@ returns-in-Ok-clause-written g c =
 pub returns-in-Ok-clause-effect : goal.returns-in-Ok-clause-effect
 returns-in-Ok-clause-effect g c =
     let t = c.self.inside in
-    let stands = seated t.schema t.directory.entries t.directory.chain t.next t.rows t.is_changed t.is_failed t.pager c.args.self.now c.args.seat.now c.self.view_is c.requires.seat in
+    let stands = seated t.schema t.directory.entries t.directory.chain t.next t.rows t.is_changed t.is_failed t.pager c.args.self.now c.args.seat.now c.self.view_is c.requires.seat.0 in
     let e : Entry = record { first = c.args.seat.now.first; page = c.page.result } in
     let at : slice_get t.directory.entries c.args.seat.now.index ≡ Some e = rw c.page.ensures stands.entry in
     rw (← c.self.view_is)
@@ -38,11 +37,12 @@ returns-in-Ok-clause-effect g c =
 pub returns-in-Err-clause-effect : goal.returns-in-Err-clause-effect
 returns-in-Err-clause-effect g c =
     let t = c.self.inside in
-    let stands = seated t.schema t.directory.entries t.directory.chain t.next t.rows t.is_changed t.is_failed t.pager c.args.self.now c.args.seat.now c.self.view_is c.requires.seat in
+    let stands = seated t.schema t.directory.entries t.directory.chain t.next t.rows t.is_changed t.is_failed t.pager c.args.self.now c.args.seat.now c.self.view_is c.requires.seat.0 in
     let e : Entry = record { first = c.args.seat.now.first; page = c.page.result } in
     let at : slice_get t.directory.entries c.args.seat.now.index ≡ Some e = rw c.page.ensures stands.entry in
     let old : TreeView = tree_view t.schema t.directory.entries t.directory.chain t.next t.rows t.is_changed t.is_failed t.pager in
     let new : TreeView = tree_view t.schema t.directory.entries t.directory.chain t.next t.rows c.write_page.new.is_changed true c.write_page.new.pager in
+    let page : e.page < length t.pager.store.pages = rw c.page.ensures (rw (← c.self.view_is) at c.requires.seat.1) in
     rw (← c.self.view_is)
     (wrote t.schema t.directory.entries t.directory.entries t.directory.chain t.next t.rows t.is_changed c.write_page.new.is_changed t.is_failed true t.pager c.write_page.new.pager
     (Err (Store c.in-Err.fault)) (c.in-Err.ensures.effect.same ∙ put_is (Unit {0}) (Unit {0}) c.in-Err.fault t.pager.store c.write_page.new.pager.store) c.in-Err.ensures.trace
@@ -50,13 +50,12 @@ returns-in-Err-clause-effect g c =
     (option_copied c.args.mark) (e.page ∷ []) (unmarked c.args.mark _ (rw (← c.self.view_is) at c.requires.unmarked)) (rw (← c.self.view_is) at c.requires.mark) c.write_page.ensures.marks
     (λ sound. (own_page t.schema t.directory.entries t.directory.chain t.pager.store.pages (known_pages t.pager.store) c.args.seat.now.index e sound.placed_are at, tt)))
     tt
-    (write_refused c.in-Err.fault old new c.in-Err.ensures.faults c.in-Err.ensures.effect.device
-    (λ no_page. (
-      (λ sound.
-          let k = tree_entry_known t.schema t.directory.entries t.directory.chain t.next t.rows t.is_changed t.is_failed t.pager c.args.seat.now.index e sound at in
-          let known = known_is t.pager.store sound.honest in
-          missing_page old (length t.pager.store.pages) e.page (region_page t.schema (placed_at t.schema t.pager.store.pages e).region) sound refl (rw known at k.spelled) (c.in-Err.ensures.missing no_page)),
-      missing_there t.schema t.directory.entries t.directory.chain t.next t.rows t.is_changed t.is_failed t.pager e (contained_at (λ (_ : Entry). Unit {0}) t.directory.entries c.args.seat.now.index e at) (past_page (length t.pager.store.pages) e.page (c.in-Err.ensures.missing no_page)),
-    ))
+    (write_refused {U = Unit {0}} c.in-Err.fault old new (only_device {U = Unit {0}} c.in-Err.fault c.in-Err.ensures.faults (λ no_page. past_page (length t.pager.store.pages) e.page page (c.in-Err.ensures.missing no_page))) c.in-Err.ensures.effect.device
     (ended_by t.schema t.directory.entries t.directory.entries t.directory.chain t.next t.rows t.is_changed c.write_page.new.is_changed t.is_failed true t.pager c.write_page.new.pager
     (Unit {0}) c.in-Err.fault refl refl c.in-Err.ensures.effect.same c.in-Err.ensures.trace)))
+
+pub returns-in-Err-clause-faults : goal.returns-in-Err-clause-faults
+returns-in-Err-clause-faults g c =
+    let t = c.self.inside in
+    let page : c.page.result < length t.pager.store.pages = rw c.page.ensures (rw (← c.self.view_is) at c.requires.seat.1) in
+    ap (λ (f : StoreFault). Store f) (only_device {U = Unit {0}} c.in-Err.fault c.in-Err.ensures.faults (λ no_page. past_page (length t.pager.store.pages) c.page.result page (c.in-Err.ensures.missing no_page)))

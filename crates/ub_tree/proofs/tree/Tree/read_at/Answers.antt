@@ -78,5 +78,5 @@ returns-clause-at g c =
     let e : Entry = record { first = c.first.result; page = c.page-number.result } in
     let at : slice_get t.directory.entries c.args.seat.now.index ≡ Some e = rw (c.first.ensures, c.page-number.ensures) stands.entry in
     rw (← c.self.view_is, entries_back t.schema (known_pages t.pager.store) t.directory.entries)
-    (rows_at_index t.schema t.directory.entries c.args.seat.now.index e c.next.result c.take_region.new.region.region c.take_region.new.region.region.rows at (c.next.ensures ∙ stands.next) c.in_ok-take_region.ensures.region
+    (rows_at_index t.schema t.directory.entries c.args.seat.now.index e c.next.result c.take_region.new.region.region c.take_region.new.region.region.rows at (c.next.ensures ∙ stands.next) c.in_ok-take_region.ensures.found.0
     c.in_ok-take_region.ensures.held refl)

@@ -4,7 +4,7 @@ use Rattle.ub_page.specs.Region.{region_page}
 use Rattle.ub_tree.specs.Effects.{IsRegionRefused}
 use Rattle.ub_tree.specs.Tree.{tree_view}
 use Rattle.ub_tree.specs.View.{TreeView}
-use Rattle.ub_tree.proofs.CallFacts.{tree_known, page_refused, span_refused, span_unread, span_listed, missing_there, store_refused, known_is, read_there, read_page, read_tree, page_still, on_ok_by}
+use Rattle.ub_tree.proofs.CallFacts.{tree_known, page_refused, span_refused, span_unread, span_listed, missing_there, store_refused, known_is, read_there, read_page, read_tree, page_still, on_ok_by, never_failed, told_failed, taken_in}
 use Rattle.ub_tree.proofs.tree.Tree.read_region.Goals as goal
 
 pub returns-in_err-bring_region-clause-effect : goal.returns-in_err-bring_region-clause-effect
@@ -16,6 +16,7 @@ returns-in_err-bring_region-clause-effect g c =
           (read_there c.from_residual.result (Unit {0}) c.in_err-bring_region.field-0.0 t.pager.store c.bring_region.new.self.store c.from_residual.ensures.1 c.in_err-bring_region.ensures.effect.same);
       noted = search rules;
       listed = search rules;
+      failed = never_failed c.from_residual.result c.in_err-bring_region.field-0.0 old _ c.from_residual.ensures.1;
       refused = span_unread (Unit {0}) c.from_residual.result c.in_err-bring_region.field-0.0 c.args.region.now old c.from_residual.ensures.1 c.in_err-bring_region.ensures.effect.device c.in_err-bring_region.ensures.missing c.in_err-bring_region.ensures.no_size;
       faults = λ there. store_refused old c.from_residual.result c.in_err-bring_region.field-0.0 c.from_residual.ensures.1
           c.in_err-bring_region.ensures.effect.device
@@ -56,6 +57,7 @@ returns-clause-effect g c =
           (read_page (IsRegionRefused t.schema c.args.region.now.first c.args.region.now.next c.cached.result.now) c.take_region.result c.args.region.now.page t.pager.store c.bring_region.new.self.store c.take_region.ensures.refused c.in_ok-bring_region.ensures.effect.same);
       noted = search rules;
       listed = search rules;
+      failed = told_failed (IsRegionRefused t.schema c.args.region.now.first c.args.region.now.next c.cached.result.now) c.take_region.result c.args.region.now.page old _ c.take_region.ensures.refused;
       refused = span_refused (IsRegionRefused t.schema c.args.region.now.first c.args.region.now.next c.cached.result.now) c.take_region.result c.args.region.now old c.take_region.ensures.refused (λ f refused. (
         refl,
         c.cached.result.now,
@@ -71,3 +73,9 @@ returns-clause-effect g c =
           (c.take_region.ensures.exact k.0.region k.1.region page k.1.held).0)
           (λ f refused. (c.args.region.now, there, refl, c.cached.result.now, (page_still _ _ _ _ _ c.in_ok-bring_region.ensures.effect c.cached.ensures.page), refused));
     })
+
+pub returns-clause-taken : goal.returns-clause-taken
+returns-clause-taken g c =
+    let t = c.self.inside in
+    rw (← c.self.view_is) (taken_in (tree_view t.schema t.directory.entries t.directory.chain t.next t.rows t.is_changed t.is_failed t.pager) c.take_region.result c.args.region.now
+    c.take_region.new.region.region c.cached.result.now c.take_region.ensures.found c.take_region.ensures.held (page_still _ _ _ _ _ c.in_ok-bring_region.ensures.effect c.cached.ensures.page))

@@ -9,7 +9,7 @@ use Rattle.ub_tree.specs.Placed.{Placed}
 use Rattle.ub_tree.specs.Tree.{known_pages, tree_view}
 use Rattle.ub_tree.specs.View.{TreeView}
 use Rattle.ub_tree.proofs.ShrinkFacts.{holder, none_removed, some_counted, shrunk}
-use Rattle.ub_tree.proofs.CallFacts.{same_seat}
+use Rattle.ub_tree.proofs.CallFacts.{same_seat, same_there}
 use Rattle.ub_tree.proofs.TreeFacts.{length-placed}
 use Rattle.ub_tree.proofs.WriteFacts.{counted_anew, left_by, nothing_changed, searched_by, then_changed, unchanged}
 use Rattle.ub_tree.proofs.tree.Tree.remove_within.Goals as goal
@@ -50,7 +50,8 @@ rows_at-requires g c = same_seat c.args.self.now c.seat_of.new.self c.in_ok-seat
 
 pub settle-requires-clause-seat : goal.settle-requires-clause-seat
 settle-requires-clause-seat g c =
-    same_seat c.args.self.now c.rows_at.new.self c.in_ok-seat.seat (c.in_ok-rows_at.ensures.effect.same ∙ c.in_ok-seat.ensures.effect.same) c.in_ok-seat.ensures.seat
+    same_there c.seat_of.new.self c.rows_at.new.self c.in_ok-seat.seat c.in_ok-rows_at.ensures.effect.same
+    (same_seat c.args.self.now c.seat_of.new.self c.in_ok-seat.seat c.in_ok-seat.ensures.effect.same c.in_ok-seat.ensures.seat, c.in_ok-rows_at.ensures.there)
 
 pub returns-in_err-rows_at-clause-effect : goal.returns-in_err-rows_at-clause-effect
 returns-in_err-rows_at-clause-effect g c =

@@ -14,7 +14,7 @@ returns-then-not-are_few-clause-written g c = λ stored.
     let a = c.args.self.now in
     let count : c.page_rows.result ≡ a.schema.page_rows = c.page_rows.ensures.page_rows ∙ ap (λ (v : TreeView). v.schema.page_rows) c.self.view_is in
     let large : nat_lt (length c.args.room.now.rows) (a.schema.page_rows / 2) ≡ false = rw (← count) (sym c.are_few.ensures ∙ c.if-not-are_few.true) in
-    settled_large a c.rewrite.new.self c.rewrite.result c.args.seat.now.index c.args.room.now.rows (seat_within a.placed c.args.seat.now c.requires.seat) large (rw c.as_slice.ensures.rows at c.rewrite.ensures.written stored)
+    settled_large a c.rewrite.new.self c.rewrite.result c.args.seat.now.index c.args.room.now.rows (seat_within a.placed c.args.seat.now c.requires.seat.0) large (rw c.as_slice.ensures.rows at c.rewrite.ensures.written stored)
 
 pub returns-in-Some-clause-effect : goal.returns-in-Some-clause-effect
 returns-in-Some-clause-effect g c = then_changed c.join_at.result c.args.self.now c.join_next.new.self c.join_at.new.self c.in_ok-next.ensures.effect.same c.join_at.ensures.effect
@@ -36,7 +36,7 @@ returns-in-Some-2-clause-written g c =
     let b = c.join_before.new.self in
     let written = subst (λ (n : ℕ). IsStored b → AllByRecursion (IsRegion b.schema) (put_rows n true new (regions b))
     → OnOk c.join_at-in-Some-2.result (IsStored d × (regions d ≡ put_rows n true new (regions b)))) index (rw c.as_slice-in-Some-2.ensures.rows at c.join_at-in-Some-2.ensures.written) in
-    settled_before a c.join_next.new.self b d c.join_at-in-Some-2.result c.args.seat.now.index c.args.room.now.rows c.join_next.new.room.rows new (seat_within a.placed c.args.seat.now c.requires.seat) few
+    settled_before a c.join_next.new.self b d c.join_at-in-Some-2.result c.args.seat.now.index c.args.room.now.rows c.join_next.new.room.rows new (seat_within a.placed c.args.seat.now c.requires.seat.0) few
     c.in_ok-next.ensures.effect.same c.in_ok-before.ensures.effect.same (rw c.in_default.is at c.in_ok-next.ensures.joined) (rw c.in-Some-2.is at c.in_ok-before.ensures.joined) written
 
 pub returns-clause-written : goal.returns-clause-written
@@ -45,7 +45,7 @@ returns-clause-written g c =
     let count : c.page_rows.result ≡ a.schema.page_rows = c.page_rows.ensures.page_rows ∙ ap (λ (v : TreeView). v.schema.page_rows) c.self.view_is in
     let few : nat_lt (length c.args.room.now.rows) (a.schema.page_rows / 2) ≡ true = rw (← count) (sym c.are_few.ensures ∙ c.if-not-are_few.false) in
     settled_alone a c.join_next.new.self c.join_before.new.self c.rewrite-2.new.self c.rewrite-2.result c.args.seat.now.index c.args.room.now.rows c.join_next.new.room.rows c.join_before.new.room.rows
-    (seat_within a.placed c.args.seat.now c.requires.seat) few c.in_ok-next.ensures.effect.same c.in_ok-before.ensures.effect.same
+    (seat_within a.placed c.args.seat.now c.requires.seat.0) few c.in_ok-next.ensures.effect.same c.in_ok-before.ensures.effect.same
     (rw c.in_default.is at c.in_ok-next.ensures.joined) (rw c.in_default-2.is at c.in_ok-before.ensures.joined) (rw c.as_slice-2.ensures.rows at c.rewrite-2.ensures.written)
 
 pub returns-clause-effect : goal.returns-clause-effect

@@ -1,0 +1,12 @@
+use Rattle.std.proofs.Common.{rules, ◌≤◌, ◌∙◌, ap, length}
+use Rattle.ub_answer.proofs.TotalFacts.{total_meaning}
+use Rattle.ub_answer.specs.Cut.{cut}
+use Rattle.ub_query.specs.Shape.{asked}
+use Rattle.ub_answer.proofs.totals.CollectedTotals.finish.Goals as goal
+
+pub returns : goal.returns
+returns c table filter taken none_grouped few same held =
+    let fits : length c.args.query.now.items ≤ length c.args.self.tally = search rules in
+    total_meaning table (record (asked c.args.query.now) { filter = filter }) taken c.args.self.tally c.one_within-count.result _ c.new.result none_grouped few same held
+    (ap length c.as_slice-width.ensures) fits c.one_within-count.ensures.none c.one_within-count.ensures.one
+    (c.new.ensures ∙ ap (cut c.one_within-count.result (length c.as_slice-width.result.now)) c.in_ok-cells.ensures.items)

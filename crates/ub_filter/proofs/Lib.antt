@@ -1,0 +1,2 @@
+pub mod ChoiceFacts
+pub mod Laws

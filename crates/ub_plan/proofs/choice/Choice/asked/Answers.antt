@@ -1,5 +1,0 @@
-use Rattle.std.proofs.Common.{rules}
-use Rattle.ub_plan.proofs.choice.Choice.asked.Goals as goal
-
-pub returns-in-Condition : goal.returns-in-Condition
-returns-in-Condition c = search rules

@@ -1,5 +1,0 @@
-use Rattle.ub_plan.proofs.Laws.{events_are_one}
-use Rattle.ub_plan.proofs.law.events_are_one.Goals as goal
-
-pub returns : goal.returns
-returns c = events_are_one

@@ -1,5 +1,0 @@
-use Rattle.ub_plan.proofs.Laws.{plans_have_visits}
-use Rattle.ub_plan.proofs.law.plans_have_visits.Goals as goal
-
-pub returns : goal.returns
-returns c = plans_have_visits

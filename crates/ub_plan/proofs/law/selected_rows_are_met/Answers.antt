@@ -1,5 +1,0 @@
-use Rattle.ub_plan.proofs.Laws.{selected_rows_are_met}
-use Rattle.ub_plan.proofs.law.selected_rows_are_met.Goals as goal
-
-pub returns : goal.returns
-returns c = selected_rows_are_met

@@ -1,5 +1,0 @@
-use Rattle.ub_plan.proofs.Laws.{visits_are_one}
-use Rattle.ub_plan.proofs.law.visits_are_one.Goals as goal
-
-pub returns : goal.returns
-returns c = visits_are_one

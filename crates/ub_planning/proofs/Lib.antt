@@ -1,0 +1,13 @@
+pub mod InsideFacts
+pub mod SpanFacts
+pub mod TakeFacts
+pub mod MeaningFacts
+pub mod PlanFacts
+pub mod ThoseFacts
+pub mod VisitFacts
+pub mod FoundFacts
+pub mod ValueFacts
+pub mod EventFacts
+pub mod SweepFacts
+pub mod KindFacts
+pub mod Laws

@@ -1,0 +1,5 @@
+pub mod inner
+pub mod Plan
+pub mod Visits
+pub mod Meaning
+pub mod Laws

@@ -1,0 +1,231 @@
+-- The regions that meet some boxes, one after the other: which one comes next, and which have come.
+use Rattle.std.proofs.Common.{◌≡◌, ◌<◌, ◌≤◌, ◌+◌, inl, inr, ℕ, zero, suc, List, [], ◌∷◌, ◌++◌, Option, Some, None, IfSome, Contains, length, map, take, ◌∙◌, sym, ap, refl, arith, subst, slice_get, append_assoc}
+use Rattle.std.proofs.lemmas.Bool.{cases_lt, cases_eq}
+use Rattle.std.proofs.lemmas.Option.{slice_get_read, slice_get_within, get_or_from_slice_get, slice_get_cases}
+use Rattle.std.proofs.Math.Seq.{take-suc}
+use Rattle.std.specs.List.{AllByRecursion}
+use Rattle.ub_bigmin.specs.Box.{Corners}
+use Rattle.ub_region.specs.Those.{AreThose}
+use Rattle.ub_table.proofs.Laws.{not_both_before, not_before_self}
+use Rattle.ub_table.specs.Keys.{IsBefore}
+use Rattle.ub_tree.specs.Handing.{AreMetBy, Began, TakesThese}
+use Rattle.ub_tree.specs.Placed.{Placed, entry_of}
+use Rattle.ub_tree.specs.Spans.{First, IsLater, Meets, regions_of}
+use Rattle.ub_tree.specs.View.{TreeView, IsSound, spans_of}
+use Rattle.ub_tree.specs.declared.region.Region.{Region as Span}
+use Rattle.ub_zaddr.specs.Address.{last_address}
+
+-- the span before the one at a place, if there is one
+abbrev pub before : ℕ → List Span → Option Span
+before zero spans = None
+before (suc k) spans = slice_get spans k
+
+module _ {X : Type 0} where
+  pub contained_at : (xs : List X) (x : X) (found : Contains xs x) → slice_get xs found.0 ≡ Some x
+  contained_at xs x found = slice_get_read xs (length xs) found.0 x refl found.1 (sym found.2)
+
+  pub contains_at : (xs : List X) (i : ℕ) (x : X) → slice_get xs i ≡ Some x → Contains xs x
+  contains_at xs i x at = (i, slice_get_within xs i x at, get_or_from_slice_get xs i x x at)
+
+  pub there_is : (xs : List X) (k : ℕ) → k < length xs → (x : X) × (slice_get xs k ≡ Some x)
+  there_is xs k below = elim ((slice_get_cases xs k).1) [
+    | inl some ↦ (some.0, some.2)
+    | inr past ↦ let far = past.0 in absurd (omega arith)
+  ]
+
+  some_at : (P : X → Type 0) (o : Option X) (x : X) → o ≡ Some x → IfSome o P → P x
+  some_at P None x e h = cc
+  some_at P (Some y) x e h = let same : y ≡ x = cc in subst P same h
+
+  at_some : (P : X → Type 0) (o : Option X) (x : X) → o ≡ Some x → P x → IfSome o P
+  at_some P None x e h = cc
+  at_some P (Some y) x e h = let same : x ≡ y = cc in subst P same h
+
+  pub take_next : (xs : List X) (k : ℕ) (x : X) → slice_get xs k ≡ Some x → take (suc k) xs ≡ take k xs ++ x ∷ []
+  take_next xs k x at = take-suc xs k x (slice_get_within xs k x at) ∙ ap (λ (y : X). take k xs ++ y ∷ []) (get_or_from_slice_get xs k x x at)
+
+  pub take_all : (n : ℕ) (xs : List X) → length xs ≤ n → take n xs ≡ xs
+  take_all zero [] h = refl
+  take_all zero (x ∷ xs) h = absurd (omega arith)
+  take_all (suc n) [] h = refl
+  take_all (suc n) (x ∷ xs) h = ap (λ (ys : List X). x ∷ ys) (take_all n xs (omega arith))
+
+  all_pushed : (P : X → Type 0) (xs : List X) (x : X) → AllByRecursion P xs → P x → AllByRecursion P (xs ++ x ∷ [])
+  all_pushed P [] x all p = (p, tt)
+  all_pushed P (y ∷ xs) x all p = (all.0, all_pushed P xs x all.1 p)
+
+  module _ (P : X → Type 0) where
+    -- one more entry that has the property, and one that doesn't
+    those_with : (xs those : List X) (x : X) → P x → AreThose P xs those → AreThose P (xs ++ x ∷ []) (those ++ x ∷ [])
+    those_with [] those x p are = inl (p, [], rw are refl, refl)
+    those_with (y ∷ xs) those x p (inl are) = let (q, rest, is, more) = are in inl (q, rest ++ x ∷ [], ap (λ (zs : List X). zs ++ x ∷ []) is, those_with xs rest x p more)
+    those_with (y ∷ xs) those x p (inr are) = inr (are.0, those_with xs those x p are.1)
+
+    those_without : (xs those : List X) (x : X) → ¬ (P x) → AreThose P xs those → AreThose P (xs ++ x ∷ []) those
+    those_without [] those x p are = inr (p, are)
+    those_without (y ∷ xs) those x p (inl are) = let (q, rest, is, more) = are in inl (q, rest, is, those_without xs rest x p more)
+    those_without (y ∷ xs) those x p (inr are) = inr (are.0, those_without xs those x p are.1)
+
+    -- between two places none has the property
+    pub those_up_to : (xs those : List X) (i place : ℕ) → place ≤ i → i ≤ length xs → ((m : ℕ) (x : X) → place ≤ m → m < i → slice_get xs m ≡ Some x → ¬ (P x))
+        → AreThose P (take place xs) those → AreThose P (take i xs) those
+    those_up_to xs those zero place le within none are = let e : place ≡ 0 = omega arith in subst (λ (n : ℕ). AreThose P (take n xs) those) e are
+    those_up_to xs those (suc i) place le within none are = elim (cases_eq place (suc i)) [
+      | inl e ↦ subst (λ (n : ℕ). AreThose P (take n xs) those) e are
+      | inr ne ↦
+          let there = there_is xs i (omega arith) in
+          let x = there.0 in
+          let more = those_up_to xs those i place (omega arith) (omega arith) (λ m y from below. none m y from (omega arith)) are in
+          subst (λ (ys : List X). AreThose P ys those) (sym (take_next xs i x there.1)) (those_without (take i xs) those x (none i x (omega arith) (omega arith) there.1) more)
+    ]
+
+    -- the next one that has the property
+    pub those_next : (xs those : List X) (i place : ℕ) (x : X) → place ≤ i → slice_get xs i ≡ Some x → P x → ((m : ℕ) (y : X) → place ≤ m → m < i → slice_get xs m ≡ Some y → ¬ (P y))
+        → AreThose P (take place xs) those → AreThose P (take (suc i) xs) (those ++ x ∷ [])
+    those_next xs those i place x from at p none are =
+        let within = slice_get_within xs i x at in
+        subst (λ (ys : List X). AreThose P ys (those ++ x ∷ [])) (sym (take_next xs i x at))
+        (those_with (take i xs) those x p (those_up_to xs those i place from (omega arith) none are))
+
+-- ---- spans whose first keys ascend
+
+module _ (spans : List Span) (ordered : (i j : ℕ) (a b : Span) → i < j → slice_get spans i ≡ Some a → slice_get spans j ≡ Some b → IsBefore a.first b.first) where
+  -- the spans from a place on are later than the one before it
+  pub is_later : (k i : ℕ) (r : Span) → k ≤ i → slice_get spans i ≡ Some r → IsLater (before k spans) r
+  is_later zero i r le at = tt
+  is_later (suc k) i r le at =
+      let within = slice_get_within spans i r at in
+      let there = there_is spans k (omega arith) in
+      at_some (λ (other : Span). IsBefore other.first r.first) (slice_get spans k) there.0 there.1 (ordered k i there.0 r (omega arith) there.1 at)
+
+  -- and they alone
+  pub later_from : (k i : ℕ) (x : Span) → k ≤ length spans → slice_get spans i ≡ Some x → IsLater (before k spans) x → k ≤ i
+  later_from zero i x far there h = omega arith
+  later_from (suc k) i x far there h =
+      let (a, at_k) = there_is spans k (omega arith) in
+      let after : IsBefore a.first x.first = some_at (λ (other : Span). IsBefore other.first x.first) (slice_get spans k) a at_k h in
+      elim (cases_lt k i) [
+        | inl lt ↦ omega arith
+        | inr ge ↦ elim (cases_eq i k) [
+          | inl e ↦
+              let again : slice_get spans k ≡ Some x = ap (slice_get spans) (sym e) ∙ there in
+              let same : a ≡ x = cc in
+              absurd (not_before_self a.first (subst (λ (s : Span). IsBefore a.first s.first) (sym same) after))
+          | inr ne ↦ absurd (not_both_before a.first x.first after (ordered i k x a (omega arith) there at_k))
+        ]
+      ]
+
+-- after some turns of a walk: these are the spans before a place that have a property, and the last of them stands before it
+pub record HasCome (P : Span → Type 0) (spans : List Span) (turns : ℕ) (found : List Span) (after : Option Span) : Type 0 where
+  pub place : ℕ
+  pub enough : turns ≤ place
+  pub far : place ≤ length spans
+  pub after_is : after ≡ before place spans
+  pub those : AreThose P (take place spans) found
+
+HasCome-none : (P : Span → Type 0) (spans : List Span) → HasCome P spans 0 [] None
+HasCome-none P spans = record { place = 0; enough = omega arith; far = omega arith; after_is = refl; those = refl }
+
+-- a walk that has made as many turns as there are spans
+come_all : (P : Span → Type 0) (spans : List Span) (turns : ℕ) (found : List Span) (after : Option Span) → length spans ≤ turns → HasCome P spans turns found after → AreThose P spans found
+come_all P spans turns found after all come =
+    let enough = come.enough in
+    subst (λ (xs : List Span). AreThose P xs found) (take_all come.place spans (omega arith)) come.those
+
+module _ (P : Span → Type 0) (spans : List Span) (ordered : (i j : ℕ) (a b : Span) → i < j → slice_get spans i ≡ Some a → slice_get spans j ≡ Some b → IsBefore a.first b.first) (turns : ℕ)
+    (found : List Span) (after : Option Span) (come : HasCome P spans turns found after) where
+  first_is : (o : Option Span) → First (λ s. IsLater after s × P s) spans o → First (λ s. IsLater (before come.place spans) s × P s) spans o
+  first_is o first = subst (λ (a : Option Span). First (λ s. IsLater a s × P s) spans o) come.after_is first
+
+  -- none is left
+  come_last : First (λ s. IsLater after s × P s) spans None → AreThose P spans found
+  come_last first =
+      let none = first_is None first in
+      let far = come.far in
+      let all = those_up_to P spans found (length spans) come.place far (omega arith)
+      (λ m x from below at p. none x (contains_at spans m x at) (is_later spans ordered come.place m x from at, p)) come.those in
+      subst (λ (xs : List Span). AreThose P xs found) (take_all (length spans) spans (omega arith)) all
+
+  -- the next one comes
+  come_next : (span : Span) → First (λ s. IsLater after s × P s) spans (Some span) → HasCome P spans (turns + 1) (found ++ span ∷ []) (Some span)
+  come_next span found_first =
+      let first = first_is (Some span) found_first in
+      let i = first.0.0 in
+      let at = contained_at spans span first.0 in
+      let within = slice_get_within spans i span at in
+      let from = later_from spans ordered come.place i span come.far at first.1.0 in
+      let enough = come.enough in
+      record {
+        place = suc i;
+        enough = omega arith;
+        far = omega arith;
+        after_is = sym at;
+        those = those_next P spans found i come.place span from at first.1.1
+            (λ m x after below m_at p. first.2 x (contains_at spans m x m_at) (is_later spans ordered come.place m x after m_at, p) (ordered m i x span below m_at at)) come.those;
+      }
+
+-- ---- the same of a tree, whose regions are handed to a sink
+
+pub spans_long : (last : ℕ) (placed : List Placed) → length (regions_of last (map entry_of placed)) ≡ length placed
+spans_long last [] = refl
+spans_long last (p ∷ placed) = ap suc (spans_long last placed)
+
+-- the first keys of a sound tree's regions ascend
+abbrev pub Ordered : TreeView → Type 0
+Ordered t = IsSound t → (i j : ℕ) (a b : Span) → i < j → slice_get (spans_of t) i ≡ Some a → slice_get (spans_of t) j ≡ Some b → IsBefore a.first b.first
+
+-- so far as a walk has come, in which nothing changes
+pub record Walks (boxes : List Corners) (t now : TreeView) (turns : ℕ) (found : List Span) (after : Option Span) : Type 0 where
+  pub same : now ≡ t
+  pub there : AllByRecursion (Contains (spans_of t)) found
+  pub come : IsSound t → HasCome (Meets boxes) (spans_of t) turns found after
+
+pub Walks-none : (boxes : List Corners) (t : TreeView) → Walks boxes t t 0 [] None
+Walks-none boxes t = record { same = refl; there = tt; come = λ sound. HasCome-none (Meets boxes) (spans_of t) }
+
+module _ (boxes : List Corners) (t now : TreeView) (ordered : Ordered t) (turns : ℕ) (found : List Span) (after : Option Span) (walks : Walks boxes t now turns found after) where
+  pub walks_done : length t.placed ≤ turns → AreMetBy boxes t found
+  walks_done all = record {
+    there = walks.there;
+    those = λ sound. come_all (Meets boxes) (spans_of t) turns found after (let long = spans_long (last_address t.schema.dims) t.placed in omega arith) (walks.come sound);
+  }
+
+  -- what the tree tells next, of one that is the same
+  told : (next copied : Option Span) → copied ≡ after → First (λ s. IsLater copied s × Meets boxes s) (spans_of now) next → First (λ s. IsLater after s × Meets boxes s) (spans_of t) next
+  told next copied is first =
+      subst (λ (a : Option Span). First (λ s. IsLater a s × Meets boxes s) (spans_of t) next) is
+      (subst (λ (x : TreeView). First (λ s. IsLater copied s × Meets boxes s) (spans_of x) next) walks.same first)
+
+  pub walks_ended : (next copied : Option Span) → ((x : Span) → next ≡ Some x → ⊥) → copied ≡ after → First (λ s. IsLater copied s × Meets boxes s) (spans_of now) next
+      → AreMetBy boxes t found
+  walks_ended None copied none is first = record {
+    there = walks.there;
+    those = λ sound. come_last (Meets boxes) (spans_of t) (ordered sound) turns found after (walks.come sound) (told None copied is first);
+  }
+  walks_ended (Some span) copied none is first = absurd (none span refl)
+
+  pub walks_on : (new : TreeView) (copied : Option Span) (span : Span) → new ≡ now → copied ≡ after → First (λ s. IsLater copied s × Meets boxes s) (spans_of now) (Some span)
+      → Walks boxes t new (turns + 1) (found ++ span ∷ []) (Some span)
+  walks_on new copied span kept is next =
+      let first = told (Some span) copied is next in
+      record {
+        same = kept ∙ walks.same;
+        there = all_pushed (Contains (spans_of t)) found span walks.there first.0;
+        come = λ sound. come_next (Meets boxes) (spans_of t) (ordered sound) turns found after (walks.come sound) span first;
+      }
+
+-- ---- the sink
+
+module _ {S : Type 0} (Takes : S → List Span → S → Type 0) where
+  pub takes_none : (sink : S) → TakesThese Takes sink sink []
+  takes_none sink start taken has = subst (λ (regions : List Span). Takes start regions sink) (sym (none_more taken)) has
+    where
+      none_more : (xs : List Span) → xs ++ [] ≡ xs
+      none_more [] = refl
+      none_more (x ∷ xs) = ap (λ (ys : List Span). x ∷ ys) (none_more xs)
+
+  pub takes_more : (a b c : S) (some more : List Span) → TakesThese Takes a b some → TakesThese Takes b c more → TakesThese Takes a c (some ++ more)
+  takes_more a b c some more h k start taken has = subst (λ (regions : List Span). Takes start regions c) (append_assoc taken some more) (k start (taken ++ some) (h start taken has))
+
+  pub still_began : (a b : S) (some : List Span) → Began Takes a → TakesThese Takes a b some → Began Takes b
+  still_began a b some (start, taken, has) takes = (start, taken ++ some, takes start taken has)

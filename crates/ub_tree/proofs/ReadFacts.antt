@@ -1,0 +1,174 @@
+-- What a tree keeps over several calls that read it.
+use Rattle.std.proofs.Common.{◌≡◌, ◌≢◌, ◌∙◌, ℕ, IsTrue, Result, Ok, Err, IfErr, List, [], subst, sym, ap, refl}
+use Rattle.std.specs.Result.{IsErrAnd}
+use Rattle.ub_store.specs.declared.fault.StoreFault.TheVariants as store
+use Rattle.ub_tree.specs.Effects.{IsReadFault, IsPageRefused, IsPageMissing, raised_by}
+use Rattle.ub_tree.specs.Reading.{IsGiven, ReadsTree, SearchesTree, counted, fault_of_tree}
+use Rattle.ub_tree.specs.View.{TreeView, IsSound, KeepsRegions, KeepsTrace, spans_of}
+use Rattle.ub_tree.specs.declared.fault.TreeFault.{TreeFault}
+use Rattle.ub_tree.specs.declared.fault.TreeFault.TheVariants.{Full, Page, Store, Failed as HasFailed, Memory}
+use Rattle.ub_tree.specs.declared.read_fault.ReadFault.{ReadFault}
+use Rattle.ub_tree.specs.declared.read_fault.ReadFault.TheVariants as read
+
+-- nothing but the trace and the count of fetches has changed
+abbrev pub IsTraced : TreeView → TreeView → Type 0
+IsTraced old new = new ≡ record old { trace = new.trace; fetches = new.fetches }
+
+-- what such a tree keeps
+pub record Keeps (old new : TreeView) : Type 0 where
+  pub traced : IsTraced old new
+  pub regions : KeepsRegions old new
+  pub sound : IsSound old → IsSound new
+
+retraced : (t : TreeView) (trace : List ℕ) (fetches : ℕ) → IsSound t → IsSound (record t { trace = trace; fetches = fetches })
+retraced t trace fetches h = record {
+  working = h.working;
+  honest = h.honest;
+  regions_are = h.regions_are;
+  placed_are = h.placed_are;
+  rows_are = h.rows_are;
+  some_next = h.some_next;
+  last_next = h.last_next;
+  few = h.few;
+  closed = h.closed;
+  marked = h.marked;
+}
+
+pub Keeps-by : (old new : TreeView) → IsTraced old new → Keeps old new
+Keeps-by old new is = record {
+  traced = is;
+  regions = subst (λ (t : TreeView). KeepsRegions old t) (sym is) (record { schema = refl; placed = refl; rows = refl; next = refl });
+  sound = λ sound. subst IsSound (sym is) (retraced old new.trace new.fetches sound);
+}
+
+-- where the trace begins anew
+pub begun_traced : (old new : TreeView) → new ≡ record old { trace = [] } → IsTraced old new
+begun_traced old new is = is ∙ ap (λ (t : TreeView). record old { trace = t.trace; fetches = t.fetches }) (sym is)
+
+-- where nothing has changed
+pub unchanged_traced : (old new : TreeView) → new ≡ old → IsTraced old new
+unchanged_traced old new is = is ∙ ap (λ (t : TreeView). record old { trace = t.trace; fetches = t.fetches }) (sym is)
+
+pub unchanged_trace : (old new : TreeView) → new ≡ old → KeepsTrace old new
+unchanged_trace old new is = (ap (λ (t : TreeView). t.trace) is, ap (λ (t : TreeView). t.fetches) is)
+
+pub traced_spans : (old new : TreeView) → IsTraced old new → spans_of new ≡ spans_of old
+traced_spans old new is = ap spans_of is
+
+pub Keeps-none : (t : TreeView) → Keeps t t
+Keeps-none t = Keeps-by t t refl
+
+pub Keeps-more : (a b c : TreeView) → Keeps a b → Keeps b c → Keeps a c
+Keeps-more a b c h k = Keeps-by a c (k.traced ∙ ap (λ (t : TreeView). record t { trace = c.trace; fetches = c.fetches }) h.traced)
+
+-- ---- a call's fault, seen from before an earlier call that only read
+
+pub read_fault_before : (a b : TreeView) (fault : TreeFault) → IsTraced a b → IsReadFault b fault → IsReadFault a fault
+read_fault_before a b Full h is = is
+read_fault_before a b HasFailed h is = subst (λ (t : TreeView). IsTrue t.is_failed) h is
+read_fault_before a b Memory h is = tt
+read_fault_before a b (Page page of_page) h is = ((λ sound. is.0 ((Keeps-by a b h).sound sound)), subst (λ (t : TreeView). IsPageRefused t page of_page) h is.1)
+read_fault_before a b (Store store.Device) h is = subst (λ (t : TreeView). IsTrue t.store.can_fail) h is
+read_fault_before a b (Store store.NoPage) h is = ((λ sound. is.0 ((Keeps-by a b h).sound sound)), subst (λ (t : TreeView). IsPageMissing t) h is.1)
+read_fault_before a b (Store store.Memory) h is = is
+read_fault_before a b (Store store.BadSize) h is = is
+
+pub given_before : (a b : TreeView) (fault : ReadFault) → IsTraced a b → IsGiven b fault → IsGiven a fault
+given_before a b read.Memory h is = tt
+given_before a b (read.Tree fault) h is = (read_fault_before a b fault h is.0, is.1)
+
+-- on a sound tree a call that only reads is refused where its store fails, and for want of memory
+pub sound_fault : (old : TreeView) (fault : TreeFault) → IsSound old → IsReadFault old fault → fault ≢ Memory → fault ≡ Store store.Device
+sound_fault old Full sound is differs = absurd is
+sound_fault old HasFailed sound is differs = let working = sound.working in cc
+sound_fault old Memory sound is differs = absurd (differs refl)
+sound_fault old (Page page of_page) sound is differs = absurd (is.0 sound)
+sound_fault old (Store store.Device) sound is differs = refl
+sound_fault old (Store store.NoPage) sound is differs = absurd (is.0 sound)
+sound_fault old (Store store.Memory) sound is differs = absurd is
+sound_fault old (Store store.BadSize) sound is differs = absurd is
+
+-- ---- calls that read, one after the other
+
+-- reading after reading is reading
+pub reads_then : {T : Type 0} (r : Result T ReadFault) (a b c : TreeView) → IsTraced a b → ReadsTree b c r → ReadsTree a c r
+reads_then r a b c h reads = record {
+  same = reads.same ∙ ap (λ (t : TreeView). record t { store = record t.store { failed_reads = counted r t.store.failed_reads }; trace = c.trace; fetches = c.fetches }) h;
+  faults = faults r reads.faults;
+}
+  where
+    faults : {T : Type 0} (r : Result T ReadFault) → IfErr r (IsGiven b) → IfErr r (IsGiven a)
+    faults (Ok x) is = tt
+    faults (Err e) is = given_before a b e h is
+
+-- the fault of a call handed on
+pub reads_by : {T U : Type 0} (r : Result T ReadFault) (e : ReadFault) (a b c : TreeView) → IsErrAnd r (λ x. x ≡ e) → IsTraced a b → ReadsTree {A = U} b c (Err e) → ReadsTree a c r
+reads_by (Ok x) e a b c is h reads = absurd is
+reads_by {T = T} (Err f) e a b c is h reads = rw is (reads_then {T = T} (Err e) a b c h (record { same = reads.same; faults = reads.faults }))
+
+-- the fault of a call of the tree handed on
+given_of : (t : TreeView) (e : TreeFault) → IsReadFault t e → IsGiven t (fault_of_tree e)
+given_of t Memory fault = tt
+given_of t Full fault = absurd fault
+given_of t HasFailed fault = (fault, λ e. cc)
+given_of t (Page page of_page) fault = (fault, λ e. cc)
+given_of t (Store of_store) fault = (fault, λ e. cc)
+
+counted_of : (T : Type 0) (e : TreeFault) (n : ℕ) → counted {A = T} (Err (fault_of_tree e)) n ≡ raised_by e n
+counted_of T Memory n = refl
+counted_of T Full n = refl
+counted_of T HasFailed n = refl
+counted_of T (Page page of_page) n = refl
+counted_of T (Store of_store) n = refl
+
+pub tree_reads : {T : Type 0} (r : Result T ReadFault) (e : TreeFault) (a b c : TreeView) → IsErrAnd r (λ x. x ≡ fault_of_tree e) → IsTraced a b
+    → c ≡ record b { store = record b.store { failed_reads = raised_by e b.store.failed_reads }; trace = c.trace; fetches = c.fetches } → IsReadFault b e → ReadsTree a c r
+tree_reads (Ok x) e a b c is h same fault = absurd is
+tree_reads {T = T} (Err f) e a b c is h same fault =
+    rw is (reads_then {T = T} (Err (fault_of_tree e)) a b c h (record {
+      same = same ∙ ap (λ (n : ℕ). record b { store = record b.store { failed_reads = n }; trace = c.trace; fetches = c.fetches }) (sym (counted_of T e b.store.failed_reads));
+      faults = given_of b e fault;
+    }))
+
+-- ---- calls that search
+
+-- where only the count of failed reads has changed, a sound tree is sound
+retold : (t : TreeView) (n : ℕ) → IsSound t → IsSound (record t { store = record t.store { failed_reads = n } })
+retold t n h = record {
+  working = h.working;
+  honest = h.honest;
+  regions_are = h.regions_are;
+  placed_are = h.placed_are;
+  rows_are = h.rows_are;
+  some_next = h.some_next;
+  last_next = h.last_next;
+  few = h.few;
+  closed = h.closed;
+  marked = h.marked;
+}
+
+pub SearchesTree-sound : {A : Type 0} (old new : TreeView) (r : Result A ReadFault) → SearchesTree old new r → IsSound old → IsSound new
+SearchesTree-sound old new r searched sound = subst IsSound (sym searched.same) (retold old (counted r old.store.failed_reads) sound)
+
+pub SearchesTree-regions : {A : Type 0} (old new : TreeView) (r : Result A ReadFault) → SearchesTree old new r → KeepsRegions old new
+SearchesTree-regions old new r searched =
+    subst (λ (t : TreeView). KeepsRegions old t) (sym searched.same) (record { schema = refl; placed = refl; rows = refl; next = refl })
+
+pub SearchesTree-trace : {A : Type 0} (old new : TreeView) (r : Result A ReadFault) → SearchesTree old new r → KeepsTrace old new
+SearchesTree-trace old new r searched = (ap (λ (t : TreeView). t.trace) searched.same, ap (λ (t : TreeView). t.fetches) searched.same)
+
+-- memory was refused, and nothing has changed
+pub memory_searches : {T : Type 0} (r : Result T ReadFault) (a b : TreeView) → IsErrAnd r (λ x. x ≡ read.Memory) → b ≡ a → SearchesTree a b r
+memory_searches (Ok x) a b is same = absurd is
+memory_searches (Err f) a b is same = rw is (record { same = same; faults = tt })
+
+-- a search was refused, after which nothing had changed
+pub tree_searches : {T : Type 0} (r : Result T ReadFault) (e : TreeFault) (a b c : TreeView) → IsErrAnd r (λ x. x ≡ fault_of_tree e) → b ≡ a
+    → c ≡ record b { store = record b.store { failed_reads = raised_by e b.store.failed_reads } } → IsReadFault b e → SearchesTree a c r
+tree_searches (Ok x) e a b c is before same fault = absurd is
+tree_searches {T = T} (Err f) e a b c is before same fault =
+    rw is (record {
+      same = same ∙ ap (λ (t : TreeView). record t { store = record t.store { failed_reads = raised_by e t.store.failed_reads } }) before
+          ∙ ap (λ (n : ℕ). record a { store = record a.store { failed_reads = n } }) (sym (counted_of T e a.store.failed_reads));
+      faults = subst (λ (t : TreeView). IsGiven t (fault_of_tree e)) before (given_of b e fault);
+    })

@@ -1,0 +1,37 @@
+ghost use Rattle.std.specs.Prelude.{List, OnOk};
+ghost use Rattle.ub_tree.specs.Handing.{AreMetBy, Began, TakesThese};
+ghost use Rattle.ub_tree.specs.Reading.{SearchesTree};
+ghost use Rattle.ub_tree.specs.declared.region.Region.{Region as RegionView};
+
+use crate::read_fault::ReadFault;
+use crate::sink::RegionSink;
+use crate::tree::Tree;
+use ub_bigmin::ZBox;
+use ub_store::PageStore;
+
+impl<S: PageStore> Tree<S> {
+    /// Hands each region that meets one of the boxes to a sink, one after the other, in the order of their first keys. No
+    /// region is fetched, and the trace stays.
+    ///
+    /// `Memory` where memory was refused, here or by the sink; `Tree` where the tree refused.
+    pub fn for_each_meeting<T: RegionSink>(
+        &mut self,
+        boxes: &[ZBox],
+        sink: &mut T,
+    ) -> Result<(), ReadFault>
+        requires { Began (T.Takes boxes.now) sink.old }
+        ensures met { OnOk result ((met : List RegionView) × AreMetBy boxes.now self.old met
+            × TakesThese (T.Takes boxes.now) sink.old sink.new met) }
+        ensures effect { SearchesTree self.old self.new result }
+    {
+        let mut after = None;
+        for _turn in 0..self.regions() {
+            let Some(region) = self.next_meeting(boxes, after.as_ref())? else {
+                return Ok(());
+            };
+            sink.push(boxes, &region)?;
+            after = Some(region);
+        }
+        Ok(())
+    }
+}
