@@ -1,5 +1,5 @@
 // Names, columns, schemas, rows and keys.
-use crate::samples::plane;
+use crate::samples::{plane, table};
 use ub_table::columns::MAX_COLUMNS;
 use ub_table::{Columns, Key, Name, PageFault, Row, Schema, is_keyword};
 
@@ -83,26 +83,61 @@ fn takes_columns_and_schemas(rt: HostRuntime) {
 }
 
 #[test]
-fn orders_keys_and_reads_columns(rt: HostRuntime) {
+fn orders_keys(rt: HostRuntime) {
     let first = Key { z: 1, number: 8 };
     let low = Key { z: 1, number: 9 };
     let high = Key {
         z: 1 << 100,
         number: 1,
     };
-    let row = Row {
-        number: 1,
-        dims: [3, 4, 0, 0],
-        measures: [-5, 6, 0, 0],
-    };
     assert!(rt;
         low.is_before(&high)
             && !high.is_before(&low)
             && first.is_before(&low)
             && !low.is_before(&low)
-            && row.column_value(2, 0) == 3
-            && row.column_value(2, 1) == 4
-            && row.column_value(2, 2) == -5
-            && row.column_value(2, 3) == 6
     );
+}
+
+// A row, and its values in the columns of a table of two dimensions and two measures.
+static ROW: Row = Row {
+    number: 1,
+    dims: [3, 4, 0, 0],
+    measures: [-5, 6, 0, 0],
+};
+static VALUES: [i64; 4] = [3, 4, -5, 6];
+
+#[test]
+fn reads_columns(rt: HostRuntime) {
+    let schema = table(b"xymn", 2, 2).expect(&rt, "a table");
+    let mut are_right = schema.columns().len() == VALUES.len();
+    for column in 0..schema.columns().len() {
+        are_right = are_right && VALUES.get(column) == Some(&schema.value_of(&ROW, column));
+    }
+    assert!(rt; are_right);
+}
+
+// Numbers, and whether the first column of such a table, a dimension, and its last, a measure, can
+// hold them.
+const NUMBERS: &[(i128, bool, bool)] = &[
+    (-1, false, true),
+    (0, true, true),
+    (4_294_967_295, true, true),
+    (4_294_967_296, false, true),
+    (9_223_372_036_854_775_807, false, true),
+    (9_223_372_036_854_775_808, false, false),
+    (-9_223_372_036_854_775_808, false, true),
+    (-9_223_372_036_854_775_809, false, false),
+];
+
+#[test]
+fn tells_which_numbers_fit(rt: HostRuntime) {
+    let schema = table(b"xymn", 2, 2).expect(&rt, "a table");
+    for (number, fits_dimension, fits_measure) in NUMBERS {
+        assert!(rt;
+            schema.fits(0, *number) == *fits_dimension
+                && schema.coordinate(0, *number).is_some() == *fits_dimension
+                && schema.fits(3, *number) == *fits_measure,
+            "{number}"
+        );
+    }
 }

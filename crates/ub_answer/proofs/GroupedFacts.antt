@@ -34,13 +34,12 @@ use Rattle.ub_query.specs.Meaning.{IsGroupMeaning, limited}
 use Rattle.ub_query.specs.Order.{IsArrangement, IsGroupBefore, IsBeforeBy, AreBelow}
 use Rattle.ub_query.specs.Posed.{IsGrouped}
 use Rattle.ub_query.specs.Shape.{Asked}
-use Rattle.ub_query.specs.Truth.{value_in}
 use Rattle.ub_query.specs.declared.cell.Cell.{Cell}
 use Rattle.ub_query.specs.declared.cell.Cell.TheVariants.{Number}
 use Rattle.ub_query.specs.declared.query.Item.{Item}
 use Rattle.ub_query.specs.declared.query.Item.TheVariants.{Column, Count, Aggregate}
 use Rattle.ub_query.specs.declared.query.SortKey.{SortKey}
-use Rattle.ub_table.specs.Table.{Table}
+use Rattle.ub_table.specs.Table.{Table, column_value}
 use Rattle.ub_table.specs.declared.row.Row.{Row}
 use Rattle.ub_table.specs.declared.schema.Schema.{Schema}
 use denote.Ref.{Bor}
@@ -48,18 +47,18 @@ use denote.Ref.{Bor}
 -- ---- a row of a group has its values
 
 among-own : (schema : Schema) (row : Row) (columns : List ℕ) (column : ℕ) → Contains columns column
-    → value_among columns (map (value_in schema row) columns) column ≡ Number (value_in schema row column)
+    → value_among columns (map (column_value schema row) columns) column ≡ Number (column_value schema row column)
 among-own schema row [] column here = absurd (contains_none column here)
 among-own schema row (c ∷ columns) column here = elim (cases_Bool (c == column)) [
   | inl same ↦
-      ap (λ (b : Bool). cond b (Number (value_in schema row c)) (value_among columns (map (value_in schema row) columns) column)) same
-      ∙ ap (λ (n : ℕ). Number (value_in schema row n)) (eqb-true c column same)
+      ap (λ (b : Bool). cond b (Number (column_value schema row c)) (value_among columns (map (column_value schema row) columns) column)) same
+      ∙ ap (λ (n : ℕ). Number (column_value schema row n)) (eqb-true c column same)
   | inr apart ↦
       let there : Contains columns column = elim (contains_cases c columns column here) [
         | inl e ↦ absurd (true≢false (sym (eq-eqb c column e) ∙ apart))
         | inr more ↦ more
       ] in
-      ap (λ (b : Bool). cond b (Number (value_in schema row c)) (value_among columns (map (value_in schema row) columns) column)) apart
+      ap (λ (b : Bool). cond b (Number (column_value schema row c)) (value_among columns (map (column_value schema row) columns) column)) apart
       ∙ among-own schema row columns column there
 ]
 

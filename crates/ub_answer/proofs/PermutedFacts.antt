@@ -9,12 +9,12 @@ use Rattle.std.proofs.lemmas.List.Sums.{sum_by-cons, length-filter}
 use Rattle.std.specs.List.{sum_by}
 use Rattle.ub_query.proofs.Laws.{contains_map, contains_from_map, contains_filter, contains_from_filter, min_is_least, max_is_greatest}
 use Rattle.ub_query.specs.Cells.{group_cell, total, least_of, greatest_of, taken_of}
-use Rattle.ub_query.specs.Truth.{value_in}
 use Rattle.ub_query.specs.declared.cell.Cell.TheVariants.{Number}
 use Rattle.ub_query.specs.declared.query.Aggregate.{Aggregate as Taken}
 use Rattle.ub_query.specs.declared.query.Aggregate.TheVariants.{Sum, Min, Max}
 use Rattle.ub_query.specs.declared.query.Item.{Item}
 use Rattle.ub_query.specs.declared.query.Item.TheVariants.{Column, Count, Aggregate}
+use Rattle.ub_table.specs.Table.{column_value}
 use Rattle.ub_table.specs.declared.row.Row.{Row}
 use Rattle.ub_table.specs.declared.schema.Schema.{Schema}
 
@@ -118,7 +118,7 @@ pub cell-permuted : (schema : Schema) (columns : List ℕ) (values : List ℤ) (
 cell-permuted schema columns values p xs ys same (Column column) = refl
 cell-permuted schema columns values p xs ys same Count = ap (λ (n : ℕ). Number (pos n)) (length-permuted (λ row. pos 0) p xs ys same)
 cell-permuted schema columns values p xs ys same (Aggregate taken column) =
-    let f : Row → ℤ = λ row. value_in schema row column in
+    let f : Row → ℤ = λ row. column_value schema row column in
     taken-same taken (map f (filter p xs)) (map f (filter p ys))
     (length-map (filter p xs) f ∙ length-permuted f p xs ys same ∙ sym (length-map (filter p ys) f))
     (total-permuted f p xs ys same) (elements-permuted f p xs ys same) (elements-permuted f p ys xs (IsPermutation-sym xs ys same))

@@ -9,13 +9,13 @@ use Rattle.std.specs.List.{All}
 use Rattle.ub_answer.specs.Tally.{plus, taken_in, of_none, with_row, IsWithin, IsNarrow, IsSmall, IsShown, AreShown, many}
 use Rattle.ub_query.specs.Cells.{Group, value_among, total, taken_of}
 use Rattle.ub_query.specs.Posed.{IsAggregate}
-use Rattle.ub_query.specs.Truth.{value_in}
 use Rattle.ub_query.specs.declared.cell.Cell.{Cell}
 use Rattle.ub_query.specs.declared.cell.Cell.TheVariants.{Number, Null}
 use Rattle.ub_query.specs.declared.query.Aggregate.{Aggregate as Taken}
 use Rattle.ub_query.specs.declared.query.Aggregate.TheVariants.{Sum, Min, Max}
 use Rattle.ub_query.specs.declared.query.Item.{Item}
 use Rattle.ub_query.specs.declared.query.Item.TheVariants.{Column, Count, Aggregate}
+use Rattle.ub_table.specs.Table.{column_value}
 use Rattle.ub_table.specs.declared.row.Row.{Row}
 use Rattle.ub_table.specs.declared.schema.Schema.{Schema}
 
@@ -74,7 +74,7 @@ taken-next Max (x ∷ xs) v n few p q =
 
 -- the row has the group's value in the item's column
 abbrev pub IsOfGroup : Schema → List ℕ → List ℤ → Row → Item → Type 0
-IsOfGroup schema columns values row (Column column) = value_among columns values column ≡ Number (value_in schema row column)
+IsOfGroup schema columns values row (Column column) = value_among columns values column ≡ Number (column_value schema row column)
 IsOfGroup schema columns values row Count = Unit {0}
 IsOfGroup schema columns values row (Aggregate taken column) = Unit {0}
 
@@ -90,7 +90,7 @@ pub shown-next : (schema : Schema) (columns : List ℕ) (values : List ℤ) (row
     → IsShown schema columns (record { values = values; rows = rows ++ row ∷ [] }) item (with_row schema row item cell)
 shown-next schema columns values rows row (Column column) cell few narrow of shown = record {
   is = sym of;
-  small = subst (λ (n : ℕ). IsWithin n (value_in schema row column)) (sym (long rows row)) (within-one (length rows) (value_in schema row column) narrow);
+  small = subst (λ (n : ℕ). IsWithin n (column_value schema row column)) (sym (long rows row)) (within-one (length rows) (column_value schema row column) narrow);
 }
 shown-next schema columns values rows row Count cell few narrow of shown =
     let before = shown tt in
@@ -103,7 +103,7 @@ shown-next schema columns values rows row Count cell few narrow of shown =
     }
 shown-next schema columns values rows row (Aggregate taken column) cell few narrow of shown =
     let before = shown tt in
-    let f : Row → ℤ = λ row. value_in schema row column in
+    let f : Row → ℤ = λ row. column_value schema row column in
     let small : IsSmall (length rows) (taken_of taken (map f rows)) = subst (λ (c : Cell). IsSmall (length rows) c) before.is before.small in
     let next = taken-next taken (map f rows) (f row) (length rows) few small narrow in
     record {

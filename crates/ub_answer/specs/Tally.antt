@@ -2,13 +2,13 @@
 use Rattle.std.specs.Prelude.{◌≡◌, ◌<◌, ◌≤ℤ◌, ◌+ℤ◌, ◌*◌, ℕ, ℤ, pos, neg_ℤ, List, [], length, slice_index_or}
 use Rattle.std.specs.Int.{int_max, int_min, saturate_to_bits}
 use Rattle.ub_query.specs.Cells.{Group, group_cell}
-use Rattle.ub_query.specs.Truth.{value_in}
 use Rattle.ub_query.specs.declared.cell.Cell.{Cell}
 use Rattle.ub_query.specs.declared.cell.Cell.TheVariants.{Number, Null}
 use Rattle.ub_query.specs.declared.query.Aggregate.{Aggregate as Taken}
 use Rattle.ub_query.specs.declared.query.Aggregate.TheVariants.{Sum, Min, Max}
 use Rattle.ub_query.specs.declared.query.Item.{Item}
 use Rattle.ub_query.specs.declared.query.Item.TheVariants.{Column, Count, Aggregate}
+use Rattle.ub_table.specs.Table.{column_value}
 use Rattle.ub_table.specs.declared.row.Row.{Row}
 use Rattle.ub_table.specs.declared.schema.Schema.{Schema}
 
@@ -38,9 +38,9 @@ of_none (Aggregate taken column) = Null
 
 -- what an item shows of some rows and one more
 abbrev pub with_row : Schema → Row → Item → Cell → Cell
-with_row schema row (Column column) cell = Number (value_in schema row column)
+with_row schema row (Column column) cell = Number (column_value schema row column)
 with_row schema row Count cell = plus (pos 1) cell
-with_row schema row (Aggregate taken column) cell = taken_in taken (value_in schema row column) cell
+with_row schema row (Aggregate taken column) cell = taken_in taken (column_value schema row column) cell
 
 -- the number lies no farther from 0 than so many values of 64 bits may
 abbrev pub IsWithin : ℕ → ℤ → Type 0
@@ -48,9 +48,9 @@ IsWithin n x = (neg_ℤ (pos (n * 9223372036854775808)) ≤ℤ x) × (x ≤ℤ p
 
 -- the row's value in the item's column has 64 bits
 abbrev pub IsNarrow : Schema → Row → Item → Type 0
-IsNarrow schema row (Column column) = IsWithin 1 (value_in schema row column)
+IsNarrow schema row (Column column) = IsWithin 1 (column_value schema row column)
 IsNarrow schema row Count = Unit {0}
-IsNarrow schema row (Aggregate taken column) = IsWithin 1 (value_in schema row column)
+IsNarrow schema row (Aggregate taken column) = IsWithin 1 (column_value schema row column)
 
 abbrev pub IsSmall : ℕ → Cell → Type 0
 IsSmall n (Number x) = IsWithin n x

@@ -17,7 +17,7 @@ use Rattle.ub_boxes.specs.Truths.{covers, is_of_dimensions, known_as, conjoined}
 use Rattle.ub_boxes.specs.declared.truths.Truths.{Truths}
 use Rattle.ub_query.specs.Groups.{is_selected}
 use Rattle.ub_query.specs.Shape.{Shape}
-use Rattle.ub_query.specs.Truth.{value_in}
+use Rattle.ub_table.specs.Table.{column_value}
 use Rattle.ub_table.specs.Value.{value}
 use Rattle.ub_table.specs.declared.row.Row.{Row}
 use Rattle.ub_table.specs.declared.schema.Schema.{Schema}
@@ -98,14 +98,14 @@ get_or-taken [] (suc n) k lt = refl
 get_or-taken (x ∷ xs) (suc n) zero lt = refl
 get_or-taken (x ∷ xs) (suc n) (suc k) lt = get_or-taken xs n k (omega arith)
 
-row-at : (schema : Schema) (row : Row) → IsAt schema (value_in schema row) (point_of schema row)
+row-at : (schema : Schema) (row : Row) → IsAt schema (column_value schema row) (point_of schema row)
 row-at schema row column lt =
     let t : nat_lt column schema.dims ≡ true = search (rules, lt) in
     rw (t, get_or-taken row.dims schema.dims column lt) refl
 
 selected-covered : (schema : Schema) (filter : Option Shape) (row : Row) → is_selected schema filter row ≡ true → covers schema filter (point_of schema row) ≡ true
 selected-covered schema None row e = refl
-selected-covered schema (Some c) row e = (allows schema (value_in schema row) (point_of schema row) (row-at schema row) c).0 e
+selected-covered schema (Some c) row e = (allows schema (column_value schema row) (point_of schema row) (row-at schema row) c).0 e
 
 pub selected_are_in_boxes : SelectedAreInBoxes
 selected_are_in_boxes schema filter row is e = elim (cases_Bool (is_wide schema filter)) [
@@ -120,7 +120,7 @@ and-parts false b e = (refl, e)
 covered-is : (schema : Schema) (filter : Option Shape) (row : Row) → is_of_dimensions schema filter ≡ true → covers schema filter (point_of schema row) ≡ is_selected schema filter row
 covered-is schema None row e = refl
 covered-is schema (Some c) row e =
-    ap (λ (t : Truths). t.can_be_true) (known schema (value_in schema row) (point_of schema row) (row-at schema row) c e)
+    ap (λ (t : Truths). t.can_be_true) (known schema (column_value schema row) (point_of schema row) (row-at schema row) c e)
 
 pub exact_boxes_select : ExactBoxesSelect
 exact_boxes_select schema filter row is e =

@@ -11,7 +11,7 @@ use Rattle.ub_exec.specs.Answers.{IsSwept}
 use Rattle.ub_filter.specs.Choice.{is_chosen}
 use Rattle.ub_filter.specs.declared.choice.Choice.{Choice}
 use Rattle.ub_exec.specs.Visits.{HasFetched, HasWalked, MeetsIn, fetches_then}
-use Rattle.ub_planning.specs.Plan.{PlanView, kind_of, kept_by, plan_of}
+use Rattle.ub_planning.specs.Plan.{PlanView, planned_kind, kept_by, plan_of}
 use Rattle.ub_planning.specs.declared.planned.Kind.{Kind}
 use Rattle.ub_planning.specs.declared.planned.Kind.TheVariants.{Empty, Scan, Sweep}
 use Rattle.ub_planning.specs.Visits as plan
@@ -52,7 +52,7 @@ nothing_fetched p t new is limit trace fetches = record {
 
 -- an empty plan has no boxes
 no_boxes : (schema : Schema) (p : PlanView) → p ≡ plan_of schema p.asked → p.kind ≡ Empty → p.covering.boxes ≡ []
-no_boxes schema p is empty = ap (λ (x : PlanView). x.covering.boxes) is ∙ kept (kind_of schema p.asked) (cover_of schema p.asked.filter) (sym (ap (λ (x : PlanView). x.kind) is) ∙ empty)
+no_boxes schema p is empty = ap (λ (x : PlanView). x.covering.boxes) is ∙ kept (planned_kind schema p.asked) (cover_of schema p.asked.filter) (sym (ap (λ (x : PlanView). x.kind) is) ∙ empty)
   where
     kept : (kind : Kind) (covering : Covering) → kind ≡ Empty → (kept_by kind covering).boxes ≡ []
     kept Empty covering e = refl

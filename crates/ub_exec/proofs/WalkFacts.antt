@@ -7,7 +7,7 @@ use Rattle.std.proofs.lemmas.Option.{slice_get_within}
 use Rattle.std.specs.List.{Contains, filter}
 use Rattle.std.specs.Option.{is_some}
 use Rattle.ub_bigmin.specs.Box.{Corners}
-use Rattle.ub_tree.proofs.Laws.{Keeps, before, contained_at, first_keys_ascend, firsts_placed, is_later, later_from, spans_long, take_all, those_next, those_up_to}
+use Rattle.ub_tree.proofs.Laws.{Keeps, before, contained_at, spans_ascend, firsts_placed, is_later, later_from, spans_long, take_all, those_next, those_up_to}
 use Rattle.ub_exec.specs.Visits.{MeetsIn, AreMeeting, fetches_then, HasWalked, HasTurned}
 use Rattle.ub_region.specs.Those.{AreThose}
 use Rattle.ub_region.proofs.Laws.{are_ascending_of}
@@ -47,7 +47,7 @@ key_at (q ∷ placed) (suc k) p at = key_at placed k p at
 
 -- the first keys of a sound tree's regions ascend
 in_order : (t : TreeView) → IsSound t → (i j : ℕ) (a b : Span) → i < j → slice_get (spans_of t) i ≡ Some a → slice_get (spans_of t) j ≡ Some b → IsBefore a.first b.first
-in_order t sound i j a b lt at_i at_j = first_keys_ascend t i j a b sound lt at_i at_j
+in_order t sound i j a b lt at_i at_j = spans_ascend t i j a b sound lt at_i at_j
 
 -- the region that begins with a key stands at one place
 same_place : (placed : List Placed) (k j : ℕ) (p q : Placed) → are_ascending (first_keys (map entry_of placed)) ≡ true → slice_get placed k ≡ Some p → slice_get placed j ≡ Some q

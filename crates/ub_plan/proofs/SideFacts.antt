@@ -11,7 +11,7 @@ use Rattle.ub_table.specs.Value.{greatest}
 use Rattle.ub_boxes.specs.Grid.{grid}
 use Rattle.ub_boxes.specs.Truths.{covers}
 use Rattle.ub_plan.specs.Explained.{sides}
-use Rattle.ub_planning.specs.Plan.{kept_by, kind_of, plan_of}
+use Rattle.ub_planning.specs.Plan.{kept_by, planned_kind, plan_of}
 use Rattle.ub_planning.specs.declared.planned.Kind.{Kind}
 use Rattle.ub_planning.specs.declared.planned.Kind.TheVariants.{Empty, Scan, Sweep}
 use Rattle.ub_query.proofs.Laws.{contains_here, contains_later, contains_cases, contains_none, contains_from_map}
@@ -76,6 +76,6 @@ sides-long schema dim (name ∷ names) (low ∷ lo) (high ∷ hi) n a b few =
 pub each_dimension : (schema : Schema) (q : Asked) (b : Corners) → Contains (plan_of schema q).covering.boxes b → length (sides schema 0 schema.columns b.lo b.hi) ≡ schema.dims
 unfolding IsLong
 each_dimension schema q b there =
-    let long = of-long schema q.filter b (kept_among (kind_of schema q) schema q.filter b there) in
+    let long = of-long schema q.filter b (kept_among (planned_kind schema q) schema q.filter b there) in
     let few = schema.counts.covers_dims in
     sides-long schema 0 schema.columns b.lo b.hi schema.dims long.0 long.1 few

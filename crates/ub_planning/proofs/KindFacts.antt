@@ -5,7 +5,7 @@ use Rattle.std.proofs.lemmas.List.{nil_from_length}
 use Rattle.ub_bigmin.specs.Box.{Corners}
 use Rattle.ub_boxes.specs.Boxes.{boxes_of}
 use Rattle.ub_planning.specs.Laws.{PlansAreEmpty, SweepsAreLed}
-use Rattle.ub_planning.specs.Plan.{along, along_item, is_zero, kind_of, reads}
+use Rattle.ub_planning.specs.Plan.{along, along_item, is_zero, planned_kind, reads}
 use Rattle.ub_planning.specs.declared.planned.Kind.{Kind}
 use Rattle.ub_planning.specs.declared.planned.Kind.TheVariants.{Empty, Scan, Sweep}
 use Rattle.ub_query.proofs.Laws.{group_queries_are_told}
@@ -57,12 +57,12 @@ told_nothing boxes limit (inr zero) = or_right (length boxes == 0) (is_zero limi
 abbrev Nothing : Schema → Asked → Bool → Type 0
 Nothing schema q b = (length (boxes_of schema q.filter) == 0 || is_zero q.limit) ≡ b
 
-kind_by : (schema : Schema) (q : Asked) (b : Bool) → Nothing schema q b → kind_of schema q ≡ cond b Empty (read_kind schema q)
+kind_by : (schema : Schema) (q : Asked) (b : Bool) → Nothing schema q b → planned_kind schema q ≡ cond b Empty (read_kind schema q)
 kind_by schema q b is = ap (λ (b : Bool). cond b Empty (read_kind schema q)) is
 
 -- a plan reads regions, or it is empty, and there is no box or the limit is 0
 pub kind_cases : (schema : Schema) (q : Asked)
-    → (reads (kind_of schema q) ≡ true) ⊎ ((kind_of schema q ≡ Empty) × ((boxes_of schema q.filter ≡ []) ⊎ (q.limit ≡ Some 0)))
+    → (reads (planned_kind schema q) ≡ true) ⊎ ((planned_kind schema q ≡ Empty) × ((boxes_of schema q.filter ≡ []) ⊎ (q.limit ≡ Some 0)))
 kind_cases schema q =
     ⊎_elim (λ (t : Nothing schema q true). inr (kind_by schema q true t, nothing_there (boxes_of schema q.filter) q.limit t))
     (λ (f : Nothing schema q false). inl (ap reads (kind_by schema q false f) ∙ read_reads schema q))
@@ -70,8 +70,8 @@ kind_cases schema q =
 
 pub plans_are_empty : PlansAreEmpty
 plans_are_empty schema q = (
-  λ empty. ⊎_elim (λ (read : reads (kind_of schema q) ≡ true). absurd (true≢false (sym read ∙ ap reads empty)))
-      (λ (none : (kind_of schema q ≡ Empty) × ((boxes_of schema q.filter ≡ []) ⊎ (q.limit ≡ Some 0))). none.1)
+  λ empty. ⊎_elim (λ (read : reads (planned_kind schema q) ≡ true). absurd (true≢false (sym read ∙ ap reads empty)))
+      (λ (none : (planned_kind schema q ≡ Empty) × ((boxes_of schema q.filter ≡ []) ⊎ (q.limit ≡ Some 0))). none.1)
       (kind_cases schema q),
   λ none. kind_by schema q true (told_nothing (boxes_of schema q.filter) q.limit none),
 )
@@ -119,7 +119,7 @@ plain q = (
       (cases_Bool (has_groups q)),
 )
 
-is_read : (schema : Schema) (q : Asked) → kind_of schema q ≢ Empty → kind_of schema q ≡ read_kind schema q
+is_read : (schema : Schema) (q : Asked) → planned_kind schema q ≢ Empty → planned_kind schema q ≡ read_kind schema q
 is_read schema q some =
     ⊎_elim (λ (t : Nothing schema q true). absurd (some (kind_by schema q true t)))
     (λ (f : Nothing schema q false). kind_by schema q false f)

@@ -5,7 +5,7 @@ use Rattle.ub_planning.proofs.MeaningFacts.{zero_means_none, none_means_zero}
 use Rattle.ub_planning.proofs.SweepFacts.{visits_of, visits_one}
 use Rattle.ub_planning.proofs.VisitFacts.{row_is_met, meeting_hold, meeting_hold_tables}
 use Rattle.ub_planning.specs.Laws.{SelectedRowsAreMet, PlansTakeTheSelected, MeetingHoldTheSelected, MeetingHoldTheTables, LimitOfZeroMeansNothing, MeetingAreOne, EventsAreOne, PlansHaveVisits, VisitsAreOne}
-use Rattle.ub_planning.specs.Plan.{kind_of, plan_of}
+use Rattle.ub_planning.specs.Plan.{planned_kind, plan_of}
 use Rattle.ub_planning.specs.Visits.{Span, Meets, spans_of}
 use Rattle.ub_query.specs.Meaning.{IsMeaning}
 use Rattle.ub_query.specs.declared.cell.Cell.{Cell}
@@ -46,7 +46,7 @@ pub events_are_one : EventsAreOne
 events_are_one schema boxes dim is_descending next regions first second are a b = events_one schema boxes dim is_descending regions first second a b
 
 pub plans_have_visits : PlansHaveVisits
-plans_have_visits schema q next regions are = visits_of (kind_of schema q) schema (plan_of schema q) next regions are
+plans_have_visits schema q next regions are = visits_of (planned_kind schema q) schema (plan_of schema q) next regions are
 
 pub visits_are_one : VisitsAreOne
-visits_are_one schema q next regions first second are a b = visits_one (kind_of schema q) schema (plan_of schema q) regions first second a b
+visits_are_one schema q next regions first second are a b = visits_one (planned_kind schema q) schema (plan_of schema q) regions first second a b

@@ -10,7 +10,7 @@ use Rattle.ub_planning.proofs.TakeFacts.{empty_boxes, in_none}
 use Rattle.ub_planning.proofs.ThoseFacts.{filter_none}
 use Rattle.ub_planning.proofs.VisitFacts.{meeting_taken}
 use Rattle.ub_planning.specs.Meaning.{IsPlanMeaning, MeansAs}
-use Rattle.ub_planning.specs.Plan.{PlanView, plan_of, kind_of, takes}
+use Rattle.ub_planning.specs.Plan.{PlanView, plan_of, planned_kind, takes}
 use Rattle.ub_planning.specs.Visits.{fetched_rows}
 use Rattle.ub_query.proofs.Laws.{selected_are_in_order}
 use Rattle.ub_query.specs.Groups.{selected}
@@ -32,7 +32,7 @@ zero_or_not (Some n) = elim (cases_Bool (n == 0)) [
 -- where the limit is 0, the plan has no boxes
 zero_has_no_boxes : (schema : Schema) (q : Asked) → q.limit ≡ Some 0 → (plan_of schema q).covering.boxes ≡ []
 zero_has_no_boxes schema q zero =
-    empty_boxes (kind_of schema q) (cover_of schema q.filter) ((plans_are_empty schema q).1 (inr zero))
+    empty_boxes (planned_kind schema q) (cover_of schema q.filter) ((plans_are_empty schema q).1 (inr zero))
 
 -- ---- where the limit isn't 0, the selected rows are chosen
 

@@ -8,7 +8,7 @@ use Rattle.ub_boxes.proofs.Laws.{selected_are_in_boxes, exact_boxes_select}
 use Rattle.ub_planning.proofs.InsideFacts.{in_some, from_in_some}
 use Rattle.ub_planning.proofs.KindFacts.{kind_cases}
 use Rattle.ub_planning.proofs.SpanFacts.{of_span, of_some_span, rows_are_points}
-use Rattle.ub_planning.specs.Plan.{PlanView, kind_of, kept_by, plan_of, reads, residual_by, residual_of, is_in_any, takes}
+use Rattle.ub_planning.specs.Plan.{PlanView, planned_kind, kept_by, plan_of, reads, residual_by, residual_of, is_in_any, takes}
 use Rattle.ub_planning.specs.Visits.{Span, Meets, spans_of}
 use Rattle.ub_planning.specs.declared.planned.Kind.{Kind}
 use Rattle.ub_planning.specs.declared.planned.Kind.TheVariants.{Empty, Scan, Sweep}
@@ -79,12 +79,12 @@ taken_is schema q row point (Sweep dim is_descending) read = read_takes schema q
 
 -- a plan that reads regions takes exactly the selected rows
 told_selected : (schema : Schema) (q : Asked) (row : Row) → IsPoint schema.dims (take schema.dims row.dims)
-    → reads (kind_of schema q) ≡ true → is_told schema (plan_of schema q) row ≡ is_selected schema q.filter row
+    → reads (planned_kind schema q) ≡ true → is_told schema (plan_of schema q) row ≡ is_selected schema q.filter row
 unfolding taken_as
-told_selected schema q row point read = taken_is schema q row point (kind_of schema q) read
+told_selected schema q row point read = taken_is schema q row point (planned_kind schema q) read
 
 takes_selected : (schema : Schema) (q : Asked) (row : Row) → IsPoint schema.dims (take schema.dims row.dims)
-    → reads (kind_of schema q) ≡ true → takes schema (plan_of schema q) row ≡ is_selected schema q.filter row
+    → reads (planned_kind schema q) ≡ true → takes schema (plan_of schema q) row ≡ is_selected schema q.filter row
 takes_selected schema q row point read =
     ap (λ (b : Bool). b && is_told schema (plan_of schema q) row) read ∙ told_selected schema q row point read
 
@@ -102,10 +102,10 @@ read_boxes (Sweep dim is_descending) covering read = refl
 
 -- the span of a selected row meets the boxes of a plan that reads regions
 pub selected_meets : (schema : Schema) (q : Asked) (regions : List Region) (span : Span) (row : Row) → IsChain schema regions
-    → Contains (spans_of schema regions) span → Contains span.region.rows row → reads (kind_of schema q) ≡ true → is_selected schema q.filter row ≡ true
+    → Contains (spans_of schema regions) span → Contains span.region.rows row → reads (planned_kind schema q) ≡ true → is_selected schema q.filter row ≡ true
     → Meets (plan_of schema q).covering.boxes span.from span.to
 selected_meets schema q regions span row chain there has read t =
-    let boxes = read_boxes (kind_of schema q) (cover_of schema q.filter) read in
+    let boxes = read_boxes (planned_kind schema q) (cover_of schema q.filter) read in
     let among = of_some_span (last_address schema.dims) regions span row there has in
     subst (λ (bs : List Corners). Meets bs span.from span.to) boxes
     (meets schema (boxes_of schema q.filter) regions span row chain there has (selected_are_in_boxes schema q.filter row (rows_are_points schema regions row chain among) t))
@@ -113,7 +113,7 @@ selected_meets schema q regions span row chain there has read t =
 -- ---- unless the limit is 0
 
 -- a selected row lies in a box, so the plan reads regions
-read_where : (schema : Schema) (q : Asked) (row : Row) → q.limit ≢ Some 0 → IsPoint schema.dims (take schema.dims row.dims) → is_selected schema q.filter row ≡ true → reads (kind_of schema q) ≡ true
+read_where : (schema : Schema) (q : Asked) (row : Row) → q.limit ≢ Some 0 → IsPoint schema.dims (take schema.dims row.dims) → is_selected schema q.filter row ≡ true → reads (planned_kind schema q) ≡ true
 read_where schema q row limit point t = elim (kind_cases schema q) [
   | inl read ↦ read
   | inr empty ↦ elim empty.1 [
@@ -141,7 +141,7 @@ pub in_none : (schema : Schema) (plan : PlanView) (row : Row) → plan.covering.
 in_none schema plan row none = never (reads plan.kind) (is_told schema plan row) (told_none schema plan row none)
 
 -- a row isn't selected where the plan is empty
-unselected : (schema : Schema) (q : Asked) (row : Row) → q.limit ≢ Some 0 → IsPoint schema.dims (take schema.dims row.dims) → kind_of schema q ≡ Empty
+unselected : (schema : Schema) (q : Asked) (row : Row) → q.limit ≢ Some 0 → IsPoint schema.dims (take schema.dims row.dims) → planned_kind schema q ≡ Empty
     → is_selected schema q.filter row ≡ false
 unselected schema q row limit point empty =
     same_truth (is_selected schema q.filter row) false
@@ -153,7 +153,7 @@ pub row_is_told : (schema : Schema) (q : Asked) (row : Row) → q.limit ≢ Some
 row_is_told schema q row limit point = elim (kind_cases schema q) [
   | inl read ↦ told_selected schema q row point read
   | inr empty ↦
-      told_none schema (plan_of schema q) row (empty_boxes (kind_of schema q) (cover_of schema q.filter) empty.0)
+      told_none schema (plan_of schema q) row (empty_boxes (planned_kind schema q) (cover_of schema q.filter) empty.0)
       ∙ sym (unselected schema q row limit point empty.0)
 ]
 
@@ -162,6 +162,6 @@ pub row_is_taken : (schema : Schema) (q : Asked) (row : Row) → q.limit ≢ Som
 row_is_taken schema q row limit point = elim (kind_cases schema q) [
   | inl read ↦ takes_selected schema q row point read
   | inr empty ↦
-      in_none schema (plan_of schema q) row (empty_boxes (kind_of schema q) (cover_of schema q.filter) empty.0)
+      in_none schema (plan_of schema q) row (empty_boxes (planned_kind schema q) (cover_of schema q.filter) empty.0)
       ∙ sym (unselected schema q row limit point empty.0)
 ]

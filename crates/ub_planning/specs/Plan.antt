@@ -39,8 +39,8 @@ along dims (Some key) = along_item dims key.item key.is_descending
 
 -- how regions are read for a query, by the first of these rules that holds: not at all where the cover has no box or the limit
 -- is 0; by a sweep for a query of rows whose first order key is a dimension; by a scan
-abbrev pub kind_of : Schema → Asked → Kind
-kind_of schema q =
+abbrev pub planned_kind : Schema → Asked → Kind
+planned_kind schema q =
     if length (boxes_of schema q.filter) == 0 || is_zero q.limit then Empty
     else (if has_groups q then Scan else along schema.dims (slice_get q.order 0))
 
@@ -53,8 +53,8 @@ kept_by (Sweep dim is_descending) covering = covering
 -- the plan of a query over a table of this schema
 abbrev pub plan_of : Schema → Asked → PlanView
 plan_of schema q = record {
-  kind = kind_of schema q;
-  covering = kept_by (kind_of schema q) (cover_of schema q.filter);
+  kind = planned_kind schema q;
+  covering = kept_by (planned_kind schema q) (cover_of schema q.filter);
   asked = q;
 }
 

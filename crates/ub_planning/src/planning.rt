@@ -18,14 +18,14 @@ pub fn plan(alloc: Global, query: &Query, schema: &Schema) -> Result<Plan, Alloc
     ensures meaning { IfOk result (λ p. MeansAs schema.now p (asked query.now)) }
 {
     let cover = boxes(alloc, query.filter.as_ref(), schema)?;
-    let kind = kind_of(schema, query, cover.boxes());
+    let kind = planned_kind(schema, query, cover.boxes());
     Ok(Plan::new(kind, cover, query.copy(alloc)?))
 }
 
 // How the regions are read for a query whose condition has these boxes, by the first rule that holds.
-fn kind_of(schema: &Schema, query: &Query, boxes: &[ZBox]) -> Kind
+fn planned_kind(schema: &Schema, query: &Query, boxes: &[ZBox]) -> Kind
     requires { boxes.now ≡ boxes_of schema.now (option_map shape query.now.filter) }
-    ensures { result ≡ spec.kind_of schema.now (asked query.now) }
+    ensures { result ≡ spec.planned_kind schema.now (asked query.now) }
 {
     if boxes.is_empty() || query.limit == Some(0) {
         return Kind::Empty;

@@ -12,13 +12,13 @@ use Rattle.ub_query.proofs.Arranging.{Rising, Rising-filter, Rising-mapped, pair
 use Rattle.ub_query.proofs.OrderFacts.{AreAlike}
 use Rattle.ub_query.specs.Cells.{Group, group_cell, value_among, taken_of}
 use Rattle.ub_query.specs.Groups.{are_same, values_of, rows_with, IsGrouping, AreGroups}
-use Rattle.ub_query.specs.Truth.{value_in}
 use Rattle.ub_query.specs.declared.cell.Cell.{Cell}
 use Rattle.ub_query.specs.declared.cell.Cell.TheVariants.{Number}
 use Rattle.ub_query.specs.declared.query.Aggregate.{Aggregate as Taken}
 use Rattle.ub_query.specs.declared.query.Aggregate.TheVariants.{Sum, Min, Max}
 use Rattle.ub_query.specs.declared.query.Item.{Item}
 use Rattle.ub_query.specs.declared.query.Item.TheVariants.{Column, Count, Aggregate}
+use Rattle.ub_table.specs.Table.{column_value}
 use Rattle.ub_table.specs.declared.row.Row.{Row}
 use Rattle.ub_table.specs.declared.schema.Schema.{Schema}
 
@@ -213,7 +213,7 @@ whole_group schema columns rows groups a g here =
     (contains_filter (λ row. are_same (values_of schema columns row) g.values) rows row within
     (subst (λ (vs : List ℤ). are_same (values_of schema columns row) vs ≡ true) is (are_same-itself (values_of schema columns row)))) in
     record {
-      values = ap length (sym is) ∙ length-map columns (value_in schema row);
+      values = ap length (sym is) ∙ length-map columns (column_value schema row);
       some = λ none. contains_none row (subst (λ (rs : List Row). Contains rs row) none has);
     }
 
@@ -250,5 +250,5 @@ pub cells-alike : (schema : Schema) (columns : List ℕ) (a b : Group) → IsWho
 cells-alike schema columns a b p q (Column column) = among-alike columns a.values b.values column p.values q.values
 cells-alike schema columns a b p q Count = tt
 cells-alike schema columns a b p q (Aggregate taken column) =
-    taken-alike taken (map (λ row. value_in schema row column) a.rows) (map (λ row. value_in schema row column) b.rows)
-    (map-some (λ row. value_in schema row column) a.rows p.some) (map-some (λ row. value_in schema row column) b.rows q.some)
+    taken-alike taken (map (λ row. column_value schema row column) a.rows) (map (λ row. column_value schema row column) b.rows)
+    (map-some (λ row. column_value schema row column) a.rows p.some) (map-some (λ row. column_value schema row column) b.rows q.some)

@@ -2,13 +2,13 @@
 use Rattle.std.specs.Prelude.{ℕ, ℤ, pos, ◌+ℤ◌, if◌then◌else◌, ◌==◌, ◌++◌, List, [], ◌∷◌, length, map, codes, slice_index_or}
 use Rattle.std.specs.Int.{int_max, int_min}
 use Rattle.std.specs.List.{fold}
-use Rattle.ub_query.specs.Truth.{value_in}
 use Rattle.ub_query.specs.declared.cell.Cell.{Cell}
 use Rattle.ub_query.specs.declared.cell.Cell.TheVariants.{Number, Null}
 use Rattle.ub_query.specs.declared.query.Aggregate.{Aggregate as Taken}
 use Rattle.ub_query.specs.declared.query.Aggregate.TheVariants.{Sum, Min, Max}
 use Rattle.ub_query.specs.declared.query.Item.{Item}
 use Rattle.ub_query.specs.declared.query.Item.TheVariants.{Column, Count, Aggregate}
+use Rattle.ub_table.specs.Table.{column_value}
 use Rattle.ub_table.specs.declared.row.Row.{Row}
 use Rattle.ub_table.specs.declared.schema.Schema.{Schema}
 
@@ -50,7 +50,7 @@ value_among (c ∷ columns) (v ∷ values) column = if c == column then Number v
 
 -- an item of a row; aggregates are items of groups alone
 abbrev pub row_cell : Schema → Row → Item → Cell
-row_cell schema row (Column column) = Number (value_in schema row column)
+row_cell schema row (Column column) = Number (column_value schema row column)
 row_cell schema row Count = Null
 row_cell schema row (Aggregate taken column) = Null
 
@@ -58,7 +58,7 @@ row_cell schema row (Aggregate taken column) = Null
 abbrev pub group_cell : Schema → List ℕ → Group → Item → Cell
 group_cell schema columns group (Column column) = value_among columns group.values column
 group_cell schema columns group Count = Number (pos (length group.rows))
-group_cell schema columns group (Aggregate taken column) = taken_of taken (map (λ row. value_in schema row column) group.rows)
+group_cell schema columns group (Aggregate taken column) = taken_of taken (map (λ row. column_value schema row column) group.rows)
 
 -- the keyword of what is taken
 abbrev pub keyword_of : Taken → List ℕ

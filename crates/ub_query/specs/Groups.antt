@@ -4,15 +4,15 @@ use Rattle.std.specs.List.{All, AllPairs, Contains, filter}
 use Rattle.std.specs.Ordering.{int_eq}
 use Rattle.ub_query.specs.Cells.{Group}
 use Rattle.ub_query.specs.Shape.{Shape}
-use Rattle.ub_query.specs.Truth.{truth, value_in}
-use Rattle.ub_table.specs.Table.{Table}
+use Rattle.ub_query.specs.Truth.{truth}
+use Rattle.ub_table.specs.Table.{Table, column_value}
 use Rattle.ub_table.specs.declared.row.Row.{Row}
 use Rattle.ub_table.specs.declared.schema.Schema.{Schema}
 
 -- whether a row is selected: all are where there is no condition
 abbrev pub is_selected : Schema → Option Shape → Row → Bool
 is_selected schema None row = true
-is_selected schema (Some c) row = truth (value_in schema row) c
+is_selected schema (Some c) row = truth (column_value schema row) c
 
 -- the selected rows of a table, each as often as it stands there, in order of row number
 abbrev pub selected : Table → Option Shape → List Row
@@ -20,7 +20,7 @@ selected table condition = filter (is_selected table.schema condition) table.row
 
 -- the values of a row in some columns, in the order of the columns
 abbrev pub values_of : Schema → List ℕ → Row → List ℤ
-values_of schema columns row = map (value_in schema row) columns
+values_of schema columns row = map (column_value schema row) columns
 
 -- whether two lists have the same numbers
 abbrev pub are_same : List ℤ → List ℤ → Bool

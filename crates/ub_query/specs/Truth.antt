@@ -4,13 +4,6 @@ use Rattle.std.specs.Ordering.{int_eq}
 use Rattle.ub_query.specs.Shape.{Shape, both, either, neither, compares, between}
 use Rattle.ub_query.specs.declared.condition.Operator.{Operator}
 use Rattle.ub_query.specs.declared.condition.Operator.TheVariants.{Equal, NotEqual, Less, AtMost, Greater, AtLeast}
-use Rattle.ub_table.specs.Table.{column_value}
-use Rattle.ub_table.specs.declared.row.Row.{Row}
-use Rattle.ub_table.specs.declared.schema.Schema.{Schema}
-
--- the value of a row of this schema, as a function of the column
-abbrev pub value_in : Schema → Row → ℕ → ℤ
-value_in schema row column = column_value schema row column
 
 -- whether one whole number compares so with another (SQL's comparison predicate)
 abbrev pub holds : Operator → ℤ → ℤ → Bool

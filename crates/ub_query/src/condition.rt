@@ -2,6 +2,7 @@ ghost use Rattle.std.specs.Prelude.{◌≡◌, ◌<◌, length, IfOk};
 ghost use Rattle.ub_query.specs.Posed.{IsOver};
 ghost use Rattle.ub_query.specs.Shape.{shape};
 ghost use Rattle.ub_query.specs.Truth as spec;
+ghost use Rattle.ub_table.specs.Table.{column_value};
 
 use std::alloc::{AllocError, Global};
 use ub_table::{Row, Schema};
@@ -59,7 +60,7 @@ impl Cond {
     /// Takes no memory, and calls itself no deeper than the condition is high.
     pub fn truth(&self, schema: &Schema, row: &Row) -> bool
         requires { IsOver (length schema.now.columns) (shape self.now) }
-        ensures { result ≡ spec.truth (spec.value_in schema.now row.now) (shape self.now) }
+        ensures { result ≡ spec.truth (column_value schema.now row.now) (shape self.now) }
     {
         match self {
             Cond::And(a, b) => a.truth(schema, row) && b.truth(schema, row),

@@ -11,8 +11,8 @@ use Rattle.ub_table.specs.declared.schema.Schema.{Schema}
 use Rattle.ub_zaddr.specs.Address.{last_address}
 
 -- an address lies in the span of the region at an index: it isn't before that of the region's first key, nor after the span's end
-abbrev pub LiesIn : Schema → List Region → ℕ → ℕ → Type 0
-LiesIn schema regions index z =
+abbrev pub IsInSpanAt : Schema → List Region → ℕ → ℕ → Type 0
+IsInSpanAt schema regions index z =
     (region : Region) × (slice_get regions index ≡ Some region) × (region.first.z ≤ z)
     × (z ≤ span_end (last_address schema.dims) (firsts_of (drop (suc index) regions)))
 
@@ -25,13 +25,13 @@ FirstKeysAscend = (schema : Schema) (next : ℕ) (regions : List Region) (i j : 
 -- each address of the space lies in the span of some region
 abbrev pub EachAddressHasASpan : Type 0
 EachAddressHasASpan = (schema : Schema) (next : ℕ) (regions : List Region) (z : ℕ) → AreRegions schema next regions
-    → z ≤ last_address schema.dims → (index : ℕ) × LiesIn schema regions index z
+    → z ≤ last_address schema.dims → (index : ℕ) × IsInSpanAt schema regions index z
 
 -- and each row's address in the span of the row's region
 abbrev pub RowsLieInTheirSpans : Type 0
 RowsLieInTheirSpans = (schema : Schema) (next : ℕ) (regions : List Region) (index : ℕ) (region : Region) (row : Row)
     → AreRegions schema next regions → slice_get regions index ≡ Some region → Contains region.rows row
-    → LiesIn schema regions index (key_of schema.dims row).z
+    → IsInSpanAt schema regions index (key_of schema.dims row).z
 
 -- where a row of the next number is put in, they are regions of a table again
 abbrev pub InsertionKeepsRegions : Type 0

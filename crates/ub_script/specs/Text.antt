@@ -17,8 +17,8 @@ use Rattle.ub_table.specs.Table.{Table}
 use Rattle.ub_table.specs.declared.schema.Schema.{Schema}
 
 -- texts joined by commas, and a line feed
-abbrev pub line : List (List ℕ) → List ℕ
-line texts = join_with_byte 44 texts ++ 10 ∷ []
+abbrev pub comma_line : List (List ℕ) → List ℕ
+comma_line texts = join_with_byte 44 texts ++ 10 ∷ []
 
 -- a number in decimal, or NULL
 abbrev pub cell_text : Cell → List ℕ
@@ -26,7 +26,7 @@ cell_text (Number v) = signed_decimal v
 cell_text Null = codes "NULL"
 
 abbrev pub row_line : List Cell → List ℕ
-row_line cells = line (map cell_text cells)
+row_line cells = comma_line (map cell_text cells)
 
 -- how many rows were written and how many region pages were fetched for them
 abbrev pub counts_line : ℕ → ℕ → List ℕ
@@ -34,7 +34,7 @@ counts_line rows pages = codes "-- rows " ++ decimal rows ++ codes ", pages " ++
 
 -- these rows of cells as the answer of a query for which so many region pages were fetched
 unfoldable pub answer_text : Schema → Asked → List (List Cell) → ℕ → List ℕ
-answer_text schema q rows pages = line (titles schema q) ++ flat_map row_line rows ++ counts_line (length rows) pages
+answer_text schema q rows pages = comma_line (titles schema q) ++ flat_map row_line rows ++ counts_line (length rows) pages
 
 unfoldable pub refusal_text : List ℕ → ℕ → List ℕ
 refusal_text name at = codes "! " ++ name ++ codes " at " ++ decimal at ++ 10 ∷ []

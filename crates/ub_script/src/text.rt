@@ -70,7 +70,7 @@ fn refusal_text(alloc: Global, name: &str, at: usize) -> Result<Vec<u8>, AllocEr
 fn push_titles(text: &mut Vec<u8>, schema: &Schema, items: &[Item]) -> Result<(), AllocError>
     requires { All (λ item. IsItemOver (length schema.now.columns) item) items.now }
     ensures { OnOk result (text.new.items
-        ≡ text.old.items ++ spec.line (map (sql.title schema.now) items.now)) }
+        ≡ text.old.items ++ spec.comma_line (map (sql.title schema.now) items.now)) }
 {
     for (place, item) in items.iter().enumerate() {
         push_comma(text, place == 0)?;

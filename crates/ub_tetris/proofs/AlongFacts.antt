@@ -5,7 +5,7 @@ use Rattle.std.proofs.lemmas.Int.{ints}
 use Rattle.std.specs.List.{AllAdjacentBelow}
 use Rattle.ub_boxes.specs.Boxes.{Covering, boxes_of, cover_of}
 use Rattle.ub_planning.proofs.Laws.{plans_are_empty, sweeps_are_led}
-use Rattle.ub_planning.specs.Plan.{PlanView, kept_by, kind_of, plan_of}
+use Rattle.ub_planning.specs.Plan.{PlanView, kept_by, planned_kind, plan_of}
 use Rattle.ub_planning.specs.Visits.{Event, IsAlong, IsEventBefore}
 use Rattle.ub_planning.specs.declared.planned.Kind.{Kind}
 use Rattle.ub_planning.specs.declared.planned.Kind.TheVariants.{Empty, Scan, Sweep}
@@ -104,9 +104,9 @@ led_by schema q dim is_descending (key ∷ keys) same plain within is =
 no_sweep_of_none : (kind : Kind) (dim : ℕ) (is_descending : Bool) → kind ≡ Sweep dim is_descending → kind ≢ Empty
 no_sweep_of_none kind dim is_descending is none = let same : Empty ≡ Sweep dim is_descending = sym none ∙ is in absurd cc
 
-pub led : (schema : Schema) (q : Asked) (dim : ℕ) (is_descending : Bool) → kind_of schema q ≡ Sweep dim is_descending → IsLed schema q dim is_descending
+pub led : (schema : Schema) (q : Asked) (dim : ℕ) (is_descending : Bool) → planned_kind schema q ≡ Sweep dim is_descending → IsLed schema q dim is_descending
 led schema q dim is_descending is =
-    let (plain, within, first) = (sweeps_are_led schema q dim is_descending (no_sweep_of_none (kind_of schema q) dim is_descending is)).0 is in
+    let (plain, within, first) = (sweeps_are_led schema q dim is_descending (no_sweep_of_none (planned_kind schema q) dim is_descending is)).0 is in
     led_by schema q dim is_descending q.order refl plain within first
 
 kept_boxes : (kind : Kind) (covering : Covering) (dim : ℕ) (is_descending : Bool) → kind ≡ Sweep dim is_descending → (kept_by kind covering).boxes ≡ covering.boxes
@@ -118,7 +118,7 @@ pub sweep_boxes : (schema : Schema) (plan : PlanView) (dim : ℕ) (is_descending
     → plan.covering.boxes ≡ boxes_of schema plan.asked.filter
 sweep_boxes schema plan dim is_descending planned kind =
     ap (λ (p : PlanView). p.covering.boxes) planned
-    ∙ kept_boxes (kind_of schema plan.asked) (cover_of schema plan.asked.filter) dim is_descending (sym (ap (λ (p : PlanView). p.kind) planned) ∙ kind)
+    ∙ kept_boxes (planned_kind schema plan.asked) (cover_of schema plan.asked.filter) dim is_descending (sym (ap (λ (p : PlanView). p.kind) planned) ∙ kind)
 
 pub led_plan : (schema : Schema) (plan : PlanView) (dim : ℕ) (is_descending : Bool) → plan ≡ plan_of schema plan.asked → plan.kind ≡ Sweep dim is_descending
     → IsLed schema plan.asked dim is_descending

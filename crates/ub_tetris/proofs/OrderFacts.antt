@@ -6,11 +6,11 @@ use Rattle.std.specs.Ordering.{int_cmp}
 use Rattle.std.specs.declared.cmp.Ordering.TheVariants.{Less, Equal}
 use Rattle.ub_query.specs.Cells.{row_cell}
 use Rattle.ub_query.specs.Order.{IsAhead, IsRowBefore}
-use Rattle.ub_query.specs.Truth.{value_in}
 use Rattle.ub_query.specs.declared.cell.Cell.TheVariants.{Number}
 use Rattle.ub_query.specs.declared.query.Item.{Item}
 use Rattle.ub_query.specs.declared.query.Item.TheVariants.{Column, Count, Aggregate}
 use Rattle.ub_query.specs.declared.query.SortKey.{SortKey}
+use Rattle.ub_table.specs.Table.{column_value}
 use Rattle.ub_table.specs.declared.row.Row.{Row}
 use Rattle.ub_table.specs.declared.schema.Schema.{Schema}
 use Rattle.ub_tetris.specs.Held.{HeldRow, held_row, item_value, turned, values_by}
@@ -27,9 +27,9 @@ turned_less x y h = omega (arith, ints, h)
 
 ahead_less : (down : Bool) (schema : Schema) (a b : Row) (item : Item) → IsAhead down (row_cell schema a item) (row_cell schema b item)
     → int_cmp (turned down (item_value schema a item)) (turned down (item_value schema b item)) ≡ Less
-ahead_less false schema a b (Column column) h = less_of (value_in schema a column) (value_in schema b column) h
+ahead_less false schema a b (Column column) h = less_of (column_value schema a column) (column_value schema b column) h
 ahead_less true schema a b (Column column) h =
-    less_of (turned true (value_in schema a column)) (turned true (value_in schema b column)) (turned_less (value_in schema a column) (value_in schema b column) h)
+    less_of (turned true (column_value schema a column)) (turned true (column_value schema b column)) (turned_less (column_value schema a column) (column_value schema b column) h)
 ahead_less false schema a b Count h = absurd h
 ahead_less true schema a b Count h = absurd h
 ahead_less false schema a b (Aggregate taken column) h = absurd h
@@ -41,7 +41,7 @@ number_of x y h = cc
 same_equal : (down : Bool) (schema : Schema) (a b : Row) (item : Item) → row_cell schema a item ≡ row_cell schema b item
     → int_cmp (turned down (item_value schema a item)) (turned down (item_value schema b item)) ≡ Equal
 same_equal down schema a b (Column column) h =
-    equal_of (turned down (value_in schema a column)) (turned down (value_in schema b column)) (ap (turned down) (number_of (value_in schema a column) (value_in schema b column) h))
+    equal_of (turned down (column_value schema a column)) (turned down (column_value schema b column)) (ap (turned down) (number_of (column_value schema a column) (column_value schema b column) h))
 same_equal down schema a b Count h = equal_of (turned down (pos 0)) (turned down (pos 0)) refl
 same_equal down schema a b (Aggregate taken column) h = equal_of (turned down (pos 0)) (turned down (pos 0)) refl
 

@@ -1,10 +1,10 @@
 -- What is held of a sweep: rows, and the values by which they stand in the order asked.
 use Rattle.std.specs.Prelude.{◌≡◌, ℤ, pos, ◌-ℤ◌, Bool, true, false, List, map}
 use Rattle.std.specs.List.{AllByRecursion}
-use Rattle.ub_query.specs.Truth.{value_in}
 use Rattle.ub_query.specs.declared.query.Item.{Item}
 use Rattle.ub_query.specs.declared.query.Item.TheVariants.{Column, Count, Aggregate}
 use Rattle.ub_query.specs.declared.query.SortKey.{SortKey}
+use Rattle.ub_table.specs.Table.{column_value}
 use Rattle.ub_table.specs.declared.row.Row.{Row}
 use Rattle.ub_table.specs.declared.schema.Schema.{Schema}
 
@@ -15,7 +15,7 @@ pub record HeldRow : Type 0 where
 
 -- the value of a row for an item; an aggregate has none, and stands for no row
 abbrev pub item_value : Schema → Row → Item → ℤ
-item_value schema row (Column column) = value_in schema row column
+item_value schema row (Column column) = column_value schema row column
 item_value schema row Count = pos 0
 item_value schema row (Aggregate taken column) = pos 0
 

@@ -9,7 +9,7 @@ use Rattle.ub_region.specs.Regions.{firsts_of}
 use Rattle.ub_region.specs.Spans.{span_end}
 use Rattle.ub_table.specs.Region.{Region}
 use Rattle.ub_tree.proofs.WalkFacts.{answers_are_those}
-use Rattle.ub_tree.specs.Laws.{FirstKeysAscend, PagesDiffer, EachAddressHasASpan, RowsLieInTheirSpans, AnswersAreThoseThatMeet}
+use Rattle.ub_tree.specs.Laws.{SpansAscend, PagesDiffer, SpansCoverTheSpace, RowsLieInSpans, AnswersAreThoseThatMeet}
 use Rattle.ub_tree.specs.Placed.{Placed, entry_of, regions_in}
 use Rattle.ub_tree.specs.Spans.{Meets, first_keys, regions_of}
 use Rattle.ub_tree.specs.View.{TreeView, IsSound, regions, spans_of}
@@ -55,8 +55,8 @@ span_at last [] i region at = cc
 span_at last (p ∷ placed) zero region at = (_, refl)
 span_at last (p ∷ placed) (suc i) region at = span_at last placed i region at
 
-pub first_keys_ascend : FirstKeysAscend
-first_keys_ascend t i j a b sound lt at_i at_j =
+pub spans_ascend : SpansAscend
+spans_ascend t i j a b sound lt at_i at_j =
     let (p, one) = has_span (last_address t.schema.dims) t.placed i a at_i in
     let (q, other) = has_span (last_address t.schema.dims) t.placed j b at_j in
     let up = lists.first_keys_ascend t.schema t.next (regions t) i j p.region q.region sound.regions_are lt one.region_at other.region_at in
@@ -102,8 +102,8 @@ pages_differ t i j a b sound at_i at_j same =
     let (q, other) = has_span (last_address t.schema.dims) t.placed j b at_j in
     same_index t sound i j p q one.at other.at (one.page ∙ same ∙ sym other.page)
 
-pub each_address_has_a_span : EachAddressHasASpan
-each_address_has_a_span t z sound upto =
+pub spans_cover_the_space : SpansCoverTheSpace
+spans_cover_the_space t z sound upto =
     let (i, (r, at, from, end)) = lists.each_address_has_a_span t.schema t.next (regions t) z sound.regions_are upto in
     let (span, span_is) = span_at (last_address t.schema.dims) t.placed i r at in
     let (p, one) = has_span (last_address t.schema.dims) t.placed i span span_is in
@@ -113,8 +113,8 @@ each_address_has_a_span t z sound upto =
     let ends = one.to in
     (span, contains_at (spans_of t) i span span_is, (omega arith, omega arith))
 
-pub rows_lie_in_their_spans : RowsLieInTheirSpans
-rows_lie_in_their_spans t span r row sound there stands has =
+pub rows_lie_in_spans : RowsLieInSpans
+rows_lie_in_spans t span r row sound there stands has =
     let span_is = contained_at (spans_of t) span there in
     let (p, one) = has_span (last_address t.schema.dims) t.placed there.0 span span_is in
     let (q, listed, on, is) = stands in
@@ -132,4 +132,4 @@ rows_lie_in_their_spans t span r row sound there stands has =
 
 pub answers_are_those_that_meet : AnswersAreThoseThatMeet
 answers_are_those_that_meet t boxes answers sound are =
-    answers_are_those (Meets boxes) (spans_of t) (λ i j a b lt at_i at_j. first_keys_ascend t i j a b sound lt at_i at_j) answers are
+    answers_are_those (Meets boxes) (spans_of t) (λ i j a b lt at_i at_j. spans_ascend t i j a b sound lt at_i at_j) answers are

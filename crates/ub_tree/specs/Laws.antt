@@ -13,8 +13,8 @@ use Rattle.ub_tree.specs.declared.region.Region.{Region as Span}
 use Rattle.ub_zaddr.specs.Address.{last_address}
 
 -- of two regions the later one begins with the later key
-abbrev pub FirstKeysAscend : Type 0
-FirstKeysAscend = (t : TreeView) (i j : ℕ) (a b : Span) → IsSound t → i < j
+abbrev pub SpansAscend : Type 0
+SpansAscend = (t : TreeView) (i j : ℕ) (a b : Span) → IsSound t → i < j
     → slice_get (spans_of t) i ≡ Some a → slice_get (spans_of t) j ≡ Some b → IsBefore a.first b.first
 
 -- no two regions stand on one page
@@ -27,13 +27,13 @@ abbrev pub LiesIn : Span → ℕ → Type 0
 LiesIn span z = (span.from ≤ z) × (z ≤ span.to)
 
 -- each address of the space lies in the span of some region
-abbrev pub EachAddressHasASpan : Type 0
-EachAddressHasASpan = (t : TreeView) (z : ℕ) → IsSound t → z ≤ last_address t.schema.dims
+abbrev pub SpansCoverTheSpace : Type 0
+SpansCoverTheSpace = (t : TreeView) (z : ℕ) → IsSound t → z ≤ last_address t.schema.dims
     → (span : Span) × Contains (spans_of t) span × LiesIn span z
 
 -- and each row's address in the span of the row's region
-abbrev pub RowsLieInTheirSpans : Type 0
-RowsLieInTheirSpans = (t : TreeView) (span : Span) (region : Region) (row : Row) → IsSound t → Contains (spans_of t) span
+abbrev pub RowsLieInSpans : Type 0
+RowsLieInSpans = (t : TreeView) (span : Span) (region : Region) (row : Row) → IsSound t → Contains (spans_of t) span
     → StandsAt t.placed span.page region → Contains region.rows row → LiesIn span (key_of t.schema.dims row).z
 
 -- the answers of a search for the next region that has a property, from the one after the given one on: each is asked for with

@@ -1,11 +1,11 @@
-ghost use Rattle.ub_tree.specs.Laws.{FirstKeysAscend, PagesDiffer, EachAddressHasASpan, RowsLieInTheirSpans, AnswersAreThoseThatMeet};
+ghost use Rattle.ub_tree.specs.Laws.{SpansAscend, PagesDiffer, SpansCoverTheSpace, RowsLieInSpans, AnswersAreThoseThatMeet};
 
 // Each function here does nothing, and its clause is a law of the definitions in specs/. So the law is proved, and is read
 // beside the code.
 
 /// Of two regions of a sound tree the later one begins with the later key.
-pub fn first_keys_ascend()
-    ensures { FirstKeysAscend }
+pub fn spans_ascend()
+    ensures { SpansAscend }
 {}
 
 /// No two regions stand on one page.
@@ -14,13 +14,13 @@ pub fn pages_differ()
 {}
 
 /// Each address of the space lies in the span of some region.
-pub fn each_address_has_a_span()
-    ensures { EachAddressHasASpan }
+pub fn spans_cover_the_space()
+    ensures { SpansCoverTheSpace }
 {}
 
 /// Each row's address lies in the span of the row's region.
-pub fn rows_lie_in_their_spans()
-    ensures { RowsLieInTheirSpans }
+pub fn rows_lie_in_spans()
+    ensures { RowsLieInSpans }
 {}
 
 /// `next_meeting`, from the beginning on and each time after the last answer, answers the regions that meet the boxes, each once

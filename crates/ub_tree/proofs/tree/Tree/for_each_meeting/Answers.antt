@@ -1,12 +1,12 @@
 use Rattle.std.proofs.Common.{◌≤◌, ◌++◌, ◌∷◌, ◌∙◌, [], ℕ, subst}
-use Rattle.ub_tree.proofs.Laws.{first_keys_ascend}
+use Rattle.ub_tree.proofs.Laws.{spans_ascend}
 use Rattle.ub_tree.proofs.MeetFacts.{Ordered, Walks-none, still_began, takes_more, takes_none, walks_done, walks_ended, walks_on}
 use Rattle.ub_tree.proofs.ReadFacts.{memory_searches, tree_searches}
 use Rattle.ub_tree.specs.View.{TreeView}
 use Rattle.ub_tree.proofs.tree.Tree.for_each_meeting.Goals as goal
 
 in_order : (t : TreeView) → Ordered t
-in_order t sound i j a b lt at_i at_j = first_keys_ascend t i j a b sound lt at_i at_j
+in_order t sound i j a b lt at_i at_j = spans_ascend t i j a b sound lt at_i at_j
 
 pub loop-turn-init : goal.loop-turn-init
 loop-turn-init g c = ([], Walks-none c.args.boxes.now c.args.self.now, takes_none (g.T.RegionSink.Takes c.args.boxes.now) c.args.sink.now)
