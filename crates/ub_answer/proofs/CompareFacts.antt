@@ -6,7 +6,7 @@ use Rattle.std.specs.Cmp.{IsTotalOrder}
 use Rattle.std.specs.Ordering.{nat_cmp, ordering_then, ordering_reverse, is_eq}
 use Rattle.std.specs.declared.cmp.Ordering.{Ordering}
 use Rattle.std.specs.declared.cmp.Ordering.TheVariants.{Less, Equal, Greater}
-use Rattle.ub_answer.specs.Compare.{cell_cmp, key_cmp, keys_cmp, row_cmp}
+use Rattle.ub_answer.specs.inner.Compare.{cell_cmp, key_cmp, keys_cmp, row_cmp}
 use Rattle.ub_query.proofs.Laws.{AreAlike}
 use Rattle.ub_query.specs.Cells.{row_cell}
 use Rattle.ub_query.specs.Order.{IsBelow, IsAhead, IsBeforeBy, IsRowBefore}

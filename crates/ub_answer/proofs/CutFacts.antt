@@ -4,7 +4,7 @@ use Rattle.std.proofs.Math.Nat.{mul-le-mul_left, mul-le-mul_right}
 use Rattle.std.proofs.Math.Seq.{take-append_seam, drop-append_seam}
 use Rattle.std.proofs.lemmas.List.{length-append, length-drop, length-map, length-take-le, take-append-le, drop-append-le, drop-drop}
 use Rattle.std.specs.List.{AllByRecursion, flat_map}
-use Rattle.ub_answer.specs.Cut.{cut}
+use Rattle.ub_answer.specs.inner.Cut.{cut}
 
 module _ {A B : Type 0} (f : A → List B) (width : ℕ) (each : (a : A) → length (f a) ≡ width) where
   pub length-pieces : (xs : List A) → length (flat_map f xs) ≡ length xs * width

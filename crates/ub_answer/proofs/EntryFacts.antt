@@ -8,7 +8,7 @@ use Rattle.std.specs.Ordering.{int_cmp, int_eq, is_eq, ordering_then}
 use Rattle.std.specs.declared.cmp.Ordering.{Ordering}
 use Rattle.std.specs.declared.cmp.Ordering.TheVariants.{Less, Equal, Greater}
 use Rattle.ub_answer.proofs.CompareFacts.{keys_total}
-use Rattle.ub_answer.specs.Groups.{values_cmp, cell_from, Entry, entry_cmp}
+use Rattle.ub_answer.specs.inner.Groups.{values_cmp, cell_from, Entry, entry_cmp}
 use Rattle.ub_answer.specs.declared.groups.Values.{Values}
 use Rattle.ub_query.proofs.Laws.{contains_cases}
 use Rattle.ub_query.specs.Groups.{are_same}

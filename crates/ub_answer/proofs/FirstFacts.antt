@@ -13,7 +13,7 @@ use Rattle.std.specs.List.Sorted.{IsSorted}
 use Rattle.std.specs.Ordering.{is_lt, is_eq, eq_by_cmp, ordering_reverse}
 use Rattle.std.specs.declared.cmp.Ordering.{Ordering}
 use Rattle.std.specs.declared.cmp.Ordering.TheVariants.{Less, Equal, Greater}
-use Rattle.ub_answer.specs.Held.{up_to, IsBehind, HoldsFirst}
+use Rattle.ub_answer.specs.inner.Kept.{up_to, IsBehind, HoldsFirst}
 use Rattle.ub_query.proofs.Laws.{Rising, Rising-from_adjacent, Rising-one, an_arrangement, contains_here, contains_later, contains_cases, contains_none, all_at}
 use Rattle.ub_query.specs.Meaning.{limited}
 

@@ -7,7 +7,7 @@ use Rattle.std.proofs.lemmas.List.Sorted.{length_permutation}
 use Rattle.std.proofs.lemmas.List.Sums.{length-filter, count_by-le-length}
 use Rattle.std.specs.List.{All}
 use Rattle.std.specs.List.Sorted.{IsStrictlyIncreasing}
-use Rattle.ub_answer.specs.Tally.{many}
+use Rattle.ub_answer.specs.Held.{many}
 use Rattle.ub_query.specs.Groups.{selected, is_selected}
 use Rattle.ub_query.specs.Posed.{IsAggregate, IsGrouped}
 use Rattle.ub_query.specs.Shape.{Asked, Shape}

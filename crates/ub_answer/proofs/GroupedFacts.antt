@@ -22,10 +22,11 @@ use Rattle.ub_answer.proofs.EntryFacts.{entries_total, equal-are_same, less-are-
 use Rattle.ub_answer.proofs.FirstFacts.{from_distinct, rising_permutation, up_from_sorted, strictly_from_up}
 use Rattle.ub_answer.proofs.PermutedFacts.{cell-permuted}
 use Rattle.ub_answer.proofs.TallyFacts.{IsOfGroup, are-shown-next, shown-none, shown-list}
-use Rattle.ub_answer.specs.Compare.{keys_cmp}
-use Rattle.ub_answer.specs.Cut.{cut}
-use Rattle.ub_answer.specs.Groups.{values_cmp, values_eq, cells_at, IsGroupAt, HoldsGroups, AddsRow, Entry, entry_of, entry_cmp, cell_from}
-use Rattle.ub_answer.specs.Tally.{AreOfNone, of_none, with_row, IsNarrow, IsShown, AreShown, many}
+use Rattle.ub_answer.specs.Held.{many}
+use Rattle.ub_answer.specs.inner.Compare.{keys_cmp}
+use Rattle.ub_answer.specs.inner.Cut.{cut}
+use Rattle.ub_answer.specs.inner.Groups.{values_cmp, values_eq, cells_at, IsGroupAt, HoldsGroups, AddsRow, Entry, entry_of, entry_cmp, cell_from}
+use Rattle.ub_answer.specs.inner.Tally.{AreOfNone, of_none, with_row, IsNarrow, IsShown, AreShown}
 use Rattle.ub_answer.specs.declared.groups.Values.{Values}
 use Rattle.ub_query.proofs.Laws.{Rising, Rising-map, Rising-mapped, Rising-both, adjacent-from_Rising, contains_cases, contains_none, all_permutation, all_from_contains, all_weaker, are_same-true, are_same-itself, contains_map, contains_filter, contains_from_filter, grouping_from, groups_have_an_arrangement, groups_have_one_arrangement, whole_groups, cells-alike, IsWhole}
 use Rattle.ub_query.specs.Cells.{Group, group_cell, value_among}

@@ -7,8 +7,8 @@ use Rattle.std.specs.Ordering.{is_eq}
 use Rattle.std.specs.declared.cmp.Ordering.TheVariants.{Less}
 use Rattle.ub_answer.proofs.CompareFacts.{rows_total, row-before, rows-apart}
 use Rattle.ub_answer.proofs.FirstFacts.{first_of_held}
-use Rattle.ub_answer.specs.Compare.{row_cmp}
-use Rattle.ub_answer.specs.Held.{HoldsFirst}
+use Rattle.ub_answer.specs.inner.Compare.{row_cmp}
+use Rattle.ub_answer.specs.inner.Kept.{HoldsFirst}
 use Rattle.ub_query.proofs.Laws.{Rising, Rising-from_pairs, Rising-map, Rising-both, adjacent-from_Rising, selected_are_in_order}
 use Rattle.ub_query.specs.Cells.{row_cell}
 use Rattle.ub_query.specs.Groups.{selected}

@@ -6,7 +6,8 @@ use Rattle.std.proofs.lemmas.List.{length-append, map-append, get_or-set_same, g
 use Rattle.std.proofs.lemmas.List.Sums.{fold_push}
 use Rattle.std.specs.Int.{int_max, int_min, saturate_to_bits}
 use Rattle.std.specs.List.{All}
-use Rattle.ub_answer.specs.Tally.{plus, taken_in, of_none, with_row, IsWithin, IsNarrow, IsSmall, IsShown, AreShown, many}
+use Rattle.ub_answer.specs.Held.{many}
+use Rattle.ub_answer.specs.inner.Tally.{plus, taken_in, of_none, with_row, IsWithin, IsNarrow, IsSmall, IsShown, AreShown}
 use Rattle.ub_query.specs.Cells.{Group, value_among, total, taken_of}
 use Rattle.ub_query.specs.Posed.{IsAggregate}
 use Rattle.ub_query.specs.declared.cell.Cell.{Cell}

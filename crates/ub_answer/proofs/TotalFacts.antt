@@ -5,8 +5,9 @@ use Rattle.std.proofs.lemmas.List.Sorted.{IsPermutation-refl}
 use Rattle.std.specs.List.{All}
 use Rattle.ub_answer.proofs.PermutedFacts.{cell-permuted}
 use Rattle.ub_answer.proofs.TallyFacts.{IsOfGroup, are-shown-next, shown-none, shown-list}
-use Rattle.ub_answer.specs.Cut.{cut}
-use Rattle.ub_answer.specs.Tally.{of_none, with_row, IsNarrow, IsShown, HoldsTotals, many}
+use Rattle.ub_answer.specs.Held.{many}
+use Rattle.ub_answer.specs.inner.Cut.{cut}
+use Rattle.ub_answer.specs.inner.Tally.{of_none, with_row, IsNarrow, IsShown, HoldsTotals}
 use Rattle.ub_query.specs.Cells.{Group, group_cell}
 use Rattle.ub_query.specs.Groups.{selected, AreGroups}
 use Rattle.ub_query.specs.Meaning.{IsGroupMeaning, limited}

@@ -1,8 +1,8 @@
 -- Which rows a gathering has taken.
 use Rattle.std.specs.Prelude.{◌≡◌, ◌≢◌, ℕ, List, [], length}
-use Rattle.ub_answer.specs.Groups.{HoldsGroups}
-use Rattle.ub_answer.specs.Held.{HoldsRows}
-use Rattle.ub_answer.specs.Tally.{HoldsTotals}
+use Rattle.ub_answer.specs.inner.Groups.{HoldsGroups}
+use Rattle.ub_answer.specs.inner.Kept.{HoldsRows}
+use Rattle.ub_answer.specs.inner.Tally.{HoldsTotals}
 use Rattle.ub_answer.specs.declared.gathering.Gathering.{Gathering}
 use Rattle.ub_answer.specs.declared.gathering.Collected.{Collected}
 use Rattle.ub_answer.specs.declared.gathering.Collected.TheVariants.{Rows, Totals, Groups}

@@ -1,7 +1,4 @@
-pub mod Compare
-pub mod Cut
+pub mod inner
 pub mod Gathered
-pub mod Groups
 pub mod Held
 pub mod Sink
-pub mod Tally

@@ -16,7 +16,7 @@ pub struct Cells {
 
 impl Model for Cells {
     ghost use Rattle.std.specs.Prelude.{◌≡◌, ◌*◌, List, length};
-    ghost use Rattle.ub_answer.specs.Cut.{cut};
+    ghost use Rattle.ub_answer.specs.inner.Cut.{cut};
     ghost use Rattle.ub_query.specs.declared.cell.Cell.{Cell};
 
     ghost Value = { List (List Cell) };
@@ -29,7 +29,7 @@ impl Model for Cells {
 impl Cells {
     ghost use Rattle.std.specs.Prelude.{◌≡◌, ◌==◌, ◌≤◌, ◌<◌, ◌*◌, ◌++◌, ◌∷◌, [], Some, length, map, slice_get, is_ok, if◌then◌else◌};
     ghost use Rattle.std.specs.List.{All, AllByRecursion};
-    ghost use Rattle.ub_answer.specs.Cut.{cut};
+    ghost use Rattle.ub_answer.specs.inner.Cut.{cut};
     ghost use Rattle.ub_query.specs.Cells as sql;
     ghost use Rattle.ub_query.specs.Posed.{IsItemOver};
 

@@ -2,8 +2,7 @@ ghost use Rattle.std.specs.Prelude.{◌≡◌, ◌≢◌, ◌<◌, ◌≤◌, �
 ghost use Rattle.std.specs.List.{All};
 ghost use Rattle.std.specs.List.Sorted.{IsPermutation};
 ghost use Rattle.ub_answer.specs.Gathered.{HasTaken, IsGathered, groups_held, rows_held, rows_held_by};
-ghost use Rattle.ub_answer.specs.Held.{StayFew};
-ghost use Rattle.ub_answer.specs.Tally.{many};
+ghost use Rattle.ub_answer.specs.Held.{StayFew, many};
 ghost use Rattle.ub_query.specs.Cells.{Group};
 ghost use Rattle.ub_query.specs.Groups.{AreGroups, selected};
 ghost use Rattle.ub_query.specs.Meaning.{IsMeaning};

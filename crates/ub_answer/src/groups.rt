@@ -2,9 +2,9 @@ ghost use Rattle.std.specs.Prelude.{◌≡◌, ◌≢◌, ◌+◌, ◌<◌, ◌�
 ghost use Rattle.std.specs.HashMap.{IsUnique};
 ghost use Rattle.std.specs.List.{All, Contains, flat_map};
 ghost use Rattle.std.specs.List.Sorted.{IsPermutation};
-ghost use Rattle.ub_answer.specs.Groups as spec;
-ghost use Rattle.ub_answer.specs.Held.{IsArranged};
-ghost use Rattle.ub_answer.specs.Tally.{many};
+ghost use Rattle.ub_answer.specs.Held.{many};
+ghost use Rattle.ub_answer.specs.inner.Groups as spec;
+ghost use Rattle.ub_answer.specs.inner.Kept.{IsArranged};
 ghost use Rattle.ub_query.specs.Cells.{Group};
 ghost use Rattle.ub_query.specs.Groups.{AreGroups, selected, values_of};
 ghost use Rattle.ub_query.specs.Meaning.{IsGroupMeaning, limited};

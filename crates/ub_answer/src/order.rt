@@ -1,7 +1,7 @@
 ghost use Rattle.std.specs.Prelude.{◌≡◌, ◌≤◌, length, IfSome};
 ghost use Rattle.std.specs.List.{All};
-ghost use Rattle.ub_answer.specs.Compare as spec;
-ghost use Rattle.ub_answer.specs.Held.{IsArrangedBy};
+ghost use Rattle.ub_answer.specs.inner.Compare as spec;
+ghost use Rattle.ub_answer.specs.inner.Kept.{IsArrangedBy};
 ghost use Rattle.ub_query.specs.Posed.{IsItemOver};
 
 use crate::values::row_cell;

@@ -2,8 +2,9 @@ ghost use Rattle.std.specs.Prelude.{◌≡◌, ◌+◌, ◌≤◌, ◌∷◌, �
 ghost use Rattle.std.specs.List.{All};
 ghost use Rattle.std.specs.declared.cmp.Ordering.TheVariants.{Less};
 ghost use Rattle.std.specs.List.Sorted.{IsPermutation};
-ghost use Rattle.ub_answer.specs.Compare.{row_cmp, lines};
-ghost use Rattle.ub_answer.specs.Held.{HoldsRows, IsArranged, StayFew, most_held};
+ghost use Rattle.ub_answer.specs.Held.{StayFew, lines, most_held};
+ghost use Rattle.ub_answer.specs.inner.Compare.{row_cmp};
+ghost use Rattle.ub_answer.specs.inner.Kept.{HoldsRows, IsArranged};
 ghost use Rattle.ub_query.specs.Cells as sql;
 ghost use Rattle.ub_query.specs.Groups.{selected};
 ghost use Rattle.ub_query.specs.Meaning.{IsRowMeaning, limited};

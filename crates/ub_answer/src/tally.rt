@@ -1,6 +1,6 @@
 ghost use Rattle.std.specs.Prelude.{◌≡◌, ◌<◌, ◌≤◌, ◌≤ℤ◌, ℕ, pos, neg_ℤ, length, slice_index_or};
 ghost use Rattle.std.specs.List.{All};
-ghost use Rattle.ub_answer.specs.Tally as spec;
+ghost use Rattle.ub_answer.specs.inner.Tally as spec;
 ghost use Rattle.ub_query.specs.Posed.{IsItemOver};
 
 use ub_query::{Aggregate, Cell, Item};

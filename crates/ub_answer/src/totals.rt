@@ -1,7 +1,8 @@
 ghost use Rattle.std.specs.Prelude.{◌≡◌, ◌≢◌, ◌<◌, ◌≤◌, ◌∷◌, ◌++◌, [], ℕ, List, Option, Some, length, IfOk};
 ghost use Rattle.std.specs.List.{All};
 ghost use Rattle.std.specs.List.Sorted.{IsPermutation};
-ghost use Rattle.ub_answer.specs.Tally.{HoldsTotals, many};
+ghost use Rattle.ub_answer.specs.Held.{many};
+ghost use Rattle.ub_answer.specs.inner.Tally.{HoldsTotals};
 ghost use Rattle.ub_query.specs.Groups.{selected};
 ghost use Rattle.ub_query.specs.Meaning.{IsGroupMeaning};
 ghost use Rattle.ub_query.specs.Posed.{IsItemOver, IsAggregate};

@@ -8,13 +8,13 @@ use Rattle.ub_boxes.proofs.GridFacts.{length-sides}
 use Rattle.ub_boxes.proofs.OrderFacts.{member-beside, member-lines}
 use Rattle.ub_boxes.proofs.TurnFacts.{Member, member-contained, contained-member}
 use Rattle.ub_boxes.specs.Boxes.{beside, boxes_of, boxes_on, is_wide, runs, space}
-use Rattle.ub_boxes.specs.Cuts.{greatest}
 use Rattle.ub_boxes.specs.Grid.{grid}
 use Rattle.ub_boxes.specs.Laws.{AreApart, IsInSome}
 use Rattle.ub_boxes.specs.Points.{lists_between, total}
 use Rattle.ub_boxes.specs.Truths.{covers}
 use Rattle.ub_boxes.specs.declared.interval.Interval.{Interval}
 use Rattle.ub_query.specs.Shape.{Shape}
+use Rattle.ub_table.specs.Value.{greatest}
 use Rattle.ub_table.specs.declared.schema.Schema.{Schema}
 use Rattle.ub_zaddr.specs.Address.{IsAtMost}
 

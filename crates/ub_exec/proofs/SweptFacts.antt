@@ -3,7 +3,7 @@ use Rattle.std.proofs.Common.{◌≡◌, ◌≢◌, ◌<◌, ◌≤◌, ◌+◌,
 use Rattle.std.proofs.lemmas.List.{length-append, length-map, map-append}
 use Rattle.std.proofs.lemmas.List.Sorted.{length_permutation}
 use Rattle.std.specs.List.{All, AllByRecursion}
-use Rattle.ub_answer.specs.Compare.{lines}
+use Rattle.ub_answer.specs.Held.{lines}
 use Rattle.ub_tree.proofs.Laws.{Keeps}
 use Rattle.ub_exec.proofs.MeantFacts.{empty_where}
 use Rattle.ub_exec.specs.Answers.{IsAnswer, IsSwept, begun}

@@ -2,7 +2,7 @@ use Rattle.std.proofs.Common.{rules}
 use Rattle.std.proofs.lemmas.Cmp.{on_total}
 use Rattle.std.proofs.lemmas.Fn.{always_returns_same}
 use Rattle.ub_answer.proofs.EntryFacts.{entries_total}
-use Rattle.ub_answer.specs.Groups.{entry_of, lent_cmp}
+use Rattle.ub_answer.specs.inner.Groups.{entry_of, lent_cmp}
 use Rattle.ub_answer.proofs.groups.arrange_entries.Goals as goal
 
 pub returns : goal.returns

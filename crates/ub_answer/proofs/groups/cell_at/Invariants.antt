@@ -1,6 +1,6 @@
 -- None of the items so far is the one.
 use Rattle.std.proofs.Common.{◌≡◌, drop}
-use Rattle.ub_answer.specs.Groups.{cell_from}
+use Rattle.ub_answer.specs.inner.Groups.{cell_from}
 use Rattle.ub_answer.proofs.groups.cell_at.Given as goal
 
 abbrev pub invariant-loop-place : goal.invariant-loop-place

@@ -1,6 +1,6 @@
 -- The keys so far decide nothing.
 use Rattle.std.proofs.Common.{◌≡◌, drop}
-use Rattle.ub_answer.specs.Groups.{entry_cmp, entry_of}
+use Rattle.ub_answer.specs.inner.Groups.{entry_cmp, entry_of}
 use Rattle.ub_answer.proofs.groups.compare_entries.Given as goal
 
 abbrev pub invariant-loop-key : goal.invariant-loop-key

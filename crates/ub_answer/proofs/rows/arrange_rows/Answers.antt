@@ -1,6 +1,6 @@
 use Rattle.std.proofs.Common.{rules}
 use Rattle.std.proofs.lemmas.Fn.{always_returns_same}
-use Rattle.ub_answer.specs.Compare.{row_cmp}
+use Rattle.ub_answer.specs.inner.Compare.{row_cmp}
 use Rattle.ub_answer.proofs.CompareFacts.{rows_total}
 use Rattle.ub_answer.proofs.rows.arrange_rows.Goals as goal
 

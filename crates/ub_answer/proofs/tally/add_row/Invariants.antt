@@ -1,6 +1,6 @@
 -- The cells so far, and those that are left as they were.
 use Rattle.std.proofs.Common.{◌≡◌, ◌<◌, ◌≤◌, ℕ, length, slice_index_or}
-use Rattle.ub_answer.specs.Tally.{with_row, IsNarrow}
+use Rattle.ub_answer.specs.inner.Tally.{with_row, IsNarrow}
 use Rattle.ub_query.specs.declared.cell.Cell.{Cell}
 use Rattle.ub_query.specs.declared.query.Item.{Item}
 use Rattle.ub_answer.proofs.tally.add_row.Given as goal

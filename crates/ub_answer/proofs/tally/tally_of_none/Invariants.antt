@@ -1,6 +1,6 @@
 -- The cells so far.
 use Rattle.std.proofs.Common.{◌≡◌, ◌<◌, ℕ, length, slice_index_or}
-use Rattle.ub_answer.specs.Tally.{of_none}
+use Rattle.ub_answer.specs.inner.Tally.{of_none}
 use Rattle.ub_query.specs.declared.cell.Cell.{Cell}
 use Rattle.ub_query.specs.declared.query.Item.{Item}
 use Rattle.ub_answer.proofs.tally.tally_of_none.Given as goal

@@ -1,5 +1,5 @@
 use Rattle.std.proofs.Common.{refl}
-use Rattle.ub_answer.specs.Cut.{cut}
+use Rattle.ub_answer.specs.inner.Cut.{cut}
 use Rattle.ub_answer.proofs.cells.Cells.none.Goals as goal
 
 pub returns : goal.returns

@@ -2,7 +2,7 @@ use Rattle.std.proofs.Common.{◌≡◌, ◌+◌, ◌∙◌, ◌++◌, ◌∷◌
 use Rattle.std.proofs.lemmas.List.{length-map}
 use Rattle.std.specs.List.{AllByRecursion}
 use Rattle.ub_answer.proofs.CutFacts.{as-wide, cut-more, few-pieces, more-long, row-long}
-use Rattle.ub_answer.specs.Cut.{cut}
+use Rattle.ub_answer.specs.inner.Cut.{cut}
 use Rattle.ub_query.specs.Cells.{row_cell}
 use Rattle.ub_query.specs.declared.cell.Cell.{Cell}
 use Rattle.ub_answer.proofs.cells.Cells.push_row.Goals as goal

@@ -2,8 +2,8 @@ use Rattle.std.proofs.Common.{subst, inl, inr, sym, ap, ◌∙◌}
 use Rattle.std.proofs.lemmas.Result.{IfOk-weaker}
 use Rattle.ub_answer.proofs.GatheredFacts.{few_taken}
 use Rattle.ub_answer.specs.Gathered.{IsGathered, HasTaken, groups_held_by}
-use Rattle.ub_answer.specs.Groups.{HoldsGroups}
-use Rattle.ub_answer.specs.Tally.{HoldsTotals}
+use Rattle.ub_answer.specs.inner.Groups.{HoldsGroups}
+use Rattle.ub_answer.specs.inner.Tally.{HoldsTotals}
 use Rattle.ub_answer.specs.declared.gathering.Collected.{Collected}
 use Rattle.ub_query.specs.Shape.{asked}
 use Rattle.ub_table.specs.declared.schema.Schema.{Schema}

@@ -1,7 +1,7 @@
 use Rattle.std.proofs.Common.{ℕ, List, ap, subst, ◌∙◌}
 use Rattle.std.proofs.lemmas.Result.{on_ok_weaker}
 use Rattle.ub_answer.proofs.GroupedFacts.{group-next}
-use Rattle.ub_answer.specs.Groups.{AddsRow}
+use Rattle.ub_answer.specs.inner.Groups.{AddsRow}
 use Rattle.ub_query.specs.Groups.{values_of}
 use Rattle.ub_query.specs.declared.query.Item.{Item}
 use Rattle.ub_answer.proofs.groups.CollectedGroups.take.Goals as goal

@@ -2,8 +2,8 @@ use Rattle.std.proofs.Common.{ℕ, List, Option, Some, ◌≤◌, ◌<◌, ◌-�
 use Rattle.std.specs.List.Sorted.{IsSorted}
 use Rattle.ub_answer.proofs.CompareFacts.{rows_total}
 use Rattle.ub_answer.proofs.FirstFacts.{held_first, last_behind}
-use Rattle.ub_answer.specs.Compare.{row_cmp}
-use Rattle.ub_answer.specs.Held.{HoldsFirst, HoldsRows}
+use Rattle.ub_answer.specs.inner.Compare.{row_cmp}
+use Rattle.ub_answer.specs.inner.Kept.{HoldsFirst, HoldsRows}
 use Rattle.ub_query.specs.declared.query.SortKey.{SortKey}
 use Rattle.ub_table.specs.declared.row.Row.{Row}
 use Rattle.ub_answer.proofs.rows.CollectedRows.make_room.Goals as goal

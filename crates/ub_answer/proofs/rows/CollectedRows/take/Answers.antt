@@ -2,8 +2,8 @@ use Rattle.std.proofs.Common.{List, Option, ◌≡◌, ◌∷◌, [], ◌++◌, 
 use Rattle.std.specs.declared.cmp.Ordering.TheVariants.{Less}
 use Rattle.ub_answer.proofs.CompareFacts.{rows_total}
 use Rattle.ub_answer.proofs.FirstFacts.{held_more, held_without, behind_push}
-use Rattle.ub_answer.specs.Compare.{row_cmp}
-use Rattle.ub_answer.specs.Held.{HoldsRows, IsBehind}
+use Rattle.ub_answer.specs.inner.Compare.{row_cmp}
+use Rattle.ub_answer.specs.inner.Kept.{HoldsRows, IsBehind}
 use Rattle.ub_query.specs.declared.query.SortKey.{SortKey}
 use Rattle.ub_table.specs.declared.row.Row.{Row}
 use Rattle.ub_answer.proofs.rows.CollectedRows.take.Goals as goal

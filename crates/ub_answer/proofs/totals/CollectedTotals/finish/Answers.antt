@@ -1,6 +1,6 @@
 use Rattle.std.proofs.Common.{rules, ◌≤◌, ◌∙◌, ap, length}
 use Rattle.ub_answer.proofs.TotalFacts.{total_meaning}
-use Rattle.ub_answer.specs.Cut.{cut}
+use Rattle.ub_answer.specs.inner.Cut.{cut}
 use Rattle.ub_query.specs.Shape.{asked}
 use Rattle.ub_answer.proofs.totals.CollectedTotals.finish.Goals as goal
 

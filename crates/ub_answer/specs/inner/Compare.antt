@@ -1,5 +1,5 @@
 -- The order asked as a comparison: how two entries stand to each other by the keys of a query.
-use Rattle.std.specs.Prelude.{Bool, true, false, List, [], ◌∷◌, map}
+use Rattle.std.specs.Prelude.{Bool, true, false, List, [], ◌∷◌}
 use Rattle.std.specs.Ordering.{nat_cmp, int_cmp, ordering_then}
 use Rattle.std.specs.declared.cmp.Ordering.{Ordering}
 use Rattle.std.specs.declared.cmp.Ordering.TheVariants.{Less, Equal, Greater}
@@ -32,7 +32,3 @@ keys_cmp cell last (key ∷ keys) a b =
 -- rows by the keys, and where none decides, by row number
 abbrev pub row_cmp : Schema → List SortKey → Row → Row → Ordering
 row_cmp schema keys = keys_cmp (row_cell schema) (λ a b. nat_cmp a.number b.number) keys
-
--- the lines of some rows: each reduced to its cells
-abbrev pub lines : Schema → List Item → List Row → List (List Cell)
-lines schema items rows = map (λ row. map (row_cell schema row) items) rows

@@ -1,6 +1,7 @@
 -- The cells of a group of rows, from one row to the next.
 use Rattle.std.specs.Prelude.{◌≡◌, ◌<◌, ◌≤ℤ◌, ◌+ℤ◌, ◌*◌, ℕ, ℤ, pos, neg_ℤ, List, [], length, slice_index_or}
 use Rattle.std.specs.Int.{int_max, int_min, saturate_to_bits}
+use Rattle.ub_answer.specs.Held.{many}
 use Rattle.ub_query.specs.Cells.{Group, group_cell}
 use Rattle.ub_query.specs.declared.cell.Cell.{Cell}
 use Rattle.ub_query.specs.declared.cell.Cell.TheVariants.{Number, Null}
@@ -75,10 +76,6 @@ AreOfNone items cells = (k : ℕ) (d : Item) (e : Cell) → k < length items
 abbrev pub AreWithRow : Schema → Row → List Item → List Cell → List Cell → Type 0
 AreWithRow schema row items before after = (k : ℕ) (d : Item) (e : Cell) → k < length items
     → slice_index_or after k e ≡ with_row schema row (slice_index_or items k d) (slice_index_or before k e)
-
--- how many rows may be taken: more than a table has
-abbrev pub many : ℕ
-many = 4294967296
 
 -- what is held of the rows taken where nothing is grouped
 abbrev pub HoldsTotals : Schema → List Item → List Row → List Cell → Type 0

@@ -5,9 +5,10 @@ use Rattle.std.specs.List.{All, flat_map}
 use Rattle.std.specs.Map.{lookup}
 use Rattle.std.specs.Ordering.{int_cmp, int_eq}
 use Rattle.std.specs.declared.cmp.Ordering.{Ordering}
-use Rattle.ub_answer.specs.Compare.{keys_cmp}
-use Rattle.ub_answer.specs.Cut.{cut}
-use Rattle.ub_answer.specs.Tally.{IsNarrow, AreOfNone, AreWithRow, AreShown, many}
+use Rattle.ub_answer.specs.Held.{many}
+use Rattle.ub_answer.specs.inner.Compare.{keys_cmp}
+use Rattle.ub_answer.specs.inner.Cut.{cut}
+use Rattle.ub_answer.specs.inner.Tally.{IsNarrow, AreOfNone, AreWithRow, AreShown}
 use Rattle.ub_answer.specs.declared.groups.Values.{Values}
 use Rattle.ub_query.specs.Cells.{Group}
 use Rattle.ub_query.specs.Groups.{rows_with}

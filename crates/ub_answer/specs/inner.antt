@@ -1,0 +1,5 @@
+pub mod Compare
+pub mod Cut
+pub mod Groups
+pub mod Kept
+pub mod Tally
