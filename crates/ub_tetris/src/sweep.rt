@@ -9,7 +9,7 @@ use ub_page::RegionPage;
 use ub_planning::Plan;
 use ub_store::PageStore;
 use ub_table::Row;
-use ub_tree::Tree;
+use ub_tree::{Tree, TreeFault};
 
 /// A sweep over the regions of a tree, by a plan.
 ///
@@ -31,17 +31,17 @@ impl Model for Sweep {
 }
 
 impl Sweep {
-    ghost use Rattle.std.specs.Prelude.{◌≡◌, ℕ, Bool, List, [], length, IfOk, OnErr};
+    ghost use Rattle.std.specs.Prelude.{◌≡◌, ℕ, Bool, List, [], Err, IsTrue, length, IfOk, OnErr};
     ghost use Rattle.ub_planning.specs.Visits.{Event};
     ghost use Rattle.ub_query.specs.Posed.{IsPosed};
     ghost use Rattle.ub_table.specs.declared.row.Row.{Row as RowView};
     ghost use Rattle.ub_tetris.specs.Effects.{Begins, FailsOnce, Rests, Sweeps};
     ghost use Rattle.ub_tetris.specs.inner.Turns.{begun_view};
-    ghost use Rattle.ub_tetris.specs.Sweep.{HasBegun, HasBroken, HasStepped, IsStarted, IsSweeping, IsSwept};
+    ghost use Rattle.ub_tetris.specs.Sweep.{HasBegun, HasBroken, HasStepped, IsNoSweep, IsStarted, IsSweeping, IsSwept};
 
     /// Begins a sweep by a plan. The trace begins anew; no region is fetched. Of a plan that is no sweep it comes to no region.
     ///
-    /// `Memory` where memory was refused; `Tree` where the tree refused.
+    /// `Memory` where memory was refused; `Tree` where the tree refused, as it does where it has failed, whatever the plan.
     pub fn new<S: PageStore>(
         alloc: Global,
         tree: &mut Tree<S>,
@@ -50,9 +50,15 @@ impl Sweep {
         ensures begun { (dim : ℕ) (is_descending : Bool)
             → IsSwept tree.old plan.now dim is_descending → IfOk result (HasBegun plan.now tree.new) }
         ensures started { IfOk result (IsStarted tree.new) }
+        ensures other { IsNoSweep plan.now.kind → IfOk result (λ s. s.awaited ≡ []) }
+        ensures failed { IsTrue tree.old.is_failed
+            → result ≡ Err (SweepFault.Tree TreeFault.Failed) }
         ensures effect { Begins tree.old tree.new result }
     {
         tree.begin();
+        if tree.has_failed() {
+            return Err(SweepFault::Tree(TreeFault::Failed));
+        }
         let Some(course) = course_of(plan) else {
             let page = tree.empty_region();
             return Ok(Sweep::over(alloc, NOWHERE, Vec::new(alloc), page));
