@@ -31,7 +31,7 @@ impl Model for Sweep {
 }
 
 impl Sweep {
-    ghost use Rattle.std.specs.Prelude.{◌≡◌, ℕ, Bool, List, [], Err, IsTrue, length, IfOk, OnErr};
+    ghost use Rattle.std.specs.Prelude.{◌≡◌, ℕ, Bool, List, [], Ok, Err, None, IsTrue, length, IfOk, OnErr};
     ghost use Rattle.ub_planning.specs.Visits.{Event};
     ghost use Rattle.ub_query.specs.Posed.{IsPosed};
     ghost use Rattle.ub_table.specs.declared.row.Row.{Row as RowView};
@@ -79,8 +79,9 @@ impl Sweep {
 
     /// The next row in the order asked; `None` after the last, however often it is asked.
     ///
-    /// No region is fetched that can only hold rows after this one, nor twice, also where it answers a fault. `Memory` where memory was refused; `Tree` where the tree
-    /// refused; after either of them `Failed` each time.
+    /// No region is fetched that can only hold rows after this one, nor twice, also where it answers a fault. Where it answers
+    /// no fault each that was fetched was taken in, and where it answers `None` no region is left. `Memory` where memory was
+    /// refused; `Tree` where the tree refused; after either of them `Failed` each time.
     pub fn next<S: PageStore>(
         &mut self,
         tree: &mut Tree<S>,
@@ -96,6 +97,7 @@ impl Sweep {
         ensures rests { (given : List RowView) (fetched : List Event)
             → IsSweeping plan.now tree.old self.old given [] fetched []
             → Rests self.old self.new tree.old tree.new result }
+        ensures ended { result ≡ Ok None → self.new.awaited ≡ [] }
         ensures once { FailsOnce self.old self.new tree.old tree.new result }
         ensures effect { Sweeps self.old self.new tree.old tree.new result }
     {
