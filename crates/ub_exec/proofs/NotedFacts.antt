@@ -1,5 +1,5 @@
 -- Pages noted call by call, and each of them taken in.
-use Rattle.std.proofs.Common.{◌≡◌, ◌≢◌, ◌≤◌, ◌+◌, ◌∙◌, ◌++◌, ◌∷◌, ◌⊎◌, inl, inr, ℕ, zero, suc, Bool, true, false, List, [], Option, Some, None, Result, Ok, Err, Contains, IsTrue, length, map, refl, sym, ap, subst, arith, append_assoc}
+use Rattle.std.proofs.Common.{◌≡◌, ◌≤◌, ◌+◌, ◌∙◌, ◌++◌, ◌∷◌, ◌⊎◌, inl, inr, ℕ, zero, suc, Bool, true, false, List, [], Option, Some, None, Result, Ok, Err, Contains, IsTrue, length, map, refl, sym, ap, subst, arith, append_assoc}
 use Rattle.std.proofs.lemmas.List.{append-nil, length-append, length-map, map-append}
 use Rattle.std.specs.List.{AllByRecursion}
 use Rattle.std.specs.Option.{is_some}
@@ -13,7 +13,7 @@ use Rattle.ub_query.proofs.Laws.{contains_cases, contains_none}
 use Rattle.ub_table.proofs.Laws.{not_before_self, precedes_trans}
 use Rattle.ub_table.specs.Keys.{precedes}
 use Rattle.ub_table.specs.Region.{Region}
-use Rattle.ub_tetris.specs.Effects.{AreTakenIn, Sweeps, as_read, fetches_then}
+use Rattle.ub_tetris.specs.Effects.{Sweeps, fetches_then}
 use Rattle.ub_tetris.specs.Sweep.{AreItsRegions, AwaitedRegion, SweepView}
 use Rattle.ub_tetris.specs.declared.fault.SweepFault.{SweepFault}
 use Rattle.ub_tree.proofs.Laws.{IsTraced, traced_spans}

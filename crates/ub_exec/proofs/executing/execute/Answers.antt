@@ -1,4 +1,4 @@
-use Rattle.std.proofs.Common.{Ok, Err, rules}
+use Rattle.std.proofs.Common.{Err, rules}
 use Rattle.ub_exec.proofs.NotedFacts.{carries_err, carries_ok}
 use Rattle.ub_exec.specs.Answers.{begun}
 use Rattle.ub_exec.proofs.executing.execute.Goals as goal

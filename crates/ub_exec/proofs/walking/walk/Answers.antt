@@ -1,4 +1,4 @@
-use Rattle.std.proofs.Common.{◌≡◌, ◌≤◌, ◌++◌, ◌+◌, ◌∙◌, ℕ, List, [], Ok, Err, length, refl, sym, subst, arith}
+use Rattle.std.proofs.Common.{◌≤◌, ◌++◌, ◌+◌, ℕ, List, [], Ok, Err, length, refl, sym, subst, arith}
 use Rattle.std.proofs.lemmas.List.{append-nil}
 use Rattle.std.specs.List.{filter}
 use Rattle.ub_exec.proofs.FirstFacts.{on_err, turned_first}
