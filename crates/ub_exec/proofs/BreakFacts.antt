@@ -4,7 +4,7 @@ use Rattle.ub_exec.proofs.FirstFacts.{swept_first}
 use Rattle.ub_tree.proofs.Laws.{Keeps, Keeps-by, begun_traced}
 use Rattle.ub_exec.proofs.SweptFacts.{HasSwept, over, short}
 use Rattle.ub_exec.specs.Answers.{IsReady, begun}
-use Rattle.ub_exec.specs.Sweeping.{turns_of}
+use Rattle.ub_exec.specs.Sweeping.{room, turns_of}
 use Rattle.ub_exec.specs.Visits.{HasFetchedFirst, fetches_then}
 use Rattle.ub_planning.specs.Plan.{PlanView}
 use Rattle.ub_planning.specs.Visits.{AreSweepVisits, Event}
@@ -30,22 +30,22 @@ visits_at plan start t dim is_descending events kept visits =
 
 -- it was while the next row was looked for
 pub swept_before : (plan : PlanView) (start t new : TreeView) (s : SweepView) (turns : ℕ) (rows : List (List Cell)) → Keeps start t → (swept : HasSwept plan t s turns rows)
-    → new.placed ≡ t.placed → new.fetches ≡ fetches_then start.fetches (length new.trace) → turns < turns_of plan.asked.limit start.rows
+    → new.placed ≡ t.placed → new.fetches ≡ fetches_then start.fetches (length new.trace) → turns < turns_of plan.asked.limit (room start)
     → HasBroken new s swept.rest swept.fetched swept.unread → (count : ℕ) × HasFetchedFirst plan (begun start) new count
 swept_before plan start t new s turns rows kept swept placed fetches left broken =
     let (later, visits) = broken_before t.schema plan s.dim s.is_descending t.next (regions t) (rows_held s.held) swept.given swept.rest swept.fetched swept.unread broken.read broken.left
-    (over plan t s swept.given swept.rest swept.fetched swept.unread swept.sweeping) swept.sweeping.under_way (short plan.asked.limit start.rows turns (length swept.given) left swept.count) broken.parts
+    (over plan t s swept.given swept.rest swept.fetched swept.unread swept.sweeping) swept.sweeping.under_way (short plan.asked.limit (room start) turns (length swept.given) left swept.count) broken.parts
     broken.reached in
     swept_first plan start new s.dim s.is_descending (swept.fetched ++ broken.read) later swept.sweeping.swept.kind (placed ∙ kept.regions.placed) broken.noted fetches
     (visits_at plan start t s.dim s.is_descending ((swept.fetched ++ broken.read) ++ later) kept visits)
 
 -- it was after the next row was given
 pub swept_after : (plan : PlanView) (start t new : TreeView) (s new_s : SweepView) (turns : ℕ) (rows : List (List Cell)) (swept : HasSwept plan t s turns rows) → Keeps start new
-    → new.fetches ≡ fetches_then start.fetches (length new.trace) → turns < turns_of plan.asked.limit start.rows → (row : Row)
+    → new.fetches ≡ fetches_then start.fetches (length new.trace) → turns < turns_of plan.asked.limit (room start) → (row : Row)
     → HasGiven plan new new_s swept.given swept.rest swept.fetched swept.unread row → (count : ℕ) × HasFetchedFirst plan (begun start) new count
 swept_after plan start t new s new_s turns rows swept kept fetches left row gives =
     let (later, visits) = broken_after new.schema plan new_s.dim new_s.is_descending new.next (regions new) (rows_held new_s.held) swept.given gives.more (swept.fetched ++ gives.read) gives.left row
     (over plan new new_s (swept.given ++ row ∷ []) gives.more (swept.fetched ++ gives.read) gives.left gives.sweeping) gives.sweeping.under_way
-    (short plan.asked.limit start.rows turns (length swept.given) left swept.count) gives.reached in
+    (short plan.asked.limit (room start) turns (length swept.given) left swept.count) gives.reached in
     swept_first plan start new new_s.dim new_s.is_descending (swept.fetched ++ gives.read) later gives.sweeping.swept.kind kept.regions.placed gives.sweeping.noted fetches
     (visits_at plan start new new_s.dim new_s.is_descending ((swept.fetched ++ gives.read) ++ later) kept visits)

@@ -1,6 +1,7 @@
 pub mod BreakFacts
 pub mod FirstFacts
 pub mod KeptFacts
+pub mod NotedFacts
 pub mod WalkFacts
 pub mod VisitFacts
 pub mod MeantFacts

@@ -1,5 +1,5 @@
 -- What a sweep has given and fetched, turn by turn, and when it stops.
-use Rattle.std.proofs.Common.{◌≡◌, ◌≢◌, ◌<◌, ◌≤◌, ◌+◌, ◌∙◌, ℕ, zero, suc, Bool, true, false, List, [], ◌∷◌, ◌++◌, Option, Some, None, IfSome, Contains, filter, length, map, refl, sym, ap, subst, arith}
+use Rattle.std.proofs.Common.{◌≡◌, ◌≢◌, ◌<◌, ◌≤◌, ◌+◌, ◌*◌, ◌∙◌, ℕ, zero, suc, Bool, true, false, List, [], ◌∷◌, ◌++◌, Option, Some, None, Result, IfSome, Contains, filter, length, map, refl, sym, ap, subst, arith}
 use Rattle.std.proofs.lemmas.List.{length-append, length-map, map-append}
 use Rattle.std.proofs.lemmas.List.Sorted.{length_permutation}
 use Rattle.std.specs.List.{All, AllByRecursion}
@@ -7,7 +7,9 @@ use Rattle.ub_answer.specs.Held.{lines}
 use Rattle.ub_tree.proofs.Laws.{Keeps}
 use Rattle.ub_exec.proofs.MeantFacts.{empty_where}
 use Rattle.ub_exec.specs.Answers.{IsAnswer, IsSwept, begun}
-use Rattle.ub_exec.specs.Sweeping.{HasNotedMore, turns_of}
+use Rattle.ub_exec.proofs.NotedFacts.{noted_sum}
+use Rattle.ub_exec.specs.Reading.{NotesPages}
+use Rattle.ub_exec.specs.Sweeping.{room, turns_of}
 use Rattle.ub_exec.specs.Visits.{HasFetched, fetches_then}
 use Rattle.ub_planning.specs.Plan.{PlanView}
 use Rattle.ub_planning.specs.Visits.{Event, AreSweepVisits, AreVisitsBy, selected_rows}
@@ -18,8 +20,8 @@ use Rattle.ub_query.specs.Groups.{is_selected}
 use Rattle.ub_query.specs.Meaning.{IsMeaning}
 use Rattle.ub_query.specs.Shape.{Asked}
 use Rattle.ub_query.specs.declared.cell.Cell.{Cell}
-use Rattle.ub_region.specs.Regions.{AreTableRows}
-use Rattle.ub_table.specs.Region.{Region}
+use Rattle.ub_region.specs.Regions.{AreTableRows, rows_of}
+use Rattle.ub_table.specs.Region.{IsRegion, Region}
 use Rattle.ub_table.specs.declared.row.Row.{Row}
 use Rattle.ub_table.specs.declared.schema.Schema.{Schema}
 use Rattle.ub_tetris.proofs.Laws.{IsSweepOver, stops, runs_out, stops_with_the_meaning, runs_out_with_the_meaning}
@@ -28,6 +30,7 @@ use Rattle.ub_tetris.specs.Machine.{IsUnderWay, IsRowAlong, regions_at}
 use Rattle.ub_tetris.specs.Sweep.{SweepView, IsSweeping, HasBegun, HasGiven, HasEnded}
 use Rattle.ub_tree.specs.Placed.{Placed, regions_in}
 use Rattle.ub_tree.specs.View.{TreeView, regions, tree_rows}
+use Rattle.ub_tree.specs.declared.read_fault.ReadFault.{ReadFault}
 
 -- ---- a kind that is a sweep
 
@@ -115,9 +118,19 @@ filter_few f (row ∷ rows) = by_truth (f row) refl (filter_few f rows)
     by_truth true e fewer = rw e (omega arith)
     by_truth false e fewer = rw e (omega arith)
 
-pub given_few : (plan : PlanView) (t : TreeView) (s : SweepView) (given rest : List Row) (fetched unread : List Event) → IsSweeping plan t s given rest fetched unread → length given ≤ t.rows
+-- regions have no more rows than there is room for on their pages
+rows_fit : (schema : Schema) (placed : List Placed) → AllByRecursion (IsRegion schema) (regions_in placed) → length (rows_of (regions_in placed)) ≤ length placed * 64
+rows_fit schema [] each = omega arith
+rows_fit schema (p ∷ placed) each =
+    let rest = rows_fit schema placed each.1 in
+    let own = each.0.few in
+    let most : schema.page_rows ≤ 64 = schema.counts.few_rows in
+    let parts = length-append p.region.rows (rows_of (regions_in placed)) in
+    omega arith
+
+pub given_few : (plan : PlanView) (t : TreeView) (s : SweepView) (given rest : List Row) (fetched unread : List Event) → IsSweeping plan t s given rest fetched unread → length given ≤ room t
 given_few plan t s given rest fetched unread sweeping =
-    let all = sweeping.swept.sound.rows_are in
+    let all = rows_fit t.schema t.placed sweeping.swept.sound.regions_are.each in
     let few = filter_few (is_selected t.schema plan.asked.filter) (tree_rows t) in
     let same : length (selected_rows t.schema plan (regions t)) ≡ length (given ++ rest) = sym (length_permutation (selected_rows t.schema plan (regions t)) (given ++ rest) sweeping.under_way.rows.same) in
     let parts = length-append given rest in
@@ -172,12 +185,12 @@ short None rows turns count below same = tt
 short (Some n) rows turns count below same = omega arith
 
 module _ (plan : PlanView) (start t : TreeView) (s : SweepView) (turns : ℕ) (rows : List (List Cell)) (kept : Keeps start t) (fetches : t.fetches ≡ fetches_then start.fetches (length t.trace))
-    (swept : HasSwept plan t s turns rows) (kind : IsSwept plan.kind) (end : turns ≡ turns_of plan.asked.limit start.rows) where
+    (swept : HasSwept plan t s turns rows) (kind : IsSwept plan.kind) (end : turns ≡ turns_of plan.asked.limit (room start)) where
   -- no turn was left
   is_filled : plan.asked.limit ≡ Some (length swept.given)
   is_filled =
       let few = given_few plan t s swept.given swept.rest swept.fetched swept.unread swept.sweeping in
-      filled plan.asked.limit start.rows turns (length swept.given) end swept.count (subst (λ (n : ℕ). length swept.given ≤ n) kept.regions.rows few)
+      filled plan.asked.limit (room start) turns (length swept.given) end swept.count (subst (λ (placed : List Placed). length swept.given ≤ length placed * 64) kept.regions.placed few)
 
   has_some : 1 ≤ length swept.given
   has_some = by_count (length swept.given) refl
@@ -202,10 +215,10 @@ module _ (plan : PlanView) (start t : TreeView) (s : SweepView) (turns : ℕ) (r
 
 -- it answered that no row is left
 module _ (plan : PlanView) (start mid t : TreeView) (s new_s : SweepView) (turns : ℕ) (rows : List (List Cell)) (kept : Keeps start t) (fetches : t.fetches ≡ fetches_then start.fetches (length t.trace))
-    (swept : HasSwept plan mid s turns rows) (same : t.schema ≡ mid.schema) (left : turns < turns_of plan.asked.limit start.rows)
+    (swept : HasSwept plan mid s turns rows) (same : t.schema ≡ mid.schema) (left : turns < turns_of plan.asked.limit (room start))
     (ends : HasEnded plan t new_s swept.given swept.rest swept.fetched swept.unread) where
   is_short : IfSome plan.asked.limit (λ n. length swept.given < n)
-  is_short = short plan.asked.limit start.rows turns (length swept.given) left swept.count
+  is_short = short plan.asked.limit (room start) turns (length swept.given) left swept.count
 
   pub ended_fetched : HasFetched plan (begun start) t
   ended_fetched =
@@ -227,19 +240,15 @@ pub at_end : (turn end whole : ℕ) → end ≤ turn → turn ≤ end → end �
 at_end turn end whole past within is = omega arith
 
 -- how often the sweep is asked
-pub end_is : (query asked : Asked) (old new : TreeView) (end rows : ℕ) → end ≡ turns_of query.limit rows → rows ≡ new.rows → new ≡ begun old → query ≡ asked → end ≡ turns_of asked.limit old.rows
-end_is query asked old new end rows is counted same alike =
-    is ∙ ap (turns_of query.limit) (counted ∙ ap (λ (t : TreeView). t.rows) same) ∙ ap (λ (q : Asked). turns_of q.limit old.rows) alike
+pub end_is : (query asked : Asked) (old new : TreeView) (end : ℕ) → end ≡ turns_of query.limit (room new) → new ≡ begun old → query ≡ asked → end ≡ turns_of asked.limit (room old)
+end_is query asked old new end is same alike =
+    is ∙ ap (λ (t : TreeView). turns_of query.limit (room t)) same ∙ ap (λ (q : Asked). turns_of q.limit (room old)) alike
 
-noted_sum : (fetches a b : ℕ) → fetches_then (fetches_then fetches a) b ≡ fetches_then fetches (a + b)
-noted_sum fetches zero b = ap (fetches_then fetches) (let e : b ≡ 0 + b = omega arith in e)
-noted_sum fetches (suc a) zero = ap (fetches_then fetches) (let e : suc a ≡ suc a + 0 = omega arith in e)
-noted_sum fetches (suc a) (suc b) = let e : suc a + suc b ≡ suc (a + suc b) = omega arith in rw e (omega arith)
-
-pub noted_more : (start t new : TreeView) → t.fetches ≡ fetches_then start.fetches (length t.trace) → HasNotedMore t new → new.fetches ≡ fetches_then start.fetches (length new.trace)
-noted_more start t new is (noted, trace, fetches) =
-    fetches ∙ ap (λ (f : ℕ). fetches_then f (length noted)) is ∙ noted_sum start.fetches (length t.trace) (length noted)
-    ∙ ap (fetches_then start.fetches) (sym (length-append t.trace noted) ∙ ap length (sym trace))
+pub noted_more : {A : Type 0} (r : Result A ReadFault) (start t new : TreeView) → t.fetches ≡ fetches_then start.fetches (length t.trace) → NotesPages t new r
+    → new.fetches ≡ fetches_then start.fetches (length new.trace)
+noted_more r start t new is notes =
+    notes.fetches_are ∙ ap (λ (f : ℕ). fetches_then f (length notes.noted)) is ∙ noted_sum start.fetches (length t.trace) (length notes.noted)
+    ∙ ap (fetches_then start.fetches) (sym (length-append t.trace notes.noted) ∙ ap length (sym notes.trace_is))
 
 pub wide_more : (n : ℕ) (rows : List (List Cell)) (row : List Cell) → AllByRecursion (λ cells. length cells ≡ n) rows → length row ≡ n → AllByRecursion (λ cells. length cells ≡ n) (rows ++ row ∷ [])
 wide_more n [] row all is = (is, tt)

@@ -1,5 +1,6 @@
-ghost use Rattle.std.specs.Prelude.{◌≡◌, ◌↔◌, ℕ, Some, length, IsTrue, IfOk, OnErr, OnOk};
+ghost use Rattle.std.specs.Prelude.{◌≡◌, ◌↔◌, ℕ, Some, Err, length, IsTrue, IfOk, OnErr, OnOk};
 ghost use Rattle.ub_exec.specs.Answers.{IsReady, IsAnswer, IsSwept, begun};
+ghost use Rattle.ub_exec.specs.Reading.{CarriesOut};
 ghost use Rattle.ub_exec.specs.Visits.{HasFetched, HasFetchedFirst};
 ghost use Rattle.ub_query.specs.Posed.{IsPosed};
 ghost use Rattle.ub_tree.specs.Reading.{ReadsTree};
@@ -12,7 +13,7 @@ use ub_filter::Choice;
 use ub_planning::{Kind, Plan};
 use ub_query::Query;
 use ub_store::PageStore;
-use ub_tree::{ReadFault, Tree};
+use ub_tree::{ReadFault, Tree, TreeFault};
 
 /// What a query answers.
 #[derive(Drop)]
@@ -23,12 +24,12 @@ pub struct Answer {
     pub fetched: u64,
 }
 
-/// The answer of a query by its plan, on the rows of a tree's table. The trace begins anew, and then has the pages of the
-/// regions that the plan visits, each once, in their order.
+/// The answer of a query by its plan, on the rows of a tree's table. The trace begins anew, and then has the pages that were
+/// fetched: on a sound tree those of the regions that the plan visits, each once, in their order; on any tree, where it
+/// answers, those of regions whose pages were taken in, and of a scan of all regions that meet its boxes.
 ///
-/// `Memory` where memory was refused; `Tree` where the tree refused: then so many of these regions were fetched, the first
-/// ones, and no page twice. On a sound tree it refuses only where its store failed in
-/// this call.
+/// `Memory` where memory was refused; `Tree` where the tree refused, as it does where it has failed, whatever the plan. On a
+/// sound tree it refuses only where its store failed in this call; then so many of the visits were fetched, the first ones.
 pub fn execute<S: PageStore>(
     alloc: Global,
     tree: &mut Tree<S>,
@@ -42,6 +43,8 @@ pub fn execute<S: PageStore>(
     ensures broken { IsReady tree.old plan.now → OnErr result ((count : ℕ)
         × HasFetchedFirst plan.now (begun tree.old) tree.new count) }
     ensures fetched { IfOk result (λ a. a.fetched ≡ length tree.new.trace) }
+    ensures failed { IsTrue tree.old.is_failed → result ≡ Err (ReadFault.Tree TreeFault.Failed) }
+    ensures reads { CarriesOut plan.now (begun tree.old) tree.new result }
     ensures effect { ReadsTree tree.old tree.new result }
 {
     let rows = result_rows(alloc, tree, plan)?;
@@ -51,7 +54,7 @@ pub fn execute<S: PageStore>(
     })
 }
 
-// The rows of the result. The trace begins anew.
+// The rows of the result. The trace begins anew. A tree that has failed is asked for none, whatever the plan.
 fn result_rows<S: PageStore>(
     alloc: Global,
     tree: &mut Tree<S>,
@@ -64,13 +67,16 @@ fn result_rows<S: PageStore>(
         (HasFetched plan.now (begun tree.old) tree.new) }
     ensures broken { IsReady tree.old plan.now → OnErr result ((count : ℕ)
         × HasFetchedFirst plan.now (begun tree.old) tree.new count) }
+    ensures failed { IsTrue tree.old.is_failed → result ≡ Err (ReadFault.Tree TreeFault.Failed) }
+    ensures reads { CarriesOut plan.now (begun tree.old) tree.new result }
     ensures effect { ReadsTree tree.old tree.new result }
 {
+    tree.begin();
+    if tree.has_failed() {
+        return Err(ReadFault::Tree(TreeFault::Failed));
+    }
     match plan.kind() {
-        Kind::Empty | Kind::Scan => {
-            tree.begin();
-            scanned_rows(alloc, tree, plan)
-        }
+        Kind::Empty | Kind::Scan => scanned_rows(alloc, tree, plan),
         Kind::Sweep { .. } => swept_rows(alloc, tree, plan),
     }
 }
@@ -88,6 +94,7 @@ fn scanned_rows<S: PageStore>(
         → OnOk result (HasFetched plan.now tree.old tree.new) }
     ensures broken { IsReady tree.old plan.now → ¬ IsSwept plan.now.kind
         → OnErr result ((count : ℕ) × HasFetchedFirst plan.now tree.old tree.new count) }
+    ensures reads { CarriesOut plan.now tree.old tree.new result }
     ensures effect { ReadsTree tree.old tree.new result }
 {
     let query = plan.query();

@@ -1,6 +1,7 @@
 ghost use Rattle.std.specs.Prelude.{◌≡◌, ◌++◌, false, ℕ, List, length, IfOk, OnErr, OnOk};
 ghost use Rattle.ub_exec.specs.Answers.{IsReady, IsAnswer, IsSwept, begun};
-ghost use Rattle.ub_exec.specs.Sweeping.{HasNotedMore, turns_of};
+ghost use Rattle.ub_exec.specs.Reading.{NotesPages};
+ghost use Rattle.ub_exec.specs.Sweeping.{room, turns_of};
 ghost use Rattle.ub_exec.specs.Visits.{HasFetched, HasFetchedFirst};
 ghost use Rattle.ub_planning.specs.Visits.{Event};
 ghost use Rattle.ub_query.specs.Posed.{IsPosed};
@@ -14,7 +15,7 @@ use std::alloc::Global;
 use ub_answer::Cells;
 use ub_planning::Plan;
 use ub_store::PageStore;
-use ub_table::Row;
+use ub_table::{MAX_ROWS, Row};
 use ub_tetris::Sweep;
 use ub_tree::{ReadFault, Tree};
 
@@ -32,12 +33,13 @@ pub(crate) fn swept_rows<S: PageStore>(
         → OnOk result (HasFetched plan.now (begun tree.old) tree.new) }
     ensures broken { IsReady tree.old plan.now → IsSwept plan.now.kind → OnErr result ((count : ℕ)
         × HasFetchedFirst plan.now (begun tree.old) tree.new count) }
+    ensures notes { NotesPages (begun tree.old) tree.new result }
     ensures effect { ReadsTree tree.old tree.new result }
 {
     let mut sweep = begin_sweep(alloc, tree, plan)?;
     let query = plan.query();
     let mut rows = Cells::none(alloc);
-    for _turn in 0..turns(query.limit, tree.rows()) {
+    for _turn in 0..turns(query.limit, tree) {
         let Some(row) = next_row(&mut sweep, tree, plan)? else {
             return Ok(rows);
         };
@@ -46,12 +48,13 @@ pub(crate) fn swept_rows<S: PageStore>(
     Ok(rows)
 }
 
-// How often a sweep is asked for a row: as often as the limit says, but no more than once past all rows, which on a sound tree
-// it answers with None at the latest.
-fn turns(limit: Option<u64>, rows: u32) -> u64
-    ensures { result ≡ turns_of limit rows }
+// How often a sweep is asked for a row: as often as the limit says, but no more than once past all rows that the regions have
+// room for, which on a sound tree it answers with None at the latest. The count of rows isn't asked for this: in a file whose
+// first page is damaged it may be wrong.
+fn turns<S: PageStore>(limit: Option<u64>, tree: &Tree<S>) -> u64
+    ensures { result ≡ turns_of limit (room tree.now) }
 {
-    let all = u64::from(rows) + 1;
+    let all = u64::from(tree.regions()) * MAX_ROWS as u64 + 1;
     match limit {
         None => all,
         Some(most) => most.min(all),
@@ -93,7 +96,7 @@ fn next_row<S: PageStore>(
         → OnErr result (HasBroken tree.new sweep.old rest fetched unread) }
     ensures working { OnOk result (sweep.new.is_failed ≡ false) }
     ensures regions { AreItsRegions tree.new sweep.new }
-    ensures noted { HasNotedMore tree.old tree.new }
+    ensures notes { NotesPages tree.old tree.new result }
     ensures effect { ReadsTree tree.old tree.new result }
 {
     Ok(sweep.next(tree, plan)?)

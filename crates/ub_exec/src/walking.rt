@@ -1,5 +1,6 @@
 ghost use Rattle.std.specs.Prelude.{◌≡◌, ◌++◌, List, length, option_copied, IfOk, OnErr, OnOk};
 ghost use Rattle.std.specs.List.{filter};
+ghost use Rattle.ub_exec.specs.Reading.{HasReadAll, HasReadNext, NotesPages};
 ghost use Rattle.ub_filter.specs.Choice.{IsFit, is_chosen};
 ghost use Rattle.ub_exec.specs.Visits.{Hands, HasTurned, HasTurnedSome, HasWalked, HasWalkedFirst};
 ghost use Rattle.ub_query.specs.Posed.{IsPosed};
@@ -31,6 +32,8 @@ pub(crate) fn walk<S: PageStore, K: RowSink>(
         → K.HasTaken tree.old.schema plan.now.asked before taken sink.old
         → IsSound tree.old → OnErr result (HasWalkedFirst plan.now.covering.boxes tree.old
         tree.new) }
+    ensures all { OnOk result (HasReadAll plan.now.covering.boxes tree.old tree.new) }
+    ensures notes { NotesPages tree.old tree.new result }
     ensures effect { ReadsTree tree.old tree.new result }
 {
     let mut page = tree.empty_region();
@@ -63,6 +66,9 @@ fn visit_next<S: PageStore, K: RowSink>(
         rows)) }
     ensures broken { IsSound tree.old → OnErr result
         (HasTurnedSome plan.now.covering.boxes (option_copied after.entry) tree.old tree.new) }
+    ensures next { IfOk result (HasReadNext plan.now.covering.boxes (option_copied after.entry)
+        tree.old tree.new) }
+    ensures notes { NotesPages tree.old tree.new result }
     ensures effect { ReadsTree tree.old tree.new result }
 {
     let Some(region) = tree.next_meeting(plan.boxes(), after)? else {

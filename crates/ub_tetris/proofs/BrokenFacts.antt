@@ -154,6 +154,19 @@ rests_by t s new_s row empty takes kept =
       tree_is = refl;
     }
 
+-- where no row is left to take, no region is awaited
+pub none_awaited : (s : State) (left : List HeldRow) (row : Option Row) → IsDue s false → TakesFirst s.held left row → row ≡ None → awaited_of (drop s.fetched s.queue.items) ≡ []
+none_awaited s left (Some row) due takes none = cc
+none_awaited s left None (Some first, is_first, due) takes none =
+    absurd (contains_none is_first.0 (subst (λ (held : List HeldRow). Contains held is_first.0) takes.0 is_first.1))
+none_awaited s left None (None, is_first, due) takes none = past s.queue.items s.fetched due
+  where
+    past : (queue : List Awaited) (k : ℕ) → false ≡ is_due_by s.course (slice_get queue k) None → awaited_of (drop k queue) ≡ []
+    past [] zero due = refl
+    past [] (suc k) due = refl
+    past (a ∷ queue) zero due = cc
+    past (a ∷ queue) (suc k) due = past queue k due
+
 -- ---- what contracts see of a sweep that hasn't failed
 
 pub same_view : (s : State) (is_failed : Bool) (view : SweepView) → view_by s is_failed ≡ view → is_failed ≡ false → view ≡ view_of s

@@ -1,18 +1,20 @@
 -- What the calls of a sweep leave of a tree, one after the other.
-use Rattle.std.proofs.Common.{◌≡◌, ◌∙◌, ◌++◌, ◌+◌, ◌∷◌, ◌⊎◌, inl, inr, ℕ, zero, suc, Bool, IsTrue, Result, Ok, Err, IfErr, List, [], length, Contains, subst, sym, ap, refl, arith, append_assoc}
-use Rattle.std.proofs.lemmas.List.{append-nil, length-append}
+use Rattle.std.proofs.Common.{◌≡◌, ◌∙◌, ◌++◌, ◌+◌, ◌∷◌, ◌⊎◌, inl, inr, ℕ, zero, suc, Bool, IsTrue, Result, Ok, Err, IfErr, List, [], length, map, Contains, subst, sym, ap, refl, arith, append_assoc}
+use Rattle.std.proofs.lemmas.List.{append-nil, length-append, map-append}
 use Rattle.std.proofs.lemmas.List.Elements.{Contains-append_right}
 use Rattle.std.specs.List.{AllByRecursion}
+use Rattle.std.specs.Prelude.{OnOk}
 use Rattle.std.specs.Result.{IsErrAnd}
 use Rattle.ub_query.proofs.Laws.{contains_here}
 use Rattle.ub_store.specs.Facts.{raised}
 use Rattle.ub_store.specs.declared.fault.StoreFault.TheVariants as store
-use Rattle.ub_tetris.specs.Effects.{Sweeps, IsSweepFault, IsAwaitedFault, as_reading, fetches_then, of_read}
+use Rattle.ub_table.specs.Region.{Region}
+use Rattle.ub_tetris.specs.Effects.{AreTakenIn, Sweeps, IsSweepFault, IsAwaitedFault, as_reading, fetches_then, of_read}
 use Rattle.ub_tetris.specs.Sweep.{AwaitedRegion, SweepView, AreItsRegions}
 use Rattle.ub_tetris.specs.declared.fault.SweepFault.{SweepFault}
 use Rattle.ub_tetris.specs.declared.fault.SweepFault.TheVariants as sweep
 use Rattle.ub_tree.proofs.Laws.{IsTraced, given_before}
-use Rattle.ub_tree.specs.Effects.{IsReadFault, IsSpanFault, HasNoted, ReadsRegion, raised_by}
+use Rattle.ub_tree.specs.Effects.{IsReadFault, IsSpanFault, IsTakenIn, HasNoted, ReadsRegion, raised_by}
 use Rattle.ub_tree.specs.Reading.{fault_of_tree, read_store}
 use Rattle.ub_tree.specs.View.{TreeView, KeepsTrace, spans_of}
 use Rattle.ub_tree.specs.declared.region.Region.{Region as Span}
@@ -38,26 +40,30 @@ span_fault_before span a b (Store store.NoPage) h is = subst (λ (t : TreeView).
 span_fault_before span a b (Store store.Memory) h is = is
 span_fault_before span a b (Store store.BadSize) h is = is
 
+-- these pages were noted
+abbrev Notes : TreeView → TreeView → List ℕ → Type 0
+Notes old new noted = (new.trace ≡ old.trace ++ noted) × (new.fetches ≡ fetches_then old.fetches (length noted))
+
 -- the page of a region may have been noted
-noted_as : (old new : TreeView) (page : ℕ) → KeepsTrace old new ⊎ HasNoted page old new
-    → (noted : List ℕ) × (new.trace ≡ old.trace ++ noted) × (new.fetches ≡ fetches_then old.fetches (length noted))
-noted_as old new page (inl kept) = ([], kept.0 ∙ sym (append-nil old.trace), kept.1)
-noted_as old new page (inr noted) = (page ∷ [], noted.0, noted.1)
+noted_as : (old new : TreeView) (page : ℕ) → KeepsTrace old new ⊎ HasNoted page old new → (noted : List ℕ) × Notes old new noted
+noted_as old new page (inl kept) = ([], (kept.0 ∙ sym (append-nil old.trace), kept.1))
+noted_as old new page (inr noted) = (page ∷ [], noted)
 
 -- the next region awaited was come to, and nothing is known yet of the result but what it leaves of the store
 module _ {T : Type 0} (r : Result T SweepFault) (s new_s : SweepView) (a : AwaitedRegion) (old new : TreeView) (one : s.awaited ≡ a ∷ new_s.awaited)
-    (same : new ≡ record old { store = read_store (as_reading r) old.store; trace = new.trace; fetches = new.fetches }) (noted : KeepsTrace old new ⊎ HasNoted a.region.page old new) where
+    (same : new ≡ record old { store = read_store (as_reading r) old.store; trace = new.trace; fetches = new.fetches }) (pages : List ℕ) (notes : Notes old new pages) where
   pub its_region : AreItsRegions old s → Contains (spans_of old) a.region
   its_region all = (subst (λ (those : List AwaitedRegion). AllByRecursion (λ b. Contains (spans_of old) b.region) those) one all).0
 
-  pub swept_one : IfErr r (IsAwaitedFault s old) → (AreItsRegions old s → IfErr r (IsSweepFault s.is_failed old)) → Sweeps s new_s old new r
-  swept_one refused faults =
-      let (pages, trace, fetches) = noted_as old new a.region.page noted in
+  pub swept_one : OnOk r (AreTakenIn old (a ∷ []) pages) → IfErr r (IsAwaitedFault s old) → (AreItsRegions old s → IfErr r (IsSweepFault s.is_failed old)) → Sweeps s new_s old new r
+  swept_one taken refused faults =
       record {
         noted = pages;
-        same = same ∙ ap (λ (pages : List ℕ). record old { store = read_store (as_reading r) old.store; trace = pages; fetches = new.fetches }) trace
-            ∙ ap (λ (count : ℕ). record old { store = read_store (as_reading r) old.store; trace = old.trace ++ pages; fetches = count }) fetches;
-        left = (a ∷ [], one);
+        same = same ∙ ap (λ (pages : List ℕ). record old { store = read_store (as_reading r) old.store; trace = pages; fetches = new.fetches }) notes.0
+            ∙ ap (λ (count : ℕ). record old { store = read_store (as_reading r) old.store; trace = old.trace ++ pages; fetches = count }) notes.1;
+        come = a ∷ [];
+        left = one;
+        taken = taken;
         refused = refused;
         faults = faults;
         regions = λ all.
@@ -67,14 +73,15 @@ module _ {T : Type 0} (r : Result T SweepFault) (s new_s : SweepView) (a : Await
 
 -- the region was read
 pub read_swept : {T : Type 0} (x : T) (s new_s : SweepView) (a : AwaitedRegion) (old new : TreeView) → s.awaited ≡ a ∷ new_s.awaited
-    → new ≡ record old { trace = new.trace; fetches = new.fetches } → HasNoted a.region.page old new → Sweeps s new_s old new (Ok x)
-read_swept x s new_s a old new one same noted = swept_one (Ok x) s new_s a old new one same (inr noted) tt (λ all. tt)
+    → new ≡ record old { trace = new.trace; fetches = new.fetches } → HasNoted a.region.page old new → (region : Region) → IsTakenIn old a.region region → Sweeps s new_s old new (Ok x)
+read_swept x s new_s a old new one same noted region taken =
+    swept_one (Ok x) s new_s a old new one same (a.region.page ∷ []) noted (refl, ((region, taken), tt)) tt (λ all. tt)
 
 -- and then memory was refused
 pub memory_swept : {T : Type 0} (r : Result T SweepFault) (s new_s : SweepView) (a : AwaitedRegion) (old new : TreeView) → IsErrAnd r (λ x. x ≡ sweep.Memory) → s.awaited ≡ a ∷ new_s.awaited
     → new ≡ record old { trace = new.trace; fetches = new.fetches } → HasNoted a.region.page old new → Sweeps s new_s old new r
 memory_swept (Ok x) s new_s a old new is one same noted = absurd is
-memory_swept (Err f) s new_s a old new is one same noted = rw is (swept_one (Err sweep.Memory) s new_s a old new one same (inr noted) tt (λ all. tt))
+memory_swept (Err f) s new_s a old new is one same noted = rw is (swept_one (Err sweep.Memory) s new_s a old new one same (a.region.page ∷ []) noted tt tt (λ all. tt))
 
 pub either_noted : {A : Type 0} (result : Result A TreeFault) (old new : TreeView) (page : ℕ) → (KeepsTrace old new × ((result ≡ Err HasFailed) ⊎ (result ≡ Err Memory))) ⊎ HasNoted page old new
     → KeepsTrace old new ⊎ HasNoted page old new
@@ -85,27 +92,28 @@ first_awaited : (s new_s : SweepView) (a : AwaitedRegion) → s.awaited ≡ a �
 first_awaited s new_s a one = subst (λ (those : List AwaitedRegion). Contains those a) (sym one) (contains_here a new_s.awaited)
 
 -- the tree refused it
-module _ {T : Type 0} (s new_s : SweepView) (a : AwaitedRegion) (old new : TreeView) (one : s.awaited ≡ a ∷ new_s.awaited) (noted : KeepsTrace old new ⊎ HasNoted a.region.page old new) where
+module _ {T : Type 0} (s new_s : SweepView) (a : AwaitedRegion) (old new : TreeView) (one : s.awaited ≡ a ∷ new_s.awaited) (pages : List ℕ) (notes : Notes old new pages) where
   refused_by : (r : Result T SweepFault) (e : TreeFault) → IsErrAnd r (λ x. x ≡ of_read (fault_of_tree e))
       → new ≡ record old { store = record old.store { failed_reads = raised_by e old.store.failed_reads }; trace = new.trace; fetches = new.fetches }
       → IsSpanFault a.region old e → (Contains (spans_of old) a.region → IsReadFault old e) → Sweeps s new_s old new r
   refused_by (Ok x) e is same refused faults = absurd is
-  refused_by (Err f) Memory is same refused faults = rw is (swept_one (Err sweep.Memory) s new_s a old new one same noted tt (λ all. tt))
+  refused_by (Err f) Memory is same refused faults = rw is (swept_one (Err sweep.Memory) s new_s a old new one same pages notes tt tt (λ all. tt))
   refused_by (Err f) Full is same refused faults = absurd refused
   refused_by (Err f) HasFailed is same refused faults =
-      rw is (swept_one (Err (sweep.Tree HasFailed)) s new_s a old new one same noted ((a, first_awaited s new_s a one, refused), λ x. cc)
-      (λ all. (faults (its_region {T = T} (Err (sweep.Tree HasFailed)) s new_s a old new one same noted all), λ x. cc)))
+      rw is (swept_one (Err (sweep.Tree HasFailed)) s new_s a old new one same pages notes tt ((a, first_awaited s new_s a one, refused), λ x. cc)
+      (λ all. (faults (its_region {T = T} (Err (sweep.Tree HasFailed)) s new_s a old new one same pages notes all), λ x. cc)))
   refused_by (Err f) (Page page of_page) is same refused faults =
-      rw is (swept_one (Err (sweep.Tree (Page page of_page))) s new_s a old new one same noted ((a, first_awaited s new_s a one, refused), λ x. cc)
-      (λ all. (faults (its_region {T = T} (Err (sweep.Tree (Page page of_page))) s new_s a old new one same noted all), λ x. cc)))
+      rw is (swept_one (Err (sweep.Tree (Page page of_page))) s new_s a old new one same pages notes tt ((a, first_awaited s new_s a one, refused), λ x. cc)
+      (λ all. (faults (its_region {T = T} (Err (sweep.Tree (Page page of_page))) s new_s a old new one same pages notes all), λ x. cc)))
   refused_by (Err f) (Store of_store) is same refused faults =
-      rw is (swept_one (Err (sweep.Tree (Store of_store))) s new_s a old new one same noted ((a, first_awaited s new_s a one, refused), λ x. cc)
-      (λ all. (faults (its_region {T = T} (Err (sweep.Tree (Store of_store))) s new_s a old new one same noted all), λ x. cc)))
+      rw is (swept_one (Err (sweep.Tree (Store of_store))) s new_s a old new one same pages notes tt ((a, first_awaited s new_s a one, refused), λ x. cc)
+      (λ all. (faults (its_region {T = T} (Err (sweep.Tree (Store of_store))) s new_s a old new one same pages notes all), λ x. cc)))
 
 pub tree_swept : {T A : Type 0} (r : Result T SweepFault) (e : TreeFault) (s new_s : SweepView) (a : AwaitedRegion) (old new : TreeView) → IsErrAnd r (λ x. x ≡ of_read (fault_of_tree e))
     → s.awaited ≡ a ∷ new_s.awaited → ReadsRegion {A = A} a.region old new (Err e) → Sweeps s new_s old new r
 tree_swept {A = A} r e s new_s a old new is one reads =
-    refused_by s new_s a old new one (either_noted {A = A} (Err e) old new a.region.page reads.noted) r e is reads.same reads.refused reads.faults
+    let (pages, notes) = noted_as old new a.region.page (either_noted {A = A} (Err e) old new a.region.page reads.noted) in
+    refused_by s new_s a old new one pages notes r e is reads.same reads.refused reads.faults
 
 -- ---- one call after the other
 
@@ -114,9 +122,24 @@ pub Sweeps-none : {T : Type 0} (x : T) (s : SweepView) (t : TreeView) → Sweeps
 Sweeps-none x s t = record {
   noted = [];
   same = ap (λ (pages : List ℕ). record t { trace = pages }) (sym (append-nil t.trace));
-  left = ([], refl);
+  come = [];
+  left = refl;
+  taken = (refl, tt);
   refused = tt;
   faults = λ all. tt;
+  regions = λ all. all;
+}
+
+-- a sweep that has failed reads nothing
+pub Sweeps-failed : {T : Type 0} (s : SweepView) (t : TreeView) → IsTrue s.is_failed → Sweeps {A = T} s s t t (Err sweep.Failed)
+Sweeps-failed s t failed = record {
+  noted = [];
+  same = ap (λ (pages : List ℕ). record t { trace = pages }) (sym (append-nil t.trace));
+  come = [];
+  left = refl;
+  taken = tt;
+  refused = failed;
+  faults = λ all. failed;
   regions = λ all. all;
 }
 
@@ -137,6 +160,21 @@ fetched_then fetches (suc n) (suc m) = let e : suc n + suc m ≡ suc (n + suc m)
     fetched_more : (fetches n m : ℕ) → raised (raised fetches (suc n)) (suc m) ≡ raised fetches (suc (n + suc m))
     fetched_more fetches n m = omega arith
 
+all_joined : {X : Type 0} (P : X → Type 0) (xs ys : List X) → AllByRecursion P xs → AllByRecursion P ys → AllByRecursion P (xs ++ ys)
+all_joined P [] ys some more = more
+all_joined P (x ∷ xs) ys some more = (some.0, all_joined P xs ys some.1 more)
+
+-- regions taken in after others
+taken_more : {U : Type 0} (r : Result U SweepFault) (t m : TreeView) (xs ys : List AwaitedRegion) (pages more : List ℕ) → IsTraced t m → AreTakenIn t xs pages → OnOk r (AreTakenIn m ys more)
+    → OnOk r (AreTakenIn t (xs ++ ys) (pages ++ more))
+taken_more (Ok x) t m xs ys pages more traced first second =
+    let of_t : AreTakenIn t ys more = subst (λ (v : TreeView). AreTakenIn v ys more) traced second in (
+      ap (λ (front : List ℕ). front ++ more) first.0 ∙ ap (λ (rest : List ℕ). map (λ (a : AwaitedRegion). a.region.page) xs ++ rest) of_t.0
+          ∙ sym (map-append (λ (a : AwaitedRegion). a.region.page) xs ys),
+      all_joined (λ a. (region : Region) × IsTakenIn t a.region region) xs ys first.1 of_t.1,
+    )
+taken_more (Err e) t m xs ys pages more traced first second = tt
+
 pub sweeps_then : {T U : Type 0} (x : T) (r : Result U SweepFault) (a b c : SweepView) (t m n : TreeView) → a.is_failed ≡ b.is_failed
     → Sweeps a b t m (Ok x) → Sweeps b c m n r → Sweeps a c t n r
 sweeps_then x r a b c t m n failed first second =
@@ -149,17 +187,16 @@ sweeps_then x r a b c t m n failed first second =
           (append_assoc t.trace first.noted second.noted)
           ∙ ap (λ (count : ℕ). record t { store = read_store (as_reading r) t.store; trace = t.trace ++ (first.noted ++ second.noted); fetches = count })
           (fetched_then t.fetches (length first.noted) (length second.noted) ∙ ap (fetches_then t.fetches) (sym (length-append first.noted second.noted)));
-      left = (
-        first.left.0 ++ second.left.0,
-        first.left.1 ∙ ap (λ (those : List AwaitedRegion). first.left.0 ++ those) second.left.1 ∙ sym (append_assoc first.left.0 second.left.0 c.awaited),
-      );
+      come = first.come ++ second.come;
+      left = first.left ∙ ap (λ (those : List AwaitedRegion). first.come ++ those) second.left ∙ sym (append_assoc first.come second.come c.awaited);
+      taken = taken_more r t m first.come second.come first.noted second.noted traced first.taken second.taken;
       refused = refused r traced second.refused;
       faults = λ all. faults r traced (second.faults (first.regions all));
       regions = λ all. second.regions (first.regions all);
     }
   where
     among : (y : AwaitedRegion) → Contains b.awaited y → Contains a.awaited y
-    among y here = subst (λ (those : List AwaitedRegion). Contains those y) (sym first.left.1) (Contains-append_right first.left.0 b.awaited y here)
+    among y here = subst (λ (those : List AwaitedRegion). Contains those y) (sym first.left) (Contains-append_right first.come b.awaited y here)
 
     refused : {U : Type 0} (r : Result U SweepFault) → IsTraced t m → IfErr r (IsAwaitedFault b m) → IfErr r (IsAwaitedFault a t)
     refused (Ok x) traced is = tt
@@ -173,4 +210,4 @@ sweeps_then x r a b c t m n failed first second =
 pub swept_by : {T U : Type 0} (r : Result T SweepFault) (e : SweepFault) (a b : SweepView) (t n : TreeView) → IsErrAnd r (λ x. x ≡ e) → Sweeps {A = U} a b t n (Err e) → Sweeps a b t n r
 swept_by (Ok x) e a b t n is swept = absurd is
 swept_by (Err f) e a b t n is swept =
-    rw is (record { noted = swept.noted; same = swept.same; left = swept.left; refused = swept.refused; faults = swept.faults; regions = swept.regions })
+    rw is (record { noted = swept.noted; same = swept.same; come = swept.come; left = swept.left; taken = tt; refused = swept.refused; faults = swept.faults; regions = swept.regions })

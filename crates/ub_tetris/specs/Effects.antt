@@ -1,11 +1,13 @@
 -- What the calls of a sweep can answer, and what they leave of the tree.
-use Rattle.std.specs.Prelude.{◌≡◌, ◌≢◌, ◌++◌, [], ℕ, zero, suc, Bool, true, false, IsTrue, List, Option, None, Result, Ok, Err, IfErr, OnOk, Contains, length}
+use Rattle.std.specs.Prelude.{◌≡◌, ◌≢◌, ◌++◌, [], ℕ, zero, suc, Bool, true, false, IsTrue, List, Option, None, Result, Ok, Err, IfErr, OnOk, Contains, length, map}
+use Rattle.std.specs.List.{AllByRecursion}
 use Rattle.ub_store.specs.Facts.{raised}
+use Rattle.ub_table.specs.Region.{Region}
 use Rattle.ub_table.specs.declared.row.Row.{Row}
 use Rattle.ub_tetris.specs.Sweep.{AwaitedRegion, SweepView, AreItsRegions}
 use Rattle.ub_tetris.specs.declared.fault.SweepFault.{SweepFault}
 use Rattle.ub_tetris.specs.declared.fault.SweepFault.TheVariants.{Memory, Tree, Failed}
-use Rattle.ub_tree.specs.Effects.{IsSpanFault}
+use Rattle.ub_tree.specs.Effects.{IsSpanFault, IsTakenIn}
 use Rattle.ub_tree.specs.Reading.{IsGiven, read_store}
 use Rattle.ub_tree.specs.View.{TreeView}
 use Rattle.ub_tree.specs.declared.fault.TreeFault.TheVariants.{Failed as has_failed, Memory as no_memory}
@@ -50,13 +52,20 @@ pub record Begins {A : Type 0} (old new : TreeView) (result : Result A SweepFaul
   pub same : new ≡ record old { store = read_store (as_reading result) old.store; trace = [] }
   pub faults : IfErr result (IsSweepFault false old)
 
+-- these are the pages of these regions, each of which was taken in
+abbrev pub AreTakenIn : TreeView → List AwaitedRegion → List ℕ → Type 0
+AreTakenIn t come pages =
+    (pages ≡ map (λ a. a.region.page) come) × AllByRecursion (λ a. (region : Region) × IsTakenIn t a.region region) come
+
 -- a sweep read the tree and no more: pages were noted after those that stood in the trace, and the first of the regions awaited
--- are awaited no more. Over a tree that has those awaited it is refused as each call is that reads the tree, and the tree has
--- those still awaited.
+-- are awaited no more; where it answers, the pages are theirs, and each of them was taken in. Over a tree that has those awaited
+-- it is refused as each call is that reads the tree, and the tree has those still awaited.
 pub record Sweeps {A : Type 0} (s new_s : SweepView) (old new : TreeView) (result : Result A SweepFault) : Type 0 where
   pub noted : List ℕ
   pub same : new ≡ record old { store = read_store (as_reading result) old.store; trace = old.trace ++ noted; fetches = fetches_then old.fetches (length noted) }
-  pub left : (come : List AwaitedRegion) × (s.awaited ≡ come ++ new_s.awaited)
+  pub come : List AwaitedRegion
+  pub left : s.awaited ≡ come ++ new_s.awaited
+  pub taken : OnOk result (AreTakenIn old come noted)
   pub refused : IfErr result (IsAwaitedFault s old)
   pub faults : AreItsRegions old s → IfErr result (IsSweepFault s.is_failed old)
   pub regions : AreItsRegions old s → AreItsRegions new new_s

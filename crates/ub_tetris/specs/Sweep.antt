@@ -1,8 +1,9 @@
 -- What contracts see of a sweep, and how it stands to its plan and to the tree over which it goes.
-use Rattle.std.specs.Prelude.{◌≡◌, ◌++◌, ◌∷◌, [], ℕ, Bool, false, List, Option, Some, None, map, Contains}
+use Rattle.std.specs.Prelude.{◌≡◌, ◌≢◌, ◌++◌, ◌∷◌, [], ℕ, Bool, false, List, Option, Some, None, map, Contains}
 use Rattle.std.specs.List.{All, AllByRecursion}
 use Rattle.ub_planning.specs.Plan.{PlanView, plan_of}
 use Rattle.ub_planning.specs.Visits.{Event}
+use Rattle.ub_planning.specs.declared.planned.Kind.{Kind}
 use Rattle.ub_planning.specs.declared.planned.Kind.TheVariants.{Sweep}
 use Rattle.ub_table.specs.declared.row.Row.{Row}
 use Rattle.ub_tetris.specs.Held.{HeldRow, AreHeldBy, rows_held}
@@ -29,6 +30,10 @@ pub record IsSwept (t : TreeView) (plan : PlanView) (dim : ℕ) (is_descending :
   pub sound : IsSound t
   pub planned : plan ≡ plan_of t.schema plan.asked
   pub kind : plan.kind ≡ Sweep dim is_descending
+
+-- a plan of this kind is no sweep
+abbrev pub IsNoSweep : Kind → Type 0
+IsNoSweep kind = (dim : ℕ) (is_descending : Bool) → kind ≢ Sweep dim is_descending
 
 -- the trace has the pages of the regions of these events, in their order
 pub record AreNoted (t : TreeView) (events : List Event) : Type 0 where

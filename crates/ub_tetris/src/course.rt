@@ -22,6 +22,7 @@ pub const NOWHERE: Course = Course {
 /// The course of a plan that is a sweep, in a dimension that its boxes have. Any other plan has none.
 pub fn course_of(plan: &Plan) -> Option<Course>
     ensures within { IfSome result (λ c. All (λ b. c.dim < length b.lo) plan.now.covering.boxes) }
+    ensures kind { IfSome result (λ c. plan.now.kind ≡ Sweep c.dim c.is_descending) }
     ensures some { (dim : _) (is_descending : _) → plan.now.kind ≡ Sweep dim is_descending
         → All (λ b. dim < length b.lo) plan.now.covering.boxes
         → result ≡ Some (record { dim = dim; is_descending = is_descending }) }

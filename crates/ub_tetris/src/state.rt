@@ -1,4 +1,4 @@
-ghost use Rattle.std.specs.Prelude.{◌≡◌, ◌<◌, [], length, List, IfOk, OnErr, OnOk, slice_index};
+ghost use Rattle.std.specs.Prelude.{◌≡◌, ◌<◌, [], Ok, None, length, List, IfOk, OnErr, OnOk, slice_index};
 ghost use Rattle.ub_planning.specs.Visits.{Event};
 ghost use Rattle.ub_query.specs.Posed.{IsPosed};
 ghost use Rattle.ub_table.specs.declared.row.Row.{Row as RowView};
@@ -71,6 +71,7 @@ impl State {
         ensures rests { (given : List RowView) (fetched : List Event)
             → IsSweeping plan.now tree.old (view_of self.old) given [] fetched []
             → Rests (view_of self.old) (view_of self.new) tree.old tree.new result }
+        ensures ended { result ≡ Ok None → (view_of self.new).awaited ≡ [] }
         ensures effect { Sweeps (view_of self.old) (view_of self.new) tree.old tree.new result }
     {
         while self.is_due() {

@@ -9,7 +9,7 @@ use ub_page::RegionPage;
 use ub_planning::Plan;
 use ub_store::PageStore;
 use ub_table::Row;
-use ub_tree::Tree;
+use ub_tree::{Tree, TreeFault};
 
 /// A sweep over the regions of a tree, by a plan.
 ///
@@ -31,17 +31,17 @@ impl Model for Sweep {
 }
 
 impl Sweep {
-    ghost use Rattle.std.specs.Prelude.{◌≡◌, ℕ, Bool, List, [], length, IfOk, OnErr};
+    ghost use Rattle.std.specs.Prelude.{◌≡◌, ℕ, Bool, List, [], Ok, Err, None, IsTrue, length, IfOk, OnErr};
     ghost use Rattle.ub_planning.specs.Visits.{Event};
     ghost use Rattle.ub_query.specs.Posed.{IsPosed};
     ghost use Rattle.ub_table.specs.declared.row.Row.{Row as RowView};
     ghost use Rattle.ub_tetris.specs.Effects.{Begins, FailsOnce, Rests, Sweeps};
     ghost use Rattle.ub_tetris.specs.inner.Turns.{begun_view};
-    ghost use Rattle.ub_tetris.specs.Sweep.{HasBegun, HasBroken, HasStepped, IsStarted, IsSweeping, IsSwept};
+    ghost use Rattle.ub_tetris.specs.Sweep.{HasBegun, HasBroken, HasStepped, IsNoSweep, IsStarted, IsSweeping, IsSwept};
 
     /// Begins a sweep by a plan. The trace begins anew; no region is fetched. Of a plan that is no sweep it comes to no region.
     ///
-    /// `Memory` where memory was refused; `Tree` where the tree refused.
+    /// `Memory` where memory was refused; `Tree` where the tree refused, as it does where it has failed, whatever the plan.
     pub fn new<S: PageStore>(
         alloc: Global,
         tree: &mut Tree<S>,
@@ -50,9 +50,15 @@ impl Sweep {
         ensures begun { (dim : ℕ) (is_descending : Bool)
             → IsSwept tree.old plan.now dim is_descending → IfOk result (HasBegun plan.now tree.new) }
         ensures started { IfOk result (IsStarted tree.new) }
+        ensures other { IsNoSweep plan.now.kind → IfOk result (λ s. s.awaited ≡ []) }
+        ensures failed { IsTrue tree.old.is_failed
+            → result ≡ Err (SweepFault.Tree TreeFault.Failed) }
         ensures effect { Begins tree.old tree.new result }
     {
         tree.begin();
+        if tree.has_failed() {
+            return Err(SweepFault::Tree(TreeFault::Failed));
+        }
         let Some(course) = course_of(plan) else {
             let page = tree.empty_region();
             return Ok(Sweep::over(alloc, NOWHERE, Vec::new(alloc), page));
@@ -73,8 +79,9 @@ impl Sweep {
 
     /// The next row in the order asked; `None` after the last, however often it is asked.
     ///
-    /// No region is fetched that can only hold rows after this one, nor twice, also where it answers a fault. `Memory` where memory was refused; `Tree` where the tree
-    /// refused; after either of them `Failed` each time.
+    /// No region is fetched that can only hold rows after this one, nor twice, also where it answers a fault. Where it answers
+    /// no fault each that was fetched was taken in, and where it answers `None` no region is left. `Memory` where memory was
+    /// refused; `Tree` where the tree refused; after either of them `Failed` each time.
     pub fn next<S: PageStore>(
         &mut self,
         tree: &mut Tree<S>,
@@ -90,6 +97,7 @@ impl Sweep {
         ensures rests { (given : List RowView) (fetched : List Event)
             → IsSweeping plan.now tree.old self.old given [] fetched []
             → Rests self.old self.new tree.old tree.new result }
+        ensures ended { result ≡ Ok None → self.new.awaited ≡ [] }
         ensures once { FailsOnce self.old self.new tree.old tree.new result }
         ensures effect { Sweeps self.old self.new tree.old tree.new result }
     {

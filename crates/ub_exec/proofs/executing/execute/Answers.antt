@@ -1,4 +1,6 @@
-use Rattle.std.proofs.Common.{rules}
+use Rattle.std.proofs.Common.{Err, rules}
+use Rattle.ub_exec.proofs.NotedFacts.{carries_err, carries_ok}
+use Rattle.ub_exec.specs.Answers.{begun}
 use Rattle.ub_exec.proofs.executing.execute.Goals as goal
 
 pub returns-clause-rows : goal.returns-clause-rows
@@ -12,3 +14,10 @@ returns-in_err-rows-clause-broken g c = search rules
 
 pub returns-in_err-rows-clause-effect : goal.returns-in_err-rows-clause-effect
 returns-in_err-rows-clause-effect g c = search rules
+
+pub returns-clause-reads : goal.returns-clause-reads
+returns-clause-reads g c = carries_ok _ _ c.args.plan.now (begun c.args.tree.now) c.result_rows.new.tree c.in_ok-rows.ensures.reads
+
+pub returns-in_err-rows-clause-reads : goal.returns-in_err-rows-clause-reads
+returns-in_err-rows-clause-reads g c =
+    carries_err c.from_residual.result _ (Err _) c.args.plan.now (begun c.args.tree.now) c.result_rows.new.tree c.from_residual.ensures.1 c.in_err-rows.ensures.reads.notes

@@ -1,7 +1,9 @@
-use Rattle.std.proofs.Common.{◌≡◌, ◌⊎◌, inl, inr, ℕ, IfOk, OnOk, subst, sym}
+use Rattle.std.proofs.Common.{◌≡◌, ◌⊎◌, inl, inr, ℕ, Bool, false, IsTrue, IfOk, OnOk, ap, subst, sym}
 use Rattle.std.specs.Prelude.{OnErr}
 use Rattle.ub_tree.proofs.Laws.{Keeps-by, begun_traced, reads_then}
 use Rattle.ub_exec.specs.Answers.{IsReady, IsAnswer, IsSwept, begun}
+use Rattle.ub_exec.proofs.NotedFacts.{carries_swept}
+use Rattle.ub_exec.specs.Reading.{CarriesOut}
 use Rattle.ub_exec.specs.Visits.{HasFetched, HasFetchedFirst}
 use Rattle.ub_planning.specs.Plan.{PlanView, plan_of}
 use Rattle.ub_planning.specs.declared.planned.Kind.{Kind}
@@ -24,6 +26,14 @@ apart found (Sweep dim is_descending) same either = λ swept. elim either [
   | inr e ↦ cc
 ]
 
+swept_of : (found kind : Kind) (dim : ℕ) (is_descending : Bool) → found ≡ kind → found ≡ Sweep dim is_descending → IsSwept kind
+swept_of found Empty dim is_descending same is = cc
+swept_of found Scan dim is_descending same is = cc
+swept_of found (Sweep other goes) dim is_descending same is = tt
+
+works : {X : Type 0} (failed : Bool) (old mid : TreeView) → mid ≡ begun old → failed ≡ mid.is_failed → failed ≡ false → IsTrue old.is_failed → X
+works failed old mid began told is true_is = let same : mid.is_failed ≡ old.is_failed = ap (λ (t : TreeView). t.is_failed) began in cc
+
 pub returns-in-Empty : goal.returns-in-Empty
 returns-in-Empty g c = record {
   rows = λ ready. subst (λ (t : TreeView). IfOk c.scanned_rows.result (λ cells. IsAnswer t c.args.plan.now.asked cells)) c.begin.ensures
@@ -32,5 +42,23 @@ returns-in-Empty g c = record {
       (c.scanned_rows.ensures.pages (then c.args.tree.now c.begin.new.self c.args.plan.now c.begin.ensures ready) (apart c.kind.result c.args.plan.now.kind c.kind.ensures c.in-Empty.is));
   broken = λ ready. subst (λ (t : TreeView). OnErr c.scanned_rows.result ((count : ℕ) × HasFetchedFirst c.args.plan.now t c.scanned_rows.new.tree count)) c.begin.ensures
       (c.scanned_rows.ensures.broken (then c.args.tree.now c.begin.new.self c.args.plan.now c.begin.ensures ready) (apart c.kind.result c.args.plan.now.kind c.kind.ensures c.in-Empty.is));
+  failed = works c.has_failed.result c.args.tree.now c.begin.new.self c.begin.ensures c.has_failed.ensures c.if-has_failed.false;
+  reads = subst (λ (t : TreeView). CarriesOut c.args.plan.now t c.scanned_rows.new.tree c.scanned_rows.result) c.begin.ensures c.scanned_rows.ensures.reads;
   effect = reads_then c.scanned_rows.result c.args.tree.now c.begin.new.self c.scanned_rows.new.tree (begun_traced c.args.tree.now c.begin.new.self c.begin.ensures) c.scanned_rows.ensures.effect;
 }
+
+pub returns-in-Sweep : goal.returns-in-Sweep
+returns-in-Sweep g c =
+    let swept = swept_of c.kind.result c.args.plan.now.kind _ _ c.kind.ensures c.in-Sweep.is in
+    record {
+      rows = λ ready. subst (λ (t : TreeView). IfOk c.swept_rows.result (λ cells. IsAnswer t c.args.plan.now.asked cells)) c.begin.ensures
+          (c.swept_rows.ensures.rows (then c.args.tree.now c.begin.new.self c.args.plan.now c.begin.ensures ready) swept);
+      pages = λ ready. subst (λ (t : TreeView). OnOk c.swept_rows.result (HasFetched c.args.plan.now (begun t) c.swept_rows.new.tree)) c.begin.ensures
+          (c.swept_rows.ensures.pages (then c.args.tree.now c.begin.new.self c.args.plan.now c.begin.ensures ready) swept);
+      broken = λ ready. subst (λ (t : TreeView). OnErr c.swept_rows.result ((count : ℕ) × HasFetchedFirst c.args.plan.now (begun t) c.swept_rows.new.tree count)) c.begin.ensures
+          (c.swept_rows.ensures.broken (then c.args.tree.now c.begin.new.self c.args.plan.now c.begin.ensures ready) swept);
+      failed = works c.has_failed.result c.args.tree.now c.begin.new.self c.begin.ensures c.has_failed.ensures c.if-has_failed.false;
+      reads = subst (λ (t : TreeView). CarriesOut c.args.plan.now (begun t) c.swept_rows.new.tree c.swept_rows.result) c.begin.ensures
+          (carries_swept c.swept_rows.result c.args.plan.now (begun c.begin.new.self) c.swept_rows.new.tree swept c.swept_rows.ensures.notes);
+      effect = reads_then c.swept_rows.result c.args.tree.now c.begin.new.self c.swept_rows.new.tree (begun_traced c.args.tree.now c.begin.new.self c.begin.ensures) c.swept_rows.ensures.effect;
+    }

@@ -1,4 +1,4 @@
-use Rattle.std.proofs.Common.{◌≡◌, ◌≢◌, ◌∙◌, Bool, true, false, List, [], Some, ap, refl, subst, sym}
+use Rattle.std.proofs.Common.{◌≡◌, ◌≢◌, ◌∙◌, Ok, Err, Bool, true, false, List, [], Some, ap, refl, subst, sym}
 use Rattle.std.proofs.lemmas.List.{append-nil}
 use Rattle.std.specs.List.{filter}
 use Rattle.ub_answer.specs.Gathered.{IsGathered}
@@ -6,6 +6,7 @@ use Rattle.ub_answer.specs.Sink.{HasGathered}
 use Rattle.ub_answer.specs.declared.gathering.Gathering.{Gathering}
 use Rattle.ub_exec.proofs.FirstFacts.{all_fetched, on_err, walked_first}
 use Rattle.ub_exec.proofs.MeantFacts.{nothing_fetched, walk_fetched, answered}
+use Rattle.ub_exec.proofs.NotedFacts.{carries_all, carries_err, carries_none}
 use Rattle.ub_filter.specs.Choice.{is_chosen}
 use Rattle.ub_planning.proofs.Laws.{limit_of_zero_means_nothing}
 use Rattle.ub_query.specs.Shape.{Asked, asked}
@@ -61,3 +62,19 @@ returns-in_err-finish-clause-broken g c ready apart =
     let (handed, held, walk) = c.in_ok-walk.ensures.rows c.new-gathering.result [] (none_taken c.args.tree.now.schema c.args.plan.now.asked c.new-gathering.result) in
     on_err c.from_residual-in_err-finish.result _
     (all_fetched c.args.plan.now c.args.tree.now c.walk.new.tree (walk_fetched c.args.plan.now c.args.tree.now c.walk.new.tree handed ready.sound ready.planned apart (walk ready.sound)))
+
+pub returns-then-asks_for_none-clause-reads : goal.returns-then-asks_for_none-clause-reads
+returns-then-asks_for_none-clause-reads g c =
+    let limit = sym (ap (λ (q : Asked). q.limit) c.query-query.ensures) ∙ c.asks_for_none.ensures.0 c.if-asks_for_none.true in
+    carries_none _ c.args.plan.now c.args.tree.now c.args.tree.now (refl, refl) limit
+
+pub returns-clause-reads : goal.returns-clause-reads
+returns-clause-reads g c = carries_all _ _ c.args.plan.now c.args.tree.now c.walk.new.tree c.in_ok-walk.ensures.notes c.in_ok-walk.ensures.all
+
+pub returns-in_err-walk-clause-reads : goal.returns-in_err-walk-clause-reads
+returns-in_err-walk-clause-reads g c =
+    carries_err c.from_residual.result _ (Err _) c.args.plan.now c.args.tree.now c.walk.new.tree c.from_residual.ensures.1 c.in_err-walk.ensures.notes
+
+pub returns-in_err-finish-clause-reads : goal.returns-in_err-finish-clause-reads
+returns-in_err-finish-clause-reads g c =
+    carries_err c.from_residual-in_err-finish.result _ (Ok _) c.args.plan.now c.args.tree.now c.walk.new.tree c.from_residual-in_err-finish.ensures.1 c.in_ok-walk.ensures.notes

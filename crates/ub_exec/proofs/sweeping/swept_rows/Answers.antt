@@ -1,9 +1,10 @@
-use Rattle.std.proofs.Common.{◌≡◌, ◌<◌, ◌∙◌, ◌++◌, ◌∷◌, [], ℕ, List, length, map, ap, subst, sym, arith}
+use Rattle.std.proofs.Common.{◌≡◌, ◌<◌, ◌∙◌, ◌++◌, ◌∷◌, [], ℕ, List, Ok, Err, length, map, ap, subst, sym, arith}
 use Rattle.std.proofs.lemmas.List.{length-map}
 use Rattle.std.specs.List.{AllByRecursion}
 use Rattle.ub_exec.proofs.BreakFacts.{ready_begun, swept_after, swept_before}
 use Rattle.ub_exec.proofs.FirstFacts.{none_fetched, on_err}
-use Rattle.ub_tree.proofs.Laws.{Keeps-by, Keeps-more, begun_traced, reads_by}
+use Rattle.ub_exec.proofs.NotedFacts.{notes_err, notes_none, notes_ok, notes_then, traced_begun}
+use Rattle.ub_tree.proofs.Laws.{Keeps-by, Keeps-more, begun_traced, reads_by, unchanged_trace}
 use Rattle.ub_exec.proofs.SweptFacts.{HasSwept, HasSwept-none, HasSwept-more, swept_kind, begun_fetches, noted_more, wide_more, end_is, at_end, ended_fetched, ended_answered, filled_fetched, filled_answered}
 use Rattle.ub_query.specs.Cells.{row_cell}
 use Rattle.ub_query.specs.Shape.{Asked, asked}
@@ -20,6 +21,7 @@ loop-turn-init g c = record {
   within = omega arith;
   working = c.in_ok-sweep.ensures.working;
   regions = c.in_ok-sweep.ensures.regions;
+  notes = notes_none (Ok tt) (begun c.args.tree.now) c.begin_sweep.new.tree (unchanged_trace (begun c.args.tree.now) c.begin_sweep.new.tree c.in_ok-sweep.ensures.trace);
   fetches = begun_fetches c.args.tree.now c.begin_sweep.new.tree c.in_ok-sweep.ensures.trace;
   wide = subst (λ (rows : List (List Cell)). AllByRecursion (λ cells. length cells ≡ length c.args.plan.now.asked.items) rows) (sym c.none-rows.ensures) tt;
   come = λ ready kind.
@@ -37,9 +39,9 @@ returns-in_default-clause-rows g c ready kind =
     let inv = c.loop-turn.invariant in
     let swept = inv.come ready kind in
     let after = Keeps-by c.loop-turn.tree c.next_row.new.tree c.in_ok-row.ensures.effect.same in
-    let end = end_is (asked c.query-query.result.now) c.args.plan.now.asked c.args.tree.now c.begin_sweep.new.tree _ _ c.turns-turn-end.ensures c.rows.ensures c.in_ok-sweep.ensures.trace c.query-query.ensures in
+    let end = end_is (asked c.query-query.result.now) c.args.plan.now.asked c.args.tree.now c.begin_sweep.new.tree _ c.turns-turn-end.ensures c.in_ok-sweep.ensures.trace c.query-query.ensures in
     ended_answered c.args.plan.now c.args.tree.now c.loop-turn.tree c.next_row.new.tree c.loop-turn.sweep c.next_row.new.sweep c.loop-turn._turn c.loop-turn.rows
-    (Keeps-more _ _ _ inv.kept after) (noted_more c.args.tree.now c.loop-turn.tree c.next_row.new.tree inv.fetches c.in_ok-row.ensures.noted)
+    (Keeps-more _ _ _ inv.kept after) (noted_more (Ok _) c.args.tree.now c.loop-turn.tree c.next_row.new.tree inv.fetches c.in_ok-row.ensures.notes)
     swept after.regions.schema (subst (λ (n : ℕ). c.loop-turn._turn < n) end c.loop-turn-test.true)
     (rw c.in_default.is at (c.in_ok-row.ensures.next swept.given swept.rest swept.fetched swept.unread swept.sweeping))
 
@@ -48,9 +50,9 @@ returns-in_default-clause-pages g c ready kind =
     let inv = c.loop-turn.invariant in
     let swept = inv.come ready kind in
     let after = Keeps-by c.loop-turn.tree c.next_row.new.tree c.in_ok-row.ensures.effect.same in
-    let end = end_is (asked c.query-query.result.now) c.args.plan.now.asked c.args.tree.now c.begin_sweep.new.tree _ _ c.turns-turn-end.ensures c.rows.ensures c.in_ok-sweep.ensures.trace c.query-query.ensures in
+    let end = end_is (asked c.query-query.result.now) c.args.plan.now.asked c.args.tree.now c.begin_sweep.new.tree _ c.turns-turn-end.ensures c.in_ok-sweep.ensures.trace c.query-query.ensures in
     ended_fetched c.args.plan.now c.args.tree.now c.loop-turn.tree c.next_row.new.tree c.loop-turn.sweep c.next_row.new.sweep c.loop-turn._turn c.loop-turn.rows
-    (Keeps-more _ _ _ inv.kept after) (noted_more c.args.tree.now c.loop-turn.tree c.next_row.new.tree inv.fetches c.in_ok-row.ensures.noted)
+    (Keeps-more _ _ _ inv.kept after) (noted_more (Ok _) c.args.tree.now c.loop-turn.tree c.next_row.new.tree inv.fetches c.in_ok-row.ensures.notes)
     swept after.regions.schema (subst (λ (n : ℕ). c.loop-turn._turn < n) end c.loop-turn-test.true)
     (rw c.in_default.is at (c.in_ok-row.ensures.next swept.given swept.rest swept.fetched swept.unread swept.sweeping))
 
@@ -72,7 +74,9 @@ loop-turn-preserved g c =
       within = let below = c.loop-turn-test.true in omega arith;
       working = c.in_ok-row.ensures.working;
       regions = c.in_ok-row.ensures.regions;
-      fetches = noted_more c.args.tree.now c.loop-turn.tree c.next_row.new.tree inv.fetches c.in_ok-row.ensures.noted;
+      notes = notes_then {A = Unit {0}} tt (Ok tt) (begun c.args.tree.now) c.loop-turn.tree c.next_row.new.tree (traced_begun c.args.tree.now c.loop-turn.tree inv.kept.traced) inv.notes
+          (notes_ok _ tt c.loop-turn.tree c.next_row.new.tree c.in_ok-row.ensures.notes);
+      fetches = noted_more (Ok _) c.args.tree.now c.loop-turn.tree c.next_row.new.tree inv.fetches c.in_ok-row.ensures.notes;
       wide = subst (λ (rows : List (List Cell)). AllByRecursion (λ cells. length cells ≡ length c.args.plan.now.asked.items) rows) (sym pushed)
           (wide_more (length c.args.plan.now.asked.items) c.loop-turn.rows _ inv.wide (length-map c.args.plan.now.asked.items (row_cell c.next_row.new.tree.schema c.in-Some.row)));
       come = λ ready kind.
@@ -84,13 +88,13 @@ loop-turn-preserved g c =
 pub returns-clause-rows : goal.returns-clause-rows
 returns-clause-rows g c ready kind =
     let inv = c.loop-turn.invariant in
-    let end = end_is (asked c.query-query.result.now) c.args.plan.now.asked c.args.tree.now c.begin_sweep.new.tree _ _ c.turns-turn-end.ensures c.rows.ensures c.in_ok-sweep.ensures.trace c.query-query.ensures in
+    let end = end_is (asked c.query-query.result.now) c.args.plan.now.asked c.args.tree.now c.begin_sweep.new.tree _ c.turns-turn-end.ensures c.in_ok-sweep.ensures.trace c.query-query.ensures in
     filled_answered c.args.plan.now c.args.tree.now c.loop-turn.tree c.loop-turn.sweep c.loop-turn._turn c.loop-turn.rows inv.kept inv.fetches (inv.come ready kind) kind (at_end _ _ _ c.loop-turn-test.false inv.within end)
 
 pub returns-clause-pages : goal.returns-clause-pages
 returns-clause-pages g c ready kind =
     let inv = c.loop-turn.invariant in
-    let end = end_is (asked c.query-query.result.now) c.args.plan.now.asked c.args.tree.now c.begin_sweep.new.tree _ _ c.turns-turn-end.ensures c.rows.ensures c.in_ok-sweep.ensures.trace c.query-query.ensures in
+    let end = end_is (asked c.query-query.result.now) c.args.plan.now.asked c.args.tree.now c.begin_sweep.new.tree _ c.turns-turn-end.ensures c.in_ok-sweep.ensures.trace c.query-query.ensures in
     filled_fetched c.args.plan.now c.args.tree.now c.loop-turn.tree c.loop-turn.sweep c.loop-turn._turn c.loop-turn.rows inv.kept inv.fetches (inv.come ready kind) kind (at_end _ _ _ c.loop-turn-test.false inv.within end)
 
 pub returns-in_err-sweep-clause-broken : goal.returns-in_err-sweep-clause-broken
@@ -101,11 +105,11 @@ pub returns-in_err-row-clause-broken : goal.returns-in_err-row-clause-broken
 returns-in_err-row-clause-broken g c ready kind =
     let inv = c.loop-turn.invariant in
     let swept = inv.come ready kind in
-    let end = end_is (asked c.query-query.result.now) c.args.plan.now.asked c.args.tree.now c.begin_sweep.new.tree _ _ c.turns-turn-end.ensures c.rows.ensures c.in_ok-sweep.ensures.trace c.query-query.ensures in
+    let end = end_is (asked c.query-query.result.now) c.args.plan.now.asked c.args.tree.now c.begin_sweep.new.tree _ c.turns-turn-end.ensures c.in_ok-sweep.ensures.trace c.query-query.ensures in
     on_err c.from_residual-in_err-row.result _
     (swept_before c.args.plan.now c.args.tree.now c.loop-turn.tree c.next_row.new.tree c.loop-turn.sweep c.loop-turn._turn c.loop-turn.rows inv.kept swept
     (ap (λ (t : TreeView). t.placed) c.in_err-row.ensures.effect.same)
-    (noted_more c.args.tree.now c.loop-turn.tree c.next_row.new.tree inv.fetches c.in_err-row.ensures.noted)
+    (noted_more (Err _) c.args.tree.now c.loop-turn.tree c.next_row.new.tree inv.fetches c.in_err-row.ensures.notes)
     (subst (λ (n : ℕ). c.loop-turn._turn < n) end c.loop-turn-test.true)
     (c.in_err-row.ensures.broken swept.given swept.rest swept.fetched swept.unread swept.sweeping))
 
@@ -114,9 +118,34 @@ returns-in_err-push_row-clause-broken g c ready kind =
     let inv = c.loop-turn.invariant in
     let swept = inv.come ready kind in
     let after = Keeps-by c.loop-turn.tree c.next_row.new.tree c.in_ok-row.ensures.effect.same in
-    let end = end_is (asked c.query-query.result.now) c.args.plan.now.asked c.args.tree.now c.begin_sweep.new.tree _ _ c.turns-turn-end.ensures c.rows.ensures c.in_ok-sweep.ensures.trace c.query-query.ensures in
+    let end = end_is (asked c.query-query.result.now) c.args.plan.now.asked c.args.tree.now c.begin_sweep.new.tree _ c.turns-turn-end.ensures c.in_ok-sweep.ensures.trace c.query-query.ensures in
     on_err c.from_residual-in_err-push_row.result _
     (swept_after c.args.plan.now c.args.tree.now c.loop-turn.tree c.next_row.new.tree c.loop-turn.sweep c.next_row.new.sweep c.loop-turn._turn c.loop-turn.rows swept (Keeps-more _ _ _ inv.kept after)
-    (noted_more c.args.tree.now c.loop-turn.tree c.next_row.new.tree inv.fetches c.in_ok-row.ensures.noted)
+    (noted_more (Ok _) c.args.tree.now c.loop-turn.tree c.next_row.new.tree inv.fetches c.in_ok-row.ensures.notes)
     (subst (λ (n : ℕ). c.loop-turn._turn < n) end c.loop-turn-test.true) c.in-Some.row
     (rw c.in-Some.is at (c.in_ok-row.ensures.next swept.given swept.rest swept.fetched swept.unread swept.sweeping)))
+
+pub returns-in_err-sweep-clause-notes : goal.returns-in_err-sweep-clause-notes
+returns-in_err-sweep-clause-notes g c = notes_none c.from_residual.result (begun c.args.tree.now) c.begin_sweep.new.tree c.in_err-sweep.ensures.broken
+
+pub returns-in_err-row-clause-notes : goal.returns-in_err-row-clause-notes
+returns-in_err-row-clause-notes g c =
+    let inv = c.loop-turn.invariant in
+    notes_err c.from_residual-in_err-row.result _ (Err _) (begun c.args.tree.now) c.next_row.new.tree c.from_residual-in_err-row.ensures.1
+    (notes_then {A = Unit {0}} tt (Err _) (begun c.args.tree.now) c.loop-turn.tree c.next_row.new.tree (traced_begun c.args.tree.now c.loop-turn.tree inv.kept.traced) inv.notes c.in_err-row.ensures.notes)
+
+pub returns-in_default-clause-notes : goal.returns-in_default-clause-notes
+returns-in_default-clause-notes g c =
+    let inv = c.loop-turn.invariant in
+    notes_then {A = Unit {0}} tt (Ok _) (begun c.args.tree.now) c.loop-turn.tree c.next_row.new.tree (traced_begun c.args.tree.now c.loop-turn.tree inv.kept.traced) inv.notes
+    (notes_ok _ _ c.loop-turn.tree c.next_row.new.tree c.in_ok-row.ensures.notes)
+
+pub returns-in_err-push_row-clause-notes : goal.returns-in_err-push_row-clause-notes
+returns-in_err-push_row-clause-notes g c =
+    let inv = c.loop-turn.invariant in
+    notes_err {B = Unit {0}} c.from_residual-in_err-push_row.result _ (Ok tt) (begun c.args.tree.now) c.next_row.new.tree c.from_residual-in_err-push_row.ensures.1
+    (notes_then {A = Unit {0}} tt (Ok tt) (begun c.args.tree.now) c.loop-turn.tree c.next_row.new.tree (traced_begun c.args.tree.now c.loop-turn.tree inv.kept.traced) inv.notes
+    (notes_ok _ tt c.loop-turn.tree c.next_row.new.tree c.in_ok-row.ensures.notes))
+
+pub returns-clause-notes : goal.returns-clause-notes
+returns-clause-notes g c = notes_ok tt _ (begun c.args.tree.now) c.loop-turn.tree c.loop-turn.invariant.notes

@@ -1,8 +1,9 @@
-use Rattle.std.proofs.Common.{◌≡◌, ◌≤◌, false, length}
+use Rattle.std.proofs.Common.{◌≡◌, ◌≤◌, Ok, false, length}
 use Rattle.std.specs.List.{AllByRecursion}
 use Rattle.ub_tree.proofs.Laws.{Keeps}
 use Rattle.ub_exec.proofs.SweptFacts.{HasSwept}
-use Rattle.ub_exec.specs.Answers.{IsReady, IsSwept}
+use Rattle.ub_exec.specs.Answers.{IsReady, IsSwept, begun}
+use Rattle.ub_exec.specs.Reading.{NotesPages}
 use Rattle.ub_exec.specs.Visits.{fetches_then}
 use Rattle.ub_tetris.specs.Sweep.{AreItsRegions}
 use Rattle.ub_exec.proofs.sweeping.swept_rows.Given as goal
@@ -13,6 +14,7 @@ invariant-loop-turn g l = record {
   within : l._turn ≤ l._turn-end;
   working : l.sweep.is_failed ≡ false;
   regions : AreItsRegions l.tree l.sweep;
+  notes : NotesPages {A = Unit {0}} (begun l.fn.tree) l.tree (Ok tt);
   fetches : l.tree.fetches ≡ fetches_then l.fn.tree.fetches (length l.tree.trace);
   wide : AllByRecursion (λ cells. length cells ≡ length l.plan.asked.items) l.rows;
   come : IsReady l.fn.tree l.plan → IsSwept l.plan.kind → HasSwept l.plan l.tree l.sweep l._turn l.rows;

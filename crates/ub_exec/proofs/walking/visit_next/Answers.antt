@@ -1,9 +1,10 @@
-use Rattle.std.proofs.Common.{◌≡◌, ◌∙◌, inl, inr, List, [], Some, None, Contains, ap, refl, subst, sym}
+use Rattle.std.proofs.Common.{◌≡◌, ◌∙◌, inl, inr, List, [], Ok, Some, None, Contains, ap, refl, subst, sym}
 use Rattle.std.proofs.lemmas.List.{append-nil}
 use Rattle.std.specs.Option.{option_copied}
 use Rattle.ub_bigmin.specs.Box.{Corners}
 use Rattle.ub_tree.proofs.Laws.{Keeps-by, tree_reads, unchanged_trace, unchanged_traced}
 use Rattle.ub_exec.proofs.FirstFacts.{asked_some, on_err}
+use Rattle.ub_exec.proofs.NotedFacts.{next_notes, notes_none, notes_one, read_next}
 use Rattle.ub_exec.proofs.WalkFacts.{visited_by}
 use Rattle.ub_table.specs.declared.row.Row.{Row}
 use Rattle.ub_tetris.proofs.Laws.{either_noted}
@@ -60,3 +61,39 @@ returns-in_err-push_chosen-clause-broken g c sound =
     (asked_some c.args.tree.now c.next_meeting.new.self c.read_region.new.self _ _ c.in-Some.region sound
     (subst (λ (boxes : List Corners). First (λ s. IsLater (option_copied c.args.after) s × Meets boxes s) (spans_of c.args.tree.now) (Some c.in-Some.region)) c.boxes.ensures.boxes (rw c.in-Some.is at c.in_ok-region.ensures.found))
     (Keeps-by c.args.tree.now c.next_meeting.new.self (unchanged_traced c.args.tree.now c.next_meeting.new.self same)) (unchanged_trace c.args.tree.now c.next_meeting.new.self same) (inr c.in_ok-read_region.ensures.effect.listed))
+
+pub returns-in_default-clause-next : goal.returns-in_default-clause-next
+returns-in_default-clause-next g c = (
+  subst (λ (boxes : List Corners). First (λ s. IsLater (option_copied c.args.after) s × Meets boxes s) (spans_of c.args.tree.now) None) c.boxes.ensures.boxes (rw c.in_default.is at c.in_ok-region.ensures.found),
+  unchanged_trace c.args.tree.now c.next_meeting.new.self c.in_ok-region.ensures.effect.same,
+)
+
+pub returns-in_default-clause-notes : goal.returns-in_default-clause-notes
+returns-in_default-clause-notes g c = notes_none (Ok None) c.args.tree.now c.next_meeting.new.self (unchanged_trace c.args.tree.now c.next_meeting.new.self c.in_ok-region.ensures.effect.same)
+
+pub returns-in_err-region-clause-notes : goal.returns-in_err-region-clause-notes
+returns-in_err-region-clause-notes g c =
+    notes_none c.from_residual.result c.args.tree.now c.next_meeting.new.self
+    (ap (λ (t : TreeView). t.trace) c.in_err-region.ensures.effect.same, ap (λ (t : TreeView). t.fetches) c.in_err-region.ensures.effect.same)
+
+pub returns-in_err-read_region-clause-notes : goal.returns-in_err-read_region-clause-notes
+returns-in_err-read_region-clause-notes g c =
+    notes_one c.from_residual-in_err-read_region.result _ c.args.tree.now c.next_meeting.new.self c.read_region.new.self _ c.from_residual-in_err-read_region.ensures.1
+    (unchanged_trace c.args.tree.now c.next_meeting.new.self c.in_ok-region.ensures.effect.same)
+    (either_noted _ c.next_meeting.new.self c.read_region.new.self _ c.in_err-read_region.ensures.effect.noted)
+
+pub returns-in_err-push_chosen-clause-notes : goal.returns-in_err-push_chosen-clause-notes
+returns-in_err-push_chosen-clause-notes g c =
+    notes_one c.from_residual-in_err-push_chosen.result _ c.args.tree.now c.next_meeting.new.self c.read_region.new.self _ c.from_residual-in_err-push_chosen.ensures.1
+    (unchanged_trace c.args.tree.now c.next_meeting.new.self c.in_ok-region.ensures.effect.same) (inr c.in_ok-read_region.ensures.effect.listed)
+
+pub returns-clause-next : goal.returns-clause-next
+returns-clause-next g c =
+    read_next c.boxes.result.now c.args.plan.now.covering.boxes _ c.args.tree.now c.next_meeting.new.self c.read_region.new.self c.in-Some.region c.read_region.new.page.region
+    c.boxes.ensures.boxes c.in_ok-region.ensures.effect.same (rw c.in-Some.is at c.in_ok-region.ensures.found) c.in_ok-read_region.ensures.effect.listed c.in_ok-read_region.ensures.taken
+
+pub returns-clause-notes : goal.returns-clause-notes
+returns-clause-notes g c =
+    next_notes c.args.plan.now.covering.boxes (option_copied c.args.after) c.args.tree.now c.read_region.new.self (Some c.in-Some.region)
+    (read_next c.boxes.result.now c.args.plan.now.covering.boxes _ c.args.tree.now c.next_meeting.new.self c.read_region.new.self c.in-Some.region c.read_region.new.page.region
+    c.boxes.ensures.boxes c.in_ok-region.ensures.effect.same (rw c.in-Some.is at c.in_ok-region.ensures.found) c.in_ok-read_region.ensures.effect.listed c.in_ok-read_region.ensures.taken)

@@ -43,7 +43,7 @@ pub returns-clause-effect : goal.returns-clause-effect
 returns-clause-effect g c =
     read_swept tt (view_of c.args.self.now) _ _ c.args.tree.now c.read_region.new.self
     (next_awaited c.args.self.now.queue.items c.args.self.now.fetched _ c.index.result.now refl (next_at c.args.self.now.queue.items c.args.self.now.fetched c.index.result.now c.requires.some c.index.ensures))
-    c.in_ok-read_region.ensures.effect.same c.in_ok-read_region.ensures.effect.listed
+    c.in_ok-read_region.ensures.effect.same c.in_ok-read_region.ensures.effect.listed c.read_region.new.page.region c.in_ok-read_region.ensures.taken
 
 pub returns-clause-rows : goal.returns-clause-rows
 returns-clause-rows g c =

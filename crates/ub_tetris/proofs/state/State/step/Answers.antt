@@ -1,4 +1,5 @@
-use Rattle.std.proofs.Common.{Bool, Err, ap, refl, subst}
+use Rattle.std.proofs.Common.{◌≡◌, Bool, Err, None, ap, refl, subst}
+use Rattle.ub_tetris.proofs.BrokenFacts.{none_awaited}
 use Rattle.ub_tetris.proofs.EffectFacts.{sweeps_then, swept_by}
 use Rattle.ub_tetris.proofs.FetchFacts.{due_within}
 use Rattle.ub_tetris.proofs.StepsFacts.{Fetches-more, Fetches-none, end_unbroken, fewer, on_err, step_broken, step_ends, step_rests}
@@ -49,3 +50,8 @@ returns-in_err-fetch-clause-rests g c given fetched is =
 pub returns-clause-rests : goal.returns-clause-rests
 returns-clause-rests g c given fetched is =
     step_rests c.args.plan.now c.args.tree.now c.loop-self.tree c.args.self.now c.loop-self.self c.loop-self.invariant (record c.loop-self.self { held = c.take_first.new.self }) c.take_first.result c.take_first.ensures (refl, refl, refl) given fetched is
+
+pub returns-clause-ended : goal.returns-clause-ended
+returns-clause-ended g c none =
+    let taken : c.take_first.result ≡ None = cc in
+    none_awaited c.loop-self.self c.take_first.new.self c.take_first.result (subst (λ (due : Bool). IsDue c.loop-self.self due) c.loop-self-test.false c.is_due.ensures) c.take_first.ensures taken

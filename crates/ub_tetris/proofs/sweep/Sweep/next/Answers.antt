@@ -1,6 +1,7 @@
-use Rattle.std.proofs.Common.{[], subst, sym}
+use Rattle.std.proofs.Common.{[], ◌∙◌, ap, subst, sym}
 use Rattle.std.specs.Prelude.{OnErr}
 use Rattle.ub_tetris.proofs.BrokenFacts.{rests_seen, same_view}
+use Rattle.ub_tetris.proofs.EffectFacts.{Sweeps-failed}
 use Rattle.ub_tetris.specs.Sweep.{HasBroken, IsSweeping, SweepView}
 use Rattle.ub_tetris.proofs.sweep.Sweep.next.Goals as goal
 
@@ -15,3 +16,6 @@ returns-clause-rests g c given fetched is =
     let same = same_view c.self.inside.state c.self.inside.is_failed c.args.self.now c.self.view_is c.if-self.false in
     rests_seen c.step-found.result c.self.inside.state c.step-found.new.self c.args.self.now c.is_err-self-inside.result c.args.tree.now c.step-found.new.tree same c.is_err-self-inside.ensures.value
     (c.step-found.ensures.rests given fetched (subst (λ (view : SweepView). IsSweeping c.args.plan.now c.args.tree.now view given [] fetched []) same is))
+
+pub returns-then-self-clause-effect : goal.returns-then-self-clause-effect
+returns-then-self-clause-effect g c = Sweeps-failed c.args.self.now c.args.tree.now (ap (λ (v : SweepView). v.is_failed) (sym c.self.view_is) ∙ c.if-self.true)

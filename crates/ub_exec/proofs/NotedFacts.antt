@@ -1,0 +1,329 @@
+-- Pages noted call by call, and each of them taken in.
+use Rattle.std.proofs.Common.{◌≡◌, ◌≤◌, ◌+◌, ◌∙◌, ◌++◌, ◌∷◌, ◌⊎◌, inl, inr, ℕ, zero, suc, Bool, true, false, List, [], Option, Some, None, Result, Ok, Err, Contains, IsTrue, length, map, refl, sym, ap, subst, arith, append_assoc}
+use Rattle.std.proofs.lemmas.List.{append-nil, length-append, length-map, map-append}
+use Rattle.std.specs.List.{AllByRecursion}
+use Rattle.std.specs.Option.{is_some}
+use Rattle.std.specs.Prelude.{OnOk}
+use Rattle.std.specs.Result.{IsErrAnd}
+use Rattle.ub_bigmin.specs.Box.{Corners}
+use Rattle.ub_exec.specs.Answers.{IsSwept, begun}
+use Rattle.ub_exec.specs.Reading.{CarriesOut, HasReadAll, HasReadNext, IsIn, IsRead, NotesPages}
+use Rattle.ub_planning.specs.Plan.{PlanView}
+use Rattle.ub_query.proofs.Laws.{contains_cases, contains_none}
+use Rattle.ub_table.proofs.Laws.{not_before_self, precedes_trans}
+use Rattle.ub_table.specs.Keys.{precedes}
+use Rattle.ub_table.specs.Region.{Region}
+use Rattle.ub_tetris.specs.Effects.{Sweeps, fetches_then}
+use Rattle.ub_tetris.specs.Sweep.{AreItsRegions, AwaitedRegion, SweepView}
+use Rattle.ub_tetris.specs.declared.fault.SweepFault.{SweepFault}
+use Rattle.ub_tree.proofs.Laws.{IsTraced, traced_spans}
+use Rattle.ub_tree.specs.Effects.{HasNoted, IsTakenIn}
+use Rattle.ub_tree.specs.Laws.{AreAnswers}
+use Rattle.ub_tree.specs.Spans.{First, IsLater, Meets}
+use Rattle.ub_tree.specs.View.{TreeView, KeepsTrace, spans_of}
+use Rattle.ub_tree.specs.declared.read_fault.ReadFault.{ReadFault}
+use Rattle.ub_tree.specs.declared.region.Region.{Region as Span}
+
+-- ---- lists
+
+all_joined : {X : Type 0} (P : X → Type 0) (xs ys : List X) → AllByRecursion P xs → AllByRecursion P ys → AllByRecursion P (xs ++ ys)
+all_joined P [] ys some more = more
+all_joined P (x ∷ xs) ys some more = (some.0, all_joined P xs ys some.1 more)
+
+pub noted_sum : (fetches a b : ℕ) → fetches_then (fetches_then fetches a) b ≡ fetches_then fetches (a + b)
+noted_sum fetches zero b = ap (fetches_then fetches) (let e : b ≡ 0 + b = omega arith in e)
+noted_sum fetches (suc a) zero = ap (fetches_then fetches) (let e : suc a ≡ suc a + 0 = omega arith in e)
+noted_sum fetches (suc a) (suc b) = let e : suc a + suc b ≡ suc (a + suc b) = omega arith in rw e (omega arith)
+
+-- ---- one call after the other
+
+on_ok : {A E : Type 0} (r : Result A E) (P : Type 0) → P → OnOk r P
+on_ok (Ok x) P p = p
+on_ok (Err e) P p = tt
+
+-- a tree whose trace has grown is as one whose trace had been emptied first
+pub traced_begun : (old new : TreeView) → IsTraced old new → IsTraced (begun old) new
+traced_begun old new is = is
+
+-- no page was noted
+pub notes_none : {A : Type 0} (r : Result A ReadFault) (old new : TreeView) → KeepsTrace old new → NotesPages old new r
+notes_none r old new kept = record {
+  noted = [];
+  trace_is = kept.0 ∙ sym (append-nil old.trace);
+  fetches_are = kept.1;
+  read = on_ok r (AllByRecursion (IsRead old) []) tt;
+}
+
+read_more : {A : Type 0} (r : Result A ReadFault) (a b : TreeView) (some more : List ℕ) → IsTraced a b → AllByRecursion (IsRead a) some → OnOk r (AllByRecursion (IsRead b) more)
+    → OnOk r (AllByRecursion (IsRead a) (some ++ more))
+read_more (Ok x) a b some more traced first second = all_joined (IsRead a) some more first (subst (λ (v : TreeView). AllByRecursion (IsRead v) more) traced second)
+read_more (Err e) a b some more traced first second = tt
+
+pub notes_then : {A B : Type 0} (x : A) (r : Result B ReadFault) (a b c : TreeView) → IsTraced a b → NotesPages a b (Ok x) → NotesPages b c r → NotesPages a c r
+notes_then x r a b c traced first second = record {
+  noted = first.noted ++ second.noted;
+  trace_is = second.trace_is ∙ ap (λ (pages : List ℕ). pages ++ second.noted) first.trace_is ∙ append_assoc a.trace first.noted second.noted;
+  fetches_are = second.fetches_are ∙ ap (λ (f : ℕ). fetches_then f (length second.noted)) first.fetches_are ∙ noted_sum a.fetches (length first.noted) (length second.noted)
+      ∙ ap (fetches_then a.fetches) (sym (length-append first.noted second.noted));
+  read = read_more r a b first.noted second.noted traced first.read second.read;
+}
+
+-- the same pages where the call was ended by a fault
+pub notes_err : {A B : Type 0} (r : Result A ReadFault) (P : ReadFault → Type 0) (q : Result B ReadFault) (old new : TreeView) → IsErrAnd r P → NotesPages old new q → NotesPages old new r
+notes_err (Ok x) P q old new is notes = absurd is
+notes_err (Err e) P q old new is notes = record { noted = notes.noted; trace_is = notes.trace_is; fetches_are = notes.fetches_are; read = tt }
+
+pub notes_ok : {A B : Type 0} (x : A) (y : B) (old new : TreeView) → NotesPages old new (Ok x) → NotesPages old new (Ok y)
+notes_ok x y old new notes = record { noted = notes.noted; trace_is = notes.trace_is; fetches_are = notes.fetches_are; read = notes.read }
+
+pub notes_as : {A : Type 0} (r : Result A ReadFault) (a b c : TreeView) → b ≡ a → NotesPages b c r → NotesPages a c r
+notes_as r a b c same notes = subst (λ (t : TreeView). NotesPages t c r) same notes
+
+-- a page may have been noted in a call that was ended by a fault
+pub notes_one : {A : Type 0} (r : Result A ReadFault) (P : ReadFault → Type 0) (old mid new : TreeView) (page : ℕ) → IsErrAnd r P → KeepsTrace old mid → KeepsTrace mid new ⊎ HasNoted page mid new
+    → NotesPages old new r
+notes_one (Ok x) P old mid new page is kept noted = absurd is
+notes_one (Err e) P old mid new page is kept (inl still) = notes_none (Err e) old new (still.0 ∙ kept.0, still.1 ∙ kept.1)
+notes_one (Err e) P old mid new page is kept (inr noted) = record {
+  noted = page ∷ [];
+  trace_is = noted.0 ∙ ap (λ (trace : List ℕ). trace ++ page ∷ []) kept.0;
+  fetches_are = noted.1 ∙ ap (λ (f : ℕ). fetches_then f 1) kept.1;
+  read = tt;
+}
+
+-- ---- a turn of a scan
+
+pub next_notes : (boxes : List Corners) (after : Option Span) (old new : TreeView) (found : Option Span) → HasReadNext boxes after old new found → NotesPages old new (Ok found)
+next_notes boxes after old new None next = notes_none (Ok None) old new next.1
+next_notes boxes after old new (Some span) next = record {
+  noted = span.page ∷ [];
+  trace_is = next.1.0;
+  fetches_are = next.1.1;
+  read = ((span, next.0.0, refl, next.2), tt);
+}
+
+-- the region that the tree told was read
+pub read_next : (boxes of_plan : List Corners) (after : Option Span) (old mid new : TreeView) (span : Span) (region : Region) → boxes ≡ of_plan → mid ≡ old
+    → First (λ s. IsLater after s × Meets boxes s) (spans_of old) (Some span) → HasNoted span.page mid new → IsTakenIn mid span region → HasReadNext of_plan after old new (Some span)
+read_next boxes of_plan after old mid new span region alike same first noted taken = (
+  subst (λ (bs : List Corners). First (λ s. IsLater after s × Meets bs s) (spans_of old) (Some span)) alike first,
+  subst (λ (t : TreeView). HasNoted span.page t new) same noted,
+  (region, subst (λ (t : TreeView). IsTakenIn t span region) same taken),
+)
+
+-- ---- which regions are later than one
+
+weight : Bool → ℕ
+weight true = 1
+weight false = 0
+
+weight_le : (a b : Bool) → (a ≡ true → b ≡ true) → weight a ≤ weight b
+unfolding weight
+weight_le true true h = omega arith
+weight_le true false h = let t = h refl in cc
+weight_le false b h = omega arith
+
+weight_one : (a : Bool) → a ≡ true → weight a ≡ 1
+unfolding weight
+weight_one true t = refl
+weight_one false t = cc
+
+weight_none : (a : Bool) → a ≡ false → weight a ≡ 0
+unfolding weight
+weight_none true t = cc
+weight_none false t = refl
+
+weight_few : (a : Bool) → weight a ≤ 1
+unfolding weight
+weight_few true = omega arith
+weight_few false = omega arith
+
+-- how many spans pass a test
+pub count : (Span → Bool) → List Span → ℕ
+count f [] = 0
+count f (x ∷ xs) = weight (f x) + count f xs
+
+count_few : (f : Span → Bool) (xs : List Span) → count f xs ≤ length xs
+unfolding count
+count_few f [] = omega arith
+count_few f (x ∷ xs) = let rest = count_few f xs in let one = weight_few (f x) in omega arith
+
+count_le : (f g : Span → Bool) → ((x : Span) → g x ≡ true → f x ≡ true) → (xs : List Span) → count g xs ≤ count f xs
+unfolding count
+count_le f g h [] = omega arith
+count_le f g h (x ∷ xs) = let one = weight_le (g x) (f x) (h x) in let rest = count_le f g h xs in omega arith
+
+-- where one passes the first test and not the second, fewer pass the second
+count_less : (f g : Span → Bool) → ((x : Span) → g x ≡ true → f x ≡ true) → (xs : List Span) (r : Span) → Contains xs r → f r ≡ true → g r ≡ false → count g xs + 1 ≤ count f xs
+unfolding count
+count_less f g h [] r there t n = absurd (contains_none r there)
+count_less f g h (x ∷ xs) r there t n = elim (contains_cases x xs r there) [
+  | inl same ↦
+      let one = weight_one (f x) (ap f same ∙ t) in
+      let none = weight_none (g x) (ap g same ∙ n) in
+      let rest = count_le f g h xs in
+      omega arith
+  | inr later ↦ let rest = count_less f g h xs r later t n in let one = weight_le (g x) (f x) (h x) in omega arith
+]
+
+count_some : (f : Span → Bool) (xs : List Span) (r : Span) → Contains xs r → f r ≡ true → 1 ≤ count f xs
+unfolding count
+count_some f [] r there t = absurd (contains_none r there)
+count_some f (x ∷ xs) r there t = elim (contains_cases x xs r there) [
+  | inl same ↦ let one = weight_one (f x) (ap f same ∙ t) in omega arith
+  | inr later ↦ let rest = count_some f xs r later t in omega arith
+]
+
+abbrev pub is_later : Option Span → Span → Bool
+is_later None s = true
+is_later (Some a) s = precedes a.first s.first
+
+later_is : (after : Option Span) (s : Span) → IsLater after s → is_later after s ≡ true
+later_is None s h = refl
+later_is (Some a) s h = h
+
+later_then : (after : Option Span) (span s : Span) → IsLater after span → precedes span.first s.first ≡ true → is_later after s ≡ true
+later_then None span s h t = refl
+later_then (Some a) span s h t = precedes_trans a.first span.first s.first h t
+
+not_later : (b : Bool) → ¬ (IsTrue b) → b ≡ false
+not_later true h = absurd (h refl)
+not_later false h = refl
+
+-- ---- so far as a scan has come, over any tree
+
+pub record HasReadUpTo (boxes : List Corners) (turns : ℕ) (start now : TreeView) (after : Option Span) : Type 0 where
+  pub spans : List Span
+  pub answers : (more : List Span) → AreAnswers (Meets boxes) (spans_of start) after more → AreAnswers (Meets boxes) (spans_of start) None (spans ++ more)
+  pub there : AllByRecursion (Contains (spans_of start)) spans
+  pub taken : AllByRecursion (IsIn start) spans
+  pub trace_is : now.trace ≡ start.trace ++ map (λ span. span.page) spans
+  pub fetches_are : now.fetches ≡ fetches_then start.fetches (length spans)
+  pub few : turns + count (is_later after) (spans_of start) ≤ length (spans_of start)
+
+pub HasReadUpTo-none : (boxes : List Corners) (t : TreeView) → HasReadUpTo boxes 0 t t None
+HasReadUpTo-none boxes t = record {
+  spans = [];
+  answers = λ more are. are;
+  there = tt;
+  taken = tt;
+  trace_is = sym (append-nil t.trace);
+  fetches_are = refl;
+  few = let all = count_few (is_later None) (spans_of t) in omega arith;
+}
+
+read_each : (t : TreeView) (spans : List Span) → AllByRecursion (Contains (spans_of t)) spans → AllByRecursion (IsIn t) spans → AllByRecursion (IsRead t) (map (λ (span : Span). span.page) spans)
+read_each t [] there taken = tt
+read_each t (span ∷ spans) there taken = ((span, there.0, refl, taken.0), read_each t spans there.1 taken.1)
+
+module _ (boxes : List Corners) (turns : ℕ) (start now new : TreeView) (traced : IsTraced start now) (after : Option Span) (come : HasReadUpTo boxes turns start now after) where
+  -- the pages noted so far
+  pub come_notes : {A : Type 0} (x : A) → NotesPages start now (Ok x)
+  come_notes x = record {
+    noted = map (λ (span : Span). span.page) come.spans;
+    trace_is = come.trace_is;
+    fetches_are = come.fetches_are ∙ ap (fetches_then start.fetches) (sym (length-map come.spans (λ (span : Span). span.page)));
+    read = read_each start come.spans come.there come.taken;
+  }
+
+  -- it is whole where no region is left
+  whole : (kept : KeepsTrace now new) → First (λ s. IsLater after s × Meets boxes s) (spans_of start) None → HasReadAll boxes start new
+  whole kept none = record {
+    spans = come.spans;
+    all = subst (λ (spans : List Span). AreAnswers (Meets boxes) (spans_of start) None spans) (append-nil come.spans) (come.answers [] none);
+    taken = come.taken;
+    trace_is = kept.0 ∙ come.trace_is;
+  }
+
+  -- as it is after as many turns as there are regions
+  pub whole_after : (n : ℕ) → n ≤ turns → n ≡ length (spans_of start) → KeepsTrace now new → HasReadAll boxes start new
+  whole_after n past long kept = whole kept (λ s there meets.
+      let some = count_some (is_later after) (spans_of start) s there (later_is after s meets.0) in
+      let few = come.few in
+      absurd (omega arith))
+
+  first_of_start : (found copied : Option Span) → copied ≡ after → First (λ s. IsLater copied s × Meets boxes s) (spans_of now) found → First (λ s. IsLater after s × Meets boxes s) (spans_of start) found
+  first_of_start found copied same first =
+      subst (λ (spans : List Span). First (λ s. IsLater after s × Meets boxes s) spans found) (traced_spans start now traced)
+      (subst (λ (o : Option Span). First (λ s. IsLater o s × Meets boxes s) (spans_of now) found) same first)
+
+  -- or where the next turn tells of none
+  pub whole_by : (found copied : Option Span) → copied ≡ after → is_some found ≡ false → HasReadNext boxes copied now new found → HasReadAll boxes start new
+  whole_by None copied same none next = whole next.1 (first_of_start None copied same next.0)
+  whole_by (Some span) copied same none next = cc
+
+  -- else it has come one region further
+  come_further : (span : Span) → First (λ s. IsLater after s × Meets boxes s) (spans_of start) (Some span) → HasNoted span.page now new → IsIn start span → HasReadUpTo boxes (turns + 1) start new (Some span)
+  come_further span first noted taken = record {
+    spans = come.spans ++ span ∷ [];
+    answers = λ more are.
+        subst (λ (spans : List Span). AreAnswers (Meets boxes) (spans_of start) None spans) (sym (append_assoc come.spans (span ∷ []) more)) (come.answers (span ∷ more) (first, are));
+    there = all_joined (Contains (spans_of start)) come.spans (span ∷ []) come.there (first.0, tt);
+    taken = all_joined (IsIn start) come.spans (span ∷ []) come.taken (taken, tt);
+    trace_is = noted.0 ∙ ap (λ (trace : List ℕ). trace ++ span.page ∷ []) come.trace_is ∙ append_assoc start.trace (map (λ (s : Span). s.page) come.spans) (span.page ∷ [])
+        ∙ ap (λ (pages : List ℕ). start.trace ++ pages) (sym (map-append (λ (s : Span). s.page) come.spans (span ∷ [])));
+    fetches_are = noted.1 ∙ ap (λ (f : ℕ). fetches_then f 1) come.fetches_are ∙ noted_sum start.fetches (length come.spans) 1
+        ∙ ap (fetches_then start.fetches) (sym (length-append come.spans (span ∷ [])));
+    few =
+        let few = come.few in
+        let less = count_less (is_later after) (is_later (Some span)) (λ s t. later_then after span s first.1.0 t) (spans_of start) span first.0 (later_is after span first.1.0)
+        (not_later (precedes span.first span.first) (not_before_self span.first)) in
+        omega arith;
+  }
+
+  pub come_on : (n : ℕ) (found copied : Option Span) → n ≡ turns + 1 → copied ≡ after → is_some found ≡ true → HasReadNext boxes copied now new found → HasReadUpTo boxes n start new found
+  come_on n None copied next same some turn = cc
+  come_on n (Some span) copied next same some (first, noted, taken) =
+      subst (λ (k : ℕ). HasReadUpTo boxes k start new (Some span)) (sym next)
+      (come_further span (first_of_start (Some span) copied same first) noted (subst (λ (t : TreeView). IsIn t span) traced taken))
+
+-- ---- carrying out
+
+pub carries_none : {A : Type 0} (x : A) (p : PlanView) (t new : TreeView) → KeepsTrace t new → p.asked.limit ≡ Some 0 → CarriesOut p t new (Ok x)
+carries_none x p t new kept none = record { notes = notes_none (Ok x) t new kept; scans = λ apart some. absurd (some none) }
+
+pub carries_all : {A B : Type 0} (x : A) (y : B) (p : PlanView) (t new : TreeView) → NotesPages t new (Ok x) → HasReadAll p.covering.boxes t new → CarriesOut p t new (Ok y)
+carries_all x y p t new notes all = record { notes = notes_ok x y t new notes; scans = λ apart some. all }
+
+pub carries_err : {A B : Type 0} (r : Result A ReadFault) (P : ReadFault → Type 0) (q : Result B ReadFault) (p : PlanView) (t new : TreeView) → IsErrAnd r P → NotesPages t new q → CarriesOut p t new r
+carries_err (Ok x) P q p t new is notes = absurd is
+carries_err (Err e) P q p t new is notes = record { notes = notes_err (Err e) P q t new is notes; scans = λ apart some. tt }
+
+-- the answer, or the fault, handed on
+pub carries_ok : {A B : Type 0} (x : A) (y : B) (p : PlanView) (t new : TreeView) → CarriesOut p t new (Ok x) → CarriesOut p t new (Ok y)
+carries_ok x y p t new carries = record { notes = notes_ok x y t new carries.notes; scans = carries.scans }
+
+-- a sweep, whatever the tree
+pub carries_swept : {A : Type 0} (r : Result A ReadFault) (p : PlanView) (t new : TreeView) → IsSwept p.kind → NotesPages t new r → CarriesOut p t new r
+carries_swept r p t new swept notes = record { notes = notes; scans = λ apart some. absurd (apart swept) }
+
+-- ---- what a sweep notes
+
+-- those that it comes to are regions of the tree
+come_there : (t : TreeView) (come rest : List AwaitedRegion) → AllByRecursion (λ a. Contains (spans_of t) a.region) (come ++ rest) → AllByRecursion (λ a. Contains (spans_of t) a.region) come
+come_there t [] rest all = tt
+come_there t (a ∷ come) rest all = (all.0, come_there t come rest all.1)
+
+swept_each : (t : TreeView) (come : List AwaitedRegion) → AllByRecursion (λ a. Contains (spans_of t) a.region) come → AllByRecursion (λ a. IsIn t a.region) come
+    → AllByRecursion (IsRead t) (map (λ (a : AwaitedRegion). a.region.page) come)
+swept_each t [] there taken = tt
+swept_each t (a ∷ come) there taken = ((a.region, there.0, refl, taken.0), swept_each t come there.1 taken.1)
+
+pub sweeps_notes : {A B : Type 0} (x : A) (y : B) (s new_s : SweepView) (old new : TreeView) → AreItsRegions old s → Sweeps s new_s old new (Ok x) → NotesPages old new (Ok y)
+sweeps_notes x y s new_s old new regions sweeps = record {
+  noted = sweeps.noted;
+  trace_is = ap (λ (t : TreeView). t.trace) sweeps.same;
+  fetches_are = ap (λ (t : TreeView). t.fetches) sweeps.same;
+  read = subst (λ (pages : List ℕ). AllByRecursion (IsRead old) pages) (sym sweeps.taken.0)
+      (swept_each old sweeps.come (come_there old sweeps.come new_s.awaited (subst (λ (those : List AwaitedRegion). AllByRecursion (λ a. Contains (spans_of old) a.region) those) sweeps.left regions)) sweeps.taken.1);
+}
+
+pub broken_notes : {A B : Type 0} (r : Result A ReadFault) (P : ReadFault → Type 0) (e : SweepFault) (s new_s : SweepView) (old new : TreeView) → IsErrAnd r P → Sweeps {A = B} s new_s old new (Err e)
+    → NotesPages old new r
+broken_notes (Ok x) P e s new_s old new is sweeps = absurd is
+broken_notes (Err f) P e s new_s old new is sweeps = record {
+  noted = sweeps.noted;
+  trace_is = ap (λ (t : TreeView). t.trace) sweeps.same;
+  fetches_are = ap (λ (t : TreeView). t.fetches) sweeps.same;
+  read = tt;
+}

@@ -1,0 +1,51 @@
+-- What carrying out a plan reads of any tree, also of one that isn't sound: which pages are noted, and that each was taken in.
+use Rattle.std.specs.Prelude.{◌≡◌, ◌≢◌, ◌++◌, ℕ, List, Option, Some, None, Result, OnOk, length, map}
+use Rattle.std.specs.List.{AllByRecursion, Contains}
+use Rattle.ub_bigmin.specs.Box.{Corners}
+use Rattle.ub_exec.specs.Answers.{IsSwept}
+use Rattle.ub_planning.specs.Plan.{PlanView}
+use Rattle.ub_table.specs.Region.{Region}
+use Rattle.ub_tetris.specs.Effects.{fetches_then}
+use Rattle.ub_tree.specs.Effects.{HasNoted, IsTakenIn}
+use Rattle.ub_tree.specs.Laws.{AreAnswers}
+use Rattle.ub_tree.specs.Spans.{First, IsLater, Meets}
+use Rattle.ub_tree.specs.View.{TreeView, KeepsTrace, spans_of}
+use Rattle.ub_tree.specs.declared.read_fault.ReadFault.{ReadFault}
+use Rattle.ub_tree.specs.declared.region.Region.{Region as Span}
+
+-- the page spells the region of this span
+abbrev pub IsIn : TreeView → Span → Type 0
+IsIn t span = (region : Region) × IsTakenIn t span region
+
+-- the page is that of a region of the tree, which was taken in
+abbrev pub IsRead : TreeView → ℕ → Type 0
+IsRead t page = (span : Span) × Contains (spans_of t) span × (span.page ≡ page) × IsIn t span
+
+-- pages were noted after those that stood in the trace, and the fetches rose by their number; where the call answers, each is the
+-- page of a region of the tree that was taken in
+pub record NotesPages {A : Type 0} (old new : TreeView) (result : Result A ReadFault) : Type 0 where
+  pub noted : List ℕ
+  pub trace_is : new.trace ≡ old.trace ++ noted
+  pub fetches_are : new.fetches ≡ fetches_then old.fetches (length noted)
+  pub read : OnOk result (AllByRecursion (IsRead old) noted)
+
+-- no region that meets the boxes was passed over: these are all that the tree tells, asked for one after the other until there
+-- is none; each was taken in, and their pages were noted, in this order, and no others
+pub record HasReadAll (boxes : List Corners) (old new : TreeView) : Type 0 where
+  pub spans : List Span
+  pub all : AreAnswers (Meets boxes) (spans_of old) None spans
+  pub taken : AllByRecursion (IsIn old) spans
+  pub trace_is : new.trace ≡ old.trace ++ map (λ span. span.page) spans
+
+-- a plan was carried out over any tree: pages were noted, and where it answers a scan, it passed over no region, unless the query
+-- asks for no row
+pub record CarriesOut {A : Type 0} (p : PlanView) (old new : TreeView) (result : Result A ReadFault) : Type 0 where
+  pub notes : NotesPages old new result
+  pub scans : ¬ IsSwept p.kind → p.asked.limit ≢ Some 0 → OnOk result (HasReadAll p.covering.boxes old new)
+
+-- the first region later than one that meets the boxes was taken in, and its page noted; or there is none
+abbrev pub HasReadNext : List Corners → Option Span → TreeView → TreeView → Option Span → Type 0
+HasReadNext boxes after old new None =
+    First (λ s. IsLater after s × Meets boxes s) (spans_of old) None × KeepsTrace old new
+HasReadNext boxes after old new (Some span) =
+    First (λ s. IsLater after s × Meets boxes s) (spans_of old) (Some span) × HasNoted span.page old new × IsIn old span
