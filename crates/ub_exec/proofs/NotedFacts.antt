@@ -282,6 +282,10 @@ module _ (boxes : List Corners) (turns : ℕ) (start now new : TreeView) (traced
 pub carries_none : {A : Type 0} (x : A) (p : PlanView) (t new : TreeView) → KeepsTrace t new → p.asked.limit ≡ Some 0 → CarriesOut p t new (Ok x)
 carries_none x p t new kept none = record { notes = notes_none (Ok x) t new kept; scans = λ apart some. absurd (some none) }
 
+-- nor is a page noted where a call is refused at once
+pub carries_failed : {A : Type 0} (e : ReadFault) (p : PlanView) (t new : TreeView) → KeepsTrace t new → CarriesOut {A = A} p t new (Err e)
+carries_failed e p t new kept = record { notes = notes_none (Err e) t new kept; scans = λ apart some. tt }
+
 pub carries_all : {A B : Type 0} (x : A) (y : B) (p : PlanView) (t new : TreeView) → NotesPages t new (Ok x) → HasReadAll p.covering.boxes t new → CarriesOut p t new (Ok y)
 carries_all x y p t new notes all = record { notes = notes_ok x y t new notes; scans = λ apart some. all }
 

@@ -47,11 +47,14 @@ no_more P (x ∷ xs) those (inl are) =
     omega arith
 no_more P (x ∷ xs) those (inr are) = let rest = no_more P xs those are.1 in omega arith
 
--- a sound tree has no more regions than can be counted
-pub counted_met : (t : TreeView) (boxes : List Corners) (met : List Span) (n : ℕ) → IsSound t → AreMetBy boxes t met → n ≡ min (length met) 4294967295 → AreMet t.schema boxes (regions t) n
+-- none are counted yet
+pub none_counted : (most : ℕ) → 0 ≡ min 0 most
+none_counted most = omega arith
+
+-- a sound tree tells no more regions than it has
+pub counted_met : (t : TreeView) (boxes : List Corners) (met : List Span) (n : ℕ) → IsSound t → AreMetBy boxes t met → n ≡ min (length met) (length t.placed) → AreMet t.schema boxes (regions t) n
 counted_met t boxes met n sound by counted =
     let those = by.those sound in
-    let few = sound.few in
     let all = no_more (Meets boxes) (spans_of t) met those in
     let long = spans_long (last_address t.schema.dims) t.placed in
     met_are t boxes met n (omega arith) those

@@ -1,4 +1,5 @@
 ghost use Rattle.std.specs.Prelude.{◌≡◌, ℕ, length, IfOk, IsTrue, Err};
+ghost use Rattle.ub_plan.specs.Counted.{AreCounted};
 ghost use Rattle.ub_plan.specs.Explained.{AreMet, IsExplained, explain_text};
 ghost use Rattle.ub_tree.specs.Reading.{SearchesTree};
 ghost use Rattle.ub_tree.specs.View.{IsSound, regions};
@@ -21,6 +22,7 @@ pub fn explain<S: PageStore>(
     tree: &mut Tree<S>,
 ) -> Result<Vec<u8>, ReadFault>
     ensures lines { IfOk result (λ text. (met : ℕ)
+        × AreCounted plan.now.covering.boxes tree.old met
         × (text.items ≡ explain_text tree.old.schema plan.now met (length tree.old.placed))) }
     ensures text { IsSound tree.old
         → IfOk result (λ text. IsExplained tree.old.schema plan.now (regions tree.old) text.items) }
@@ -36,29 +38,36 @@ pub fn explain<S: PageStore>(
 
 // How many regions meet the boxes. None is fetched.
 fn count_met<S: PageStore>(tree: &mut Tree<S>, boxes: &[ZBox]) -> Result<u32, ReadFault>
+    ensures counted { IfOk result (AreCounted boxes.now tree.old) }
     ensures met { IsSound tree.old → IfOk result (AreMet tree.old.schema boxes.now
         (regions tree.old)) }
     ensures effect { SearchesTree tree.old tree.new result }
 {
-    let mut met = Counter { count: 0 };
+    let mut met = Counter {
+        count: 0,
+        most: tree.regions(),
+    };
     tree.for_each_meeting(boxes, &mut met)?;
     Ok(met.count)
 }
 
-/// Counts the regions that it is handed.
+/// Counts the regions that it is handed, up to as many as the tree has.
 #[derive(Drop)]
 pub struct Counter {
-    // A tree has no more regions than this can count.
     count: u32,
+    most: u32,
 }
 
 impl RegionSink for Counter {
     ghost use Rattle.std.specs.Prelude.{◌≡◌, min, length};
 
-    ghost Takes = { λ boxes start taken now. now.count ≡ min (length taken) 4294967295 };
+    ghost Takes = { λ boxes start taken now. (now.most ≡ start.most)
+        × (now.count ≡ min (length taken) now.most) };
 
     fn push(&mut self, _boxes: &[ZBox], _region: &Region) -> Result<(), AllocError> {
-        self.count = self.count.saturating_add(1);
+        if self.count < self.most {
+            self.count += 1;
+        }
         Ok(())
     }
 }

@@ -1,8 +1,8 @@
-use Rattle.std.proofs.Common.{◌≡◌, ◌⊎◌, inl, inr, ℕ, Bool, false, IsTrue, IfOk, OnOk, ap, subst, sym}
+use Rattle.std.proofs.Common.{◌≡◌, ◌⊎◌, inl, inr, ℕ, Bool, false, IsTrue, IfOk, OnOk, ap, refl, subst, sym}
 use Rattle.std.specs.Prelude.{OnErr}
-use Rattle.ub_tree.proofs.Laws.{Keeps-by, begun_traced, reads_then}
+use Rattle.ub_tree.proofs.Laws.{Keeps-by, begun_traced, reads_then, unchanged_trace}
 use Rattle.ub_exec.specs.Answers.{IsReady, IsAnswer, IsSwept, begun}
-use Rattle.ub_exec.proofs.NotedFacts.{carries_swept}
+use Rattle.ub_exec.proofs.NotedFacts.{carries_failed, carries_swept}
 use Rattle.ub_exec.specs.Reading.{CarriesOut}
 use Rattle.ub_exec.specs.Visits.{HasFetched, HasFetchedFirst}
 use Rattle.ub_planning.specs.Plan.{PlanView, plan_of}
@@ -62,3 +62,16 @@ returns-in-Sweep g c =
           (carries_swept c.swept_rows.result c.args.plan.now (begun c.begin.new.self) c.swept_rows.new.tree swept c.swept_rows.ensures.notes);
       effect = reads_then c.swept_rows.result c.args.tree.now c.begin.new.self c.swept_rows.new.tree (begun_traced c.args.tree.now c.begin.new.self c.begin.ensures) c.swept_rows.ensures.effect;
     }
+
+pub returns-then-has_failed-clause-failed : goal.returns-then-has_failed-clause-failed
+returns-then-has_failed-clause-failed g c failed = refl
+
+pub returns-then-has_failed-clause-rows : goal.returns-then-has_failed-clause-rows
+returns-then-has_failed-clause-rows g c ready = tt
+
+pub returns-then-has_failed-clause-pages : goal.returns-then-has_failed-clause-pages
+returns-then-has_failed-clause-pages g c ready = tt
+
+pub returns-then-has_failed-clause-reads : goal.returns-then-has_failed-clause-reads
+returns-then-has_failed-clause-reads g c =
+    carries_failed _ c.args.plan.now (begun c.args.tree.now) c.begin.new.self (unchanged_trace (begun c.args.tree.now) c.begin.new.self c.begin.ensures)
