@@ -6,6 +6,7 @@ pub mod ReadFacts
 pub mod MeetFacts
 pub mod MadeFacts
 pub mod RoomFacts
+pub mod OthersFacts
 pub mod WriteFacts
 pub mod GrowFacts
 pub mod StoredFacts

@@ -15,7 +15,8 @@ use Rattle.ub_table.specs.Region.{Region, IsRegion, keys_of}
 use Rattle.ub_table.specs.declared.row.Key.{Key}
 use Rattle.ub_table.specs.declared.row.Row.{Row}
 use Rattle.ub_table.specs.declared.schema.Schema.{Schema}
-use Rattle.ub_tree.specs.Effects.{written_store, IsMarkedFirst, HasEnded, Changes}
+use Rattle.ub_tree.specs.Effects.{written_store, IsMarkedFirst, Changes}
+use Rattle.ub_tree.specs.Others.{WritesOneRegion}
 use Rattle.ub_tree.specs.Placed.{Placed, ArePlaced, entry_of}
 use Rattle.ub_tree.specs.Tree.{tree_view}
 use Rattle.ub_tree.specs.View.{TreeView, IsSound, regions}
@@ -45,9 +46,14 @@ IsElsewhereSame old new = new ≡ record old { placed = new.placed; store = new.
 abbrev pub placed_with : ℕ → List Placed → List Placed → List Placed
 placed_with index news placed = take index placed ++ news ++ drop (suc index) placed
 
+-- a write met this fault: the tree has failed, with the directory and the counts that it had
+pub record HasStopped (fault : TreeFault) (old new : TreeView) : Type 0 where
+  pub same : new ≡ record old { placed = new.placed; is_changed = new.is_changed; is_failed = true; store = written_store {A = TreeFault} (Err fault) old.store new.store }
+  pub entries : map entry_of new.placed ≡ map entry_of old.placed
+
 -- what a call within that only writes can answer, and what it leaves then
 abbrev pub IsWriteFault : TreeView → TreeView → TreeFault → Type 0
-IsWriteFault old new (Store store.Device) = IsTrue old.store.can_fail × HasEnded (Store store.Device) old new
+IsWriteFault old new (Store store.Device) = IsTrue old.store.can_fail × HasStopped (Store store.Device) old new
 IsWriteFault old new _ = ⊥
 
 -- a call within that only writes
@@ -56,6 +62,7 @@ pub record Writes {A : Type 0} (old new : TreeView) (result : Result A TreeFault
   pub marked : IsMarkedFirst old new
   pub done : OnOk result (new.is_failed ≡ old.is_failed)
   pub faults : IfErr result (IsWriteFault old new)
+  pub others : WritesOneRegion old new
 
 -- where the page spells rows, they are those of the region of the seat now
 abbrev pub PutsRows : {A : Type 0} → SeatView → List ℕ → TreeView → TreeView → Result A TreeFault → Type 0

@@ -11,6 +11,7 @@ use Rattle.ub_table.specs.declared.fault.PageFault.TheVariants.{BadCount, BadOrd
 use Rattle.ub_table.specs.declared.row.Key.{Key}
 use Rattle.ub_table.specs.declared.row.Row.{Row}
 use Rattle.ub_table.specs.declared.schema.Schema.{Schema}
+use Rattle.ub_tree.specs.Others.{WritesOneRegion}
 use Rattle.ub_tree.specs.Tree.{IsHeldBy}
 use Rattle.ub_tree.specs.Placed.{Placed, entry_of}
 use Rattle.ub_writing.specs.Marks.{HasMark, KeepsUnless}
@@ -128,6 +129,7 @@ pub record Leaves (old new : TreeView) : Type 0 where
 pub record HasEnded (fault : TreeFault) (old new : TreeView) : Type 0 where
   pub same : new ≡ record old { placed = new.placed; is_changed = new.is_changed; is_failed = true; store = written_store {A = TreeFault} (Err fault) old.store new.store }
   pub entries : map entry_of new.placed ≡ map entry_of old.placed
+  pub others : WritesOneRegion old new
 
 -- a read failed: nothing but the count of failed reads has changed
 abbrev pub HasMissed : TreeView → TreeView → Type 0
