@@ -16,3 +16,4 @@ pub mod Laws
 pub mod WalkFacts
 pub mod CloseFacts
 pub mod OpenedFacts
+pub mod HoldingFacts

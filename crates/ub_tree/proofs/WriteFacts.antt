@@ -357,7 +357,7 @@ module _ (schema : Schema) (entries : List Entry) (chain : List ℕ) (next rows 
       rw is (leaves_changed Memory leaves leaves)
   extension_refused store.BadSize e is same trace no_page no_device full =
       let leaves = extended_leaves schema entries chain next rows changed failed old new extended same trace in
-      rw is (leaves_changed (Store store.BadSize) leaves (inl (let most = full refl in omega arith), leaves))
+      rw is (leaves_changed (Store store.BadSize) leaves ((let most = full refl in omega arith), leaves))
 
 -- the rows of the region at an index, put on its page and on another one
 module _ (schema : Schema) (entries : List Entry) (chain : List ℕ) (next rows : ℕ) (changed failed : Bool) (old new : PagerView) (index : ℕ) (e x : Entry) (left right : List Row) (page other : List ℕ)

@@ -6,7 +6,7 @@ use Rattle.ub_region.specs.Regions.{AreTableRows, insert, split_region}
 use Rattle.ub_region.specs.Rows.{Halves}
 use Rattle.ub_zaddr.specs.Address.{last_address}
 use Rattle.ub_tree.specs.Spans.{ArePlaces, first_keys}
-use Rattle.ub_store.specs.Facts.{IsHonest, page_count}
+use Rattle.ub_store.specs.Facts.{IsHonest, IsPage, page_count}
 use Rattle.ub_store.specs.View.{PagerView}
 use Rattle.ub_page.specs.Region.{region_page}
 use Rattle.ub_page.specs.declared.directory.Entry.{Entry}
@@ -18,7 +18,7 @@ use Rattle.ub_table.specs.declared.schema.Schema.{Schema}
 use Rattle.ub_tree.specs.Effects.{written_store, IsMarkedFirst, Changes}
 use Rattle.ub_tree.specs.Others.{WritesOneRegion}
 use Rattle.ub_tree.specs.Placed.{Placed, ArePlaced, entry_of}
-use Rattle.ub_tree.specs.Tree.{tree_view}
+use Rattle.ub_tree.specs.Tree.{IsHeldBy, tree_view}
 use Rattle.ub_tree.specs.View.{TreeView, IsSound, regions}
 use Rattle.ub_tree.specs.declared.fault.TreeFault.{TreeFault}
 use Rattle.ub_tree.specs.declared.fault.TreeFault.TheVariants.{Store}
@@ -103,7 +103,13 @@ IsFresh n t = IsDistinct nat_eq (n ∷ (reserved t.inner ++ map (λ p. p.page) t
 abbrev pub IsSeatIn : TreeView → SeatView → Type 0
 IsSeatIn t seat = IsSeat (map entry_of t.placed) seat
 
--- the same, and the store has that region's page
+-- the page of a seat's region spells this one, in its place
+pub record IsOnSeat (t : TreeView) (seat : SeatView) (region : Region) : Type 0 where
+  pub is : IsRegion t.schema region
+  pub held : IsHeldBy t.schema.dims seat.first seat.next region
+  pub page : IsPage t.store seat.page (region_page t.schema region)
+
+-- the seat of a region, and the store has its page
 abbrev pub IsSeatThere : TreeView → SeatView → Type 0
 IsSeatThere t seat = IsSeatIn t seat × (seat.page < page_count t.store)
 

@@ -111,9 +111,9 @@ pub record IsMarkedFirst (old new : TreeView) : Type 0 where
   pub kept : KeepsUnless new.is_changed old.store new.store
   pub marked : IsSound old → new.is_changed ≡ true → HasMark old.schema new.store.pages
 
--- there are as many pages as a store can have, or as many regions
+-- there are as many pages as a store can have
 abbrev pub IsFull : TreeView → Type 0
-IsFull t = (4294967295 ≤ page_count t.store) ⊎ (length t.placed ≡ 4294967295)
+IsFull t = 4294967295 ≤ page_count t.store
 
 -- the store can have pages more after those that there were, which hold nothing of the tree; all else is as it was. What lasts
 -- is what lasted before, or the pages that there are now
@@ -141,11 +141,11 @@ IsNumberTaken t number =
     (p : Placed) × Contains t.placed p × (p.page ≡ number)
     × (IsHonest t.store → (row : Row) × Contains p.region.rows row × (row.number ≡ t.next))
 
--- which page a change refuses, and why: one that it reads; the first, where a row is there and none is counted; or that of the
--- region that has the new row's key already
+-- which page a change refuses, and why: one that it reads; the first, where a row is there and none is counted, or a region
+-- would be one more than can be counted; or that of the region that has the new row's key already
 abbrev pub IsChangeRefused : TreeView → ℕ → PageFault → Type 0
 IsChangeRefused t number fault =
-    IsPageRefused t number fault ⊎ ((number ≡ 0) × (fault ≡ BadCount) × (t.rows ≡ 0))
+    IsPageRefused t number fault ⊎ ((number ≡ 0) × (fault ≡ BadCount) × ((t.rows ≡ 0) ⊎ (length t.placed ≡ 4294967295)))
     ⊎ ((fault ≡ BadOrder) × IsNumberTaken t number)
 
 -- what a call can answer that changes the tree, and what it leaves then

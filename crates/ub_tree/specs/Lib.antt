@@ -12,5 +12,6 @@ pub mod Change
 pub mod Closing
 pub mod Opened
 pub mod Others
+pub mod Holding
 pub mod Removal
 pub mod Laws

@@ -6,6 +6,7 @@ ghost use Rattle.ub_store.specs.Facts as facts;
 ghost use Rattle.ub_table.specs.Region.{Region, IsRegion};
 ghost use Rattle.ub_tree.specs.Change.{IsStored, IsSeatIn, IsSeatThere, IsElsewhereSame};
 ghost use Rattle.ub_tree.specs.Effects.{Searches, Changes};
+ghost use Rattle.ub_tree.specs.Holding.{AnswersRemoval};
 ghost use Rattle.ub_tree.specs.Removal.{IsRemoved, IsNotFull};
 ghost use Rattle.ub_tree.specs.View.{IsSound, regions};
 
@@ -145,6 +146,8 @@ impl<S: PageStore> Tree<S> {
             → IfOk result (λ found. IsRemoved key found self.old self.new) }
         ensures untouched { IfOk result (λ found. found ≡ false → self.new ≡ self.old) }
         ensures failed { IsTrue self.old.is_failed → result ≡ Err TreeFault.Failed }
+        ensures refused { self.old.is_failed ≡ false → facts.IsHonest self.old.store
+            → AnswersRemoval self.old key result }
         ensures effect { Changes self.old self.new result }
         ensures not_full { IfErr result IsNotFull }
     {
@@ -163,6 +166,7 @@ impl<S: PageStore> Tree<S> {
         ensures removed { IsSound self.old
             → IfOk result (λ found. IsRemoved key.now found self.old self.new) }
         ensures untouched { IfOk result (λ found. found ≡ false → self.new ≡ self.old) }
+        ensures refused { facts.IsHonest self.old.store → AnswersRemoval self.old key.now result }
         ensures effect { Changes self.old self.new result }
         ensures not_full { IfErr result IsNotFull }
     {
