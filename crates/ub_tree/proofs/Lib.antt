@@ -17,3 +17,4 @@ pub mod WalkFacts
 pub mod CloseFacts
 pub mod OpenedFacts
 pub mod HoldingFacts
+pub mod ChangedFacts

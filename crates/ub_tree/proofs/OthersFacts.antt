@@ -1,16 +1,18 @@
 -- Which pages a change leaves as they are.
-use Rattle.std.proofs.Common.{◌≡◌, ◌≢◌, ◌<◌, ◌≤◌, ◌⊎◌, inl, inr, ℕ, zero, suc, Bool, List, [], ◌∷◌, Some, length, ◌∙◌, sym, ap, arith, refl, slice_get}
+use Rattle.std.proofs.Common.{◌≡◌, ◌≢◌, ◌<◌, ◌≤◌, ◌+◌, ◌⊎◌, inl, inr, ℕ, zero, suc, Bool, List, [], ◌∷◌, Some, length, ◌∙◌, sym, ap, arith, refl, subst, slice_get}
+use Rattle.std.specs.List.{insert}
 use Rattle.ub_page.specs.declared.directory.Entry.{Entry}
 use Rattle.ub_store.specs.Facts.{StoreFacts, IsHonest, MayFlush}
 use Rattle.ub_store.specs.View.{PagerView}
+use Rattle.ub_table.specs.declared.row.Key.{Key}
 use Rattle.ub_table.specs.declared.schema.Schema.{Schema}
 use Rattle.ub_directory.specs.Writing.{IsOther, KeepsBut, SameBut}
-use Rattle.ub_tree.specs.Others.{AreOthersKept, KeepsOthers, WritesOneRegion}
-use Rattle.ub_tree.specs.Placed.{placed_of}
+use Rattle.ub_tree.specs.Others.{AddsEntry, AreOthersKept, KeepsAllBut, KeepsEntries, KeepsOthers, WritesOneRegion}
+use Rattle.ub_tree.specs.Placed.{Placed, placed_of}
 use Rattle.ub_tree.specs.Tree.{known_pages, tree_view}
 use Rattle.ub_tree.specs.View.{TreeView}
 use Rattle.ub_tree.proofs.StoredFacts.{numbers_of}
-use Rattle.ub_tree.proofs.TreeFacts.{contained_at}
+use Rattle.ub_tree.proofs.TreeFacts.{contained_at, entries_back, placed_at, placed_get}
 
 pub numbers_get : (schema : Schema) (pages : List (List ℕ)) (entries : List Entry) (i : ℕ) (e : Entry) → slice_get entries i ≡ Some e → slice_get (numbers_of (placed_of schema pages entries)) i ≡ Some e.page
 numbers_get schema pages [] i e at = cc
@@ -64,4 +66,29 @@ one_region_of schema entries chain next rows changed failed old index e new at o
   e.page,
   inr (contained_at (λ (_ : ℕ). Unit {0}) (numbers_of (placed_of schema (known_pages old.store) entries)) index e.page (numbers_get schema (known_pages old.store) entries index e at)),
   others,
+)
+
+-- the page of the region at an index is its entry's
+pub kept_at : (schema : Schema) (entries : List Entry) (chain : List ℕ) (next rows : ℕ) (changed failed : Bool) (old : PagerView) (index : ℕ) (e : Entry) (new : TreeView)
+    → slice_get entries index ≡ Some e → KeepsOthers e.page old.store new.store → KeepsAllBut index (tree_view schema entries chain next rows changed failed old) new
+kept_at schema entries chain next rows changed failed old index e new at others p there =
+    let here = placed_get schema (known_pages old.store) entries index e at in
+    let same : placed_at schema (known_pages old.store) e ≡ p = cc in
+    subst (λ (q : Placed). KeepsOthers q.page old.store new.store) same others
+
+-- the directory of a tree whose entries stay
+pub entries_stay : (schema : Schema) (entries : List Entry) (chain : List ℕ) (next rows : ℕ) (changed now_changed failed now_failed : Bool) (old new : PagerView) → length new.store.pages ≡ length old.store.pages
+    → KeepsEntries (tree_view schema entries chain next rows changed failed old) (tree_view schema entries chain next rows now_changed now_failed new)
+entries_stay schema entries chain next rows changed now_changed failed now_failed old new count =
+    (entries_back schema (known_pages new.store) entries ∙ sym (entries_back schema (known_pages old.store) entries), count)
+
+pub entries_grow : (schema : Schema) (entries : List Entry) (chain : List ℕ) (next rows : ℕ) (changed now_changed failed now_failed : Bool) (old new : PagerView) (index : ℕ) (first : Key) (page : ℕ)
+    → page ≡ length old.store.pages → length new.store.pages ≡ length old.store.pages + 1
+    → AddsEntry index (tree_view schema entries chain next rows changed failed old) (tree_view schema (insert entries (index + 1) (record { first = first; page = page })) chain next rows now_changed now_failed new)
+entries_grow schema entries chain next rows changed now_changed failed now_failed old new index first page is count = (
+  first,
+  entries_back schema (known_pages new.store) (insert entries (index + 1) (record { first = first; page = page }))
+      ∙ ap (λ (n : ℕ). insert entries (index + 1) (record { first = first; page = n })) is
+      ∙ ap (λ (es : List Entry). insert es (index + 1) (record { first = first; page = length old.store.pages })) (sym (entries_back schema (known_pages old.store) entries)),
+  count,
 )

@@ -24,7 +24,7 @@ use Rattle.ub_directory.specs.Searching.{Searches as Looks}
 use Rattle.ub_directory.specs.Writing.{KeepsBut, put_store}
 use Rattle.ub_tree.specs.Effects.{written_store, IsMarkedFirst, Leaves, HasEnded, IsLeft, Works, Changes, Searches}
 use Rattle.ub_tree.specs.Faults.{tree_fault}
-use Rattle.ub_tree.specs.Others.{KeepsOthers, WritesOneRegion}
+use Rattle.ub_tree.specs.Others.{KeepsAllBut, KeepsEntries, KeepsOthers, WritesOneRegion}
 use Rattle.ub_tree.specs.Tree.{known_pages, tree_view}
 use Rattle.ub_tree.specs.Placed.{Placed, ArePlaced, placed_of, regions_in, entry_of}
 use Rattle.ub_directory.specs.Chain.{IsChain}
@@ -276,8 +276,8 @@ pub record Wrote {T : Type 0} (old new : TreeView) (result : Result T TreeFault)
   pub done : OnOk result (new.is_failed ≡ old.is_failed)
   pub faults : IfErr result (IsWriteFault old new)
 
-pub writes_one : {T : Type 0} (r : Result T TreeFault) (old new : TreeView) → Wrote old new r → WritesOneRegion old new → Writes old new r
-writes_one r old new w others = record { frame = w.frame; marked = w.marked; done = w.done; faults = w.faults; others = others }
+pub writes_one : {T : Type 0} (r : Result T TreeFault) (index : ℕ) (old new : TreeView) → Wrote old new r → WritesOneRegion old new → KeepsEntries old new → KeepsAllBut index old new → Writes index old new r
+writes_one r index old new w others entries kept = record { frame = w.frame; marked = w.marked; done = w.done; faults = w.faults; others = others; entries = entries; kept = kept }
 
 -- a tree whose pages were written, with this directory now
 module _ (schema : Schema) (entries later : List Entry) (chain : List ℕ) (next rows : ℕ) (changed now_changed failed now_failed : Bool) (old new : PagerView) where
@@ -486,8 +486,8 @@ pub same_leaves : (a : TreeView) → Leaves a a
 same_leaves a = record { same = refl; entries = refl; more = omega arith; pages = λ honest m lt. refl; flushed = inl refl; sound = λ sound. (refl, sound) }
 
 -- a call that only writes is a change
-pub changed_by : {T : Type 0} (r : Result T TreeFault) (a c : TreeView) → Writes a c r → Changes a c r
-changed_by r a c w = grown_then a a c (same_leaves a) r (record { frame = w.frame; marked = w.marked; done = w.done; faults = w.faults }) w.others
+pub changed_by : {T : Type 0} (r : Result T TreeFault) (index : ℕ) (a c : TreeView) → Writes index a c r → Changes a c r
+changed_by r index a c w = grown_then a a c (same_leaves a) r (record { frame = w.frame; marked = w.marked; done = w.done; faults = w.faults }) w.others
 
 -- a refusal after which all is as it was
 pub unchanged : {T : Type 0} (e : TreeFault) (a : TreeView) → IsLeft a a e → Changes {A = T} a a (Err e)
@@ -521,8 +521,8 @@ searched_by (Err f) e a c is h =
       left = searched_left e a c (record { same = h.same; faults = h.faults });
     })
 
-pub changes_by : {T U : Type 0} (r : Result T TreeFault) (e : TreeFault) (a c : TreeView) → IsErrAnd r (λ x. x ≡ e) → Writes {A = U} a c (Err e) → Changes a c r
-changes_by r e a c is w = left_by r e a c is (changed_by {T = TreeFault} (Err e) a c (record { frame = w.frame; marked = w.marked; done = tt; faults = w.faults; others = w.others }))
+pub changes_by : {T U : Type 0} (r : Result T TreeFault) (e : TreeFault) (index : ℕ) (a c : TreeView) → IsErrAnd r (λ x. x ≡ e) → Writes {A = U} index a c (Err e) → Changes a c r
+changes_by r e index a c is w = left_by r e a c is (changed_by {T = TreeFault} (Err e) index a c (record { frame = w.frame; marked = w.marked; done = tt; faults = w.faults; others = w.others; entries = w.entries; kept = w.kept }))
 
 -- a change after which rows are counted, or a region is dropped
 pub counted_anew : {T U : Type 0} (x : T) (y : U) (a mid d : TreeView) (placed : List Placed) (rows next : ℕ) → d ≡ record mid { placed = placed; rows = rows; next = next }

@@ -9,10 +9,11 @@ ghost use Rattle.ub_store.specs.View.{SameTrace};
 ghost use Rattle.ub_table.specs.Keys.{AreKeysAscending, is_same};
 ghost use Rattle.ub_table.specs.Region.{Region, IsRegion, key_of, keys_of, measures_of};
 ghost use Rattle.ub_tree.specs.Change as spec;
-ghost use Rattle.ub_tree.specs.Change.{AreRowsAt, IsStored, IsSeatIn, IsSeatThere, IsElsewhereSame, IsOnSeat, placed_with, IsInserted, IsSplitAt, HasRoom, IsExtensionFault, PutsAt, PutsRows, StoresRows, Writes};
+ghost use Rattle.ub_tree.specs.Change.{AreRowsAt, IsStored, IsSeatIn, IsSeatThere, IsElsewhereSame, IsOnSeat, placed_with, IsInserted, IsSplitAt, HasRoom, IsExtensionFault, PutsAt, PutsRows, StoresAt, StoresRows, Writes};
 ghost use Rattle.ub_tree.specs.Effects.{Searches, Changes};
-ghost use Rattle.ub_tree.specs.Holding.{AnswersKey, AnswersRow};
+ghost use Rattle.ub_tree.specs.Holding.{AnswersKey, AnswersRow, index_for};
 ghost use Rattle.ub_tree.specs.Opened.{IsPassing};
+ghost use Rattle.ub_tree.specs.Others.{GrowsAt};
 ghost use Rattle.ub_tree.specs.Placed.{Placed, entry_of};
 ghost use Rattle.ub_writing.specs.Marks.{IsMarkPage};
 ghost use Rattle.ub_writing.specs.Puts.{Puts};
@@ -145,7 +146,7 @@ impl<S: PageStore> Tree<S> {
             } ∷ []) self.old.placed)) }
         ensures count { length self.new.placed ≡ length self.old.placed }
         ensures faults { IfErr result (λ fault. fault ≡ TreeFault.Store StoreFault.Device) }
-        ensures effect { Writes self.old self.new result }
+        ensures effect { Writes seat.now.index self.old self.new result }
     {
         write_region(&self.schema, seat.first(), rows, &mut drafts.page);
         self.put_page(seat, drafts)
@@ -171,7 +172,7 @@ impl<S: PageStore> Tree<S> {
         ensures written { PutsRows seat.now page.now self.old self.new result }
         ensures count { length self.new.placed ≡ length self.old.placed }
         ensures faults { IfErr result (λ fault. fault ≡ TreeFault.Store StoreFault.Device) }
-        ensures effect { Writes self.old self.new result }
+        ensures effect { Writes seat.now.index self.old self.new result }
     {
         match write_page(
             &mut self.pager,
@@ -215,7 +216,8 @@ impl<S: PageStore> Tree<S> {
         requires seat { IsSeatThere self.old seat.now }
         requires room { HasRoom seat.now.index halves.now.first self.old }
         requires few { (length halves.now.left.now ≤ 64) × (length halves.now.right.now ≤ 64) }
-        ensures same { OnOk result (IsElsewhereSame self.old self.new) }
+        ensures same { OnOk result (StoresAt seat.now.index self.old.schema.page_rows
+            self.old self.new) }
         ensures written { IsStored self.old → (p : Placed)
             → slice_get self.old.placed seat.now.index ≡ Some p
             → IsRegion self.old.schema (record { first = p.region.first; rows = halves.now.left.now })
@@ -278,7 +280,8 @@ impl<S: PageStore> Tree<S> {
             < length (insert_row self.old.schema.dims row.now room.old.region.region.rows)
             → HasRoom seat.now.index (split self.old.schema.dims self.old.schema.page_rows
             (insert_row self.old.schema.dims row.now room.old.region.region.rows)).first self.old }
-        ensures same { OnOk result (IsElsewhereSame self.old self.new) }
+        ensures same { OnOk result (StoresAt seat.now.index
+            (length room.old.region.region.rows) self.old self.new) }
         ensures written { StoresRows seat.now.index
             (insert_row self.old.schema.dims row.now room.old.region.region.rows)
             self.old self.new result }
@@ -311,7 +314,8 @@ impl<S: PageStore> Tree<S> {
         requires room { HasRoom seat.now.index (split self.old.schema.dims
             self.old.schema.page_rows
             (insert room.old.region.region.rows index row.now)).first self.old }
-        ensures same { OnOk result (IsElsewhereSame self.old self.new) }
+        ensures same { OnOk result (StoresAt seat.now.index self.old.schema.page_rows
+            self.old self.new) }
         ensures written { StoresRows seat.now.index
             (insert room.old.region.region.rows index row.now) self.old self.new result }
         ensures most { length self.old.placed ≡ 4294967295
@@ -330,7 +334,8 @@ impl<S: PageStore> Tree<S> {
         requires over { length rows.now ≡ self.old.schema.page_rows + 1 }
         requires room { HasRoom seat.now.index
             (split self.old.schema.dims self.old.schema.page_rows rows.now).first self.old }
-        ensures same { OnOk result (IsElsewhereSame self.old self.new) }
+        ensures same { OnOk result (StoresAt seat.now.index self.old.schema.page_rows
+            self.old self.new) }
         ensures written { StoresRows seat.now.index rows.now self.old self.new result }
         ensures most { length self.old.placed ≡ 4294967295
             → result ≡ Err (TreeFault.Page 0 PageFault.BadCount) }
@@ -355,7 +360,9 @@ impl<S: PageStore> Tree<S> {
             (spec.row_of n dims.now measures.now) self.old self.new) }
         ensures number { IfOk result (λ n. n ≡ self.old.next) }
         ensures counted { OnOk result ((self.new.next ≡ self.old.next + 1)
-            × (self.new.rows ≡ self.old.rows + 1) × (self.new.is_failed ≡ false)) }
+            × (self.new.rows ≡ self.old.rows + 1) × (self.new.is_failed ≡ false)
+            × GrowsAt (index_for self.old (key_of self.old.schema.dims
+            (spec.row_of self.old.next dims.now measures.now))) self.old self.new) }
         ensures failed { IsTrue self.old.is_failed → result ≡ Err TreeFault.Failed }
         ensures refused { self.old.is_failed ≡ false → AnswersRow self.old
             (key_of self.old.schema.dims (spec.row_of self.old.next dims.now measures.now)) result }
@@ -388,7 +395,9 @@ impl<S: PageStore> Tree<S> {
             (spec.row_of n dims.now measures.now) self.old self.new) }
         ensures number { IfOk result (λ n. n ≡ self.old.next) }
         ensures counted { OnOk result ((self.new.next ≡ self.old.next + 1)
-            × (self.new.rows ≡ self.old.rows + 1) × (self.new.is_failed ≡ false)) }
+            × (self.new.rows ≡ self.old.rows + 1) × (self.new.is_failed ≡ false)
+            × GrowsAt (index_for self.old (key_of self.old.schema.dims
+            (spec.row_of self.old.next dims.now measures.now))) self.old self.new) }
         ensures refused { facts.IsHonest self.old.store → AnswersKey self.old
             (key_of self.old.schema.dims (spec.row_of self.old.next dims.now measures.now)) result }
         ensures effect { Changes self.old self.new result }

@@ -1,11 +1,13 @@
-use Rattle.std.proofs.Common.{◌≡◌, ◌≢◌, ◌<◌, ◌+◌, ◌^◌, ◌∙◌, ℕ, Ok, Err, sym, ap, subst, length, arith, inr, map, refl, true, false, Some, slice_get, List, rules}
+use Rattle.std.proofs.Common.{◌≡◌, ◌≢◌, ◌<◌, ◌≤◌, ◌+◌, ◌^◌, ◌∙◌, ℕ, Ok, Err, sym, ap, subst, length, arith, inr, map, refl, true, false, Some, slice_get, List, rules}
 use Rattle.std.specs.List.{list_any}
 use Rattle.ub_page.specs.declared.directory.Entry.{Entry}
 use Rattle.ub_table.specs.Region.{Region, key_of, keys_of}
 use Rattle.ub_table.specs.declared.row.Row.{Row}
 use Rattle.ub_tree.specs.Change.{AreRowsAt, IsInserted, row_of}
 use Rattle.ub_tree.specs.Effects.{Changes, IsNumberTaken}
-use Rattle.ub_tree.specs.Holding.{AnswersKey}
+use Rattle.ub_tree.specs.Holding.{AnswersKey, index_for}
+use Rattle.ub_tree.specs.Others.{GrowsAt}
+use Rattle.ub_tree.proofs.ChangedFacts.{grows_by}
 use Rattle.ub_tree.proofs.HoldingFacts.{key_is_there, key_isnt_there, next_key, other_fault, unread_key}
 use Rattle.ub_tree.specs.Tree.{known_pages, tree_view}
 use Rattle.ub_tree.proofs.CallFacts.{entries_are, same_seat, same_there, seated}
@@ -102,7 +104,7 @@ returns-clause-inserted g c =
     let after = c.store_with.new.self in
     let u = c.self-2.inside in
     let d : TreeView = tree_view u.schema u.directory.entries u.directory.chain (u.next + 1) (u.rows + 1) u.is_changed u.is_failed u.pager in
-    let stored = c.in_ok-store_with.ensures.same in
+    let stored = c.in_ok-store_with.ensures.same.same in
     let not_last : a.next ≢ 16777216 = c.requires.able.1 in
     let few : length after.placed < 2 ^ 32 = (let most = c.self-2.invariant.few in subst (λ (v : TreeView). length v.placed < 2 ^ 32) c.self-2.view_is
     (let long = length-placed u.schema (known_pages u.pager.store) u.directory.entries in omega arith)) in
@@ -170,7 +172,19 @@ pub invariant_of-self : goal.invariant_of-self
 invariant_of-self g c = search rules
 
 pub returns-clause-counted : goal.returns-clause-counted
-returns-clause-counted g c = search rules
+returns-clause-counted g c =
+    let a = c.args.self.now in
+    let b = c.read_at.new.self in
+    let same : b ≡ a = c.in_ok-read_at.ensures.effect.same ∙ c.in_ok-seat.ensures.effect.same in
+    let after = c.store_with.new.self in
+    let u = c.self-2.inside in
+    let d : TreeView = tree_view u.schema u.directory.entries u.directory.chain (u.next + 1) (u.rows + 1) u.is_changed u.is_failed u.pager in
+    let is = next_key _ a c.args.dims.now c.args.measures.now c.shape.result c.row_of-row.result c.key-key.result c.self.view_is c.shape.ensures c.row_of-row.ensures.row c.key-key.ensures in
+    let read = subst (λ (v : TreeView). IsHonest v.store → (p : Placed) → slice_get v.placed c.in_ok-seat.seat.index ≡ Some p → c.read_at.new.region.region.rows ≡ p.region.rows) (sym c.in_ok-read_at.ensures.effect.same) c.in_ok-read_at.ensures.rows in
+    let few = subst (λ (v : TreeView). length c.read_at.new.region.region.rows ≤ v.schema.page_rows) (sym c.in_ok-read_at.ensures.effect.same) c.in_ok-read_at.ensures.few in
+    let grows = grows_by a b after d same (ap (λ (v : TreeView). v.placed) c.self-2.view_is) (ap (λ (v : TreeView). v.store) c.self-2.view_is) c.in_ok-seat.seat.index c.read_at.new.region.region.rows
+    c.in_ok-store_with.ensures.same few read in
+    (search rules, search rules, search rules, subst (λ (i : ℕ). GrowsAt i a d) (c.in_ok-seat.ensures.index ∙ ap (index_for a) is) grows)
 
 pub returns-in_err-read_at-clause-refused : goal.returns-in_err-read_at-clause-refused
 returns-in_err-read_at-clause-refused g c =

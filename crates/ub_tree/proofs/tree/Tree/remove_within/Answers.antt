@@ -9,6 +9,8 @@ use Rattle.ub_tree.specs.Placed.{Placed}
 use Rattle.ub_tree.specs.Tree.{known_pages, tree_view}
 use Rattle.ub_tree.specs.View.{TreeView}
 use Rattle.ub_tree.proofs.ShrinkFacts.{holder, none_removed, some_counted, shrunk}
+use Rattle.ub_tree.specs.Others.{ShrinksAt}
+use Rattle.ub_tree.proofs.ChangedFacts.{shrinks_by}
 use Rattle.ub_tree.proofs.CallFacts.{same_seat, same_there}
 use Rattle.ub_tree.proofs.HoldingFacts.{no_answer, removal_answers, unread_removal}
 use Rattle.ub_tree.proofs.TreeFacts.{length-placed}
@@ -100,7 +102,7 @@ returns-clause-removed g c =
     let d : TreeView = tree_view u.schema u.directory.entries u.directory.chain u.next (u.rows - 1) u.is_changed u.is_failed u.pager in
     let few : length after.placed < 2 ^ 32 = (let most = c.self-2.invariant.few in subst (λ (v : TreeView). length v.placed < 2 ^ 32) c.self-2.view_is
     (let long = length-placed u.schema (known_pages u.pager.store) u.directory.entries in omega arith)) in
-    shrunk a b after d key c.in_ok-seat.seat.index rows held same found c.in_ok-settle.ensures.same c.in_ok-settle.ensures.effect.marked.marked few
+    shrunk a b after d key c.in_ok-seat.seat.index rows held same found c.in_ok-settle.ensures.same.same c.in_ok-settle.ensures.effect.marked.marked few
     (ap (λ (v : TreeView). record v { rows = v.rows - 1 }) c.self-2.view_is) (rw left at c.in_ok-settle.ensures.written)
 
 pub returns-in_err-rows_at-clause-refused : goal.returns-in_err-rows_at-clause-refused
@@ -150,3 +152,20 @@ returns-clause-refused g c =
     let found : has_key a.schema.dims c.args.key.now rows ≡ true = rw (← dims) (sym c.remove.ensures.found ∙ c.if-not-remove.false) in
     removal_answers a c.seat_of.new.self c.args.key.now c.in_ok-seat.seat c.in_ok-seat.ensures.effect.same c.in_ok-seat.ensures.seat c.in_ok-seat.ensures.index rows c.in_ok-rows_at.ensures.taken
     (Ok true) (λ has zero. absurd (omega arith)) (sym found)
+
+pub returns-clause-counted : goal.returns-clause-counted
+returns-clause-counted g c = λ _.
+    let a = c.args.self.now in
+    let same : c.rows_at.new.self ≡ a = c.in_ok-rows_at.ensures.effect.same ∙ c.in_ok-seat.ensures.effect.same in
+    let after = c.settle.new.self in
+    let u = c.self-2.inside in
+    let d : TreeView = tree_view u.schema u.directory.entries u.directory.chain u.next (u.rows - 1) u.is_changed u.is_failed u.pager in
+    let shrinks = shrinks_by a c.rows_at.new.self after d same (ap (λ (v : TreeView). v.placed) c.self-2.view_is) (ap (λ (v : TreeView). v.store) c.self-2.view_is) c.in_ok-seat.seat.index c.in_ok-settle.ensures.same.shrunk in
+    let stored = c.in_ok-settle.ensures.same.same in
+    let rows : u.rows ≡ a.rows = ap (λ (v : TreeView). v.rows) c.self-2.view_is ∙ ap (λ (v : TreeView). v.rows) stored ∙ ap (λ (v : TreeView). v.rows) same in
+    let some = c.if-self-eq0.false in
+    let counts = ap (λ (v : TreeView). v.rows) (c.self.view_is ∙ same) in (
+      ap (λ (v : TreeView). v.next) c.self-2.view_is ∙ ap (λ (v : TreeView). v.next) stored ∙ ap (λ (v : TreeView). v.next) same,
+      omega arith,
+      subst (λ (i : ℕ). ShrinksAt i a d) c.in_ok-seat.ensures.index shrinks,
+    )
