@@ -1,5 +1,5 @@
 -- The region that a key falls into, and what calls must answer.
-use Rattle.std.proofs.Common.{◌≡◌, ◌<◌, ◌^◌, ◌++◌, inl, inr, ℕ, suc, Bool, true, false, List, [], ◌∷◌, Some, Result, Ok, Err, MatchResult, length, map, ◌∙◌, sym, ap, subst, refl, arith, nat_eq, slice_get, IfOk, ℤ}
+use Rattle.std.proofs.Common.{◌≡◌, ◌<◌, ◌^◌, ◌++◌, inl, inr, ℕ, suc, Bool, true, false, List, [], ◌∷◌, Some, Result, Ok, Err, IfErr, MatchResult, length, map, ◌∙◌, sym, ap, subst, refl, arith, nat_eq, slice_get, IfOk, ℤ}
 use Rattle.std.proofs.lemmas.Bool.{cases_Bool, eqb-true}
 use Rattle.std.proofs.lemmas.List.{length-append, length-map}
 use Rattle.std.proofs.lemmas.Map.Steps.{length-le_from_distinct_below}
@@ -11,6 +11,7 @@ use Rattle.ub_store.specs.Facts.{IsHonest, page_count}
 use Rattle.ub_store.specs.declared.fault.StoreFault.{StoreFault}
 use Rattle.ub_region.specs.Rows.{has_key}
 use Rattle.ub_table.specs.Region.{Region, key_of}
+use Rattle.ub_table.specs.declared.fault.PageFault.{PageFault}
 use Rattle.ub_table.specs.declared.fault.PageFault.TheVariants.{BadCount, BadOrder}
 use Rattle.ub_table.specs.declared.row.Row.{Row}
 use Rattle.ub_table.specs.declared.row.Key.{Key}
@@ -19,6 +20,7 @@ use Rattle.ub_tree.specs.Faults.{tree_fault}
 use Rattle.ub_tree.specs.Holding.{Answers, AnswersKey, AnswersRemoval, FallsInto, index_for}
 use Rattle.ub_tree.specs.Opened.{IsPassing}
 use Rattle.ub_tree.specs.Placed.{Placed, entry_of}
+use Rattle.ub_tree.specs.Removal.{IsRemovalFault}
 use Rattle.ub_tree.specs.Spans.{first_keys}
 use Rattle.ub_tree.specs.View.{TreeView, IsSound}
 use Rattle.ub_tree.specs.declared.fault.TreeFault.{TreeFault}
@@ -79,6 +81,15 @@ passing_answers : {A : Type 0} (r : Result A TreeFault) (e told : TreeFault) →
 passing_answers (Ok x) e told is h = absurd is
 passing_answers (Err f) e told is h = rw is (inr h)
 
+passing_no_page : {A : Type 0} (r : Result A TreeFault) (e : TreeFault) (page : ℕ) (fault : PageFault) → IsErrAnd r (λ x. x ≡ e) → IsPassing e → r ≡ Err (Page page fault) → ⊥
+passing_no_page (Ok x) e page fault is h same = is
+passing_no_page (Err f) e page fault is (inl memory) same = cc
+passing_no_page (Err f) e page fault is (inr device) same = cc
+
+passing_fault : {A : Type 0} (r : Result A TreeFault) (e : TreeFault) → IsErrAnd r (λ x. x ≡ e) → IsPassing e → IfErr r IsPassing
+passing_fault (Ok x) e is h = tt
+passing_fault (Err f) e is h = rw is h
+
 pub fault_answers : {A : Type 0} (r : Result A TreeFault) (told : TreeFault) → IsErrAnd r (λ x. x ≡ told) → Answers r told
 fault_answers (Ok x) told is = absurd is
 fault_answers (Err f) told is = inl is
@@ -86,6 +97,14 @@ fault_answers (Err f) told is = inl is
 pub other_fault : {A : Type 0} (U : Type 0) (r : Result A TreeFault) (e told : TreeFault) (s q : Result U TreeFault) → s ≡ Err e → q ≡ Err told → IsErrAnd r (λ x. x ≡ e) → s ≡ q → IsErrAnd r (λ x. x ≡ told)
 other_fault U (Ok x) e told s q is_s is_q is same = absurd is
 other_fault U (Err f) e told s q is_s is_q is same = let one : e ≡ told = cc in is ∙ one
+
+pub told_as : {A : Type 0} (r : Result A TreeFault) (e told : TreeFault) → IsErrAnd r (λ x. x ≡ e) → r ≡ Err told → e ≡ told
+told_as (Ok x) e told is same = absurd is
+told_as (Err f) e told is same = let one : f ≡ told = cc in sym is ∙ one
+
+pub removal_fault : {A : Type 0} (r : Result A TreeFault) (e : TreeFault) (a b : TreeView) → IsErrAnd r (λ x. x ≡ e) → b ≡ a → IsRemovalFault b e → IfErr r (IsRemovalFault a)
+removal_fault (Ok x) e a b is same h = tt
+removal_fault (Err f) e a b is same h = rw is (subst (λ (v : TreeView). IsRemovalFault v e) same h)
 
 pub no_answer : {A : Type 0} (r : Result A TreeFault) (e : TreeFault) (P : A → Type 0) → IsErrAnd r (λ x. x ≡ e) → IfOk r P
 no_answer (Ok x) e P is = absurd is
@@ -104,36 +123,42 @@ module _ (a b : TreeView) (key : Key) (seat : SeatView) (same : b ≡ a) (stands
   unread_key r e told taken honest page region falls =
       let on = falls_on honest page region falls in
       let passing = taken on.0 region on.1 in
-      (λ has. passing_answers r e _ told passing, λ none full many. passing_answers r e _ told passing)
+      (λ has. passing_answers r e _ told passing, λ none full many. passing_answers r e _ told passing, λ none number fault same. absurd (passing_no_page r e number fault told passing same))
 
   pub unread_removal : (r : Result Bool TreeFault) (e : TreeFault) → IsErrAnd r (λ x. x ≡ e) → (IsHonest b.store → (q : Region) → IsOnSeat b seat q → IsPassing e)
       → IsHonest a.store → AnswersRemoval a key r
   unread_removal r e told taken honest page region falls =
       let on = falls_on honest page region falls in
-      (λ has none. passing_answers r e _ told (taken on.0 region on.1), no_answer r e _ told)
+      let passing = taken on.0 region on.1 in
+      (λ has none. passing_answers r e _ told passing, λ none. passing_fault r e told passing, no_answer r e _ told)
 
   module _ (rows : List Row) (taken : IsHonest b.store → (q : Region) → IsOnSeat b seat q → rows ≡ q.rows) where
     pub key_is_there : (A : Type 0) (number : ℕ) → number ≡ seat.page → has_key a.schema.dims key rows ≡ true → IsHonest a.store → AnswersKey {A = A} a key (Err (Page number BadOrder))
-    key_is_there A number at there honest page region falls =
-        let on = falls_on honest page region falls in
+    key_is_there A number at there honest there_page region falls =
+        let on = falls_on honest there_page region falls in
         let read = taken on.0 region on.1 in
         let here : has_key a.schema.dims key region.rows ≡ true = rw (← read) there in
-        (λ has. inl (ap (λ (n : ℕ). Page n BadOrder) (at ∙ on.2)), λ none full many. absurd (let bad : true ≡ false = sym here ∙ none in cc))
+        (λ has. inl (ap (λ (n : ℕ). Page n BadOrder) (at ∙ on.2)), λ none full many. absurd (let bad : true ≡ false = sym here ∙ none in cc), λ none page fault is. absurd (let bad : true ≡ false = sym here ∙ none in cc))
 
     pub key_isnt_there : {A : Type 0} (r : Result A TreeFault) → has_key a.schema.dims key rows ≡ false
-        → (length rows ≡ a.schema.page_rows → length a.placed ≡ 4294967295 → IsErrAnd r (λ x. x ≡ Page 0 BadCount)) → IsHonest a.store → AnswersKey a key r
-    key_isnt_there r none most honest page region falls =
-        let on = falls_on honest page region falls in
+        → (length rows ≡ a.schema.page_rows → length a.placed ≡ 4294967295 → IsErrAnd r (λ x. x ≡ Page 0 BadCount))
+        → ((page : ℕ) (fault : PageFault) → r ≡ Err (Page page fault) → (length rows ≡ a.schema.page_rows) × (length a.placed ≡ 4294967295)) → IsHonest a.store → AnswersKey a key r
+    key_isnt_there r none most only honest number region falls =
+        let on = falls_on honest number region falls in
         let read = taken on.0 region on.1 in
-        let here : has_key a.schema.dims key region.rows ≡ false = rw (← read) none in
-        (λ has. absurd (let bad : true ≡ false = sym has ∙ here in cc), λ free full many. fault_answers r (Page 0 BadCount) (most (ap length read ∙ full) many))
+        let here : has_key a.schema.dims key region.rows ≡ false = rw (← read) none in (
+          λ has. absurd (let bad : true ≡ false = sym has ∙ here in cc),
+          λ free full many. fault_answers r (Page 0 BadCount) (most (ap length read ∙ full) many),
+          λ free page fault is. let where_full = only page fault is in (sym (ap length read) ∙ where_full.0, where_full.1),
+        )
 
     pub removal_answers : (r : Result Bool TreeFault) → (has_key a.schema.dims key rows ≡ true → a.rows ≡ 0 → IsErrAnd r (λ x. x ≡ Page 0 BadCount))
-        → IfOk r (λ found. found ≡ has_key a.schema.dims key rows) → IsHonest a.store → AnswersRemoval a key r
-    removal_answers r none found honest page region falls =
+        → (has_key a.schema.dims key rows ≡ false → IfErr r IsPassing) → IfOk r (λ found. found ≡ has_key a.schema.dims key rows) → IsHonest a.store → AnswersRemoval a key r
+    removal_answers r none passing found honest page region falls =
         let on = falls_on honest page region falls in
         let read = taken on.0 region on.1 in (
           λ has zero. fault_answers r (Page 0 BadCount) (none (rw read has) zero),
+          λ free. passing (rw read free),
           subst (λ (rs : List Row). IfOk r (λ found. found ≡ has_key a.schema.dims key rs)) read found,
         )
 

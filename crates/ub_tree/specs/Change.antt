@@ -21,7 +21,7 @@ use Rattle.ub_tree.specs.Placed.{Placed, ArePlaced, entry_of}
 use Rattle.ub_tree.specs.Tree.{IsHeldBy, tree_view}
 use Rattle.ub_tree.specs.View.{TreeView, IsSound, regions}
 use Rattle.ub_tree.specs.declared.fault.TreeFault.{TreeFault}
-use Rattle.ub_tree.specs.declared.fault.TreeFault.TheVariants.{Store}
+use Rattle.ub_tree.specs.declared.fault.TreeFault.TheVariants.{Memory, Store}
 use Rattle.ub_store.specs.declared.fault.StoreFault.TheVariants as store
 use Rattle.ub_directory.specs.Inner.{reserved}
 use Rattle.ub_directory.specs.Slots.{IsSeat}
@@ -98,6 +98,12 @@ pub record PutsAt {A : Type 0} (seat : SeatView) (page : List ℕ) (old new : Tr
   pub count : length new.placed ≡ length old.placed
   pub faults : IfErr result (λ fault. fault ≡ Store store.Device)
   pub effect : Writes seat.index old new result
+
+-- a fault of the store
+abbrev pub IsStoreFault : TreeFault → Type 0
+IsStoreFault Memory = Unit {0}
+IsStoreFault (Store fault) = Unit {0}
+IsStoreFault _ = ⊥
 
 -- what an extension of the store can answer a tree, and what it leaves of it then, whatever its other parts are
 abbrev pub IsExtensionFault : Bool → Bool → PagerView → PagerView → TreeFault → Type 0

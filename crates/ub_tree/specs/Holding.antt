@@ -1,10 +1,11 @@
 -- The region that a key falls into, on any tree, and what a change of it must answer.
-use Rattle.std.specs.Prelude.{◌≡◌, ◌≢◌, ◌+◌, ◌⊎◌, ℕ, Bool, true, false, Some, Result, Err, IfOk, length, map, slice_get}
+use Rattle.std.specs.Prelude.{◌≡◌, ◌≢◌, ◌+◌, ◌⊎◌, ℕ, Bool, true, false, Some, Result, Err, IfErr, IfOk, length, map, slice_get}
 use Rattle.std.specs.Result.{IsErrAnd}
 use Rattle.ub_region.specs.Regions.{index_holding}
 use Rattle.ub_region.specs.Rows.{has_key}
 use Rattle.ub_store.specs.Facts.{IsHonest}
 use Rattle.ub_table.specs.Region.{Region}
+use Rattle.ub_table.specs.declared.fault.PageFault.{PageFault}
 use Rattle.ub_table.specs.declared.fault.PageFault.TheVariants.{BadCount, BadOrder}
 use Rattle.ub_table.specs.declared.row.Key.{Key}
 use Rattle.ub_table.specs.declared.row.TheConstants.{MAX_ROW_NUMBER}
@@ -32,14 +33,22 @@ pub record FallsInto (t : TreeView) (key : Key) (page : ℕ) (region : Region) :
 abbrev pub Answers : {A : Type 0} → Result A TreeFault → TreeFault → Type 0
 Answers result fault = IsErrAnd result (λ told. (told ≡ fault) ⊎ IsPassing told)
 
+-- BadCount of the first page is answered where this is so, and no page is refused where it isn't
+abbrev pub CountsOut : {A : Type 0} → Type 0 → Result A TreeFault → Type 0
+CountsOut P result =
+    (P → result ≡ Err (Page 0 BadCount)) × ((page : ℕ) (fault : PageFault) → result ≡ Err (Page page fault) → P)
+
 -- what an insertion of a row with this key must answer: BadOrder of the page of the region that it falls into, where that has
--- the key; and BadCount of the first page where another region would be needed and there are as many as can be counted
+-- the key; and where it hasn't, no page is refused, unless another region would be needed and there are as many as can be
+-- counted: that is BadCount of the first page
 abbrev pub AnswersKey : {A : Type 0} → TreeView → Key → Result A TreeFault → Type 0
 AnswersKey t key result =
-    (page : ℕ) (region : Region) → FallsInto t key page region
-    → (has_key t.schema.dims key region.rows ≡ true → Answers result (Page page BadOrder))
+    (number : ℕ) (region : Region) → FallsInto t key number region
+    → (has_key t.schema.dims key region.rows ≡ true → Answers result (Page number BadOrder))
     × (has_key t.schema.dims key region.rows ≡ false → length region.rows ≡ t.schema.page_rows → length t.placed ≡ 4294967295
     → Answers result (Page 0 BadCount))
+    × (has_key t.schema.dims key region.rows ≡ false → (page : ℕ) (fault : PageFault) → result ≡ Err (Page page fault)
+    → (length region.rows ≡ t.schema.page_rows) × (length t.placed ≡ 4294967295))
 
 -- the same, and Full where the last number is given
 abbrev pub AnswersRow : {A : Type 0} → TreeView → Key → Result A TreeFault → Type 0
@@ -48,9 +57,10 @@ AnswersRow t key result =
     × (t.next ≢ MAX_ROW_NUMBER + 1 → IsHonest t.store → AnswersKey t key result)
 
 -- what a removal of the row with this key must answer: BadCount of the first page where the region that it falls into has it
--- and no row is counted; and whether that region has it
+-- and no row is counted; no refusal where it hasn't it; and whether it has it
 abbrev pub AnswersRemoval : TreeView → Key → Result Bool TreeFault → Type 0
 AnswersRemoval t key result =
-    (page : ℕ) (region : Region) → FallsInto t key page region
+    (number : ℕ) (region : Region) → FallsInto t key number region
     → (has_key t.schema.dims key region.rows ≡ true → t.rows ≡ 0 → Answers result (Page 0 BadCount))
+    × (has_key t.schema.dims key region.rows ≡ false → IfErr result IsPassing)
     × IfOk result (λ found. found ≡ has_key t.schema.dims key region.rows)

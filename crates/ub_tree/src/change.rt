@@ -9,9 +9,9 @@ ghost use Rattle.ub_store.specs.View.{SameTrace};
 ghost use Rattle.ub_table.specs.Keys.{AreKeysAscending, is_same};
 ghost use Rattle.ub_table.specs.Region.{Region, IsRegion, key_of, keys_of, measures_of};
 ghost use Rattle.ub_tree.specs.Change as spec;
-ghost use Rattle.ub_tree.specs.Change.{AreRowsAt, IsStored, IsSeatIn, IsSeatThere, IsElsewhereSame, IsOnSeat, placed_with, IsInserted, IsSplitAt, HasRoom, IsExtensionFault, PutsAt, PutsRows, StoresAt, StoresRows, Writes};
+ghost use Rattle.ub_tree.specs.Change.{AreRowsAt, IsStored, IsSeatIn, IsSeatThere, IsElsewhereSame, IsOnSeat, placed_with, IsInserted, IsSplitAt, HasRoom, IsExtensionFault, IsStoreFault, PutsAt, PutsRows, StoresAt, StoresRows, Writes};
 ghost use Rattle.ub_tree.specs.Effects.{Searches, Changes};
-ghost use Rattle.ub_tree.specs.Holding.{AnswersKey, AnswersRow, index_for};
+ghost use Rattle.ub_tree.specs.Holding.{AnswersKey, AnswersRow, CountsOut, index_for};
 ghost use Rattle.ub_tree.specs.Opened.{IsPassing};
 ghost use Rattle.ub_tree.specs.Others.{GrowsAt};
 ghost use Rattle.ub_tree.specs.Placed.{Placed, entry_of};
@@ -229,8 +229,7 @@ impl<S: PageStore> Tree<S> {
               first = halves.now.first;
               right = halves.now.right.now;
             }) self.old self.new) }
-        ensures most { length self.old.placed ≡ 4294967295
-            → result ≡ Err (TreeFault.Page 0 PageFault.BadCount) }
+        ensures counted { CountsOut (length self.old.placed ≡ 4294967295) result }
         ensures effect { Changes self.old self.new result }
     {
         if self.regions() == MAX_PAGES {
@@ -285,9 +284,8 @@ impl<S: PageStore> Tree<S> {
         ensures written { StoresRows seat.now.index
             (insert_row self.old.schema.dims row.now room.old.region.region.rows)
             self.old self.new result }
-        ensures most { length room.old.region.region.rows ≡ self.old.schema.page_rows
-            → length self.old.placed ≡ 4294967295
-            → result ≡ Err (TreeFault.Page 0 PageFault.BadCount) }
+        ensures counted { CountsOut ((length room.old.region.region.rows ≡ self.old.schema.page_rows)
+            × (length self.old.placed ≡ 4294967295)) result }
         ensures effect { Changes self.old self.new result }
     {
         let index = index_in(room.region.keys(), key);
@@ -318,8 +316,7 @@ impl<S: PageStore> Tree<S> {
             self.old self.new) }
         ensures written { StoresRows seat.now.index
             (insert room.old.region.region.rows index row.now) self.old self.new result }
-        ensures most { length self.old.placed ≡ 4294967295
-            → result ≡ Err (TreeFault.Page 0 PageFault.BadCount) }
+        ensures counted { CountsOut (length self.old.placed ≡ 4294967295) result }
         ensures effect { Changes self.old self.new result }
     {
         list_rows(&room.region, &mut room.rows);
@@ -337,8 +334,7 @@ impl<S: PageStore> Tree<S> {
         ensures same { OnOk result (StoresAt seat.now.index self.old.schema.page_rows
             self.old self.new) }
         ensures written { StoresRows seat.now.index rows.now self.old self.new result }
-        ensures most { length self.old.placed ≡ 4294967295
-            → result ≡ Err (TreeFault.Page 0 PageFault.BadCount) }
+        ensures counted { CountsOut (length self.old.placed ≡ 4294967295) result }
         ensures effect { Changes self.old self.new result }
     {
         let halves = rows.split(self.schema.shape(), self.schema.page_rows());
@@ -430,6 +426,7 @@ fn add_page<S: PageStore>(pager: &mut Pager<S>, is_failed: &mut bool) -> Result<
     }) }
     ensures working { OnOk result (is_failed.new ≡ is_failed.old) }
     ensures trace { SameTrace pager.old pager.new }
+    ensures stored { IfErr result IsStoreFault }
     ensures refused { IfErr result
         (IsExtensionFault is_failed.old is_failed.new pager.old pager.new) }
 {

@@ -8,7 +8,7 @@ ghost use Rattle.ub_tree.specs.Change.{IsStored, IsSeatIn, IsSeatThere, JoinsAt,
 ghost use Rattle.ub_tree.specs.Effects.{Searches, Changes};
 ghost use Rattle.ub_tree.specs.Holding.{AnswersRemoval, index_for};
 ghost use Rattle.ub_tree.specs.Others.{ShrinksAt};
-ghost use Rattle.ub_tree.specs.Removal.{IsRemoved, IsNotFull};
+ghost use Rattle.ub_tree.specs.Removal.{IsRemoved, IsRemovalFault};
 ghost use Rattle.ub_tree.specs.View.{IsSound, regions};
 
 use crate::fault::TreeFault;
@@ -49,7 +49,7 @@ impl<S: PageStore> Tree<S> {
             → OnOk result (IsStored self.new
             × (regions self.new ≡ put_rows seat.now.index true rows.now (regions self.old))) }
         ensures effect { Changes self.old self.new result }
-        ensures not_full { IfErr result IsNotFull }
+        ensures faults { IfErr result (IsRemovalFault self.old) }
     {
         let dropping = self.prepare_drop(next)?;
         self.rewrite(seat, rows, drafts)?;
@@ -121,7 +121,7 @@ impl<S: PageStore> Tree<S> {
             × (regions self.new ≡ settle self.old.schema.page_rows seat.now.index
             (put_rows seat.now.index false room.old.rows (regions self.old)))) }
         ensures effect { Changes self.old self.new result }
-        ensures not_full { IfErr result IsNotFull }
+        ensures faults { IfErr result (IsRemovalFault self.old) }
     {
         if !room.rows.are_few(self.schema.page_rows()) {
             return self.rewrite(seat, room.rows.as_slice(), &mut room.drafts);
@@ -153,7 +153,7 @@ impl<S: PageStore> Tree<S> {
         ensures refused { self.old.is_failed ≡ false → facts.IsHonest self.old.store
             → AnswersRemoval self.old key result }
         ensures effect { Changes self.old self.new result }
-        ensures not_full { IfErr result IsNotFull }
+        ensures faults { IfErr result (IsRemovalFault self.old) }
     {
         if self.is_failed {
             return Err(TreeFault::Failed);
@@ -175,7 +175,7 @@ impl<S: PageStore> Tree<S> {
             × ShrinksAt (index_for self.old key.now) self.old self.new) }
         ensures refused { facts.IsHonest self.old.store → AnswersRemoval self.old key.now result }
         ensures effect { Changes self.old self.new result }
-        ensures not_full { IfErr result IsNotFull }
+        ensures faults { IfErr result (IsRemovalFault self.old) }
     {
         let seat = self.seat_of(key)?;
         self.rows_at(&seat, &mut room.region, &mut room.rows)?;

@@ -8,7 +8,7 @@ use Rattle.ub_tree.specs.Effects.{Changes, IsNumberTaken}
 use Rattle.ub_tree.specs.Holding.{AnswersKey, index_for}
 use Rattle.ub_tree.specs.Others.{GrowsAt}
 use Rattle.ub_tree.proofs.ChangedFacts.{grows_by}
-use Rattle.ub_tree.proofs.HoldingFacts.{key_is_there, key_isnt_there, next_key, other_fault, unread_key}
+use Rattle.ub_tree.proofs.HoldingFacts.{key_is_there, key_isnt_there, next_key, other_fault, told_as, unread_key}
 use Rattle.ub_tree.specs.Tree.{known_pages, tree_view}
 use Rattle.ub_tree.proofs.CallFacts.{entries_are, same_seat, same_there, seated}
 use Rattle.ub_tree.proofs.TreeFacts.{entries_back, length-placed, seat_placed}
@@ -24,6 +24,7 @@ use Rattle.ub_table.specs.Keys.{AreKeysAscending, is_same}
 use Rattle.ub_table.specs.declared.row.Key.{Key}
 use Rattle.ub_tree.specs.Placed.{Placed, entry_of}
 use Rattle.ub_tree.specs.Spans.{ArePlaces, first_keys}
+use Rattle.ub_tree.specs.declared.fault.TreeFault.{TreeFault}
 use Rattle.ub_tree.specs.declared.fault.TreeFault.TheVariants.{Page}
 use Rattle.ub_tree.proofs.RoomFacts.{any_key, key_there}
 use Rattle.ub_tree.proofs.tree.Tree.insert_within.Goals as goal
@@ -221,7 +222,10 @@ returns-in_err-store_with-clause-refused g c =
     (key_isnt_there a c.seat_of.new.self c.key-key.result c.in_ok-seat.seat c.in_ok-seat.ensures.effect.same c.in_ok-seat.ensures.seat c.in_ok-seat.ensures.index
     rows (λ honest q on. ap (λ (r : Region). r.rows) (c.in_ok-read_at.ensures.taken honest q on)) c.from_residual-in_err-store_with.result none
     (λ full many. other_fault (Unit {0}) c.from_residual-in_err-store_with.result c.in_err-store_with.field-0.0 (Page 0 BadCount) _ _ refl refl c.from_residual-in_err-store_with.ensures.1
-    (c.in_err-store_with.ensures.most (full ∙ sym (ap (λ (v : TreeView). v.schema.page_rows) same)) (ap (λ (v : TreeView). length v.placed) same ∙ many))))
+    (c.in_err-store_with.ensures.counted.0 (full ∙ sym (ap (λ (v : TreeView). v.schema.page_rows) same), ap (λ (v : TreeView). length v.placed) same ∙ many)))
+    (λ page fault told.
+    let only = c.in_err-store_with.ensures.counted.1 page fault (ap (λ (f : TreeFault). Err f) (told_as c.from_residual-in_err-store_with.result c.in_err-store_with.field-0.0 (Page page fault) c.from_residual-in_err-store_with.ensures.1 told)) in
+    (only.0 ∙ ap (λ (v : TreeView). v.schema.page_rows) same, sym (ap (λ (v : TreeView). length v.placed) same) ∙ only.1)))
 
 pub returns-clause-refused : goal.returns-clause-refused
 returns-clause-refused g c =
@@ -237,5 +241,6 @@ returns-clause-refused g c =
     (key_isnt_there a c.seat_of.new.self c.key-key.result c.in_ok-seat.seat c.in_ok-seat.ensures.effect.same c.in_ok-seat.ensures.seat c.in_ok-seat.ensures.index
     rows (λ honest q on. ap (λ (r : Region). r.rows) (c.in_ok-read_at.ensures.taken honest q on)) (Ok c.row_of-row.result.number) none
     (λ full many.
-    let bad = c.in_ok-store_with.ensures.most (full ∙ sym (ap (λ (v : TreeView). v.schema.page_rows) same)) (ap (λ (v : TreeView). length v.placed) same ∙ many) in
-    cc))
+    let bad = c.in_ok-store_with.ensures.counted.0 (full ∙ sym (ap (λ (v : TreeView). v.schema.page_rows) same), ap (λ (v : TreeView). length v.placed) same ∙ many) in
+    cc)
+    (λ page fault told. cc))

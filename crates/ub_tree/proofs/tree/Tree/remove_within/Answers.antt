@@ -12,7 +12,7 @@ use Rattle.ub_tree.proofs.ShrinkFacts.{holder, none_removed, some_counted, shrun
 use Rattle.ub_tree.specs.Others.{ShrinksAt}
 use Rattle.ub_tree.proofs.ChangedFacts.{shrinks_by}
 use Rattle.ub_tree.proofs.CallFacts.{same_seat, same_there}
-use Rattle.ub_tree.proofs.HoldingFacts.{no_answer, removal_answers, unread_removal}
+use Rattle.ub_tree.proofs.HoldingFacts.{no_answer, removal_answers, removal_fault, unread_removal}
 use Rattle.ub_tree.proofs.TreeFacts.{length-placed}
 use Rattle.ub_tree.proofs.WriteFacts.{counted_anew, left_by, nothing_changed, searched_by, then_changed, unchanged}
 use Rattle.ub_tree.proofs.tree.Tree.remove_within.Goals as goal
@@ -118,7 +118,7 @@ returns-then-not-remove-clause-refused g c =
     let dims : c.shape.result ≡ a.schema.dims = c.shape.ensures ∙ ap (λ (v : TreeView). v.schema.dims) (c.self.view_is ∙ same) in
     let found : has_key a.schema.dims c.args.key.now rows ≡ false = rw (← dims) (sym c.remove.ensures.found ∙ c.if-not-remove.true) in
     removal_answers a c.seat_of.new.self c.args.key.now c.in_ok-seat.seat c.in_ok-seat.ensures.effect.same c.in_ok-seat.ensures.seat c.in_ok-seat.ensures.index rows c.in_ok-rows_at.ensures.taken
-    (Ok false) (λ has zero. absurd (let bad : true ≡ false = sym has ∙ found in cc)) (sym found)
+    (Ok false) (λ has zero. absurd (let bad : true ≡ false = sym has ∙ found in cc)) (λ free. tt) (sym found)
 
 pub returns-then-self-eq0-clause-refused : goal.returns-then-self-eq0-clause-refused
 returns-then-self-eq0-clause-refused g c =
@@ -126,8 +126,9 @@ returns-then-self-eq0-clause-refused g c =
     let same : c.rows_at.new.self ≡ a = c.in_ok-rows_at.ensures.effect.same ∙ c.in_ok-seat.ensures.effect.same in
     let rows = c.rows_at.new.rows in
     let dims : c.shape.result ≡ a.schema.dims = c.shape.ensures ∙ ap (λ (v : TreeView). v.schema.dims) (c.self.view_is ∙ same) in
+    let found : has_key a.schema.dims c.args.key.now rows ≡ true = rw (← dims) (sym c.remove.ensures.found ∙ c.if-not-remove.false) in
     removal_answers a c.seat_of.new.self c.args.key.now c.in_ok-seat.seat c.in_ok-seat.ensures.effect.same c.in_ok-seat.ensures.seat c.in_ok-seat.ensures.index rows c.in_ok-rows_at.ensures.taken
-    (Err (Page 0 BadCount)) (λ has zero. refl) tt
+    (Err (Page 0 BadCount)) (λ has zero. refl) (λ free. absurd (let bad : true ≡ false = sym found ∙ free in cc)) tt
 
 pub returns-in_err-settle-clause-refused : goal.returns-in_err-settle-clause-refused
 returns-in_err-settle-clause-refused g c =
@@ -137,8 +138,9 @@ returns-in_err-settle-clause-refused g c =
     let dims : c.shape.result ≡ a.schema.dims = c.shape.ensures ∙ ap (λ (v : TreeView). v.schema.dims) (c.self.view_is ∙ same) in
     let some = c.if-self-eq0.false in
     let counts = ap (λ (v : TreeView). v.rows) (c.self.view_is ∙ same) in
+    let found : has_key a.schema.dims c.args.key.now rows ≡ true = rw (← dims) (sym c.remove.ensures.found ∙ c.if-not-remove.false) in
     removal_answers a c.seat_of.new.self c.args.key.now c.in_ok-seat.seat c.in_ok-seat.ensures.effect.same c.in_ok-seat.ensures.seat c.in_ok-seat.ensures.index rows c.in_ok-rows_at.ensures.taken
-    c.from_residual-in_err-settle.result (λ has zero. absurd (omega arith))
+    c.from_residual-in_err-settle.result (λ has zero. absurd (omega arith)) (λ free. absurd (let bad : true ≡ false = sym found ∙ free in cc))
     (no_answer c.from_residual-in_err-settle.result c.in_err-settle.field-0.0 _ c.from_residual-in_err-settle.ensures.1)
 
 pub returns-clause-refused : goal.returns-clause-refused
@@ -151,7 +153,7 @@ returns-clause-refused g c =
     let counts = ap (λ (v : TreeView). v.rows) (c.self.view_is ∙ same) in
     let found : has_key a.schema.dims c.args.key.now rows ≡ true = rw (← dims) (sym c.remove.ensures.found ∙ c.if-not-remove.false) in
     removal_answers a c.seat_of.new.self c.args.key.now c.in_ok-seat.seat c.in_ok-seat.ensures.effect.same c.in_ok-seat.ensures.seat c.in_ok-seat.ensures.index rows c.in_ok-rows_at.ensures.taken
-    (Ok true) (λ has zero. absurd (omega arith)) (sym found)
+    (Ok true) (λ has zero. absurd (omega arith)) (λ free. tt) (sym found)
 
 pub returns-clause-counted : goal.returns-clause-counted
 returns-clause-counted g c = λ _.
@@ -169,3 +171,8 @@ returns-clause-counted g c = λ _.
       omega arith,
       subst (λ (i : ℕ). ShrinksAt i a d) c.in_ok-seat.ensures.index shrinks,
     )
+
+pub returns-in_err-settle-clause-faults : goal.returns-in_err-settle-clause-faults
+returns-in_err-settle-clause-faults g c =
+    removal_fault c.from_residual-in_err-settle.result c.in_err-settle.field-0.0 c.args.self.now c.rows_at.new.self c.from_residual-in_err-settle.ensures.1
+    (c.in_ok-rows_at.ensures.effect.same ∙ c.in_ok-seat.ensures.effect.same) c.in_err-settle.ensures.faults
