@@ -13,8 +13,8 @@ use Rattle.ub_page.specs.Region.{region_page}
 use Rattle.ub_table.specs.Region.{Region, IsRegion}
 use Rattle.ub_table.specs.declared.fault.PageFault.{PageFault}
 use Rattle.ub_table.specs.declared.schema.Schema.{Schema}
-use Rattle.ub_tree.specs.Change.{IsSeatIn, IsSeatThere, IsWriteFault}
-use Rattle.ub_tree.specs.Effects.{Searches, read_store, IsReadFault, IsRegionRefused, IsPageRefused, IsPageMissing, IsSpanFault, HasEnded, IsTakenIn}
+use Rattle.ub_tree.specs.Change.{HasStopped, IsSeatIn, IsSeatThere, IsWriteFault}
+use Rattle.ub_tree.specs.Effects.{Searches, read_store, IsReadFault, IsRegionRefused, IsPageRefused, IsPageMissing, IsSpanFault, IsTakenIn}
 use Rattle.ub_directory.specs.Searching.{Searches as Looks}
 use Rattle.ub_directory.specs.Slots.{IsSeat}
 use Rattle.ub_directory.specs.View.{SeatView}
@@ -188,9 +188,9 @@ pub only_device : {U : Type 0} (fault : StoreFault) → (fault ≡ store.Device)
 only_device fault (inl e) missing = e
 only_device fault (inr e) missing = absurd (missing (rw e refl))
 
-pub write_refused : {U : Type 0} (fault : StoreFault) (old new : TreeView) → fault ≡ store.Device → (IsErrOf {T = U} (Err fault) store.Device → IsTrue old.store.can_fail) → HasEnded (Store fault) old new
+pub write_refused : {U : Type 0} (fault : StoreFault) (old new : TreeView) → fault ≡ store.Device → (IsErrOf {T = U} (Err fault) store.Device → IsTrue old.store.can_fail) → HasStopped (Store fault) old new
     → IsWriteFault old new (Store fault)
-write_refused fault old new e device ended = subst (λ (f : StoreFault). IsWriteFault old new (Store f)) (sym e) (device (rw e refl), subst (λ (f : StoreFault). HasEnded (Store f) old new) e ended)
+write_refused fault old new e device ended = subst (λ (f : StoreFault). IsWriteFault old new (Store f)) (sym e) (device (rw e refl), subst (λ (f : StoreFault). HasStopped (Store f) old new) e ended)
 
 pub page_refused_by : {T : Type 0} (Q : PageFault → Type 0) (r : Result T TreeFault) (e : TreeFault) (number : ℕ) (old : TreeView) → IsErrAnd r (λ x. x ≡ e)
     → IsTold number Q e → ¬ (IsSound old) → ((f : PageFault) → Q f → IsPageRefused old number f) → IfErr r (IsReadFault old)

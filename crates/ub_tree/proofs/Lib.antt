@@ -6,6 +6,7 @@ pub mod ReadFacts
 pub mod MeetFacts
 pub mod MadeFacts
 pub mod RoomFacts
+pub mod OthersFacts
 pub mod WriteFacts
 pub mod GrowFacts
 pub mod StoredFacts
@@ -15,3 +16,5 @@ pub mod Laws
 pub mod WalkFacts
 pub mod CloseFacts
 pub mod OpenedFacts
+pub mod HoldingFacts
+pub mod ChangedFacts

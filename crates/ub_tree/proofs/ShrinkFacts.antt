@@ -156,7 +156,7 @@ joins_one a s m i n rows new more fit c one two is lt read count fits made hones
     join_one a.schema.page_rows i rows new fit b.region (regions a) some (region_get a.placed (i - 1) b at) (omega arith) (rw (← same, ← count_a) fits) (rw (← same) made)
 
 -- the entry at an index taken out
-map_removed : {X Y : Type 0} (f : X → Y) (i : ℕ) (xs : List X) → map f (remove_at_index xs i) ≡ remove_at_index (map f xs) i
+pub map_removed : {X Y : Type 0} (f : X → Y) (i : ℕ) (xs : List X) → map f (remove_at_index xs i) ≡ remove_at_index (map f xs) i
 map_removed f i xs = map-append f (take i xs) (drop (suc i) xs) ∙ rw (take-map f i xs, drop-map f (suc i) xs) refl
 
 pub placed_removed : (schema : Schema) (pages : List (List ℕ)) (entries : List Entry) (i : ℕ) → placed_of schema pages (remove_at_index entries i) ≡ remove_at_index (placed_of schema pages entries) i

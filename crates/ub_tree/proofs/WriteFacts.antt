@@ -19,11 +19,12 @@ use Rattle.ub_table.specs.Region.{Region, IsRegion}
 use Rattle.ub_table.specs.declared.row.Key.{Key}
 use Rattle.ub_table.specs.declared.row.Row.{Row}
 use Rattle.ub_table.specs.declared.schema.Schema.{Schema}
-use Rattle.ub_tree.specs.Change.{IsStored, IsFresh, IsWriteFault, Writes, placed_with}
+use Rattle.ub_tree.specs.Change.{HasStopped, IsStored, IsFresh, IsWriteFault, Writes, placed_with}
 use Rattle.ub_directory.specs.Searching.{Searches as Looks}
-use Rattle.ub_directory.specs.Writing.{put_store}
+use Rattle.ub_directory.specs.Writing.{KeepsBut, put_store}
 use Rattle.ub_tree.specs.Effects.{written_store, IsMarkedFirst, Leaves, HasEnded, IsLeft, Works, Changes, Searches}
 use Rattle.ub_tree.specs.Faults.{tree_fault}
+use Rattle.ub_tree.specs.Others.{KeepsAllBut, KeepsEntries, KeepsOthers, WritesOneRegion}
 use Rattle.ub_tree.specs.Tree.{known_pages, tree_view}
 use Rattle.ub_tree.specs.Placed.{Placed, ArePlaced, placed_of, regions_in, entry_of}
 use Rattle.ub_directory.specs.Chain.{IsChain}
@@ -32,6 +33,7 @@ use Rattle.ub_writing.specs.Marks.{Marks, PutsMark, KeepsUnless, IsMarkPage, Has
 use Rattle.ub_writing.specs.Puts.{Puts, PutsTwo}
 use Rattle.ub_tree.specs.View.{TreeView, IsSound}
 use Rattle.ub_tree.proofs.CallFacts.{known_is}
+use Rattle.ub_tree.proofs.OthersFacts.{numbers_get, others_added, others_extended}
 use Rattle.ub_tree.proofs.StoredFacts.{IsTold, numbers_of, differs, rewritten_pages, split_pages, extended_pages, fresh_number}
 use Rattle.ub_tree.proofs.TreeFacts.{each_get, entries_back, placed_at, placed_get}
 use Rattle.ub_store.specs.declared.fault.StoreFault.TheVariants as store
@@ -82,11 +84,6 @@ rewritten schema entries chain next rows changed failed old new index e rs page 
 pub unmarked : (mark : Option (Bor (List ℕ))) (P : Type 0) → IsNone mark ↔ P → IsNone (option_copied mark) ↔ P
 unmarked None P h = (λ none. h.0 refl, λ p. refl)
 unmarked (Some page) P h = (λ none. cc, λ p. (let none = h.1 p in cc))
-
-numbers_get : (schema : Schema) (pages : List (List ℕ)) (entries : List Entry) (i : ℕ) (e : Entry) → slice_get entries i ≡ Some e → slice_get (numbers_of (placed_of schema pages entries)) i ≡ Some e.page
-numbers_get schema pages [] i e at = cc
-numbers_get schema pages (f ∷ entries) zero e at = let same : f ≡ e = cc in ap (λ (x : Entry). Some x.page) same
-numbers_get schema pages (f ∷ entries) (suc i) e at = numbers_get schema pages entries i e at
 
 -- the page of a region isn't the first
 pub own_page : (schema : Schema) (entries : List Entry) (chain : List ℕ) (pages known : List (List ℕ)) (index : ℕ) (e : Entry) → ArePlaced schema (placed_of schema known entries) (0 ∷ chain) pages
@@ -243,6 +240,12 @@ module _ (schema : Schema) (entries : List Entry) (chain : List ℕ) (next rows 
   pub ready_leaves : Leaves at_first at_last
   ready_leaves = subst (λ (v : TreeView). Leaves v at_last) still (extended_leaves schema entries chain next rows changed failed ready new longer left trace)
 
+  -- and no page was written then but the new one, the first and this one
+  pub ready_others : (n : ℕ) → n ≡ length ready.store.pages → (page : ℕ) → (written : StoreFacts) → KeepsBut (0 ∷ n ∷ page ∷ []) new.store written → KeepsOthers page old.store written
+  ready_others n is page written kept =
+      let same : length ready.store.pages ≡ length old.store.pages = ap (λ (p : PagerView). length p.store.pages) looked.same in
+      others_added old.store new.store (ap (λ (v : TreeView). v.store.honest) ready_leaves.same) ready_leaves.pages ready_leaves.more ready_leaves.flushed page written n (omega arith) kept
+
   pub ready_stored : IsStored at_first → IsStored at_last × (at_last.placed ≡ at_first.placed)
   ready_stored = subst (λ (v : TreeView). IsStored v → IsStored at_last × (at_last.placed ≡ v.placed)) still (extended_stored schema entries chain next rows changed failed ready new longer)
 
@@ -266,6 +269,16 @@ put_is U V store.NoPage old new = refl
 put_is U V store.Memory old new = refl
 put_is U V store.BadSize old new = refl
 
+-- what a call did that only writes, but for which pages
+pub record Wrote {T : Type 0} (old new : TreeView) (result : Result T TreeFault) : Type 0 where
+  pub frame : new ≡ record old { placed = new.placed; is_changed = new.is_changed; is_failed = new.is_failed; store = written_store result old.store new.store }
+  pub marked : IsMarkedFirst old new
+  pub done : OnOk result (new.is_failed ≡ old.is_failed)
+  pub faults : IfErr result (IsWriteFault old new)
+
+pub writes_one : {T : Type 0} (r : Result T TreeFault) (index : ℕ) (old new : TreeView) → Wrote old new r → WritesOneRegion old new → KeepsEntries old new → KeepsAllBut index old new → Writes index old new r
+writes_one r index old new w others entries kept = record { frame = w.frame; marked = w.marked; done = w.done; faults = w.faults; others = others; entries = entries; kept = kept }
+
 -- a tree whose pages were written, with this directory now
 module _ (schema : Schema) (entries later : List Entry) (chain : List ℕ) (next rows : ℕ) (changed now_changed failed now_failed : Bool) (old new : PagerView) where
   pub wrote_tree : {T : Type 0} (r : Result T TreeFault) → new.store ≡ written_store r old.store new.store → SameTrace old new
@@ -276,7 +289,7 @@ module _ (schema : Schema) (entries later : List Entry) (chain : List ℕ) (next
 
   -- a write that failed
   pub ended_by : (U : Type 0) (fault : StoreFault) → now_failed ≡ true → later ≡ entries → new.store ≡ put_store {A = U} (Err fault) old.store new.store → SameTrace old new
-      → HasEnded (Store fault) (tree_view schema entries chain next rows changed failed old) (tree_view schema later chain next rows now_changed now_failed new)
+      → HasStopped (Store fault) (tree_view schema entries chain next rows changed failed old) (tree_view schema later chain next rows now_changed now_failed new)
   ended_by U fault ended back same trace = record {
     same = wrote_tree {T = TreeFault} (Err (Store fault)) (same ∙ put_is U TreeFault fault old.store new.store) trace
         ∙ ap (λ (b : Bool). record (tree_view schema entries chain next rows changed failed old) { placed = placed_of schema (known_pages new.store) later; is_changed = now_changed; is_failed = b; store = written_store {A = TreeFault} (Err (Store fault)) old.store new.store }) ended;
@@ -298,7 +311,7 @@ module _ (schema : Schema) (entries later : List Entry) (chain : List ℕ) (next
   pub wrote : {T : Type 0} (r : Result T TreeFault) → new.store ≡ written_store r old.store new.store → SameTrace old new
       → IsMarkedFirst (tree_view schema entries chain next rows changed failed old) (tree_view schema later chain next rows now_changed now_failed new) → OnOk r (now_failed ≡ failed)
       → IfErr r (IsWriteFault (tree_view schema entries chain next rows changed failed old) (tree_view schema later chain next rows now_changed now_failed new))
-      → Writes (tree_view schema entries chain next rows changed failed old) (tree_view schema later chain next rows now_changed now_failed new) r
+      → Wrote (tree_view schema entries chain next rows changed failed old) (tree_view schema later chain next rows now_changed now_failed new) r
   wrote r same trace marked done faults = record { frame = wrote_tree r same trace; marked = marked; done = done; faults = faults }
 
 -- an extension that failed
@@ -317,7 +330,11 @@ module _ (schema : Schema) (entries : List Entry) (chain : List ℕ) (next rows 
             whole ∙ ap (λ (s : StoreFacts). record (tree_view schema entries chain next rows changed true old) { placed = placed_of schema (known_pages new.store) entries; store = s }) (sym same));
         marked = extension_marked true;
         done = tt;
-        left = (can, inr (ended_by schema entries entries chain next rows changed changed failed true old new U store.Device refl refl same trace));
+        left = (
+          can,
+          (let stopped = ended_by schema entries entries chain next rows changed changed failed true old new U store.Device refl refl same trace in
+              inr (record { same = stopped.same; entries = stopped.entries; others = (0, inl refl, others_extended old.store new.store extended.honesty extended.kept extended.more extended.flushed 0) })),
+        );
       }
 
   leaves_changed : {T : Type 0} (e : TreeFault) → Leaves (tree_view schema entries chain next rows changed failed old) (tree_view schema entries chain next rows changed failed new)
@@ -340,7 +357,7 @@ module _ (schema : Schema) (entries : List Entry) (chain : List ℕ) (next rows 
       rw is (leaves_changed Memory leaves leaves)
   extension_refused store.BadSize e is same trace no_page no_device full =
       let leaves = extended_leaves schema entries chain next rows changed failed old new extended same trace in
-      rw is (leaves_changed (Store store.BadSize) leaves (inl (let most = full refl in omega arith), leaves))
+      rw is (leaves_changed (Store store.BadSize) leaves ((let most = full refl in omega arith), leaves))
 
 -- the rows of the region at an index, put on its page and on another one
 module _ (schema : Schema) (entries : List Entry) (chain : List ℕ) (next rows : ℕ) (changed failed : Bool) (old new : PagerView) (index : ℕ) (e x : Entry) (left right : List Row) (page other : List ℕ)
@@ -422,33 +439,34 @@ module _ (a b c : TreeView) (grown : Leaves a b) where
   honest_b : b.store.honest ≡ a.store.honest
   honest_b = ap (λ (v : TreeView). v.store.honest) grown.same
 
-  more_ended : (fault : TreeFault) → HasEnded fault b c → HasEnded fault a c
-  more_ended fault h = record {
+  more_ended : (fault : TreeFault) → HasStopped fault b c → WritesOneRegion a c → HasEnded fault a c
+  more_ended fault h others = record {
     same = h.same ∙ ap (λ (v : TreeView). record v { placed = c.placed; is_changed = c.is_changed; is_failed = true; store = written_store {A = TreeFault} (Err fault) v.store c.store }) grown.same;
     entries = h.entries ∙ grown.entries;
+    others = others;
   }
 
-  more_faults : (fault : TreeFault) → IsWriteFault b c fault → IsLeft a c fault
-  more_faults Full h = absurd h
-  more_faults HasFailed h = absurd h
-  more_faults Memory h = absurd h
-  more_faults (Page page fault) h = absurd h
-  more_faults (Store store.Device) h = (subst (λ (v : TreeView). IsTrue v.store.can_fail) grown.same h.0, inr (more_ended (Store store.Device) h.1))
-  more_faults (Store store.NoPage) h = absurd h
-  more_faults (Store store.BadSize) h = absurd h
-  more_faults (Store store.Memory) h = absurd h
+  more_faults : (fault : TreeFault) → IsWriteFault b c fault → WritesOneRegion a c → IsLeft a c fault
+  more_faults Full h others = absurd h
+  more_faults HasFailed h others = absurd h
+  more_faults Memory h others = absurd h
+  more_faults (Page page fault) h others = absurd h
+  more_faults (Store store.Device) h others = (subst (λ (v : TreeView). IsTrue v.store.can_fail) grown.same h.0, inr (more_ended (Store store.Device) h.1 others))
+  more_faults (Store store.NoPage) h others = absurd h
+  more_faults (Store store.BadSize) h others = absurd h
+  more_faults (Store store.Memory) h others = absurd h
 
   more_done : {T : Type 0} (r : Result T TreeFault) → OnOk r (c.is_failed ≡ b.is_failed) → c.store ≡ written_store r b.store c.store → OnOk r (Works a c)
   more_done (Ok x) done same = (done ∙ ap (λ (v : TreeView). v.is_failed) grown.same, same ∙ ap (λ (v : TreeView). record v.store { pages = c.store.pages; synced = c.store.synced }) grown.same)
   more_done (Err e) done same = tt
 
-  more_left : {T : Type 0} (r : Result T TreeFault) → IfErr r (IsWriteFault b c) → IfErr r (IsLeft a c)
-  more_left (Ok x) faults = tt
-  more_left (Err e) faults = more_faults e faults
+  more_left : {T : Type 0} (r : Result T TreeFault) → IfErr r (IsWriteFault b c) → WritesOneRegion a c → IfErr r (IsLeft a c)
+  more_left (Ok x) faults others = tt
+  more_left (Err e) faults others = more_faults e faults others
 
   -- the whole is a change
-  pub grown_then : {T : Type 0} (r : Result T TreeFault) → Writes b c r → Changes a c r
-  grown_then r w = record {
+  pub grown_then : {T : Type 0} (r : Result T TreeFault) → Wrote b c r → WritesOneRegion a c → Changes a c r
+  grown_then r w others = record {
     frame = (
         let whole = w.frame ∙ ap (λ (v : TreeView). record v { placed = c.placed; is_changed = c.is_changed; is_failed = c.is_failed; store = written_store r b.store c.store }) grown.same in
         whole ∙ ap (λ (v : TreeView). record a { placed = c.placed; rows = v.rows; next = v.next; is_changed = c.is_changed; is_failed = c.is_failed; store = v.store }) (sym whole));
@@ -457,7 +475,7 @@ module _ (a b c : TreeView) (grown : Leaves a b) where
       marked = λ sound e. subst (λ (s : Schema). HasMark s c.store.pages) (ap (λ (v : TreeView). v.schema) grown.same) (w.marked.marked (grown.sound sound).1 e);
     };
     done = more_done r w.done (ap (λ (v : TreeView). v.store) w.frame);
-    left = more_left r w.faults;
+    left = more_left r w.faults others;
   }
 
 -- the mark of a tree that is as it was
@@ -468,8 +486,8 @@ pub same_leaves : (a : TreeView) → Leaves a a
 same_leaves a = record { same = refl; entries = refl; more = omega arith; pages = λ honest m lt. refl; flushed = inl refl; sound = λ sound. (refl, sound) }
 
 -- a call that only writes is a change
-pub changed_by : {T : Type 0} (r : Result T TreeFault) (a c : TreeView) → Writes a c r → Changes a c r
-changed_by r a c w = grown_then a a c (same_leaves a) r w
+pub changed_by : {T : Type 0} (r : Result T TreeFault) (index : ℕ) (a c : TreeView) → Writes index a c r → Changes a c r
+changed_by r index a c w = grown_then a a c (same_leaves a) r (record { frame = w.frame; marked = w.marked; done = w.done; faults = w.faults }) w.others
 
 -- a refusal after which all is as it was
 pub unchanged : {T : Type 0} (e : TreeFault) (a : TreeView) → IsLeft a a e → Changes {A = T} a a (Err e)
@@ -503,8 +521,8 @@ searched_by (Err f) e a c is h =
       left = searched_left e a c (record { same = h.same; faults = h.faults });
     })
 
-pub changes_by : {T U : Type 0} (r : Result T TreeFault) (e : TreeFault) (a c : TreeView) → IsErrAnd r (λ x. x ≡ e) → Writes {A = U} a c (Err e) → Changes a c r
-changes_by r e a c is w = left_by r e a c is (changed_by {T = TreeFault} (Err e) a c (record { frame = w.frame; marked = w.marked; done = tt; faults = w.faults }))
+pub changes_by : {T U : Type 0} (r : Result T TreeFault) (e : TreeFault) (index : ℕ) (a c : TreeView) → IsErrAnd r (λ x. x ≡ e) → Writes {A = U} index a c (Err e) → Changes a c r
+changes_by r e index a c is w = left_by r e a c is (changed_by {T = TreeFault} (Err e) index a c (record { frame = w.frame; marked = w.marked; done = tt; faults = w.faults; others = w.others; entries = w.entries; kept = w.kept }))
 
 -- a change after which rows are counted, or a region is dropped
 pub counted_anew : {T U : Type 0} (x : T) (y : U) (a mid d : TreeView) (placed : List Placed) (rows next : ℕ) → d ≡ record mid { placed = placed; rows = rows; next = next }

@@ -6,7 +6,7 @@ use Rattle.ub_region.specs.Regions.{AreTableRows, insert, split_region}
 use Rattle.ub_region.specs.Rows.{Halves}
 use Rattle.ub_zaddr.specs.Address.{last_address}
 use Rattle.ub_tree.specs.Spans.{ArePlaces, first_keys}
-use Rattle.ub_store.specs.Facts.{IsHonest, page_count}
+use Rattle.ub_store.specs.Facts.{IsHonest, IsPage, page_count}
 use Rattle.ub_store.specs.View.{PagerView}
 use Rattle.ub_page.specs.Region.{region_page}
 use Rattle.ub_page.specs.declared.directory.Entry.{Entry}
@@ -15,12 +15,13 @@ use Rattle.ub_table.specs.Region.{Region, IsRegion, keys_of}
 use Rattle.ub_table.specs.declared.row.Key.{Key}
 use Rattle.ub_table.specs.declared.row.Row.{Row}
 use Rattle.ub_table.specs.declared.schema.Schema.{Schema}
-use Rattle.ub_tree.specs.Effects.{written_store, IsMarkedFirst, HasEnded, Changes}
+use Rattle.ub_tree.specs.Effects.{written_store, IsMarkedFirst, Changes}
+use Rattle.ub_tree.specs.Others.{AddsEntry, DropsEntry, KeepsAllBut, KeepsEntries, ShrinksAt, WritesOneRegion}
 use Rattle.ub_tree.specs.Placed.{Placed, ArePlaced, entry_of}
-use Rattle.ub_tree.specs.Tree.{tree_view}
+use Rattle.ub_tree.specs.Tree.{IsHeldBy, tree_view}
 use Rattle.ub_tree.specs.View.{TreeView, IsSound, regions}
 use Rattle.ub_tree.specs.declared.fault.TreeFault.{TreeFault}
-use Rattle.ub_tree.specs.declared.fault.TreeFault.TheVariants.{Store}
+use Rattle.ub_tree.specs.declared.fault.TreeFault.TheVariants.{Memory, Store}
 use Rattle.ub_store.specs.declared.fault.StoreFault.TheVariants as store
 use Rattle.ub_directory.specs.Inner.{reserved}
 use Rattle.ub_directory.specs.Slots.{IsSeat}
@@ -41,21 +42,47 @@ pub record IsStored (t : TreeView) : Type 0 where
 abbrev pub IsElsewhereSame : TreeView → TreeView → Type 0
 IsElsewhereSame old new = new ≡ record old { placed = new.placed; store = new.store; is_changed = true }
 
+-- the same, and the region at an index, which had so many rows, was written anew; it was split where its page was full
+pub record StoresAt (index count : ℕ) (old new : TreeView) : Type 0 where
+  pub same : IsElsewhereSame old new
+  pub others : KeepsAllBut index old new
+  pub full : count ≡ old.schema.page_rows → AddsEntry index old new
+  pub spare : count < old.schema.page_rows → KeepsEntries old new
+
+-- the same, and the region at an index was written anew, with the rows of the next one, which is no more
+pub record JoinsAt (index : ℕ) (old new : TreeView) : Type 0 where
+  pub same : IsElsewhereSame old new
+  pub others : KeepsAllBut index old new
+  pub dropped : DropsEntry index old new
+
+-- the same, and a row was taken out of the region at an index
+pub record TakesAt (index : ℕ) (old new : TreeView) : Type 0 where
+  pub same : IsElsewhereSame old new
+  pub shrunk : ShrinksAt index old new
+
 -- in place of the region at an index stand these
 abbrev pub placed_with : ℕ → List Placed → List Placed → List Placed
 placed_with index news placed = take index placed ++ news ++ drop (suc index) placed
 
+-- a write met this fault: the tree has failed, with the directory and the counts that it had
+pub record HasStopped (fault : TreeFault) (old new : TreeView) : Type 0 where
+  pub same : new ≡ record old { placed = new.placed; is_changed = new.is_changed; is_failed = true; store = written_store {A = TreeFault} (Err fault) old.store new.store }
+  pub entries : map entry_of new.placed ≡ map entry_of old.placed
+
 -- what a call within that only writes can answer, and what it leaves then
 abbrev pub IsWriteFault : TreeView → TreeView → TreeFault → Type 0
-IsWriteFault old new (Store store.Device) = IsTrue old.store.can_fail × HasEnded (Store store.Device) old new
+IsWriteFault old new (Store store.Device) = IsTrue old.store.can_fail × HasStopped (Store store.Device) old new
 IsWriteFault old new _ = ⊥
 
--- a call within that only writes
-pub record Writes {A : Type 0} (old new : TreeView) (result : Result A TreeFault) : Type 0 where
+-- a call within that only writes, and of the regions' pages only that of the region at an index
+pub record Writes {A : Type 0} (index : ℕ) (old new : TreeView) (result : Result A TreeFault) : Type 0 where
   pub frame : new ≡ record old { placed = new.placed; is_changed = new.is_changed; is_failed = new.is_failed; store = written_store result old.store new.store }
   pub marked : IsMarkedFirst old new
   pub done : OnOk result (new.is_failed ≡ old.is_failed)
   pub faults : IfErr result (IsWriteFault old new)
+  pub others : WritesOneRegion old new
+  pub entries : KeepsEntries old new
+  pub kept : KeepsAllBut index old new
 
 -- where the page spells rows, they are those of the region of the seat now
 abbrev pub PutsRows : {A : Type 0} → SeatView → List ℕ → TreeView → TreeView → Result A TreeFault → Type 0
@@ -70,7 +97,13 @@ pub record PutsAt {A : Type 0} (seat : SeatView) (page : List ℕ) (old new : Tr
   pub written : PutsRows seat page old new result
   pub count : length new.placed ≡ length old.placed
   pub faults : IfErr result (λ fault. fault ≡ Store store.Device)
-  pub effect : Writes old new result
+  pub effect : Writes seat.index old new result
+
+-- a fault of the store
+abbrev pub IsStoreFault : TreeFault → Type 0
+IsStoreFault Memory = Unit {0}
+IsStoreFault (Store fault) = Unit {0}
+IsStoreFault _ = ⊥
 
 -- what an extension of the store can answer a tree, and what it leaves of it then, whatever its other parts are
 abbrev pub IsExtensionFault : Bool → Bool → PagerView → PagerView → TreeFault → Type 0
@@ -96,7 +129,13 @@ IsFresh n t = IsDistinct nat_eq (n ∷ (reserved t.inner ++ map (λ p. p.page) t
 abbrev pub IsSeatIn : TreeView → SeatView → Type 0
 IsSeatIn t seat = IsSeat (map entry_of t.placed) seat
 
--- the same, and the store has that region's page
+-- the page of a seat's region spells this one, in its place
+pub record IsOnSeat (t : TreeView) (seat : SeatView) (region : Region) : Type 0 where
+  pub is : IsRegion t.schema region
+  pub held : IsHeldBy t.schema.dims seat.first seat.next region
+  pub page : IsPage t.store seat.page (region_page t.schema region)
+
+-- the seat of a region, and the store has its page
 abbrev pub IsSeatThere : TreeView → SeatView → Type 0
 IsSeatThere t seat = IsSeatIn t seat × (seat.page < page_count t.store)
 

@@ -11,6 +11,7 @@ use Rattle.ub_table.specs.declared.fault.PageFault.TheVariants.{BadCount, BadOrd
 use Rattle.ub_table.specs.declared.row.Key.{Key}
 use Rattle.ub_table.specs.declared.row.Row.{Row}
 use Rattle.ub_table.specs.declared.schema.Schema.{Schema}
+use Rattle.ub_tree.specs.Others.{WritesOneRegion}
 use Rattle.ub_tree.specs.Tree.{IsHeldBy}
 use Rattle.ub_tree.specs.Placed.{Placed, entry_of}
 use Rattle.ub_writing.specs.Marks.{HasMark, KeepsUnless}
@@ -110,9 +111,9 @@ pub record IsMarkedFirst (old new : TreeView) : Type 0 where
   pub kept : KeepsUnless new.is_changed old.store new.store
   pub marked : IsSound old → new.is_changed ≡ true → HasMark old.schema new.store.pages
 
--- there are as many pages as a store can have, or as many regions
+-- there are as many pages as a store can have
 abbrev pub IsFull : TreeView → Type 0
-IsFull t = (4294967295 ≤ page_count t.store) ⊎ (length t.placed ≡ 4294967295)
+IsFull t = 4294967295 ≤ page_count t.store
 
 -- the store can have pages more after those that there were, which hold nothing of the tree; all else is as it was. What lasts
 -- is what lasted before, or the pages that there are now
@@ -128,6 +129,7 @@ pub record Leaves (old new : TreeView) : Type 0 where
 pub record HasEnded (fault : TreeFault) (old new : TreeView) : Type 0 where
   pub same : new ≡ record old { placed = new.placed; is_changed = new.is_changed; is_failed = true; store = written_store {A = TreeFault} (Err fault) old.store new.store }
   pub entries : map entry_of new.placed ≡ map entry_of old.placed
+  pub others : WritesOneRegion old new
 
 -- a read failed: nothing but the count of failed reads has changed
 abbrev pub HasMissed : TreeView → TreeView → Type 0
@@ -139,11 +141,11 @@ IsNumberTaken t number =
     (p : Placed) × Contains t.placed p × (p.page ≡ number)
     × (IsHonest t.store → (row : Row) × Contains p.region.rows row × (row.number ≡ t.next))
 
--- which page a change refuses, and why: one that it reads; the first, where a row is there and none is counted; or that of the
--- region that has the new row's key already
+-- which page a change refuses, and why: one that it reads; the first, where a row is there and none is counted, or a region
+-- would be one more than can be counted; or that of the region that has the new row's key already
 abbrev pub IsChangeRefused : TreeView → ℕ → PageFault → Type 0
 IsChangeRefused t number fault =
-    IsPageRefused t number fault ⊎ ((number ≡ 0) × (fault ≡ BadCount) × (t.rows ≡ 0))
+    IsPageRefused t number fault ⊎ ((number ≡ 0) × (fault ≡ BadCount) × ((t.rows ≡ 0) ⊎ (length t.placed ≡ 4294967295)))
     ⊎ ((fault ≡ BadOrder) × IsNumberTaken t number)
 
 -- what a call can answer that changes the tree, and what it leaves then

@@ -11,5 +11,7 @@ pub mod Tree
 pub mod Change
 pub mod Closing
 pub mod Opened
+pub mod Others
+pub mod Holding
 pub mod Removal
 pub mod Laws

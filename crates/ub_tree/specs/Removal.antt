@@ -1,13 +1,15 @@
 -- What a removal does to a tree.
-use Rattle.std.specs.Prelude.{◌≡◌, ◌+◌, Bool, List, if◌then◌else◌}
+use Rattle.std.specs.Prelude.{◌≡◌, ◌+◌, ◌⊎◌, Bool, List, if◌then◌else◌}
 use Rattle.ub_region.specs.Regions.{AreTableRows, remove, without_number}
 use Rattle.ub_region.specs.Rows.{has_key}
 use Rattle.ub_store.specs.declared.fault.StoreFault.TheVariants as store
 use Rattle.ub_table.specs.declared.row.Key.{Key}
 use Rattle.ub_table.specs.declared.row.Row.{Row}
+use Rattle.ub_table.specs.declared.fault.PageFault.TheVariants.{BadCount}
+use Rattle.ub_tree.specs.Effects.{IsPageRefused}
 use Rattle.ub_tree.specs.View.{TreeView, IsSound, regions, tree_rows}
 use Rattle.ub_tree.specs.declared.fault.TreeFault.{TreeFault}
-use Rattle.ub_tree.specs.declared.fault.TreeFault.TheVariants.{Full, Store}
+use Rattle.ub_tree.specs.declared.fault.TreeFault.TheVariants.{Full, Page, Store}
 
 -- whether a row of a sound tree has the key, and that row alone is taken out of the table
 pub record IsRemoved (key : Key) (found : Bool) (old new : TreeView) : Type 0 where
@@ -19,8 +21,10 @@ pub record IsRemoved (key : Key) (found : Bool) (old new : TreeView) : Type 0 wh
   pub rows : new.rows + (if found then 1 else 0) ≡ old.rows
   pub sound : IsSound new
 
--- a fault other than that there is no row number left, or no room for another page
-abbrev pub IsNotFull : TreeFault → Type 0
-IsNotFull Full = ⊥
-IsNotFull (Store store.BadSize) = ⊥
-IsNotFull _ = Unit {0}
+-- what a removal doesn't answer: that there is no row number left, or no room for another page; and BadCount of the first page,
+-- but where no row is counted, or that page is refused as a region's
+abbrev pub IsRemovalFault : TreeView → TreeFault → Type 0
+IsRemovalFault t Full = ⊥
+IsRemovalFault t (Store store.BadSize) = ⊥
+IsRemovalFault t (Page page fault) = IsPageRefused t page fault ⊎ ((page ≡ 0) × (fault ≡ BadCount) × (t.rows ≡ 0))
+IsRemovalFault t _ = Unit {0}

@@ -1,5 +1,5 @@
 ghost use Rattle.std.specs.Int.{w64};
-ghost use Rattle.std.specs.Prelude.{FitsSigned, map, ◌≡◌, ◌≢◌, ◌+◌, ◌-◌, ◌↔◌, pos, replicate, ◌<◌, ◌≤◌, ◌⊎◌, ◌∷◌, ◌++◌, [], true, false, IsTrue, Some, Ok, Err, length, slice_get, IfOk, IfErr, IfSome, IsNone, IsSome, OnOk, List, option_copied};
+ghost use Rattle.std.specs.Prelude.{FitsSigned, map, ◌≡◌, ◌≢◌, ◌+◌, ◌-◌, ◌↔◌, pos, replicate, ◌<◌, ◌≤◌, ◌⊎◌, ◌∷◌, ◌++◌, [], true, false, IsTrue, Some, Ok, Err, length, slice_get, IfOk, IfErr, IfSome, IsNone, IsSome, MatchResult, OnOk, List, option_copied};
 ghost use Rattle.std.specs.List.{AllByRecursion, insert, list_any};
 ghost use Rattle.ub_page.specs.Bytes.{padded};
 ghost use Rattle.ub_region.specs.Rows.{insert_row, split};
@@ -7,10 +7,13 @@ ghost use Rattle.ub_store.specs.Facts as facts;
 ghost use Rattle.ub_store.specs.Facts.{page_count, zero_page, Appends, MayFlush};
 ghost use Rattle.ub_store.specs.View.{SameTrace};
 ghost use Rattle.ub_table.specs.Keys.{AreKeysAscending, is_same};
-ghost use Rattle.ub_table.specs.Region.{IsRegion, key_of, keys_of, measures_of};
+ghost use Rattle.ub_table.specs.Region.{Region, IsRegion, key_of, keys_of, measures_of};
 ghost use Rattle.ub_tree.specs.Change as spec;
-ghost use Rattle.ub_tree.specs.Change.{AreRowsAt, IsStored, IsSeatIn, IsSeatThere, IsElsewhereSame, placed_with, IsInserted, IsSplitAt, HasRoom, IsExtensionFault, PutsAt, PutsRows, StoresRows, Writes};
+ghost use Rattle.ub_tree.specs.Change.{AreRowsAt, IsStored, IsSeatIn, IsSeatThere, IsElsewhereSame, IsOnSeat, placed_with, IsInserted, IsSplitAt, HasRoom, IsExtensionFault, IsStoreFault, PutsAt, PutsRows, StoresAt, StoresRows, Writes};
 ghost use Rattle.ub_tree.specs.Effects.{Searches, Changes};
+ghost use Rattle.ub_tree.specs.Holding.{AnswersKey, AnswersRow, CountsOut, index_for};
+ghost use Rattle.ub_tree.specs.Opened.{IsPassing};
+ghost use Rattle.ub_tree.specs.Others.{GrowsAt};
 ghost use Rattle.ub_tree.specs.Placed.{Placed, entry_of};
 ghost use Rattle.ub_writing.specs.Marks.{IsMarkPage};
 ghost use Rattle.ub_writing.specs.Puts.{Puts};
@@ -34,6 +37,7 @@ impl<S: PageStore> Tree<S> {
     // The room for a region, which is given back to `room` after use.
     pub(crate) fn take_room(&mut self) -> Result<Box<Room>, TreeFault>
         ensures same { self.new ≡ self.old }
+        ensures passing { IfErr result IsPassing }
         ensures effect { Searches self.old self.new result }
     {
         if let Some(room) = self.room.take() {
@@ -56,6 +60,8 @@ impl<S: PageStore> Tree<S> {
         ensures rows { facts.IsHonest self.old.store
             → OnOk result ((p : Placed) → slice_get self.old.placed seat.now.index ≡ Some p
             → rows.new ≡ p.region.rows) }
+        ensures taken { facts.IsHonest self.old.store → (r : Region)
+            → IsOnSeat self.old seat.now r → MatchResult result (λ _. rows.new ≡ r.rows) IsPassing }
         ensures there { OnOk result (seat.now.page < page_count self.old.store) }
         ensures effect { Searches self.old self.new result }
     {
@@ -67,8 +73,8 @@ impl<S: PageStore> Tree<S> {
     // Reads the region of a seat. After a fault any region may stand there.
     fn read_at(&mut self, seat: &Seat, region: &mut RegionPage) -> Result<(), TreeFault>
         requires { IsSeatIn self.old seat.now }
-        ensures dims { OnOk result (region.new.dims ≡ self.old.schema.dims) }
-        ensures first { OnOk result (region.new.region.first ≡ seat.now.first) }
+        ensures begins { OnOk result ((region.new.dims ≡ self.old.schema.dims)
+            × (region.new.region.first ≡ seat.now.first)) }
         ensures few { OnOk result
             (length region.new.region.rows ≤ self.old.schema.page_rows) }
         ensures at { OnOk result (AreRowsAt self.old.schema
@@ -76,6 +82,8 @@ impl<S: PageStore> Tree<S> {
         ensures rows { facts.IsHonest self.old.store
             → OnOk result ((p : Placed) → slice_get self.old.placed seat.now.index ≡ Some p
             → region.new.region.rows ≡ p.region.rows) }
+        ensures taken { facts.IsHonest self.old.store → (r : Region)
+            → IsOnSeat self.old seat.now r → MatchResult result (λ _. region.new.region ≡ r) IsPassing }
         ensures there { OnOk result (seat.now.page < page_count self.old.store) }
         ensures effect { Searches self.old self.new result }
     {
@@ -138,7 +146,7 @@ impl<S: PageStore> Tree<S> {
             } ∷ []) self.old.placed)) }
         ensures count { length self.new.placed ≡ length self.old.placed }
         ensures faults { IfErr result (λ fault. fault ≡ TreeFault.Store StoreFault.Device) }
-        ensures effect { Writes self.old self.new result }
+        ensures effect { Writes seat.now.index self.old self.new result }
     {
         write_region(&self.schema, seat.first(), rows, &mut drafts.page);
         self.put_page(seat, drafts)
@@ -164,7 +172,7 @@ impl<S: PageStore> Tree<S> {
         ensures written { PutsRows seat.now page.now self.old self.new result }
         ensures count { length self.new.placed ≡ length self.old.placed }
         ensures faults { IfErr result (λ fault. fault ≡ TreeFault.Store StoreFault.Device) }
-        ensures effect { Writes self.old self.new result }
+        ensures effect { Writes seat.now.index self.old self.new result }
     {
         match write_page(
             &mut self.pager,
@@ -181,6 +189,20 @@ impl<S: PageStore> Tree<S> {
         }
     }
 
+    // The refusal of a region more than the header can count. It never comes of a sound tree, whose
+    // regions have pages of their own.
+    fn uncounted(&self) -> TreeFault
+        ensures fault { result ≡ TreeFault.Page 0 PageFault.BadCount }
+        ensures unsound { length self.now.placed ≡ 4294967295 → ¬ (IsSound self.now) }
+    {
+        // Its contract tells the proof how many pages there can be.
+        let _pages = self.pager.pages();
+        TreeFault::Page {
+            page: 0,
+            fault: PageFault::BadCount,
+        }
+    }
+
     // Puts these halves of the rows of the region of a seat on its page and on a new one. All that
     // can be refused comes before the first page is written, and what the directory needs before the
     // store has a page more. After a failure of the device that isn't the directory's the tree has
@@ -194,7 +216,8 @@ impl<S: PageStore> Tree<S> {
         requires seat { IsSeatThere self.old seat.now }
         requires room { HasRoom seat.now.index halves.now.first self.old }
         requires few { (length halves.now.left.now ≤ 64) × (length halves.now.right.now ≤ 64) }
-        ensures same { OnOk result (IsElsewhereSame self.old self.new) }
+        ensures same { OnOk result (StoresAt seat.now.index self.old.schema.page_rows
+            self.old self.new) }
         ensures written { IsStored self.old → (p : Placed)
             → slice_get self.old.placed seat.now.index ≡ Some p
             → IsRegion self.old.schema (record { first = p.region.first; rows = halves.now.left.now })
@@ -206,10 +229,11 @@ impl<S: PageStore> Tree<S> {
               first = halves.now.first;
               right = halves.now.right.now;
             }) self.old self.new) }
+        ensures counted { CountsOut (length self.old.placed ≡ 4294967295) result }
         ensures effect { Changes self.old self.new result }
     {
         if self.regions() == MAX_PAGES {
-            return Err(TreeFault::Store(StoreFault::BadSize));
+            return Err(self.uncounted());
         }
         let mark = self.mark(&mut drafts.mark);
         write_region(&self.schema, seat.first(), halves.left, &mut drafts.page);
@@ -255,10 +279,13 @@ impl<S: PageStore> Tree<S> {
             < length (insert_row self.old.schema.dims row.now room.old.region.region.rows)
             → HasRoom seat.now.index (split self.old.schema.dims self.old.schema.page_rows
             (insert_row self.old.schema.dims row.now room.old.region.region.rows)).first self.old }
-        ensures same { OnOk result (IsElsewhereSame self.old self.new) }
+        ensures same { OnOk result (StoresAt seat.now.index
+            (length room.old.region.region.rows) self.old self.new) }
         ensures written { StoresRows seat.now.index
             (insert_row self.old.schema.dims row.now room.old.region.region.rows)
             self.old self.new result }
+        ensures counted { CountsOut ((length room.old.region.region.rows ≡ self.old.schema.page_rows)
+            × (length self.old.placed ≡ 4294967295)) result }
         ensures effect { Changes self.old self.new result }
     {
         let index = index_in(room.region.keys(), key);
@@ -285,9 +312,11 @@ impl<S: PageStore> Tree<S> {
         requires room { HasRoom seat.now.index (split self.old.schema.dims
             self.old.schema.page_rows
             (insert room.old.region.region.rows index row.now)).first self.old }
-        ensures same { OnOk result (IsElsewhereSame self.old self.new) }
+        ensures same { OnOk result (StoresAt seat.now.index self.old.schema.page_rows
+            self.old self.new) }
         ensures written { StoresRows seat.now.index
             (insert room.old.region.region.rows index row.now) self.old self.new result }
+        ensures counted { CountsOut (length self.old.placed ≡ 4294967295) result }
         ensures effect { Changes self.old self.new result }
     {
         list_rows(&room.region, &mut room.rows);
@@ -302,8 +331,10 @@ impl<S: PageStore> Tree<S> {
         requires over { length rows.now ≡ self.old.schema.page_rows + 1 }
         requires room { HasRoom seat.now.index
             (split self.old.schema.dims self.old.schema.page_rows rows.now).first self.old }
-        ensures same { OnOk result (IsElsewhereSame self.old self.new) }
+        ensures same { OnOk result (StoresAt seat.now.index self.old.schema.page_rows
+            self.old self.new) }
         ensures written { StoresRows seat.now.index rows.now self.old self.new result }
+        ensures counted { CountsOut (length self.old.placed ≡ 4294967295) result }
         ensures effect { Changes self.old self.new result }
     {
         let halves = rows.split(self.schema.shape(), self.schema.page_rows());
@@ -313,9 +344,10 @@ impl<S: PageStore> Tree<S> {
     /// Puts a row in, with these coordinates and measures, and gives its number: one more than the last row got.
     ///
     /// Full comes exactly where the last number is given. Failed comes where the tree has failed; Page where a page is
-    /// refused, as BadOrder where the region on it has the new row's key already; Memory where memory was refused; Store where
-    /// the store failed in this call, has no such page, or can have no more of them (BadSize). After Store with Device the
-    /// tree may have failed; after another fault it is as it was.
+    /// refused, as BadOrder where the region on it has the new row's key already, as BadCount on page 0 where a region more
+    /// is needed than can be counted; Memory where memory was refused; Store where the store failed in this call, has no such
+    /// page, or can have no more of them (BadSize). After Store with Device the tree may have failed; after another fault it
+    /// is as it was.
     pub fn insert(&mut self, dims: &[u32], measures: &[i64]) -> Result<u32, TreeFault>
         requires dims { length dims.now ≡ self.old.schema.dims }
         requires measures { length measures.now ≡ measures_of self.old.schema }
@@ -324,10 +356,12 @@ impl<S: PageStore> Tree<S> {
             (spec.row_of n dims.now measures.now) self.old self.new) }
         ensures number { IfOk result (λ n. n ≡ self.old.next) }
         ensures counted { OnOk result ((self.new.next ≡ self.old.next + 1)
-            × (self.new.rows ≡ self.old.rows + 1) × (self.new.is_failed ≡ false)) }
+            × (self.new.rows ≡ self.old.rows + 1) × (self.new.is_failed ≡ false)
+            × GrowsAt (index_for self.old (key_of self.old.schema.dims
+            (spec.row_of self.old.next dims.now measures.now))) self.old self.new) }
         ensures failed { IsTrue self.old.is_failed → result ≡ Err TreeFault.Failed }
-        ensures full { self.old.is_failed ≡ false → self.old.next ≡ MAX_ROW_NUMBER + 1
-            → result ≡ Err TreeFault.Full }
+        ensures refused { self.old.is_failed ≡ false → AnswersRow self.old
+            (key_of self.old.schema.dims (spec.row_of self.old.next dims.now measures.now)) result }
         ensures effect { Changes self.old self.new result }
     {
         if self.is_failed {
@@ -351,14 +385,17 @@ impl<S: PageStore> Tree<S> {
     ) -> Result<u32, TreeFault>
         requires dims { length dims.now ≡ self.old.schema.dims }
         requires measures { length measures.now ≡ measures_of self.old.schema }
-        requires working { self.old.is_failed ≡ false }
-        requires not_last { self.old.next ≢ MAX_ROW_NUMBER + 1 }
+        requires able { (self.old.is_failed ≡ false) × (self.old.next ≢ MAX_ROW_NUMBER + 1) }
         ensures inserted { IsSound self.old
             → IfOk result (λ n. IsInserted
             (spec.row_of n dims.now measures.now) self.old self.new) }
         ensures number { IfOk result (λ n. n ≡ self.old.next) }
         ensures counted { OnOk result ((self.new.next ≡ self.old.next + 1)
-            × (self.new.rows ≡ self.old.rows + 1) × (self.new.is_failed ≡ false)) }
+            × (self.new.rows ≡ self.old.rows + 1) × (self.new.is_failed ≡ false)
+            × GrowsAt (index_for self.old (key_of self.old.schema.dims
+            (spec.row_of self.old.next dims.now measures.now))) self.old self.new) }
+        ensures refused { facts.IsHonest self.old.store → AnswersKey self.old
+            (key_of self.old.schema.dims (spec.row_of self.old.next dims.now measures.now)) result }
         ensures effect { Changes self.old self.new result }
     {
         let row = row_of(self.next, dims, measures);
@@ -389,6 +426,7 @@ fn add_page<S: PageStore>(pager: &mut Pager<S>, is_failed: &mut bool) -> Result<
     }) }
     ensures working { OnOk result (is_failed.new ≡ is_failed.old) }
     ensures trace { SameTrace pager.old pager.new }
+    ensures stored { IfErr result IsStoreFault }
     ensures refused { IfErr result
         (IsExtensionFault is_failed.old is_failed.new pager.old pager.new) }
 {

@@ -1,8 +1,9 @@
-ghost use Rattle.std.specs.Prelude.{◌≡◌, ◌<◌, false, length, map, IsTrue, IsOkAnd, IsErrAnd, IfOk, IfErr};
-ghost use Rattle.ub_store.specs.Facts.{IsHonest};
+ghost use Rattle.std.specs.Prelude.{◌≡◌, ◌<◌, ℕ, List, false, length, map, IsTrue, IsOkAnd, IsErrAnd, IfOk, IfErr};
+ghost use Rattle.ub_store.specs.Facts.{IsHonest, page_count};
+ghost use Rattle.ub_directory.specs.Chain.{AreOwn};
 ghost use Rattle.ub_directory.specs.Writing.{IsSaved};
 ghost use Rattle.ub_tree.specs.Closing.{IsCloseFault};
-ghost use Rattle.ub_writing.specs.Closing.{IsUnclosed};
+ghost use Rattle.ub_writing.specs.Closing.{IsClosed, IsUnclosed};
 ghost use Rattle.ub_tree.specs.Effects.{written_store};
 ghost use Rattle.ub_tree.specs.Placed.{entry_of};
 ghost use Rattle.ub_tree.specs.Stored.{AreSoundPages};
@@ -24,6 +25,10 @@ impl<S: PageStore> Tree<S> {
     pub fn close(self) -> Result<S, Rejected<S, TreeFault>>
         ensures closed { IsSound self → IfOk result (λ s. IsHonest (S.facts s)
             × AreSoundPages (S.facts s).pages self.schema self.placed self.next) }
+        ensures table { IsTrue self.is_changed → (numbers : List ℕ) → IsHonest self.store
+            → AreOwn (page_count self.store) self.inner.chain numbers
+            → IfOk result (λ s. IsClosed self.schema self.next self.rows numbers
+            (map entry_of self.placed) self.store (S.facts s)) }
         ensures saved { IsTrue self.is_changed
             → IfOk result (λ s. IsSaved (length self.placed) (length self.inner.chain) self.store
             (S.facts s)) }

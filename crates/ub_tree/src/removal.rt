@@ -4,9 +4,11 @@ ghost use Rattle.ub_region.specs.Joins.{JoinsNext, JoinsBefore, put_rows};
 ghost use Rattle.ub_region.specs.Regions.{settle};
 ghost use Rattle.ub_store.specs.Facts as facts;
 ghost use Rattle.ub_table.specs.Region.{Region, IsRegion};
-ghost use Rattle.ub_tree.specs.Change.{IsStored, IsSeatIn, IsSeatThere, IsElsewhereSame};
+ghost use Rattle.ub_tree.specs.Change.{IsStored, IsSeatIn, IsSeatThere, JoinsAt, TakesAt};
 ghost use Rattle.ub_tree.specs.Effects.{Searches, Changes};
-ghost use Rattle.ub_tree.specs.Removal.{IsRemoved, IsNotFull};
+ghost use Rattle.ub_tree.specs.Holding.{AnswersRemoval, index_for};
+ghost use Rattle.ub_tree.specs.Others.{ShrinksAt};
+ghost use Rattle.ub_tree.specs.Removal.{IsRemoved, IsRemovalFault};
 ghost use Rattle.ub_tree.specs.View.{IsSound, regions};
 
 use crate::fault::TreeFault;
@@ -40,14 +42,14 @@ impl<S: PageStore> Tree<S> {
         requires seat { IsSeatThere self.old seat.now }
         requires next { IsSeatIn self.old next.now × (next.now.index ≡ seat.now.index + 1) }
         requires few { length rows.now ≤ 64 }
-        ensures same { OnOk result (IsElsewhereSame self.old self.new) }
+        ensures same { OnOk result (JoinsAt seat.now.index self.old self.new) }
         ensures written { IsStored self.old
             → AllByRecursion (IsRegion self.old.schema)
             (put_rows seat.now.index true rows.now (regions self.old))
             → OnOk result (IsStored self.new
             × (regions self.new ≡ put_rows seat.now.index true rows.now (regions self.old))) }
         ensures effect { Changes self.old self.new result }
-        ensures not_full { IfErr result IsNotFull }
+        ensures faults { IfErr result (IsRemovalFault self.old) }
     {
         let dropping = self.prepare_drop(next)?;
         self.rewrite(seat, rows, drafts)?;
@@ -110,7 +112,7 @@ impl<S: PageStore> Tree<S> {
     fn settle(&mut self, seat: &Seat, room: &mut Room) -> Result<(), TreeFault>
         requires seat { IsSeatThere self.old seat.now }
         requires few { length room.old.rows ≤ self.old.schema.page_rows }
-        ensures same { OnOk result (IsElsewhereSame self.old self.new) }
+        ensures same { OnOk result (TakesAt seat.now.index self.old self.new) }
         ensures written { IsStored self.old
             → AllByRecursion (IsRegion self.old.schema)
             (settle self.old.schema.page_rows seat.now.index
@@ -119,7 +121,7 @@ impl<S: PageStore> Tree<S> {
             × (regions self.new ≡ settle self.old.schema.page_rows seat.now.index
             (put_rows seat.now.index false room.old.rows (regions self.old)))) }
         ensures effect { Changes self.old self.new result }
-        ensures not_full { IfErr result IsNotFull }
+        ensures faults { IfErr result (IsRemovalFault self.old) }
     {
         if !room.rows.are_few(self.schema.page_rows()) {
             return self.rewrite(seat, room.rows.as_slice(), &mut room.drafts);
@@ -144,9 +146,14 @@ impl<S: PageStore> Tree<S> {
         ensures removed { IsSound self.old
             → IfOk result (λ found. IsRemoved key found self.old self.new) }
         ensures untouched { IfOk result (λ found. found ≡ false → self.new ≡ self.old) }
+        ensures counted { IfOk result (λ found. found ≡ true → (self.new.next ≡ self.old.next)
+            × (self.new.rows + 1 ≡ self.old.rows)
+            × ShrinksAt (index_for self.old key) self.old self.new) }
         ensures failed { IsTrue self.old.is_failed → result ≡ Err TreeFault.Failed }
+        ensures refused { self.old.is_failed ≡ false → facts.IsHonest self.old.store
+            → AnswersRemoval self.old key result }
         ensures effect { Changes self.old self.new result }
-        ensures not_full { IfErr result IsNotFull }
+        ensures faults { IfErr result (IsRemovalFault self.old) }
     {
         if self.is_failed {
             return Err(TreeFault::Failed);
@@ -163,8 +170,12 @@ impl<S: PageStore> Tree<S> {
         ensures removed { IsSound self.old
             → IfOk result (λ found. IsRemoved key.now found self.old self.new) }
         ensures untouched { IfOk result (λ found. found ≡ false → self.new ≡ self.old) }
+        ensures counted { IfOk result (λ found. found ≡ true → (self.new.next ≡ self.old.next)
+            × (self.new.rows + 1 ≡ self.old.rows)
+            × ShrinksAt (index_for self.old key.now) self.old self.new) }
+        ensures refused { facts.IsHonest self.old.store → AnswersRemoval self.old key.now result }
         ensures effect { Changes self.old self.new result }
-        ensures not_full { IfErr result IsNotFull }
+        ensures faults { IfErr result (IsRemovalFault self.old) }
     {
         let seat = self.seat_of(key)?;
         self.rows_at(&seat, &mut room.region, &mut room.rows)?;

@@ -1,8 +1,9 @@
-ghost use Rattle.std.specs.Prelude.{◌≡◌, ◌≤◌, map, IfOk};
+ghost use Rattle.std.specs.Prelude.{◌≡◌, ◌≤◌, map, IfErr, IfOk};
 ghost use Rattle.ub_directory.specs.Slots.{IsSeatAfter, IsSeatBefore};
 ghost use Rattle.ub_region.specs.Regions.{index_holding};
 ghost use Rattle.ub_tree.specs.Change.{IsSeatIn};
 ghost use Rattle.ub_tree.specs.Effects.{Searches};
+ghost use Rattle.ub_tree.specs.Opened.{IsPassing};
 ghost use Rattle.ub_tree.specs.Placed.{entry_of};
 ghost use Rattle.ub_tree.specs.Spans.{first_keys};
 
@@ -18,6 +19,7 @@ impl<S: PageStore> Tree<S> {
         ensures seat { IfOk result (IsSeatIn self.old) }
         ensures index { IfOk result (λ seat. seat.index ≡
             index_holding key.now (first_keys (map entry_of self.old.placed))) }
+        ensures passing { IfErr result IsPassing }
         ensures effect { Searches self.old self.new result }
     {
         let seat = self.directory.seat_of(&mut self.pager, key)?;

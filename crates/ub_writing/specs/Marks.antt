@@ -1,6 +1,7 @@
 -- The mark of a table that is being changed, and when it is put.
-use Rattle.std.specs.Prelude.{◌≡◌, ◌≢◌, ◌<◌, ℕ, Bool, true, false, List, Option, Some, MatchOption, slice_get}
+use Rattle.std.specs.Prelude.{◌≡◌, ◌≢◌, ◌<◌, ℕ, Bool, true, false, List, ◌∷◌, Option, Some, MatchOption, slice_get}
 use Rattle.std.specs.List.{AllByRecursion}
+use Rattle.ub_directory.specs.Writing.{KeepsBut}
 use Rattle.ub_page.specs.Header.{IsHeader, header_page}
 use Rattle.ub_page.specs.declared.header.Header.{Header}
 use Rattle.ub_store.specs.Facts.{StoreFacts, IsHonest, page_count}
@@ -29,10 +30,11 @@ PutsMark mark old new = MatchOption mark (slice_get new.pages 0 ≡ slice_get ol
 abbrev pub KeepsUnless : Bool → StoreFacts → StoreFacts → Type 0
 KeepsUnless is_changed old new = IsHonest old → is_changed ≡ false → (m : ℕ) → m ≢ 0 → m < page_count old → slice_get new.pages m ≡ slice_get old.pages m
 
--- what a write of the pages of these numbers does, before which the mark is put that is given: until the table is marked as
--- changed no page but the first is written, and from then on that is the mark, unless another page stands there
+-- what a write of the pages of these numbers does, before which the mark is put that is given: no page is written but the
+-- first and these, nor does another one last; until the table is marked as changed no page but the first is written, and from
+-- then on that is the mark, unless another page stands there
 pub record Marks (mark : Option (List ℕ)) (numbers : List ℕ) (was now : Bool) (old new : StoreFacts) : Type 0 where
-  pub count : page_count new ≡ page_count old
+  pub others : KeepsBut (0 ∷ numbers) old new
   pub stays : was ≡ true → now ≡ true
   pub kept : KeepsUnless now old new
   pub first : IsHonest old → AllByRecursion (λ n. n ≢ 0) numbers → now ≡ true → PutsMark mark old new

@@ -1,4 +1,8 @@
-use Rattle.std.proofs.Common.{ap, rules}
+use Rattle.std.proofs.Common.{List, ap, rules, subst, sym}
+use Rattle.ub_page.specs.declared.directory.Entry.{Entry}
+use Rattle.ub_writing.specs.Closing.{IsClosed}
+use Rattle.ub_tree.specs.Tree.{known_pages}
+use Rattle.ub_tree.proofs.TreeFacts.{entries_back}
 use Rattle.ub_store.specs.Facts.{StoreFacts}
 use Rattle.ub_tree.proofs.CloseFacts.{sound_pages, sound_unclosed, close_refused}
 use Rattle.ub_tree.proofs.tree.Tree.close.Goals as goal
@@ -26,3 +30,10 @@ returns-in-Ok-clause-unchanged g c = search rules
 
 pub returns-clause-unchanged : goal.returns-clause-unchanged
 returns-clause-unchanged g c = search rules
+
+pub returns-in-Ok-clause-table : goal.returns-in-Ok-clause-table
+returns-in-Ok-clause-table g c =
+    let t = c.self.inside in
+    rw (c.into_store-in-Ok.ensures, ← c.self.view_is) (λ changed numbers honest own.
+    subst (λ (es : List Entry). IsClosed t.schema t.next t.rows numbers es t.pager.store c.write_table.new.pager.store) (sym (entries_back t.schema (known_pages t.pager.store) t.directory.entries))
+    (c.in-Ok.ensures.closed numbers honest own))

@@ -1,4 +1,9 @@
-use Rattle.std.proofs.Common.{rules}
+use Rattle.std.proofs.Common.{rules, ap, arith, subst, sym}
+use Rattle.ub_store.specs.Facts.{IsHonest}
+use Rattle.ub_table.specs.Region.{key_of}
+use Rattle.ub_tree.specs.Change.{row_of}
+use Rattle.ub_tree.specs.Holding.{AnswersKey}
+use Rattle.ub_tree.specs.View.{TreeView}
 use Rattle.ub_tree.proofs.WriteFacts.{searched_by}
 use Rattle.ub_tree.proofs.tree.Tree.insert.Goals as goal
 
@@ -15,5 +20,12 @@ returns-in_err-room-clause-failed g c = search rules
 pub returns-clause-failed : goal.returns-clause-failed
 returns-clause-failed g c = search rules
 
-pub insert_within-inserted-requires-clause-working : goal.insert_within-inserted-requires-clause-working
-insert_within-inserted-requires-clause-working g c = search rules
+pub insert_within-inserted-requires-clause-able : goal.insert_within-inserted-requires-clause-able
+insert_within-inserted-requires-clause-able g c = search rules
+
+pub returns-clause-refused : goal.returns-clause-refused
+returns-clause-refused g c = λ working. (
+  λ last. absurd (let differs = c.if-self-eq-NEXT_END.false in let same = ap (λ (v : TreeView). v.next) c.self.view_is in omega arith),
+  λ not_last honest. subst (λ (v : TreeView). AnswersKey v (key_of v.schema.dims (row_of v.next c.args.dims.now c.args.measures.now)) c.insert_within-inserted.result) c.in_ok-room.ensures.same
+      (c.insert_within-inserted.ensures.refused (subst (λ (v : TreeView). IsHonest v.store) (sym c.in_ok-room.ensures.same) honest)),
+)

@@ -7,6 +7,7 @@ use Rattle.std.proofs.lemmas.List.{length-map}
 use Rattle.ub_tree.specs.View.{TreeView}
 use Rattle.ub_tree.specs.Placed.{Placed, entry_of}
 use Rattle.ub_tree.proofs.CallFacts.{same_there}
+use Rattle.ub_tree.proofs.ChangedFacts.{joined_at}
 use Rattle.ub_tree.proofs.ShrinkFacts.{rewritten_joined}
 use Rattle.ub_tree.proofs.WriteFacts.{changed_by, changes_by, counted_anew, searched_by, then_changed}
 use Rattle.ub_tree.proofs.tree.Tree.join_at.Goals as goal
@@ -45,7 +46,7 @@ returns-clause-written g c = λ stored.
 pub returns-in_err-rewrite-clause-effect : goal.returns-in_err-rewrite-clause-effect
 returns-in_err-rewrite-clause-effect g c =
     then_changed c.from_residual-in_err-rewrite.result c.args.self.now c.prepare_drop.new.self c.rewrite.new.self c.in_ok-dropping.ensures.effect.same
-    (changes_by c.from_residual-in_err-rewrite.result c.in_err-rewrite.field-0.0 c.prepare_drop.new.self c.rewrite.new.self c.from_residual-in_err-rewrite.ensures.1 c.in_err-rewrite.ensures.effect)
+    (changes_by c.from_residual-in_err-rewrite.result c.in_err-rewrite.field-0.0 c.args.seat.now.index c.prepare_drop.new.self c.rewrite.new.self c.from_residual-in_err-rewrite.ensures.1 c.in_err-rewrite.ensures.effect)
 
 pub returns-clause-effect : goal.returns-clause-effect
 returns-clause-effect g c =
@@ -53,4 +54,10 @@ returns-clause-effect g c =
     then_changed (Ok tt) c.args.self.now c.prepare_drop.new.self c.forget.new.self c.in_ok-dropping.ensures.effect.same
     (counted_anew {T = Unit {0}} {U = Unit {0}} tt tt c.prepare_drop.new.self mid c.forget.new.self c.forget.new.self.placed mid.rows mid.next
     (c.forget.ensures.same ∙ ap (λ (ps : List Placed). record mid { placed = ps }) (sym (ap (λ (v : TreeView). v.placed) c.forget.ensures.same)))
-    (changed_by {T = Unit {0}} (Ok tt) c.prepare_drop.new.self mid c.in_ok-rewrite.ensures.effect))
+    (changed_by {T = Unit {0}} (Ok tt) c.args.seat.now.index c.prepare_drop.new.self mid c.in_ok-rewrite.ensures.effect))
+
+pub returns-clause-same : goal.returns-clause-same
+returns-clause-same g c =
+    joined_at c.args.seat.now.index c.args.self.now c.prepare_drop.new.self c.rewrite.new.self c.forget.new.self c.in_ok-dropping.dropping.index c.in_ok-dropping.ensures.effect.same
+    (ap (λ (d : DroppingView). d.index) c.in_ok-dropping.ensures.dropping ∙ c.requires.next.1)
+    c.in_ok-rewrite.ensures.same c.in_ok-rewrite.ensures.effect.entries c.in_ok-rewrite.ensures.effect.kept c.forget.ensures.same

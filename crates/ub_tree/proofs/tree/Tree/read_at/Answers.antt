@@ -1,7 +1,9 @@
-use Rattle.std.proofs.Common.{◌≡◌, ◌<◌, ◌∙◌, Some, refl, arith, length, slice_get}
+use Rattle.std.proofs.Common.{◌≡◌, ◌<◌, ◌∙◌, Some, refl, ap, arith, length, slice_get}
 use Rattle.std.proofs.lemmas.Option.{slice_get_within}
-use Rattle.ub_page.specs.Region.{region_page}
+use Rattle.ub_page.specs.Region.{RegionView, region_page}
 use Rattle.ub_table.specs.Region.{Region}
+use Rattle.ub_tree.specs.Faults.{tree_fault}
+use Rattle.ub_tree.proofs.HoldingFacts.{passing_by, passing_read}
 use Rattle.ub_tree.specs.Tree.{tree_view, known_pages}
 use Rattle.ub_tree.specs.View.{TreeView}
 use Rattle.ub_tree.proofs.CallFacts.{tree_entry_known, page_refused_by, store_refused, known_is, refused_there, missing_there, read_there, read_page_by, searched_tree, page_still, seated}
@@ -80,3 +82,36 @@ returns-clause-at g c =
     rw (← c.self.view_is, entries_back t.schema (known_pages t.pager.store) t.directory.entries)
     (rows_at_index t.schema t.directory.entries c.args.seat.now.index e c.next.result c.take_region.new.region.region c.take_region.new.region.region.rows at (c.next.ensures ∙ stands.next) c.in_ok-take_region.ensures.found.0
     c.in_ok-take_region.ensures.held refl)
+
+pub returns-in_err-bring-clause-taken : goal.returns-in_err-bring-clause-taken
+returns-in_err-bring-clause-taken g c =
+    let t = c.self.inside in
+    rw (← c.self.view_is) (λ honest r on. passing_by c.from_residual.result (tree_fault c.in_err-bring.field-0.0) _ c.from_residual.ensures.1
+    (passing_read (Unit {0}) c.in_err-bring.field-0.0
+    (λ no_page.
+    let there = slice_get_within t.pager.store.pages c.args.seat.now.page (region_page t.schema r) (on.page honest) in
+    let past = c.in_err-bring.ensures.missing no_page in
+    let number = c.page-number.ensures in
+    omega arith)
+    c.in_err-bring.ensures.no_size))
+
+pub returns-in_err-take_region-clause-taken : goal.returns-in_err-take_region-clause-taken
+returns-in_err-take_region-clause-taken g c =
+    let t = c.self.inside in
+    rw (← c.self.view_is) (λ honest r on.
+    let at : slice_get t.pager.store.pages c.page-number.result ≡ Some c.cached.result.now = page_still _ _ _ _ _ c.in_ok-bring.ensures.effect c.cached.ensures.page honest in
+    let there : slice_get t.pager.store.pages c.page-number.result ≡ Some (region_page t.schema r) = rw c.page-number.ensures (on.page honest) in
+    let page : c.cached.result.now ≡ region_page t.schema r = cc in
+    let good = c.take_region.ensures.exact r on.is page (rw (c.first.ensures, c.next.ensures) on.held) in
+    let bad = rw c.in_err-take_region.was at good.0 in
+    cc)
+
+pub returns-clause-taken : goal.returns-clause-taken
+returns-clause-taken g c =
+    let t = c.self.inside in
+    rw (← c.self.view_is) (λ honest r on.
+    let at : slice_get t.pager.store.pages c.page-number.result ≡ Some c.cached.result.now = page_still _ _ _ _ _ c.in_ok-bring.ensures.effect c.cached.ensures.page honest in
+    let there : slice_get t.pager.store.pages c.page-number.result ≡ Some (region_page t.schema r) = rw c.page-number.ensures (on.page honest) in
+    let page : c.cached.result.now ≡ region_page t.schema r = cc in
+    let good = c.take_region.ensures.exact r on.is page (rw (c.first.ensures, c.next.ensures) on.held) in
+    ap (λ (v : RegionView). v.region) good.1)

@@ -1,4 +1,4 @@
-use Rattle.std.proofs.Common.{◌≡◌, ◌<◌, ◌-◌, ◌^◌, ◌∙◌, ap, sym, subst, length, arith, true, false, refl, inl, inr, Bool, ℕ, Some, slice_get}
+use Rattle.std.proofs.Common.{◌≡◌, ◌<◌, ◌-◌, ◌^◌, ◌∙◌, ap, sym, subst, length, arith, true, false, refl, inl, inr, Ok, Err, Bool, ℕ, Some, slice_get}
 use Rattle.ub_region.proofs.Laws.{length-remove_row}
 use Rattle.ub_region.specs.Rows.{has_key, remove_row}
 use Rattle.ub_table.specs.declared.fault.PageFault.TheVariants.{BadCount}
@@ -9,7 +9,10 @@ use Rattle.ub_tree.specs.Placed.{Placed}
 use Rattle.ub_tree.specs.Tree.{known_pages, tree_view}
 use Rattle.ub_tree.specs.View.{TreeView}
 use Rattle.ub_tree.proofs.ShrinkFacts.{holder, none_removed, some_counted, shrunk}
+use Rattle.ub_tree.specs.Others.{ShrinksAt}
+use Rattle.ub_tree.proofs.ChangedFacts.{shrinks_by}
 use Rattle.ub_tree.proofs.CallFacts.{same_seat, same_there}
+use Rattle.ub_tree.proofs.HoldingFacts.{no_answer, removal_answers, removal_fault, unread_removal}
 use Rattle.ub_tree.proofs.TreeFacts.{length-placed}
 use Rattle.ub_tree.proofs.WriteFacts.{counted_anew, left_by, nothing_changed, searched_by, then_changed, unchanged}
 use Rattle.ub_tree.proofs.tree.Tree.remove_within.Goals as goal
@@ -39,7 +42,7 @@ returns-then-self-eq0-clause-effect g c =
     let dims : c.shape.result ≡ a.schema.dims = c.shape.ensures ∙ ap (λ (v : TreeView). v.schema.dims) (c.self.view_is ∙ same) in
     let found : has_key a.schema.dims key rows ≡ true = rw (← dims) (sym c.remove.ensures.found ∙ c.if-not-remove.false) in
     let none : a.rows ≡ 0 = sym (ap (λ (v : TreeView). v.rows) (c.self.view_is ∙ same)) ∙ c.if-self-eq0.true in
-    subst (λ (v : TreeView). Changes {A = Bool} a v _) (sym same) (unchanged (Page 0 BadCount) a (some_counted a key c.in_ok-seat.seat.index rows held found none, inr (inl (refl, refl, none)), refl))
+    subst (λ (v : TreeView). Changes {A = Bool} a v _) (sym same) (unchanged (Page 0 BadCount) a (some_counted a key c.in_ok-seat.seat.index rows held found none, inr (inl (refl, refl, inl none)), refl))
 
 pub returns-in_err-seat-clause-effect : goal.returns-in_err-seat-clause-effect
 returns-in_err-seat-clause-effect g c =
@@ -99,5 +102,77 @@ returns-clause-removed g c =
     let d : TreeView = tree_view u.schema u.directory.entries u.directory.chain u.next (u.rows - 1) u.is_changed u.is_failed u.pager in
     let few : length after.placed < 2 ^ 32 = (let most = c.self-2.invariant.few in subst (λ (v : TreeView). length v.placed < 2 ^ 32) c.self-2.view_is
     (let long = length-placed u.schema (known_pages u.pager.store) u.directory.entries in omega arith)) in
-    shrunk a b after d key c.in_ok-seat.seat.index rows held same found c.in_ok-settle.ensures.same c.in_ok-settle.ensures.effect.marked.marked few
+    shrunk a b after d key c.in_ok-seat.seat.index rows held same found c.in_ok-settle.ensures.same.same c.in_ok-settle.ensures.effect.marked.marked few
     (ap (λ (v : TreeView). record v { rows = v.rows - 1 }) c.self-2.view_is) (rw left at c.in_ok-settle.ensures.written)
+
+pub returns-in_err-rows_at-clause-refused : goal.returns-in_err-rows_at-clause-refused
+returns-in_err-rows_at-clause-refused g c =
+    unread_removal c.args.self.now c.seat_of.new.self c.args.key.now c.in_ok-seat.seat c.in_ok-seat.ensures.effect.same c.in_ok-seat.ensures.seat c.in_ok-seat.ensures.index
+    c.from_residual-in_err-rows_at.result c.in_err-rows_at.field-0.0 c.from_residual-in_err-rows_at.ensures.1 c.in_err-rows_at.ensures.taken
+
+pub returns-then-not-remove-clause-refused : goal.returns-then-not-remove-clause-refused
+returns-then-not-remove-clause-refused g c =
+    let a = c.args.self.now in
+    let same : c.rows_at.new.self ≡ a = c.in_ok-rows_at.ensures.effect.same ∙ c.in_ok-seat.ensures.effect.same in
+    let rows = c.rows_at.new.rows in
+    let dims : c.shape.result ≡ a.schema.dims = c.shape.ensures ∙ ap (λ (v : TreeView). v.schema.dims) (c.self.view_is ∙ same) in
+    let found : has_key a.schema.dims c.args.key.now rows ≡ false = rw (← dims) (sym c.remove.ensures.found ∙ c.if-not-remove.true) in
+    removal_answers a c.seat_of.new.self c.args.key.now c.in_ok-seat.seat c.in_ok-seat.ensures.effect.same c.in_ok-seat.ensures.seat c.in_ok-seat.ensures.index rows c.in_ok-rows_at.ensures.taken
+    (Ok false) (λ has zero. absurd (let bad : true ≡ false = sym has ∙ found in cc)) (λ free. tt) (sym found)
+
+pub returns-then-self-eq0-clause-refused : goal.returns-then-self-eq0-clause-refused
+returns-then-self-eq0-clause-refused g c =
+    let a = c.args.self.now in
+    let same : c.rows_at.new.self ≡ a = c.in_ok-rows_at.ensures.effect.same ∙ c.in_ok-seat.ensures.effect.same in
+    let rows = c.rows_at.new.rows in
+    let dims : c.shape.result ≡ a.schema.dims = c.shape.ensures ∙ ap (λ (v : TreeView). v.schema.dims) (c.self.view_is ∙ same) in
+    let found : has_key a.schema.dims c.args.key.now rows ≡ true = rw (← dims) (sym c.remove.ensures.found ∙ c.if-not-remove.false) in
+    removal_answers a c.seat_of.new.self c.args.key.now c.in_ok-seat.seat c.in_ok-seat.ensures.effect.same c.in_ok-seat.ensures.seat c.in_ok-seat.ensures.index rows c.in_ok-rows_at.ensures.taken
+    (Err (Page 0 BadCount)) (λ has zero. refl) (λ free. absurd (let bad : true ≡ false = sym found ∙ free in cc)) tt
+
+pub returns-in_err-settle-clause-refused : goal.returns-in_err-settle-clause-refused
+returns-in_err-settle-clause-refused g c =
+    let a = c.args.self.now in
+    let same : c.rows_at.new.self ≡ a = c.in_ok-rows_at.ensures.effect.same ∙ c.in_ok-seat.ensures.effect.same in
+    let rows = c.rows_at.new.rows in
+    let dims : c.shape.result ≡ a.schema.dims = c.shape.ensures ∙ ap (λ (v : TreeView). v.schema.dims) (c.self.view_is ∙ same) in
+    let some = c.if-self-eq0.false in
+    let counts = ap (λ (v : TreeView). v.rows) (c.self.view_is ∙ same) in
+    let found : has_key a.schema.dims c.args.key.now rows ≡ true = rw (← dims) (sym c.remove.ensures.found ∙ c.if-not-remove.false) in
+    removal_answers a c.seat_of.new.self c.args.key.now c.in_ok-seat.seat c.in_ok-seat.ensures.effect.same c.in_ok-seat.ensures.seat c.in_ok-seat.ensures.index rows c.in_ok-rows_at.ensures.taken
+    c.from_residual-in_err-settle.result (λ has zero. absurd (omega arith)) (λ free. absurd (let bad : true ≡ false = sym found ∙ free in cc))
+    (no_answer c.from_residual-in_err-settle.result c.in_err-settle.field-0.0 _ c.from_residual-in_err-settle.ensures.1)
+
+pub returns-clause-refused : goal.returns-clause-refused
+returns-clause-refused g c =
+    let a = c.args.self.now in
+    let same : c.rows_at.new.self ≡ a = c.in_ok-rows_at.ensures.effect.same ∙ c.in_ok-seat.ensures.effect.same in
+    let rows = c.rows_at.new.rows in
+    let dims : c.shape.result ≡ a.schema.dims = c.shape.ensures ∙ ap (λ (v : TreeView). v.schema.dims) (c.self.view_is ∙ same) in
+    let some = c.if-self-eq0.false in
+    let counts = ap (λ (v : TreeView). v.rows) (c.self.view_is ∙ same) in
+    let found : has_key a.schema.dims c.args.key.now rows ≡ true = rw (← dims) (sym c.remove.ensures.found ∙ c.if-not-remove.false) in
+    removal_answers a c.seat_of.new.self c.args.key.now c.in_ok-seat.seat c.in_ok-seat.ensures.effect.same c.in_ok-seat.ensures.seat c.in_ok-seat.ensures.index rows c.in_ok-rows_at.ensures.taken
+    (Ok true) (λ has zero. absurd (omega arith)) (λ free. tt) (sym found)
+
+pub returns-clause-counted : goal.returns-clause-counted
+returns-clause-counted g c = λ _.
+    let a = c.args.self.now in
+    let same : c.rows_at.new.self ≡ a = c.in_ok-rows_at.ensures.effect.same ∙ c.in_ok-seat.ensures.effect.same in
+    let after = c.settle.new.self in
+    let u = c.self-2.inside in
+    let d : TreeView = tree_view u.schema u.directory.entries u.directory.chain u.next (u.rows - 1) u.is_changed u.is_failed u.pager in
+    let shrinks = shrinks_by a c.rows_at.new.self after d same (ap (λ (v : TreeView). v.placed) c.self-2.view_is) (ap (λ (v : TreeView). v.store) c.self-2.view_is) c.in_ok-seat.seat.index c.in_ok-settle.ensures.same.shrunk in
+    let stored = c.in_ok-settle.ensures.same.same in
+    let rows : u.rows ≡ a.rows = ap (λ (v : TreeView). v.rows) c.self-2.view_is ∙ ap (λ (v : TreeView). v.rows) stored ∙ ap (λ (v : TreeView). v.rows) same in
+    let some = c.if-self-eq0.false in
+    let counts = ap (λ (v : TreeView). v.rows) (c.self.view_is ∙ same) in (
+      ap (λ (v : TreeView). v.next) c.self-2.view_is ∙ ap (λ (v : TreeView). v.next) stored ∙ ap (λ (v : TreeView). v.next) same,
+      omega arith,
+      subst (λ (i : ℕ). ShrinksAt i a d) c.in_ok-seat.ensures.index shrinks,
+    )
+
+pub returns-in_err-settle-clause-faults : goal.returns-in_err-settle-clause-faults
+returns-in_err-settle-clause-faults g c =
+    removal_fault c.from_residual-in_err-settle.result c.in_err-settle.field-0.0 c.args.self.now c.rows_at.new.self c.from_residual-in_err-settle.ensures.1
+    (c.in_ok-rows_at.ensures.effect.same ∙ c.in_ok-seat.ensures.effect.same) c.in_err-settle.ensures.faults

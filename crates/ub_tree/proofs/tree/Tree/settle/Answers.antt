@@ -1,9 +1,10 @@
-use Rattle.std.proofs.Common.{◌≡◌, ◌-◌, ◌/◌, ◌∙◌, ℕ, ap, sym, subst, arith, length, nat_lt, true, false, OnOk}
+use Rattle.std.proofs.Common.{◌≡◌, ◌-◌, ◌/◌, ◌∙◌, ℕ, inl, inr, refl, ap, sym, subst, arith, length, nat_lt, true, false, OnOk}
 use Rattle.std.specs.List.{AllByRecursion}
 use Rattle.ub_region.specs.Joins.{put_rows}
 use Rattle.ub_table.specs.Region.{IsRegion}
 use Rattle.ub_tree.specs.Change.{IsStored}
 use Rattle.ub_tree.specs.View.{TreeView, regions}
+use Rattle.ub_tree.proofs.ChangedFacts.{taken_alone, taken_joined}
 use Rattle.ub_tree.proofs.ShrinkFacts.{settled_large, settled_alone, settled_before}
 use Rattle.ub_tree.proofs.TreeFacts.{seat_within}
 use Rattle.ub_tree.proofs.WriteFacts.{changed_by, searched_by, then_changed}
@@ -51,9 +52,28 @@ returns-clause-written g c =
 pub returns-clause-effect : goal.returns-clause-effect
 returns-clause-effect g c =
     then_changed c.rewrite-2.result c.args.self.now c.join_before.new.self c.rewrite-2.new.self (c.in_ok-before.ensures.effect.same ∙ c.in_ok-next.ensures.effect.same)
-    (changed_by c.rewrite-2.result c.join_before.new.self c.rewrite-2.new.self c.rewrite-2.ensures.effect)
+    (changed_by c.rewrite-2.result c.args.seat.now.index c.join_before.new.self c.rewrite-2.new.self c.rewrite-2.ensures.effect)
 
 pub returns-in_err-before-clause-effect : goal.returns-in_err-before-clause-effect
 returns-in_err-before-clause-effect g c =
     then_changed c.from_residual-in_err-before.result c.args.self.now c.join_next.new.self c.join_before.new.self c.in_ok-next.ensures.effect.same
     (searched_by c.from_residual-in_err-before.result c.in_err-before.field-0.0 c.join_next.new.self c.join_before.new.self c.from_residual-in_err-before.ensures.1 c.in_err-before.ensures.effect)
+
+pub returns-then-not-are_few-clause-same : goal.returns-then-not-are_few-clause-same
+returns-then-not-are_few-clause-same g c =
+    taken_alone c.rewrite.result c.args.self.now c.args.self.now c.rewrite.new.self refl c.args.seat.now.index c.rewrite.ensures.same c.rewrite.ensures.effect
+
+pub returns-in-Some-clause-same : goal.returns-in-Some-clause-same
+returns-in-Some-clause-same g c =
+    taken_joined c.join_at.result c.args.self.now c.join_next.new.self c.join_at.new.self c.in_ok-next.ensures.effect.same c.args.seat.now.index c.args.seat.now.index (inl refl) c.join_at.ensures.same
+
+pub returns-in-Some-2-clause-same : goal.returns-in-Some-2-clause-same
+returns-in-Some-2-clause-same g c =
+    let stands = rw c.in-Some-2.is at c.in_ok-before.ensures.before in
+    taken_joined c.join_at-in-Some-2.result c.args.self.now c.join_before.new.self c.join_at-in-Some-2.new.self (c.in_ok-before.ensures.effect.same ∙ c.in_ok-next.ensures.effect.same)
+    c.args.seat.now.index c.in-Some-2.before.index (inr (sym stands.1)) c.join_at-in-Some-2.ensures.same
+
+pub returns-clause-same : goal.returns-clause-same
+returns-clause-same g c =
+    taken_alone c.rewrite-2.result c.args.self.now c.join_before.new.self c.rewrite-2.new.self (c.in_ok-before.ensures.effect.same ∙ c.in_ok-next.ensures.effect.same) c.args.seat.now.index
+    c.rewrite-2.ensures.same c.rewrite-2.ensures.effect

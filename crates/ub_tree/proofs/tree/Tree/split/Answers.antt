@@ -1,7 +1,8 @@
-use Rattle.std.proofs.Common.{◌≡◌, ◌<◌, ◌+◌, ◌∙◌, ◌∷◌, [], List, true, Some, Err, ap, subst, refl, arith, length, slice_get, option_copied}
+use Rattle.std.proofs.Common.{◌≡◌, ◌<◌, ◌+◌, ◌∙◌, ◌∷◌, [], List, true, Some, Err, ap, subst, refl, arith, length, slice_get, option_copied, rules}
 use Rattle.std.specs.List.{insert}
 use Rattle.ub_directory.specs.View.{AddingView}
 use Rattle.ub_store.specs.Facts.{StoreFacts}
+use Rattle.ub_store.specs.View.{PagerView}
 use Rattle.ub_page.specs.declared.directory.Entry.{Entry}
 use Rattle.ub_tree.specs.Change.{placed_with}
 use Rattle.ub_tree.specs.Effects.{Changes}
@@ -11,7 +12,8 @@ use Rattle.ub_tree.specs.View.{TreeView}
 use Rattle.ub_tree.specs.declared.fault.TreeFault.TheVariants.{Store}
 use Rattle.ub_tree.proofs.CallFacts.{only_device, past_pages, write_refused, seated}
 use Rattle.ub_tree.proofs.TreeFacts.{entries_back}
-use Rattle.ub_tree.proofs.WriteFacts.{halved, marks_first, unmarked, own_page, wrote, ended_by, put_is, grown_then, left_by, ready_leaves, ready_stored, ready_fresh, ready_number, ready_later}
+use Rattle.ub_tree.proofs.OthersFacts.{entries_grow, kept_at, one_region_of}
+use Rattle.ub_tree.proofs.WriteFacts.{halved, marks_first, unmarked, own_page, wrote, ended_by, put_is, grown_then, left_by, ready_leaves, ready_others, ready_stored, ready_fresh, ready_number, ready_later}
 use Rattle.ub_tree.proofs.tree.Tree.split.Goals as goal
 
 pub prepare_add-requires : goal.prepare_add-requires
@@ -76,13 +78,17 @@ returns-in-Ok-clause-effect g c =
       ready_later t.schema t.directory.entries t.directory.chain t.next t.rows t.is_changed t.is_failed t.pager c.prepare_add.new.pager c.add_page.new.pager AddingView c.in_ok-adding.adding c.in_ok-adding.ensures.effect c.in_ok-number.ensures.added c.in_ok-number.ensures.flushed c.in_ok-number.ensures.left c.in_ok-number.ensures.trace number c.in_ok-number.ensures.number c.self.invariant.some_chain sound,
       (own_page t.schema t.directory.entries t.directory.chain c.add_page.new.pager.store.pages (known_pages c.add_page.new.pager.store) c.args.seat.now.index e sound.placed_are at, tt),
     )))
-    refl tt))
+    refl tt)
+    (one_region_of t.schema t.directory.entries t.directory.chain t.next t.rows t.is_changed t.is_failed t.pager c.args.seat.now.index e new at
+    (ready_others t.schema t.directory.entries t.directory.chain t.next t.rows t.is_changed t.is_failed t.pager c.prepare_add.new.pager c.add_page.new.pager AddingView c.in_ok-adding.adding c.in_ok-adding.ensures.effect c.in_ok-number.ensures.added c.in_ok-number.ensures.flushed c.in_ok-number.ensures.left c.in_ok-number.ensures.trace
+    number c.in_ok-number.ensures.number e.page c.write_pages.new.pager.store c.write_pages.ensures.marks.others)))
 
 pub returns-in-Err-clause-effect : goal.returns-in-Err-clause-effect
 returns-in-Err-clause-effect g c =
     let t = c.self.inside in
     let stands = seated t.schema t.directory.entries t.directory.chain t.next t.rows t.is_changed t.is_failed t.pager c.args.self.now c.args.seat.now c.self.view_is c.requires.seat.0 in
     let e : Entry = record { first = c.first.result; page = c.page-2.result } in
+    let at : slice_get t.directory.entries c.args.seat.now.index ≡ Some e = rw (c.first.ensures, c.page-2.ensures) stands.entry in
     let at : slice_get t.directory.entries c.args.seat.now.index ≡ Some e = rw (c.first.ensures, c.page-2.ensures) stands.entry in
     let number = c.in_ok-number.number in
     let x : Entry = record { first = c.args.halves.now.first; page = number } in
@@ -107,4 +113,31 @@ returns-in-Err-clause-effect g c =
     (write_refused {U = Unit {0}} c.in-Err.cause old new (only_device {U = Unit {0}} c.in-Err.cause c.in-Err.ensures.faults
     (λ no_page. past_pages (length c.add_page.new.pager.store.pages) number e.page there here (c.in-Err.ensures.missing no_page))) c.in-Err.ensures.effect.device
     (ended_by t.schema t.directory.entries t.directory.entries t.directory.chain t.next t.rows t.is_changed c.write_pages.new.is_changed t.is_failed true c.add_page.new.pager c.write_pages.new.pager
-    (Unit {0}) c.in-Err.cause refl refl c.in-Err.ensures.effect.same c.in-Err.ensures.trace))))
+    (Unit {0}) c.in-Err.cause refl refl c.in-Err.ensures.effect.same c.in-Err.ensures.trace)))
+    (one_region_of t.schema t.directory.entries t.directory.chain t.next t.rows t.is_changed t.is_failed t.pager c.args.seat.now.index e new at
+    (ready_others t.schema t.directory.entries t.directory.chain t.next t.rows t.is_changed t.is_failed t.pager c.prepare_add.new.pager c.add_page.new.pager AddingView c.in_ok-adding.adding c.in_ok-adding.ensures.effect c.in_ok-number.ensures.added c.in_ok-number.ensures.flushed c.in_ok-number.ensures.left c.in_ok-number.ensures.trace
+    number c.in_ok-number.ensures.number e.page c.write_pages.new.pager.store c.write_pages.ensures.marks.others)))
+
+pub returns-in-Ok-clause-same : goal.returns-in-Ok-clause-same
+returns-in-Ok-clause-same g c =
+    let t = c.self.inside in
+    let stands = seated t.schema t.directory.entries t.directory.chain t.next t.rows t.is_changed t.is_failed t.pager c.args.self.now c.args.seat.now c.self.view_is c.requires.seat.0 in
+    let e : Entry = record { first = c.first.result; page = c.page-2.result } in
+    let at : slice_get t.directory.entries c.args.seat.now.index ≡ Some e = rw (c.first.ensures, c.page-2.ensures) stands.entry in
+    let number = c.in_ok-number.number in
+    let x : Entry = record { first = c.args.halves.now.first; page = number } in
+    let later = insert t.directory.entries (c.args.seat.now.index + 1) x in
+    let old = tree_view t.schema t.directory.entries t.directory.chain t.next t.rows t.is_changed t.is_failed t.pager in
+    let new = tree_view t.schema later t.directory.chain t.next t.rows true t.is_failed c.write_pages.new.pager in
+    let same : length c.prepare_add.new.pager.store.pages ≡ length t.pager.store.pages = ap (λ (p : PagerView). length p.store.pages) c.in_ok-adding.ensures.effect.same in
+    let more = c.in_ok-number.ensures.added.0 in
+    let count = c.write_pages.ensures.marks.others.count in
+    rw (← c.self.view_is, c.commit_add.ensures.same, c.in_ok-adding.ensures.adding, c.in_ok-adding.ensures.same, c.in-Ok.ensures.marked, c.in_ok-number.ensures.working) (record {
+      same = search rules;
+      others = kept_at t.schema t.directory.entries t.directory.chain t.next t.rows t.is_changed t.is_failed t.pager c.args.seat.now.index e new at
+          (ready_others t.schema t.directory.entries t.directory.chain t.next t.rows t.is_changed t.is_failed t.pager c.prepare_add.new.pager c.add_page.new.pager AddingView c.in_ok-adding.adding c.in_ok-adding.ensures.effect c.in_ok-number.ensures.added c.in_ok-number.ensures.flushed c.in_ok-number.ensures.left c.in_ok-number.ensures.trace
+          number c.in_ok-number.ensures.number e.page c.write_pages.new.pager.store c.write_pages.ensures.marks.others);
+      full = λ full. entries_grow t.schema t.directory.entries t.directory.chain t.next t.rows t.is_changed true t.is_failed t.is_failed t.pager c.write_pages.new.pager c.args.seat.now.index c.args.halves.now.first number
+          (c.in_ok-number.ensures.number ∙ same) (omega arith);
+      spare = λ spare. absurd (omega arith);
+    })

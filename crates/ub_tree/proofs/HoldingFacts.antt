@@ -1,0 +1,168 @@
+-- The region that a key falls into, and what calls must answer.
+use Rattle.std.proofs.Common.{◌≡◌, ◌<◌, ◌^◌, ◌++◌, inl, inr, ℕ, suc, Bool, true, false, List, [], ◌∷◌, Some, Result, Ok, Err, IfErr, MatchResult, length, map, ◌∙◌, sym, ap, subst, refl, arith, nat_eq, slice_get, IfOk, ℤ}
+use Rattle.std.proofs.lemmas.Bool.{cases_Bool, eqb-true}
+use Rattle.std.proofs.lemmas.List.{length-append, length-map}
+use Rattle.std.proofs.lemmas.Map.Steps.{length-le_from_distinct_below}
+use Rattle.std.specs.List.{AllByRecursion, list_any}
+use Rattle.std.specs.Result.{IsErrAnd, IsErrOf}
+use Rattle.ub_directory.specs.View.{SeatView}
+use Rattle.ub_page.specs.declared.directory.Entry.{Entry}
+use Rattle.ub_store.specs.Facts.{IsHonest, page_count}
+use Rattle.ub_store.specs.declared.fault.StoreFault.{StoreFault}
+use Rattle.ub_region.specs.Rows.{has_key}
+use Rattle.ub_table.specs.Region.{Region, key_of}
+use Rattle.ub_table.specs.declared.fault.PageFault.{PageFault}
+use Rattle.ub_table.specs.declared.fault.PageFault.TheVariants.{BadCount, BadOrder}
+use Rattle.ub_table.specs.declared.row.Row.{Row}
+use Rattle.ub_table.specs.declared.row.Key.{Key}
+use Rattle.ub_tree.specs.Change.{IsOnSeat, IsSeatIn, row_of}
+use Rattle.ub_tree.specs.Faults.{tree_fault}
+use Rattle.ub_tree.specs.Holding.{Answers, AnswersKey, AnswersRemoval, FallsInto, index_for}
+use Rattle.ub_tree.specs.Opened.{IsPassing}
+use Rattle.ub_tree.specs.Placed.{Placed, entry_of}
+use Rattle.ub_tree.specs.Removal.{IsRemovalFault}
+use Rattle.ub_tree.specs.Spans.{first_keys}
+use Rattle.ub_tree.specs.View.{TreeView, IsSound}
+use Rattle.ub_tree.specs.declared.fault.TreeFault.{TreeFault}
+use Rattle.ub_tree.specs.declared.fault.TreeFault.TheVariants.{Page}
+use Rattle.ub_tree.proofs.CloseFacts.{own_of}
+use Rattle.ub_tree.proofs.TreeFacts.{span_entry}
+use Rattle.ub_zaddr.specs.Address.{last_address}
+use Rattle.ub_store.specs.declared.fault.StoreFault.TheVariants as store
+
+each_below : (n q : ℕ) (xs : List ℕ) → AllByRecursion (λ m. m < n) xs → list_any (nat_eq q) xs ≡ true → q < n
+each_below n q [] all t = cc
+each_below n q (x ∷ xs) all t = elim (cases_Bool (nat_eq q x)) [
+  | inl e ↦ let same = eqb-true q x e in let lt = all.0 in omega arith
+  | inr f ↦ each_below n q xs all.1 (rw f at t)
+]
+
+-- the regions of a sound tree are fewer than the pages of its store
+pub never_full : (t : TreeView) → page_count t.store < 2 ^ 32 → length t.placed ≡ 4294967295 → ¬ (IsSound t)
+never_full t small many sound =
+    let numbers = map (λ (p : Placed). p.page) t.placed in
+    let own = own_of t.schema t.placed t.inner.chain t.store.pages sound.placed_are in
+    let most = length-le_from_distinct_below ((0 ∷ t.inner.chain) ++ numbers) (length t.store.pages) own.own (λ q. each_below (length t.store.pages) q ((0 ∷ t.inner.chain) ++ numbers) own.within) in
+    let long = length-append (0 ∷ t.inner.chain) numbers in
+    let mapped = length-map t.placed (λ (p : Placed). p.page) in
+    absurd (omega arith)
+
+-- the region that a key falls into is that of the seat of its index
+pub on_seat : (t : TreeView) (key : Key) (page : ℕ) (region : Region) (seat : SeatView) → FallsInto t key page region → IsSeatIn t seat → seat.index ≡ index_for t key → IsOnSeat t seat region × (seat.page ≡ page)
+on_seat t key page region seat h stands is =
+    let entries = map entry_of t.placed in
+    let (e, at, first, number, next) = span_entry (last_address t.schema.dims) entries (index_for t key) h.span h.at in
+    let here : slice_get entries (index_for t key) ≡ Some (record { first = seat.first; page = seat.page }) = subst (λ (i : ℕ). slice_get entries i ≡ Some (record { first = seat.first; page = seat.page })) is stands.entry in
+    let whole : Entry = record { first = seat.first; page = seat.page } in
+    let same : e ≡ whole = cc in
+    let begins : seat.first ≡ h.span.first = sym (ap (λ (x : Entry). x.first) same) ∙ first in
+    let stays : seat.page ≡ h.span.page = sym (ap (λ (x : Entry). x.page) same) ∙ number in
+    let after : seat.next ≡ h.span.next = stands.next ∙ ap (λ (i : ℕ). slice_get (first_keys entries) (suc i)) is ∙ sym next in (
+      record {
+        is = h.taken.0;
+        held = rw (begins, after) h.taken.1;
+        page = rw stays h.taken.2;
+      },
+      stays ∙ h.page_is,
+    )
+
+-- a read that failed, of a page that is there
+pub passing_read : (U : Type 0) (fault : StoreFault) → (IsErrOf {T = U} (Err fault) store.NoPage → ⊥) → (¬ (IsErrOf {T = U} (Err fault) store.BadSize)) → IsPassing (tree_fault fault)
+passing_read U store.Device missing size = inr refl
+passing_read U store.NoPage missing size = absurd (missing refl)
+passing_read U store.Memory missing size = inl refl
+passing_read U store.BadSize missing size = absurd (size refl)
+
+pub passing_by : {T : Type 0} (r : Result T TreeFault) (e : TreeFault) (P : T → Type 0) → IsErrAnd r (λ x. x ≡ e) → IsPassing e → MatchResult r P IsPassing
+passing_by (Ok x) e P is h = absurd is
+passing_by (Err f) e P is h = rw is h
+
+passing_answers : {A : Type 0} (r : Result A TreeFault) (e told : TreeFault) → IsErrAnd r (λ x. x ≡ e) → IsPassing e → Answers r told
+passing_answers (Ok x) e told is h = absurd is
+passing_answers (Err f) e told is h = rw is (inr h)
+
+passing_no_page : {A : Type 0} (r : Result A TreeFault) (e : TreeFault) (page : ℕ) (fault : PageFault) → IsErrAnd r (λ x. x ≡ e) → IsPassing e → r ≡ Err (Page page fault) → ⊥
+passing_no_page (Ok x) e page fault is h same = is
+passing_no_page (Err f) e page fault is (inl memory) same = cc
+passing_no_page (Err f) e page fault is (inr device) same = cc
+
+passing_fault : {A : Type 0} (r : Result A TreeFault) (e : TreeFault) → IsErrAnd r (λ x. x ≡ e) → IsPassing e → IfErr r IsPassing
+passing_fault (Ok x) e is h = tt
+passing_fault (Err f) e is h = rw is h
+
+pub fault_answers : {A : Type 0} (r : Result A TreeFault) (told : TreeFault) → IsErrAnd r (λ x. x ≡ told) → Answers r told
+fault_answers (Ok x) told is = absurd is
+fault_answers (Err f) told is = inl is
+
+pub other_fault : {A : Type 0} (U : Type 0) (r : Result A TreeFault) (e told : TreeFault) (s q : Result U TreeFault) → s ≡ Err e → q ≡ Err told → IsErrAnd r (λ x. x ≡ e) → s ≡ q → IsErrAnd r (λ x. x ≡ told)
+other_fault U (Ok x) e told s q is_s is_q is same = absurd is
+other_fault U (Err f) e told s q is_s is_q is same = let one : e ≡ told = cc in is ∙ one
+
+pub told_as : {A : Type 0} (r : Result A TreeFault) (e told : TreeFault) → IsErrAnd r (λ x. x ≡ e) → r ≡ Err told → e ≡ told
+told_as (Ok x) e told is same = absurd is
+told_as (Err f) e told is same = let one : f ≡ told = cc in sym is ∙ one
+
+pub removal_fault : {A : Type 0} (r : Result A TreeFault) (e : TreeFault) (a b : TreeView) → IsErrAnd r (λ x. x ≡ e) → b ≡ a → IsRemovalFault b e → IfErr r (IsRemovalFault a)
+removal_fault (Ok x) e a b is same h = tt
+removal_fault (Err f) e a b is same h = rw is (subst (λ (v : TreeView). IsRemovalFault v e) same h)
+
+pub no_answer : {A : Type 0} (r : Result A TreeFault) (e : TreeFault) (P : A → Type 0) → IsErrAnd r (λ x. x ≡ e) → IfOk r P
+no_answer (Ok x) e P is = absurd is
+no_answer (Err f) e P is = tt
+
+-- a seat was found, the tree is as it was, and the rows of its region are read where its page spells it
+module _ (a b : TreeView) (key : Key) (seat : SeatView) (same : b ≡ a) (stands : IsSeatIn a seat) (is : seat.index ≡ index_for a key) where
+  falls_on : IsHonest a.store → (page : ℕ) (region : Region) → FallsInto a key page region → IsHonest b.store × IsOnSeat b seat region × (seat.page ≡ page)
+  falls_on honest page region falls =
+      let on = on_seat a key page region seat falls stands is in
+      (subst (λ (v : TreeView). IsHonest v.store) (sym same) honest, subst (λ (v : TreeView). IsOnSeat v seat region) (sym same) on.0, on.1)
+
+  -- where it can't be read
+  pub unread_key : {A : Type 0} (r : Result A TreeFault) (e : TreeFault) → IsErrAnd r (λ x. x ≡ e) → (IsHonest b.store → (q : Region) → IsOnSeat b seat q → IsPassing e)
+      → IsHonest a.store → AnswersKey a key r
+  unread_key r e told taken honest page region falls =
+      let on = falls_on honest page region falls in
+      let passing = taken on.0 region on.1 in
+      (λ has. passing_answers r e _ told passing, λ none full many. passing_answers r e _ told passing, λ none number fault same. absurd (passing_no_page r e number fault told passing same))
+
+  pub unread_removal : (r : Result Bool TreeFault) (e : TreeFault) → IsErrAnd r (λ x. x ≡ e) → (IsHonest b.store → (q : Region) → IsOnSeat b seat q → IsPassing e)
+      → IsHonest a.store → AnswersRemoval a key r
+  unread_removal r e told taken honest page region falls =
+      let on = falls_on honest page region falls in
+      let passing = taken on.0 region on.1 in
+      (λ has none. passing_answers r e _ told passing, λ none. passing_fault r e told passing, no_answer r e _ told)
+
+  module _ (rows : List Row) (taken : IsHonest b.store → (q : Region) → IsOnSeat b seat q → rows ≡ q.rows) where
+    pub key_is_there : (A : Type 0) (number : ℕ) → number ≡ seat.page → has_key a.schema.dims key rows ≡ true → IsHonest a.store → AnswersKey {A = A} a key (Err (Page number BadOrder))
+    key_is_there A number at there honest there_page region falls =
+        let on = falls_on honest there_page region falls in
+        let read = taken on.0 region on.1 in
+        let here : has_key a.schema.dims key region.rows ≡ true = rw (← read) there in
+        (λ has. inl (ap (λ (n : ℕ). Page n BadOrder) (at ∙ on.2)), λ none full many. absurd (let bad : true ≡ false = sym here ∙ none in cc), λ none page fault is. absurd (let bad : true ≡ false = sym here ∙ none in cc))
+
+    pub key_isnt_there : {A : Type 0} (r : Result A TreeFault) → has_key a.schema.dims key rows ≡ false
+        → (length rows ≡ a.schema.page_rows → length a.placed ≡ 4294967295 → IsErrAnd r (λ x. x ≡ Page 0 BadCount))
+        → ((page : ℕ) (fault : PageFault) → r ≡ Err (Page page fault) → (length rows ≡ a.schema.page_rows) × (length a.placed ≡ 4294967295)) → IsHonest a.store → AnswersKey a key r
+    key_isnt_there r none most only honest number region falls =
+        let on = falls_on honest number region falls in
+        let read = taken on.0 region on.1 in
+        let here : has_key a.schema.dims key region.rows ≡ false = rw (← read) none in (
+          λ has. absurd (let bad : true ≡ false = sym has ∙ here in cc),
+          λ free full many. fault_answers r (Page 0 BadCount) (most (ap length read ∙ full) many),
+          λ free page fault is. let where_full = only page fault is in (sym (ap length read) ∙ where_full.0, where_full.1),
+        )
+
+    pub removal_answers : (r : Result Bool TreeFault) → (has_key a.schema.dims key rows ≡ true → a.rows ≡ 0 → IsErrAnd r (λ x. x ≡ Page 0 BadCount))
+        → (has_key a.schema.dims key rows ≡ false → IfErr r IsPassing) → IfOk r (λ found. found ≡ has_key a.schema.dims key rows) → IsHonest a.store → AnswersRemoval a key r
+    removal_answers r none passing found honest page region falls =
+        let on = falls_on honest page region falls in
+        let read = taken on.0 region on.1 in (
+          λ has zero. fault_answers r (Page 0 BadCount) (none (rw read has) zero),
+          λ free. passing (rw read free),
+          subst (λ (rs : List Row). IfOk r (λ found. found ≡ has_key a.schema.dims key rs)) read found,
+        )
+
+-- the key of the row that is put in
+pub next_key : (t a : TreeView) (dims : List ℕ) (measures : List ℤ) (shape : ℕ) (row : Row) (key : Key) → t ≡ a → shape ≡ t.schema.dims → row ≡ row_of t.next dims measures → key ≡ key_of shape row
+    → key ≡ key_of a.schema.dims (row_of a.next dims measures)
+next_key t a dims measures shape row key same is made of = of ∙ ap (λ (d : ℕ). key_of d row) is ∙ ap (key_of t.schema.dims) made ∙ ap (λ (v : TreeView). key_of v.schema.dims (row_of v.next dims measures)) same
