@@ -1,5 +1,5 @@
 -- A row put into a tree.
-use Rattle.std.proofs.Common.{◌≡◌, ◌≢◌, ◌<◌, ◌≤◌, ◌+◌, ◌-◌, ◌^◌, ℕ, ℤ, pos, zero, suc, Bool, true, false, List, [], ◌∷◌, ◌++◌, Some, Ok, Err, Result, OnOk, length, map, take, drop, replicate, nat_le, ◌∙◌, sym, ap, subst, refl, arith, slice_get, append_assoc, length-append, rules, Fits, get_or, w32}
+use Rattle.std.proofs.Common.{◌≡◌, ◌≢◌, ◌<◌, ◌≤◌, ◌+◌, ◌-◌, ◌^◌, ℕ, ℤ, pos, zero, suc, Bool, true, false, List, [], ◌∷◌, ◌++◌, Some, Ok, Err, Result, OnOk, length, map, take, drop, replicate, nat_le, ◌∙◌, sym, ap, subst, refl, arith, slice_get, slice_set, append_assoc, length-append, rules, Fits, get_or, w32}
 use Rattle.std.proofs.lemmas.List.{map-append, take-map, drop-map, length-replicate}
 use Rattle.std.proofs.lemmas.List.Elements.{All-append, All-from_recursion}
 use Rattle.std.proofs.Math.Facts.{Fits-lt-pow}
@@ -253,3 +253,14 @@ grown a b after d row index rows same h not_last written schema next count few m
     inserted_sound a after d row (schema ∙ schema_b) (next ∙ next_b) (count ∙ rows_b) changed sound_a
     (subst (λ (s : Schema). IsRow s.dims (measures_of s) row) schema_b h.good) (h.number ∙ next_b) not_last both.0 is few marked
     (subst (λ (s : Schema). HasMark s after.store.pages) (sym schema) (marks sound marked))
+
+-- measures put one after the other in the place of zeros
+pub filled_next : (ms : List ℤ) (i left : ℕ) (x : ℤ) → slice_get ms i ≡ Some x → slice_set (take i ms ++ replicate (suc left) (pos 0)) i x ≡ take (suc i) ms ++ replicate left (pos 0)
+filled_next [] i left x at = cc
+filled_next (m ∷ ms) zero left x at = let same : m ≡ x = cc in ap (λ (y : ℤ). y ∷ replicate left (pos 0)) (sym same)
+filled_next (m ∷ ms) (suc i) left x at = ap (λ (ys : List ℤ). m ∷ ys) (filled_next ms i left x at)
+
+pub measured_next : (ms : List ℤ) (i : ℕ) (x : ℤ) → slice_get ms i ≡ Some x → FitsSigned w64 x → AllByRecursion (λ y. FitsSigned w64 y) (take i ms) → AllByRecursion (λ y. FitsSigned w64 y) (take (suc i) ms)
+measured_next [] i x at fits all = cc
+measured_next (m ∷ ms) zero x at fits all = let same : m ≡ x = cc in (subst (λ (y : ℤ). FitsSigned w64 y) (sym same) fits, tt)
+measured_next (m ∷ ms) (suc i) x at fits all = (all.0, measured_next ms i x at fits all.1)

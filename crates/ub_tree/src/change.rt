@@ -447,7 +447,6 @@ fn row_of(number: u32, dims: &[u32], measures: &[i64]) -> Row
     ensures row { result ≡ spec.row_of number dims.now measures.now }
     ensures words { AllByRecursion (λ x. FitsSigned w64 x) measures.now }
 {
-    tell_words(measures);
     Row {
         number,
         dims: four_dims(dims),
@@ -465,13 +464,16 @@ fn four_dims(dims: &[u32]) -> [u32; 4]
     all
 }
 
-// The measures, and zeros after them.
+// The measures, each a number of 64 bits, and zeros after them.
 fn four_measures(measures: &[i64]) -> [i64; 4]
     requires { length measures.now ≤ 4 }
-    ensures { result ≡ measures.now ++ replicate (4 - length measures.now) (pos 0) }
+    ensures all { result ≡ measures.now ++ replicate (4 - length measures.now) (pos 0) }
+    ensures words { AllByRecursion (λ x. FitsSigned w64 x) measures.now }
 {
     let mut all = [0; 4];
-    all[..measures.len()].copy_from_slice(measures);
+    for (i, x) in measures.iter().enumerate() {
+        all[i] = *x;
+    }
     all
 }
 
@@ -480,19 +482,4 @@ fn has_key(keys: &[Key], key: &Key) -> bool
     ensures { result ≡ list_any (is_same key.now) keys.now }
 {
     keys.iter().any(|other| is_equal(key, other))
-}
-
-// Each measure is a number of 64 bits: it tells this to the proof alone.
-fn tell_words(measures: &[i64])
-    ensures { AllByRecursion (λ x. FitsSigned w64 x) measures.now }
-{
-    for x in measures {
-        tell_word(*x);
-    }
-}
-
-fn tell_word(x: i64)
-    ensures { FitsSigned w64 x }
-{
-    let _value = x;
 }
