@@ -2,8 +2,8 @@ use crate::marks::cut;
 use ub_shell::{Files, MemFiles};
 use ub_store::{PageStore, StoreFault};
 
-/// Damages a table file, or copies one, by a line that begins with the sign for it. It says whether there was such a file, and such
-/// a place in it.
+/// Damages a table file, or copies one, by a line that begins with the sign for it. It says whether there was such a file, and
+/// such a place in it.
 pub fn is_damaged(files: &mut MemFiles, line: &str) -> bool {
     let (sign, words) = cut(line);
     let (name, rest) = cut(words);
