@@ -1,5 +1,6 @@
 ghost use Rattle.transcripts.specs.Bench.{bench_facts};
 
+use crate::damage::{copy, is_damaged};
 use crate::marks::Asked;
 use crate::narrow::Narrow;
 use std::alloc::{AllocError, Global};
@@ -31,6 +32,12 @@ impl Bench {
     pub fn put(&mut self, name: &str, text: &str) -> Result<(), AllocError> {
         let bytes = Vec::from_slice(self.alloc, text.as_bytes())?;
         self.files.inner.put_text(name, bytes)
+    }
+
+    /// Damages a table file, or copies one, by a line of the transcript. It says whether there was such a file, and such a place
+    /// in it.
+    pub fn damage(&mut self, line: &str) -> bool {
+        is_damaged(&mut self.files.inner, line)
     }
 
     /// Runs a command line, and gives its status and what it wrote.
@@ -92,31 +99,9 @@ impl<F: Files> Files for Kept<F> {
 
     fn put_back(&mut self, path: &str, mut store: FaultyStore<F::Store>) {
         if let Ok(mut kept) = self.inner.create(path) {
-            copy(&mut store, &mut kept);
+            let count = store.pages();
+            copy(&mut store, count, &mut kept);
             self.inner.put_back(path, kept);
         }
     }
-}
-
-// Adds the pages of a store to another one, up to the first that can't be.
-fn copy<S: PageStore, T: PageStore>(from: &mut S, to: &mut T) {
-    for n in 0..from.pages() {
-        if add_page(from, n, to).is_err() {
-            return;
-        }
-    }
-}
-
-// Adds a page of a store, which fails once at most, to another one.
-fn add_page<S: PageStore, T: PageStore>(
-    from: &mut S,
-    n: u32,
-    to: &mut T,
-) -> Result<(), StoreFault> {
-    let page = match from.read_page(n) {
-        Ok(page) => page,
-        Err(_) => from.read_page(n)?,
-    };
-    let added = to.extend()?;
-    to.write_page(added, &page)
 }

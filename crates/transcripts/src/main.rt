@@ -10,6 +10,11 @@
 //     /ROOM WORDS the same, where the output has room for ROOM bytes alone
 //     > SQL       the line SQL as a script on the table of `t.csv`: two dimensions, two rows a page
 //     ? STATUS    the command line above ends with this status, and not with 0
+//     ~ FILE OFFSET BYTE BYTE ..  puts these bytes into the table file FILE, from this offset on, in decimal
+//     | FILE PAGES    cuts the table file FILE to so many pages of 4096 bytes
+//     = FROM TO   makes the table file TO of the pages of the table file FROM
+//
+// A table file that isn't there, or has no such place, counts as a command line that is wrong.
 //
 // Among the lines of a text `+ COUNT TEXT` is TEXT so many times, with no line feed, and `% COUNT` is the numbers from 0 to
 // COUNT - 1, each on a line of its own. All that is written is taken one byte at a time, and nothing may be written after a
@@ -17,6 +22,7 @@
 #![tactic(auto)]
 
 mod bench;
+mod damage;
 mod marks;
 mod narrow;
 mod player;

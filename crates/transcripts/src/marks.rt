@@ -35,6 +35,8 @@ pub enum Mark<'a> {
     Script(&'a str),
     /// The status that the command line above ends with.
     Status(u8),
+    /// What is done to a table file before the next command line: the whole line.
+    Damage(&'a str),
 }
 
 /// The mark that a line begins with, if there is one.
@@ -48,6 +50,7 @@ pub fn mark_of(line: &str) -> Option<Mark<'_>> {
         "$" => Some(Mark::Run(Asked::new(rest))),
         ">" => Some(Mark::Script(rest)),
         "?" => Some(Mark::Status(rest.parse::<u8>().ok()?)),
+        "~" | "|" | "=" => Some(Mark::Damage(line)),
         _ => Some(Mark::Run(failing(head, rest)?)),
     }
 }

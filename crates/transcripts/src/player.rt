@@ -73,6 +73,10 @@ impl<'a> Player<'a> {
             Mark::Comment | Mark::Status(_) => Part::Nothing,
             Mark::File(name) => Part::File(name),
             Mark::Run(asked) => Part::Run(asked),
+            Mark::Damage(line) => {
+                self.damage(rt, line)?;
+                Part::Nothing
+            }
             Mark::Script(script) => {
                 let line = format!(in self.alloc; "{script}\n")?;
                 self.bench.put("-", line.as_str())?;
@@ -80,6 +84,15 @@ impl<'a> Player<'a> {
             }
         };
         Ok(())
+    }
+
+    // Damages a table file, or tells that it can't be.
+    fn damage(&mut self, rt: &HostRuntime, line: &str) -> io::Result<()> {
+        if self.bench.damage(line) {
+            return Ok(());
+        }
+        self.wrong = self.wrong.saturating_add(1);
+        println!(rt; "no such file, or no such place in it: {line}")
     }
 
     // Adds a line to the part's text, and before it the empty line that stood there.
