@@ -104,6 +104,7 @@ static ROW: Row = Row {
     dims: [3, 4, 0, 0],
     measures: [-5, 6, 0, 0],
 };
+
 static VALUES: [i64; 4] = [3, 4, -5, 6];
 
 #[test]
