@@ -10,9 +10,11 @@
 //     /ROOM WORDS the same, where the output has room for ROOM bytes alone
 //     > SQL       the line SQL as a script on the table of `t.csv`: two dimensions, two rows a page
 //     ? STATUS    the command line above ends with this status, and not with 0
-//     ~ FILE OFFSET BYTE BYTE ..  puts these bytes into the table file FILE, from this offset on, in decimal
-//     | FILE PAGES    cuts the table file FILE to so many pages of 4096 bytes
-//     = FROM TO   makes the table file TO of the pages of the table file FROM
+//     = FROM TO   the table file TO is made of the pages of the table file FROM
+//     ~ FILE OFFSET BYTE BYTE ..
+//                 these bytes, in decimal, are put into the table file FILE, from this offset on
+//     | FILE PAGES
+//                 the table file FILE is cut to so many pages of 4096 bytes
 //
 // A table file that isn't there, or has no such place, counts as a command line that is wrong.
 //
