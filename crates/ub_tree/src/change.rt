@@ -83,7 +83,8 @@ impl<S: PageStore> Tree<S> {
             → OnOk result ((p : Placed) → slice_get self.old.placed seat.now.index ≡ Some p
             → region.new.region.rows ≡ p.region.rows) }
         ensures taken { facts.IsHonest self.old.store → (r : Region)
-            → IsOnSeat self.old seat.now r → MatchResult result (λ _. region.new.region ≡ r) IsPassing }
+            → IsOnSeat self.old seat.now r
+            → MatchResult result (λ _. region.new.region ≡ r) IsPassing }
         ensures there { OnOk result (seat.now.page < page_count self.old.store) }
         ensures effect { Searches self.old self.new result }
     {
@@ -281,7 +282,8 @@ impl<S: PageStore> Tree<S> {
         ensures written { StoresRows seat.now.index
             (insert_row self.old.schema.dims row.now room.old.region.region.rows)
             self.old self.new result }
-        ensures counted { CountsOut ((length room.old.region.region.rows ≡ self.old.schema.page_rows)
+        ensures counted { CountsOut
+            ((length room.old.region.region.rows ≡ self.old.schema.page_rows)
             × (length self.old.placed ≡ 4294967295)) result }
         ensures effect { Changes self.old self.new result }
     {
