@@ -1,5 +1,5 @@
 -- What a change of one region does to a tree.
-use Rattle.std.specs.Prelude.{IfSome, ◌≡◌, ◌+◌, ◌-◌, ◌<◌, ◌++◌, ℕ, ℤ, pos, suc, Bool, true, false, List, [], ◌∷◌, Some, IsTrue, Result, Err, IfErr, OnOk, length, map, take, drop, replicate, slice_get}
+use Rattle.std.specs.Prelude.{IfSome, ◌≡◌, ◌+◌, ◌-◌, ◌<◌, ◌≤◌, ◌++◌, ℕ, ℤ, pos, suc, Bool, true, false, List, [], ◌∷◌, Some, IsTrue, Result, Err, IfErr, OnOk, length, map, take, drop, replicate, slice_get}
 use Rattle.std.specs.Bool.{nat_eq}
 use Rattle.std.specs.List.{AllByRecursion, IsDistinct, insert as insert_at}
 use Rattle.ub_region.specs.Regions.{AreTableRows, insert, split_region}
@@ -8,9 +8,9 @@ use Rattle.ub_zaddr.specs.Address.{last_address}
 use Rattle.ub_tree.specs.Spans.{ArePlaces, first_keys}
 use Rattle.ub_store.specs.Facts.{IsHonest, IsPage, page_count}
 use Rattle.ub_store.specs.View.{PagerView}
-use Rattle.ub_page.specs.Region.{region_page}
+use Rattle.ub_page.specs.Region.{RegionView, region_page}
 use Rattle.ub_page.specs.declared.directory.Entry.{Entry}
-use Rattle.ub_table.specs.Keys.{IsBefore}
+use Rattle.ub_table.specs.Keys.{AreKeysAscending, IsBefore}
 use Rattle.ub_table.specs.Region.{Region, IsRegion, keys_of}
 use Rattle.ub_table.specs.declared.row.Key.{Key}
 use Rattle.ub_table.specs.declared.row.Row.{Row}
@@ -134,6 +134,13 @@ pub record IsOnSeat (t : TreeView) (seat : SeatView) (region : Region) : Type 0 
   pub is : IsRegion t.schema region
   pub held : IsHeldBy t.schema.dims seat.first seat.next region
   pub page : IsPage t.store seat.page (region_page t.schema region)
+
+-- the region of a seat was read: its rows are in order, and no more than a page holds
+pub record IsReadAt (t : TreeView) (seat : SeatView) (page : RegionView) : Type 0 where
+  pub dims : page.dims ≡ t.schema.dims
+  pub first : page.region.first ≡ seat.first
+  pub few : length page.region.rows ≤ t.schema.page_rows
+  pub ascending : AreKeysAscending (keys_of t.schema.dims page.region.rows)
 
 -- the seat of a region, and the store has its page
 abbrev pub IsSeatThere : TreeView → SeatView → Type 0

@@ -9,7 +9,7 @@ ghost use Rattle.ub_store.specs.View.{SameTrace};
 ghost use Rattle.ub_table.specs.Keys.{AreKeysAscending, is_same};
 ghost use Rattle.ub_table.specs.Region.{Region, IsRegion, key_of, keys_of, measures_of};
 ghost use Rattle.ub_tree.specs.Change as spec;
-ghost use Rattle.ub_tree.specs.Change.{AreRowsAt, IsStored, IsSeatIn, IsSeatThere, IsElsewhereSame, IsOnSeat, placed_with, IsInserted, IsSplitAt, HasRoom, IsExtensionFault, IsStoreFault, PutsAt, PutsRows, StoresAt, StoresRows, Writes};
+ghost use Rattle.ub_tree.specs.Change.{AreRowsAt, IsStored, IsSeatIn, IsSeatThere, IsElsewhereSame, IsOnSeat, IsReadAt, placed_with, IsInserted, IsSplitAt, HasRoom, IsExtensionFault, IsStoreFault, PutsAt, PutsRows, StoresAt, StoresRows, Writes};
 ghost use Rattle.ub_tree.specs.Effects.{Searches, Changes};
 ghost use Rattle.ub_tree.specs.Holding.{AnswersKey, AnswersRow, CountsOut, index_for};
 ghost use Rattle.ub_tree.specs.Opened.{IsPassing};
@@ -83,7 +83,8 @@ impl<S: PageStore> Tree<S> {
             → OnOk result ((p : Placed) → slice_get self.old.placed seat.now.index ≡ Some p
             → region.new.region.rows ≡ p.region.rows) }
         ensures taken { facts.IsHonest self.old.store → (r : Region)
-            → IsOnSeat self.old seat.now r → MatchResult result (λ _. region.new.region ≡ r) IsPassing }
+            → IsOnSeat self.old seat.now r
+            → MatchResult result (λ _. region.new.region ≡ r) IsPassing }
         ensures there { OnOk result (seat.now.page < page_count self.old.store) }
         ensures effect { Searches self.old self.new result }
     {
@@ -271,10 +272,7 @@ impl<S: PageStore> Tree<S> {
     ) -> Result<(), TreeFault>
         requires seat { IsSeatThere self.old seat.now }
         requires key { key.now ≡ key_of self.old.schema.dims row.now }
-        requires dims { room.old.region.dims ≡ self.old.schema.dims }
-        requires first { room.old.region.region.first ≡ seat.now.first }
-        requires few { length room.old.region.region.rows ≤ self.old.schema.page_rows }
-        requires ascending { AreKeysAscending (keys_of self.old.schema.dims room.old.region.region.rows) }
+        requires read { IsReadAt self.old seat.now room.old.region }
         requires room { self.old.schema.page_rows
             < length (insert_row self.old.schema.dims row.now room.old.region.region.rows)
             → HasRoom seat.now.index (split self.old.schema.dims self.old.schema.page_rows
@@ -284,7 +282,8 @@ impl<S: PageStore> Tree<S> {
         ensures written { StoresRows seat.now.index
             (insert_row self.old.schema.dims row.now room.old.region.region.rows)
             self.old self.new result }
-        ensures counted { CountsOut ((length room.old.region.region.rows ≡ self.old.schema.page_rows)
+        ensures counted { CountsOut
+            ((length room.old.region.region.rows ≡ self.old.schema.page_rows)
             × (length self.old.placed ≡ 4294967295)) result }
         ensures effect { Changes self.old self.new result }
     {

@@ -3,7 +3,7 @@ use Rattle.std.specs.List.{list_any}
 use Rattle.ub_page.specs.declared.directory.Entry.{Entry}
 use Rattle.ub_table.specs.Region.{Region, key_of, keys_of}
 use Rattle.ub_table.specs.declared.row.Row.{Row}
-use Rattle.ub_tree.specs.Change.{AreRowsAt, IsInserted, row_of}
+use Rattle.ub_tree.specs.Change.{AreRowsAt, IsInserted, IsReadAt, row_of}
 use Rattle.ub_tree.specs.Effects.{Changes, IsNumberTaken}
 use Rattle.ub_tree.specs.Holding.{AnswersKey, index_for}
 use Rattle.ub_tree.specs.Others.{GrowsAt}
@@ -20,7 +20,7 @@ use Rattle.ub_store.specs.Facts.{IsHonest}
 use Rattle.ub_zaddr.specs.Address.{last_address}
 use Rattle.ub_region.specs.Rows.{has_key, insert_row}
 use Rattle.ub_table.specs.declared.fault.PageFault.TheVariants.{BadCount, BadOrder}
-use Rattle.ub_table.specs.Keys.{AreKeysAscending, is_same}
+use Rattle.ub_table.specs.Keys.{is_same}
 use Rattle.ub_table.specs.declared.row.Key.{Key}
 use Rattle.ub_tree.specs.Placed.{Placed, entry_of}
 use Rattle.ub_tree.specs.Spans.{ArePlaces, first_keys}
@@ -39,23 +39,19 @@ store_with-requires-clause-key g c =
     let same = c.in_ok-read_at.ensures.effect.same ∙ c.in_ok-seat.ensures.effect.same in
     c.key-key.ensures ∙ ap (λ (d : ℕ). key_of d c.row_of-row.result) (c.shape.ensures ∙ ap (λ (v : TreeView). v.schema.dims) (c.self.view_is ∙ sym same))
 
-pub store_with-requires-clause-dims : goal.store_with-requires-clause-dims
-store_with-requires-clause-dims g c = c.in_ok-read_at.ensures.begins.0 ∙ sym (ap (λ (v : TreeView). v.schema.dims) c.in_ok-read_at.ensures.effect.same)
-
-pub store_with-requires-clause-few : goal.store_with-requires-clause-few
-store_with-requires-clause-few g c =
-    let few = c.in_ok-read_at.ensures.few in
-    let same = ap (λ (v : TreeView). v.schema.page_rows) c.in_ok-read_at.ensures.effect.same in
-    omega arith
-
-pub store_with-requires-clause-ascending : goal.store_with-requires-clause-ascending
-store_with-requires-clause-ascending g c =
+pub store_with-requires-clause-read : goal.store_with-requires-clause-read
+store_with-requires-clause-read g c =
     let a = c.args.self.now in
     let b = c.seat_of.new.self in
     let seat = c.in_ok-seat.seat in
     let stands = same_seat a b seat c.in_ok-seat.ensures.effect.same c.in_ok-seat.ensures.seat in
     let here = (c.in_ok-read_at.ensures.at (record { first = seat.first; page = seat.page }) stands.entry).0.ascending in
-    subst (λ (v : TreeView). AreKeysAscending (keys_of v.schema.dims c.read_at.new.region.region.rows)) (sym c.in_ok-read_at.ensures.effect.same) here
+    subst (λ (v : TreeView). IsReadAt v seat c.read_at.new.region) (sym c.in_ok-read_at.ensures.effect.same) (record {
+      dims = c.in_ok-read_at.ensures.begins.0;
+      first = c.in_ok-read_at.ensures.begins.1;
+      few = c.in_ok-read_at.ensures.few;
+      ascending = here;
+    })
 
 pub returns-in_err-seat-clause-effect : goal.returns-in_err-seat-clause-effect
 returns-in_err-seat-clause-effect g c =

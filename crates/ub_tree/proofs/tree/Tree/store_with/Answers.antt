@@ -18,7 +18,7 @@ split_with-requires-clause-room g c =
     let b = c.args.self.now in
     let row = c.args.row.now in
     let rows = c.args.room.now.region.region.rows in
-    let keys = c.keys.ensures.keys ∙ ap (λ (d : ℕ). keys_of d rows) c.requires.dims in
+    let keys = c.keys.ensures.keys ∙ ap (λ (d : ℕ). keys_of d rows) c.requires.read.dims in
     let made : insert_row b.schema.dims row rows ≡ insert rows c.index_in-index.result row = c.index_in-index.ensures.index b.schema.dims row rows keys c.requires.key in
     let same : c.page_rows.result ≡ b.schema.page_rows = c.page_rows.ensures.page_rows ∙ ap (λ (v : TreeView). v.schema.page_rows) c.self.view_is in
     let full : length rows ≡ b.schema.page_rows = sym c.len.ensures.len ∙ c.if-len-page_rows.true ∙ same in
@@ -32,15 +32,15 @@ returns-clause-written g c = λ stored p there all.
     let rows = c.args.room.now.region.region.rows in
     let index = c.args.seat.now.index in
     let new = insert_row b.schema.dims row rows in
-    let keys = c.keys.ensures.keys ∙ ap (λ (d : ℕ). keys_of d rows) c.requires.dims in
+    let keys = c.keys.ensures.keys ∙ ap (λ (d : ℕ). keys_of d rows) c.requires.read.dims in
     let made : new ≡ insert rows c.index_in-index.result row = c.index_in-index.ensures.index b.schema.dims row rows keys c.requires.key in
     let same : c.page_rows.result ≡ b.schema.page_rows = c.page_rows.ensures.page_rows ∙ ap (λ (v : TreeView). v.schema.page_rows) c.self.view_is in
-    let few = c.requires.few in
+    let few = c.requires.read.few in
     let less : length rows < b.schema.page_rows = (let long = c.len.ensures.len in let other = c.if-len-page_rows.false in omega arith) in
     let fits : nat_le (length new) b.schema.page_rows ≡ true = le-leb (length new) b.schema.page_rows (let more = length-insert_row b.schema.dims row rows in omega arith) in
     let region : c.insert_at.new.self.region ≡ record { first = c.args.seat.now.first; rows = new } =
     ap (λ (v : RegionView). v.region) c.insert_at.ensures
-    ∙ ap (λ (k : Key). record { first = k; rows = insert rows c.index_in-index.result row }) c.requires.first
+    ∙ ap (λ (k : Key). record { first = k; rows = insert rows c.index_in-index.result row }) c.requires.read.first
     ∙ ap (λ (rs : List Row). record { first = c.args.seat.now.first; rows = rs }) (sym made) in
     let page : padded c.write.new.draft ≡ region_page b.schema (record { first = c.args.seat.now.first; rows = new }) =
     c.write.ensures ∙ ap (λ (v : TreeView). region_page v.schema c.insert_at.new.self.region) c.self.view_is ∙ ap (region_page b.schema) region in
