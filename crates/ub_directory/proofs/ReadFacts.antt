@@ -11,7 +11,7 @@ use Rattle.ub_page.specs.declared.directory.Entry.{Entry}
 use Rattle.ub_page.specs.declared.header.Header.{Header}
 use Rattle.ub_region.proofs.Laws.{all_more, all_append}
 use Rattle.ub_store.specs.Facts.{StoreFacts, IsHonest, IsPage, Reads, counted, page_count}
-use Rattle.ub_store.specs.View.{PagerView, SameTrace}
+use Rattle.ub_store.specs.View.{PagerView, SameTrace, Trace}
 use Rattle.ub_store.specs.declared.fault.StoreFault.{StoreFault}
 use Rattle.ub_table.proofs.Laws.{precedes_of}
 use Rattle.ub_table.specs.Keys.{origin, precedes, is_same, are_ascending}
@@ -69,8 +69,7 @@ begun_first [] (y ∷ entries) d b short up some tells =
 -- a pager whose store was read alone, and the pages that it holds
 pub pager_read : (old new : PagerView) (now : StoreFacts) → new.store ≡ now → SameTrace old new → new ≡ record old { store = now; cached = new.cached }
 pager_read old new now is trace =
-    ap (λ (s : StoreFacts). record new { store = s }) is ∙ ap (λ (ns : List ℕ). record old { store = now; trace = ns; fetches = new.fetches; cached = new.cached }) trace.0
-    ∙ ap (λ (n : ℕ). record old { store = now; fetches = n; cached = new.cached }) trace.1
+    ap (λ (s : StoreFacts). record new { store = s }) is ∙ ap (λ (t : Trace). record old { store = now; trace = t; cached = new.cached }) trace
 
 -- the same effect seen from before a call that changed nothing but the pages held
 opens_from : (T : Type 0) (e : DirectoryFault) (a b c : PagerView) → IsSamePager a b → Opens {A = T} b c (Err e) → Opens {A = T} a c (Err e)

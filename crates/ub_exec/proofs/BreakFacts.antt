@@ -30,7 +30,7 @@ visits_at plan start t dim is_descending events kept visits =
 
 -- it was while the next row was looked for
 pub swept_before : (plan : PlanView) (start t new : TreeView) (s : SweepView) (turns : ℕ) (rows : List (List Cell)) → Keeps start t → (swept : HasSwept plan t s turns rows)
-    → new.placed ≡ t.placed → new.fetches ≡ fetches_then start.fetches (length new.trace) → turns < turns_of plan.asked.limit (room start)
+    → new.placed ≡ t.placed → new.trace.fetches ≡ fetches_then start.trace.fetches (length new.trace.pages) → turns < turns_of plan.asked.limit (room start)
     → HasBroken new s swept.rest swept.fetched swept.unread → (count : ℕ) × HasFetchedFirst plan (begun start) new count
 swept_before plan start t new s turns rows kept swept placed fetches left broken =
     let (later, visits) = broken_before t.schema plan s.dim s.is_descending t.next (regions t) (rows_held s.held) swept.given swept.rest swept.fetched swept.unread broken.read broken.left
@@ -41,7 +41,7 @@ swept_before plan start t new s turns rows kept swept placed fetches left broken
 
 -- it was after the next row was given
 pub swept_after : (plan : PlanView) (start t new : TreeView) (s new_s : SweepView) (turns : ℕ) (rows : List (List Cell)) (swept : HasSwept plan t s turns rows) → Keeps start new
-    → new.fetches ≡ fetches_then start.fetches (length new.trace) → turns < turns_of plan.asked.limit (room start) → (row : Row)
+    → new.trace.fetches ≡ fetches_then start.trace.fetches (length new.trace.pages) → turns < turns_of plan.asked.limit (room start) → (row : Row)
     → HasGiven plan new new_s swept.given swept.rest swept.fetched swept.unread row → (count : ℕ) × HasFetchedFirst plan (begun start) new count
 swept_after plan start t new s new_s turns rows swept kept fetches left row gives =
     let (later, visits) = broken_after new.schema plan new_s.dim new_s.is_descending new.next (regions new) (rows_held new_s.held) swept.given gives.more (swept.fetched ++ gives.read) gives.left row

@@ -23,6 +23,7 @@ use Rattle.ub_tetris.proofs.Laws.{placed_of}
 use Rattle.ub_tetris.specs.Machine.{regions_at}
 use Rattle.ub_tetris.specs.Sweep.{AreNoted}
 use Rattle.ub_tree.specs.Placed.{Placed}
+use Rattle.ub_store.specs.View.{Trace}
 use Rattle.ub_tree.specs.Effects.{HasNoted}
 use Rattle.ub_tree.specs.Spans.{First, IsLater, Meets}
 use Rattle.ub_tree.specs.View.{TreeView, IsSound, KeepsTrace, regions, spans_of}
@@ -78,8 +79,8 @@ none_fetched p t new ready kept =
         visited = [];
         there = tt;
         regions_are = sym (ap (map (λ (span : plan.Span). span.region)) (nothing visits));
-        trace_is = kept.0 ∙ sym (append-nil t.trace);
-        fetches_are = kept.1;
+        trace_is = ap (λ (t : Trace). t.pages) kept ∙ sym (append-nil t.trace.pages);
+        fetches_are = ap (λ (t : Trace). t.fetches) kept;
       },
     )
   where
@@ -111,7 +112,7 @@ all_fetched p t new fetched = (
 -- a turn in which the region that was found was asked for, and its page noted, or not even that
 pub asked_some : (t mid new : TreeView) (boxes : List Corners) (after : Option Span) (span : Span) → IsSound t
     → First (λ s. IsLater after s × Meets boxes s) (spans_of t) (Some span) → Keeps t mid → KeepsTrace t mid → KeepsTrace mid new ⊎ HasNoted span.page mid new → HasTurnedSome boxes after t new
-asked_some t mid new boxes after span sound first kept untraced (inl still) = inl (still.0 ∙ untraced.0, still.1 ∙ untraced.1)
+asked_some t mid new boxes after span sound first kept untraced (inl still) = inl (still ∙ untraced)
 asked_some t mid new boxes after span sound first kept untraced (inr noted) =
     let (p, there, page, begins) = placed_of t span first.0 in
     inr (
@@ -131,8 +132,8 @@ come_first boxes turns start now new rows after sound come kept =
       visited = come.visited;
       left = left;
       visits = subst (λ (placed : List Placed). AreMeeting boxes start placed) parts are;
-      trace_is = kept.0 ∙ come.trace_is;
-      fetches_are = kept.1 ∙ come.fetches_are;
+      trace_is = ap (λ (t : Trace). t.pages) kept ∙ come.trace_is;
+      fetches_are = ap (λ (t : Trace). t.fetches) kept ∙ come.fetches_are;
     }
 
 -- also where a turn was ended by a fault
@@ -170,7 +171,7 @@ walked_first p t new ready apart walk =
 
 -- regions that were fetched are the first of a sweep's visits
 pub swept_first : (p : PlanView) (start t : TreeView) (dim : ℕ) (is_descending : Bool) (front later : List Event) → p.kind ≡ Sweep dim is_descending
-    → t.placed ≡ start.placed → AreNoted t front → t.fetches ≡ fetches_then start.fetches (length t.trace)
+    → t.placed ≡ start.placed → AreNoted t front → t.trace.fetches ≡ fetches_then start.trace.fetches (length t.trace.pages)
     → AreSweepVisits start.schema p dim is_descending (regions start) (map (λ event. event.span) (front ++ later)) → (count : ℕ) × HasFetchedFirst p (begun start) t count
 swept_first p start t dim is_descending front later kind placed noted fetches visits = (
   length front,
@@ -183,7 +184,7 @@ swept_first p start t dim is_descending front later kind placed noted fetches vi
     regions_are = noted.regions_are ∙ spans_at front ∙ ap (λ (events : List Event). map (λ (span : plan.Span). span.region) (map (λ (event : Event). event.span) events)) (sym (first_part front later))
         ∙ ap (map (λ (span : plan.Span). span.region)) (sym (first_mapped (λ (event : Event). event.span) (length front) (front ++ later)));
     trace_is = noted.trace_is;
-    fetches_are = fetches ∙ ap (fetches_then start.fetches) (ap length noted.trace_is ∙ length-map noted.placed (λ (p : Placed). p.page)
+    fetches_are = fetches ∙ ap (fetches_then start.trace.fetches) (ap length noted.trace_is ∙ length-map noted.placed (λ (p : Placed). p.page)
         ∙ sym (length-map noted.placed (λ (p : Placed). p.region)) ∙ ap length noted.regions_are ∙ length-map front (λ (event : Event). event.span.region));
   },
 )

@@ -19,7 +19,7 @@ given_of failed old sweep.Failed working is = cc
 pub begins_reads : {T U : Type 0} (r : Result T ReadFault) (e : SweepFault) (old new : TreeView) → IsErrAnd r (λ x. x ≡ as_read e) → Begins {A = U} old new (Err e) → ReadsTree old new r
 begins_reads (Ok x) e old new is begins = absurd is
 begins_reads {T = T} (Err f) e old new is begins = rw is (record {
-  same = begins.same ∙ ap (λ (t : TreeView). record old { store = read_store {A = T} (Err (as_read e)) old.store; trace = t.trace; fetches = t.fetches }) (sym begins.same);
+  same = begins.same ∙ ap (λ (t : TreeView). record old { store = read_store {A = T} (Err (as_read e)) old.store; trace = t.trace }) (sym begins.same);
   faults = given_of false old e refl begins.faults;
 })
 
@@ -27,6 +27,6 @@ pub sweeps_reads : {T U : Type 0} (r : Result T ReadFault) (e : SweepFault) (s n
     → AreItsRegions old s → Sweeps {A = U} s new_s old new (Err e) → ReadsTree old new r
 sweeps_reads (Ok x) e s new_s old new is working regions sweeps = absurd is
 sweeps_reads {T = T} (Err f) e s new_s old new is working regions sweeps = rw is (record {
-  same = sweeps.same ∙ ap (λ (t : TreeView). record old { store = read_store {A = T} (Err (as_read e)) old.store; trace = t.trace; fetches = t.fetches }) (sym sweeps.same);
+  same = sweeps.same ∙ ap (λ (t : TreeView). record old { store = read_store {A = T} (Err (as_read e)) old.store; trace = t.trace }) (sym sweeps.same);
   faults = given_of s.is_failed old e working (sweeps.faults regions);
 })

@@ -35,14 +35,14 @@ use Rattle.ub_tree.specs.View.{TreeView, IsSound, regions}
 pub empty_where : (schema : Schema) (p : PlanView) → p ≡ plan_of schema p.asked → p.asked.limit ≡ Some 0 → p.kind ≡ Empty
 empty_where schema p is none = ap (λ (x : PlanView). x.kind) is ∙ (plans_are_empty schema p.asked).1 (inr none)
 
-pub nothing_fetched : (p : PlanView) (t new : TreeView) → p ≡ plan_of t.schema p.asked → p.asked.limit ≡ Some 0 → new.trace ≡ t.trace → new.fetches ≡ t.fetches → HasFetched p t new
+pub nothing_fetched : (p : PlanView) (t new : TreeView) → p ≡ plan_of t.schema p.asked → p.asked.limit ≡ Some 0 → new.trace.pages ≡ t.trace.pages → new.trace.fetches ≡ t.trace.fetches → HasFetched p t new
 nothing_fetched p t new is limit trace fetches = record {
   visits = [];
   visits_are = subst (λ (kind : Kind). AreVisitsBy kind t.schema p (regions t) []) (sym (empty_where t.schema p is limit)) refl;
   visited = [];
   there = tt;
   regions_are = refl;
-  trace_is = trace ∙ nil t.trace;
+  trace_is = trace ∙ nil t.trace.pages;
   fetches_are = fetches;
 }
   where
@@ -84,7 +84,7 @@ walk_fetched p t new rows sound is apart walk =
       there = those_among (MeetsIn t p.covering.boxes) t.placed walk.visited walk.visits;
       regions_are = sym same;
       trace_is = walk.trace_is;
-      fetches_are = walk.fetches_are ∙ ap (fetches_then t.fetches) (lengths walk.visited visits same);
+      fetches_are = walk.fetches_are ∙ ap (fetches_then t.trace.fetches) (lengths walk.visited visits same);
     }
   where
     lengths : (visited : List Placed) (visits : List plan.Span) → map (λ span. span.region) visits ≡ regions_in visited → length visited ≡ length visits

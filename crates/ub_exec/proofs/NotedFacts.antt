@@ -17,6 +17,7 @@ use Rattle.ub_tetris.specs.Effects.{Sweeps, fetches_then}
 use Rattle.ub_tetris.specs.Sweep.{AreItsRegions, AwaitedRegion, SweepView}
 use Rattle.ub_tetris.specs.declared.fault.SweepFault.{SweepFault}
 use Rattle.ub_tree.proofs.Laws.{IsTraced, traced_spans}
+use Rattle.ub_store.specs.View.{Trace}
 use Rattle.ub_tree.specs.Effects.{HasNoted, IsTakenIn}
 use Rattle.ub_tree.specs.Laws.{AreAnswers}
 use Rattle.ub_tree.specs.Spans.{First, IsLater, Meets}
@@ -49,8 +50,8 @@ traced_begun old new is = is
 pub notes_none : {A : Type 0} (r : Result A ReadFault) (old new : TreeView) → KeepsTrace old new → NotesPages old new r
 notes_none r old new kept = record {
   noted = [];
-  trace_is = kept.0 ∙ sym (append-nil old.trace);
-  fetches_are = kept.1;
+  trace_is = ap (λ (t : Trace). t.pages) kept ∙ sym (append-nil old.trace.pages);
+  fetches_are = ap (λ (t : Trace). t.fetches) kept;
   read = on_ok r (AllByRecursion (IsRead old) []) tt;
 }
 
@@ -62,9 +63,9 @@ read_more (Err e) a b some more traced first second = tt
 pub notes_then : {A B : Type 0} (x : A) (r : Result B ReadFault) (a b c : TreeView) → IsTraced a b → NotesPages a b (Ok x) → NotesPages b c r → NotesPages a c r
 notes_then x r a b c traced first second = record {
   noted = first.noted ++ second.noted;
-  trace_is = second.trace_is ∙ ap (λ (pages : List ℕ). pages ++ second.noted) first.trace_is ∙ append_assoc a.trace first.noted second.noted;
-  fetches_are = second.fetches_are ∙ ap (λ (f : ℕ). fetches_then f (length second.noted)) first.fetches_are ∙ noted_sum a.fetches (length first.noted) (length second.noted)
-      ∙ ap (fetches_then a.fetches) (sym (length-append first.noted second.noted));
+  trace_is = second.trace_is ∙ ap (λ (pages : List ℕ). pages ++ second.noted) first.trace_is ∙ append_assoc a.trace.pages first.noted second.noted;
+  fetches_are = second.fetches_are ∙ ap (λ (f : ℕ). fetches_then f (length second.noted)) first.fetches_are ∙ noted_sum a.trace.fetches (length first.noted) (length second.noted)
+      ∙ ap (fetches_then a.trace.fetches) (sym (length-append first.noted second.noted));
   read = read_more r a b first.noted second.noted traced first.read second.read;
 }
 
@@ -83,11 +84,11 @@ notes_as r a b c same notes = subst (λ (t : TreeView). NotesPages t c r) same n
 pub notes_one : {A : Type 0} (r : Result A ReadFault) (P : ReadFault → Type 0) (old mid new : TreeView) (page : ℕ) → IsErrAnd r P → KeepsTrace old mid → KeepsTrace mid new ⊎ HasNoted page mid new
     → NotesPages old new r
 notes_one (Ok x) P old mid new page is kept noted = absurd is
-notes_one (Err e) P old mid new page is kept (inl still) = notes_none (Err e) old new (still.0 ∙ kept.0, still.1 ∙ kept.1)
+notes_one (Err e) P old mid new page is kept (inl still) = notes_none (Err e) old new (still ∙ kept)
 notes_one (Err e) P old mid new page is kept (inr noted) = record {
   noted = page ∷ [];
-  trace_is = noted.0 ∙ ap (λ (trace : List ℕ). trace ++ page ∷ []) kept.0;
-  fetches_are = noted.1 ∙ ap (λ (f : ℕ). fetches_then f 1) kept.1;
+  trace_is = noted.pages_are ∙ ap (λ (t : Trace). t.pages ++ page ∷ []) kept;
+  fetches_are = noted.fetches_are ∙ ap (λ (t : Trace). fetches_then t.fetches 1) kept;
   read = tt;
 }
 
@@ -97,8 +98,8 @@ pub next_notes : (boxes : List Corners) (after : Option Span) (old new : TreeVie
 next_notes boxes after old new None next = notes_none (Ok None) old new next.1
 next_notes boxes after old new (Some span) next = record {
   noted = span.page ∷ [];
-  trace_is = next.1.0;
-  fetches_are = next.1.1;
+  trace_is = next.1.pages_are;
+  fetches_are = next.1.fetches_are;
   read = ((span, next.0.0, refl, next.2), tt);
 }
 
@@ -197,8 +198,8 @@ pub record HasReadUpTo (boxes : List Corners) (turns : ℕ) (start now : TreeVie
   pub answers : (more : List Span) → AreAnswers (Meets boxes) (spans_of start) after more → AreAnswers (Meets boxes) (spans_of start) None (spans ++ more)
   pub there : AllByRecursion (Contains (spans_of start)) spans
   pub taken : AllByRecursion (IsIn start) spans
-  pub trace_is : now.trace ≡ start.trace ++ map (λ span. span.page) spans
-  pub fetches_are : now.fetches ≡ fetches_then start.fetches (length spans)
+  pub trace_is : now.trace.pages ≡ start.trace.pages ++ map (λ span. span.page) spans
+  pub fetches_are : now.trace.fetches ≡ fetches_then start.trace.fetches (length spans)
   pub few : turns + count (is_later after) (spans_of start) ≤ length (spans_of start)
 
 pub HasReadUpTo-none : (boxes : List Corners) (t : TreeView) → HasReadUpTo boxes 0 t t None
@@ -207,7 +208,7 @@ HasReadUpTo-none boxes t = record {
   answers = λ more are. are;
   there = tt;
   taken = tt;
-  trace_is = sym (append-nil t.trace);
+  trace_is = sym (append-nil t.trace.pages);
   fetches_are = refl;
   few = let all = count_few (is_later None) (spans_of t) in omega arith;
 }
@@ -222,7 +223,7 @@ module _ (boxes : List Corners) (turns : ℕ) (start now new : TreeView) (traced
   come_notes x = record {
     noted = map (λ (span : Span). span.page) come.spans;
     trace_is = come.trace_is;
-    fetches_are = come.fetches_are ∙ ap (fetches_then start.fetches) (sym (length-map come.spans (λ (span : Span). span.page)));
+    fetches_are = come.fetches_are ∙ ap (fetches_then start.trace.fetches) (sym (length-map come.spans (λ (span : Span). span.page)));
     read = read_each start come.spans come.there come.taken;
   }
 
@@ -232,7 +233,7 @@ module _ (boxes : List Corners) (turns : ℕ) (start now new : TreeView) (traced
     spans = come.spans;
     all = subst (λ (spans : List Span). AreAnswers (Meets boxes) (spans_of start) None spans) (append-nil come.spans) (come.answers [] none);
     taken = come.taken;
-    trace_is = kept.0 ∙ come.trace_is;
+    trace_is = ap (λ (t : Trace). t.pages) kept ∙ come.trace_is;
   }
 
   -- as it is after as many turns as there are regions
@@ -260,10 +261,10 @@ module _ (boxes : List Corners) (turns : ℕ) (start now new : TreeView) (traced
         subst (λ (spans : List Span). AreAnswers (Meets boxes) (spans_of start) None spans) (sym (append_assoc come.spans (span ∷ []) more)) (come.answers (span ∷ more) (first, are));
     there = all_joined (Contains (spans_of start)) come.spans (span ∷ []) come.there (first.0, tt);
     taken = all_joined (IsIn start) come.spans (span ∷ []) come.taken (taken, tt);
-    trace_is = noted.0 ∙ ap (λ (trace : List ℕ). trace ++ span.page ∷ []) come.trace_is ∙ append_assoc start.trace (map (λ (s : Span). s.page) come.spans) (span.page ∷ [])
-        ∙ ap (λ (pages : List ℕ). start.trace ++ pages) (sym (map-append (λ (s : Span). s.page) come.spans (span ∷ [])));
-    fetches_are = noted.1 ∙ ap (λ (f : ℕ). fetches_then f 1) come.fetches_are ∙ noted_sum start.fetches (length come.spans) 1
-        ∙ ap (fetches_then start.fetches) (sym (length-append come.spans (span ∷ [])));
+    trace_is = noted.pages_are ∙ ap (λ (trace : List ℕ). trace ++ span.page ∷ []) come.trace_is ∙ append_assoc start.trace.pages (map (λ (s : Span). s.page) come.spans) (span.page ∷ [])
+        ∙ ap (λ (pages : List ℕ). start.trace.pages ++ pages) (sym (map-append (λ (s : Span). s.page) come.spans (span ∷ [])));
+    fetches_are = noted.fetches_are ∙ ap (λ (f : ℕ). fetches_then f 1) come.fetches_are ∙ noted_sum start.trace.fetches (length come.spans) 1
+        ∙ ap (fetches_then start.trace.fetches) (sym (length-append come.spans (span ∷ [])));
     few =
         let few = come.few in
         let less = count_less (is_later after) (is_later (Some span)) (λ s t. later_then after span s first.1.0 t) (spans_of start) span first.0 (later_is after span first.1.0)
@@ -316,8 +317,8 @@ swept_each t (a ∷ come) there taken = ((a.region, there.0, refl, taken.0), swe
 pub sweeps_notes : {A B : Type 0} (x : A) (y : B) (s new_s : SweepView) (old new : TreeView) → AreItsRegions old s → Sweeps s new_s old new (Ok x) → NotesPages old new (Ok y)
 sweeps_notes x y s new_s old new regions sweeps = record {
   noted = sweeps.noted;
-  trace_is = ap (λ (t : TreeView). t.trace) sweeps.same;
-  fetches_are = ap (λ (t : TreeView). t.fetches) sweeps.same;
+  trace_is = sweeps.trace_is;
+  fetches_are = sweeps.fetches_are;
   read = subst (λ (pages : List ℕ). AllByRecursion (IsRead old) pages) (sym sweeps.taken.0)
       (swept_each old sweeps.come (come_there old sweeps.come new_s.awaited (subst (λ (those : List AwaitedRegion). AllByRecursion (λ a. Contains (spans_of old) a.region) those) sweeps.left regions)) sweeps.taken.1);
 }
@@ -327,7 +328,7 @@ pub broken_notes : {A B : Type 0} (r : Result A ReadFault) (P : ReadFault → Ty
 broken_notes (Ok x) P e s new_s old new is sweeps = absurd is
 broken_notes (Err f) P e s new_s old new is sweeps = record {
   noted = sweeps.noted;
-  trace_is = ap (λ (t : TreeView). t.trace) sweeps.same;
-  fetches_are = ap (λ (t : TreeView). t.fetches) sweeps.same;
+  trace_is = sweeps.trace_is;
+  fetches_are = sweeps.fetches_are;
   read = tt;
 }

@@ -140,7 +140,7 @@ given_few plan t s given rest fetched unread sweeping =
 
 -- the pages that were fetched are those of the visits
 pub visits_fetched : (plan : PlanView) (start t : TreeView) (s : SweepView) (given rest : List Row) (fetched unread : List Event) → Keeps start t → IsSweeping plan t s given rest fetched unread
-    → t.fetches ≡ fetches_then start.fetches (length t.trace)
+    → t.trace.fetches ≡ fetches_then start.trace.fetches (length t.trace.pages)
     → AreSweepVisits t.schema plan s.dim s.is_descending (regions t) (map (λ event. event.span) fetched) → HasFetched plan (begun start) t
 visits_fetched plan start t s given rest fetched unread kept sweeping fetches visits =
     let noted = sweeping.noted in
@@ -154,7 +154,7 @@ visits_fetched plan start t s given rest fetched unread kept sweeping fetches vi
       there = subst (λ (placed : List Placed). AllByRecursion (Contains placed) noted.placed) kept.regions.placed noted.there;
       regions_are = noted.regions_are ∙ spans_at fetched;
       trace_is = noted.trace_is;
-      fetches_are = fetches ∙ ap (fetches_then start.fetches) (ap length noted.trace_is ∙ length-map noted.placed (λ (p : Placed). p.page)
+      fetches_are = fetches ∙ ap (fetches_then start.trace.fetches) (ap length noted.trace_is ∙ length-map noted.placed (λ (p : Placed). p.page)
           ∙ sym (length-map noted.placed (λ (p : Placed). p.region)) ∙ ap length noted.regions_are ∙ length-map fetched (λ (event : Event). event.span.region)
           ∙ sym (length-map fetched (λ (event : Event). event.span)));
     }
@@ -184,7 +184,7 @@ pub short : (limit : Option ℕ) (rows turns count : ℕ) → turns < turns_of l
 short None rows turns count below same = tt
 short (Some n) rows turns count below same = omega arith
 
-module _ (plan : PlanView) (start t : TreeView) (s : SweepView) (turns : ℕ) (rows : List (List Cell)) (kept : Keeps start t) (fetches : t.fetches ≡ fetches_then start.fetches (length t.trace))
+module _ (plan : PlanView) (start t : TreeView) (s : SweepView) (turns : ℕ) (rows : List (List Cell)) (kept : Keeps start t) (fetches : t.trace.fetches ≡ fetches_then start.trace.fetches (length t.trace.pages))
     (swept : HasSwept plan t s turns rows) (kind : IsSwept plan.kind) (end : turns ≡ turns_of plan.asked.limit (room start)) where
   -- no turn was left
   is_filled : plan.asked.limit ≡ Some (length swept.given)
@@ -214,7 +214,7 @@ module _ (plan : PlanView) (start t : TreeView) (s : SweepView) (turns : ℕ) (r
       (over plan t s swept.given swept.rest swept.fetched swept.unread swept.sweeping) are swept.sweeping.under_way is_filled)
 
 -- it answered that no row is left
-module _ (plan : PlanView) (start mid t : TreeView) (s new_s : SweepView) (turns : ℕ) (rows : List (List Cell)) (kept : Keeps start t) (fetches : t.fetches ≡ fetches_then start.fetches (length t.trace))
+module _ (plan : PlanView) (start mid t : TreeView) (s new_s : SweepView) (turns : ℕ) (rows : List (List Cell)) (kept : Keeps start t) (fetches : t.trace.fetches ≡ fetches_then start.trace.fetches (length t.trace.pages))
     (swept : HasSwept plan mid s turns rows) (same : t.schema ≡ mid.schema) (left : turns < turns_of plan.asked.limit (room start))
     (ends : HasEnded plan t new_s swept.given swept.rest swept.fetched swept.unread) where
   is_short : IfSome plan.asked.limit (λ n. length swept.given < n)
@@ -233,8 +233,8 @@ module _ (plan : PlanView) (start mid t : TreeView) (s new_s : SweepView) (turns
 
 -- ---- what the loop keeps of the tree and the answer
 
-pub begun_fetches : (old new : TreeView) → new ≡ begun old → new.fetches ≡ fetches_then old.fetches (length new.trace)
-begun_fetches old new is = ap (λ (t : TreeView). t.fetches) is ∙ sym (ap (λ (t : TreeView). fetches_then old.fetches (length t.trace)) is)
+pub begun_fetches : (old new : TreeView) → new ≡ begun old → new.trace.fetches ≡ fetches_then old.trace.fetches (length new.trace.pages)
+begun_fetches old new is = ap (λ (t : TreeView). t.trace.fetches) is ∙ sym (ap (λ (t : TreeView). fetches_then old.trace.fetches (length t.trace.pages)) is)
 
 pub at_end : (turn end whole : ℕ) → end ≤ turn → turn ≤ end → end ≡ whole → turn ≡ whole
 at_end turn end whole past within is = omega arith
@@ -244,11 +244,11 @@ pub end_is : (query asked : Asked) (old new : TreeView) (end : ℕ) → end ≡ 
 end_is query asked old new end is same alike =
     is ∙ ap (λ (t : TreeView). turns_of query.limit (room t)) same ∙ ap (λ (q : Asked). turns_of q.limit (room old)) alike
 
-pub noted_more : {A : Type 0} (r : Result A ReadFault) (start t new : TreeView) → t.fetches ≡ fetches_then start.fetches (length t.trace) → NotesPages t new r
-    → new.fetches ≡ fetches_then start.fetches (length new.trace)
+pub noted_more : {A : Type 0} (r : Result A ReadFault) (start t new : TreeView) → t.trace.fetches ≡ fetches_then start.trace.fetches (length t.trace.pages) → NotesPages t new r
+    → new.trace.fetches ≡ fetches_then start.trace.fetches (length new.trace.pages)
 noted_more r start t new is notes =
-    notes.fetches_are ∙ ap (λ (f : ℕ). fetches_then f (length notes.noted)) is ∙ noted_sum start.fetches (length t.trace) (length notes.noted)
-    ∙ ap (fetches_then start.fetches) (sym (length-append t.trace notes.noted) ∙ ap length (sym notes.trace_is))
+    notes.fetches_are ∙ ap (λ (f : ℕ). fetches_then f (length notes.noted)) is ∙ noted_sum start.trace.fetches (length t.trace.pages) (length notes.noted)
+    ∙ ap (fetches_then start.trace.fetches) (sym (length-append t.trace.pages notes.noted) ∙ ap length (sym notes.trace_is))
 
 pub wide_more : (n : ℕ) (rows : List (List Cell)) (row : List Cell) → AllByRecursion (λ cells. length cells ≡ n) rows → length row ≡ n → AllByRecursion (λ cells. length cells ≡ n) (rows ++ row ∷ [])
 wide_more n [] row all is = (is, tt)

@@ -20,6 +20,7 @@ use Rattle.ub_table.specs.declared.row.Key.{Key}
 use Rattle.ub_table.specs.declared.row.Row.{Row}
 use Rattle.ub_table.specs.declared.schema.Schema.{Schema}
 use Rattle.ub_tree.specs.Calls.{StandsAt}
+use Rattle.ub_store.specs.View.{Trace}
 use Rattle.ub_tree.specs.Effects.{HasNoted}
 use Rattle.ub_tree.specs.Placed.{Placed, regions_in, entry_of}
 use Rattle.ub_tree.specs.Spans.{first_keys, regions_of, IsLater, Meets, First}
@@ -150,8 +151,8 @@ pub record HasCome (boxes : List Corners) (turns : ℕ) (start now : TreeView) (
   pub after_is : after ≡ before place (spans_of start)
   pub visits : AreThose (MeetsIn start boxes) (take place start.placed) visited
   pub rows_are : rows ≡ rows_of (regions_in visited)
-  pub trace_is : now.trace ≡ start.trace ++ map (λ p. p.page) visited
-  pub fetches_are : now.fetches ≡ fetches_then start.fetches (length visited)
+  pub trace_is : now.trace.pages ≡ start.trace.pages ++ map (λ p. p.page) visited
+  pub fetches_are : now.trace.fetches ≡ fetches_then start.trace.fetches (length visited)
 
 pub HasCome-none : (boxes : List Corners) (t : TreeView) → HasCome boxes 0 t t [] None
 HasCome-none boxes t = record {
@@ -162,7 +163,7 @@ HasCome-none boxes t = record {
   after_is = refl;
   visits = refl;
   rows_are = refl;
-  trace_is = sym (append-nil t.trace);
+  trace_is = sym (append-nil t.trace.pages);
   fetches_are = refl;
 }
 
@@ -200,8 +201,8 @@ module _ (boxes : List Corners) (turns : ℕ) (start now new : TreeView) (sound 
     visited = come.visited;
     visits = none_left start sound boxes come.place come.far come.visited come.visits (first_is None first);
     rows_are = ap (λ (rs : List Row). rows ++ rs) none ∙ append-nil rows ∙ come.rows_are;
-    trace_is = untraced.0 ∙ come.trace_is;
-    fetches_are = untraced.1 ∙ come.fetches_are;
+    trace_is = ap (λ (t : Trace). t.pages) untraced ∙ come.trace_is;
+    fetches_are = ap (λ (t : Trace). t.fetches) untraced ∙ come.fetches_are;
   }
 
   pub turned : (span : Span) → HasTurned boxes after now new (Some span) more → HasCome boxes (suc turns) start new (rows ++ more) (Some span)
@@ -220,10 +221,10 @@ module _ (boxes : List Corners) (turns : ℕ) (start now new : TreeView) (sound 
         after_is = sym next.span_is;
         visits = next.those;
         rows_are = ap (λ (rs : List Row). rows ++ rs) visit.rows_are ∙ ap (λ (rs : List Row). rs ++ p.region.rows) come.rows_are ∙ sym (rows_more come.visited p);
-        trace_is = visit.noted.0 ∙ ap (λ (trace : List ℕ). trace ++ p.page ∷ []) come.trace_is ∙ append_assoc start.trace (map (λ p. p.page) come.visited) (p.page ∷ [])
-            ∙ ap (λ (pages : List ℕ). start.trace ++ pages) (sym (map-append (λ (x : Placed). x.page) come.visited (p ∷ [])));
-        fetches_are = visit.noted.1 ∙ ap (λ (f : ℕ). raised f 1) come.fetches_are ∙ fetched_next start.fetches (length come.visited)
-            ∙ ap (fetches_then start.fetches) (one_more come.visited p);
+        trace_is = visit.noted.pages_are ∙ ap (λ (trace : List ℕ). trace ++ p.page ∷ []) come.trace_is ∙ append_assoc start.trace.pages (map (λ p. p.page) come.visited) (p.page ∷ [])
+            ∙ ap (λ (pages : List ℕ). start.trace.pages ++ pages) (sym (map-append (λ (x : Placed). x.page) come.visited (p ∷ [])));
+        fetches_are = visit.noted.fetches_are ∙ ap (λ (f : ℕ). raised f 1) come.fetches_are ∙ fetched_next start.trace.fetches (length come.visited)
+            ∙ ap (fetches_then start.trace.fetches) (one_more come.visited p);
       }
     where
       one_more : (placed : List Placed) (p : Placed) → suc (length placed) ≡ length (placed ++ p ∷ [])
@@ -252,10 +253,11 @@ visited_by t mid new boxes after span region rows sound first kept untraced stan
         region = p;
         there = subst (λ (placed : List Placed). Contains placed p) kept.regions.placed there;
         begins = ap (λ (r : Region). r.first) is ∙ begins;
-        noted = (
-          noted.0 ∙ ap (λ (trace : List ℕ). trace ++ span.page ∷ []) untraced.0 ∙ ap (λ (n : ℕ). t.trace ++ n ∷ []) (sym page),
-          noted.1 ∙ ap (λ (n : ℕ). raised n 1) untraced.1,
-        );
+        noted = record {
+          pages_are = noted.pages_are ∙ ap (λ (trace : Trace). trace.pages ++ span.page ∷ []) untraced ∙ ap (λ (n : ℕ). t.trace.pages ++ n ∷ []) (sym page);
+          fetches_are = noted.fetches_are ∙ ap (λ (trace : Trace). raised trace.fetches 1) untraced;
+          room = subst (λ (trace : Trace). trace.capacity ≤ new.trace.capacity) untraced noted.room;
+        };
         rows_are = rows_are ∙ ap (λ (r : Region). r.rows) (sym is);
       },
     )

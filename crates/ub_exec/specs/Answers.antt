@@ -7,6 +7,7 @@ use Rattle.ub_query.specs.Meaning.{IsMeaning}
 use Rattle.ub_query.specs.Shape.{Asked}
 use Rattle.ub_query.specs.declared.cell.Cell.{Cell}
 use Rattle.ub_region.specs.Regions.{AreTableRows}
+use Rattle.ub_store.specs.View.{emptied}
 use Rattle.ub_table.specs.declared.row.Row.{Row}
 use Rattle.ub_tree.specs.View.{TreeView, IsSound, regions}
 
@@ -22,7 +23,7 @@ IsAnswer t q cells = (rows : List Row) → AreTableRows (regions t) rows
 
 -- the tree with an empty trace
 abbrev pub begun : TreeView → TreeView
-begun t = record t { trace = [] }
+begun t = record t { trace = emptied t.trace }
 
 -- the regions are read in the order of a dimension
 abbrev pub IsSwept : Kind → Type 0

@@ -25,8 +25,8 @@ IsRead t page = (span : Span) × Contains (spans_of t) span × (span.page ≡ pa
 -- page of a region of the tree that was taken in
 pub record NotesPages {A : Type 0} (old new : TreeView) (result : Result A ReadFault) : Type 0 where
   pub noted : List ℕ
-  pub trace_is : new.trace ≡ old.trace ++ noted
-  pub fetches_are : new.fetches ≡ fetches_then old.fetches (length noted)
+  pub trace_is : new.trace.pages ≡ old.trace.pages ++ noted
+  pub fetches_are : new.trace.fetches ≡ fetches_then old.trace.fetches (length noted)
   pub read : OnOk result (AllByRecursion (IsRead old) noted)
 
 -- no region that meets the boxes was passed over: these are all that the tree tells, asked for one after the other until there
@@ -35,7 +35,7 @@ pub record HasReadAll (boxes : List Corners) (old new : TreeView) : Type 0 where
   pub spans : List Span
   pub all : AreAnswers (Meets boxes) (spans_of old) None spans
   pub taken : AllByRecursion (IsIn old) spans
-  pub trace_is : new.trace ≡ old.trace ++ map (λ span. span.page) spans
+  pub trace_is : new.trace.pages ≡ old.trace.pages ++ map (λ span. span.page) spans
 
 -- a plan was carried out over any tree: pages were noted, and where it answers a scan, it passed over no region, unless the query
 -- asks for no row

@@ -23,8 +23,8 @@ pub record HasFetched (p : PlanView) (old new : TreeView) : Type 0 where
   pub visited : List Placed
   pub there : AllByRecursion (Contains old.placed) visited
   pub regions_are : regions_in visited ≡ map (λ span. span.region) visits
-  pub trace_is : new.trace ≡ old.trace ++ map (λ region. region.page) visited
-  pub fetches_are : new.fetches ≡ fetches_then old.fetches (length visits)
+  pub trace_is : new.trace.pages ≡ old.trace.pages ++ map (λ region. region.page) visited
+  pub fetches_are : new.trace.fetches ≡ fetches_then old.trace.fetches (length visits)
 
 -- carrying out was ended by a fault: of the regions that the plan visits so many were fetched, the first ones, each once, in
 -- their order, and no others
@@ -35,8 +35,8 @@ pub record HasFetchedFirst (p : PlanView) (old new : TreeView) (count : ℕ) : T
   pub visited : List Placed
   pub there : AllByRecursion (Contains old.placed) visited
   pub regions_are : regions_in visited ≡ map (λ span. span.region) (take count visits)
-  pub trace_is : new.trace ≡ old.trace ++ map (λ region. region.page) visited
-  pub fetches_are : new.fetches ≡ fetches_then old.fetches count
+  pub trace_is : new.trace.pages ≡ old.trace.pages ++ map (λ region. region.page) visited
+  pub fetches_are : new.trace.fetches ≡ fetches_then old.trace.fetches count
 
 -- ---- what a walk does
 
@@ -58,16 +58,16 @@ pub record HasWalked (boxes : List Corners) (old new : TreeView) (rows : List Ro
   pub visited : List Placed
   pub visits : AreMeeting boxes old visited
   pub rows_are : rows ≡ rows_of (regions_in visited)
-  pub trace_is : new.trace ≡ old.trace ++ map (λ p. p.page) visited
-  pub fetches_are : new.fetches ≡ fetches_then old.fetches (length visited)
+  pub trace_is : new.trace.pages ≡ old.trace.pages ++ map (λ p. p.page) visited
+  pub fetches_are : new.trace.fetches ≡ fetches_then old.trace.fetches (length visited)
 
 -- the first of them were read, each once, in the order of their keys, and no others
 pub record HasWalkedFirst (boxes : List Corners) (old new : TreeView) : Type 0 where
   pub visited : List Placed
   pub left : List Placed
   pub visits : AreMeeting boxes old (visited ++ left)
-  pub trace_is : new.trace ≡ old.trace ++ map (λ p. p.page) visited
-  pub fetches_are : new.fetches ≡ fetches_then old.fetches (length visited)
+  pub trace_is : new.trace.pages ≡ old.trace.pages ++ map (λ p. p.page) visited
+  pub fetches_are : new.trace.fetches ≡ fetches_then old.trace.fetches (length visited)
 
 -- the region of this span was read; these are its rows
 pub record HasVisited (span : Span) (old new : TreeView) (rows : List Row) : Type 0 where

@@ -42,7 +42,7 @@ pub fn execute<S: PageStore>(
         (HasFetched plan.now (begun tree.old) tree.new) }
     ensures broken { IsReady tree.old plan.now → OnErr result ((count : ℕ)
         × HasFetchedFirst plan.now (begun tree.old) tree.new count) }
-    ensures fetched { IfOk result (λ a. a.fetched ≡ length tree.new.trace) }
+    ensures fetched { IfOk result (λ a. a.fetched ≡ length tree.new.trace.pages) }
     ensures failed { IsTrue tree.old.is_failed → result ≡ Err (ReadFault.Tree TreeFault.Failed) }
     ensures reads { CarriesOut plan.now (begun tree.old) tree.new result }
     ensures effect { ReadsTree tree.old tree.new result }

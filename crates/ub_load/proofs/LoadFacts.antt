@@ -131,7 +131,6 @@ loading_none {text} {dims} {page_rows} {name} {schema} is store t made =
         working = made.working;
         can_fail = ap (λ (s : StoreFacts). s.can_fail) made.store_is;
         trace_is = made.trace_is;
-        fetches_are = made.fetches_are;
       };
       holds = λ honest. rw (rows_of-none dims) (holds_none dims page_rows t (made.sound honest) (made.regions_are honest) made.next_is);
     }
@@ -164,8 +163,7 @@ loading_more {text} {dims} {page_rows} {name} {store} {number} {t} is u b r s ta
       at_work = record {
         working = taken.working;
         can_fail = taken.can_fail ∙ is.at_work.can_fail;
-        trace_is = taken.trace.0 ∙ is.at_work.trace_is;
-        fetches_are = taken.trace.1 ∙ is.at_work.fetches_are;
+        trace_is = taken.trace ∙ is.at_work.trace_is;
       };
       holds = λ honest.
           let row = row_of t.schema.dims (number, r) in

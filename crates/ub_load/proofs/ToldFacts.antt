@@ -95,7 +95,7 @@ told_put first t u works last tree.Memory h = tt
 -- what a change of a tree keeps
 pub frame_keeps : (t u : TreeView) → u ≡ record t { placed = u.placed; rows = u.rows; next = u.next; is_changed = u.is_changed; is_failed = u.is_failed; store = u.store }
     → (u.schema ≡ t.schema) × KeepsTrace t u
-frame_keeps t u e = (ap (λ (v : TreeView). v.schema) e, (ap (λ (v : TreeView). v.trace) e, ap (λ (v : TreeView). v.fetches) e))
+frame_keeps t u e = (ap (λ (v : TreeView). v.schema) e, ap (λ (v : TreeView). v.trace) e)
 
 -- over an honest store that can't fail: what is told is the first thing wrong, unless memory was refused or there is no room
 pub told_sure : {first : Option LoadFault} {F B : Type 0} → ¬ F → ¬ B → (f : LoadFault) → IsToldOf first F B f → f ≢ Memory → f ≢ Tree (tree.Store store.BadSize) → first ≡ Some f

@@ -5,6 +5,7 @@ use Rattle.ub_load.specs.Refusals.{first_of, first_refusal, record_refusals}
 use Rattle.ub_load.specs.declared.fault.LoadFault.{LoadFault}
 use Rattle.ub_load.specs.declared.fault.LoadFault.TheVariants.{Csv, Tree, Memory}
 use Rattle.ub_store.specs.Facts.{StoreFacts, IsHonest}
+use Rattle.ub_store.specs.View.{untouched}
 use Rattle.ub_store.specs.declared.fault.StoreFault.TheVariants as store
 use Rattle.ub_table.specs.Region.{IsRow, measures_of}
 use Rattle.ub_table.specs.declared.row.Row.{Row}
@@ -17,8 +18,7 @@ use Rattle.ub_tree.specs.declared.fault.TreeFault.TheVariants as tree
 pub record IsAtWork (facts : StoreFacts) (t : TreeView) : Type 0 where
   pub working : t.is_failed ≡ false
   pub can_fail : t.store.can_fail ≡ facts.can_fail
-  pub trace_is : t.trace ≡ []
-  pub fetches_are : t.fetches ≡ 0
+  pub trace_is : t.trace ≡ untouched
 
 -- a new tree is refused for want of memory, or the store failed, which it then can
 abbrev pub IsNewFault : StoreFacts → LoadFault → Type 0

@@ -30,7 +30,7 @@ given_before a b (run.Tree fault) h is = (read_fault_before a b fault h is.0, is
 pub runs_by : {T U : Type 0} (r : Result T RunFault) (e : RunFault) (a b c : TreeView) → IsErrAnd r (λ x. x ≡ e) → IsTraced a b → Runs {A = U} b c (Err e) → Runs a c r
 runs_by (Ok x) e a b c is h runs = absurd is
 runs_by {T = T} (Err f) e a b c is h runs = rw is (record {
-  same = runs.same ∙ ap (λ (t : TreeView). record t { store = record t.store { failed_reads = counted {A = T} (Err e) t.store.failed_reads }; trace = c.trace; fetches = c.fetches }) h;
+  same = runs.same ∙ ap (λ (t : TreeView). record t { store = record t.store { failed_reads = counted {A = T} (Err e) t.store.failed_reads }; trace = c.trace }) h;
   faults = given_before a b e h runs.faults;
 })
 

@@ -199,15 +199,15 @@ table_there t sound =
     (record { schema = t.schema; rows = rows.0 }, record { sound = sound; schema_is = refl; rows_are = record { ascending = rises rows.0 rows.1; same = rows.2 } })
 
 -- as many pages are in the trace as the plan has visits
-pages_of : (p : PlanView) (old new : TreeView) (h : IsFetchedBy p (begun old) new) → length new.trace ≡ length h.visits
+pages_of : (p : PlanView) (old new : TreeView) (h : IsFetchedBy p (begun old) new) → length new.trace.pages ≡ length h.visits
 pages_of p old new h =
     ap (λ (ns : List ℕ). length ns) h.trace_is ∙ length-map h.visited (λ (region : Placed). region.page) ∙ sym (length-map h.visited (λ (region : Placed). region.region))
     ∙ ap (λ (rs : List Region). length rs) h.regions_are ∙ length-map h.visits (λ (span : Span). span.region)
 
 -- what carrying out the plan of a query answers is the reply to the query
 pub reply_of_plan : (old new : TreeView) (table : Table) (schema : Schema) (fetched : ℕ) (p : PlanView) (q : Asked) (cells : List (List Cell)) (text : List ℕ)
-    → IsTableOf old table → schema ≡ old.schema → fetched ≡ length new.trace → p ≡ plan_of old.schema q → IsPlanAnswer old p.asked cells
-    → IsFetchedBy p (begun old) new → text ≡ answer_text schema q cells fetched → Makes (IsAskedReply false table (regions old) q) text false old.fetches new.fetches
+    → IsTableOf old table → schema ≡ old.schema → fetched ≡ length new.trace.pages → p ≡ plan_of old.schema q → IsPlanAnswer old p.asked cells
+    → IsFetchedBy p (begun old) new → text ≡ answer_text schema q cells fetched → Makes (IsAskedReply false table (regions old) q) text false old.trace.fetches new.trace.fetches
 reply_of_plan old new table schema fetched p q cells text is schema_is noted planned answer by e =
     let pages : fetched ≡ length by.visits = noted ∙ pages_of p old new by in (
       fetched,
@@ -222,12 +222,12 @@ reply_of_plan old new table schema fetched p q cells text is schema_is noted pla
         text_is = e ∙ ap (λ (s : Schema). answer_text s q cells fetched) (schema_is ∙ sym is.schema_is);
         accepted = refl;
       },
-      by.fetches_are ∙ ap (fetches_then old.fetches) (sym pages),
+      by.fetches_are ∙ ap (fetches_then old.trace.fetches) (sym pages),
     )
 
 -- how the plan of a query reads the tree's regions is the reply to an EXPLAIN of it
-pub reply_of_explain : (t : TreeView) (table : Table) (p : PlanView) (q : Asked) (text : List ℕ) (after : ℕ) → IsTableOf t table → p ≡ plan_of t.schema q → after ≡ t.fetches
-    → IsExplained t.schema p (regions t) text → Makes (IsAskedReply true table (regions t) q) text false t.fetches after
+pub reply_of_explain : (t : TreeView) (table : Table) (p : PlanView) (q : Asked) (text : List ℕ) (after : ℕ) → IsTableOf t table → p ≡ plan_of t.schema q → after ≡ t.trace.fetches
+    → IsExplained t.schema p (regions t) text → Makes (IsAskedReply true table (regions t) q) text false t.trace.fetches after
 reply_of_explain t table p q text after is planned kept explained = (
   0,
   record {

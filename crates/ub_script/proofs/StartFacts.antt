@@ -32,7 +32,7 @@ starts_as Is Other before after give (pages, some, fetched) = (pages, λ any. le
 
 -- the first so many of the visits of a query's plan were
 starts_with : (old : TreeView) (after : ℕ) (table : Table) (p : PlanView) (q : Asked) (visits : List Span) (count : ℕ) → IsTableOf old table → p ≡ plan_of old.schema q
-    → AreVisits old.schema p (regions old) visits → count ≤ length visits → after ≡ fetches_then old.fetches count → Starts (IsAskedReply false table (regions old) q) old.fetches after
+    → AreVisits old.schema p (regions old) visits → count ≤ length visits → after ≡ fetches_then old.trace.fetches count → Starts (IsAskedReply false table (regions old) q) old.trace.fetches after
 starts_with old after table p q visits count is planned are few fetched = (
   count,
   λ any.
@@ -56,10 +56,10 @@ starts_with old after table p q visits count is planned are few fetched = (
 
 -- where carrying out the plan was ended by a fault
 pub starts_of_plan : (old new : TreeView) (table : Table) (p : PlanView) (q : Asked) → IsTableOf old table → p ≡ plan_of old.schema q
-    → (count : ℕ) × HasFetchedFirst p (begun old) new count → Starts (IsAskedReply false table (regions old) q) old.fetches new.fetches
-starts_of_plan old new table p q is planned (count, by) = starts_with old new.fetches table p q by.visits count is planned by.visits_are by.few by.fetches_are
+    → (count : ℕ) × HasFetchedFirst p (begun old) new count → Starts (IsAskedReply false table (regions old) q) old.trace.fetches new.trace.fetches
+starts_of_plan old new table p q is planned (count, by) = starts_with old new.trace.fetches table p q by.visits count is planned by.visits_are by.few by.fetches_are
 
 -- and where it came to its end, but there is no text
 pub starts_of_all : (old new : TreeView) (table : Table) (p : PlanView) (q : Asked) → IsTableOf old table → p ≡ plan_of old.schema q
-    → HasFetched p (begun old) new → Starts (IsAskedReply false table (regions old) q) old.fetches new.fetches
-starts_of_all old new table p q is planned by = starts_with old new.fetches table p q by.visits (length by.visits) is planned by.visits_are (omega arith) by.fetches_are
+    → HasFetched p (begun old) new → Starts (IsAskedReply false table (regions old) q) old.trace.fetches new.trace.fetches
+starts_of_all old new table p q is planned by = starts_with old new.trace.fetches table p q by.visits (length by.visits) is planned by.visits_are (omega arith) by.fetches_are

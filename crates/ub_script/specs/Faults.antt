@@ -39,5 +39,5 @@ counted _ n = n
 
 -- a run over a tree reads it and no more
 pub record Runs {A : Type 0} (old new : TreeView) (result : Result A RunFault) : Type 0 where
-  pub same : new ≡ record old { store = record old.store { failed_reads = counted result old.store.failed_reads }; trace = new.trace; fetches = new.fetches }
+  pub same : new ≡ record old { store = record old.store { failed_reads = counted result old.store.failed_reads }; trace = new.trace }
   pub faults : IfErr result (IsGiven old)

@@ -95,19 +95,19 @@ pub fn run<S: PageStore, W: Out>(
     // The texts are written, and for each statement that is answered the regions are fetched that its plan visits, each once.
     ensures done { IsSound tree.old → IfOk result (λ summary.
         Ran (IsWhole (FirstOn tree.old script.now) summary) false
-        (W.facts out.old) (W.facts out.new) tree.old.fetches tree.new.fetches) }
+        (W.facts out.old) (W.facts out.new) tree.old.trace.fetches tree.new.trace.fetches) }
 
     // The texts of the first statements are written, and of the next one's a front, and nothing after the write that failed.
     ensures write { IsSound tree.old → IsErrOf result RunFault.Write
         → Ran (IsCutOff (FirstOn tree.old script.now)) true
-        (W.facts out.old) (W.facts out.new) tree.old.fetches tree.new.fetches }
+        (W.facts out.old) (W.facts out.new) tree.old.trace.fetches tree.new.trace.fetches }
 
     // Nothing is written and nothing fetched, or the texts of the first statements and no more. There is another one then,
     // for which some of its regions were fetched, each once, or none.
     ensures begun { IsSound tree.old → IfErr result (λ fault. fault ≢ RunFault.Write
-        → ((W.facts out.new ≡ W.facts out.old) × (tree.new.fetches ≡ tree.old.fetches))
+        → ((W.facts out.new ≡ W.facts out.old) × (tree.new.trace.fetches ≡ tree.old.trace.fetches))
         ⊎ Ran (IsStopped (FirstOn tree.old script.now)) false
-        (W.facts out.old) (W.facts out.new) tree.old.fetches tree.new.fetches) }
+        (W.facts out.old) (W.facts out.new) tree.old.trace.fetches tree.new.trace.fetches) }
     ensures failures { (W.facts out.new).failures
         ≡ failures_after result (W.facts out.old).failures }
 
@@ -133,13 +133,13 @@ fn run_statements<S: PageStore, W: Out>(
     requires ranges { All (λ range. IsRange tokens.now range) ranges.now }
     ensures done { OfTable tree.old (λ table regions. IfOk result (λ summary.
         Ran (IsWhole (FirstAt table regions source.now tokens.now ranges.now) summary) false
-        (W.facts out.old) (W.facts out.new) tree.old.fetches tree.new.fetches)) }
+        (W.facts out.old) (W.facts out.new) tree.old.trace.fetches tree.new.trace.fetches)) }
     ensures write { OfTable tree.old (λ table regions. IsErrOf result RunFault.Write
         → Ran (IsCutOff (FirstAt table regions source.now tokens.now ranges.now)) true
-        (W.facts out.old) (W.facts out.new) tree.old.fetches tree.new.fetches) }
+        (W.facts out.old) (W.facts out.new) tree.old.trace.fetches tree.new.trace.fetches) }
     ensures begun { OfTable tree.old (λ table regions. IfErr result (λ fault. fault ≢ RunFault.Write
         → Ran (IsStopped (FirstAt table regions source.now tokens.now ranges.now)) false
-        (W.facts out.old) (W.facts out.new) tree.old.fetches tree.new.fetches)) }
+        (W.facts out.old) (W.facts out.new) tree.old.trace.fetches tree.new.trace.fetches)) }
     ensures failures { (W.facts out.new).failures
         ≡ failures_after result (W.facts out.old).failures }
     ensures effect { Runs tree.old tree.new result }
@@ -169,16 +169,16 @@ fn run_statement<S: PageStore, W: Out>(
     requires range { IsRange tokens.now range }
     ensures done { OfTable tree.old (λ table regions. IfOk result (λ is_refused.
         Ran (IsAnswerAt table regions source.now tokens.now range is_refused) false
-        (W.facts out.old) (W.facts out.new) tree.old.fetches tree.new.fetches)) }
+        (W.facts out.old) (W.facts out.new) tree.old.trace.fetches tree.new.trace.fetches)) }
     ensures write { OfTable tree.old (λ table regions. IsErrOf result RunFault.Write
         → Ran (IsCutAt table regions source.now tokens.now range) true
-        (W.facts out.old) (W.facts out.new) tree.old.fetches tree.new.fetches) }
+        (W.facts out.old) (W.facts out.new) tree.old.trace.fetches tree.new.trace.fetches) }
     ensures begun { IfErr result (λ fault. fault ≢ RunFault.Write
         → W.facts out.new ≡ W.facts out.old) }
     ensures stopped { OfTable tree.old (λ table regions. IfErr result
         (λ fault. fault ≢ RunFault.Write
         → Starts (IsAnswer table regions source.now (slice_range tokens.now range.0 range.1))
-        tree.old.fetches tree.new.fetches)) }
+        tree.old.trace.fetches tree.new.trace.fetches)) }
     ensures failures { (W.facts out.new).failures
         ≡ failures_after result (W.facts out.old).failures }
     ensures effect { Runs tree.old tree.new result }
@@ -207,9 +207,9 @@ fn answer_to<S: PageStore>(
     requires spelled { AreSpelled source.now tokens.now }
     ensures answer { OfTable tree.old (λ table regions. IfOk result (λ a.
         Makes (IsAnswer table regions source.now tokens.now) a.text.items a.is_refused
-        tree.old.fetches tree.new.fetches)) }
+        tree.old.trace.fetches tree.new.trace.fetches)) }
     ensures stopped { OfTable tree.old (λ table regions. OnErr result
-        (Starts (IsAnswer table regions source.now tokens.now) tree.old.fetches tree.new.fetches)) }
+        (Starts (IsAnswer table regions source.now tokens.now) tree.old.trace.fetches tree.new.trace.fetches)) }
     ensures no_write { ¬ (IsErrOf result RunFault.Write) }
     ensures effect { Runs tree.old tree.new result }
 {
@@ -228,10 +228,10 @@ fn answer_accepted<S: PageStore>(
     requires { IsPosed (length tree.old.schema.columns) (told statement.now).asked }
     ensures answer { OfTable tree.old (λ table regions. IfOk result (λ a.
         Makes (IsReply table regions (Ok (told statement.now))) a.text.items a.is_refused
-        tree.old.fetches tree.new.fetches)) }
+        tree.old.trace.fetches tree.new.trace.fetches)) }
     ensures stopped { OfTable tree.old (λ table regions. OnErr result
-        (Starts (IsReply table regions (Ok (told statement.now))) tree.old.fetches
-        tree.new.fetches)) }
+        (Starts (IsReply table regions (Ok (told statement.now))) tree.old.trace.fetches
+        tree.new.trace.fetches)) }
     ensures no_write { ¬ (IsErrOf result RunFault.Write) }
     ensures effect { Runs tree.old tree.new result }
 {
@@ -250,10 +250,10 @@ fn answer_query<S: PageStore>(
     requires { IsPosed (length tree.old.schema.columns) (asked query.now) }
     ensures answer { OfTable tree.old (λ table regions. IfOk result (λ a.
         Makes (IsAskedReply false table regions (asked query.now)) a.text.items a.is_refused
-        tree.old.fetches tree.new.fetches)) }
+        tree.old.trace.fetches tree.new.trace.fetches)) }
     ensures stopped { OfTable tree.old (λ table regions. OnErr result
-        (Starts (IsAskedReply false table regions (asked query.now)) tree.old.fetches
-        tree.new.fetches)) }
+        (Starts (IsAskedReply false table regions (asked query.now)) tree.old.trace.fetches
+        tree.new.trace.fetches)) }
     ensures no_write { ¬ (IsErrOf result RunFault.Write) }
     ensures effect { Runs tree.old tree.new result }
 {
@@ -274,10 +274,10 @@ fn explain_query<S: PageStore>(
     requires { IsPosed (length tree.old.schema.columns) (asked query.now) }
     ensures answer { OfTable tree.old (λ table regions. IfOk result (λ a.
         Makes (IsAskedReply true table regions (asked query.now)) a.text.items a.is_refused
-        tree.old.fetches tree.new.fetches)) }
+        tree.old.trace.fetches tree.new.trace.fetches)) }
     ensures stopped { OfTable tree.old (λ table regions. OnErr result
-        (Starts (IsAskedReply true table regions (asked query.now)) tree.old.fetches
-        tree.new.fetches)) }
+        (Starts (IsAskedReply true table regions (asked query.now)) tree.old.trace.fetches
+        tree.new.trace.fetches)) }
     ensures no_write { ¬ (IsErrOf result RunFault.Write) }
     ensures effect { Runs tree.old tree.new result }
 {

@@ -1,7 +1,7 @@
 ghost use Rattle.std.specs.Prelude.{◌≡◌, ◌<◌, ◌≤◌, ◌⊎◌, [], Err, None, IfOk, IfErr, IsOk, OnOk, OnErr, IsErrOf, option_map};
 ghost use Rattle.ub_store.specs.Facts.{page_count, IsPage, Reads, WritesAt, Extends, Syncs};
 ghost use Rattle.ub_store.specs.Cache.{page_at, NoneMoreBut, SameBut};
-ghost use Rattle.ub_store.specs.View.{pager_view, Holds, IsCached, Notes, SameTrace};
+ghost use Rattle.ub_store.specs.View.{pager_view, untouched, emptied, Holds, IsCached, IsFull, Notes, SameTrace};
 
 use crate::Page;
 use crate::cache::Cache;
@@ -24,11 +24,12 @@ pub struct Pager<S: PageStore> {
 
 impl<S: PageStore> Model for Pager<S> {
     ghost use Rattle.ub_store.specs.Cache.{IsCacheOf};
-    ghost use Rattle.ub_store.specs.View.{PagerView, pager_view, holding};
+    ghost use Rattle.std.specs.Prelude.{vec_capacity};
+    ghost use Rattle.ub_store.specs.View.{PagerView, pager_view, trace_of, holding};
 
     ghost Value = { PagerView };
 
-    ghost view = { λ p. holding (pager_view (S.facts p.store) p.trace.items p.fetches) p.cache };
+    ghost view = { λ p. holding (pager_view (S.facts p.store) (trace_of p.trace.items (vec_capacity p.trace) p.fetches)) p.cache };
 
     ghost invariant = { λ p. IsCacheOf (S.facts p.store) p.cache };
 }
@@ -41,7 +42,7 @@ impl<S: PageStore> Pager<S> {
         store: S,
         cache: NonZeroUsize,
     ) -> Result<Pager<S>, Rejected<S, StoreFault>>
-        ensures made { IfOk result (λ pager. pager ≡ pager_view (S.facts store) [] 0) }
+        ensures made { IfOk result (λ pager. pager ≡ pager_view (S.facts store) untouched) }
         ensures refused { IfErr result (λ refused.
             (refused.store ≡ store) × (refused.fault ≡ StoreFault.Memory)) }
     {
@@ -61,23 +62,24 @@ impl<S: PageStore> Pager<S> {
 
     /// Empties the trace. The number of fetches stays.
     pub fn begin(&mut self)
-        ensures { self.new ≡ record self.old { trace = [] } }
+        ensures { self.new ≡ record self.old { trace = emptied self.old.trace } }
     {
         self.trace.clear();
     }
 
     /// The numbers of the region pages asked for since the trace began, in the order in which they were asked for.
     pub fn trace(&self) -> &[u32]
-        ensures { result.now ≡ self.now.trace }
+        ensures { result.now ≡ self.now.trace.pages }
     {
         self.trace.as_slice()
     }
 
     /// Brings the page of this number into the cache, noted in the trace first, whether it is cached or not. The faults are
-    /// those of `bring`. Memory comes also where it was refused for the note, and then nothing has changed.
+    /// those of `bring`. Memory comes also where it was refused for the note; then the trace has no room for one page more, and
+    /// nothing has changed.
     pub fn bring_region(&mut self, n: u32) -> Result<(), StoreFault>
-        ensures noted { ((result ≡ Err StoreFault.Memory) × (self.new ≡ self.old))
-            ⊎ Notes n self.old self.new }
+        ensures noted { ((result ≡ Err StoreFault.Memory) × (self.new ≡ self.old) × IsFull self.old.trace)
+            ⊎ Notes n self.old.trace self.new.trace }
         ensures cached { OnOk result (IsCached self.new n) }
         ensures hit { IsCached self.old n → OnErr result (self.new ≡ self.old) }
         ensures there { OnOk result (n < page_count self.old.store) }
@@ -86,9 +88,10 @@ impl<S: PageStore> Pager<S> {
         ensures effect { Reads self.old.store self.new.store result }
         ensures others { NoneMoreBut n self.old.cached self.new.cached }
     {
-        if self.trace.push(n).is_err() {
+        if self.trace.reserve(1).is_err() {
             return Err(StoreFault::Memory);
         }
+        self.trace.push_reserved(n);
         self.fetches = self.fetches.saturating_add(1);
         self.bring(n)
     }

@@ -19,20 +19,21 @@ use Rattle.ub_tetris.specs.inner.Events.{AreQueued}
 use Rattle.ub_tetris.specs.inner.Turns.{awaited_of, begun_view}
 use Rattle.ub_tree.proofs.Laws.{Keeps-by, begun_traced, given_before, unchanged_traced}
 use Rattle.ub_tree.specs.Reading.{IsGiven, SearchesTree, counted}
+use Rattle.ub_store.specs.View.{emptied}
 use Rattle.ub_tree.specs.View.{TreeView, spans_of}
 use Rattle.ub_tree.specs.declared.read_fault.ReadFault.{ReadFault}
 use Rattle.ub_tree.specs.declared.read_fault.ReadFault.TheVariants as read
 
 -- a search after the trace began anew, whose fault is handed on
-pub begins_by : {T U : Type 0} (r : Result T SweepFault) (e : ReadFault) (old mid new : TreeView) → IsErrAnd r (λ x. x ≡ of_read e) → mid ≡ record old { trace = [] }
+pub begins_by : {T U : Type 0} (r : Result T SweepFault) (e : ReadFault) (old mid new : TreeView) → IsErrAnd r (λ x. x ≡ of_read e) → mid ≡ record old { trace = emptied old.trace }
     → SearchesTree {A = U} mid new (Err e) → Begins old new r
 begins_by (Ok x) e old mid new is began searches = absurd is
 begins_by {T = T} (Err f) e old mid new is began searches = rw is (begins e same (given_before old mid e (begun_traced old mid began) searches.faults))
   where
-    same : new ≡ record old { store = record old.store { failed_reads = counted {A = T} (Err e) old.store.failed_reads }; trace = [] }
+    same : new ≡ record old { store = record old.store { failed_reads = counted {A = T} (Err e) old.store.failed_reads }; trace = emptied old.trace }
     same = searches.same ∙ ap (λ (t : TreeView). record t { store = record t.store { failed_reads = counted {A = T} (Err e) t.store.failed_reads } }) began
 
-    begins : (e : ReadFault) → new ≡ record old { store = record old.store { failed_reads = counted {A = T} (Err e) old.store.failed_reads }; trace = [] } → IsGiven old e
+    begins : (e : ReadFault) → new ≡ record old { store = record old.store { failed_reads = counted {A = T} (Err e) old.store.failed_reads }; trace = emptied old.trace } → IsGiven old e
         → Begins {A = T} old new (Err (of_read e))
     begins read.Memory same fault = record { same = same; faults = tt }
     begins (read.Tree of_tree) same fault = record { same = same; faults = fault }
@@ -57,7 +58,7 @@ same_course : (course : Course) (dim : ℕ) (is_descending : Bool) (found : Opti
 same_course course dim is_descending found is also = cc
 
 pub begun_by : (t mid new : TreeView) (plan : PlanView) (course : Course) (awaited : List Awaited) (view : SweepView) (found : Option Course) (boxes : List Corners)
-    → mid ≡ record t { trace = [] } → new ≡ mid → found ≡ Some course
+    → mid ≡ record t { trace = emptied t.trace } → new ≡ mid → found ≡ Some course
     → ((dim : ℕ) (is_descending : Bool) → plan.kind ≡ Sweep dim is_descending → All (λ b. dim < length b.lo) plan.covering.boxes
     → found ≡ Some (record { dim = dim; is_descending = is_descending }))
     → boxes ≡ plan.covering.boxes → AreQueued boxes course mid awaited → view ≡ begun_view course awaited
@@ -71,5 +72,5 @@ begun_by t mid new plan course awaited view found boxes began same is some of_pl
       kind = swept.kind ∙ ap (λ (c : Course). Sweep c.dim c.is_descending) (sym on);
     } in
     subst (λ (v : SweepView). HasBegun plan new v) (sym seen)
-    (begun mid new plan course awaited of_mid (unchanged_traced mid new same) (ap (λ (v : TreeView). v.trace) same ∙ ap (λ (v : TreeView). v.trace) began)
+    (begun mid new plan course awaited of_mid (unchanged_traced mid new same) (ap (λ (v : TreeView). v.trace.pages) same ∙ ap (λ (v : TreeView). v.trace.pages) began)
     (subst (λ (bs : List Corners). AreQueued bs course mid awaited) of_plan queued))

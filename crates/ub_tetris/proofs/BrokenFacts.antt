@@ -8,6 +8,7 @@ use Rattle.ub_planning.specs.Plan.{PlanView}
 use Rattle.ub_planning.specs.Visits.{Event}
 use Rattle.ub_query.proofs.Laws.{contains_cases, contains_here, contains_later, contains_none}
 use Rattle.ub_query.specs.Groups.{is_selected}
+use Rattle.ub_store.specs.View.{Trace}
 use Rattle.ub_table.specs.declared.row.Row.{Row}
 use Rattle.ub_tetris.proofs.ArrangeFacts.{all_of}
 use Rattle.ub_tetris.proofs.MachineFacts.{fetches, none_held, rest_past}
@@ -49,7 +50,7 @@ first_of xs ys x is = subst (λ (zs : List _). Contains zs x) (sym is) (contains
 -- ---- a turn that is ended by a fault
 
 -- no page was noted in it
-noted_still : (t new : TreeView) (events : List Event) → AreNoted t events → new.placed ≡ t.placed → new.trace ≡ t.trace → AreNoted new events
+noted_still : (t new : TreeView) (events : List Event) → AreNoted t events → new.placed ≡ t.placed → new.trace.pages ≡ t.trace.pages → AreNoted new events
 noted_still t new events noted placed trace = record {
   placed = noted.placed;
   there = subst (λ (all : List Placed). AllByRecursion (Contains all) noted.placed) (sym placed) noted.there;
@@ -58,7 +59,7 @@ noted_still t new events noted placed trace = record {
 }
 
 module _ (plan : PlanView) (t new : TreeView) (s : State) (given rest : List Row) (fetched read left unread : List Event) (of : IsSweeping plan t (view_of s) given rest (fetched ++ read) left) (parts : unread ≡ read ++ left) (placed : new.placed ≡ t.placed) where
-  broken_still : new.trace ≡ t.trace → HasBroken new (view_of s) rest fetched unread
+  broken_still : new.trace.pages ≡ t.trace.pages → HasBroken new (view_of s) rest fetched unread
   broken_still trace = record {
     read = read;
     left = left;
@@ -70,7 +71,7 @@ module _ (plan : PlanView) (t new : TreeView) (s : State) (given rest : List Row
   }
 
   -- the page of the next region was
-  broken_next : IsDue s true → (next : Awaited) → slice_get s.queue.items s.fetched ≡ Some next → new.trace ≡ t.trace ++ next.region.page ∷ [] → HasBroken new (view_of s) rest fetched unread
+  broken_next : IsDue s true → (next : Awaited) → slice_get s.queue.items s.fetched ≡ Some next → new.trace.pages ≡ t.trace.pages ++ next.region.page ∷ [] → HasBroken new (view_of s) rest fetched unread
   broken_next (first, is_first, due) next at trace =
       let a : AwaitedRegion = record { value = next.value; region = next.region } in
       let queued : awaited_of (drop s.fetched s.queue.items) ≡ a ∷ awaited_of (drop (s.fetched + 1) s.queue.items) = ap awaited_of (drop_next s.queue.items s.fetched next at) in
@@ -94,13 +95,13 @@ module _ (plan : PlanView) (t new : TreeView) (s : State) (given rest : List Row
         noted = subst (λ (events : List Event). AreNoted new events) whole
             (noted_more t new (fetched ++ read) event p under.noted placed there
             (event_region plan t (view_of s) given rest (fetched ++ read) more event a p under is_awaited there begins)
-            (trace ∙ ap (λ (number : ℕ). t.trace ++ number ∷ []) (sym page)));
+            (trace ∙ ap (λ (number : ℕ). t.trace.pages ++ number ∷ []) (sym page)));
       }
 
   pub broken_by : IsDue s true → HasAskedNext t new s → HasBroken new (view_of s) rest fetched unread
   broken_by due asked = elim asked.noted [
-    | inl kept ↦ broken_still kept.0
-    | inr noted ↦ broken_next due asked.next asked.at noted.0
+    | inl kept ↦ broken_still (ap (λ (t : Trace). t.pages) kept)
+    | inr noted ↦ broken_next due asked.next asked.at noted.pages_are
   ]
 
 -- of the sweep it says where it goes, and no more

@@ -7,6 +7,7 @@ use Rattle.std.specs.Prelude.{OnOk}
 use Rattle.std.specs.Result.{IsErrAnd}
 use Rattle.ub_query.proofs.Laws.{contains_here}
 use Rattle.ub_store.specs.Facts.{raised}
+use Rattle.ub_store.specs.View.{Trace, IsFull}
 use Rattle.ub_store.specs.declared.fault.StoreFault.TheVariants as store
 use Rattle.ub_table.specs.Region.{Region}
 use Rattle.ub_tetris.specs.Effects.{AreTakenIn, Sweeps, IsSweepFault, IsAwaitedFault, as_reading, fetches_then, of_read}
@@ -42,16 +43,16 @@ span_fault_before span a b (Store store.BadSize) h is = is
 
 -- these pages were noted
 abbrev Notes : TreeView → TreeView → List ℕ → Type 0
-Notes old new noted = (new.trace ≡ old.trace ++ noted) × (new.fetches ≡ fetches_then old.fetches (length noted))
+Notes old new noted = (new.trace.pages ≡ old.trace.pages ++ noted) × (new.trace.fetches ≡ fetches_then old.trace.fetches (length noted))
 
 -- the page of a region may have been noted
 noted_as : (old new : TreeView) (page : ℕ) → KeepsTrace old new ⊎ HasNoted page old new → (noted : List ℕ) × Notes old new noted
-noted_as old new page (inl kept) = ([], (kept.0 ∙ sym (append-nil old.trace), kept.1))
-noted_as old new page (inr noted) = (page ∷ [], noted)
+noted_as old new page (inl kept) = ([], (ap (λ (t : Trace). t.pages) kept ∙ sym (append-nil old.trace.pages), ap (λ (t : Trace). t.fetches) kept))
+noted_as old new page (inr noted) = (page ∷ [], noted.pages_are, noted.fetches_are)
 
 -- the next region awaited was come to, and nothing is known yet of the result but what it leaves of the store
 module _ {T : Type 0} (r : Result T SweepFault) (s new_s : SweepView) (a : AwaitedRegion) (old new : TreeView) (one : s.awaited ≡ a ∷ new_s.awaited)
-    (same : new ≡ record old { store = read_store (as_reading r) old.store; trace = new.trace; fetches = new.fetches }) (pages : List ℕ) (notes : Notes old new pages) where
+    (same : new ≡ record old { store = read_store (as_reading r) old.store; trace = new.trace }) (pages : List ℕ) (notes : Notes old new pages) where
   pub its_region : AreItsRegions old s → Contains (spans_of old) a.region
   its_region all = (subst (λ (those : List AwaitedRegion). AllByRecursion (λ b. Contains (spans_of old) b.region) those) one all).0
 
@@ -59,8 +60,9 @@ module _ {T : Type 0} (r : Result T SweepFault) (s new_s : SweepView) (a : Await
   swept_one taken refused faults =
       record {
         noted = pages;
-        same = same ∙ ap (λ (pages : List ℕ). record old { store = read_store (as_reading r) old.store; trace = pages; fetches = new.fetches }) notes.0
-            ∙ ap (λ (count : ℕ). record old { store = read_store (as_reading r) old.store; trace = old.trace ++ pages; fetches = count }) notes.1;
+        same = same;
+        trace_is = notes.0;
+        fetches_are = notes.1;
         come = a ∷ [];
         left = one;
         taken = taken;
@@ -73,17 +75,17 @@ module _ {T : Type 0} (r : Result T SweepFault) (s new_s : SweepView) (a : Await
 
 -- the region was read
 pub read_swept : {T : Type 0} (x : T) (s new_s : SweepView) (a : AwaitedRegion) (old new : TreeView) → s.awaited ≡ a ∷ new_s.awaited
-    → new ≡ record old { trace = new.trace; fetches = new.fetches } → HasNoted a.region.page old new → (region : Region) → IsTakenIn old a.region region → Sweeps s new_s old new (Ok x)
+    → new ≡ record old { trace = new.trace } → HasNoted a.region.page old new → (region : Region) → IsTakenIn old a.region region → Sweeps s new_s old new (Ok x)
 read_swept x s new_s a old new one same noted region taken =
-    swept_one (Ok x) s new_s a old new one same (a.region.page ∷ []) noted (refl, ((region, taken), tt)) tt (λ all. tt)
+    swept_one (Ok x) s new_s a old new one same (a.region.page ∷ []) (noted.pages_are, noted.fetches_are) (refl, ((region, taken), tt)) tt (λ all. tt)
 
 -- and then memory was refused
 pub memory_swept : {T : Type 0} (r : Result T SweepFault) (s new_s : SweepView) (a : AwaitedRegion) (old new : TreeView) → IsErrAnd r (λ x. x ≡ sweep.Memory) → s.awaited ≡ a ∷ new_s.awaited
-    → new ≡ record old { trace = new.trace; fetches = new.fetches } → HasNoted a.region.page old new → Sweeps s new_s old new r
+    → new ≡ record old { trace = new.trace } → HasNoted a.region.page old new → Sweeps s new_s old new r
 memory_swept (Ok x) s new_s a old new is one same noted = absurd is
-memory_swept (Err f) s new_s a old new is one same noted = rw is (swept_one (Err sweep.Memory) s new_s a old new one same (a.region.page ∷ []) noted tt tt (λ all. tt))
+memory_swept (Err f) s new_s a old new is one same noted = rw is (swept_one (Err sweep.Memory) s new_s a old new one same (a.region.page ∷ []) (noted.pages_are, noted.fetches_are) tt tt (λ all. tt))
 
-pub either_noted : {A : Type 0} (result : Result A TreeFault) (old new : TreeView) (page : ℕ) → (KeepsTrace old new × ((result ≡ Err HasFailed) ⊎ (result ≡ Err Memory))) ⊎ HasNoted page old new
+pub either_noted : {A : Type 0} (result : Result A TreeFault) (old new : TreeView) (page : ℕ) → (KeepsTrace old new × ((result ≡ Err HasFailed) ⊎ ((result ≡ Err Memory) × IsFull old.trace))) ⊎ HasNoted page old new
     → KeepsTrace old new ⊎ HasNoted page old new
 either_noted result old new page (inl kept) = inl kept.0
 either_noted result old new page (inr noted) = inr noted
@@ -94,7 +96,7 @@ first_awaited s new_s a one = subst (λ (those : List AwaitedRegion). Contains t
 -- the tree refused it
 module _ {T : Type 0} (s new_s : SweepView) (a : AwaitedRegion) (old new : TreeView) (one : s.awaited ≡ a ∷ new_s.awaited) (pages : List ℕ) (notes : Notes old new pages) where
   refused_by : (r : Result T SweepFault) (e : TreeFault) → IsErrAnd r (λ x. x ≡ of_read (fault_of_tree e))
-      → new ≡ record old { store = record old.store { failed_reads = raised_by e old.store.failed_reads }; trace = new.trace; fetches = new.fetches }
+      → new ≡ record old { store = record old.store { failed_reads = raised_by e old.store.failed_reads }; trace = new.trace }
       → IsSpanFault a.region old e → (Contains (spans_of old) a.region → IsReadFault old e) → Sweeps s new_s old new r
   refused_by (Ok x) e is same refused faults = absurd is
   refused_by (Err f) Memory is same refused faults = rw is (swept_one (Err sweep.Memory) s new_s a old new one same pages notes tt tt (λ all. tt))
@@ -121,7 +123,9 @@ tree_swept {A = A} r e s new_s a old new is one reads =
 pub Sweeps-none : {T : Type 0} (x : T) (s : SweepView) (t : TreeView) → Sweeps s s t t (Ok x)
 Sweeps-none x s t = record {
   noted = [];
-  same = ap (λ (pages : List ℕ). record t { trace = pages }) (sym (append-nil t.trace));
+  same = refl;
+  trace_is = sym (append-nil t.trace.pages);
+  fetches_are = refl;
   come = [];
   left = refl;
   taken = (refl, tt);
@@ -134,7 +138,9 @@ Sweeps-none x s t = record {
 pub Sweeps-failed : {T : Type 0} (s : SweepView) (t : TreeView) → IsTrue s.is_failed → Sweeps {A = T} s s t t (Err sweep.Failed)
 Sweeps-failed s t failed = record {
   noted = [];
-  same = ap (λ (pages : List ℕ). record t { trace = pages }) (sym (append-nil t.trace));
+  same = refl;
+  trace_is = sym (append-nil t.trace.pages);
+  fetches_are = refl;
   come = [];
   left = refl;
   taken = tt;
@@ -150,7 +156,7 @@ awaited_fault_before a b t m (sweep.Tree fault) h failed among is = ((is.0.0, am
 awaited_fault_before a b t m sweep.Failed h failed among is = subst (λ (x : Bool). IsTrue x) (sym failed) is
 
 pub swept_traced : {T : Type 0} (x : T) (a b : SweepView) (t m : TreeView) → Sweeps a b t m (Ok x) → IsTraced t m
-swept_traced x a b t m swept = swept.same ∙ ap (λ (n : TreeView). record t { trace = n.trace; fetches = n.fetches }) (sym swept.same)
+swept_traced x a b t m swept = swept.same ∙ ap (λ (n : TreeView). record t { trace = n.trace }) (sym swept.same)
 
 fetched_then : (fetches n m : ℕ) → fetches_then (fetches_then fetches n) m ≡ fetches_then fetches (n + m)
 fetched_then fetches zero m = let e : 0 + m ≡ m = omega arith in ap (fetches_then fetches) (sym e)
@@ -181,12 +187,10 @@ sweeps_then x r a b c t m n failed first second =
     let traced = swept_traced x a b t m first in
     record {
       noted = first.noted ++ second.noted;
-      same = second.same
-          ∙ ap (λ (v : TreeView). record v { store = read_store (as_reading r) v.store; trace = v.trace ++ second.noted; fetches = fetches_then v.fetches (length second.noted) }) first.same
-          ∙ ap (λ (pages : List ℕ). record t { store = read_store (as_reading r) t.store; trace = pages; fetches = fetches_then (fetches_then t.fetches (length first.noted)) (length second.noted) })
-          (append_assoc t.trace first.noted second.noted)
-          ∙ ap (λ (count : ℕ). record t { store = read_store (as_reading r) t.store; trace = t.trace ++ (first.noted ++ second.noted); fetches = count })
-          (fetched_then t.fetches (length first.noted) (length second.noted) ∙ ap (fetches_then t.fetches) (sym (length-append first.noted second.noted)));
+      same = second.same ∙ ap (λ (v : TreeView). record v { store = read_store (as_reading r) v.store; trace = n.trace }) first.same;
+      trace_is = second.trace_is ∙ ap (λ (pages : List ℕ). pages ++ second.noted) first.trace_is ∙ append_assoc t.trace.pages first.noted second.noted;
+      fetches_are = second.fetches_are ∙ ap (λ (count : ℕ). fetches_then count (length second.noted)) first.fetches_are
+          ∙ fetched_then t.trace.fetches (length first.noted) (length second.noted) ∙ ap (fetches_then t.trace.fetches) (sym (length-append first.noted second.noted));
       come = first.come ++ second.come;
       left = first.left ∙ ap (λ (those : List AwaitedRegion). first.come ++ those) second.left ∙ sym (append_assoc first.come second.come c.awaited);
       taken = taken_more r t m first.come second.come first.noted second.noted traced first.taken second.taken;

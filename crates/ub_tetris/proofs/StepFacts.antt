@@ -15,6 +15,7 @@ use Rattle.ub_query.specs.Groups.{is_selected}
 use Rattle.ub_query.specs.Order.{IsRowBefore}
 use Rattle.ub_query.specs.declared.query.SortKey.{SortKey}
 use Rattle.ub_region.specs.Regions.{firsts_of, rows_of}
+use Rattle.ub_store.specs.View.{Trace}
 use Rattle.ub_table.proofs.Laws.{not_before_self}
 use Rattle.ub_table.specs.Keys.{AreKeysAscending, IsBefore}
 use Rattle.ub_table.specs.Region.{Region}
@@ -74,12 +75,12 @@ held_by_more schema keys (h ∷ held) rows all = (all.0, held_by_more schema key
 
 -- ---- the tree after a region was read
 
-pub awaited_after : (t : TreeView) (trace : List ℕ) (fetches : ℕ) (awaited : List AwaitedRegion) (events : List Event) → AreAwaited t awaited events
-    → AreAwaited (record t { trace = trace; fetches = fetches }) awaited events
-awaited_after t trace fetches [] events are = are
-awaited_after t trace fetches (a ∷ awaited) [] are = are
-awaited_after t trace fetches (a ∷ awaited) (event ∷ events) are =
-    (record { there = are.0.there; first = are.0.first; value = are.0.value }, awaited_after t trace fetches awaited events are.1)
+pub awaited_after : (t : TreeView) (trace : Trace) (awaited : List AwaitedRegion) (events : List Event) → AreAwaited t awaited events
+    → AreAwaited (record t { trace = trace }) awaited events
+awaited_after t trace [] events are = are
+awaited_after t trace (a ∷ awaited) [] are = are
+awaited_after t trace (a ∷ awaited) (event ∷ events) are =
+    (record { there = are.0.there; first = are.0.first; value = are.0.value }, awaited_after t trace awaited events are.1)
 
 all_pushed : {E : Type 0} (P : E → Type 0) (xs : List E) (x : E) → AllByRecursion P xs → P x → AllByRecursion P (xs ++ x ∷ [])
 all_pushed P [] x all is = (is, tt)
@@ -103,7 +104,7 @@ event_region plan t s given rest fetched left event a p of is_awaited there firs
 
 -- the page of one more region was noted
 pub noted_more : (t new : TreeView) (events : List Event) (event : Event) (p : Placed) → AreNoted t events → new.placed ≡ t.placed → Contains t.placed p → p.region ≡ event.span.region
-    → new.trace ≡ t.trace ++ p.page ∷ [] → AreNoted new (events ++ event ∷ [])
+    → new.trace.pages ≡ t.trace.pages ++ p.page ∷ [] → AreNoted new (events ++ event ∷ [])
 noted_more t new events event p noted placed there same trace = record {
   placed = noted.placed ++ p ∷ [];
   there = subst (λ (all : List Placed). AllByRecursion (Contains all) (noted.placed ++ p ∷ [])) (sym placed) (all_pushed (Contains t.placed) noted.placed p noted.there there);
@@ -131,13 +132,13 @@ chosen_of plan t s given rest fetched unread choice p of there =
     ∙ chosen_are_selected choice t.schema plan.asked t.next (regions t) p.region.rows (led_asks t.schema plan s.dim s.is_descending of.swept.planned of.swept.kind) of.swept.sound.regions_are
     (λ row here. rows_among (regions t) p.region row (contains_map (λ (p : Placed). p.region) t.placed p there) here)
 
-module _ (plan : PlanView) (t : TreeView) (s : SweepView) (held_then : List HeldRow) (given rest : List Row) (fetched : List Event) (a : AwaitedRegion) (more : List AwaitedRegion) (trace : List ℕ) (count : ℕ) (p : Placed) where
+module _ (plan : PlanView) (t : TreeView) (s : SweepView) (held_then : List HeldRow) (given rest : List Row) (fetched : List Event) (a : AwaitedRegion) (more : List AwaitedRegion) (trace : Trace) (p : Placed) where
   abbrev after : TreeView
-  after = record t { trace = trace; fetches = count }
+  after = record t { trace = trace }
 
   fetched_next : (event : Event) (left : List Event) → IsSweeping plan t s given rest fetched (event ∷ left) → IsAwaited t a event → AreAwaited t more left
       → All (λ row. ¬ (IsRowAlong s.dim s.is_descending row a.value)) (rows_held s.held)
-      → trace ≡ t.trace ++ a.region.page ∷ [] → Contains t.placed p → p.page ≡ a.region.page → p.region.first ≡ a.region.first
+      → trace.pages ≡ t.trace.pages ++ a.region.page ∷ [] → Contains t.placed p → p.page ≡ a.region.page → p.region.first ≡ a.region.first
       → HoldsAlso t.schema plan.asked.order (filter (is_selected t.schema plan.asked.filter) p.region.rows) s.held held_then
       → IsSweeping plan after (record s { held = held_then; awaited = more }) given rest (fetched ++ event ∷ []) left
   fetched_next event left of is_awaited are_awaited past noted there page first holds =
@@ -156,8 +157,8 @@ module _ (plan : PlanView) (t : TreeView) (s : SweepView) (held_then : List Held
             (subst (λ (region : Region). IsPermutation (rows_held s.held ++ filter (is_selected t.schema plan.asked.filter) region.rows) (rows_held held_then)) same holds_rows);
         values = all_permutation (λ (h : HeldRow). h.values ≡ values_by t.schema plan.asked.order h.row) (s.held ++ map (held_row t.schema plan.asked.order) chosen) held_then holds
             (held_by_more t.schema plan.asked.order s.held chosen of.values);
-        noted = noted_more t after fetched event p of.noted refl there same (noted ∙ ap (λ (number : ℕ). t.trace ++ number ∷ []) (sym page));
-        awaited = awaited_after t trace count more left are_awaited;
+        noted = noted_more t after fetched event p of.noted refl there same (noted ∙ ap (λ (number : ℕ). t.trace.pages ++ number ∷ []) (sym page));
+        awaited = awaited_after t trace more left are_awaited;
       }
 
 -- ---- the state of a sweep
@@ -246,13 +247,13 @@ fetch_step plan t new s new_s given rest fetched unread of (first, is_first, due
     let (p, there, page, begins, holds) = has.rows of.swept.sound is_awaited.there in
     let past = due_past plan t s given rest fetched unread first has.next of is_first (due ∙ ap (λ (o : Option Awaited). is_due_by s.course o first) has.at) in
     let selected = subst (λ (rows : List Row). HoldsAlso t.schema plan.asked.order rows s.held new_s.held) (chosen_of plan t (view_of s) given rest fetched unread has.choice p of there) holds in
-    let next = fetched_next plan t (view_of s) new_s.held given rest fetched a more new.trace new.fetches p event left
-    (subst (λ (events : List Event). IsSweeping plan t (view_of s) given rest fetched events) parts of) is_awaited are_awaited past has.noted.0 there page begins selected in (
+    let next = fetched_next plan t (view_of s) new_s.held given rest fetched a more new.trace p event left
+    (subst (λ (events : List Event). IsSweeping plan t (view_of s) given rest fetched events) parts of) is_awaited are_awaited past has.noted.pages_are there page begins selected in (
       event,
       left,
       parts,
       subst (λ (tree : TreeView). IsSweeping plan tree (view_of new_s) given rest (fetched ++ event ∷ []) left) (sym traced)
-          (subst (λ (v : SweepView). IsSweeping plan (record t { trace = new.trace; fetches = new.fetches }) v given rest (fetched ++ event ∷ []) left) (view_onward s new_s has.next has.at onward) next),
+          (subst (λ (v : SweepView). IsSweeping plan (record t { trace = new.trace }) v given rest (fetched ++ event ∷ []) left) (view_onward s new_s has.next has.at onward) next),
     )
 
 -- ---- a row is taken

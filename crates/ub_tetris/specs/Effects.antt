@@ -2,6 +2,7 @@
 use Rattle.std.specs.Prelude.{◌≡◌, ◌≢◌, ◌++◌, [], ℕ, zero, suc, Bool, true, false, IsTrue, List, Option, None, Result, Ok, Err, IfErr, OnOk, Contains, length, map}
 use Rattle.std.specs.List.{AllByRecursion}
 use Rattle.ub_store.specs.Facts.{raised}
+use Rattle.ub_store.specs.View.{emptied}
 use Rattle.ub_table.specs.Region.{Region}
 use Rattle.ub_table.specs.declared.row.Row.{Row}
 use Rattle.ub_tetris.specs.Sweep.{AwaitedRegion, SweepView, AreItsRegions}
@@ -49,7 +50,7 @@ fetches_then fetches (suc n) = raised fetches (suc n)
 
 -- a sweep was begun: the trace is empty, and else the tree is as it was
 pub record Begins {A : Type 0} (old new : TreeView) (result : Result A SweepFault) : Type 0 where
-  pub same : new ≡ record old { store = read_store (as_reading result) old.store; trace = [] }
+  pub same : new ≡ record old { store = read_store (as_reading result) old.store; trace = emptied old.trace }
   pub faults : IfErr result (IsSweepFault false old)
 
 -- these are the pages of these regions, each of which was taken in
@@ -62,7 +63,9 @@ AreTakenIn t come pages =
 -- it is refused as each call is that reads the tree, and the tree has those still awaited.
 pub record Sweeps {A : Type 0} (s new_s : SweepView) (old new : TreeView) (result : Result A SweepFault) : Type 0 where
   pub noted : List ℕ
-  pub same : new ≡ record old { store = read_store (as_reading result) old.store; trace = old.trace ++ noted; fetches = fetches_then old.fetches (length noted) }
+  pub same : new ≡ record old { store = read_store (as_reading result) old.store; trace = new.trace }
+  pub trace_is : new.trace.pages ≡ old.trace.pages ++ noted
+  pub fetches_are : new.trace.fetches ≡ fetches_then old.trace.fetches (length noted)
   pub come : List AwaitedRegion
   pub left : s.awaited ≡ come ++ new_s.awaited
   pub taken : OnOk result (AreTakenIn old come noted)

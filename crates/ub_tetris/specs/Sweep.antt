@@ -40,7 +40,7 @@ pub record AreNoted (t : TreeView) (events : List Event) : Type 0 where
   pub placed : List Placed
   pub there : AllByRecursion (Contains t.placed) placed
   pub regions_are : regions_in placed ≡ regions_at events
-  pub trace_is : t.trace ≡ map (λ p. p.page) placed
+  pub trace_is : t.trace.pages ≡ map (λ p. p.page) placed
 
 -- a region awaited is a region of the tree, and that of the event, with its value
 pub record IsAwaited (t : TreeView) (awaited : AwaitedRegion) (event : Event) : Type 0 where

@@ -166,13 +166,13 @@ read_page_by Q (Err f) e number old new is by same = rw (is, by.1) same
 -- a tree whose store was read alone
 pub read_tree : {T : Type 0} (r : Result T TreeFault) (schema : Schema) (entries : List Entry) (chain : List ℕ) (next rows : ℕ) (changed failed : Bool) (old new : PagerView) → new.store ≡ read_store r old.store
     → tree_view schema entries chain next rows changed failed new
-    ≡ record (tree_view schema entries chain next rows changed failed old) { store = read_store r old.store; trace = new.trace; fetches = new.fetches }
+    ≡ record (tree_view schema entries chain next rows changed failed old) { store = read_store r old.store; trace = new.trace }
 read_tree r schema entries chain next rows changed failed old new same = rw same refl
 
 pub searched_tree : {T : Type 0} (r : Result T TreeFault) (schema : Schema) (entries : List Entry) (chain : List ℕ) (next rows : ℕ) (changed failed : Bool) (old new : PagerView) → new.store ≡ read_store r old.store
     → SameTrace old new
     → tree_view schema entries chain next rows changed failed new ≡ record (tree_view schema entries chain next rows changed failed old) { store = read_store r old.store }
-searched_tree r schema entries chain next rows changed failed old new same trace = rw (same, trace.0, trace.1) refl
+searched_tree r schema entries chain next rows changed failed old new same trace = rw (same, trace) refl
 
 pub tree_entry_known : (schema : Schema) (entries : List Entry) (chain : List ℕ) (next rows : ℕ) (changed failed : Bool) (pager : PagerView) (index : ℕ) (e : Entry)
     → IsSound (tree_view schema entries chain next rows changed failed pager) → slice_get entries index ≡ Some e

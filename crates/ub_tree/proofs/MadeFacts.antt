@@ -9,7 +9,7 @@ use Rattle.std.specs.List.{All, IsDistinct}
 use Rattle.ub_page.specs.Region.{region_on, region_page}
 use Rattle.ub_region.specs.Regions.{AreRegions, rows_of}
 use Rattle.ub_store.specs.Facts.{StoreFacts, IsHonest}
-use Rattle.ub_store.specs.View.{PagerView}
+use Rattle.ub_store.specs.View.{PagerView, untouched}
 use Rattle.ub_table.specs.Keys.{origin}
 use Rattle.ub_table.specs.Region.{Region, IsRegion}
 use Rattle.ub_table.specs.declared.row.Row.{Row}
@@ -39,10 +39,10 @@ rows_there schema pages n region at back =
 placed_with : ℕ → List Row → List Placed
 placed_with page rows = record { page = page; region = record { first = origin; rows = rows } } ∷ []
 
-pub created : (facts : StoreFacts) (schema : Schema) (pager : PagerView) → pager.store ≡ record facts { pages = pager.store.pages; synced = pager.store.synced } → pager.trace ≡ [] → pager.fetches ≡ 0
+pub created : (facts : StoreFacts) (schema : Schema) (pager : PagerView) → pager.store ≡ record facts { pages = pager.store.pages; synced = pager.store.synced } → pager.trace ≡ untouched
     → (IsHonest facts → IsLaidOut schema pager.store.pages) → IsCreated facts schema (tree_view schema (record { first = origin; page = 1 } ∷ []) (2 ∷ []) 1 0 true false pager)
 unfolding placed_with
-created facts schema pager same trace fetches laid = record {
+created facts schema pager same trace laid = record {
   schema_is = refl;
   regions_are = λ is. regions is;
   sound = λ is.
@@ -69,7 +69,6 @@ created facts schema pager same trace fetches laid = record {
   rows_are = refl;
   next_is = refl;
   trace_is = trace;
-  fetches_are = fetches;
 }
   where
     honest : pager.store.honest ≡ facts.honest

@@ -17,7 +17,7 @@ use Rattle.ub_page.specs.Bytes.{number_at}
 use Rattle.ub_region.proofs.Laws.{all_more, all_left, all_right, all_take, all_drop, are_ascending_of}
 use Rattle.ub_region.specs.Regions.{firsts_of}
 use Rattle.ub_store.specs.Facts.{StoreFacts, IsHonest, page_count}
-use Rattle.ub_store.specs.View.{PagerView, pager_view}
+use Rattle.ub_store.specs.View.{PagerView, pager_view, untouched}
 use Rattle.ub_table.proofs.Laws.{before_of, same_schema}
 use Rattle.ub_table.specs.Keys.{origin, are_ascending}
 use Rattle.ub_table.specs.Region.{IsRegion}
@@ -47,7 +47,7 @@ use Rattle.ub_directory.specs.declared.fault.DirectoryFault.TheVariants as direc
 use Rattle.ub_tree.specs.Faults.{opening_fault}
 
 -- what is made of a table that was read
-pub opened : (first : StoreFacts) (header : Header) (chain : List ℕ) (entries : List Entry) (pager now : PagerView) → pager ≡ pager_view first [] 0 → IsReadWhole pager.store header chain entries
+pub opened : (first : StoreFacts) (header : Header) (chain : List ℕ) (entries : List Entry) (pager now : PagerView) → pager ≡ pager_view first untouched → IsReadWhole pager.store header chain entries
     → IsSamePager pager now → IsOpened first (tree_view header.schema entries chain header.next header.rows false false now)
 opened first header chain entries pager now made whole kept =
     let store_is : pager.store ≡ first = ap (λ (p : PagerView). p.store) made in
@@ -66,7 +66,6 @@ opened first header chain entries pager now made whole kept =
       working = refl;
       store_is = ap (λ (p : PagerView). p.store) kept ∙ store_is;
       trace_is = ap (λ (p : PagerView). p.trace) kept ∙ ap (λ (p : PagerView). p.trace) made;
-      fetches_are = ap (λ (p : PagerView). p.fetches) kept ∙ ap (λ (p : PagerView). p.fetches) made;
     }
 
 some_same : {X : Type 0} (o : Option X) (x y : X) → o ≡ Some x → o ≡ Some y → x ≡ y
@@ -449,7 +448,6 @@ view_with schema placed chain next rows pager = record {
   is_failed = false;
   store = pager.store;
   trace = pager.trace;
-  fetches = pager.fetches;
   inner = record { chain = chain };
 }
 
@@ -498,7 +496,7 @@ module _ (first : StoreFacts) (honest : IsHonest first) (small : page_count firs
       (subst IsSound (sym view) sound_view, schema_is, placed_is, next_is)
 
 -- the same, of a pager over the store
-module _ (first : StoreFacts) (small : page_count first < 2 ^ 32) (pager : PagerView) (made : pager ≡ pager_view first [] 0) where
+module _ (first : StoreFacts) (small : page_count first < 2 ^ 32) (pager : PagerView) (made : pager ≡ pager_view first untouched) where
   store_is : pager.store ≡ first
   store_is = ap (λ (p : PagerView). p.store) made
 

@@ -2,6 +2,7 @@
 use Rattle.std.proofs.Common.{◌≡◌, ◌≢◌, ◌∙◌, ℕ, IsTrue, Result, Ok, Err, IfErr, List, [], subst, sym, ap, refl}
 use Rattle.std.specs.Result.{IsErrAnd}
 use Rattle.ub_store.specs.declared.fault.StoreFault.TheVariants as store
+use Rattle.ub_store.specs.View.{Trace, emptied}
 use Rattle.ub_tree.specs.Effects.{IsReadFault, IsPageRefused, IsPageMissing, raised_by}
 use Rattle.ub_tree.specs.Reading.{IsGiven, ReadsTree, SearchesTree, counted, fault_of_tree}
 use Rattle.ub_tree.specs.View.{TreeView, IsSound, KeepsRegions, KeepsTrace, spans_of}
@@ -12,7 +13,7 @@ use Rattle.ub_tree.specs.declared.read_fault.ReadFault.TheVariants as read
 
 -- nothing but the trace and the count of fetches has changed
 abbrev pub IsTraced : TreeView → TreeView → Type 0
-IsTraced old new = new ≡ record old { trace = new.trace; fetches = new.fetches }
+IsTraced old new = new ≡ record old { trace = new.trace }
 
 -- what such a tree keeps
 pub record Keeps (old new : TreeView) : Type 0 where
@@ -20,8 +21,8 @@ pub record Keeps (old new : TreeView) : Type 0 where
   pub regions : KeepsRegions old new
   pub sound : IsSound old → IsSound new
 
-retraced : (t : TreeView) (trace : List ℕ) (fetches : ℕ) → IsSound t → IsSound (record t { trace = trace; fetches = fetches })
-retraced t trace fetches h = record {
+retraced : (t : TreeView) (trace : Trace) → IsSound t → IsSound (record t { trace = trace })
+retraced t trace h = record {
   working = h.working;
   honest = h.honest;
   regions_are = h.regions_are;
@@ -38,19 +39,19 @@ pub Keeps-by : (old new : TreeView) → IsTraced old new → Keeps old new
 Keeps-by old new is = record {
   traced = is;
   regions = subst (λ (t : TreeView). KeepsRegions old t) (sym is) (record { schema = refl; placed = refl; rows = refl; next = refl });
-  sound = λ sound. subst IsSound (sym is) (retraced old new.trace new.fetches sound);
+  sound = λ sound. subst IsSound (sym is) (retraced old new.trace sound);
 }
 
 -- where the trace begins anew
-pub begun_traced : (old new : TreeView) → new ≡ record old { trace = [] } → IsTraced old new
-begun_traced old new is = is ∙ ap (λ (t : TreeView). record old { trace = t.trace; fetches = t.fetches }) (sym is)
+pub begun_traced : (old new : TreeView) → new ≡ record old { trace = emptied old.trace } → IsTraced old new
+begun_traced old new is = is ∙ ap (λ (t : TreeView). record old { trace = t.trace }) (sym is)
 
 -- where nothing has changed
 pub unchanged_traced : (old new : TreeView) → new ≡ old → IsTraced old new
-unchanged_traced old new is = is ∙ ap (λ (t : TreeView). record old { trace = t.trace; fetches = t.fetches }) (sym is)
+unchanged_traced old new is = is ∙ ap (λ (t : TreeView). record old { trace = t.trace }) (sym is)
 
 pub unchanged_trace : (old new : TreeView) → new ≡ old → KeepsTrace old new
-unchanged_trace old new is = (ap (λ (t : TreeView). t.trace) is, ap (λ (t : TreeView). t.fetches) is)
+unchanged_trace old new is = ap (λ (t : TreeView). t.trace) is
 
 pub traced_spans : (old new : TreeView) → IsTraced old new → spans_of new ≡ spans_of old
 traced_spans old new is = ap spans_of is
@@ -59,7 +60,7 @@ pub Keeps-none : (t : TreeView) → Keeps t t
 Keeps-none t = Keeps-by t t refl
 
 pub Keeps-more : (a b c : TreeView) → Keeps a b → Keeps b c → Keeps a c
-Keeps-more a b c h k = Keeps-by a c (k.traced ∙ ap (λ (t : TreeView). record t { trace = c.trace; fetches = c.fetches }) h.traced)
+Keeps-more a b c h k = Keeps-by a c (k.traced ∙ ap (λ (t : TreeView). record t { trace = c.trace }) h.traced)
 
 -- ---- a call's fault, seen from before an earlier call that only read
 
@@ -93,7 +94,7 @@ sound_fault old (Store store.BadSize) sound is differs = absurd is
 -- reading after reading is reading
 pub reads_then : {T : Type 0} (r : Result T ReadFault) (a b c : TreeView) → IsTraced a b → ReadsTree b c r → ReadsTree a c r
 reads_then r a b c h reads = record {
-  same = reads.same ∙ ap (λ (t : TreeView). record t { store = record t.store { failed_reads = counted r t.store.failed_reads }; trace = c.trace; fetches = c.fetches }) h;
+  same = reads.same ∙ ap (λ (t : TreeView). record t { store = record t.store { failed_reads = counted r t.store.failed_reads }; trace = c.trace }) h;
   faults = faults r reads.faults;
 }
   where
@@ -122,11 +123,11 @@ counted_of T (Page page of_page) n = refl
 counted_of T (Store of_store) n = refl
 
 pub tree_reads : {T : Type 0} (r : Result T ReadFault) (e : TreeFault) (a b c : TreeView) → IsErrAnd r (λ x. x ≡ fault_of_tree e) → IsTraced a b
-    → c ≡ record b { store = record b.store { failed_reads = raised_by e b.store.failed_reads }; trace = c.trace; fetches = c.fetches } → IsReadFault b e → ReadsTree a c r
+    → c ≡ record b { store = record b.store { failed_reads = raised_by e b.store.failed_reads }; trace = c.trace } → IsReadFault b e → ReadsTree a c r
 tree_reads (Ok x) e a b c is h same fault = absurd is
 tree_reads {T = T} (Err f) e a b c is h same fault =
     rw is (reads_then {T = T} (Err (fault_of_tree e)) a b c h (record {
-      same = same ∙ ap (λ (n : ℕ). record b { store = record b.store { failed_reads = n }; trace = c.trace; fetches = c.fetches }) (sym (counted_of T e b.store.failed_reads));
+      same = same ∙ ap (λ (n : ℕ). record b { store = record b.store { failed_reads = n }; trace = c.trace }) (sym (counted_of T e b.store.failed_reads));
       faults = given_of b e fault;
     }))
 
@@ -155,7 +156,7 @@ SearchesTree-regions old new r searched =
     subst (λ (t : TreeView). KeepsRegions old t) (sym searched.same) (record { schema = refl; placed = refl; rows = refl; next = refl })
 
 pub SearchesTree-trace : {A : Type 0} (old new : TreeView) (r : Result A ReadFault) → SearchesTree old new r → KeepsTrace old new
-SearchesTree-trace old new r searched = (ap (λ (t : TreeView). t.trace) searched.same, ap (λ (t : TreeView). t.fetches) searched.same)
+SearchesTree-trace old new r searched = ap (λ (t : TreeView). t.trace) searched.same
 
 -- memory was refused, and nothing has changed
 pub memory_searches : {T : Type 0} (r : Result T ReadFault) (a b : TreeView) → IsErrAnd r (λ x. x ≡ read.Memory) → b ≡ a → SearchesTree a b r

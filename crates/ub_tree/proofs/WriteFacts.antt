@@ -205,7 +205,7 @@ module _ (schema : Schema) (entries : List Entry) (chain : List ℕ) (next rows 
 
   pub extended_leaves : new.store ≡ record old.store { pages = new.store.pages; synced = new.store.synced } → SameTrace old new → Leaves before after
   extended_leaves same trace = record {
-    same = rw (trace.0, trace.1) (ap (λ (s : StoreFacts). record after { store = s; trace = old.trace; fetches = old.fetches }) same);
+    same = rw trace (ap (λ (s : StoreFacts). record after { store = s; trace = old.trace }) same);
     entries = entries_back schema (known_pages new.store) entries ∙ sym (entries_back schema (known_pages old.store) entries);
     more = extended.more;
     pages = extended.kept;
@@ -285,7 +285,7 @@ module _ (schema : Schema) (entries later : List Entry) (chain : List ℕ) (next
       → tree_view schema later chain next rows now_changed now_failed new
       ≡ record (tree_view schema entries chain next rows changed failed old) { placed = placed_of schema (known_pages new.store) later; is_changed = now_changed; is_failed = now_failed; store = written_store r old.store new.store }
   wrote_tree r same trace =
-      rw (trace.0, trace.1) (ap (λ (s : StoreFacts). record (tree_view schema entries chain next rows now_changed now_failed old) { placed = placed_of schema (known_pages new.store) later; store = s }) same)
+      rw trace (ap (λ (s : StoreFacts). record (tree_view schema entries chain next rows now_changed now_failed old) { placed = placed_of schema (known_pages new.store) later; store = s }) same)
 
   -- a write that failed
   pub ended_by : (U : Type 0) (fault : StoreFault) → now_failed ≡ true → later ≡ entries → new.store ≡ put_store {A = U} (Err fault) old.store new.store → SameTrace old new

@@ -1,6 +1,7 @@
 -- What reading a region tells, and what creation makes.
 use Rattle.std.specs.Prelude.{true, false, ◌≡◌, ℕ, [], ◌∷◌, IsTrue, List, Contains}
 use Rattle.ub_store.specs.Facts.{StoreFacts, IsHonest}
+use Rattle.ub_store.specs.View.{untouched}
 use Rattle.ub_table.specs.Keys.{origin}
 use Rattle.ub_table.specs.Region.{Region}
 use Rattle.ub_table.specs.declared.schema.Schema.{Schema}
@@ -25,8 +26,7 @@ pub record IsCreated (store : StoreFacts) (schema : Schema) (t : TreeView) : Typ
   pub changed : t.is_changed ≡ true
   pub rows_are : t.rows ≡ 0
   pub next_is : t.next ≡ 1
-  pub trace_is : t.trace ≡ []
-  pub fetches_are : t.fetches ≡ 0
+  pub trace_is : t.trace ≡ untouched
 
 -- why creation is refused: for want of memory, or the store failed in this call, which it then can
 abbrev pub IsCreateFault : StoreFacts → TreeFault → Type 0

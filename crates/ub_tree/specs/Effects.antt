@@ -2,6 +2,8 @@
 use Rattle.std.specs.Prelude.{◌+◌, ◌≡◌, ◌<◌, ◌≤◌, ◌⊎◌, ◌++◌, ℕ, true, [], ◌∷◌, IsTrue, Result, Ok, Err, IfErr, OnOk, length, map, slice_get, List, Option}
 use Rattle.std.specs.List.{Contains}
 use Rattle.ub_store.specs.Facts.{StoreFacts, IsHonest, IsPage, MayFlush, page_count, raised}
+use Rattle.ub_store.specs.View as trace
+use Rattle.ub_store.specs.View.{Notes}
 use Rattle.ub_table.specs.declared.row.TheConstants.{MAX_ROW_NUMBER}
 use Rattle.ub_page.specs.Region.{IsRegionFault, region_page}
 use Rattle.ub_page.specs.declared.directory.Entry.{Entry}
@@ -74,12 +76,12 @@ pub record Searches {A : Type 0} (old new : TreeView) (result : Result A TreeFau
 
 -- a call that searches and reads regions: the trace can grow too
 pub record Reads {A : Type 0} (old new : TreeView) (result : Result A TreeFault) : Type 0 where
-  pub same : new ≡ record old { store = read_store result old.store; trace = new.trace; fetches = new.fetches }
+  pub same : new ≡ record old { store = read_store result old.store; trace = new.trace }
   pub faults : IfErr result (IsReadFault old)
 
 -- a page was asked for: it stands in the trace, after the others
 abbrev pub HasNoted : ℕ → TreeView → TreeView → Type 0
-HasNoted page old new = (new.trace ≡ old.trace ++ page ∷ []) × (new.fetches ≡ raised old.fetches 1)
+HasNoted page old new = Notes page old.trace new.trace
 
 -- what the reading of a region answers, also of one that isn't the tree's: then by what that one says
 abbrev pub IsSpanFault : Span → TreeView → TreeFault → Type 0
@@ -97,10 +99,11 @@ abbrev pub IsTakenIn : TreeView → Span → Region → Type 0
 IsTakenIn t span region =
     IsRegion t.schema region × IsHeldBy t.schema.dims span.first span.next region × IsPage t.store span.page (region_page t.schema region)
 
--- a call that reads this region, whose page is noted first; which region of the tree it is the caller says
+-- a call that reads this region, whose page is noted first: want of memory comes before that only where the trace has no room;
+-- which region of the tree it is the caller says
 pub record ReadsRegion {A : Type 0} (span : Span) (old new : TreeView) (result : Result A TreeFault) : Type 0 where
-  pub same : new ≡ record old { store = read_store result old.store; trace = new.trace; fetches = new.fetches }
-  pub noted : (KeepsTrace old new × ((result ≡ Err Failed) ⊎ (result ≡ Err Memory))) ⊎ HasNoted span.page old new
+  pub same : new ≡ record old { store = read_store result old.store; trace = new.trace }
+  pub noted : (KeepsTrace old new × ((result ≡ Err Failed) ⊎ ((result ≡ Err Memory) × trace.IsFull old.trace))) ⊎ HasNoted span.page old new
   pub listed : OnOk result (HasNoted span.page old new)
   pub failed : result ≡ Err Failed → new ≡ old
   pub faults : Contains (spans_of old) span → IfErr result (IsReadFault old)

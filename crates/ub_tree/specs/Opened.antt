@@ -3,6 +3,7 @@ use Rattle.std.specs.Prelude.{◌≡◌, ◌≤◌, ◌⊎◌, ℕ, false, IsTru
 use Rattle.ub_page.specs.declared.directory.Entry.{Entry}
 use Rattle.ub_page.specs.declared.header.Header.{Header}
 use Rattle.ub_store.specs.Facts.{StoreFacts, IsHonest, page_count}
+use Rattle.ub_store.specs.View.{untouched}
 use Rattle.ub_table.specs.declared.fault.PageFault.TheVariants.{Unclean}
 use Rattle.ub_tree.specs.Placed.{entry_of}
 use Rattle.ub_tree.specs.View.{TreeView}
@@ -26,8 +27,7 @@ pub record IsOpened (store : StoreFacts) (t : TreeView) : Type 0 where
   pub unchanged : t.is_changed ≡ false
   pub working : t.is_failed ≡ false
   pub store_is : t.store ≡ store
-  pub trace_is : t.trace ≡ []
-  pub fetches_are : t.fetches ≡ 0
+  pub trace_is : t.trace ≡ untouched
 
 -- why opening is refused: for want of memory; the store failed in this call, which it then can; it has no page of a number that
 -- was asked for; or a page is refused

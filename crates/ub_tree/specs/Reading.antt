@@ -29,7 +29,7 @@ read_store result old = record old { failed_reads = counted result old.failed_re
 
 -- the tree is read and no more
 pub record ReadsTree {A : Type 0} (old new : TreeView) (result : Result A ReadFault) : Type 0 where
-  pub same : new ≡ record old { store = read_store result old.store; trace = new.trace; fetches = new.fetches }
+  pub same : new ≡ record old { store = read_store result old.store; trace = new.trace }
   pub faults : IfErr result (IsGiven old)
 
 -- the tree is searched and no more: no region is fetched, and the trace is as it was

@@ -28,7 +28,6 @@ tree_view schema entries chain next rows is_changed is_failed pager = record {
   is_failed = is_failed;
   store = pager.store;
   trace = pager.trace;
-  fetches = pager.fetches;
   inner = record { chain = chain };
 }
 

@@ -4,6 +4,7 @@ use Rattle.ub_region.specs.Regions.{AreRegions, rows_of}
 use Rattle.ub_table.specs.declared.row.TheConstants.{MAX_ROW_NUMBER}
 use Rattle.ub_zaddr.specs.Address.{last_address}
 use Rattle.ub_store.specs.Facts.{StoreFacts, IsHonest}
+use Rattle.ub_store.specs.View.{Trace}
 use Rattle.ub_table.specs.Region.{Region}
 use Rattle.ub_table.specs.declared.row.Row.{Row}
 use Rattle.ub_table.specs.declared.schema.Schema.{Schema}
@@ -15,8 +16,8 @@ use Rattle.ub_tree.specs.declared.region.Region.{Region as Span}
 use Rattle.ub_directory.specs.Inner.{Inner, reserved}
 
 -- a tree: its schema; its regions in order; how many rows it counts; the next row number; whether it has changed since it was
--- opened, and whether it has failed; the facts of its store; the region pages asked for since the trace began, and how many were
--- ever asked for; and what its directory keeps to itself
+-- opened, and whether it has failed; the facts of its store; which region pages were asked for; and what its directory keeps to
+-- itself
 pub record TreeView : Type 0 where
   pub schema : Schema
   pub placed : List Placed
@@ -25,8 +26,7 @@ pub record TreeView : Type 0 where
   pub is_changed : Bool
   pub is_failed : Bool
   pub store : StoreFacts
-  pub trace : List ℕ
-  pub fetches : ℕ
+  pub trace : Trace
   pub inner : Inner
 
 -- the regions of a tree, and its rows, one region after the other
@@ -67,4 +67,4 @@ pub record KeepsRegions (old new : TreeView) : Type 0 where
 
 -- no region page was asked for in between
 abbrev pub KeepsTrace : TreeView → TreeView → Type 0
-KeepsTrace old new = (new.trace ≡ old.trace) × (new.fetches ≡ old.fetches)
+KeepsTrace old new = new.trace ≡ old.trace

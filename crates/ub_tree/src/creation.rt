@@ -1,7 +1,7 @@
 ghost use Rattle.std.specs.Prelude.{◌≡◌, ◌/◌, ◌<◌, [], ◌∷◌, Err, IfOk, IfErr, OnOk, OnErr};
 ghost use Rattle.ub_zaddr.specs.Address.{last_address};
 ghost use Rattle.ub_store.specs.Facts.{page_count, IsHonest};
-ghost use Rattle.ub_store.specs.View.{pager_view, SameTrace};
+ghost use Rattle.ub_store.specs.View.{pager_view, untouched, SameTrace};
 ghost use Rattle.ub_table.specs.Keys.{origin};
 ghost use Rattle.ub_tree.specs.Calls.{IsCreated, IsCreateFault};
 ghost use Rattle.ub_tree.specs.Effects.{written_store};
@@ -66,7 +66,7 @@ impl<S: PageStore> Tree<S> {
 
 /// A pager over the store, with the cache of a tree.
 pub fn pager_over<S: PageStore>(alloc: Global, store: S) -> Result<Pager<S>, Rejected<S, TreeFault>>
-    ensures made { IfOk result (λ pager. pager ≡ pager_view (S.facts store) [] 0) }
+    ensures made { IfOk result (λ pager. pager ≡ pager_view (S.facts store) untouched) }
     ensures refused { IfErr result (λ refused. (refused.store ≡ store)
         × (refused.fault ≡ TreeFault.Memory)) }
 {

@@ -1,6 +1,7 @@
 ghost use Rattle.std.specs.Prelude.{◌≡◌, ◌≤◌, [], IsTrue, Err, length, IfOk, OnOk, option_copied};
 ghost use Rattle.std.specs.List.{Contains};
 ghost use Rattle.ub_page.specs.Region.{empty_region};
+ghost use Rattle.ub_store.specs.View.{emptied};
 ghost use Rattle.ub_tree.specs.Calls.{StandsAt};
 ghost use Rattle.ub_tree.specs.Effects.{IsTakenIn, ReadsRegion, Searches};
 ghost use Rattle.ub_tree.specs.Spans.{IsLater, Meets, First};
@@ -82,14 +83,14 @@ impl<S: PageStore> Tree<S> {
 
     /// Empties the trace. The number of fetches stays.
     pub fn begin(&mut self)
-        ensures { self.new ≡ record self.old { trace = [] } }
+        ensures { self.new ≡ record self.old { trace = emptied self.old.trace } }
     {
         self.pager.begin();
     }
 
     /// The numbers of the region pages asked for since the trace began, in the order in which they were asked for.
     pub fn trace(&self) -> &[u32]
-        ensures { result.now ≡ self.now.trace }
+        ensures { result.now ≡ self.now.trace.pages }
     {
         self.pager.trace()
     }

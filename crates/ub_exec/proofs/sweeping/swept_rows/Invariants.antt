@@ -15,7 +15,7 @@ invariant-loop-turn g l = record {
   working : l.sweep.is_failed ≡ false;
   regions : AreItsRegions l.tree l.sweep;
   notes : NotesPages {A = Unit {0}} (begun l.fn.tree) l.tree (Ok tt);
-  fetches : l.tree.fetches ≡ fetches_then l.fn.tree.fetches (length l.tree.trace);
+  fetches : l.tree.trace.fetches ≡ fetches_then l.fn.tree.trace.fetches (length l.tree.trace.pages);
   wide : AllByRecursion (λ cells. length cells ≡ length l.plan.asked.items) l.rows;
   come : IsReady l.fn.tree l.plan → IsSwept l.plan.kind → HasSwept l.plan l.tree l.sweep l._turn l.rows;
 }

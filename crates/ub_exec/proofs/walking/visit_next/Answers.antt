@@ -44,7 +44,7 @@ returns-in_err-read_region-clause-effect g c =
 
 pub returns-in_err-region-clause-broken : goal.returns-in_err-region-clause-broken
 returns-in_err-region-clause-broken g c sound =
-    on_err c.from_residual.result _ (inl (ap (λ (t : TreeView). t.trace) c.in_err-region.ensures.effect.same, ap (λ (t : TreeView). t.fetches) c.in_err-region.ensures.effect.same))
+    on_err c.from_residual.result _ (inl (ap (λ (t : TreeView). t.trace) c.in_err-region.ensures.effect.same))
 
 pub returns-in_err-read_region-clause-broken : goal.returns-in_err-read_region-clause-broken
 returns-in_err-read_region-clause-broken g c sound =
@@ -74,7 +74,7 @@ returns-in_default-clause-notes g c = notes_none (Ok None) c.args.tree.now c.nex
 pub returns-in_err-region-clause-notes : goal.returns-in_err-region-clause-notes
 returns-in_err-region-clause-notes g c =
     notes_none c.from_residual.result c.args.tree.now c.next_meeting.new.self
-    (ap (λ (t : TreeView). t.trace) c.in_err-region.ensures.effect.same, ap (λ (t : TreeView). t.fetches) c.in_err-region.ensures.effect.same)
+    (ap (λ (t : TreeView). t.trace) c.in_err-region.ensures.effect.same)
 
 pub returns-in_err-read_region-clause-notes : goal.returns-in_err-read_region-clause-notes
 returns-in_err-read_region-clause-notes g c =
