@@ -39,13 +39,13 @@ SelectedRowsAreMet = (schema : Schema) (q : Asked) (next : ℕ) (regions : List 
     → AreMeeting schema (plan_of schema q).covering.boxes regions meeting
     → Contains (rows_of regions) row → IsTrue (is_selected schema q.filter row) → Contains (fetched_rows meeting) row
 
--- and of the rows of the regions the plan takes the selected ones
+-- unless the limit is 0, a plan takes of the rows of the regions those that the query selects
 abbrev pub PlansTakeTheSelected : Type 0
 PlansTakeTheSelected = (schema : Schema) (q : Asked) (next : ℕ) (regions : List Region) (row : Row) → q.limit ≢ Some 0
     → AreRegions schema next regions → Contains (rows_of regions) row
     → takes schema (plan_of schema q) row ≡ is_selected schema q.filter row
 
--- so the selected rows of the regions that meet are those of all regions, each as often
+-- unless the limit is 0, the selected rows of the regions that meet the plan's boxes are those of all regions, each as often
 abbrev pub MeetingHoldTheSelected : Type 0
 MeetingHoldTheSelected = (schema : Schema) (q : Asked) (next : ℕ) (regions : List Region) (meeting : List Span)
     → q.limit ≢ Some 0 → AreRegions schema next regions
@@ -53,7 +53,7 @@ MeetingHoldTheSelected = (schema : Schema) (q : Asked) (next : ℕ) (regions : L
     → IsPermutation (filter (is_selected schema q.filter) (fetched_rows meeting))
     (selected_rows schema (plan_of schema q) regions)
 
--- and those of the table
+-- unless the limit is 0, the selected rows of the regions that meet the plan's boxes are those of the table, each as often
 abbrev pub MeetingHoldTheTables : Type 0
 MeetingHoldTheTables = (schema : Schema) (q : Asked) (next : ℕ) (regions : List Region) (rows : List Row) (meeting : List Span)
     → q.limit ≢ Some 0 → AreRegions schema next regions → AreTableRows regions rows
@@ -83,7 +83,7 @@ abbrev pub PlansHaveVisits : Type 0
 PlansHaveVisits = (schema : Schema) (q : Asked) (next : ℕ) (regions : List Region) → AreRegions schema next regions
     → (visits : List Span) × AreVisits schema (plan_of schema q) regions visits
 
--- and only one list of them
+-- each plan of a query has one list of visits on the regions of a table, and no other
 abbrev pub VisitsAreOne : Type 0
 VisitsAreOne = (schema : Schema) (q : Asked) (next : ℕ) (regions : List Region) (first second : List Span)
     → AreRegions schema next regions → AreVisits schema (plan_of schema q) regions first

@@ -18,17 +18,17 @@ pub fn selected_rows_are_met()
     ensures { SelectedRowsAreMet }
 {}
 
-/// And of the rows of the regions the plan takes the selected ones.
+/// Unless the limit is 0, a plan takes of the rows of the regions those that the query selects.
 pub fn plans_take_the_selected()
     ensures { PlansTakeTheSelected }
 {}
 
-/// So the selected rows of the regions that meet are those of all regions, each as often.
+/// Unless the limit is 0, the selected rows of the regions that meet the plan's boxes are those of all regions, each as often.
 pub fn meeting_hold_the_selected()
     ensures { MeetingHoldTheSelected }
 {}
 
-/// And those of the table.
+/// Unless the limit is 0, the selected rows of the regions that meet the plan's boxes are those of the table, each as often.
 pub fn meeting_hold_the_tables()
     ensures { MeetingHoldTheTables }
 {}
@@ -53,7 +53,7 @@ pub fn plans_have_visits()
     ensures { PlansHaveVisits }
 {}
 
-/// And only one list of them.
+/// Each plan of a query has one list of visits on the regions of a table, and no other.
 pub fn visits_are_one()
     ensures { VisitsAreOne }
 {}
