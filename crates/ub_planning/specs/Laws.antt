@@ -32,6 +32,16 @@ SweepsAreLed = (schema : Schema) (q : Asked) (dim : ℕ) (is_descending : Bool) 
     ↔ ((¬ IsGroupQuery q) × (dim < schema.dims)
     × (slice_get q.order 0 ≡ Some (record { item = Column dim; is_descending = is_descending })))
 
+-- the regions of a table have its rows, in ascending order of number
+abbrev pub RegionsHaveATable : Type 0
+RegionsHaveATable = (schema : Schema) (next : ℕ) (regions : List Region) → AreRegions schema next regions
+    → (rows : List Row) × AreTableRows regions rows
+
+-- the regions of a table have no two tables
+abbrev pub RegionsHaveOneTable : Type 0
+RegionsHaveOneTable = (regions : List Region) (first second : List Row)
+    → AreTableRows regions first → AreTableRows regions second → first ≡ second
+
 -- unless the limit is 0, each selected row stands in a region that meets the plan's boxes
 abbrev pub SelectedRowsAreMet : Type 0
 SelectedRowsAreMet = (schema : Schema) (q : Asked) (next : ℕ) (regions : List Region) (meeting : List Span) (row : Row)

@@ -1,4 +1,4 @@
-ghost use Rattle.ub_planning.specs.Laws.{PlansAreEmpty, SweepsAreLed, SelectedRowsAreMet, PlansTakeTheSelected, MeetingHoldTheSelected, MeetingHoldTheTables, LimitOfZeroMeansNothing, MeetingAreOne, EventsAreOne, PlansHaveVisits, VisitsAreOne};
+ghost use Rattle.ub_planning.specs.Laws.{PlansAreEmpty, SweepsAreLed, RegionsHaveATable, RegionsHaveOneTable, SelectedRowsAreMet, PlansTakeTheSelected, MeetingHoldTheSelected, MeetingHoldTheTables, LimitOfZeroMeansNothing, MeetingAreOne, EventsAreOne, PlansHaveVisits, VisitsAreOne};
 
 // Each function here does nothing, and its clause is a law of the definitions in specs/. So the law is proved, and is read
 // beside the code.
@@ -11,6 +11,16 @@ pub fn plans_are_empty()
 /// A plan that isn't empty sweeps a dimension just where the query is one of rows whose first order key is that dimension.
 pub fn sweeps_are_led()
     ensures { SweepsAreLed }
+{}
+
+/// The regions of a table have its rows, in ascending order of number.
+pub fn regions_have_a_table()
+    ensures { RegionsHaveATable }
+{}
+
+/// The regions of a table have no two tables.
+pub fn regions_have_one_table()
+    ensures { RegionsHaveOneTable }
 {}
 
 /// Unless the limit is 0, each selected row stands in a region that meets the plan's boxes.
