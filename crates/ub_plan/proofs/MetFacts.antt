@@ -1,5 +1,5 @@
 -- The count of the regions that meet some boxes, which a tree hands over one after the other.
-use Rattle.std.proofs.Common.{◌≡◌, ◌≤◌, inl, inr, ℕ, suc, List, [], ◌∷◌, length, map, min, ◌∙◌, sym, ap, refl, arith, subst}
+use Rattle.std.proofs.Common.{◌≡◌, inl, inr, ℕ, suc, List, [], ◌∷◌, length, map, min, ◌∙◌, sym, ap, refl, arith, subst}
 use Rattle.ub_bigmin.specs.Box.{Corners}
 use Rattle.ub_plan.specs.Explained.{AreMet}
 use Rattle.ub_planning.specs.Visits as plan
@@ -8,7 +8,7 @@ use Rattle.ub_region.specs.Those.{AreThose}
 use Rattle.ub_region.specs.Regions.{firsts_of}
 use Rattle.ub_region.specs.Spans.{span_end}
 use Rattle.ub_table.specs.declared.row.Key.{Key}
-use Rattle.ub_tree.proofs.Laws.{firsts_placed, spans_long}
+use Rattle.ub_tree.proofs.Laws.{answers_are_regions_that_meet, answers_are_those_that_meet, firsts_placed}
 use Rattle.ub_tree.specs.Handing.{AreMetBy}
 use Rattle.ub_tree.specs.Placed.{Placed, regions_in, entry_of}
 use Rattle.ub_tree.specs.Spans.{regions_of, Meets}
@@ -39,22 +39,17 @@ met_are t boxes those n count are =
     let (meeting, is, long) = met_in_step (last_address t.schema.dims) boxes t.placed those are in
     (meeting, is, sym count ∙ long)
 
-no_more : {X : Type 0} (P : X → Type 0) (xs those : List X) → AreThose P xs those → length those ≤ length xs
-no_more P [] those are = let none = ap (λ (ys : List _). length ys) are in omega arith
-no_more P (x ∷ xs) those (inl are) =
-    let rest = no_more P xs are.1 are.3 in
-    let one = ap (λ (ys : List _). length ys) are.2 in
-    omega arith
-no_more P (x ∷ xs) those (inr are) = let rest = no_more P xs those are.1 in omega arith
-
 -- none are counted yet
 pub none_counted : (most : ℕ) → 0 ≡ min 0 most
 none_counted most = omega arith
 
--- a sound tree tells no more regions than it has
+-- a tree tells of no more regions than it has
+pub counted_all : (t : TreeView) (boxes : List Corners) (met : List Span) (n : ℕ) → AreMetBy boxes t met → n ≡ min (length met) (length t.placed) → n ≡ length met
+counted_all t boxes met n by counted =
+    let few = (answers_are_regions_that_meet t boxes met by).1 in
+    omega arith
+
+-- of a sound tree those that meet the boxes
 pub counted_met : (t : TreeView) (boxes : List Corners) (met : List Span) (n : ℕ) → IsSound t → AreMetBy boxes t met → n ≡ min (length met) (length t.placed) → AreMet t.schema boxes (regions t) n
 counted_met t boxes met n sound by counted =
-    let those = by.those sound in
-    let all = no_more (Meets boxes) (spans_of t) met those in
-    let long = spans_long (last_address t.schema.dims) t.placed in
-    met_are t boxes met n (omega arith) those
+    met_are t boxes met n (sym (counted_all t boxes met n by counted)) (answers_are_those_that_meet t boxes met sound by)

@@ -1,10 +1,10 @@
 -- How many regions of any tree meet some boxes, also of one that isn't sound.
-use Rattle.std.specs.Prelude.{◌≡◌, ℕ, min, List, length}
+use Rattle.std.specs.Prelude.{◌≡◌, ℕ, List, length}
 use Rattle.ub_bigmin.specs.Box.{Corners}
 use Rattle.ub_tree.specs.Handing.{AreMetBy}
 use Rattle.ub_tree.specs.View.{TreeView}
 use Rattle.ub_tree.specs.declared.region.Region.{Region as Span}
 
--- so many as the tree tells, one after the other, and no more than it has
+-- so many as the tree tells of, asked for one after the other until there is none
 abbrev pub AreCounted : List Corners → TreeView → ℕ → Type 0
-AreCounted boxes t count = (met : List Span) × AreMetBy boxes t met × (count ≡ min (length met) (length t.placed))
+AreCounted boxes t count = (met : List Span) × AreMetBy boxes t met × (count ≡ length met)

@@ -1,5 +1,5 @@
 -- The laws of a sound tree, as specs/Laws.antt states them, and what else the proofs of crates above use.
-use Rattle.std.proofs.Common.{◌≡◌, ◌<◌, inl, inr, ℕ, zero, suc, List, [], ◌∷◌, ◌++◌, false, Some, map, drop, nat_eq, slice_get, sym, ap, refl, arith, ◌∙◌}
+use Rattle.std.proofs.Common.{◌≡◌, ◌<◌, inl, inr, ℕ, zero, suc, List, [], ◌∷◌, ◌++◌, false, Some, None, map, drop, nat_eq, slice_get, sym, ap, refl, arith, ◌∙◌}
 use Rattle.std.proofs.lemmas.Bool.{cases_lt, cases_eq, eq-eqb}
 use Rattle.std.proofs.lemmas.Map.Keys.{apart_from_distinct, IsDistinct-tail}
 use Rattle.std.proofs.lemmas.Option.{slice_get_within, get_or_from_slice_get}
@@ -8,13 +8,15 @@ use Rattle.ub_region.proofs.Laws as lists
 use Rattle.ub_region.specs.Regions.{firsts_of}
 use Rattle.ub_region.specs.Spans.{span_end}
 use Rattle.ub_table.specs.Region.{Region}
+use Rattle.ub_tree.proofs.AnswerFacts.{answers_up}
 use Rattle.ub_tree.proofs.WalkFacts.{answers_are_those}
-use Rattle.ub_tree.specs.Laws.{SpansAscend, PagesDiffer, SpansCoverTheSpace, RowsLieInSpans, AnswersAreThoseThatMeet}
+use Rattle.ub_tree.specs.Laws.{SpansAscend, PagesDiffer, SpansCoverTheSpace, RowsLieInSpans, AnswersAreThoseThatMeet, AnswersAreRegionsThatMeet, AnswersAscend}
 use Rattle.ub_tree.specs.Placed.{Placed, entry_of, regions_in}
 use Rattle.ub_tree.specs.Spans.{Meets, first_keys, regions_of}
 use Rattle.ub_tree.specs.View.{TreeView, IsSound, regions, spans_of}
 use Rattle.ub_tree.specs.declared.region.Region.{Region as Span}
 use Rattle.ub_zaddr.specs.Address.{last_address}
+pub use Rattle.ub_tree.proofs.AnswerFacts.{HasAnswers, HasAnswers-none, HasAnswers-more, answers_after, answers_ended, answers_few, answers_later, answers_there}
 pub use Rattle.ub_tree.proofs.GrowFacts.{firsts_placed, new_row}
 pub use Rattle.ub_tree.proofs.MeetFacts.{before, contained_at, contains_at, is_later, later_from, spans_long, take_all, those_next, those_up_to}
 pub use Rattle.ub_tree.proofs.ReadFacts.{IsTraced, Keeps, Keeps-by, Keeps-more, Keeps-none, begun_traced, given_before, memory_searches, read_fault_before, reads_by, reads_then, sound_fault, traced_spans, tree_reads, tree_searches, unchanged_trace, unchanged_traced, SearchesTree-regions, SearchesTree-sound, SearchesTree-trace}
@@ -133,3 +135,12 @@ rows_lie_in_spans t span r row sound there stands has =
 pub answers_are_those_that_meet : AnswersAreThoseThatMeet
 answers_are_those_that_meet t boxes answers sound are =
     answers_are_those (Meets boxes) (spans_of t) (λ i j a b lt at_i at_j. spans_ascend t i j a b sound lt at_i at_j) answers are
+
+pub answers_are_regions_that_meet : AnswersAreRegionsThatMeet
+answers_are_regions_that_meet t boxes answers are =
+    let few = answers_few (Meets boxes) (spans_of t) answers are in
+    let long = spans_long (last_address t.schema.dims) t.placed in
+    (answers_there (Meets boxes) (spans_of t) None answers are, omega arith)
+
+pub answers_ascend : AnswersAscend
+answers_ascend t boxes answers i j a b are lt at_i at_j = answers_up (Meets boxes) (spans_of t) None answers are i j a b lt at_i at_j

@@ -3,6 +3,7 @@ pub mod SeekFacts
 pub mod TreeFacts
 pub mod CallFacts
 pub mod ReadFacts
+pub mod AnswerFacts
 pub mod MeetFacts
 pub mod MadeFacts
 pub mod RoomFacts

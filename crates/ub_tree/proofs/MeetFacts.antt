@@ -3,15 +3,15 @@ use Rattle.std.proofs.Common.{◌≡◌, ◌<◌, ◌≤◌, ◌+◌, inl, inr, 
 use Rattle.std.proofs.lemmas.Bool.{cases_lt, cases_eq}
 use Rattle.std.proofs.lemmas.Option.{slice_get_read, slice_get_within, get_or_from_slice_get, slice_get_cases}
 use Rattle.std.proofs.Math.Seq.{take-suc}
-use Rattle.std.specs.List.{AllByRecursion}
 use Rattle.ub_bigmin.specs.Box.{Corners}
 use Rattle.ub_region.specs.Those.{AreThose}
 use Rattle.ub_table.proofs.Laws.{not_both_before, not_before_self}
 use Rattle.ub_table.specs.Keys.{IsBefore}
+use Rattle.ub_tree.proofs.AnswerFacts.{HasAnswers, HasAnswers-none, HasAnswers-more, answers_after, answers_ended}
 use Rattle.ub_tree.specs.Handing.{AreMetBy, Began, TakesThese}
 use Rattle.ub_tree.specs.Placed.{Placed, entry_of}
 use Rattle.ub_tree.specs.Spans.{First, IsLater, Meets, regions_of}
-use Rattle.ub_tree.specs.View.{TreeView, IsSound, spans_of}
+use Rattle.ub_tree.specs.View.{TreeView, spans_of}
 use Rattle.ub_tree.specs.declared.region.Region.{Region as Span}
 use Rattle.ub_zaddr.specs.Address.{last_address}
 
@@ -49,10 +49,6 @@ module _ {X : Type 0} where
   take_all zero (x ∷ xs) h = absurd (omega arith)
   take_all (suc n) [] h = refl
   take_all (suc n) (x ∷ xs) h = ap (λ (ys : List X). x ∷ ys) (take_all n xs (omega arith))
-
-  all_pushed : (P : X → Type 0) (xs : List X) (x : X) → AllByRecursion P xs → P x → AllByRecursion P (xs ++ x ∷ [])
-  all_pushed P [] x all p = (p, tt)
-  all_pushed P (y ∷ xs) x all p = (all.0, all_pushed P xs x all.1 p)
 
   module _ (P : X → Type 0) where
     -- one more entry that has the property, and one that doesn't
@@ -115,80 +111,24 @@ module _ (spans : List Span) (ordered : (i j : ℕ) (a b : Span) → i < j → s
         ]
       ]
 
--- after some turns of a walk: these are the spans before a place that have a property, and the last of them stands before it
-pub record HasCome (P : Span → Type 0) (spans : List Span) (turns : ℕ) (found : List Span) (after : Option Span) : Type 0 where
-  pub place : ℕ
-  pub enough : turns ≤ place
-  pub far : place ≤ length spans
-  pub after_is : after ≡ before place spans
-  pub those : AreThose P (take place spans) found
-
-HasCome-none : (P : Span → Type 0) (spans : List Span) → HasCome P spans 0 [] None
-HasCome-none P spans = record { place = 0; enough = omega arith; far = omega arith; after_is = refl; those = refl }
-
--- a walk that has made as many turns as there are spans
-come_all : (P : Span → Type 0) (spans : List Span) (turns : ℕ) (found : List Span) (after : Option Span) → length spans ≤ turns → HasCome P spans turns found after → AreThose P spans found
-come_all P spans turns found after all come =
-    let enough = come.enough in
-    subst (λ (xs : List Span). AreThose P xs found) (take_all come.place spans (omega arith)) come.those
-
-module _ (P : Span → Type 0) (spans : List Span) (ordered : (i j : ℕ) (a b : Span) → i < j → slice_get spans i ≡ Some a → slice_get spans j ≡ Some b → IsBefore a.first b.first) (turns : ℕ)
-    (found : List Span) (after : Option Span) (come : HasCome P spans turns found after) where
-  first_is : (o : Option Span) → First (λ s. IsLater after s × P s) spans o → First (λ s. IsLater (before come.place spans) s × P s) spans o
-  first_is o first = subst (λ (a : Option Span). First (λ s. IsLater a s × P s) spans o) come.after_is first
-
-  -- none is left
-  come_last : First (λ s. IsLater after s × P s) spans None → AreThose P spans found
-  come_last first =
-      let none = first_is None first in
-      let far = come.far in
-      let all = those_up_to P spans found (length spans) come.place far (omega arith)
-      (λ m x from below at p. none x (contains_at spans m x at) (is_later spans ordered come.place m x from at, p)) come.those in
-      subst (λ (xs : List Span). AreThose P xs found) (take_all (length spans) spans (omega arith)) all
-
-  -- the next one comes
-  come_next : (span : Span) → First (λ s. IsLater after s × P s) spans (Some span) → HasCome P spans (turns + 1) (found ++ span ∷ []) (Some span)
-  come_next span found_first =
-      let first = first_is (Some span) found_first in
-      let i = first.0.0 in
-      let at = contained_at spans span first.0 in
-      let within = slice_get_within spans i span at in
-      let from = later_from spans ordered come.place i span come.far at first.1.0 in
-      let enough = come.enough in
-      record {
-        place = suc i;
-        enough = omega arith;
-        far = omega arith;
-        after_is = sym at;
-        those = those_next P spans found i come.place span from at first.1.1
-            (λ m x after below m_at p. first.2 x (contains_at spans m x m_at) (is_later spans ordered come.place m x after m_at, p) (ordered m i x span below m_at at)) come.those;
-      }
-
 -- ---- the same of a tree, whose regions are handed to a sink
 
 pub spans_long : (last : ℕ) (placed : List Placed) → length (regions_of last (map entry_of placed)) ≡ length placed
 spans_long last [] = refl
 spans_long last (p ∷ placed) = ap suc (spans_long last placed)
 
--- the first keys of a sound tree's regions ascend
-abbrev pub Ordered : TreeView → Type 0
-Ordered t = IsSound t → (i j : ℕ) (a b : Span) → i < j → slice_get (spans_of t) i ≡ Some a → slice_get (spans_of t) j ≡ Some b → IsBefore a.first b.first
-
 -- so far as a walk has come, in which nothing changes
 pub record Walks (boxes : List Corners) (t now : TreeView) (turns : ℕ) (found : List Span) (after : Option Span) : Type 0 where
   pub same : now ≡ t
-  pub there : AllByRecursion (Contains (spans_of t)) found
-  pub come : IsSound t → HasCome (Meets boxes) (spans_of t) turns found after
+  pub come : HasAnswers (Meets boxes) (spans_of t) turns found after
 
 pub Walks-none : (boxes : List Corners) (t : TreeView) → Walks boxes t t 0 [] None
-Walks-none boxes t = record { same = refl; there = tt; come = λ sound. HasCome-none (Meets boxes) (spans_of t) }
+Walks-none boxes t = record { same = refl; come = HasAnswers-none (Meets boxes) (spans_of t) }
 
-module _ (boxes : List Corners) (t now : TreeView) (ordered : Ordered t) (turns : ℕ) (found : List Span) (after : Option Span) (walks : Walks boxes t now turns found after) where
+module _ (boxes : List Corners) (t now : TreeView) (turns : ℕ) (found : List Span) (after : Option Span) (walks : Walks boxes t now turns found after) where
   pub walks_done : length t.placed ≤ turns → AreMetBy boxes t found
-  walks_done all = record {
-    there = walks.there;
-    those = λ sound. come_all (Meets boxes) (spans_of t) turns found after (let long = spans_long (last_address t.schema.dims) t.placed in omega arith) (walks.come sound);
-  }
+  walks_done all =
+      answers_after (Meets boxes) (spans_of t) turns found after walks.come (length t.placed) all (sym (spans_long (last_address t.schema.dims) t.placed))
 
   -- what the tree tells next, of one that is the same
   told : (next copied : Option Span) → copied ≡ after → First (λ s. IsLater copied s × Meets boxes s) (spans_of now) next → First (λ s. IsLater after s × Meets boxes s) (spans_of t) next
@@ -198,21 +138,15 @@ module _ (boxes : List Corners) (t now : TreeView) (ordered : Ordered t) (turns 
 
   pub walks_ended : (next copied : Option Span) → ((x : Span) → next ≡ Some x → ⊥) → copied ≡ after → First (λ s. IsLater copied s × Meets boxes s) (spans_of now) next
       → AreMetBy boxes t found
-  walks_ended None copied none is first = record {
-    there = walks.there;
-    those = λ sound. come_last (Meets boxes) (spans_of t) (ordered sound) turns found after (walks.come sound) (told None copied is first);
-  }
+  walks_ended None copied none is first = answers_ended (Meets boxes) (spans_of t) turns found after walks.come (told None copied is first)
   walks_ended (Some span) copied none is first = absurd (none span refl)
 
   pub walks_on : (new : TreeView) (copied : Option Span) (span : Span) → new ≡ now → copied ≡ after → First (λ s. IsLater copied s × Meets boxes s) (spans_of now) (Some span)
       → Walks boxes t new (turns + 1) (found ++ span ∷ []) (Some span)
-  walks_on new copied span kept is next =
-      let first = told (Some span) copied is next in
-      record {
-        same = kept ∙ walks.same;
-        there = all_pushed (Contains (spans_of t)) found span walks.there first.0;
-        come = λ sound. come_next (Meets boxes) (spans_of t) (ordered sound) turns found after (walks.come sound) span first;
-      }
+  walks_on new copied span kept is next = record {
+    same = kept ∙ walks.same;
+    come = HasAnswers-more (Meets boxes) (spans_of t) turns found after walks.come span (told (Some span) copied is next);
+  }
 
 -- ---- the sink
 

@@ -1,16 +1,15 @@
 -- What a walk over the regions of a tree that meet some boxes hands to a sink.
-use Rattle.std.specs.Prelude.{◌++◌, List}
-use Rattle.std.specs.List.{AllByRecursion, Contains}
+use Rattle.std.specs.Prelude.{◌++◌, List, None}
 use Rattle.ub_bigmin.specs.Box.{Corners}
-use Rattle.ub_region.specs.Those.{AreThose}
+use Rattle.ub_tree.specs.Laws.{AreAnswers}
 use Rattle.ub_tree.specs.Spans.{Meets}
-use Rattle.ub_tree.specs.View.{TreeView, IsSound, spans_of}
+use Rattle.ub_tree.specs.View.{TreeView, spans_of}
 use Rattle.ub_tree.specs.declared.region.Region.{Region}
 
--- these are regions of the tree; of a sound one those that meet the boxes, each once, in the order of their first keys
-pub record AreMetBy (boxes : List Corners) (t : TreeView) (met : List Region) : Type 0 where
-  pub there : AllByRecursion (Contains (spans_of t)) met
-  pub those : IsSound t → AreThose (Meets boxes) (spans_of t) met
+-- these are the regions that the tree tells of, asked for the next one that meets the boxes after each, until there is none: of
+-- a sound tree those that meet them, each once, in the order of their first keys
+abbrev pub AreMetBy : List Corners → TreeView → List Region → Type 0
+AreMetBy boxes t met = AreAnswers (Meets boxes) (spans_of t) None met
 
 -- ---- a sink, by what is true of two of its states between which it has taken some regions
 

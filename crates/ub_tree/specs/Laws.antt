@@ -1,6 +1,8 @@
--- The laws of a sound tree. Each is what the function of its name in `law` ensures, and is proved in proofs/Laws.antt. That an
--- insertion and a removal keep what regions are is a law of `ub_region`.
-use Rattle.std.specs.Prelude.{◌≡◌, ◌≤◌, ◌<◌, ℕ, List, [], ◌∷◌, Option, Some, None, Contains, slice_get}
+-- The laws of a tree, and what a search answers that is asked again and again. Each law is what the function of its name in
+-- `law` ensures, and is proved in proofs/Laws.antt. That an insertion and a removal keep what regions are is a law of
+-- `ub_region`.
+use Rattle.std.specs.Prelude.{◌≡◌, ◌≤◌, ◌<◌, ℕ, List, [], ◌∷◌, Option, Some, None, Contains, length, slice_get}
+use Rattle.std.specs.List.{AllByRecursion}
 use Rattle.ub_bigmin.specs.Box.{Corners}
 use Rattle.ub_region.specs.Those.{AreThose}
 use Rattle.ub_table.specs.Keys.{IsBefore}
@@ -47,3 +49,16 @@ AreAnswers P spans after (found ∷ more) =
 abbrev pub AnswersAreThoseThatMeet : Type 0
 AnswersAreThoseThatMeet = (t : TreeView) (boxes : List Corners) (answers : List Span) → IsSound t
     → AreAnswers (Meets boxes) (spans_of t) None answers → AreThose (Meets boxes) (spans_of t) answers
+
+-- over any tree `next_meeting`, from the beginning on, answers regions of the tree that meet the boxes, and no more than it has
+abbrev pub AnswersAreRegionsThatMeet : Type 0
+AnswersAreRegionsThatMeet = (t : TreeView) (boxes : List Corners) (answers : List Span)
+    → AreAnswers (Meets boxes) (spans_of t) None answers
+    → AllByRecursion (λ r. Contains (spans_of t) r × Meets boxes r) answers × (length answers ≤ length t.placed)
+
+-- over any tree, of two answers of `next_meeting`, from the beginning on, the later one begins with the later key, so that none
+-- comes twice
+abbrev pub AnswersAscend : Type 0
+AnswersAscend = (t : TreeView) (boxes : List Corners) (answers : List Span) (i j : ℕ) (a b : Span)
+    → AreAnswers (Meets boxes) (spans_of t) None answers → i < j
+    → slice_get answers i ≡ Some a → slice_get answers j ≡ Some b → IsBefore a.first b.first

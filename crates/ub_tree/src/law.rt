@@ -1,4 +1,4 @@
-ghost use Rattle.ub_tree.specs.Laws.{SpansAscend, PagesDiffer, SpansCoverTheSpace, RowsLieInSpans, AnswersAreThoseThatMeet};
+ghost use Rattle.ub_tree.specs.Laws.{SpansAscend, PagesDiffer, SpansCoverTheSpace, RowsLieInSpans, AnswersAreThoseThatMeet, AnswersAreRegionsThatMeet, AnswersAscend};
 
 // Each function here does nothing, and its clause is a law of the definitions in specs/. So the law is proved, and is read
 // beside the code.
@@ -27,4 +27,15 @@ pub fn rows_lie_in_spans()
 /// and in order, and no others.
 pub fn answers_are_those_that_meet()
     ensures { AnswersAreThoseThatMeet }
+{}
+
+/// Over any tree `next_meeting`, from the beginning on and each time after the last answer, answers regions of the tree that
+/// meet the boxes, and no more than it has.
+pub fn answers_are_regions_that_meet()
+    ensures { AnswersAreRegionsThatMeet }
+{}
+
+/// Over any tree, of two such answers the later one begins with the later key, so that none comes twice.
+pub fn answers_ascend()
+    ensures { AnswersAscend }
 {}

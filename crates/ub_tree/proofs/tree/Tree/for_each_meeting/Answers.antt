@@ -1,12 +1,7 @@
 use Rattle.std.proofs.Common.{◌≤◌, ◌++◌, ◌∷◌, ◌∙◌, [], ℕ, subst}
-use Rattle.ub_tree.proofs.Laws.{spans_ascend}
-use Rattle.ub_tree.proofs.MeetFacts.{Ordered, Walks-none, still_began, takes_more, takes_none, walks_done, walks_ended, walks_on}
+use Rattle.ub_tree.proofs.MeetFacts.{Walks-none, still_began, takes_more, takes_none, walks_done, walks_ended, walks_on}
 use Rattle.ub_tree.proofs.ReadFacts.{memory_searches, tree_searches}
-use Rattle.ub_tree.specs.View.{TreeView}
 use Rattle.ub_tree.proofs.tree.Tree.for_each_meeting.Goals as goal
-
-in_order : (t : TreeView) → Ordered t
-in_order t sound i j a b lt at_i at_j = spans_ascend t i j a b sound lt at_i at_j
 
 pub loop-turn-init : goal.loop-turn-init
 loop-turn-init g c = ([], Walks-none c.args.boxes.now c.args.self.now, takes_none (g.T.RegionSink.Takes c.args.boxes.now) c.args.sink.now)
@@ -23,7 +18,7 @@ pub loop-turn-preserved : goal.loop-turn-preserved
 loop-turn-preserved g c =
     let (found, walks, takes) = c.loop-turn.invariant in (
       found ++ c.in-Some.region ∷ [],
-      walks_on c.args.boxes.now c.args.self.now c.loop-turn.self (in_order c.args.self.now) c.loop-turn._turn found c.loop-turn.after walks
+      walks_on c.args.boxes.now c.args.self.now c.loop-turn.self c.loop-turn._turn found c.loop-turn.after walks
           c.next_meeting.new.self _ c.in-Some.region c.in_ok-region.ensures.effect.same c.as_ref.ensures.value (rw c.in-Some.is at c.in_ok-region.ensures.found),
       takes_more (g.T.RegionSink.Takes c.args.boxes.now) c.args.sink.now c.loop-turn.sink c.push.new.self found (c.in-Some.region ∷ []) takes c.in_ok-push.ensures,
     )
@@ -32,7 +27,7 @@ pub returns-in_default-clause-met : goal.returns-in_default-clause-met
 returns-in_default-clause-met g c =
     let (found, walks, takes) = c.loop-turn.invariant in (
       found,
-      walks_ended c.args.boxes.now c.args.self.now c.loop-turn.self (in_order c.args.self.now) c.loop-turn._turn found c.loop-turn.after walks
+      walks_ended c.args.boxes.now c.args.self.now c.loop-turn.self c.loop-turn._turn found c.loop-turn.after walks
           c.in_ok-region.field-0 _ c.in_default.not-Some c.as_ref.ensures.value c.in_ok-region.ensures.found,
       takes,
     )
@@ -41,7 +36,7 @@ pub returns-clause-met : goal.returns-clause-met
 returns-clause-met g c =
     let (found, walks, takes) = c.loop-turn.invariant in (
       found,
-      walks_done c.args.boxes.now c.args.self.now c.loop-turn.self (in_order c.args.self.now) c.loop-turn._turn found c.loop-turn.after walks
+      walks_done c.args.boxes.now c.args.self.now c.loop-turn.self c.loop-turn._turn found c.loop-turn.after walks
           (subst (λ (n : ℕ). n ≤ c.loop-turn._turn) c.regions-turn-end.ensures c.loop-turn-test.false),
       takes,
     )
