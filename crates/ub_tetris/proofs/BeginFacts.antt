@@ -9,13 +9,15 @@ use Rattle.ub_query.proofs.Laws.{all_permutation}
 use Rattle.ub_table.specs.declared.schema.Schema.{Schema}
 use Rattle.ub_tetris.proofs.BegunFacts.{begun}
 use Rattle.ub_tetris.proofs.BoxFacts.{have_dimension}
-use Rattle.ub_tetris.proofs.SpanFacts.{of_regions}
+use Rattle.ub_tetris.proofs.QueueFacts.{met_along}
+use Rattle.ub_tetris.proofs.SpanFacts.{met_there, of_regions}
+use Rattle.ub_tetris.specs.Awaited.{AreMetAlong}
 use Rattle.ub_tetris.specs.Effects.{Begins, of_read}
-use Rattle.ub_tetris.specs.Sweep.{AwaitedRegion, HasBegun, IsStarted, IsSwept, SweepView}
+use Rattle.ub_tetris.specs.Sweep.{AwaitedRegion, HasBegun, IsStarted, IsSweepOf, IsSwept, SweepView}
 use Rattle.ub_tetris.specs.declared.course.Course.{Course}
 use Rattle.ub_tetris.specs.declared.event.Awaited.{Awaited}
 use Rattle.ub_tetris.specs.declared.fault.SweepFault.{SweepFault}
-use Rattle.ub_tetris.specs.inner.Events.{AreQueued}
+use Rattle.ub_tetris.specs.inner.Events.{AreQueued, regions_awaited}
 use Rattle.ub_tetris.specs.inner.Turns.{awaited_of, begun_view}
 use Rattle.ub_tree.proofs.Laws.{Keeps-by, begun_traced, given_before, unchanged_traced}
 use Rattle.ub_tree.specs.Reading.{IsGiven, SearchesTree, counted}
@@ -50,7 +52,7 @@ started_by mid new boxes course awaited view same queued is =
       none = refl;
       working = refl;
       regions = ours mid awaited (all_permutation (λ a. Contains (spans_of mid) a.region) queued.met awaited queued.same
-          (of_regions (Contains (spans_of mid)) queued.met queued.met_are.met.there));
+          (of_regions (Contains (spans_of mid)) queued.met (met_there boxes mid (regions_awaited queued.met) queued.met_are.met)));
     }))
 
 same_course : (course : Course) (dim : ℕ) (is_descending : Bool) (found : Option Course) → found ≡ Some course → found ≡ Some (record { dim = dim; is_descending = is_descending })
@@ -74,3 +76,18 @@ begun_by t mid new plan course awaited view found boxes began same is some of_pl
     subst (λ (v : SweepView). HasBegun plan new v) (sym seen)
     (begun mid new plan course awaited of_mid (unchanged_traced mid new same) (ap (λ (v : TreeView). v.trace.pages) same ∙ ap (λ (v : TreeView). v.trace.pages) began)
     (subst (λ (bs : List Corners). AreQueued bs course mid awaited) of_plan queued))
+
+-- over any tree it awaits the regions that the tree tells of
+pub met_by : (t mid new : TreeView) (plan : PlanView) (course : Course) (awaited : List Awaited) (view : SweepView) (found : Option Course) (boxes : List Corners)
+    → new ≡ mid → found ≡ Some course
+    → ((dim : ℕ) (is_descending : Bool) → plan.kind ≡ Sweep dim is_descending → All (λ b. dim < length b.lo) plan.covering.boxes
+    → found ≡ Some (record { dim = dim; is_descending = is_descending }))
+    → boxes ≡ plan.covering.boxes → AreQueued boxes course mid awaited → view ≡ begun_view course awaited
+    → (dim : ℕ) (is_descending : Bool) → IsSweepOf t.schema plan dim is_descending → AreMetAlong plan.covering.boxes dim is_descending new view.awaited
+met_by t mid new plan course awaited view found boxes same is some of_plan queued seen dim is_descending (planned, kind) =
+    let told = some dim is_descending kind (have_dimension t.schema plan dim is_descending planned kind) in
+    let on : course ≡ record { dim = dim; is_descending = is_descending } = same_course course dim is_descending found is told in
+    subst (λ (v : SweepView). AreMetAlong plan.covering.boxes dim is_descending new v.awaited) (sym seen)
+    (subst (λ (v : TreeView). AreMetAlong plan.covering.boxes dim is_descending v (awaited_of awaited)) (sym same)
+    (subst (λ (c : Course). AreMetAlong plan.covering.boxes c.dim c.is_descending mid (awaited_of awaited)) on
+    (met_along mid plan.covering.boxes course awaited (subst (λ (bs : List Corners). AreQueued bs course mid awaited) of_plan queued))))

@@ -1,14 +1,19 @@
 -- The region at a sweep's place is fetched.
-use Rattle.std.proofs.Common.{◌≡◌, ◌<◌, ◌+◌, ◌∙◌, ◌∷◌, ℕ, zero, suc, true, List, [], Option, Some, Contains, drop, length, slice_get, slice_index_or, sym, ap, subst, arith}
+use Rattle.std.proofs.Common.{◌≡◌, ◌<◌, ◌≤◌, ◌+◌, ◌*◌, ◌∙◌, ◌∷◌, ◌++◌, ℕ, zero, suc, Bool, true, List, [], Option, Some, Contains, drop, length, map, slice_get, slice_index_or, sym, ap, subst, arith}
+use Rattle.std.proofs.lemmas.List.{length-append, length-map}
+use Rattle.std.proofs.lemmas.List.Sorted.{length_permutation}
+use Rattle.std.proofs.lemmas.List.Sums.{count_by-le-length, length-filter}
 use Rattle.std.specs.List.{filter}
 use Rattle.ub_filter.specs.Choice.{is_chosen}
 use Rattle.ub_planning.specs.Plan.{PlanView}
 use Rattle.ub_filter.specs.declared.choice.Choice.{Choice}
-use Rattle.ub_table.specs.Region.{Region}
+use Rattle.ub_query.specs.declared.query.SortKey.{SortKey}
+use Rattle.ub_table.specs.Region.{IsRegion, Region}
 use Rattle.ub_table.specs.declared.row.Row.{Row}
 use Rattle.ub_table.specs.declared.schema.Schema.{Schema}
 use Rattle.ub_tetris.specs.declared.event.Awaited.{Awaited}
 use Rattle.ub_tetris.specs.declared.state.State.{State}
+use Rattle.ub_tetris.specs.Held.{HeldRow, held_row}
 use Rattle.ub_tetris.specs.inner.Kept.{HoldsAlso}
 use Rattle.ub_tetris.specs.inner.Turns.{HasFetchedNext, IsDue, awaited_of, is_due_by}
 use Rattle.ub_tree.specs.Calls.{StandsAt}
@@ -58,3 +63,25 @@ has_fetched plan choice t new s new_s x region schema at noted stands first of_t
             (subst (λ (x : Schema). HoldsAlso x plan.asked.order (filter (is_chosen choice x plan) region.rows) s.held new_s.held) of_tree holds),
       );
 }
+
+-- ---- how many rows are left
+
+-- no more are held beside those that were than the region's page has room for
+pub held_few : (choice : Row → Bool) (schema of_tree : Schema) (keys : List SortKey) (region : Region) (old new : List HeldRow) → IsRegion of_tree region
+    → HoldsAlso schema keys (filter choice region.rows) old new → length new ≤ length old + 64
+held_few choice schema of_tree keys region old new is holds =
+    let chosen = filter choice region.rows in
+    let same : length new ≡ length (old ++ map (held_row schema keys) chosen) = length_permutation (old ++ map (held_row schema keys) chosen) new holds in
+    let parts = length-append old (map (held_row schema keys) chosen) in
+    let each = length-map chosen (held_row schema keys) in
+    let passed : length (filter choice region.rows) ≤ length region.rows = rw (length-filter choice region.rows) (count_by-le-length choice region.rows) in
+    let few = is.few in
+    let most : of_tree.page_rows ≤ 64 = of_tree.counts.few_rows in
+    omega arith
+
+-- so with a region more behind there are no more to give than before
+pub left_few : (old new : List HeldRow) (queue : List Awaited) (k n : ℕ) (x : Awaited) → n ≡ k + 1 → slice_get queue k ≡ Some x → length new ≤ length old + 64
+    → length new + length (awaited_of (drop n queue)) * 64 ≤ length old + length (awaited_of (drop k queue)) * 64
+left_few old new queue k n x next at few =
+    let one : length (awaited_of (drop k queue)) ≡ suc (length (awaited_of (drop n queue))) = ap length (next_awaited queue k n x next at) in
+    omega arith

@@ -1,9 +1,9 @@
 -- What a sweep's code has found and sorted is the events of the sweep.
-use Rattle.std.proofs.Common.{slice_get, ◌≡◌, ◌≤◌, ◌<◌, ℕ, List, [], ◌∷◌, Bool, true, false, nat_eq, map, Contains, IsPermutation, ◌⊎◌, inl, inr, refl, sym, ap, ◌∙◌, subst, arith}
+use Rattle.std.proofs.Common.{slice_get, ◌≡◌, ◌≤◌, ◌<◌, ℕ, List, [], ◌∷◌, Bool, true, false, nat_eq, map, Contains, IsPermutation, None, ◌⊎◌, inl, inr, refl, sym, ap, ◌∙◌, subst, arith}
 use Rattle.std.proofs.lemmas.Bool.{true≢false, and_from, and_parts, eq-eqb, eqb-true}
 use Rattle.std.proofs.lemmas.Cmp.{nat_eq_equiv, ranked}
 use Rattle.std.proofs.lemmas.List.Elements.{All-from_recursion}
-use Rattle.std.proofs.lemmas.List.Sorted.{Contains-permutation, IsPermutation-sym}
+use Rattle.std.proofs.lemmas.List.Sorted.{Contains-permutation, IsPermutation-map, IsPermutation-sym}
 use Rattle.std.specs.List.{AllByRecursion}
 use Rattle.std.specs.Ordering.{nat_cmp, ordering_then}
 use Rattle.std.specs.declared.cmp.Ordering.{Ordering}
@@ -24,13 +24,14 @@ use Rattle.ub_table.specs.declared.row.Key.{Key}
 use Rattle.ub_tetris.proofs.ArrangeFacts.{rising_two}
 use Rattle.ub_tetris.proofs.EventFacts.{events_total}
 use Rattle.ub_tetris.proofs.SortedFacts.{keys_rise, rising_permutation, rising_weaker, strictly_from_sorted}
-use Rattle.ub_tetris.proofs.SpanFacts.{of_regions}
-use Rattle.ub_tetris.specs.Sweep.{AreAwaited}
+use Rattle.ub_tetris.proofs.SpanFacts.{met_rise, met_there, of_regions}
+use Rattle.ub_tetris.specs.Awaited.{AreMetAlong, IsAwaitedBefore, IsFirstValue}
+use Rattle.ub_tetris.specs.Sweep.{AreAwaited, AwaitedRegion}
 use Rattle.ub_tetris.specs.declared.course.Course.{Course}
 use Rattle.ub_tetris.specs.declared.event.Awaited.{Awaited}
-use Rattle.ub_tetris.specs.inner.Events.{AreQueued, IsFirstValue, along_cmp, event_cmp, regions_awaited}
+use Rattle.ub_tetris.specs.inner.Events.{AreQueued, along_cmp, event_cmp, regions_awaited}
 use Rattle.ub_tetris.specs.inner.Turns.{awaited_of}
-use Rattle.ub_tree.proofs.Laws.{firsts_placed}
+use Rattle.ub_tree.proofs.Laws.{answers_are_those_that_meet, firsts_placed}
 use Rattle.ub_tree.specs.Placed.{Placed, entry_of, regions_in}
 use Rattle.ub_tree.specs.Spans.{Meets, first_keys, regions_of}
 use Rattle.ub_tree.specs.View.{IsSound, TreeView, regions, spans_of}
@@ -64,10 +65,6 @@ those_have P (y ∷ ys) those x (inr are) there is = elim (contains_cases y ys x
 firsts_in_spans : (last : ℕ) (regions : List Region) → map (λ (span : Span). span.region.first) (spans_up_to last regions) ≡ firsts_of regions
 firsts_in_spans last [] = refl
 firsts_in_spans last (region ∷ regions) = ap (λ (keys : List Key). region.first ∷ keys) (firsts_in_spans last regions)
-
-firsts_in_regions : (last : ℕ) (placed : List Placed) → map (λ (r : TreeRegion). r.first) (regions_of last (map entry_of placed)) ≡ firsts_of (regions_in placed)
-firsts_in_regions last [] = refl
-firsts_in_regions last (p ∷ placed) = ap (λ (keys : List Key). p.region.first ∷ keys) (firsts_in_regions last placed)
 
 -- one is the other
 record IsOne (r : TreeRegion) (span : Span) : Type 0 where
@@ -107,11 +104,6 @@ module _ (t : TreeView) (sound : IsSound t) where
   spans_rise =
       Rising-map (λ a b. IsBefore a b) (λ (span : Span). span.region.first) plan_spans
       (subst (λ (keys : List Key). Rising (λ a b. IsBefore a b) keys) (sym (firsts_in_spans (last_address t.schema.dims) (regions t))) (keys_rise (firsts_of (regions t)) sound.regions_are.ascending))
-
-  regions_rise : Rising (λ (a b : TreeRegion). IsBefore a.first b.first) (spans_of t)
-  regions_rise =
-      Rising-map (λ a b. IsBefore a b) (λ (r : TreeRegion). r.first) (spans_of t)
-      (subst (λ (keys : List Key). Rising (λ a b. IsBefore a b) keys) (sym (firsts_in_regions (last_address t.schema.dims) t.placed)) (keys_rise (firsts_of (regions t)) sound.regions_are.ascending))
 
   same_span : (a b : Span) → Contains plan_spans a → Contains plan_spans b → a.region.first ≡ b.region.first → a ≡ b
   same_span a b left right same = elim (rising_two (λ (a b : Span). IsBefore a.region.first b.region.first) plan_spans a b spans_rise left right) [
@@ -315,22 +307,28 @@ begins_alike t a event r span match same one = sym match.one.first ∙ ap (λ (r
 abbrev SpanBefore : Span → Span → Type 0
 SpanBefore a b = IsBefore a.region.first b.region.first
 
-module _ (t : TreeView) (sound : IsSound t) (boxes : List Corners) (course : Course) (awaited : List Awaited) (queue : AreQueued boxes course t awaited) (events : List Event) (are : AreMatched t awaited events) where
-  those_met : AreThose (Meets boxes) (spans_of t) (regions_awaited queue.met)
-  those_met = queue.met_are.met.those sound
-
-  apart : Rising (λ a b. same_first a b ≡ false) awaited
-  apart =
+-- of regions awaited no two begin with one key, and each is before all later ones
+module _ (t : TreeView) (boxes : List Corners) (course : Course) (awaited : List Awaited) (queue : AreQueued boxes course t awaited) where
+  queue_apart : Rising (λ a b. same_first a b ≡ false) awaited
+  queue_apart =
       rising_permutation same_first same_flips queue.met awaited queue.same
       (rising_weaker (λ (a b : Awaited). IsBefore a.region.first b.region.first) (λ a b. same_first a b ≡ false) same_false queue.met
       (Rising-map (λ (a b : TreeRegion). IsBefore a.first b.first) (λ (a : Awaited). a.region) queue.met
-      (Rising-those (λ (a b : TreeRegion). IsBefore a.first b.first) (Meets boxes) (spans_of t) (regions_awaited queue.met) those_met (regions_rise t sound))))
+      (met_rise (Meets boxes) (spans_of t) None (regions_awaited queue.met) queue.met_are.met)))
+
+  queue_rises : Rising (λ a b. event_cmp course.is_descending a b ≡ Less) awaited
+  queue_rises =
+      strictly_from_sorted (event_cmp course.is_descending) (events_total course.is_descending) awaited queue.sorted
+      (rising_weaker (λ a b. same_first a b ≡ false) (λ a b. ¬ (event_cmp course.is_descending a b ≡ Equal)) (apart_unlike course.is_descending) awaited queue_apart)
+
+module _ (t : TreeView) (sound : IsSound t) (boxes : List Corners) (course : Course) (awaited : List Awaited) (queue : AreQueued boxes course t awaited) (events : List Event) (are : AreMatched t awaited events) where
+  those_met : AreThose (Meets boxes) (spans_of t) (regions_awaited queue.met)
+  those_met = answers_are_those_that_meet t boxes (regions_awaited queue.met) sound queue.met_are.met
 
   events_rise : Rising (IsEventBefore course.is_descending) events
   events_rise =
       matched_rising t (λ a b. event_cmp course.is_descending a b ≡ Less) (IsEventBefore course.is_descending) (event_before t course.is_descending) awaited events are
-      (strictly_from_sorted (event_cmp course.is_descending) (events_total course.is_descending) awaited queue.sorted
-      (rising_weaker (λ a b. same_first a b ≡ false) (λ a b. ¬ (event_cmp course.is_descending a b ≡ Equal)) (apart_unlike course.is_descending) awaited apart))
+      (queue_rises t boxes course awaited queue)
 
   in_meeting : (meeting : List Span) → AreThose (λ span. plan.Meets boxes span.from span.to) (plan.spans_of t.schema (regions t)) meeting
       → (span : Span) → Contains (map (λ (event : Event). event.span) events) span → Contains meeting span
@@ -359,7 +357,7 @@ module _ (t : TreeView) (sound : IsSound t) (boxes : List Corners) (course : Cou
       let chain = λ (a : Span) (b : Span) (c : Span) (p : SpanBefore a b) (q : SpanBefore b c). before_trans a.region.first b.region.first c.region.first p q in
       let differ : Rising (λ a b. SpanBefore a b ⊎ SpanBefore b a) spans =
       Rising-mapped (λ a b. SpanBefore a b ⊎ SpanBefore b a) (λ (event : Event). event.span) events
-      (matched_rising t (λ a b. same_first a b ≡ false) (λ d e. SpanBefore d.span e.span ⊎ SpanBefore e.span d.span) (event_sides t) awaited events are apart) in
+      (matched_rising t (λ a b. same_first a b ≡ false) (λ d e. SpanBefore d.span e.span ⊎ SpanBefore e.span d.span) (event_sides t) awaited events are (queue_apart t boxes course awaited queue)) in
       let (sorted, arranged) = an_arrangement SpanBefore chain spans differ in
       let same : sorted ≡ meeting = Rising-one SpanBefore (λ a. not_before_self a.region.first) chain sorted meeting
       (Rising-from_adjacent SpanBefore chain sorted arranged.ordered)
@@ -380,6 +378,31 @@ module _ (t : TreeView) (sound : IsSound t) (boxes : List Corners) (course : Cou
 pub queued : (t : TreeView) (boxes : List Corners) (course : Course) (awaited : List Awaited) → IsSound t → AreQueued boxes course t awaited
     → (events : List Event) × AreEvents t.schema boxes course.dim course.is_descending (regions t) events × AreAwaited t (awaited_of awaited) events
 queued t boxes course awaited sound queue =
-    let there = all_permutation (λ (a : Awaited). Contains (spans_of t) a.region) queue.met awaited queue.same (of_regions (Contains (spans_of t)) queue.met queue.met_are.met.there) in
+    let there = all_permutation (λ (a : Awaited). Contains (spans_of t) a.region) queue.met awaited queue.same (of_regions (Contains (spans_of t)) queue.met (met_there boxes t (regions_awaited queue.met) queue.met_are.met)) in
     let (events, are) = matched t awaited there in
     (events, are_events t sound boxes course awaited queue events are, matched_awaited t awaited events are)
+
+-- ---- the same over any tree
+
+regions_alike : (awaited : List Awaited) → regions_awaited awaited ≡ map (λ (a : AwaitedRegion). a.region) (awaited_of awaited)
+regions_alike [] = refl
+regions_alike (a ∷ awaited) = ap (λ (rs : List TreeRegion). a.region ∷ rs) (regions_alike awaited)
+
+values_alike : (boxes : List Corners) (course : Course) (awaited : List Awaited) → AllByRecursion (λ a. IsFirstValue boxes course.dim course.is_descending a.region a.value) awaited
+    → AllByRecursion (λ (a : AwaitedRegion). IsFirstValue boxes course.dim course.is_descending a.region a.value) (awaited_of awaited)
+values_alike boxes course [] all = tt
+values_alike boxes course (a ∷ awaited) all = (all.0, values_alike boxes course awaited all.1)
+
+pub met_along : (t : TreeView) (boxes : List Corners) (course : Course) (awaited : List Awaited) → AreQueued boxes course t awaited
+    → AreMetAlong boxes course.dim course.is_descending t (awaited_of awaited)
+met_along t boxes course awaited queue = record {
+  met = regions_awaited queue.met;
+  met_are = queue.met_are.met;
+  same = subst (λ (rs : List TreeRegion). IsPermutation (regions_awaited queue.met) rs) (regions_alike awaited) (IsPermutation-map (λ (a : Awaited). a.region) queue.met awaited queue.same);
+  values = values_alike boxes course awaited
+      (all_permutation (λ (a : Awaited). IsFirstValue boxes course.dim course.is_descending a.region a.value) queue.met awaited queue.same queue.met_are.valued);
+  ordered = adjacent-from_Rising (IsAwaitedBefore course.is_descending) (awaited_of awaited)
+      (Rising-mapped (IsAwaitedBefore course.is_descending) (λ (a : Awaited). record { value = a.value; region = a.region }) awaited
+      (rising_weaker (λ a b. event_cmp course.is_descending a b ≡ Less) (λ (a b : Awaited). IsAlong course.is_descending a.value b.value ⊎ ((a.value ≡ b.value) × IsBefore a.region.first b.region.first))
+      (less_before course.is_descending) awaited (queue_rises t boxes course awaited queue)));
+}

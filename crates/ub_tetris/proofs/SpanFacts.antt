@@ -1,15 +1,20 @@
 -- The regions that meet some boxes have event values, with which they are put in one after the other.
-use Rattle.std.proofs.Common.{◌≡◌, ◌<◌, ◌≤◌, ℕ, List, [], ◌∷◌, ◌++◌, All, true, Bool, Option, None, length, ◌∙◌, sym, ap, refl, subst}
+use Rattle.std.proofs.Common.{◌≡◌, ◌<◌, ◌≤◌, ℕ, List, [], ◌∷◌, ◌++◌, All, true, Bool, Option, Some, None, Contains, length, ◌∙◌, sym, ap, refl, subst}
 use Rattle.std.proofs.lemmas.List.{map-append}
 use Rattle.std.specs.List.{AllByRecursion}
 use Rattle.ub_bigmin.specs.Box.{Corners, IsValueInSpan}
 use Rattle.ub_tetris.specs.declared.awaiting.MetRegions.{MetRegions}
 use Rattle.ub_tetris.specs.declared.course.Course.{Course}
 use Rattle.ub_tetris.specs.declared.event.Awaited.{Awaited}
-use Rattle.ub_tetris.specs.inner.Events.{AreMet, AreValued, HasMet, IsFirstOn, IsFirstValue, regions_awaited}
+use Rattle.ub_tetris.specs.Awaited.{IsFirstOn, IsFirstValue}
+use Rattle.ub_tetris.specs.inner.Events.{AreMet, AreValued, HasMet, regions_awaited}
+use Rattle.ub_query.proofs.Laws.{Rising, all_weaker}
+use Rattle.ub_table.specs.Keys.{IsBefore}
+use Rattle.ub_tree.proofs.Laws.{answers_are_regions_that_meet, answers_later}
 use Rattle.ub_tree.specs.Handing.{AreMetBy}
+use Rattle.ub_tree.specs.Laws.{AreAnswers}
 use Rattle.ub_tree.specs.Spans.{Meets}
-use Rattle.ub_tree.specs.View.{TreeView}
+use Rattle.ub_tree.specs.View.{TreeView, spans_of}
 use Rattle.ub_tree.specs.declared.region.Region.{Region}
 
 met_value : (boxes : List Corners) (region : Region) (dim : ℕ) → Meets boxes region → (v : ℕ) × IsValueInSpan boxes region.from region.to dim v
@@ -27,6 +32,16 @@ pub met_first : (boxes : List Corners) (region : Region) (dim : ℕ) (down : Boo
 met_first boxes region dim down found meets first none =
     let (v, is) = met_value boxes region dim meets in
     none_first down (IsValueInSpan boxes region.from region.to dim) v (subst (λ (o : Option ℕ). IsFirstOn down (IsValueInSpan boxes region.from region.to dim) o) none first) is
+
+-- the regions that a tree tells of are its own
+pub met_there : (boxes : List Corners) (t : TreeView) (met : List Region) → AreMetBy boxes t met → AllByRecursion (Contains (spans_of t)) met
+met_there boxes t met by =
+    all_weaker (λ (r : Region). Contains (spans_of t) r × Meets boxes r) (Contains (spans_of t)) (λ r is. is.0) met (answers_are_regions_that_meet t boxes met by).0
+
+-- and each begins before all later ones
+pub met_rise : (P : Region → Type 0) (spans : List Region) (after : Option Region) (answers : List Region) → AreAnswers P spans after answers → Rising (λ a b. IsBefore a.first b.first) answers
+met_rise P spans after [] are = tt
+met_rise P spans after (found ∷ more) (first, rest) = (answers_later P spans found more rest, met_rise P spans (Some found) more rest)
 
 -- what is true of the regions is so of each region awaited
 pub of_regions : (P : Region → Type 0) (awaited : List Awaited) → AllByRecursion P (regions_awaited awaited) → AllByRecursion (λ a. P a.region) awaited

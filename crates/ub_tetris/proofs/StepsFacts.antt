@@ -1,6 +1,7 @@
 -- The turns of a sweep, one after the other.
-use Rattle.std.proofs.Common.{◌≡◌, ◌<◌, ◌≤◌, ◌+◌, ◌-◌, ◌++◌, ◌∷◌, ◌∙◌, ℕ, true, false, List, [], Option, Result, Ok, Err, length, refl, sym, ap, subst, arith, append_assoc}
+use Rattle.std.proofs.Common.{◌≡◌, ◌<◌, ◌≤◌, ◌+◌, ◌-◌, ◌++◌, ◌∷◌, ◌∙◌, ℕ, suc, true, false, List, [], Option, Some, None, IfSome, Result, Ok, Err, length, refl, sym, ap, subst, arith, append_assoc}
 use Rattle.std.proofs.lemmas.List.{append-nil}
+use Rattle.std.proofs.lemmas.List.Sorted.{length_permutation}
 use Rattle.std.specs.Prelude.{OnErr}
 use Rattle.ub_planning.specs.Plan.{PlanView}
 use Rattle.ub_planning.specs.Visits.{Event}
@@ -10,11 +11,14 @@ use Rattle.ub_tetris.proofs.EffectFacts.{Sweeps-none, sweeps_then, swept_traced}
 use Rattle.ub_tetris.proofs.FetchFacts.{due_within}
 use Rattle.ub_tetris.proofs.StepFacts.{fetch_step, last_step, chain_step}
 use Rattle.ub_tetris.specs.Effects.{Rests, Sweeps}
-use Rattle.ub_tetris.specs.Sweep.{IsSweeping, HasBroken, HasStepped}
+use Rattle.ub_tetris.specs.Sweep.{IsSweeping, HasBroken, HasStepped, rows_left}
 use Rattle.ub_tetris.specs.declared.state.State.{State}
 use Rattle.ub_tetris.specs.inner.Kept.{TakesFirst}
 use Rattle.ub_tetris.specs.inner.Turns.{HasAskedNext, HasFetchedNext, IsDue, IsOnward, view_of}
 use Rattle.ub_tree.specs.View.{TreeView}
+
+at_most : (a b c : ℕ) → a ≤ b → b ≤ c → a ≤ c
+at_most a b c h k = omega arith
 
 -- what has been fetched since a sweep began its step
 pub record Fetches (plan : PlanView) (t now : TreeView) (s s_now : State) : Type 0 where
@@ -23,6 +27,7 @@ pub record Fetches (plan : PlanView) (t now : TreeView) (s s_now : State) : Type
       → (read left : List Event) × (unread ≡ read ++ left) × IsSweeping plan now (view_of s_now) given rest (fetched ++ read) left
   pub still : length s.queue.items ≤ s.fetched → (now ≡ t) × (s_now ≡ s)
   pub course : s_now.course ≡ s.course
+  pub few : rows_left (view_of s_now) ≤ rows_left (view_of s)
 
 pub Fetches-none : (plan : PlanView) (t : TreeView) (s : State) → Fetches plan t t s s
 Fetches-none plan t s = record {
@@ -31,7 +36,15 @@ Fetches-none plan t s = record {
       ([], unread, refl, subst (λ (events : List Event). IsSweeping plan t (view_of s) given rest events unread) (sym (append-nil fetched)) is);
   still = λ past. (refl, refl);
   course = refl;
+  few = omega arith;
 }
+
+below : (a b c : ℕ) → a + 1 ≡ b → b ≤ c → a < c
+below a b c h k = omega arith
+
+still_awaited : (s new_s : State) → (new_s.course ≡ s.course) × (new_s.queue ≡ s.queue) × (new_s.fetched ≡ s.fetched) → suc (length new_s.held) ≡ length s.held
+    → rows_left (view_of new_s) + 1 ≡ rows_left (view_of s)
+still_awaited s new_s (course, queue, fetched) count = rw (queue, fetched) (omega arith)
 
 module _ (plan : PlanView) (t now : TreeView) (s s_now : State) (so_far : Fetches plan t now s s_now) where
   pub same_schema : now.schema ≡ t.schema
@@ -46,8 +59,9 @@ module _ (plan : PlanView) (t now : TreeView) (s s_now : State) (so_far : Fetche
 
   -- one more region was fetched
   pub Fetches-more : (new : TreeView) (new_s : State) → IsDue s_now true → IsOnward s_now new_s → HasFetchedNext plan now new s_now new_s
+      → rows_left (view_of new_s) ≤ rows_left (view_of s_now)
       → Sweeps {A = Unit {0}} (view_of s_now) (view_of new_s) now new (Ok tt) → Fetches plan t new s new_s
-  Fetches-more new new_s due onward has effect = record {
+  Fetches-more new new_s due onward has few effect = record {
     effect = sweeps_then tt (Ok tt) (view_of s) (view_of s_now) (view_of new_s) t now new refl so_far.effect effect;
     sweeping = λ given rest fetched unread is.
         let (read, left, parts, under) = so_far.sweeping given rest fetched unread is in
@@ -59,6 +73,7 @@ module _ (plan : PlanView) (t now : TreeView) (s s_now : State) (so_far : Fetche
         );
     still = λ past. none_due due past;
     course = onward.0 ∙ so_far.course;
+    few = at_most (rows_left (view_of new_s)) (rows_left (view_of s_now)) (rows_left (view_of s)) few so_far.few;
   }
 
   -- or asked for, and that was ended by a fault
@@ -79,6 +94,17 @@ module _ (plan : PlanView) (t now : TreeView) (s s_now : State) (so_far : Fetche
   step_ends new_s row none takes kept given rest fetched unread is =
       let (read, left, parts, under) = so_far.sweeping given rest fetched unread is in
       chain_step plan now (view_of new_s) given rest fetched read left unread row parts (last_step plan now s_now new_s given rest (fetched ++ read) left row under none takes kept)
+
+  -- a row that was taken is one less to give
+  pub step_fewer : (new_s : State) (row : Option Row) → TakesFirst s_now.held new_s.held row
+      → (new_s.course ≡ s_now.course) × (new_s.queue ≡ s_now.queue) × (new_s.fetched ≡ s_now.fetched)
+      → IfSome row (λ _. rows_left (view_of new_s) < rows_left (view_of s))
+  step_fewer new_s None takes kept = tt
+  step_fewer new_s (Some row) (first, same, is, least) kept =
+      let count : suc (length new_s.held) ≡ length s_now.held = length_permutation s_now.held (first ∷ new_s.held) same in
+      let still : rows_left (view_of new_s) + 1 ≡ rows_left (view_of s_now) = still_awaited s_now new_s kept count in
+      let few = so_far.few in
+      below (rows_left (view_of new_s)) (rows_left (view_of s_now)) (rows_left (view_of s)) still few
 
   -- after the end none is taken
   pub step_rests : (new_s : State) (row : Option Row) → TakesFirst s_now.held new_s.held row

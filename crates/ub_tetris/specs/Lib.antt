@@ -1,5 +1,6 @@
 pub mod Machine
 pub mod Held
 pub mod Sweep
+pub mod Awaited
 pub mod Effects
 pub mod inner

@@ -1,11 +1,13 @@
 -- What contracts see of a sweep, and how it stands to its plan and to the tree over which it goes.
-use Rattle.std.specs.Prelude.{◌≡◌, ◌≢◌, ◌++◌, ◌∷◌, [], ℕ, Bool, false, List, Option, Some, None, map, Contains}
+use Rattle.std.specs.Prelude.{◌≡◌, ◌≢◌, ◌+◌, ◌*◌, ◌++◌, ◌∷◌, [], ℕ, Bool, false, List, Option, Some, None, length, map, Contains}
 use Rattle.std.specs.List.{All, AllByRecursion}
 use Rattle.ub_planning.specs.Plan.{PlanView, plan_of}
 use Rattle.ub_planning.specs.Visits.{Event}
 use Rattle.ub_planning.specs.declared.planned.Kind.{Kind}
 use Rattle.ub_planning.specs.declared.planned.Kind.TheVariants.{Sweep}
 use Rattle.ub_table.specs.declared.row.Row.{Row}
+use Rattle.ub_table.specs.declared.schema.Schema.{Schema}
+use Rattle.ub_table.specs.declared.schema.TheConstants.{MAX_ROWS}
 use Rattle.ub_tetris.specs.Held.{HeldRow, AreHeldBy, rows_held}
 use Rattle.ub_tetris.specs.Machine.{IsUnderWay, IsRowAlong, regions_at}
 use Rattle.ub_tree.specs.Placed.{Placed, regions_in}
@@ -24,6 +26,15 @@ pub record SweepView : Type 0 where
   pub held : List HeldRow
   pub awaited : List AwaitedRegion
   pub is_failed : Bool
+
+-- how many rows a sweep can still give at most: those that it holds, and those for which there is room on the pages of the
+-- regions that it awaits
+abbrev pub rows_left : SweepView → ℕ
+rows_left s = length s.held + length s.awaited * MAX_ROWS
+
+-- the plan is that of its query over a table of this schema: a sweep in this dimension and direction
+abbrev pub IsSweepOf : Schema → PlanView → ℕ → Bool → Type 0
+IsSweepOf schema plan dim is_descending = (plan ≡ plan_of schema plan.asked) × (plan.kind ≡ Sweep dim is_descending)
 
 -- the tree is sound, and the plan that of its query over the tree's schema: a sweep in this dimension and direction
 pub record IsSwept (t : TreeView) (plan : PlanView) (dim : ℕ) (is_descending : Bool) : Type 0 where

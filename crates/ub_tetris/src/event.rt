@@ -1,5 +1,6 @@
 ghost use Rattle.std.specs.Prelude.{◌≡◌, ◌<◌, All, length};
-ghost use Rattle.ub_tetris.specs.inner.Events.{IsFirstOn, IsFirstValue, along_cmp, event_cmp};
+ghost use Rattle.ub_tetris.specs.Awaited.{IsFirstOn, IsFirstValue};
+ghost use Rattle.ub_tetris.specs.inner.Events.{along_cmp, event_cmp};
 ghost use Rattle.ub_bigmin.specs.Box.{IsValueInSpan};
 ghost use Rattle.ub_planning.specs.Visits as plan;
 ghost use Rattle.ub_tree.specs.Spans.{Meets};

@@ -1,9 +1,9 @@
-ghost use Rattle.std.specs.Prelude.{◌≡◌, ◌<◌, [], Ok, None, length, List, IfOk, OnErr, OnOk, slice_index};
+ghost use Rattle.std.specs.Prelude.{◌≡◌, ◌<◌, ◌≤◌, [], Ok, None, length, List, IfOk, IfSome, OnErr, OnOk, slice_index};
 ghost use Rattle.ub_planning.specs.Visits.{Event};
 ghost use Rattle.ub_query.specs.Posed.{IsPosed};
 ghost use Rattle.ub_table.specs.declared.row.Row.{Row as RowView};
 ghost use Rattle.ub_tetris.specs.Effects.{Rests, Sweeps};
-ghost use Rattle.ub_tetris.specs.Sweep.{IsSweeping, HasBroken, HasStepped};
+ghost use Rattle.ub_tetris.specs.Sweep.{IsSweeping, HasBroken, HasStepped, rows_left};
 ghost use Rattle.ub_tetris.specs.inner.Turns.{HasAskedNext, HasFetchedNext, IsDue, IsOnward, view_of};
 
 use crate::course::Course;
@@ -72,6 +72,8 @@ impl State {
             → IsSweeping plan.now tree.old (view_of self.old) given [] fetched []
             → Rests (view_of self.old) (view_of self.new) tree.old tree.new result }
         ensures ended { result ≡ Ok None → (view_of self.new).awaited ≡ [] }
+        ensures fewer { IfOk result (λ found. IfSome found
+            (λ row. rows_left (view_of self.new) < rows_left (view_of self.old))) }
         ensures effect { Sweeps (view_of self.old) (view_of self.new) tree.old tree.new result }
     {
         while self.is_due() {
@@ -101,6 +103,7 @@ impl State {
         ensures onward { IsOnward self.old self.new }
         ensures asked { HasAskedNext tree.old tree.new self.old }
         ensures rows { OnOk result (HasFetchedNext plan.now tree.old tree.new self.old self.new) }
+        ensures few { OnOk result (rows_left (view_of self.new) ≤ rows_left (view_of self.old)) }
         ensures effect { Sweeps (view_of self.old) (view_of self.new) tree.old tree.new result }
     {
         let region = self.queue[self.fetched].region;

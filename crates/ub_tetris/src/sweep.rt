@@ -31,15 +31,17 @@ impl Model for Sweep {
 }
 
 impl Sweep {
-    ghost use Rattle.std.specs.Prelude.{◌≡◌, ℕ, Bool, List, [], Ok, Err, None, IsTrue, length, IfOk, OnErr};
+    ghost use Rattle.std.specs.Prelude.{◌≡◌, ◌<◌, ℕ, Bool, List, [], Ok, Err, None, IsTrue, length, IfOk, IfSome, OnErr};
     ghost use Rattle.ub_planning.specs.Visits.{Event};
     ghost use Rattle.ub_query.specs.Posed.{IsPosed};
     ghost use Rattle.ub_table.specs.declared.row.Row.{Row as RowView};
     ghost use Rattle.ub_tetris.specs.Effects.{Begins, FailsOnce, Rests, Sweeps};
     ghost use Rattle.ub_tetris.specs.inner.Turns.{begun_view};
-    ghost use Rattle.ub_tetris.specs.Sweep.{HasBegun, HasBroken, HasStepped, IsNoSweep, IsStarted, IsSweeping, IsSwept};
+    ghost use Rattle.ub_tetris.specs.Sweep.{HasBegun, HasBroken, HasStepped, IsNoSweep, IsStarted, IsSweepOf, IsSweeping, IsSwept, rows_left};
+    ghost use Rattle.ub_tetris.specs.Awaited.{AreMetAlong};
 
-    /// Begins a sweep by a plan. The trace begins anew; no region is fetched. Of a plan that is no sweep it comes to no region.
+    /// Begins a sweep by a plan. The trace begins anew; no region is fetched. Of a plan that is no sweep it comes to no region;
+    /// of one that is, over any tree, to all regions that the tree tells of for the plan's boxes.
     ///
     /// `Memory` where memory was refused; `Tree` where the tree refused, as it does where it has failed, whatever the plan.
     pub fn new<S: PageStore>(
@@ -50,6 +52,9 @@ impl Sweep {
         ensures begun { (dim : ℕ) (is_descending : Bool)
             → IsSwept tree.old plan.now dim is_descending → IfOk result (HasBegun plan.now tree.new) }
         ensures started { IfOk result (IsStarted tree.new) }
+        ensures met { (dim : ℕ) (is_descending : Bool)
+            → IsSweepOf tree.old.schema plan.now dim is_descending → IfOk result
+            (λ s. AreMetAlong plan.now.covering.boxes dim is_descending tree.new s.awaited) }
         ensures other { IsNoSweep plan.now.kind → IfOk result (λ s. s.awaited ≡ []) }
         ensures failed { IsTrue tree.old.is_failed
             → result ≡ Err (SweepFault.Tree TreeFault.Failed) }
@@ -80,8 +85,9 @@ impl Sweep {
     /// The next row in the order asked; `None` after the last, however often it is asked.
     ///
     /// No region is fetched that can only hold rows after this one, nor twice, also where it answers a fault. Where it answers
-    /// no fault each that was fetched was taken in, and where it answers `None` no region is left. `Memory` where memory was
-    /// refused; `Tree` where the tree refused; after either of them `Failed` each time.
+    /// no fault each that was fetched was taken in, and where it answers `None` no region is left. It comes to an end over any
+    /// tree: with each row there are fewer that it can still give. `Memory` where memory was refused; `Tree` where the tree
+    /// refused; after either of them `Failed` each time.
     pub fn next<S: PageStore>(
         &mut self,
         tree: &mut Tree<S>,
@@ -98,6 +104,8 @@ impl Sweep {
             → IsSweeping plan.now tree.old self.old given [] fetched []
             → Rests self.old self.new tree.old tree.new result }
         ensures ended { result ≡ Ok None → self.new.awaited ≡ [] }
+        ensures fewer { IfOk result
+            (λ found. IfSome found (λ row. rows_left self.new < rows_left self.old)) }
         ensures once { FailsOnce self.old self.new tree.old tree.new result }
         ensures effect { Sweeps self.old self.new tree.old tree.new result }
     {

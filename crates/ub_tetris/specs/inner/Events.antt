@@ -1,26 +1,17 @@
 -- The regions of a tree that a sweep awaits, with their event values, and the order of the sweep as a comparison.
-use Rattle.std.specs.Prelude.{◌≡◌, ◌<◌, ℕ, Bool, true, false, All, List, Option, Some, length, map}
+use Rattle.std.specs.Prelude.{◌≡◌, ◌<◌, ℕ, Bool, true, false, All, List, length, map}
 use Rattle.std.specs.List.{AllByRecursion}
 use Rattle.std.specs.List.Sorted.{IsPermutation, IsSorted}
 use Rattle.std.specs.Ordering.{nat_cmp, ordering_then}
 use Rattle.std.specs.declared.cmp.Ordering.{Ordering}
-use Rattle.ub_bigmin.specs.Box.{Corners, IsValueInSpan}
-use Rattle.ub_bigmin.specs.Extremes.{Least, Greatest}
+use Rattle.ub_bigmin.specs.Box.{Corners}
+use Rattle.ub_tetris.specs.Awaited.{IsFirstValue}
 use Rattle.ub_tetris.specs.declared.awaiting.MetRegions.{MetRegions}
 use Rattle.ub_tetris.specs.declared.course.Course.{Course}
 use Rattle.ub_tetris.specs.declared.event.Awaited.{Awaited}
 use Rattle.ub_tree.specs.Handing.{AreMetBy}
 use Rattle.ub_tree.specs.View.{TreeView}
 use Rattle.ub_tree.specs.declared.region.Region.{Region}
-
--- the first along the sweep of a set of coordinates, if there is one
-abbrev pub IsFirstOn : Bool → (ℕ → Type 0) → Option ℕ → Type 0
-IsFirstOn false P found = Least P found
-IsFirstOn true P found = Greatest P found
-
--- the first coordinate along the sweep among the points of the boxes in the region's span
-abbrev pub IsFirstValue : List Corners → ℕ → Bool → Region → ℕ → Type 0
-IsFirstValue boxes dim is_descending region v = IsFirstOn is_descending (IsValueInSpan boxes region.from region.to dim) (Some v)
 
 -- each has its event value
 abbrev pub AreValued : List Corners → Course → List Awaited → Type 0

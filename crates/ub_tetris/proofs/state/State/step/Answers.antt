@@ -2,7 +2,7 @@ use Rattle.std.proofs.Common.{◌≡◌, Bool, Err, None, ap, refl, subst}
 use Rattle.ub_tetris.proofs.BrokenFacts.{none_awaited}
 use Rattle.ub_tetris.proofs.EffectFacts.{sweeps_then, swept_by}
 use Rattle.ub_tetris.proofs.FetchFacts.{due_within}
-use Rattle.ub_tetris.proofs.StepsFacts.{Fetches-more, Fetches-none, end_unbroken, fewer, on_err, step_broken, step_ends, step_rests}
+use Rattle.ub_tetris.proofs.StepsFacts.{Fetches-more, Fetches-none, end_unbroken, fewer, on_err, step_broken, step_ends, step_fewer, step_rests}
 use Rattle.ub_tetris.specs.inner.Turns.{IsDue, view_of}
 use Rattle.ub_tree.specs.View.{TreeView}
 use Rattle.ub_tetris.proofs.state.State.step.Goals as goal
@@ -22,7 +22,7 @@ pub loop-self-preserved : goal.loop-self-preserved
 loop-self-preserved g c =
     Fetches-more c.args.plan.now c.args.tree.now c.loop-self.tree c.args.self.now c.loop-self.self c.loop-self.invariant c.fetch.new.tree c.fetch.new.self
     (subst (λ (due : Bool). IsDue c.loop-self.self due) c.loop-self-test.true c.is_due.ensures) c.in_ok-fetch.ensures.onward
-    c.in_ok-fetch.ensures.rows c.in_ok-fetch.ensures.effect
+    c.in_ok-fetch.ensures.rows c.in_ok-fetch.ensures.few c.in_ok-fetch.ensures.effect
 
 pub returns-in_err-fetch-clause-effect : goal.returns-in_err-fetch-clause-effect
 returns-in_err-fetch-clause-effect g c =
@@ -55,3 +55,8 @@ pub returns-clause-ended : goal.returns-clause-ended
 returns-clause-ended g c none =
     let taken : c.take_first.result ≡ None = cc in
     none_awaited c.loop-self.self c.take_first.new.self c.take_first.result (subst (λ (due : Bool). IsDue c.loop-self.self due) c.loop-self-test.false c.is_due.ensures) c.take_first.ensures taken
+
+pub returns-clause-fewer : goal.returns-clause-fewer
+returns-clause-fewer g c =
+    step_fewer c.args.plan.now c.args.tree.now c.loop-self.tree c.args.self.now c.loop-self.self c.loop-self.invariant (record c.loop-self.self { held = c.take_first.new.self }) c.take_first.result
+    c.take_first.ensures (refl, refl, refl)

@@ -1,8 +1,9 @@
-use Rattle.std.proofs.Common.{[], ◌∙◌, ap, subst, sym}
+use Rattle.std.proofs.Common.{[], ◌∙◌, ◌<◌, IfOk, IfSome, ap, subst, sym}
 use Rattle.std.specs.Prelude.{OnErr}
 use Rattle.ub_tetris.proofs.BrokenFacts.{rests_seen, same_view}
 use Rattle.ub_tetris.proofs.EffectFacts.{Sweeps-failed}
-use Rattle.ub_tetris.specs.Sweep.{HasBroken, IsSweeping, SweepView}
+use Rattle.ub_tetris.specs.Sweep.{HasBroken, IsSweeping, SweepView, rows_left}
+use Rattle.ub_tetris.specs.inner.Turns.{view_of}
 use Rattle.ub_tetris.proofs.sweep.Sweep.next.Goals as goal
 
 pub returns-clause-broken : goal.returns-clause-broken
@@ -19,3 +20,8 @@ returns-clause-rests g c given fetched is =
 
 pub returns-then-self-clause-effect : goal.returns-then-self-clause-effect
 returns-then-self-clause-effect g c = Sweeps-failed c.args.self.now c.args.tree.now (ap (λ (v : SweepView). v.is_failed) (sym c.self.view_is) ∙ c.if-self.true)
+
+pub returns-clause-fewer : goal.returns-clause-fewer
+returns-clause-fewer g c =
+    let same = same_view c.self.inside.state c.self.inside.is_failed c.args.self.now c.self.view_is c.if-self.false in
+    subst (λ (view : SweepView). IfOk c.step-found.result (λ found. IfSome found (λ row. rows_left (view_of c.step-found.new.self) < rows_left view))) (sym same) c.step-found.ensures.fewer
