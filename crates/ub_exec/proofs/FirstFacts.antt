@@ -142,7 +142,7 @@ pub turned_first : (boxes : List Corners) (turns : ℕ) (start now new : TreeVie
 turned_first boxes turns start now new sound kept after copied rows come same (inl still) = come_first boxes turns start now new rows after sound come still
 turned_first boxes turns start now new sound kept after copied rows come same (inr (span, more, turn)) =
     come_first boxes (suc turns) start new new (rows ++ more) (Some span) sound
-    (turned_to boxes turns start now new sound kept after rows more come (suc turns) (Some span) copied refl same refl turn) (refl, refl)
+    (turned_to boxes turns start now new sound kept after rows more come (suc turns) (Some span) copied refl same refl turn) refl
 
 -- so it has fetched the first of the visits
 pub walked_first : (p : PlanView) (t new : TreeView) → IsReady t p → ¬ IsSwept p.kind → HasWalkedFirst p.covering.boxes t new → (count : ℕ) × HasFetchedFirst p t new count

@@ -2,6 +2,7 @@ pub mod BreakFacts
 pub mod FirstFacts
 pub mod KeptFacts
 pub mod NotedFacts
+pub mod ComeFacts
 pub mod WalkFacts
 pub mod VisitFacts
 pub mod MeantFacts

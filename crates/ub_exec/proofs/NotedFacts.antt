@@ -1,5 +1,5 @@
 -- Pages noted call by call, and each of them taken in.
-use Rattle.std.proofs.Common.{◌≡◌, ◌≤◌, ◌+◌, ◌∙◌, ◌++◌, ◌∷◌, ◌⊎◌, inl, inr, ℕ, zero, suc, Bool, true, false, List, [], Option, Some, None, Result, Ok, Err, Contains, IsTrue, length, map, refl, sym, ap, subst, arith, append_assoc}
+use Rattle.std.proofs.Common.{◌≡◌, ◌≤◌, ◌+◌, ◌∙◌, ◌++◌, ◌∷◌, ◌⊎◌, inl, inr, ℕ, zero, suc, Bool, true, false, List, [], Option, Some, None, Result, Ok, Err, Contains, length, map, refl, sym, ap, subst, arith, append_assoc}
 use Rattle.std.proofs.lemmas.List.{append-nil, length-append, length-map, map-append}
 use Rattle.std.specs.List.{AllByRecursion}
 use Rattle.std.specs.Option.{is_some}
@@ -7,19 +7,18 @@ use Rattle.std.specs.Prelude.{OnOk}
 use Rattle.std.specs.Result.{IsErrAnd}
 use Rattle.ub_bigmin.specs.Box.{Corners}
 use Rattle.ub_exec.specs.Answers.{IsSwept, begun}
-use Rattle.ub_exec.specs.Reading.{CarriesOut, HasReadAll, HasReadNext, IsIn, IsRead, NotesPages}
+use Rattle.ub_exec.specs.Reading.{CarriesOut, HasReadAll, HasReadNext, HasSweptAll, IsIn, IsRead, NotesPages}
 use Rattle.ub_planning.specs.Plan.{PlanView}
-use Rattle.ub_query.proofs.Laws.{contains_cases, contains_none}
-use Rattle.ub_table.proofs.Laws.{not_before_self, precedes_trans}
-use Rattle.ub_table.specs.Keys.{precedes}
+use Rattle.ub_planning.specs.declared.planned.Kind.{Kind}
+use Rattle.ub_planning.specs.declared.planned.Kind.TheVariants.{Empty, Scan, Sweep}
 use Rattle.ub_table.specs.Region.{Region}
 use Rattle.ub_tetris.specs.Effects.{Sweeps, fetches_then}
-use Rattle.ub_tetris.specs.Sweep.{AreItsRegions, AwaitedRegion, SweepView}
+use Rattle.ub_tetris.specs.Sweep.{AreItsRegions, AwaitedRegion, IsSweepOf, SweepView}
 use Rattle.ub_tetris.specs.declared.fault.SweepFault.{SweepFault}
-use Rattle.ub_tree.proofs.Laws.{IsTraced, traced_spans}
+use Rattle.ub_tree.proofs.Laws.{HasAnswers, HasAnswers-none, HasAnswers-more, IsTraced, answers_after, answers_ended, traced_spans}
 use Rattle.ub_store.specs.View.{Trace}
 use Rattle.ub_tree.specs.Effects.{HasNoted, IsTakenIn}
-use Rattle.ub_tree.specs.Laws.{AreAnswers}
+use Rattle.ub_tree.specs.Handing.{AreMetBy}
 use Rattle.ub_tree.specs.Spans.{First, IsLater, Meets}
 use Rattle.ub_tree.specs.View.{TreeView, KeepsTrace, spans_of}
 use Rattle.ub_tree.specs.declared.read_fault.ReadFault.{ReadFault}
@@ -27,7 +26,7 @@ use Rattle.ub_tree.specs.declared.region.Region.{Region as Span}
 
 -- ---- lists
 
-all_joined : {X : Type 0} (P : X → Type 0) (xs ys : List X) → AllByRecursion P xs → AllByRecursion P ys → AllByRecursion P (xs ++ ys)
+pub all_joined : {X : Type 0} (P : X → Type 0) (xs ys : List X) → AllByRecursion P xs → AllByRecursion P ys → AllByRecursion P (xs ++ ys)
 all_joined P [] ys some more = more
 all_joined P (x ∷ xs) ys some more = (some.0, all_joined P xs ys some.1 more)
 
@@ -112,105 +111,24 @@ read_next boxes of_plan after old mid new span region alike same first noted tak
   (region, subst (λ (t : TreeView). IsTakenIn t span region) same taken),
 )
 
--- ---- which regions are later than one
-
-weight : Bool → ℕ
-weight true = 1
-weight false = 0
-
-weight_le : (a b : Bool) → (a ≡ true → b ≡ true) → weight a ≤ weight b
-unfolding weight
-weight_le true true h = omega arith
-weight_le true false h = let t = h refl in cc
-weight_le false b h = omega arith
-
-weight_one : (a : Bool) → a ≡ true → weight a ≡ 1
-unfolding weight
-weight_one true t = refl
-weight_one false t = cc
-
-weight_none : (a : Bool) → a ≡ false → weight a ≡ 0
-unfolding weight
-weight_none true t = cc
-weight_none false t = refl
-
-weight_few : (a : Bool) → weight a ≤ 1
-unfolding weight
-weight_few true = omega arith
-weight_few false = omega arith
-
--- how many spans pass a test
-pub count : (Span → Bool) → List Span → ℕ
-count f [] = 0
-count f (x ∷ xs) = weight (f x) + count f xs
-
-count_few : (f : Span → Bool) (xs : List Span) → count f xs ≤ length xs
-unfolding count
-count_few f [] = omega arith
-count_few f (x ∷ xs) = let rest = count_few f xs in let one = weight_few (f x) in omega arith
-
-count_le : (f g : Span → Bool) → ((x : Span) → g x ≡ true → f x ≡ true) → (xs : List Span) → count g xs ≤ count f xs
-unfolding count
-count_le f g h [] = omega arith
-count_le f g h (x ∷ xs) = let one = weight_le (g x) (f x) (h x) in let rest = count_le f g h xs in omega arith
-
--- where one passes the first test and not the second, fewer pass the second
-count_less : (f g : Span → Bool) → ((x : Span) → g x ≡ true → f x ≡ true) → (xs : List Span) (r : Span) → Contains xs r → f r ≡ true → g r ≡ false → count g xs + 1 ≤ count f xs
-unfolding count
-count_less f g h [] r there t n = absurd (contains_none r there)
-count_less f g h (x ∷ xs) r there t n = elim (contains_cases x xs r there) [
-  | inl same ↦
-      let one = weight_one (f x) (ap f same ∙ t) in
-      let none = weight_none (g x) (ap g same ∙ n) in
-      let rest = count_le f g h xs in
-      omega arith
-  | inr later ↦ let rest = count_less f g h xs r later t n in let one = weight_le (g x) (f x) (h x) in omega arith
-]
-
-count_some : (f : Span → Bool) (xs : List Span) (r : Span) → Contains xs r → f r ≡ true → 1 ≤ count f xs
-unfolding count
-count_some f [] r there t = absurd (contains_none r there)
-count_some f (x ∷ xs) r there t = elim (contains_cases x xs r there) [
-  | inl same ↦ let one = weight_one (f x) (ap f same ∙ t) in omega arith
-  | inr later ↦ let rest = count_some f xs r later t in omega arith
-]
-
-abbrev pub is_later : Option Span → Span → Bool
-is_later None s = true
-is_later (Some a) s = precedes a.first s.first
-
-later_is : (after : Option Span) (s : Span) → IsLater after s → is_later after s ≡ true
-later_is None s h = refl
-later_is (Some a) s h = h
-
-later_then : (after : Option Span) (span s : Span) → IsLater after span → precedes span.first s.first ≡ true → is_later after s ≡ true
-later_then None span s h t = refl
-later_then (Some a) span s h t = precedes_trans a.first span.first s.first h t
-
-not_later : (b : Bool) → ¬ (IsTrue b) → b ≡ false
-not_later true h = absurd (h refl)
-not_later false h = refl
-
 -- ---- so far as a scan has come, over any tree
 
 pub record HasReadUpTo (boxes : List Corners) (turns : ℕ) (start now : TreeView) (after : Option Span) : Type 0 where
   pub spans : List Span
-  pub answers : (more : List Span) → AreAnswers (Meets boxes) (spans_of start) after more → AreAnswers (Meets boxes) (spans_of start) None (spans ++ more)
+  pub answers : HasAnswers (Meets boxes) (spans_of start) turns spans after
   pub there : AllByRecursion (Contains (spans_of start)) spans
   pub taken : AllByRecursion (IsIn start) spans
   pub trace_is : now.trace.pages ≡ start.trace.pages ++ map (λ span. span.page) spans
   pub fetches_are : now.trace.fetches ≡ fetches_then start.trace.fetches (length spans)
-  pub few : turns + count (is_later after) (spans_of start) ≤ length (spans_of start)
 
 pub HasReadUpTo-none : (boxes : List Corners) (t : TreeView) → HasReadUpTo boxes 0 t t None
 HasReadUpTo-none boxes t = record {
   spans = [];
-  answers = λ more are. are;
+  answers = HasAnswers-none (Meets boxes) (spans_of t);
   there = tt;
   taken = tt;
   trace_is = sym (append-nil t.trace.pages);
   fetches_are = refl;
-  few = let all = count_few (is_later None) (spans_of t) in omega arith;
 }
 
 read_each : (t : TreeView) (spans : List Span) → AllByRecursion (Contains (spans_of t)) spans → AllByRecursion (IsIn t) spans → AllByRecursion (IsRead t) (map (λ (span : Span). span.page) spans)
@@ -227,21 +145,18 @@ module _ (boxes : List Corners) (turns : ℕ) (start now new : TreeView) (traced
     read = read_each start come.spans come.there come.taken;
   }
 
-  -- it is whole where no region is left
-  whole : (kept : KeepsTrace now new) → First (λ s. IsLater after s × Meets boxes s) (spans_of start) None → HasReadAll boxes start new
-  whole kept none = record {
+  -- it is whole where these are all answers
+  whole : (kept : KeepsTrace now new) → AreMetBy boxes start come.spans → HasReadAll boxes start new
+  whole kept all = record {
     spans = come.spans;
-    all = subst (λ (spans : List Span). AreAnswers (Meets boxes) (spans_of start) None spans) (append-nil come.spans) (come.answers [] none);
+    all = all;
     taken = come.taken;
     trace_is = ap (λ (t : Trace). t.pages) kept ∙ come.trace_is;
   }
 
-  -- as it is after as many turns as there are regions
+  -- as they are after as many turns as there are regions
   pub whole_after : (n : ℕ) → n ≤ turns → n ≡ length (spans_of start) → KeepsTrace now new → HasReadAll boxes start new
-  whole_after n past long kept = whole kept (λ s there meets.
-      let some = count_some (is_later after) (spans_of start) s there (later_is after s meets.0) in
-      let few = come.few in
-      absurd (omega arith))
+  whole_after n past long kept = whole kept (answers_after (Meets boxes) (spans_of start) turns come.spans after come.answers n past long)
 
   first_of_start : (found copied : Option Span) → copied ≡ after → First (λ s. IsLater copied s × Meets boxes s) (spans_of now) found → First (λ s. IsLater after s × Meets boxes s) (spans_of start) found
   first_of_start found copied same first =
@@ -250,26 +165,20 @@ module _ (boxes : List Corners) (turns : ℕ) (start now new : TreeView) (traced
 
   -- or where the next turn tells of none
   pub whole_by : (found copied : Option Span) → copied ≡ after → is_some found ≡ false → HasReadNext boxes copied now new found → HasReadAll boxes start new
-  whole_by None copied same none next = whole next.1 (first_of_start None copied same next.0)
+  whole_by None copied same none next = whole next.1 (answers_ended (Meets boxes) (spans_of start) turns come.spans after come.answers (first_of_start None copied same next.0))
   whole_by (Some span) copied same none next = cc
 
   -- else it has come one region further
   come_further : (span : Span) → First (λ s. IsLater after s × Meets boxes s) (spans_of start) (Some span) → HasNoted span.page now new → IsIn start span → HasReadUpTo boxes (turns + 1) start new (Some span)
   come_further span first noted taken = record {
     spans = come.spans ++ span ∷ [];
-    answers = λ more are.
-        subst (λ (spans : List Span). AreAnswers (Meets boxes) (spans_of start) None spans) (sym (append_assoc come.spans (span ∷ []) more)) (come.answers (span ∷ more) (first, are));
+    answers = HasAnswers-more (Meets boxes) (spans_of start) turns come.spans after come.answers span first;
     there = all_joined (Contains (spans_of start)) come.spans (span ∷ []) come.there (first.0, tt);
     taken = all_joined (IsIn start) come.spans (span ∷ []) come.taken (taken, tt);
     trace_is = noted.pages_are ∙ ap (λ (trace : List ℕ). trace ++ span.page ∷ []) come.trace_is ∙ append_assoc start.trace.pages (map (λ (s : Span). s.page) come.spans) (span.page ∷ [])
         ∙ ap (λ (pages : List ℕ). start.trace.pages ++ pages) (sym (map-append (λ (s : Span). s.page) come.spans (span ∷ [])));
     fetches_are = noted.fetches_are ∙ ap (λ (f : ℕ). fetches_then f 1) come.fetches_are ∙ noted_sum start.trace.fetches (length come.spans) 1
         ∙ ap (fetches_then start.trace.fetches) (sym (length-append come.spans (span ∷ [])));
-    few =
-        let few = come.few in
-        let less = count_less (is_later after) (is_later (Some span)) (λ s t. later_then after span s first.1.0 t) (spans_of start) span first.0 (later_is after span first.1.0)
-        (not_later (precedes span.first span.first) (not_before_self span.first)) in
-        omega arith;
   }
 
   pub come_on : (n : ℕ) (found copied : Option Span) → n ≡ turns + 1 → copied ≡ after → is_some found ≡ true → HasReadNext boxes copied now new found → HasReadUpTo boxes n start new found
@@ -281,26 +190,40 @@ module _ (boxes : List Corners) (turns : ℕ) (start now new : TreeView) (traced
 -- ---- carrying out
 
 pub carries_none : {A : Type 0} (x : A) (p : PlanView) (t new : TreeView) → KeepsTrace t new → p.asked.limit ≡ Some 0 → CarriesOut p t new (Ok x)
-carries_none x p t new kept none = record { notes = notes_none (Ok x) t new kept; scans = λ apart some. absurd (some none) }
+carries_none x p t new kept none = record {
+  notes = notes_none (Ok x) t new kept;
+  scans = λ apart some. absurd (some none);
+  sweeps = λ dim is_descending of all. cc;
+}
 
 -- nor is a page noted where a call is refused at once
 pub carries_failed : {A : Type 0} (e : ReadFault) (p : PlanView) (t new : TreeView) → KeepsTrace t new → CarriesOut {A = A} p t new (Err e)
-carries_failed e p t new kept = record { notes = notes_none (Err e) t new kept; scans = λ apart some. tt }
+carries_failed e p t new kept = record { notes = notes_none (Err e) t new kept; scans = λ apart some. tt; sweeps = λ dim is_descending of all. tt }
 
-pub carries_all : {A B : Type 0} (x : A) (y : B) (p : PlanView) (t new : TreeView) → NotesPages t new (Ok x) → HasReadAll p.covering.boxes t new → CarriesOut p t new (Ok y)
-carries_all x y p t new notes all = record { notes = notes_ok x y t new notes; scans = λ apart some. all }
+is_swept : (kind : Kind) (dim : ℕ) (is_descending : Bool) → kind ≡ Sweep dim is_descending → IsSwept kind
+is_swept Empty dim is_descending is = cc
+is_swept Scan dim is_descending is = cc
+is_swept (Sweep other goes) dim is_descending is = tt
+
+pub carries_all : {A B : Type 0} (x : A) (y : B) (p : PlanView) (t new : TreeView) → ¬ IsSwept p.kind → NotesPages t new (Ok x) → HasReadAll p.covering.boxes t new → CarriesOut p t new (Ok y)
+carries_all x y p t new apart notes all = record {
+  notes = notes_ok x y t new notes;
+  scans = λ scan some. all;
+  sweeps = λ dim is_descending of none. absurd (apart (is_swept p.kind dim is_descending of.1));
+}
 
 pub carries_err : {A B : Type 0} (r : Result A ReadFault) (P : ReadFault → Type 0) (q : Result B ReadFault) (p : PlanView) (t new : TreeView) → IsErrAnd r P → NotesPages t new q → CarriesOut p t new r
 carries_err (Ok x) P q p t new is notes = absurd is
-carries_err (Err e) P q p t new is notes = record { notes = notes_err (Err e) P q t new is notes; scans = λ apart some. tt }
+carries_err (Err e) P q p t new is notes = record { notes = notes_err (Err e) P q t new is notes; scans = λ apart some. tt; sweeps = λ dim is_descending of all. tt }
 
 -- the answer, or the fault, handed on
 pub carries_ok : {A B : Type 0} (x : A) (y : B) (p : PlanView) (t new : TreeView) → CarriesOut p t new (Ok x) → CarriesOut p t new (Ok y)
-carries_ok x y p t new carries = record { notes = notes_ok x y t new carries.notes; scans = carries.scans }
+carries_ok x y p t new carries = record { notes = notes_ok x y t new carries.notes; scans = carries.scans; sweeps = carries.sweeps }
 
 -- a sweep, whatever the tree
-pub carries_swept : {A : Type 0} (r : Result A ReadFault) (p : PlanView) (t new : TreeView) → IsSwept p.kind → NotesPages t new r → CarriesOut p t new r
-carries_swept r p t new swept notes = record { notes = notes; scans = λ apart some. absurd (apart swept) }
+pub carries_swept : {A : Type 0} (r : Result A ReadFault) (p : PlanView) (t new : TreeView) → IsSwept p.kind → NotesPages t new r
+    → ((dim : ℕ) (is_descending : Bool) → IsSweepOf t.schema p dim is_descending → p.asked.limit ≡ None → OnOk r (HasSweptAll p.covering.boxes dim is_descending t new)) → CarriesOut p t new r
+carries_swept r p t new swept notes all = record { notes = notes; scans = λ apart some. absurd (apart swept); sweeps = all }
 
 -- ---- what a sweep notes
 

@@ -1,13 +1,15 @@
 -- What carrying out a plan reads of any tree, also of one that isn't sound: which pages are noted, and that each was taken in.
-use Rattle.std.specs.Prelude.{◌≡◌, ◌≢◌, ◌++◌, ℕ, List, Option, Some, None, Result, OnOk, length, map}
+use Rattle.std.specs.Prelude.{◌≡◌, ◌≢◌, ◌++◌, ℕ, Bool, List, Option, Some, None, Result, OnOk, length, map}
 use Rattle.std.specs.List.{AllByRecursion, Contains}
 use Rattle.ub_bigmin.specs.Box.{Corners}
 use Rattle.ub_exec.specs.Answers.{IsSwept}
 use Rattle.ub_planning.specs.Plan.{PlanView}
 use Rattle.ub_table.specs.Region.{Region}
+use Rattle.ub_tetris.specs.Awaited.{AreMetAlong}
 use Rattle.ub_tetris.specs.Effects.{fetches_then}
+use Rattle.ub_tetris.specs.Sweep.{AwaitedRegion, IsSweepOf}
 use Rattle.ub_tree.specs.Effects.{HasNoted, IsTakenIn}
-use Rattle.ub_tree.specs.Laws.{AreAnswers}
+use Rattle.ub_tree.specs.Handing.{AreMetBy}
 use Rattle.ub_tree.specs.Spans.{First, IsLater, Meets}
 use Rattle.ub_tree.specs.View.{TreeView, KeepsTrace, spans_of}
 use Rattle.ub_tree.specs.declared.read_fault.ReadFault.{ReadFault}
@@ -29,19 +31,28 @@ pub record NotesPages {A : Type 0} (old new : TreeView) (result : Result A ReadF
   pub fetches_are : new.trace.fetches ≡ fetches_then old.trace.fetches (length noted)
   pub read : OnOk result (AllByRecursion (IsRead old) noted)
 
--- no region that meets the boxes was passed over: these are all that the tree tells, asked for one after the other until there
--- is none; each was taken in, and their pages were noted, in this order, and no others
+-- no region that meets the boxes was passed over: these are all that the tree tells of; each was taken in, and their pages were
+-- noted, in this order, and no others
 pub record HasReadAll (boxes : List Corners) (old new : TreeView) : Type 0 where
   pub spans : List Span
-  pub all : AreAnswers (Meets boxes) (spans_of old) None spans
+  pub all : AreMetBy boxes old spans
   pub taken : AllByRecursion (IsIn old) spans
   pub trace_is : new.trace.pages ≡ old.trace.pages ++ map (λ span. span.page) spans
 
--- a plan was carried out over any tree: pages were noted, and where it answers a scan, it passed over no region, unless the query
--- asks for no row
+-- the same in the order of a sweep
+pub record HasSweptAll (boxes : List Corners) (dim : ℕ) (is_descending : Bool) (old new : TreeView) : Type 0 where
+  pub awaited : List AwaitedRegion
+  pub all : AreMetAlong boxes dim is_descending old awaited
+  pub taken : AllByRecursion (λ a. IsIn old a.region) awaited
+  pub trace_is : new.trace.pages ≡ old.trace.pages ++ map (λ a. a.region.page) awaited
+
+-- a plan was carried out over any tree: pages were noted, and where it answers, a scan passed over no region, unless the query
+-- asks for no row, and nor did a sweep of a query that has no limit
 pub record CarriesOut {A : Type 0} (p : PlanView) (old new : TreeView) (result : Result A ReadFault) : Type 0 where
   pub notes : NotesPages old new result
   pub scans : ¬ IsSwept p.kind → p.asked.limit ≢ Some 0 → OnOk result (HasReadAll p.covering.boxes old new)
+  pub sweeps : (dim : ℕ) (is_descending : Bool) → IsSweepOf old.schema p dim is_descending → p.asked.limit ≡ None
+      → OnOk result (HasSweptAll p.covering.boxes dim is_descending old new)
 
 -- the first region later than one that meets the boxes was taken in, and its page noted; or there is none
 abbrev pub HasReadNext : List Corners → Option Span → TreeView → TreeView → Option Span → Type 0

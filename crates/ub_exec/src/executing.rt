@@ -26,7 +26,8 @@ pub struct Answer {
 
 /// The answer of a query by its plan, on the rows of a tree's table. The trace begins anew, and then has the pages that were
 /// fetched: on a sound tree those of the regions that the plan visits, each once, in their order; on any tree, where it
-/// answers, those of regions whose pages were taken in, and of a scan of all regions that meet its boxes.
+/// answers, those of regions whose pages were taken in, and of a scan, or a sweep without LIMIT, of all regions that the tree
+/// tells of for its boxes.
 ///
 /// `Memory` where memory was refused; `Tree` where the tree refused, as it does where it has failed, whatever the plan. On a
 /// sound tree it refuses only where its store failed in this call; then so many of the visits were fetched, the first ones.
@@ -94,7 +95,7 @@ fn scanned_rows<S: PageStore>(
         → OnOk result (HasFetched plan.now tree.old tree.new) }
     ensures broken { IsReady tree.old plan.now → ¬ IsSwept plan.now.kind
         → OnErr result ((count : ℕ) × HasFetchedFirst plan.now tree.old tree.new count) }
-    ensures reads { CarriesOut plan.now tree.old tree.new result }
+    ensures reads { ¬ IsSwept plan.now.kind → CarriesOut plan.now tree.old tree.new result }
     ensures effect { ReadsTree tree.old tree.new result }
 {
     let query = plan.query();

@@ -1,12 +1,13 @@
-ghost use Rattle.std.specs.Prelude.{◌≡◌, ◌++◌, false, ℕ, List, length, IfOk, OnErr, OnOk};
+ghost use Rattle.std.specs.Prelude.{◌≡◌, ◌++◌, ℕ, List, None, length, IfOk, OnErr, OnOk};
 ghost use Rattle.ub_exec.specs.Answers.{IsReady, IsAnswer, IsSwept, begun};
-ghost use Rattle.ub_exec.specs.Reading.{NotesPages};
-ghost use Rattle.ub_exec.specs.Sweeping.{room, turns_of};
+ghost use Rattle.ub_exec.specs.Reading.{HasSweptAll, NotesPages};
+ghost use Rattle.ub_exec.specs.Sweeping.{ComesOn, IsAtWork, room, turns_of};
 ghost use Rattle.ub_exec.specs.Visits.{HasFetched, HasFetchedFirst};
 ghost use Rattle.ub_planning.specs.Visits.{Event};
 ghost use Rattle.ub_query.specs.Posed.{IsPosed};
 ghost use Rattle.ub_table.specs.declared.row.Row.{Row as RowView};
-ghost use Rattle.ub_tetris.specs.Sweep.{AreItsRegions, HasBegun, HasBroken, HasStepped, IsSweeping};
+ghost use Rattle.ub_tetris.specs.Awaited.{AreMetAlong};
+ghost use Rattle.ub_tetris.specs.Sweep.{HasBegun, HasBroken, HasStepped, IsStarted, IsSweeping};
 ghost use Rattle.ub_tetris.specs.Sweep as sweep;
 ghost use Rattle.ub_tree.specs.Reading.{ReadsTree};
 ghost use Rattle.ub_tree.specs.View.{KeepsTrace};
@@ -33,6 +34,10 @@ pub(crate) fn swept_rows<S: PageStore>(
         → OnOk result (HasFetched plan.now (begun tree.old) tree.new) }
     ensures broken { IsReady tree.old plan.now → IsSwept plan.now.kind → OnErr result ((count : ℕ)
         × HasFetchedFirst plan.now (begun tree.old) tree.new count) }
+    ensures all { (dim : ℕ) (is_descending : _)
+        → sweep.IsSweepOf tree.old.schema plan.now dim is_descending
+        → plan.now.asked.limit ≡ None → OnOk result
+        (HasSweptAll plan.now.covering.boxes dim is_descending (begun tree.old) tree.new) }
     ensures notes { NotesPages (begun tree.old) tree.new result }
     ensures effect { ReadsTree tree.old tree.new result }
 {
@@ -70,8 +75,10 @@ fn begin_sweep<S: PageStore>(
     ensures begun { (dim : ℕ) (is_descending : _) → sweep.IsSwept tree.old plan.now dim
         is_descending
         → IfOk result (HasBegun plan.now tree.new) }
-    ensures working { IfOk result (λ s. s.is_failed ≡ false) }
-    ensures regions { IfOk result (AreItsRegions tree.new) }
+    ensures started { IfOk result (IsStarted tree.new) }
+    ensures met { (dim : ℕ) (is_descending : _)
+        → sweep.IsSweepOf tree.old.schema plan.now dim is_descending → IfOk result
+        (λ s. AreMetAlong plan.now.covering.boxes dim is_descending tree.new s.awaited) }
     ensures trace { OnOk result (tree.new ≡ begun tree.old) }
     ensures broken { OnErr result (KeepsTrace (begun tree.old) tree.new) }
     ensures effect { ReadsTree tree.old tree.new result }
@@ -86,16 +93,15 @@ fn next_row<S: PageStore>(
     plan: &Plan,
 ) -> Result<Option<Row>, ReadFault>
     requires posed { IsPosed (length tree.old.schema.columns) plan.now.asked }
-    requires working { sweep.old.is_failed ≡ false }
-    requires regions { AreItsRegions tree.old sweep.old }
+    requires works { IsAtWork tree.old sweep.old }
     ensures next { (given rest : List RowView) (fetched unread : List Event)
         → IsSweeping plan.now tree.old sweep.old given rest fetched unread
         → IfOk result (HasStepped plan.now tree.new sweep.new given rest fetched unread) }
     ensures broken { (given rest : List RowView) (fetched unread : List Event)
         → IsSweeping plan.now tree.old sweep.old given rest fetched unread
         → OnErr result (HasBroken tree.new sweep.old rest fetched unread) }
-    ensures working { OnOk result (sweep.new.is_failed ≡ false) }
-    ensures regions { AreItsRegions tree.new sweep.new }
+    ensures works { OnOk result (IsAtWork tree.new sweep.new) }
+    ensures comes { IfOk result (ComesOn sweep.old sweep.new tree.old tree.new) }
     ensures notes { NotesPages tree.old tree.new result }
     ensures effect { ReadsTree tree.old tree.new result }
 {

@@ -43,7 +43,8 @@ returns-in-Empty g c = record {
   broken = λ ready. subst (λ (t : TreeView). OnErr c.scanned_rows.result ((count : ℕ) × HasFetchedFirst c.args.plan.now t c.scanned_rows.new.tree count)) c.begin.ensures
       (c.scanned_rows.ensures.broken (then c.args.tree.now c.begin.new.self c.args.plan.now c.begin.ensures ready) (apart c.kind.result c.args.plan.now.kind c.kind.ensures c.in-Empty.is));
   failed = works c.has_failed.result c.args.tree.now c.begin.new.self c.begin.ensures c.has_failed.ensures c.if-has_failed.false;
-  reads = subst (λ (t : TreeView). CarriesOut c.args.plan.now t c.scanned_rows.new.tree c.scanned_rows.result) c.begin.ensures c.scanned_rows.ensures.reads;
+  reads = subst (λ (t : TreeView). CarriesOut c.args.plan.now t c.scanned_rows.new.tree c.scanned_rows.result) c.begin.ensures
+      (c.scanned_rows.ensures.reads (apart c.kind.result c.args.plan.now.kind c.kind.ensures c.in-Empty.is));
   effect = reads_then c.scanned_rows.result c.args.tree.now c.begin.new.self c.scanned_rows.new.tree (begun_traced c.args.tree.now c.begin.new.self c.begin.ensures) c.scanned_rows.ensures.effect;
 }
 
@@ -59,7 +60,7 @@ returns-in-Sweep g c =
           (c.swept_rows.ensures.broken (then c.args.tree.now c.begin.new.self c.args.plan.now c.begin.ensures ready) swept);
       failed = works c.has_failed.result c.args.tree.now c.begin.new.self c.begin.ensures c.has_failed.ensures c.if-has_failed.false;
       reads = subst (λ (t : TreeView). CarriesOut c.args.plan.now (begun t) c.swept_rows.new.tree c.swept_rows.result) c.begin.ensures
-          (carries_swept c.swept_rows.result c.args.plan.now (begun c.begin.new.self) c.swept_rows.new.tree swept c.swept_rows.ensures.notes);
+          (carries_swept c.swept_rows.result c.args.plan.now (begun c.begin.new.self) c.swept_rows.new.tree swept c.swept_rows.ensures.notes c.swept_rows.ensures.all);
       effect = reads_then c.swept_rows.result c.args.tree.now c.begin.new.self c.swept_rows.new.tree (begun_traced c.args.tree.now c.begin.new.self c.begin.ensures) c.swept_rows.ensures.effect;
     }
 

@@ -64,17 +64,17 @@ returns-in_err-finish-clause-broken g c ready apart =
     (all_fetched c.args.plan.now c.args.tree.now c.walk.new.tree (walk_fetched c.args.plan.now c.args.tree.now c.walk.new.tree handed ready.sound ready.planned apart (walk ready.sound)))
 
 pub returns-then-asks_for_none-clause-reads : goal.returns-then-asks_for_none-clause-reads
-returns-then-asks_for_none-clause-reads g c =
+returns-then-asks_for_none-clause-reads g c apart =
     let limit = sym (ap (λ (q : Asked). q.limit) c.query-query.ensures) ∙ c.asks_for_none.ensures.0 c.if-asks_for_none.true in
-    carries_none _ c.args.plan.now c.args.tree.now c.args.tree.now (refl, refl) limit
+    carries_none _ c.args.plan.now c.args.tree.now c.args.tree.now refl limit
 
 pub returns-clause-reads : goal.returns-clause-reads
-returns-clause-reads g c = carries_all _ _ c.args.plan.now c.args.tree.now c.walk.new.tree c.in_ok-walk.ensures.notes c.in_ok-walk.ensures.all
+returns-clause-reads g c apart = carries_all _ _ c.args.plan.now c.args.tree.now c.walk.new.tree apart c.in_ok-walk.ensures.notes c.in_ok-walk.ensures.all
 
 pub returns-in_err-walk-clause-reads : goal.returns-in_err-walk-clause-reads
-returns-in_err-walk-clause-reads g c =
+returns-in_err-walk-clause-reads g c apart =
     carries_err c.from_residual.result _ (Err _) c.args.plan.now c.args.tree.now c.walk.new.tree c.from_residual.ensures.1 c.in_err-walk.ensures.notes
 
 pub returns-in_err-finish-clause-reads : goal.returns-in_err-finish-clause-reads
-returns-in_err-finish-clause-reads g c =
+returns-in_err-finish-clause-reads g c apart =
     carries_err c.from_residual-in_err-finish.result _ (Ok _) c.args.plan.now c.args.tree.now c.walk.new.tree c.from_residual-in_err-finish.ensures.1 c.in_ok-walk.ensures.notes

@@ -2,6 +2,7 @@ use Rattle.std.proofs.Common.{◌≡◌, ◌<◌, ◌∙◌, ◌++◌, ◌∷◌
 use Rattle.std.proofs.lemmas.List.{length-map}
 use Rattle.std.specs.List.{AllByRecursion}
 use Rattle.ub_exec.proofs.BreakFacts.{ready_begun, swept_after, swept_before}
+use Rattle.ub_exec.proofs.ComeFacts.{HasComeOn-none, HasComeOn-more, swept_all, turn_left, turns_few}
 use Rattle.ub_exec.proofs.FirstFacts.{none_fetched, on_err}
 use Rattle.ub_exec.proofs.NotedFacts.{notes_err, notes_none, notes_ok, notes_then, traced_begun}
 use Rattle.ub_tree.proofs.Laws.{Keeps-by, Keeps-more, begun_traced, reads_by, unchanged_trace}
@@ -12,6 +13,7 @@ use Rattle.ub_query.specs.declared.cell.Cell.{Cell}
 use Rattle.ub_query.specs.declared.query.Item.{Item}
 use Rattle.ub_table.specs.declared.schema.Schema.{Schema}
 use Rattle.ub_exec.specs.Answers.{begun}
+use Rattle.ub_exec.specs.Sweeping.{room}
 use Rattle.ub_tree.specs.View.{TreeView}
 use Rattle.ub_exec.proofs.sweeping.swept_rows.Goals as goal
 
@@ -19,8 +21,8 @@ pub loop-turn-init : goal.loop-turn-init
 loop-turn-init g c = record {
   kept = Keeps-by c.args.tree.now c.begin_sweep.new.tree (begun_traced c.args.tree.now c.begin_sweep.new.tree c.in_ok-sweep.ensures.trace);
   within = omega arith;
-  working = c.in_ok-sweep.ensures.working;
-  regions = c.in_ok-sweep.ensures.regions;
+  works = (c.in_ok-sweep.ensures.started.working, c.in_ok-sweep.ensures.started.regions);
+  come_on = HasComeOn-none c.args.plan.now c.args.tree.now c.begin_sweep.new.tree c.in_ok-sweep.sweep c.in_ok-sweep.ensures.trace c.in_ok-sweep.ensures.started c.in_ok-sweep.ensures.met;
   notes = notes_none (Ok tt) (begun c.args.tree.now) c.begin_sweep.new.tree (unchanged_trace (begun c.args.tree.now) c.begin_sweep.new.tree c.in_ok-sweep.ensures.trace);
   fetches = begun_fetches c.args.tree.now c.begin_sweep.new.tree c.in_ok-sweep.ensures.trace;
   wide = subst (λ (rows : List (List Cell)). AllByRecursion (λ cells. length cells ≡ length c.args.plan.now.asked.items) rows) (sym c.none-rows.ensures) tt;
@@ -72,8 +74,9 @@ loop-turn-preserved g c =
     record {
       kept = Keeps-more _ _ _ inv.kept after;
       within = let below = c.loop-turn-test.true in omega arith;
-      working = c.in_ok-row.ensures.working;
-      regions = c.in_ok-row.ensures.regions;
+      works = c.in_ok-row.ensures.works;
+      come_on = HasComeOn-more c.args.plan.now c.loop-turn._turn (begun c.args.tree.now) c.loop-turn.tree c.loop-turn.sweep (traced_begun c.args.tree.now c.loop-turn.tree inv.kept.traced) inv.come_on
+          c.next_row.new.tree c.next_row.new.sweep c.in-Some.row (rw c.in-Some.is at c.in_ok-row.ensures.comes);
       notes = notes_then {A = Unit {0}} tt (Ok tt) (begun c.args.tree.now) c.loop-turn.tree c.next_row.new.tree (traced_begun c.args.tree.now c.loop-turn.tree inv.kept.traced) inv.notes
           (notes_ok _ tt c.loop-turn.tree c.next_row.new.tree c.in_ok-row.ensures.notes);
       fetches = noted_more (Ok _) c.args.tree.now c.loop-turn.tree c.next_row.new.tree inv.fetches c.in_ok-row.ensures.notes;
@@ -149,3 +152,16 @@ returns-in_err-push_row-clause-notes g c =
 
 pub returns-clause-notes : goal.returns-clause-notes
 returns-clause-notes g c = notes_ok tt _ (begun c.args.tree.now) c.loop-turn.tree c.loop-turn.invariant.notes
+
+pub returns-in_default-clause-all : goal.returns-in_default-clause-all
+returns-in_default-clause-all g c dim is_descending of none =
+    let inv = c.loop-turn.invariant in
+    swept_all c.args.plan.now c.loop-turn._turn (begun c.args.tree.now) c.loop-turn.tree c.loop-turn.sweep (traced_begun c.args.tree.now c.loop-turn.tree inv.kept.traced) inv.come_on
+    c.next_row.new.tree c.next_row.new.sweep (rw c.in_default.is at c.in_ok-row.ensures.comes) dim is_descending of
+
+pub returns-clause-all : goal.returns-clause-all
+returns-clause-all g c dim is_descending of none =
+    let inv = c.loop-turn.invariant in
+    let end = end_is (asked c.query-query.result.now) c.args.plan.now.asked c.args.tree.now c.begin_sweep.new.tree _ c.turns-turn-end.ensures c.in_ok-sweep.ensures.trace c.query-query.ensures in
+    turn_left c.args.plan.now.asked.limit (room c.args.tree.now) c.loop-turn._turn none (at_end _ _ _ c.loop-turn-test.false inv.within end)
+    (turns_few c.args.plan.now c.loop-turn._turn (begun c.args.tree.now) c.loop-turn.tree c.loop-turn.sweep inv.come_on dim is_descending of)

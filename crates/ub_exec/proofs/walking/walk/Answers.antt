@@ -84,7 +84,7 @@ returns-clause-all g c =
     let inv = c.loop-turn.invariant in
     whole_after c.args.plan.now.covering.boxes c.loop-turn._turn c.args.tree.now c.loop-turn.tree c.loop-turn.tree inv.kept.traced c.loop-turn.after inv.read
     (length c.args.tree.now.placed) (subst (λ (n : ℕ). n ≤ c.loop-turn._turn) c.regions-turn-end.ensures c.loop-turn-test.false)
-    (sym (spans_long (last_address c.args.tree.now.schema.dims) c.args.tree.now.placed)) (refl, refl)
+    (sym (spans_long (last_address c.args.tree.now.schema.dims) c.args.tree.now.placed)) refl
 
 pub returns-clause-notes : goal.returns-clause-notes
 returns-clause-notes g c =
