@@ -12,7 +12,8 @@ use ub_store::PageStore;
 use ub_tree::{ReadFault, Region, RegionSink, Tree, TreeFault};
 
 /// The text of an EXPLAIN: how the plan reads the tree's regions, its cover, whether it asks more of a row, its boxes, how many
-/// points these have, and how many of the regions meet them. No region is fetched, and the trace stays.
+/// points these have, and how many of the regions meet them: over any tree so many as its searches tell of. No region is
+/// fetched, and the trace stays.
 ///
 /// `Memory` where memory was refused; `Tree` where the tree refused, as it does where it has failed. On a sound tree it refuses
 /// only where its store failed in this call.

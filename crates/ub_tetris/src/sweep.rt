@@ -41,7 +41,7 @@ impl Sweep {
     ghost use Rattle.ub_tetris.specs.Awaited.{AreMetAlong};
 
     /// Begins a sweep by a plan. The trace begins anew; no region is fetched. Of a plan that is no sweep it comes to no region;
-    /// of one that is, over any tree, to all regions that the tree tells of for the plan's boxes.
+    /// of a query's plan over the tree's schema that is one, to all regions that the tree tells of for its boxes, over any tree.
     ///
     /// `Memory` where memory was refused; `Tree` where the tree refused, as it does where it has failed, whatever the plan.
     pub fn new<S: PageStore>(

@@ -10,8 +10,9 @@ use ub_bigmin::ZBox;
 use ub_store::PageStore;
 
 impl<S: PageStore> Tree<S> {
-    /// Hands each region that meets one of the boxes to a sink, one after the other, in the order of their first keys. No
-    /// region is fetched, and the trace stays.
+    /// Hands each region that meets one of the boxes to a sink, one after the other, in the order of their first keys: over any
+    /// tree just those that `next_meeting` answers, asked after each of them until there is none. No region is fetched, and the
+    /// trace stays.
     ///
     /// `Memory` where memory was refused, here or by the sink; `Tree` where the tree refused.
     pub fn for_each_meeting<T: RegionSink>(
