@@ -20,10 +20,9 @@ use Rattle.ub_tree.proofs.Laws.{IsTraced, traced_spans}
 use Rattle.ub_store.specs.View.{Trace}
 use Rattle.ub_tree.specs.Effects.{HasNoted, IsTakenIn}
 use Rattle.ub_tree.specs.Laws.{AreAnswers}
-use Rattle.ub_tree.specs.Spans.{First, IsLater, Meets}
+use Rattle.ub_tree.specs.Spans.{First, IsLater, Meets, Region as Span}
 use Rattle.ub_tree.specs.View.{TreeView, KeepsTrace, spans_of}
 use Rattle.ub_tree.specs.declared.read_fault.ReadFault.{ReadFault}
-use Rattle.ub_tree.specs.declared.region.Region.{Region as Span}
 
 -- ---- lists
 

@@ -8,9 +8,8 @@ use Rattle.ub_tetris.specs.declared.course.Course.{Course}
 use Rattle.ub_tetris.specs.declared.event.Awaited.{Awaited}
 use Rattle.ub_tetris.specs.inner.Events.{AreMet, AreValued, HasMet, IsFirstOn, IsFirstValue, regions_awaited}
 use Rattle.ub_tree.specs.Handing.{AreMetBy}
-use Rattle.ub_tree.specs.Spans.{Meets}
+use Rattle.ub_tree.specs.Spans.{Meets, Region}
 use Rattle.ub_tree.specs.View.{TreeView}
-use Rattle.ub_tree.specs.declared.region.Region.{Region}
 
 met_value : (boxes : List Corners) (region : Region) (dim : ℕ) → Meets boxes region → (v : ℕ) × IsValueInSpan boxes region.from region.to dim v
 met_value boxes region dim (z, held, from, to) =

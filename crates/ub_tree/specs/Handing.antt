@@ -3,9 +3,8 @@ use Rattle.std.specs.Prelude.{◌++◌, List}
 use Rattle.std.specs.List.{AllByRecursion, Contains}
 use Rattle.ub_bigmin.specs.Box.{Corners}
 use Rattle.ub_region.specs.Those.{AreThose}
-use Rattle.ub_tree.specs.Spans.{Meets}
+use Rattle.ub_tree.specs.Spans.{Meets, Region}
 use Rattle.ub_tree.specs.View.{TreeView, IsSound, spans_of}
-use Rattle.ub_tree.specs.declared.region.Region.{Region}
 
 -- these are regions of the tree; of a sound one those that meet the boxes, each once, in the order of their first keys
 pub record AreMetBy (boxes : List Corners) (t : TreeView) (met : List Region) : Type 0 where
