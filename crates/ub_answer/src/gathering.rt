@@ -57,7 +57,7 @@ impl Gathering {
             → OnOk result
             (IsGathered schema.now (asked query.now) (taken ++ row.now ∷ []) self.new) }
 
-        // Where LIMIT n stands, the rows held are at most about twice n, however many are taken.
+        // Where LIMIT n stands, the rows held are at most 2n, or 64 where that is more, however many are taken.
         ensures few { StayFew query.now.limit (rows_held self.old) (rows_held self.new) }
     {
         match &mut self.collected {

@@ -9,7 +9,6 @@ ghost use Rattle.ub_query.specs.Cells.{Group};
 ghost use Rattle.ub_query.specs.Groups.{AreGroups, selected, values_of};
 ghost use Rattle.ub_query.specs.Meaning.{IsGroupMeaning, limited};
 ghost use Rattle.ub_query.specs.Posed.{IsItemOver, IsGrouped};
-ghost use Rattle.ub_query.specs.contracts.query.ItemPartialEq.TheImpl as derived;
 ghost use Rattle.ub_query.specs.Shape.{Shape, asked};
 ghost use Rattle.ub_table.specs.Table.{Table};
 
@@ -147,20 +146,13 @@ fn entries_of(
     groups.iter().collect(alloc)
 }
 
-// Whether two items are the same.
-fn is_same(a: Item, b: Item) -> bool
-    ensures { result ≡ derived.eq-value.it a b }
-{
-    a == b
-}
-
 // The cell of a group for one of the items.
 fn cell_at(items: &[Item], tally: &Tally, item: Item) -> Cell
     requires { length items.now ≤ MAX_ITEMS }
     ensures { result ≡ spec.cell_from 0 items.now tally.now item }
 {
     for (place, other) in items.iter().enumerate() {
-        if is_same(*other, item) {
+        if other.is_same(item) {
             return tally[place];
         }
     }

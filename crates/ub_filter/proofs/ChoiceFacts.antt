@@ -8,7 +8,7 @@ use Rattle.std.specs.Int.{bit_at}
 use Rattle.std.specs.List.{AllByRecursion}
 use Rattle.ub_bigmin.specs.Box.{Corners, IsInside}
 use Rattle.ub_boxes.specs.Laws.{point_of, IsInSome}
-use Rattle.ub_filter.specs.Choice.{IsFit, is_near, asked_by, is_chosen}
+use Rattle.ub_filter.specs.Choice.{IsFit, is_candidate, recheck_by, is_chosen}
 use Rattle.ub_filter.specs.declared.choice.Choice.{Choice}
 use Rattle.ub_filter.specs.declared.choice.Choice.TheVariants.{Boxes, Condition}
 use Rattle.ub_planning.proofs.Laws.{in_some, from_in_some, row_is_told, rows_are_points}
@@ -104,7 +104,7 @@ there_is rows k below = elim ((slice_get_cases rows k).1) [
 -- ---- which rows are near
 
 pub near_by_boxes : (choice : Choice) (bit : ℕ) (schema : Schema) (dims : ℕ) (boxes others : List Corners) (row : Row) → choice ≡ Boxes → dims ≡ schema.dims → others ≡ boxes
-    → (bit ≡ 1) ↔ IsInSome others (take dims row.dims) → (bit ≡ 1) ↔ IsTrue (is_near choice schema boxes row)
+    → (bit ≡ 1) ↔ IsInSome others (take dims row.dims) → (bit ≡ 1) ↔ IsTrue (is_candidate choice schema boxes row)
 near_by_boxes choice bit schema dims boxes others row is same_dims same iff = rw is (
   λ one. from_in_some (point_of schema row) boxes (there.0 one),
   λ near. there.1 (in_some (point_of schema row) boxes near),
@@ -113,9 +113,9 @@ near_by_boxes choice bit schema dims boxes others row is same_dims same iff = rw
     there : (bit ≡ 1) ↔ IsInSome boxes (point_of schema row)
     there = subst (λ (n : ℕ). (bit ≡ 1) ↔ IsInSome boxes (take n row.dims)) same_dims (subst (λ (bs : List Corners). (bit ≡ 1) ↔ IsInSome bs (take dims row.dims)) same iff)
 
-pub near_by_condition : (choice : Choice) (i : ℕ) (schema : Schema) (boxes : List Corners) (row : Row) → choice ≡ Condition → i < 64
-    → (bit_at 18446744073709551615 i ≡ 1) ↔ IsTrue (is_near choice schema boxes row)
-near_by_condition choice i schema boxes row is below = rw is (λ one. refl, λ near. bit_at_ones 64 i below)
+pub candidate_by_condition : (choice : Choice) (i : ℕ) (schema : Schema) (boxes : List Corners) (row : Row) → choice ≡ Condition → i < 64
+    → (bit_at 18446744073709551615 i ≡ 1) ↔ IsTrue (is_candidate choice schema boxes row)
+candidate_by_condition choice i schema boxes row is below = rw is (λ one. refl, λ near. bit_at_ones 64 i below)
 
 -- the boxes of a table's plan can be asked
 pub fit_boxes : (choice : Choice) (schema : Schema) (plan : PlanView) (dims : ℕ) (boxes : List Corners) → choice ≡ Boxes → dims ≡ schema.dims → boxes ≡ plan.covering.boxes → IsFit schema plan choice
@@ -147,18 +147,18 @@ module _ (choice : Choice) (schema : Schema) (plan : PlanView) (rows : List Row)
       left_out g r is = rw is refl
 
   -- what is asked isn't true of the next row
-  pub next_fails : (row : Row) (asked : Option Shape) → slice_get rows i ≡ Some row → asked ≡ asked_by choice plan
+  pub next_fails : (row : Row) (asked : Option Shape) → slice_get rows i ≡ Some row → asked ≡ recheck_by choice plan
       → false ≡ is_selected schema asked row → filter f (take (i + 1) rows) ≡ filter f (take i rows)
   next_fails row asked at is fails =
-      without_next row at (rw (sym is, sym fails) (and_false (is_near choice schema plan.covering.boxes row)))
+      without_next row at (rw (sym is, sym fails) (and_false (is_candidate choice schema plan.covering.boxes row)))
     where
       and_false : (b : Bool) → (b && false) ≡ false
       and_false true = refl
       and_false false = refl
 
-  module _ (mask : ℕ) (told : (row : Row) → slice_get rows i ≡ Some row → (bit_at mask i ≡ 1) ↔ IsTrue (is_near choice schema plan.covering.boxes row)) where
+  module _ (mask : ℕ) (told : (row : Row) → slice_get rows i ≡ Some row → (bit_at mask i ≡ 1) ↔ IsTrue (is_candidate choice schema plan.covering.boxes row)) where
     -- the next row is near, and what is asked is true of it
-    pub next_chosen : (row : Row) (asked : Option Shape) → slice_get rows i ≡ Some row → asked ≡ asked_by choice plan → bit_at mask i ≡ 1
+    pub next_chosen : (row : Row) (asked : Option Shape) → slice_get rows i ≡ Some row → asked ≡ recheck_by choice plan → bit_at mask i ≡ 1
         → true ≡ is_selected schema asked row → filter f (take (i + 1) rows) ≡ filter f (take i rows) ++ row ∷ []
     next_chosen row asked at is near holds = with_next row at (rw ((told row at).0 near, sym is, sym holds) refl)
 
@@ -166,9 +166,9 @@ module _ (choice : Choice) (schema : Schema) (plan : PlanView) (rows : List Row)
     pub next_far : i < length rows → ¬ (bit_at mask i ≡ 1) → filter f (take (i + 1) rows) ≡ filter f (take i rows)
     next_far below far =
         let (row, at) = there_is rows i below in
-        without_next row at (by_truth row (is_near choice schema plan.covering.boxes row) refl (λ near. far ((told row at).1 near)))
+        without_next row at (by_truth row (is_candidate choice schema plan.covering.boxes row) refl (λ near. far ((told row at).1 near)))
       where
-        by_truth : (row : Row) (b : Bool) → is_near choice schema plan.covering.boxes row ≡ b → ¬ (is_near choice schema plan.covering.boxes row ≡ true) → f row ≡ false
+        by_truth : (row : Row) (b : Bool) → is_candidate choice schema plan.covering.boxes row ≡ b → ¬ (is_candidate choice schema plan.covering.boxes row ≡ true) → f row ≡ false
         by_truth row true e no_near = absurd (no_near e)
         by_truth row false e no_near = rw e refl
 

@@ -16,16 +16,16 @@ IsFit schema plan Boxes = AllByRecursion (λ b. length b.lo ≡ schema.dims) pla
 IsFit schema plan Condition = Unit {0}
 
 -- whether a row can be taken, as far as its point tells
-abbrev pub is_near : Choice → Schema → List Corners → Row → Bool
-is_near Boxes schema boxes row = is_in_any schema boxes row
-is_near Condition schema boxes row = true
+abbrev pub is_candidate : Choice → Schema → List Corners → Row → Bool
+is_candidate Boxes schema boxes row = is_in_any schema boxes row
+is_candidate Condition schema boxes row = true
 
 -- what is asked of such a row
-abbrev pub asked_by : Choice → PlanView → Option Shape
-asked_by Boxes plan = residual_of plan
-asked_by Condition plan = plan.asked.filter
+abbrev pub recheck_by : Choice → PlanView → Option Shape
+recheck_by Boxes plan = residual_of plan
+recheck_by Condition plan = plan.asked.filter
 
 -- whether a row is taken: by the boxes it is where the plan takes it, by the condition where the query selects it
 abbrev pub is_chosen : Choice → Schema → PlanView → Row → Bool
 is_chosen choice schema plan row =
-    is_near choice schema plan.covering.boxes row && is_selected schema (asked_by choice plan) row
+    is_candidate choice schema plan.covering.boxes row && is_selected schema (recheck_by choice plan) row

@@ -43,11 +43,11 @@ impl Choice {
     }
 
     /// Which rows of a page can be taken, as far as their points tell: bit i is that of the row at place i.
-    pub(crate) fn near(self, plan: &Plan, schema: &Schema, page: &RegionPage) -> u64
+    pub(crate) fn candidates(self, plan: &Plan, schema: &Schema, page: &RegionPage) -> u64
         requires fit { IsFit schema.now plan.now self }
         requires dims { page.now.dims ≡ schema.now.dims }
         ensures { (i : ℕ) (row : RowView) → i < 64 → slice_get page.now.region.rows i ≡ Some row
-            → (bit_at result i ≡ 1) ↔ IsTrue (spec.is_near self schema.now plan.now.covering.boxes
+            → (bit_at result i ≡ 1) ↔ IsTrue (spec.is_candidate self schema.now plan.now.covering.boxes
             row) }
     {
         match self {
@@ -57,8 +57,8 @@ impl Choice {
     }
 
     /// What is asked of such a row.
-    pub(crate) fn asked(self, plan: &Plan) -> Option<&Cond>
-        ensures { option_map (λ c. shape c.now) result ≡ spec.asked_by self plan.now }
+    pub(crate) fn recheck(self, plan: &Plan) -> Option<&Cond>
+        ensures { option_map (λ c. shape c.now) result ≡ spec.recheck_by self plan.now }
     {
         match self {
             Choice::Boxes => plan.residual(),

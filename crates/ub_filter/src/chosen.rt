@@ -33,11 +33,11 @@ pub fn push_chosen<K: RowSink>(
         → OnOk result (K.HasTaken schema.now plan.now.asked before
         (taken ++ filter (is_chosen choice schema.now plan.now) page.now.region.rows) sink.new) }
 {
-    let near = choice.near(plan, schema, page);
-    let condition = choice.asked(plan);
+    let candidates = choice.candidates(plan, schema, page);
+    let condition = choice.recheck(plan);
     let query = plan.query();
     for place in 0..page.len() {
-        if is_set(near, place) {
+        if is_set(candidates, place) {
             let row = page.row(place);
             if is_true(condition, schema, &row) {
                 sink.push(schema, query, &row)?;

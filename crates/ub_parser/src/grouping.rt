@@ -157,15 +157,9 @@ fn is_selected(source: &[u8], schema: &Schema, items: &[Item], wanted: &Item) ->
 {
     let wanted = item(source, schema, wanted);
     for other in items {
-        if is_equal(item(source, schema, other), wanted) {
+        if item(source, schema, other).is_same(wanted) {
             return true;
         }
     }
     false
-}
-
-fn is_equal(a: ub_query::Item, b: ub_query::Item) -> bool
-    ensures { IsTrue result ↔ (a ≡ b) }
-{
-    a == b
 }

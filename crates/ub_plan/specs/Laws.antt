@@ -12,7 +12,7 @@ abbrev pub ExplainsHaveAText : Type 0
 ExplainsHaveAText = (schema : Schema) (plan : PlanView) (regions : List Region)
     → (text : List ℕ) × IsExplained schema plan regions text
 
--- and only one
+-- an EXPLAIN of a plan has no two texts
 abbrev pub ExplainsHaveOneText : Type 0
 ExplainsHaveOneText = (schema : Schema) (plan : PlanView) (regions : List Region) (first second : List ℕ)
     → IsExplained schema plan regions first → IsExplained schema plan regions second → first ≡ second

@@ -8,7 +8,7 @@ pub fn explains_have_a_text()
     ensures { ExplainsHaveAText }
 {}
 
-/// And only one.
+/// An EXPLAIN of a plan has no two texts.
 pub fn explains_have_one_text()
     ensures { ExplainsHaveOneText }
 {}

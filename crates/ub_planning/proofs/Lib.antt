@@ -10,4 +10,5 @@ pub mod ValueFacts
 pub mod EventFacts
 pub mod SweepFacts
 pub mod KindFacts
+pub mod TableFacts
 pub mod Laws

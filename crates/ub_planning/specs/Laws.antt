@@ -32,6 +32,16 @@ SweepsAreLed = (schema : Schema) (q : Asked) (dim : ℕ) (is_descending : Bool) 
     ↔ ((¬ IsGroupQuery q) × (dim < schema.dims)
     × (slice_get q.order 0 ≡ Some (record { item = Column dim; is_descending = is_descending })))
 
+-- the regions of a table have its rows, in ascending order of number
+abbrev pub RegionsHaveATable : Type 0
+RegionsHaveATable = (schema : Schema) (next : ℕ) (regions : List Region) → AreRegions schema next regions
+    → (rows : List Row) × AreTableRows regions rows
+
+-- the regions of a table have no two tables
+abbrev pub RegionsHaveOneTable : Type 0
+RegionsHaveOneTable = (regions : List Region) (first second : List Row)
+    → AreTableRows regions first → AreTableRows regions second → first ≡ second
+
 -- unless the limit is 0, each selected row stands in a region that meets the plan's boxes
 abbrev pub SelectedRowsAreMet : Type 0
 SelectedRowsAreMet = (schema : Schema) (q : Asked) (next : ℕ) (regions : List Region) (meeting : List Span) (row : Row)
@@ -39,13 +49,13 @@ SelectedRowsAreMet = (schema : Schema) (q : Asked) (next : ℕ) (regions : List 
     → AreMeeting schema (plan_of schema q).covering.boxes regions meeting
     → Contains (rows_of regions) row → IsTrue (is_selected schema q.filter row) → Contains (fetched_rows meeting) row
 
--- and of the rows of the regions the plan takes the selected ones
+-- unless the limit is 0, a plan takes of the rows of the regions those that the query selects
 abbrev pub PlansTakeTheSelected : Type 0
 PlansTakeTheSelected = (schema : Schema) (q : Asked) (next : ℕ) (regions : List Region) (row : Row) → q.limit ≢ Some 0
     → AreRegions schema next regions → Contains (rows_of regions) row
     → takes schema (plan_of schema q) row ≡ is_selected schema q.filter row
 
--- so the selected rows of the regions that meet are those of all regions, each as often
+-- unless the limit is 0, the selected rows of the regions that meet the plan's boxes are those of all regions, each as often
 abbrev pub MeetingHoldTheSelected : Type 0
 MeetingHoldTheSelected = (schema : Schema) (q : Asked) (next : ℕ) (regions : List Region) (meeting : List Span)
     → q.limit ≢ Some 0 → AreRegions schema next regions
@@ -53,7 +63,7 @@ MeetingHoldTheSelected = (schema : Schema) (q : Asked) (next : ℕ) (regions : L
     → IsPermutation (filter (is_selected schema q.filter) (fetched_rows meeting))
     (selected_rows schema (plan_of schema q) regions)
 
--- and those of the table
+-- unless the limit is 0, the selected rows of the regions that meet the plan's boxes are those of the table, each as often
 abbrev pub MeetingHoldTheTables : Type 0
 MeetingHoldTheTables = (schema : Schema) (q : Asked) (next : ℕ) (regions : List Region) (rows : List Row) (meeting : List Span)
     → q.limit ≢ Some 0 → AreRegions schema next regions → AreTableRows regions rows
@@ -83,7 +93,7 @@ abbrev pub PlansHaveVisits : Type 0
 PlansHaveVisits = (schema : Schema) (q : Asked) (next : ℕ) (regions : List Region) → AreRegions schema next regions
     → (visits : List Span) × AreVisits schema (plan_of schema q) regions visits
 
--- and only one list of them
+-- each plan of a query has one list of visits on the regions of a table, and no other
 abbrev pub VisitsAreOne : Type 0
 VisitsAreOne = (schema : Schema) (q : Asked) (next : ℕ) (regions : List Region) (first second : List Span)
     → AreRegions schema next regions → AreVisits schema (plan_of schema q) regions first

@@ -1,4 +1,4 @@
-ghost use Rattle.ub_planning.specs.Laws.{PlansAreEmpty, SweepsAreLed, SelectedRowsAreMet, PlansTakeTheSelected, MeetingHoldTheSelected, MeetingHoldTheTables, LimitOfZeroMeansNothing, MeetingAreOne, EventsAreOne, PlansHaveVisits, VisitsAreOne};
+ghost use Rattle.ub_planning.specs.Laws.{PlansAreEmpty, SweepsAreLed, RegionsHaveATable, RegionsHaveOneTable, SelectedRowsAreMet, PlansTakeTheSelected, MeetingHoldTheSelected, MeetingHoldTheTables, LimitOfZeroMeansNothing, MeetingAreOne, EventsAreOne, PlansHaveVisits, VisitsAreOne};
 
 // Each function here does nothing, and its clause is a law of the definitions in specs/. So the law is proved, and is read
 // beside the code.
@@ -13,22 +13,32 @@ pub fn sweeps_are_led()
     ensures { SweepsAreLed }
 {}
 
+/// The regions of a table have its rows, in ascending order of number.
+pub fn regions_have_a_table()
+    ensures { RegionsHaveATable }
+{}
+
+/// The regions of a table have no two tables.
+pub fn regions_have_one_table()
+    ensures { RegionsHaveOneTable }
+{}
+
 /// Unless the limit is 0, each selected row stands in a region that meets the plan's boxes.
 pub fn selected_rows_are_met()
     ensures { SelectedRowsAreMet }
 {}
 
-/// And of the rows of the regions the plan takes the selected ones.
+/// Unless the limit is 0, a plan takes of the rows of the regions those that the query selects.
 pub fn plans_take_the_selected()
     ensures { PlansTakeTheSelected }
 {}
 
-/// So the selected rows of the regions that meet are those of all regions, each as often.
+/// Unless the limit is 0, the selected rows of the regions that meet the plan's boxes are those of all regions, each as often.
 pub fn meeting_hold_the_selected()
     ensures { MeetingHoldTheSelected }
 {}
 
-/// And those of the table.
+/// Unless the limit is 0, the selected rows of the regions that meet the plan's boxes are those of the table, each as often.
 pub fn meeting_hold_the_tables()
     ensures { MeetingHoldTheTables }
 {}
@@ -53,7 +63,7 @@ pub fn plans_have_visits()
     ensures { PlansHaveVisits }
 {}
 
-/// And only one list of them.
+/// Each plan of a query has one list of visits on the regions of a table, and no other.
 pub fn visits_are_one()
     ensures { VisitsAreOne }
 {}

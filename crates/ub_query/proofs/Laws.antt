@@ -140,7 +140,7 @@ rows_have_one_arrangement schema keys rows first second a b =
     (before-chain (row_cell schema) (λ a b. a.number < b.number) numbers-chain keys)
     rows rows first second (λ z c. c) (λ z c. c) a b
 
-in_order : (rows : List Row) → Rising (λ a b. a.number < b.number) rows → IsInOrder rows
+pub in_order : (rows : List Row) → Rising (λ a b. a.number < b.number) rows → IsInOrder rows
 in_order rows up k within =
     adjacent-from_Rising (λ x y. x < y) (map (λ r. r.number) rows) (Rising-mapped (λ x y. x < y) (λ r. r.number) rows up) k 0 within
 

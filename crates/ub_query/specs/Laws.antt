@@ -42,7 +42,7 @@ abbrev pub RowsHaveAnArrangement : Type 0
 RowsHaveAnArrangement = (schema : Schema) (keys : List SortKey) (rows : List Row) → IsInOrder rows
     → (arranged : List Row) × IsArrangement (IsRowBefore schema keys) rows arranged
 
--- and only one
+-- rows have no two arrangements in one order
 abbrev pub RowsHaveOneArrangement : Type 0
 RowsHaveOneArrangement = (schema : Schema) (keys : List SortKey) (rows first second : List Row)
     → IsArrangement (IsRowBefore schema keys) rows first → IsArrangement (IsRowBefore schema keys) rows second → first ≡ second
@@ -65,7 +65,7 @@ abbrev pub GroupsHaveAnArrangement : Type 0
 GroupsHaveAnArrangement = (schema : Schema) (columns : List ℕ) (keys : List SortKey) (rows : List Row) (groups : List Group)
     → AreGroups schema columns rows groups → (arranged : List Group) × IsArrangement (IsGroupBefore schema columns keys) groups arranged
 
--- and only one, in whichever order they were found
+-- groups have no two arrangements in one order, in whichever order they were found
 abbrev pub GroupsHaveOneArrangement : Type 0
 GroupsHaveOneArrangement =
     (schema : Schema) (columns : List ℕ) (keys : List SortKey) (rows : List Row) (groups others first second : List Group)
@@ -82,7 +82,7 @@ PlainQueriesMean = (table : Table) (q : Asked) → IsInOrder table.rows → ¬ I
 abbrev pub QueriesHaveAMeaning : Type 0
 QueriesHaveAMeaning = (table : Table) (q : Asked) → IsInOrder table.rows → (rows : List (List Cell)) × IsMeaning table q rows
 
--- and only one
+-- a query has no two meanings on a table
 abbrev pub QueriesHaveOneMeaning : Type 0
 QueriesHaveOneMeaning = (table : Table) (q : Asked) (first second : List (List Cell))
     → IsMeaning table q first → IsMeaning table q second → first ≡ second

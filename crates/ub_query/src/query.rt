@@ -3,6 +3,7 @@ ghost use Rattle.std.specs.List.{list_any};
 ghost use Rattle.std.specs.Option.{option_map};
 ghost use Rattle.ub_query.specs.Posed as spec;
 ghost use Rattle.ub_query.specs.Shape.{asked, shape};
+ghost use Rattle.ub_query.specs.contracts.query.ItemPartialEq.TheImpl as derived;
 
 use crate::condition::Cond;
 use std::alloc::{AllocError, Global};
@@ -84,6 +85,14 @@ impl Item {
             Item::Column(_) => false,
             Item::Count | Item::Aggregate(_, _) => true,
         }
+    }
+
+    /// Whether the other item is the same. Takes no memory.
+    pub fn is_same(self, other: Item) -> bool
+        ensures told { result ≡ derived.eq-value.it self other }
+        ensures same { IsTrue result ↔ (self ≡ other) }
+    {
+        self == other
     }
 }
 

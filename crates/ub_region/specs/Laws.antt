@@ -27,7 +27,7 @@ abbrev pub EachAddressHasASpan : Type 0
 EachAddressHasASpan = (schema : Schema) (next : ℕ) (regions : List Region) (z : ℕ) → AreRegions schema next regions
     → z ≤ last_address schema.dims → (index : ℕ) × IsInSpanAt schema regions index z
 
--- and each row's address in the span of the row's region
+-- each row's address lies in the span of the row's region
 abbrev pub RowsLieInTheirSpans : Type 0
 RowsLieInTheirSpans = (schema : Schema) (next : ℕ) (regions : List Region) (index : ℕ) (region : Region) (row : Row)
     → AreRegions schema next regions → slice_get regions index ≡ Some region → Contains region.rows row
@@ -39,7 +39,7 @@ InsertionKeepsRegions = (schema : Schema) (next : ℕ) (regions : List Region) (
     → IsRow schema.dims (measures_of schema) row → row.number ≡ next
     → AreRegions schema (next + 1) (insert schema.dims schema.page_rows row regions)
 
--- and the table gains that row as its last
+-- where a row of the next number is put in, the table gains that row as its last
 abbrev pub InsertionAddsTheRow : Type 0
 InsertionAddsTheRow = (schema : Schema) (next : ℕ) (regions : List Region) (rows : List Row) (row : Row)
     → AreRegions schema next regions → AreTableRows regions rows
@@ -51,7 +51,7 @@ abbrev pub RemovalKeepsRegions : Type 0
 RemovalKeepsRegions = (schema : Schema) (next : ℕ) (regions : List Region) (key : Key) → AreRegions schema next regions
     → AreRegions schema next (remove schema.dims schema.page_rows key regions)
 
--- and the table loses that row alone
+-- where the row of a key is taken out, the table loses that row alone
 abbrev pub RemovalTakesTheRow : Type 0
 RemovalTakesTheRow = (schema : Schema) (next : ℕ) (regions : List Region) (rows : List Row) (key : Key)
     → AreRegions schema next regions → AreTableRows regions rows → IsTrue (has_key schema.dims key (rows_of regions))

@@ -23,7 +23,7 @@ pub fn insertion_keeps_regions()
     ensures { InsertionKeepsRegions }
 {}
 
-/// And the table gains that row as its last.
+/// Where a row of the next number is put in, the table gains that row as its last.
 pub fn insertion_adds_the_row()
     ensures { InsertionAddsTheRow }
 {}
@@ -33,7 +33,7 @@ pub fn removal_keeps_regions()
     ensures { RemovalKeepsRegions }
 {}
 
-/// And the table loses that row alone.
+/// Where the row of a key is taken out, the table loses that row alone.
 pub fn removal_takes_the_row()
     ensures { RemovalTakesTheRow }
 {}

@@ -164,7 +164,11 @@ fn push_cell(text: &mut Vec<u8>, cell: Cell) -> Result<(), AllocError>
 fn push_signed(text: &mut Vec<u8>, number: i128) -> Result<(), AllocError>
     ensures { OnOk result (text.new.items ≡ text.old.items ++ signed_decimal number) }
 {
-    text.extend_from_slice(Buffer::new().format(number).as_bytes())
+    // A number of 64 bits is divided more quickly than one of 128.
+    match i64::try_from(number) {
+        Ok(number) => text.extend_from_slice(Buffer::new().format(number).as_bytes()),
+        Err(_) => text.extend_from_slice(Buffer::new().format(number).as_bytes()),
+    }
 }
 
 // Puts the line that says how many rows were written and how many region pages were fetched for them.

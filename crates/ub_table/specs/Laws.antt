@@ -19,7 +19,7 @@ ValuesOfADimension = (dims dim n : ℕ) → n ≤ greatest
 abbrev pub ValuesAscend : Type 0
 ValuesAscend = (dims dim a b : ℕ) → (a < b) ↔ (value_at dims dim a <ℤ value_at dims dim b)
 
--- and equal values of a dimension are those of one coordinate
+-- equal values of a dimension are those of one coordinate
 abbrev pub ValuesTellCoordinates : Type 0
 ValuesTellCoordinates = (dims dim a b : ℕ) → value_at dims dim a ≡ value_at dims dim b → a ≡ b
 

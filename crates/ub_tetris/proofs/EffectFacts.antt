@@ -48,7 +48,7 @@ Notes old new noted = (new.trace.pages ≡ old.trace.pages ++ noted) × (new.tra
 -- the page of a region may have been noted
 noted_as : (old new : TreeView) (page : ℕ) → KeepsTrace old new ⊎ HasNoted page old new → (noted : List ℕ) × Notes old new noted
 noted_as old new page (inl kept) = ([], (ap (λ (t : Trace). t.pages) kept ∙ sym (append-nil old.trace.pages), ap (λ (t : Trace). t.fetches) kept))
-noted_as old new page (inr noted) = (page ∷ [], noted.pages_are, noted.fetches_are)
+noted_as old new page (inr noted) = (page ∷ [], (noted.pages_are, noted.fetches_are))
 
 -- the next region awaited was come to, and nothing is known yet of the result but what it leaves of the store
 module _ {T : Type 0} (r : Result T SweepFault) (s new_s : SweepView) (a : AwaitedRegion) (old new : TreeView) (one : s.awaited ≡ a ∷ new_s.awaited)
@@ -214,4 +214,4 @@ sweeps_then x r a b c t m n failed first second =
 pub swept_by : {T U : Type 0} (r : Result T SweepFault) (e : SweepFault) (a b : SweepView) (t n : TreeView) → IsErrAnd r (λ x. x ≡ e) → Sweeps {A = U} a b t n (Err e) → Sweeps a b t n r
 swept_by (Ok x) e a b t n is swept = absurd is
 swept_by (Err f) e a b t n is swept =
-    rw is (record { noted = swept.noted; same = swept.same; come = swept.come; left = swept.left; taken = tt; refused = swept.refused; faults = swept.faults; regions = swept.regions })
+    rw is (record { noted = swept.noted; same = swept.same; trace_is = swept.trace_is; fetches_are = swept.fetches_are; come = swept.come; left = swept.left; taken = tt; refused = swept.refused; faults = swept.faults; regions = swept.regions })

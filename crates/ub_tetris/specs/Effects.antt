@@ -4,7 +4,6 @@ use Rattle.std.specs.List.{AllByRecursion}
 use Rattle.ub_store.specs.Facts.{raised}
 use Rattle.ub_store.specs.View.{emptied}
 use Rattle.ub_table.specs.Region.{Region}
-use Rattle.ub_table.specs.declared.row.Row.{Row}
 use Rattle.ub_tetris.specs.Sweep.{AwaitedRegion, SweepView, AreItsRegions}
 use Rattle.ub_tetris.specs.declared.fault.SweepFault.{SweepFault}
 use Rattle.ub_tetris.specs.declared.fault.SweepFault.TheVariants.{Memory, Tree, Failed}
@@ -80,7 +79,7 @@ pub record FailsOnce {A : Type 0} (s new_s : SweepView) (old new : TreeView) (re
   pub stays : IsTrue s.is_failed → (result ≡ Err Failed) × (new_s ≡ s) × (new ≡ old)
 
 -- after the end nothing changes
-pub record Rests (s new_s : SweepView) (old new : TreeView) (result : Result (Option Row) SweepFault) : Type 0 where
+pub record Rests {A : Type 0} (s new_s : SweepView) (old new : TreeView) (result : Result (Option A) SweepFault) : Type 0 where
   pub none : result ≡ Ok None
   pub sweep_is : new_s ≡ s
   pub tree_is : new ≡ old

@@ -30,7 +30,7 @@ abbrev pub SpansCoverTheSpace : Type 0
 SpansCoverTheSpace = (t : TreeView) (z : ℕ) → IsSound t → z ≤ last_address t.schema.dims
     → (span : Span) × Contains (spans_of t) span × LiesIn span z
 
--- and each row's address in the span of the row's region
+-- each row's address lies in the span of the row's region
 abbrev pub RowsLieInSpans : Type 0
 RowsLieInSpans = (t : TreeView) (span : Span) (region : Region) (row : Row) → IsSound t → Contains (spans_of t) span
     → StandsAt t.placed span.page region → Contains region.rows row → LiesIn span (key_of t.schema.dims row).z

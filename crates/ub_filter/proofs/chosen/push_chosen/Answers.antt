@@ -23,20 +23,20 @@ loop-place-preserved g c before taken has =
     let place = c.loop-place.place in
     let small : place < 64 = below_64 place 0 _ c.loop-place-test.true c.len-place-end.ensures.few in
     let within : place < _ = rw c.len-place-end.ensures.len at c.loop-place-test.true in
-    let near = λ (row : Row) (at : slice_get rows place ≡ Some row). c.near-near.ensures place row small at in
+    let near = λ (row : Row) (at : slice_get rows place ≡ Some row). c.candidates-candidates.ensures place row small at in
     let so_far : List Row = filter (is_chosen choice schema plan) (take place rows) in
     let then : List Row = filter (is_chosen choice schema plan) (take (place + 1) rows) in
     elim c.if-is_set.branch [
       | then-is_set+then-is_true+in_ok-push w ↦
           let row = w.row-row.result in
-          let one : then ≡ so_far ++ row ∷ [] = next_chosen choice schema plan rows place _ near row _ w.row-row.ensures c.asked-condition.ensures (w.if-is_set.ensures.0 refl) w.if-is_true.ensures in
+          let one : then ≡ so_far ++ row ∷ [] = next_chosen choice schema plan rows place _ near row _ w.row-row.ensures c.recheck-condition.ensures (w.if-is_set.ensures.0 refl) w.if-is_true.ensures in
           subst (λ (rs : List Row). g.K.RowSink.HasTaken schema plan.asked before rs c.if-is_set.sink) (append_assoc taken so_far (row ∷ []) ∙ ap (λ (rs : List Row). taken ++ rs) (sym one))
           (subst (λ (t : _). g.K.RowSink.HasTaken schema plan.asked before ((taken ++ so_far) ++ row ∷ []) t) (sym w.sink-is)
           (subst (λ (q : Asked). g.K.RowSink.HasTaken schema q before ((taken ++ so_far) ++ row ∷ []) w.push.new.self) c.query-query.ensures
           (w.in_ok-push.ensures before (taken ++ so_far)
           (subst (λ (q : Asked). g.K.RowSink.HasTaken schema q before (taken ++ so_far) c.loop-place.sink) (sym c.query-query.ensures) held))))
       | then-is_set+else-is_true w ↦
-          let none : then ≡ so_far = next_fails choice schema plan rows place w.row-row.result _ w.row-row.ensures c.asked-condition.ensures w.if-is_true.ensures in
+          let none : then ≡ so_far = next_fails choice schema plan rows place w.row-row.result _ w.row-row.ensures c.recheck-condition.ensures w.if-is_true.ensures in
           subst (λ (rs : List Row). g.K.RowSink.HasTaken schema plan.asked before (taken ++ rs) c.if-is_set.sink) (sym none)
           (subst (λ (t : _). g.K.RowSink.HasTaken schema plan.asked before (taken ++ so_far) t) (sym w.sink-is) held)
       | else-is_set w ↦

@@ -13,7 +13,7 @@ item-requires c = c.requires.items c.loop-other.other-index _ (omega arith)
 pub loop-other-preserved : goal.loop-other-preserved
 loop-other-preserved c =
     All-more (λ (other : Item). item_of c.args.source.now c.args.schema.now other ≢ c.item-wanted.result) c.args.items.now c.loop-other.other-index _ (omega arith) c.loop-other.invariant
-    (subst (λ (meant : Meant). meant ≢ c.item-wanted.result) c.item.ensures.item (fails c.is_equal.result _ c.is_equal.ensures c.if-is_equal.false))
+    (subst (λ (meant : Meant). meant ≢ c.item-wanted.result) c.item.ensures.item (fails c.is_same.result _ c.is_same.ensures.same c.if-is_same.false))
 
 pub returns : goal.returns
 returns c =
