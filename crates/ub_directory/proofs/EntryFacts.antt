@@ -6,7 +6,7 @@ use Rattle.std.specs.List.{remove}
 use Rattle.ub_page.specs.declared.directory.Entry.{Entry}
 use Rattle.ub_table.proofs.Laws.{precedes_trans}
 use Rattle.ub_table.specs.Keys.{origin, precedes, are_ascending}
-use Rattle.ub_directory.specs.Slots.{first_keys, ArePlaces}
+use Rattle.ub_directory.specs.Spans.{first_keys, ArePlaces}
 
 -- from one entry on, the first is before the second, and the others are in order
 order_at : (entries : List Entry) (i : ℕ) (d : Entry) → suc i < length entries

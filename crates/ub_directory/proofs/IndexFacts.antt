@@ -9,7 +9,7 @@ use Rattle.ub_region.specs.Regions.{index_holding}
 use Rattle.ub_table.proofs.Laws.{ascending_get, before_of, precedes_of, precedes_trans}
 use Rattle.ub_table.specs.Keys.{IsBefore, precedes, is_same, are_ascending}
 use Rattle.ub_table.specs.declared.row.Key.{Key}
-use Rattle.ub_directory.specs.Slots.{first_keys}
+use Rattle.ub_directory.specs.Spans.{first_keys}
 
 -- a key is before none of the first keys up to an index, and before all those from there on
 pub record IsParted (key : Key) (firsts : List Key) (low high : ℕ) : Type 0 where

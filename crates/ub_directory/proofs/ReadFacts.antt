@@ -16,7 +16,7 @@ use Rattle.ub_store.specs.declared.fault.StoreFault.{StoreFault}
 use Rattle.ub_table.proofs.Laws.{precedes_of}
 use Rattle.ub_table.specs.Keys.{origin, precedes, is_same, are_ascending}
 use Rattle.ub_directory.specs.Reading.{read_store, Spells, AreFull, AreBegun, HasPart, IsReadUpTo, IsReadWhole, IsAskedFor, IsReadFault, IsSamePager, Opens}
-use Rattle.ub_directory.specs.Slots.{ArePlaces, first_keys}
+use Rattle.ub_directory.specs.Spans.{ArePlaces, first_keys}
 use Rattle.ub_directory.specs.Chain.{IsChain}
 use Rattle.ub_directory.specs.declared.fault.DirectoryFault.{DirectoryFault}
 use Rattle.ub_directory.specs.declared.fault.DirectoryFault.TheVariants.{Store}

@@ -11,35 +11,35 @@ use Rattle.ub_region.specs.Spans.{address_before, span_end}
 use Rattle.ub_table.proofs.Laws.{before_from, before_parts, before_of, precedes_trans, not_before_self, not_both_before, ascending_get}
 use Rattle.ub_table.specs.Keys.{IsBefore, origin, precedes, are_ascending}
 use Rattle.ub_table.specs.declared.row.Key.{Key}
-use Rattle.ub_directory.specs.Slots.{first_keys, slots_of, Meets, IsLater, First}
-use Rattle.ub_directory.specs.declared.slot.Slot.{Slot}
+use Rattle.ub_directory.specs.Spans.{first_keys, regions_of, Meets, IsLater, First}
+use Rattle.ub_directory.specs.declared.region.Region.{Region}
 use Rattle.ub_directory.proofs.IndexFacts.{first_at}
-use Rattle.ub_directory.proofs.SpanFacts.{slot_with}
+use Rattle.ub_directory.proofs.SpanFacts.{region_with}
 
 -- what a region's index in the list tells of its entry
-pub slot_entry : (last : ℕ) (entries : List Entry) (i : ℕ) (r : Slot) → slice_get (slots_of last entries) i ≡ Some r
+pub region_entry : (last : ℕ) (entries : List Entry) (i : ℕ) (r : Region) → slice_get (regions_of last entries) i ≡ Some r
     → (entry : Entry) × (slice_get entries i ≡ Some entry) × (entry.first ≡ r.first) × (r.from ≡ r.first.z)
-slot_entry last [] i r at = cc
-slot_entry last (e ∷ entries) zero r at =
-    let whole : Slot = slot_with (span_end last (first_keys entries)) (slice_get (first_keys entries) 0) e in
+region_entry last [] i r at = cc
+region_entry last (e ∷ entries) zero r at =
+    let whole : Region = region_with (span_end last (first_keys entries)) (slice_get (first_keys entries) 0) e in
     let same : whole ≡ r = cc in
-    (e, refl, ap (λ (q : Slot). q.first) same, subst (λ (q : Slot). q.from ≡ q.first.z) same refl)
-slot_entry last (e ∷ entries) (suc i) r at = slot_entry last entries i r at
+    (e, refl, ap (λ (q : Region). q.first) same, subst (λ (q : Region). q.from ≡ q.first.z) same refl)
+region_entry last (e ∷ entries) (suc i) r at = region_entry last entries i r at
 
-pub slot_first : (last : ℕ) (entries : List Entry) (i : ℕ) (r : Slot) → slice_get (slots_of last entries) i ≡ Some r → slice_get (first_keys entries) i ≡ Some r.first
-slot_first last [] i r at = cc
-slot_first last (e ∷ entries) zero r at =
-    let whole : Slot = slot_with (span_end last (first_keys entries)) (slice_get (first_keys entries) 0) e in
+pub region_first : (last : ℕ) (entries : List Entry) (i : ℕ) (r : Region) → slice_get (regions_of last entries) i ≡ Some r → slice_get (first_keys entries) i ≡ Some r.first
+region_first last [] i r at = cc
+region_first last (e ∷ entries) zero r at =
+    let whole : Region = region_with (span_end last (first_keys entries)) (slice_get (first_keys entries) 0) e in
     let same : whole ≡ r = cc in
-    ap (λ (q : Slot). Some q.first) same
-slot_first last (e ∷ entries) (suc i) r at = slot_first last entries i r at
+    ap (λ (q : Region). Some q.first) same
+region_first last (e ∷ entries) (suc i) r at = region_first last entries i r at
 
 -- the regions that begin after a key, of which the entries are known
 pub later_by_key : (last : ℕ) (entries : List Entry) (key : Key) (start : ℕ)
     → ((i : ℕ) (entry : Entry) → slice_get entries i ≡ Some entry → IsBefore key entry.first ↔ (start ≤ i))
-    → (i : ℕ) (r : Slot) → slice_get (slots_of last entries) i ≡ Some r → IsBefore key r.first ↔ (start ≤ i)
+    → (i : ℕ) (r : Region) → slice_get (regions_of last entries) i ≡ Some r → IsBefore key r.first ↔ (start ≤ i)
 later_by_key last entries key start h i r at =
-    let there = slot_entry last entries i r at in
+    let there = region_entry last entries i r at in
     subst (λ (k : Key). IsBefore key k ↔ (start ≤ i)) there.2 (h i there.0 there.1)
 
 ends_from : (z : ℕ) (first next : Key) → precedes first next ≡ true → (z ≤ address_before next.z next.number) ↔ (precedes (record { z = z; number = 0 }) next ≡ true)
@@ -87,19 +87,19 @@ index_zero key first [] up t = refl
 index_zero key first (next ∷ firsts) up t = rw (precedes_trans key first next t (and_parts _ _ up).0) refl
 
 -- a span ends at an address or later exactly from the region on that holds the least key of the address
-pub reaches : (last z : ℕ) (entries : List Entry) → are_ascending (first_keys entries) ≡ true → z ≤ last → (i : ℕ) (r : Slot) → slice_get (slots_of last entries) i ≡ Some r
+pub reaches : (last z : ℕ) (entries : List Entry) → are_ascending (first_keys entries) ≡ true → z ≤ last → (i : ℕ) (r : Region) → slice_get (regions_of last entries) i ≡ Some r
     → (z ≤ r.to) ↔ (index_holding (record { z = z; number = 0 }) (first_keys entries) ≤ i)
 reaches last z [] up le i r at = cc
 reaches last z (e ∷ []) up le zero r at =
-    let whole : Slot = slot_with last None e in
+    let whole : Region = region_with last None e in
     let same : whole ≡ r = cc in
-    let end : last ≡ r.to = ap (λ (q : Slot). q.to) same in
+    let end : last ≡ r.to = ap (λ (q : Region). q.to) same in
     (λ x. omega arith, λ x. omega arith)
 reaches last z (e ∷ []) up le (suc i) r at = cc
 reaches last z (e ∷ next ∷ entries) up le zero r at =
-    let whole : Slot = slot_with (address_before next.first.z next.first.number) (Some next.first) e in
+    let whole : Region = region_with (address_before next.first.z next.first.number) (Some next.first) e in
     let same : whole ≡ r = cc in
-    let end : address_before next.first.z next.first.number ≡ r.to = ap (λ (q : Slot). q.to) same in
+    let end : address_before next.first.z next.first.number ≡ r.to = ap (λ (q : Region). q.to) same in
     let is = ends_from z e.first next.first (and_parts _ _ up).0 in
     elim (cases_Bool (precedes (record { z = z; number = 0 }) next.first)) [
       | inl t ↦ let far = is.1 t in rw t (λ x. omega arith, λ x. omega arith)
@@ -137,18 +137,18 @@ begins_by z first (next ∷ firsts) (suc i) found le is at = elim (cases_Bool (p
     ]
 
 -- no span ends after the last address
-pub ends_by_last : (last : ℕ) (entries : List Entry) → All (λ entry. entry.first.z ≤ last) entries → (i : ℕ) (r : Slot) → slice_get (slots_of last entries) i ≡ Some r → r.to ≤ last
+pub ends_by_last : (last : ℕ) (entries : List Entry) → All (λ entry. entry.first.z ≤ last) entries → (i : ℕ) (r : Region) → slice_get (regions_of last entries) i ≡ Some r → r.to ≤ last
 ends_by_last last [] within i r at = cc
 ends_by_last last (e ∷ []) within zero r at =
-    let whole : Slot = slot_with last None e in
+    let whole : Region = region_with last None e in
     let same : whole ≡ r = cc in
-    let end : last ≡ r.to = ap (λ (q : Slot). q.to) same in
+    let end : last ≡ r.to = ap (λ (q : Region). q.to) same in
     omega arith
 ends_by_last last (e ∷ []) within (suc i) r at = cc
 ends_by_last last (e ∷ next ∷ entries) within zero r at =
-    let whole : Slot = slot_with (address_before next.first.z next.first.number) (Some next.first) e in
+    let whole : Region = region_with (address_before next.first.z next.first.number) (Some next.first) e in
     let same : whole ≡ r = cc in
-    let end : address_before next.first.z next.first.number ≡ r.to = ap (λ (q : Slot). q.to) same in
+    let end : address_before next.first.z next.first.number ≡ r.to = ap (λ (q : Region). q.to) same in
     let small : next.first.z ≤ last = within 1 next (omega arith) in
     let le = at_most next.first.z next.first.number in
     omega arith
@@ -160,46 +160,46 @@ ends_by_last last (e ∷ next ∷ entries) within (suc i) r at =
     ends_by_last last (next ∷ entries) (λ k d lt. within (suc k) d (omega arith)) i r at
 
 module _ (last : ℕ) (entries : List Entry) (up : are_ascending (first_keys entries) ≡ true) where
-  contained : (r : Slot) (found : Contains (slots_of last entries) r) → slice_get (slots_of last entries) found.0 ≡ Some r
-  contained r found = slice_get_read (slots_of last entries) (length (slots_of last entries)) found.0 r refl found.1 (sym found.2)
+  contained : (r : Region) (found : Contains (regions_of last entries) r) → slice_get (regions_of last entries) found.0 ≡ Some r
+  contained r found = slice_get_read (regions_of last entries) (length (regions_of last entries)) found.0 r refl found.1 (sym found.2)
 
-  ordered : (i j : ℕ) (a b : Slot) → i < j → slice_get (slots_of last entries) i ≡ Some a → slice_get (slots_of last entries) j ≡ Some b → IsBefore a.first b.first
-  ordered i j a b lt at_i at_j = before_of a.first b.first (ascending_get (first_keys entries) up i j lt a.first b.first (slot_first last entries i a at_i) (slot_first last entries j b at_j))
+  ordered : (i j : ℕ) (a b : Region) → i < j → slice_get (regions_of last entries) i ≡ Some a → slice_get (regions_of last entries) j ≡ Some b → IsBefore a.first b.first
+  ordered i j a b lt at_i at_j = before_of a.first b.first (ascending_get (first_keys entries) up i j lt a.first b.first (region_first last entries i a at_i) (region_first last entries j b at_j))
 
-  pub first_of : (P : Slot → Type 0) (n : ℕ) → ((i : ℕ) (r : Slot) → slice_get (slots_of last entries) i ≡ Some r → P r → n ≤ i)
-      → ((r : Slot) → slice_get (slots_of last entries) n ≡ Some r → P r) → First P (slots_of last entries) (slice_get (slots_of last entries) n)
-  first_of P n least has = by_found (slice_get (slots_of last entries) n) refl
+  pub first_of : (P : Region → Type 0) (n : ℕ) → ((i : ℕ) (r : Region) → slice_get (regions_of last entries) i ≡ Some r → P r → n ≤ i)
+      → ((r : Region) → slice_get (regions_of last entries) n ≡ Some r → P r) → First P (regions_of last entries) (slice_get (regions_of last entries) n)
+  first_of P n least has = by_found (slice_get (regions_of last entries) n) refl
     where
-      by_found : (o : Option Slot) → slice_get (slots_of last entries) n ≡ o → First P (slots_of last entries) o
+      by_found : (o : Option Region) → slice_get (regions_of last entries) n ≡ o → First P (regions_of last entries) o
       by_found None at = λ r in_list p.
           let le = least in_list.0 r (contained r in_list) p in
-          elim ((slice_get_cases (slots_of last entries) n).1) [
+          elim ((slice_get_cases (regions_of last entries) n).1) [
             | inl some ↦ let there = some.2 in cc
             | inr past ↦ let far = past.0 in let lt = in_list.1 in omega arith
           ]
       by_found (Some x) at = (
-        (n, slice_get_within (slots_of last entries) n x at, get_or_from_slice_get (slots_of last entries) n x x at),
+        (n, slice_get_within (regions_of last entries) n x at, get_or_from_slice_get (regions_of last entries) n x x at),
         has x at,
         λ other in_list p before.
             let le = least in_list.0 other (contained other in_list) p in
             elim (cases_eq n in_list.0) [
               | inl e ↦
-                  let there : slice_get (slots_of last entries) n ≡ Some other = ap (slice_get (slots_of last entries)) e ∙ contained other in_list in
+                  let there : slice_get (regions_of last entries) n ≡ Some other = ap (slice_get (regions_of last entries)) e ∙ contained other in_list in
                   let same : x ≡ other = cc in
-                  not_before_self x.first (subst (λ (q : Slot). IsBefore q.first x.first) (sym same) before)
+                  not_before_self x.first (subst (λ (q : Region). IsBefore q.first x.first) (sym same) before)
               | inr ne ↦ not_both_before x.first other.first (ordered n in_list.0 x other (omega arith) at (contained other in_list)) before
             ],
       )
 
-  pub none_of : (P : Slot → Type 0) → ((i : ℕ) (r : Slot) → slice_get (slots_of last entries) i ≡ Some r → ¬ (P r)) → First P (slots_of last entries) None
+  pub none_of : (P : Region → Type 0) → ((i : ℕ) (r : Region) → slice_get (regions_of last entries) i ≡ Some r → ¬ (P r)) → First P (regions_of last entries) None
   none_of P never = λ r in_list. never in_list.0 r (contained r in_list)
 
-  module _ (within : All (λ entry. entry.first.z ≤ last) entries) (after : Option Key) (start : ℕ)
-      (later : (i : ℕ) (r : Slot) → slice_get (slots_of last entries) i ≡ Some r → IsLater after r ↔ (start ≤ i)) where
-    abbrev found_at : ℕ → Option Slot
-    found_at z = if nat_le z last then slice_get (slots_of last entries) (max start (index_holding (record { z = z; number = 0 }) (first_keys entries))) else None
+  module _ (within : All (λ entry. entry.first.z ≤ last) entries) (after : Option Region) (start : ℕ)
+      (later : (i : ℕ) (r : Region) → slice_get (regions_of last entries) i ≡ Some r → IsLater after r ↔ (start ≤ i)) where
+    abbrev found_at : ℕ → Option Region
+    found_at z = if nat_le z last then slice_get (regions_of last entries) (max start (index_holding (record { z = z; number = 0 }) (first_keys entries))) else None
 
-    pub seek_first : (z : ℕ) → First (λ r. IsLater after r × (z ≤ r.to)) (slots_of last entries) (found_at z)
+    pub seek_first : (z : ℕ) → First (λ r. IsLater after r × (z ≤ r.to)) (regions_of last entries) (found_at z)
     seek_first z = elim (cases_lt last z) [
       | inl lt ↦ rw (lt-leb z last lt) (none_of (λ r. IsLater after r × (z ≤ r.to)) (λ i r at p. let end = ends_by_last last entries within i r at in let far = p.1 in omega arith))
       | inr le ↦ rw (le-leb z last le) (first_of (λ r. IsLater after r × (z ≤ r.to)) _
@@ -207,18 +207,18 @@ module _ (last : ℕ) (entries : List Entry) (up : are_ascending (first_keys ent
           (λ r at. ((later _ r at).1 (omega arith), (reaches last z entries up le _ r at).1 (omega arith))))
     ]
 
-    pub none_meets : (boxes : List Corners) → length entries ≤ start → First (λ r. IsLater after r × Meets boxes r) (slots_of last entries) None
+    pub none_meets : (boxes : List Corners) → length entries ≤ start → First (λ r. IsLater after r × Meets boxes r) (regions_of last entries) None
     none_meets boxes past = none_of (λ r. IsLater after r × Meets boxes r) (λ i r at p.
         let a = (later i r at).0 p.0 in
-        let there = slot_entry last entries i r at in
+        let there = region_entry last entries i r at in
         let lt = slice_get_within entries i there.0 there.1 in
         omega arith)
 
     module _ (boxes : List Corners) (entry : Entry) (at_start : slice_get entries start ≡ Some entry) where
       -- a later region does not begin before the first one that is
-      begins_from : (i : ℕ) (r : Slot) → slice_get (slots_of last entries) i ≡ Some r → start ≤ i → entry.first.z ≤ r.from
+      begins_from : (i : ℕ) (r : Region) → slice_get (regions_of last entries) i ≡ Some r → start ≤ i → entry.first.z ≤ r.from
       begins_from i r at le =
-          let there = slot_entry last entries i r at in
+          let there = region_entry last entries i r at in
           elim (cases_eq start i) [
             | inl e ↦
                 let again : slice_get entries start ≡ Some there.0 = ap (slice_get entries) e ∙ there.1 in
@@ -227,7 +227,7 @@ module _ (last : ℕ) (entries : List Entry) (up : are_ascending (first_keys ent
                 let start_of = there.3 in
                 omega arith
             | inr ne ↦
-                let before = ascending_get (first_keys entries) up start i (omega arith) entry.first r.first (first_at entries start entry at_start) (slot_first last entries i r at) in
+                let before = ascending_get (first_keys entries) up start i (omega arith) entry.first r.first (first_at entries start entry at_start) (region_first last entries i r at) in
                 let le = address_le entry.first r.first (before_of entry.first r.first before) in
                 let start_of = there.3 in
                 omega arith
@@ -239,7 +239,7 @@ module _ (last : ℕ) (entries : List Entry) (up : are_ascending (first_keys ent
             | inr both ↦ let e = both.0 in omega arith
           ]
 
-      pub no_address : LeastFrom (HoldsAny boxes) entry.first.z None → First (λ r. IsLater after r × Meets boxes r) (slots_of last entries) None
+      pub no_address : LeastFrom (HoldsAny boxes) entry.first.z None → First (λ r. IsLater after r × Meets boxes r) (regions_of last entries) None
       no_address none = none_of (λ r. IsLater after r × Meets boxes r) (λ i r at p.
           let a = (later i r at).0 p.0 in
           let m = p.1 in
@@ -249,7 +249,7 @@ module _ (last : ℕ) (entries : List Entry) (up : are_ascending (first_keys ent
           omega arith)
 
       pub next_meets : slice_get (first_keys entries) 0 ≡ Some origin → (z : ℕ) → LeastFrom (HoldsAny boxes) entry.first.z (Some z)
-          → First (λ r. IsLater after r × Meets boxes r) (slots_of last entries) (found_at z)
+          → First (λ r. IsLater after r × Meets boxes r) (regions_of last entries) (found_at z)
       next_meets begins z least = elim (cases_lt last z) [
         | inl lt ↦ rw (lt-leb z last lt) (none_of (λ r. IsLater after r × Meets boxes r) (λ i r at p.
             let end = ends_by_last last entries within i r at in
@@ -261,7 +261,7 @@ module _ (last : ℕ) (entries : List Entry) (up : are_ascending (first_keys ent
       ]
         where
           -- a later region that meets the boxes ends at their least address or later
-          reached : (i : ℕ) (r : Slot) → slice_get (slots_of last entries) i ≡ Some r → IsLater after r × Meets boxes r → z ≤ r.to
+          reached : (i : ℕ) (r : Region) → slice_get (regions_of last entries) i ≡ Some r → IsLater after r × Meets boxes r → z ≤ r.to
           reached i r at p =
               let a = (later i r at).0 p.0 in
               let m = p.1 in
@@ -278,9 +278,9 @@ module _ (last : ℕ) (entries : List Entry) (up : are_ascending (first_keys ent
               let none : first.z ≡ 0 = ap (λ (k : Key). k.z) same in
               begins_by z first firsts i found (omega arith) is at
 
-          begun : (n : ℕ) (r : Slot) → slice_get (slots_of last entries) n ≡ Some r → n ≡ max start (index_holding (record { z = z; number = 0 }) (first_keys entries)) → r.from ≤ z
+          begun : (n : ℕ) (r : Region) → slice_get (regions_of last entries) n ≡ Some r → n ≡ max start (index_holding (record { z = z; number = 0 }) (first_keys entries)) → r.from ≤ z
           begun n r at is =
-              let there = slot_entry last entries n r at in
+              let there = region_entry last entries n r at in
               elim (cases_eq start n) [
                 | inl e ↦
                     let again : slice_get entries start ≡ Some there.0 = ap (slice_get entries) e ∙ there.1 in
@@ -291,7 +291,7 @@ module _ (last : ℕ) (entries : List Entry) (up : are_ascending (first_keys ent
                     omega arith
                 | inr ne ↦
                     let index : index_holding (record { z = z; number = 0 }) (first_keys entries) ≡ n = omega arith in
-                    let le = from_origin (first_keys entries) n r.first begins index (slot_first last entries n r at) in
+                    let le = from_origin (first_keys entries) n r.first begins index (region_first last entries n r at) in
                     let start_of = there.3 in
                     omega arith
               ]

@@ -4,29 +4,29 @@ use Rattle.std.proofs.lemmas.Option.{slice_get_read}
 use Rattle.ub_page.specs.declared.directory.Entry.{Entry}
 use Rattle.ub_region.specs.Spans.{address_before, span_end}
 use Rattle.ub_table.specs.declared.row.Key.{Key}
-use Rattle.ub_directory.specs.Slots.{first_keys, slots_of}
-use Rattle.ub_directory.specs.declared.slot.Slot.{Slot}
+use Rattle.ub_directory.specs.Spans.{first_keys, regions_of}
+use Rattle.ub_directory.specs.declared.region.Region.{Region}
 
--- the slot of an entry, with where the next one begins
-abbrev pub slot_with : ℕ → Option Key → Entry → Slot
-slot_with to next entry = record { first = entry.first; next = next; from = entry.first.z; to = to; page = entry.page }
+-- the region of an entry, with where the next one begins
+abbrev pub region_with : ℕ → Option Key → Entry → Region
+region_with to next entry = record { first = entry.first; next = next; from = entry.first.z; to = to; page = entry.page }
 
-slot_is : (last : ℕ) (entries : List Entry) (i : ℕ) (entry : Entry) → slice_get entries i ≡ Some entry
-    → slice_get (slots_of last entries) i ≡ Some (slot_with (span_end last (first_keys (drop (suc i) entries))) (slice_get (first_keys entries) (suc i)) entry)
-slot_is last [] i entry at = cc
-slot_is last (e ∷ entries) zero entry at = let same : e ≡ entry = cc in rw same refl
-slot_is last (e ∷ entries) (suc i) entry at = slot_is last entries i entry at
+pub region_is : (last : ℕ) (entries : List Entry) (i : ℕ) (entry : Entry) → slice_get entries i ≡ Some entry
+    → slice_get (regions_of last entries) i ≡ Some (region_with (span_end last (first_keys (drop (suc i) entries))) (slice_get (first_keys entries) (suc i)) entry)
+region_is last [] i entry at = cc
+region_is last (e ∷ entries) zero entry at = let same : e ≡ entry = cc in rw same refl
+region_is last (e ∷ entries) (suc i) entry at = region_is last entries i entry at
 
-pub slot_found : (last : ℕ) (entries items : List Entry) (i to : ℕ) (next : Option Key) (entry : Entry) → items ≡ entries → i < length items → entry ≡ get_or items i entry
-    → next ≡ slice_get (first_keys entries) (i + 1) → to ≡ span_end last (first_keys (drop (i + 1) entries)) → Some (slot_with to next entry) ≡ slice_get (slots_of last entries) i
-slot_found last entries items i to next entry same lt is begins end =
+pub region_found : (last : ℕ) (entries items : List Entry) (i to : ℕ) (next : Option Key) (entry : Entry) → items ≡ entries → i < length items → entry ≡ get_or items i entry
+    → next ≡ slice_get (first_keys entries) (i + 1) → to ≡ span_end last (first_keys (drop (i + 1) entries)) → Some (region_with to next entry) ≡ slice_get (regions_of last entries) i
+region_found last entries items i to next entry same lt is begins end =
     let at : slice_get entries i ≡ Some entry = rw (← same) (slice_get_read items (length items) i entry refl lt is) in
-    rw (begins, end) (rw add-one (sym (slot_is last entries i entry at)))
+    rw (begins, end) (rw add-one (sym (region_is last entries i entry at)))
 
-pub no_slot : (last : ℕ) (entries items : List Entry) (i : ℕ) → items ≡ entries → length items ≤ i → None ≡ slice_get (slots_of last entries) i
-no_slot last entries items i same past = by_index entries i (let long = ap length same in omega arith)
+pub no_region : (last : ℕ) (entries items : List Entry) (i : ℕ) → items ≡ entries → length items ≤ i → None ≡ slice_get (regions_of last entries) i
+no_region last entries items i same past = by_index entries i (let long = ap length same in omega arith)
   where
-    by_index : (es : List Entry) (i : ℕ) → length es ≤ i → None ≡ slice_get (slots_of last es) i
+    by_index : (es : List Entry) (i : ℕ) → length es ≤ i → None ≡ slice_get (regions_of last es) i
     by_index [] i h = refl
     by_index (e ∷ es) zero h = absurd (omega arith)
     by_index (e ∷ es) (suc i) h = by_index es i (omega arith)

@@ -1,4 +1,4 @@
-pub mod Slots
+pub mod Spans
 pub mod View
 pub mod Chain
 pub mod Reading

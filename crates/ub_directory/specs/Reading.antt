@@ -12,7 +12,7 @@ use Rattle.ub_store.specs.View.{PagerView}
 use Rattle.ub_table.specs.Keys.{origin, are_ascending}
 use Rattle.ub_table.specs.declared.fault.PageFault.TheVariants.{BadCount, BadOrder}
 use Rattle.ub_table.specs.declared.fault.PageFault.{PageFault}
-use Rattle.ub_directory.specs.Slots.{ArePlaces, first_keys}
+use Rattle.ub_directory.specs.Spans.{ArePlaces, first_keys}
 use Rattle.ub_directory.specs.Chain.{IsChain}
 use Rattle.ub_directory.specs.declared.fault.DirectoryFault.{DirectoryFault}
 use Rattle.ub_directory.specs.declared.fault.DirectoryFault.TheVariants.{Page, Store}

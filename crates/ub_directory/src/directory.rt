@@ -1,4 +1,4 @@
-ghost use Rattle.std.specs.Prelude.{◌≡◌, ℕ, List, ◌+◌, ◌<◌, ◌≤◌, ◌^◌, [], ◌∷◌, Some, IfOk, IfErr, OnOk, length, slice_get};
+ghost use Rattle.std.specs.Prelude.{◌≡◌, ℕ, List, ◌+◌, ◌<◌, ◌≤◌, ◌^◌, [], ◌∷◌, Some, IfOk, IfErr, OnOk, length, option_copied, slice_get};
 ghost use Rattle.std.specs.List.{insert, remove};
 ghost use Rattle.ub_zaddr.specs.Address.{last_address};
 ghost use Rattle.ub_page.specs.Header.{IsHeader};
@@ -8,15 +8,15 @@ ghost use Rattle.ub_table.specs.Keys.{origin};
 ghost use Rattle.ub_directory.specs.Chain.{AreOwn, HasDirectory};
 ghost use Rattle.ub_directory.specs.Reading.{IsReadWhole, Opens};
 ghost use Rattle.ub_directory.specs.Searching.{Searches};
-ghost use Rattle.ub_directory.specs.Slots.{ArePlaces, IsSeat, IsSeatAfter, IsSeatBefore, first_keys, slots_of, Meets, IsLater, First};
+ghost use Rattle.ub_directory.specs.Spans.{ArePlaces, IsSeat, IsSeatAfter, IsSeatBefore, first_keys, regions_of, Meets, IsLater, First};
 ghost use Rattle.ub_directory.specs.Writing.{IsUntouched, IsSaved, IsSaveFault, put_store};
 
 use crate::fault::DirectoryFault;
 use crate::pending::{Adding, Dropping};
 use crate::places::{ORIGIN, Places};
 use crate::reading::read_table;
+use crate::region::Region;
 use crate::seat::Seat;
-use crate::slot::Slot;
 use crate::writing::write_places;
 use std::alloc::{AllocError, Global};
 use std::marker::Model;
@@ -123,14 +123,6 @@ impl Directory {
         ensures some { 1 ≤ result }
     {
         self.places.entries.len()
-    }
-
-    /// The first of the directory's pages.
-    pub fn root(&self) -> u32
-        requires { 1 ≤ length self.now.chain }
-        ensures { slice_get self.now.chain 0 ≡ Some result }
-    {
-        self.chain[0]
     }
 
     /// The region that holds a key: the last one that does not begin after it. Store with Device
@@ -273,31 +265,31 @@ impl Directory {
         self.places.remove(dropping.index);
     }
 
-    /// The first region that begins after a key, if one is given, and whose span ends at z or later. `None` exactly where there is
+    /// The first region later than `after`, if one is given, whose span ends at z or later. `None` exactly where there is
     /// none. Store with Device comes where the store failed in this call, with Memory where memory was refused.
     pub fn seek<S: PageStore>(
         &self,
         pager: &mut Pager<S>,
         z: u128,
-        after: Option<Key>,
-    ) -> Result<Option<Slot>, DirectoryFault>
-        ensures found { IfOk result (λ found. First (λ slot. IsLater after slot × (z ≤ slot.to))
-            (slots_of self.now.last self.now.entries) found) }
+        after: Option<&Region>,
+    ) -> Result<Option<Region>, DirectoryFault>
+        ensures found { IfOk result (λ found. First (λ r. IsLater (option_copied after.entry) r
+            × (z ≤ r.to)) (regions_of self.now.last self.now.entries) found) }
         ensures effect { Searches pager.old pager.new result }
     {
         Ok(self.places.seek(z, after))
     }
 
-    /// The first region that begins after a key, if one is given, and meets one of the boxes. `None` exactly where there is
+    /// The first region later than `after`, if one is given, that meets one of the boxes. `None` exactly where there is
     /// none. Store with Device comes where the store failed in this call, with Memory where memory was refused.
     pub fn next_meeting<S: PageStore>(
         &self,
         pager: &mut Pager<S>,
         boxes: &[ZBox],
-        after: Option<Key>,
-    ) -> Result<Option<Slot>, DirectoryFault>
-        ensures found { IfOk result (λ found. First (λ slot. IsLater after slot × Meets boxes.now slot)
-            (slots_of self.now.last self.now.entries) found) }
+        after: Option<&Region>,
+    ) -> Result<Option<Region>, DirectoryFault>
+        ensures found { IfOk result (λ found. First (λ r. IsLater (option_copied after.entry) r
+            × Meets boxes.now r) (regions_of self.now.last self.now.entries) found) }
         ensures effect { Searches pager.old pager.new result }
     {
         Ok(self.places.next_meeting(boxes, after))

@@ -1,12 +1,12 @@
-ghost use Rattle.std.specs.Prelude.{◌≡◌, ℕ, ◌+◌, ◌-◌, ◌<◌, ◌≤◌, ◌↔◌, max, Some, None, IsTrue, All, Bool, if◌then◌else◌, nat_le, nat_lt, length, slice_get, vec_len, vec_capacity, IsSome, IfSome, OnOk};
+ghost use Rattle.std.specs.Prelude.{◌≡◌, ℕ, ◌+◌, ◌-◌, ◌<◌, ◌≤◌, ◌↔◌, max, Some, None, IsTrue, All, Bool, if◌then◌else◌, nat_le, nat_lt, length, option_copied, slice_get, vec_len, vec_capacity, IsSome, IfSome, OnOk};
 ghost use Rattle.std.specs.List.{insert, remove};
 ghost use Rattle.ub_bigmin.specs.Box.{Corners};
 ghost use Rattle.ub_region.specs.Regions.{index_holding};
 ghost use Rattle.ub_region.specs.Spans.{address_before};
 ghost use Rattle.ub_table.specs.Keys.{IsBefore, origin, are_ascending};
-ghost use Rattle.ub_directory.specs.Slots.{ArePlaces, first_keys, slots_of, Meets, IsLater, First};
+ghost use Rattle.ub_directory.specs.Spans.{ArePlaces, first_keys, regions_of, Meets, IsLater, First};
 
-use crate::slot::Slot;
+use crate::region::Region;
 use std::alloc::AllocError;
 use ub_bigmin::{ZBox, next_in_any};
 use ub_page::Entry;
@@ -109,9 +109,9 @@ impl Places {
         Some(entry.first)
     }
 
-    /// The slot of an index, if there is one.
-    pub fn slot_at(&self, i: usize) -> Option<Slot>
-        ensures { result ≡ slice_get (slots_of self.now.last self.now.entries.items) i }
+    /// The region of an index, if there is one.
+    pub fn region_at(&self, i: usize) -> Option<Region>
+        ensures { result ≡ slice_get (regions_of self.now.last self.now.entries.items) i }
     {
         let entry = self.entries.get(i)?;
         let next = self.first_at(i + 1);
@@ -119,7 +119,7 @@ impl Places {
             Some(next) => end_before(&next),
             None => self.last,
         };
-        Some(Slot {
+        Some(Region {
             first: entry.first,
             next,
             from: entry.first.z,
@@ -128,20 +128,18 @@ impl Places {
         })
     }
 
-    /// The first region that begins after a key, if one is given, and whose span ends at z or later. `None` exactly where there is
-    /// none.
-    pub fn seek(&self, z: u128, after: Option<Key>) -> Option<Slot>
-        ensures { First (λ slot. IsLater after slot × (z ≤ slot.to))
-            (slots_of self.now.last self.now.entries.items) result }
+    /// The first region later than `after`, if one is given, whose span ends at z or later. `None` exactly where there is none.
+    pub fn seek(&self, z: u128, after: Option<&Region>) -> Option<Region>
+        ensures { First (λ r. IsLater (option_copied after.entry) r × (z ≤ r.to))
+            (regions_of self.now.last self.now.entries.items) result }
     {
         self.reach(z, self.start(after))
     }
 
-    /// The first region that begins after a key, if one is given, and meets one of the boxes. `None` exactly where there is
-    /// none.
-    pub fn next_meeting(&self, boxes: &[ZBox], after: Option<Key>) -> Option<Slot>
-        ensures { First (λ slot. IsLater after slot × Meets boxes.now slot)
-            (slots_of self.now.last self.now.entries.items) result }
+    /// The first region later than `after`, if one is given, that meets one of the boxes. `None` exactly where there is none.
+    pub fn next_meeting(&self, boxes: &[ZBox], after: Option<&Region>) -> Option<Region>
+        ensures { First (λ r. IsLater (option_copied after.entry) r × Meets boxes.now r)
+            (regions_of self.now.last self.now.entries.items) result }
     {
         let start = self.start(after);
         let from = self.entries.get(start)?.first.z;
@@ -149,23 +147,23 @@ impl Places {
         self.reach(z, start)
     }
 
-    // The index of the first region that begins after the key, or of the first of all.
-    fn start(&self, after: Option<Key>) -> usize
-        ensures { (i : ℕ) (slot : Slot)
-            → slice_get (slots_of self.now.last self.now.entries.items) i ≡ Some slot
-            → IsLater after slot ↔ (result ≤ i) }
+    // The index of the first region later than `after`, or of the first of all.
+    fn start(&self, after: Option<&Region>) -> usize
+        ensures { (i : ℕ) (r : Region)
+            → slice_get (regions_of self.now.last self.now.entries.items) i ≡ Some r
+            → IsLater (option_copied after.entry) r ↔ (result ≤ i) }
     {
         match after {
-            Some(key) => self.count_up_to(&key),
+            Some(region) => self.count_up_to(&region.first),
             None => 0,
         }
     }
 
     // The first region of this index or a later one whose span ends at z or later. It is the one
     // that holds the least key of the address z, or a later one.
-    fn reach(&self, z: u128, start: usize) -> Option<Slot>
+    fn reach(&self, z: u128, start: usize) -> Option<Region>
         ensures { result ≡ (if nat_le z self.now.last then slice_get
-            (slots_of self.now.last self.now.entries.items)
+            (regions_of self.now.last self.now.entries.items)
             (max start (index_holding (record {
               z = z;
               number = 0;
@@ -175,7 +173,7 @@ impl Places {
             return None;
         }
         let least = Key { z, number: 0 };
-        self.slot_at(start.max(self.index_of(&least)))
+        self.region_at(start.max(self.index_of(&least)))
     }
 }
 

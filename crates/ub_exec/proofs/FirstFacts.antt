@@ -25,9 +25,8 @@ use Rattle.ub_tetris.specs.Sweep.{AreNoted}
 use Rattle.ub_tree.specs.Placed.{Placed}
 use Rattle.ub_store.specs.View.{Trace}
 use Rattle.ub_tree.specs.Effects.{HasNoted}
-use Rattle.ub_tree.specs.Spans.{First, IsLater, Meets}
+use Rattle.ub_tree.specs.Spans.{First, IsLater, Meets, Region as Span}
 use Rattle.ub_tree.specs.View.{TreeView, IsSound, KeepsTrace, regions, spans_of}
-use Rattle.ub_tree.specs.declared.region.Region.{Region as Span}
 
 pub on_err : {T E : Type 0} (r : Result T E) (P : Type 0) → P → OnErr r P
 on_err (Ok x) P p = tt

@@ -19,10 +19,9 @@ use Rattle.ub_tree.proofs.Laws.{HasAnswers, HasAnswers-none, HasAnswers-more, Is
 use Rattle.ub_store.specs.View.{Trace}
 use Rattle.ub_tree.specs.Effects.{HasNoted, IsTakenIn}
 use Rattle.ub_tree.specs.Handing.{AreMetBy}
-use Rattle.ub_tree.specs.Spans.{First, IsLater, Meets}
+use Rattle.ub_tree.specs.Spans.{First, IsLater, Meets, Region as Span}
 use Rattle.ub_tree.specs.View.{TreeView, KeepsTrace, spans_of}
 use Rattle.ub_tree.specs.declared.read_fault.ReadFault.{ReadFault}
-use Rattle.ub_tree.specs.declared.region.Region.{Region as Span}
 
 -- ---- lists
 

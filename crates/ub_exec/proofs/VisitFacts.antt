@@ -13,9 +13,8 @@ use Rattle.ub_query.proofs.Laws.{all_weaker, contains_here, contains_later}
 use Rattle.ub_region.specs.Regions.{firsts_of}
 use Rattle.ub_region.specs.Spans.{span_end}
 use Rattle.ub_tree.specs.Placed.{Placed, regions_in, entry_of}
-use Rattle.ub_tree.specs.Spans.{Meets, regions_of}
+use Rattle.ub_tree.specs.Spans.{Meets, regions_of, Region as Span}
 use Rattle.ub_tree.specs.View.{TreeView, IsSound, regions, spans_of}
-use Rattle.ub_tree.specs.declared.region.Region.{Region as Span}
 use Rattle.ub_zaddr.specs.Address.{last_address}
 
 pub those_among : {X : Type 0} (P : X → Type 0) (xs those : List X) → AreThose P xs those → AllByRecursion (Contains xs) those

@@ -23,9 +23,8 @@ use Rattle.ub_tree.specs.Calls.{StandsAt}
 use Rattle.ub_store.specs.View.{Trace}
 use Rattle.ub_tree.specs.Effects.{HasNoted}
 use Rattle.ub_tree.specs.Placed.{Placed, regions_in, entry_of}
-use Rattle.ub_tree.specs.Spans.{first_keys, regions_of, IsLater, Meets, First}
+use Rattle.ub_tree.specs.Spans.{first_keys, regions_of, IsLater, Meets, First, Region as Span}
 use Rattle.ub_tree.specs.View.{TreeView, IsSound, KeepsTrace, regions, spans_in, spans_of}
-use Rattle.ub_tree.specs.declared.region.Region.{Region as Span}
 use Rattle.ub_zaddr.specs.Address.{last_address}
 
 -- the spans of regions that stand on pages, and their keys

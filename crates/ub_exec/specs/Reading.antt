@@ -10,10 +10,9 @@ use Rattle.ub_tetris.specs.Effects.{fetches_then}
 use Rattle.ub_tetris.specs.Sweep.{AwaitedRegion, IsSweepOf}
 use Rattle.ub_tree.specs.Effects.{HasNoted, IsTakenIn}
 use Rattle.ub_tree.specs.Handing.{AreMetBy}
-use Rattle.ub_tree.specs.Spans.{First, IsLater, Meets}
+use Rattle.ub_tree.specs.Spans.{First, IsLater, Meets, Region as Span}
 use Rattle.ub_tree.specs.View.{TreeView, KeepsTrace, spans_of}
 use Rattle.ub_tree.specs.declared.read_fault.ReadFault.{ReadFault}
-use Rattle.ub_tree.specs.declared.region.Region.{Region as Span}
 
 -- the page spells the region of this span
 abbrev pub IsIn : TreeView → Span → Type 0

@@ -11,9 +11,8 @@ use Rattle.ub_table.specs.declared.row.Row.{Row}
 pub use Rattle.ub_tetris.specs.Effects.{fetches_then}
 use Rattle.ub_tree.specs.Effects.{HasNoted}
 use Rattle.ub_tree.specs.Placed.{Placed, regions_in}
-use Rattle.ub_tree.specs.Spans.{IsLater, Meets, First}
+use Rattle.ub_tree.specs.Spans.{IsLater, Meets, First, Region as Span}
 use Rattle.ub_tree.specs.View.{TreeView, KeepsTrace, regions, spans_of}
-use Rattle.ub_tree.specs.declared.region.Region.{Region as Span}
 
 -- the regions that a plan visits were fetched, each once, in the order of the visits, and no others: their pages stand in the
 -- trace, after those that stood there

@@ -1,14 +1,14 @@
 -- A record that is accepted makes a row.
-use Rattle.std.proofs.Common.{◌≡◌, ◌+◌, ◌-◌, ◌<◌, ◌≤◌, ◌==◌, ◌^◌, ℕ, zero, suc, true, false, List, [], ◌∷◌, ◌++◌, length, take, drop, map, replicate, pos, sym, Option, Some, None, refl, ap, ◌∙◌, arith, inl, inr}
+use Rattle.std.proofs.Common.{◌≡◌, ◌+◌, ◌-◌, ◌<◌, ◌≤◌, ◌==◌, ◌^◌, ℕ, zero, suc, true, false, List, [], ◌∷◌, length, take, drop, map, Option, Some, None, refl, ap, ◌∙◌, arith, inl, inr}
 use Rattle.std.specs.Prelude.{FitsSigned, nat_lt, if◌then◌else◌}
 use Rattle.std.specs.Int.{w64}
 use Rattle.std.specs.List.{AllByRecursion, enumerate_from}
 use Rattle.std.proofs.lemmas.Bool.{cases_Bool, eqb-true, le-ltb}
-use Rattle.std.proofs.lemmas.List.{length-map, take-append-drop}
+use Rattle.std.proofs.lemmas.List.{length-map}
 use Rattle.std.proofs.lemmas.List.FromFn.{length-enumerate_from}
 use Rattle.std.proofs.lemmas.List.Elements.{All-from_recursion}
-use Rattle.ub_tree.proofs.Laws.{new_row}
-use Rattle.ub_tree.specs.Change.{row_of as made_of}
+use Rattle.ub_tree.proofs.Laws.{new_values, numbered_row}
+use Rattle.ub_tree.specs.Change.{Suits, numbered}
 use Rattle.ub_load.specs.Field.{trimmed, is_number, number_of}
 use Rattle.ub_load.specs.LoadedTable.{coordinate_of, row_of}
 use Rattle.ub_load.specs.Refusals.{content_refusal, content_refusals, field_refusal, fields_refusal, first_of}
@@ -17,7 +17,7 @@ use Rattle.ub_load.specs.declared.fault.LoadFault.TheVariants.{Csv, BadNumber, O
 use Rattle.ub_load.proofs.FieldFacts.{fits_to}
 use Rattle.ub_load.proofs.RowFacts.{measure}
 use Rattle.ub_table.proofs.Laws.{fitting_coordinate}
-use Rattle.ub_table.specs.Region.{IsRow, HasRest}
+use Rattle.ub_table.specs.Region.{IsNumbered, IsRow}
 use Rattle.ub_table.specs.Value.{fits_at}
 use Rattle.ub_table.specs.declared.row.Row.{Row}
 
@@ -62,17 +62,9 @@ length_taken zero xs h = refl
 length_taken (suc n) [] h = absurd (omega arith)
 length_taken (suc n) (x ∷ xs) h = ap suc (length_taken n xs (omega arith))
 
--- places of which so many are used, put together again
-places_again : {X : Type 0} (rest : X) (used : ℕ) (places : List X) → used ≤ 4 → HasRest rest used places
-    → take used places ++ replicate (4 - length (take used places)) rest ≡ places
-places_again rest used places few h =
-    rw (length_taken used places (omega (arith, h.0)), sym h.1) (take-append-drop used places)
-
--- a row is made again from its parts that are used
-pub row_again : (dims measures number : ℕ) (row : Row) → IsRow dims measures row → dims ≤ 4 → measures ≤ 4 → number ≡ row.number
-    → made_of number (take dims row.dims) (take measures row.measures) ≡ row
-row_again dims measures number row good few_dims few_measures same =
-    rw (same, places_again 0 dims row.dims few_dims good.dims_rest, places_again (pos 0) measures row.measures few_measures good.measures_rest) refl
+-- a row with the number that it has
+pub numbered_again : (n : ℕ) (row : Row) → n ≡ row.number → numbered n row ≡ row
+numbered_again n row is = rw is refl
 
 -- the parts of a record that is accepted
 pub accepted_parts : (dims width number : ℕ) (fields : List (List ℕ)) → content_refusal dims width (number, fields) ≡ None
@@ -93,22 +85,32 @@ length_left zero xs = omega arith
 length_left (suc n) [] = omega arith
 length_left (suc n) (x ∷ xs) = length_left n xs ∙ omega arith
 
--- a record that is accepted makes a row
-pub accepted_row : (dims width number : ℕ) (fields : List (List ℕ)) → dims ≤ 4 → dims ≤ width → width ≤ dims + 4 → 1 ≤ number → number ≤ 16777215
-    → content_refusal dims width (number, fields) ≡ None → IsRow dims (width - dims) (row_of dims (number, fields))
+-- a record that is accepted has the values of a row
+pub accepted_values : (dims width number : ℕ) (fields : List (List ℕ)) → dims ≤ 4 → dims ≤ width → width ≤ dims + 4
+    → content_refusal dims width (number, fields) ≡ None → Suits dims (width - dims) (row_of dims (number, fields))
 unfolding row_of
-accepted_row dims width number fields few covers most some last h =
+accepted_values dims width number fields few covers most h =
     let parts = accepted_parts dims width number fields h in
     let long : length fields ≡ width = parts.0 in
     let taken = length_taken dims fields (omega arith) in
     let left = length_left dims fields in
-    let numbered = enumerate_from 0 (take dims fields) in
-    let ds = length-map numbered (coordinate_of dims) ∙ length-enumerate_from 0 (take dims fields) in
+    let places = enumerate_from 0 (take dims fields) in
+    let ds = length-map places (coordinate_of dims) ∙ length-enumerate_from 0 (take dims fields) in
     let ms = length-map (drop dims fields) measure in
-    let made = new_row dims (width - dims) number (map (coordinate_of dims) numbered) (map measure (drop dims fields)) (ds ∙ taken) (ms ∙ left ∙ omega arith) few (omega arith) some last
-    (All-from_recursion (λ x. x < 2 ^ 32) (map (coordinate_of dims) numbered) (coordinates_fit dims number 0 dims fields (omega arith) parts.1))
+    let made = new_values dims (width - dims) number (map (coordinate_of dims) places) (map measure (drop dims fields)) (ds ∙ taken) (ms ∙ left ∙ omega arith) few (omega arith)
+    (All-from_recursion (λ x. x < 2 ^ 32) (map (coordinate_of dims) places) (coordinates_fit dims number 0 dims fields (omega arith) parts.1))
     (measures_fit dims number 0 dims fields (omega arith) parts.1) in
     rw (ds, ms) at made
+
+record_numbered : (dims number : ℕ) (fields : List (List ℕ)) → 1 ≤ number → number ≤ 16777215 → IsNumbered (row_of dims (number, fields))
+unfolding row_of
+record_numbered dims number fields some last = (some, last)
+
+-- and it makes a row, where its number is one of a row
+pub accepted_row : (dims width number : ℕ) (fields : List (List ℕ)) → dims ≤ 4 → dims ≤ width → width ≤ dims + 4 → 1 ≤ number → number ≤ 16777215
+    → content_refusal dims width (number, fields) ≡ None → IsRow dims (width - dims) (row_of dims (number, fields))
+accepted_row dims width number fields few covers most some last h =
+    numbered_row dims (width - dims) (row_of dims (number, fields)) (accepted_values dims width number fields few covers most h) (record_numbered dims number fields some last)
 
 -- a record's row has the record's number
 pub number_is : (dims number : ℕ) (fields : List (List ℕ)) (row : Row) → row ≡ row_of dims (number, fields) → number ≡ row.number

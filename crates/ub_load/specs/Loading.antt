@@ -1,5 +1,5 @@
 -- What loading makes, and why it is refused.
-use Rattle.std.specs.Prelude.{◌≡◌, ◌≢◌, ◌≤◌, ◌+◌, ◌⊎◌, ℕ, false, List, [], length, Option, Some, None, IsTrue}
+use Rattle.std.specs.Prelude.{◌≡◌, ◌≢◌, ◌≤◌, ◌+◌, ◌⊎◌, ℕ, false, List, length, Option, Some, None, IsTrue}
 use Rattle.ub_load.specs.LoadedTable.{records_of, row_of}
 use Rattle.ub_load.specs.Refusals.{first_of, first_refusal, record_refusals}
 use Rattle.ub_load.specs.declared.fault.LoadFault.{LoadFault}

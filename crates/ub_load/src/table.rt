@@ -7,11 +7,11 @@ ghost use Rattle.ub_load.specs.LoadedTree.{IsLoadedTree};
 ghost use Rattle.ub_load.specs.Loading.{HasCounted, HasTaken, IsAtWork, IsLoadFault, IsNewFault, IsTakeFault};
 ghost use Rattle.ub_load.specs.inner.Progress.{HasLoadedRecords, HasReadHeader, IsAt, IsHeaderFault, IsRecordsFault};
 ghost use Rattle.ub_store.specs.Facts.{page_count, IsHonest};
-ghost use Rattle.ub_table.specs.Region.{IsRow, measures_of};
+ghost use Rattle.ub_table.specs.Region.{measures_of};
 ghost use Rattle.ub_table.specs.Schema.{AreTableNumbers};
 ghost use Rattle.ub_table.specs.declared.row.TheConstants.{MAX_ROW_NUMBER};
 ghost use Rattle.ub_tree.specs.Calls.{IsCreated};
-ghost use Rattle.ub_tree.specs.Change.{IsInserted};
+ghost use Rattle.ub_tree.specs.Change.{IsInserted, Suits};
 ghost use Rattle.ub_tree.specs.Effects.{Changes};
 ghost use Rattle.ub_tree.specs.View.{IsSound};
 
@@ -159,15 +159,13 @@ fn load_record<S: PageStore>(
 
 // Puts a row into the tree, where it gets the number that is next.
 fn put_row<S: PageStore>(tree: &mut Tree<S>, row: &Row) -> Result<(), TreeFault>
-    requires { tree.old.is_failed ≡ false }
+    requires working { tree.old.is_failed ≡ false }
+    requires values { Suits tree.old.schema.dims (measures_of tree.old.schema) row.now }
     ensures inserted { IsSound tree.old → tree.old.next ≡ row.now.number
-        → IsRow tree.old.schema.dims (measures_of tree.old.schema) row.now
         → OnOk result (IsInserted row.now tree.old tree.new) }
     ensures counted { OnOk result (HasCounted tree.old tree.new) }
     ensures effect { Changes tree.old tree.new result }
 {
-    let dims = tree.schema().dims() as usize;
-    let measures = tree.schema().measures() as usize;
-    tree.insert(&row.dims[..dims], &row.measures[..measures])?;
+    tree.insert_row(row)?;
     Ok(())
 }

@@ -11,9 +11,8 @@ use Rattle.ub_table.specs.declared.row.Key.{Key}
 use Rattle.ub_tree.proofs.Laws.{answers_are_regions_that_meet, answers_are_those_that_meet, firsts_placed}
 use Rattle.ub_tree.specs.Handing.{AreMetBy}
 use Rattle.ub_tree.specs.Placed.{Placed, regions_in, entry_of}
-use Rattle.ub_tree.specs.Spans.{regions_of, Meets}
+use Rattle.ub_tree.specs.Spans.{regions_of, Meets, Region as Span}
 use Rattle.ub_tree.specs.View.{TreeView, IsSound, regions, spans_of}
-use Rattle.ub_tree.specs.declared.region.Region.{Region as Span}
 use Rattle.ub_zaddr.specs.Address.{last_address}
 
 -- the spans that meet the boxes as the tree tells them, and as the plan does

@@ -3,7 +3,7 @@ use Rattle.std.specs.Prelude.{◌≡◌, ℕ, List, length}
 use Rattle.ub_bigmin.specs.Box.{Corners}
 use Rattle.ub_tree.specs.Handing.{AreMetBy}
 use Rattle.ub_tree.specs.View.{TreeView}
-use Rattle.ub_tree.specs.declared.region.Region.{Region as Span}
+use Rattle.ub_tree.specs.Spans.{Region as Span}
 
 -- so many as the tree tells of, asked for one after the other until there is none
 abbrev pub AreCounted : List Corners → TreeView → ℕ → Type 0

@@ -24,9 +24,8 @@ use Rattle.ub_tetris.specs.declared.state.State.{State}
 use Rattle.ub_tetris.specs.inner.Kept.{TakesFirst}
 use Rattle.ub_tetris.specs.inner.Turns.{HasAskedNext, IsDue, awaited_of, is_due_by, view_by, view_of}
 use Rattle.ub_tree.specs.Placed.{Placed, entry_of}
-use Rattle.ub_tree.specs.Spans.{regions_of}
+use Rattle.ub_tree.specs.Spans.{regions_of, Region as Span}
 use Rattle.ub_tree.specs.View.{TreeView, regions, spans_of}
-use Rattle.ub_tree.specs.declared.region.Region.{Region as Span}
 use Rattle.ub_zaddr.specs.Address.{last_address}
 
 -- the page that a region of a tree stands on

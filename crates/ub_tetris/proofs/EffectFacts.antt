@@ -18,7 +18,7 @@ use Rattle.ub_tree.proofs.Laws.{IsTraced, given_before}
 use Rattle.ub_tree.specs.Effects.{IsReadFault, IsSpanFault, IsTakenIn, HasNoted, ReadsRegion, raised_by}
 use Rattle.ub_tree.specs.Reading.{fault_of_tree, read_store}
 use Rattle.ub_tree.specs.View.{TreeView, KeepsTrace, spans_of}
-use Rattle.ub_tree.specs.declared.region.Region.{Region as Span}
+use Rattle.ub_tree.specs.Spans.{Region as Span}
 use Rattle.ub_tree.specs.declared.fault.TreeFault.{TreeFault}
 use Rattle.ub_tree.specs.declared.fault.TreeFault.TheVariants.{Full, Page, Store, Failed as HasFailed, Memory}
 use Rattle.ub_tree.specs.declared.read_fault.ReadFault.TheVariants as read

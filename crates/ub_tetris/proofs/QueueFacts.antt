@@ -33,9 +33,8 @@ use Rattle.ub_tetris.specs.inner.Events.{AreQueued, along_cmp, event_cmp, region
 use Rattle.ub_tetris.specs.inner.Turns.{awaited_of}
 use Rattle.ub_tree.proofs.Laws.{answers_are_those_that_meet, firsts_placed}
 use Rattle.ub_tree.specs.Placed.{Placed, entry_of, regions_in}
-use Rattle.ub_tree.specs.Spans.{Meets, first_keys, regions_of}
+use Rattle.ub_tree.specs.Spans.{Meets, first_keys, regions_of, Region as TreeRegion}
 use Rattle.ub_tree.specs.View.{IsSound, TreeView, regions, spans_of}
-use Rattle.ub_tree.specs.declared.region.Region.{Region as TreeRegion}
 use Rattle.ub_zaddr.specs.Address.{last_address}
 
 -- ---- those of a list

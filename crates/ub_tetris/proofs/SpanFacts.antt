@@ -13,9 +13,8 @@ use Rattle.ub_table.specs.Keys.{IsBefore}
 use Rattle.ub_tree.proofs.Laws.{answers_are_regions_that_meet, answers_later}
 use Rattle.ub_tree.specs.Handing.{AreMetBy}
 use Rattle.ub_tree.specs.Laws.{AreAnswers}
-use Rattle.ub_tree.specs.Spans.{Meets}
+use Rattle.ub_tree.specs.Spans.{Meets, Region}
 use Rattle.ub_tree.specs.View.{TreeView, spans_of}
-use Rattle.ub_tree.specs.declared.region.Region.{Region}
 
 met_value : (boxes : List Corners) (region : Region) (dim : ℕ) → Meets boxes region → (v : ℕ) × IsValueInSpan boxes region.from region.to dim v
 met_value boxes region dim (z, held, from, to) =

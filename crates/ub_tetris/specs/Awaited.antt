@@ -9,7 +9,7 @@ use Rattle.ub_table.specs.Keys.{IsBefore}
 use Rattle.ub_tetris.specs.Sweep.{AwaitedRegion}
 use Rattle.ub_tree.specs.Handing.{AreMetBy}
 use Rattle.ub_tree.specs.View.{TreeView}
-use Rattle.ub_tree.specs.declared.region.Region.{Region}
+use Rattle.ub_tree.specs.Spans.{Region}
 
 -- the first along the sweep of a set of coordinates, if there is one
 abbrev pub IsFirstOn : Bool → (ℕ → Type 0) → Option ℕ → Type 0

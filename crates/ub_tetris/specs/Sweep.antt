@@ -12,7 +12,7 @@ use Rattle.ub_tetris.specs.Held.{HeldRow, AreHeldBy, rows_held}
 use Rattle.ub_tetris.specs.Machine.{IsUnderWay, IsRowAlong, regions_at}
 use Rattle.ub_tree.specs.Placed.{Placed, regions_in}
 use Rattle.ub_tree.specs.View.{TreeView, IsSound, regions, spans_of}
-use Rattle.ub_tree.specs.declared.region.Region.{Region as TreeRegion}
+use Rattle.ub_tree.specs.Spans.{Region as TreeRegion}
 
 -- a region that is not fetched yet, and its event value
 pub record AwaitedRegion : Type 0 where

@@ -16,19 +16,18 @@ use Rattle.ub_table.specs.declared.schema.Schema.{Schema}
 use Rattle.ub_tree.specs.Change.{HasStopped, IsSeatIn, IsSeatThere, IsWriteFault}
 use Rattle.ub_tree.specs.Effects.{Searches, read_store, IsReadFault, IsRegionRefused, IsPageRefused, IsPageMissing, IsSpanFault, IsTakenIn}
 use Rattle.ub_directory.specs.Searching.{Searches as Looks}
-use Rattle.ub_directory.specs.Slots.{IsSeat}
+use Rattle.ub_directory.specs.Spans.{IsSeat}
 use Rattle.ub_directory.specs.View.{SeatView}
 use Rattle.ub_directory.specs.declared.fault.DirectoryFault.{DirectoryFault}
 use Rattle.ub_directory.specs.declared.fault.DirectoryFault.TheVariants as directory
 use Rattle.ub_tree.specs.Faults.{tree_fault, opening_fault}
-use Rattle.ub_tree.specs.Spans.{first_keys, regions_of}
+use Rattle.ub_tree.specs.Spans.{first_keys, regions_of, Region as Span}
 use Rattle.ub_tree.specs.Tree.{IsHeldBy, known_pages, tree_view}
 use Rattle.ub_tree.specs.Placed.{Placed, ArePlaced, placed_of, entry_of}
 use Rattle.ub_tree.specs.View.{TreeView, IsSound, spans_of}
 use Rattle.ub_tree.specs.declared.fault.TreeFault.{TreeFault}
 use Rattle.ub_tree.specs.declared.fault.TreeFault.TheVariants.{Failed, Page, Store}
-use Rattle.ub_tree.specs.declared.region.Region.{Region as Span}
-use Rattle.ub_tree.proofs.SpanFacts.{region_is, region_with}
+use Rattle.ub_directory.proofs.Laws.{region_is, region_with}
 use Rattle.ub_tree.proofs.TreeFacts.{IsKnownAt, entry_known, IsKnown, span_known, spans_are, entries_back, span_entry, contained_at}
 use Rattle.ub_store.specs.declared.fault.StoreFault.TheVariants as store
 

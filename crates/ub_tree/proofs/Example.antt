@@ -8,8 +8,7 @@ use Rattle.ub_table.specs.Keys.{origin}
 use Rattle.ub_table.specs.Region.{Region}
 use Rattle.ub_table.specs.declared.row.Key.{Key}
 use Rattle.ub_table.specs.declared.row.Row.{Row}
-use Rattle.ub_tree.specs.Spans.{regions_of}
-use Rattle.ub_tree.specs.declared.region.Region.{Region as Place}
+use Rattle.ub_tree.specs.Spans.{regions_of, Region as Place}
 
 row_at : ℕ → ℕ → ℕ → Row
 row_at n x y = record { number = n; dims = x ∷ y ∷ 0 ∷ 0 ∷ []; measures = replicate 4 (pos 0) }

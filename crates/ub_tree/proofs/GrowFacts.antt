@@ -5,7 +5,7 @@ use Rattle.std.proofs.lemmas.List.Elements.{All-append, All-from_recursion}
 use Rattle.std.proofs.Math.Facts.{Fits-lt-pow}
 use Rattle.std.proofs.Math.Seq.{drop-append_seam}
 use Rattle.std.proofs.lemmas.List.Sorted.{length_permutation}
-use Rattle.std.specs.Prelude.{FitsSigned}
+use Rattle.std.specs.Prelude.{FitsSigned, IfOk}
 use Rattle.std.specs.Int.{w64}
 use Rattle.std.specs.List.{All, AllByRecursion}
 use Rattle.std.specs.List.Sorted.{IsPermutation}
@@ -13,7 +13,7 @@ use Rattle.ub_zaddr.specs.Address.{last_address}
 use Rattle.ub_page.specs.declared.directory.Entry.{Entry}
 use Rattle.ub_store.specs.Facts.{IsHonest}
 use Rattle.ub_store.specs.View.{PagerView}
-use Rattle.ub_tree.specs.Change.{AreRowsAt, HasRoom, IsStored, IsSplitAt, IsInserted, placed_with, regions_with, row_of, split_of}
+use Rattle.ub_tree.specs.Change.{AreRowsAt, HasRoom, IsStored, IsSplitAt, IsInserted, Suits, numbered, placed_with, regions_with, row_of, split_of}
 use Rattle.ub_tree.specs.Spans.{ArePlaces, first_keys}
 use Rattle.ub_tree.specs.Tree.{known_pages, tree_view}
 use Rattle.ub_tree.specs.Placed.{placed_of, Placed, entry_of, regions_in}
@@ -27,7 +27,7 @@ use Rattle.std.proofs.lemmas.Grind.{get_or_default_zero}
 use Rattle.ub_region.proofs.Laws.{insert_keeps, all_left, all_right, insert_table}
 use Rattle.ub_region.specs.Regions.{AreRegions, firsts_of, insert, index_holding, rows_of, split_region}
 use Rattle.ub_region.specs.Rows.{Halves, has_key, insert_row, split}
-use Rattle.ub_table.specs.Region.{Region, IsRegion, IsRow, HasRest, key_of, measures_of}
+use Rattle.ub_table.specs.Region.{Region, IsNumbered, IsRegion, IsRow, HasRest, key_of, measures_of}
 use Rattle.ub_table.specs.declared.row.Key.{Key}
 use Rattle.ub_table.specs.declared.row.Row.{Row}
 use Rattle.ub_table.specs.declared.schema.Schema.{Schema}
@@ -175,10 +175,9 @@ rest_of x used xs long few = (
   rw (← long) (drop-append_seam xs (replicate (4 - length xs) x)),
 )
 
-pub new_row : (dims measures n : ℕ) (ds : List ℕ) (ms : List ℤ) → length ds ≡ dims → length ms ≡ measures → dims ≤ 4 → measures ≤ 4 → 1 ≤ n → n ≤ 16777215
-    → All (λ x. x < 2 ^ 32) ds → AllByRecursion (λ x. FitsSigned w64 x) ms → IsRow dims measures (row_of n ds ms)
-new_row dims measures n ds ms long_dims long_measures few_dims few_measures some most words signed = record {
-  number = (some, most);
+pub new_values : (dims measures n : ℕ) (ds : List ℕ) (ms : List ℤ) → length ds ≡ dims → length ms ≡ measures → dims ≤ 4 → measures ≤ 4
+    → All (λ x. x < 2 ^ 32) ds → AllByRecursion (λ x. FitsSigned w64 x) ms → Suits dims measures (row_of n ds ms)
+new_values dims measures n ds ms long_dims long_measures few_dims few_measures words signed = record {
   dims_rest = rest_of 0 dims ds long_dims few_dims;
   dims_words = All-append (λ x. x < 2 ^ 32) ds (replicate (4 - length ds) 0) words (All-from_recursion (λ x. x < 2 ^ 32) (replicate (4 - length ds) 0) (all_same (λ x. x < 2 ^ 32) 0 (4 - length ds) (omega arith)));
   measures_rest = rest_of (pos 0) measures ms long_measures few_measures;
@@ -188,6 +187,22 @@ new_row dims measures n ds ms long_dims long_measures few_dims few_measures some
   where
     zero_fits : FitsSigned w64 (pos 0)
     zero_fits = search rules
+
+-- values that suit, with a number that a row has, are a row
+pub numbered_row : (dims measures : ℕ) (row : Row) → Suits dims measures row → IsNumbered row → IsRow dims measures row
+numbered_row _ _ row suits number = record {
+  number = number;
+  dims_rest = suits.dims_rest;
+  dims_words = suits.dims_words;
+  measures_rest = suits.measures_rest;
+  measures_words = suits.measures_words;
+}
+
+-- what is said of the row that is kept, said of its values
+pub inserted_as : (r : Result ℕ TreeFault) (row : Row) (ds : List ℕ) (ms : List ℤ) (a b : TreeView) → row ≡ row_of a.next ds ms → OnOk r (IsInserted (numbered a.next row) a b) → IfOk r (λ n. n ≡ a.next)
+    → IfOk r (λ n. IsInserted (row_of n ds ms) a b)
+inserted_as (Err e) row ds ms a b is h number = tt
+inserted_as (Ok n) row ds ms a b is h number = rw number (subst (λ (x : Row). IsInserted (numbered a.next x) a b) is h)
 
 pub index_moved : (index : ℕ) (key other : Key) (firsts others : List Key) → key ≡ other → firsts ≡ others → index ≡ index_holding key firsts → index ≡ index_holding other others
 index_moved index key other firsts others same_key same_firsts is = rw (← same_key, ← same_firsts) is
@@ -204,23 +219,19 @@ pub record IsReady (b : TreeView) (row : Row) (index : ℕ) (rows : List Row) : 
   pub rows_are : IsHonest b.store → (p : Placed) → slice_get b.placed index ≡ Some p → rows ≡ insert_row b.schema.dims row p.region.rows
 
 pub ready : (schema : Schema) (entries : List Entry) (chain : List ℕ) (next count : ℕ) (changed failed : Bool) (pager : PagerView)
-    (shape index : ℕ) (key : Key) (row : Row) (ds : List ℕ) (ms : List ℤ) (read rows : List Row)
-    → row ≡ row_of next ds ms → length ds ≡ schema.dims → length ms ≡ measures_of schema → All (λ x. x < 2 ^ 32) ds → AllByRecursion (λ x. FitsSigned w64 x) ms
+    (shape index : ℕ) (key : Key) (row : Row) (read rows : List Row)
+    → Suits schema.dims (measures_of schema) row → row.number ≡ next
     → count < next → next ≤ 16777216 → next ≢ 16777216 → key ≡ key_of shape row → shape ≡ schema.dims → index ≡ index_holding key (first_keys entries) → index < length entries
     → (IsHonest pager.store → (p : Placed) → slice_get (placed_of schema (known_pages pager.store) entries) index ≡ Some p → read ≡ p.region.rows) → rows ≡ insert_row shape row read
     → IsReady (tree_view schema entries chain next count changed failed pager) row index rows
-ready schema entries chain next count changed failed pager shape index key row ds ms read rows is_row long_dims long_measures words signed fewer most not_last is_key is_shape at_index lt is_read is_rows =
-    let few_dims = schema.counts.few_dims in
-    let few = schema.counts.few_measures in
-    let covers = schema.counts.covers_dims in
-    record {
-      good = rw is_row (new_row schema.dims (measures_of schema) next ds ms long_dims long_measures few_dims (omega arith) (omega arith) (omega arith) words signed);
-      number = ap (λ (r : Row). r.number) is_row;
-      is = index_moved index key (key_of schema.dims row) (first_keys entries) (firsts_of (regions_in (placed_of schema (known_pages pager.store) entries)))
-          (is_key ∙ ap (λ (d : ℕ). key_of d row) is_shape) (sym (firsts_back schema (known_pages pager.store) entries)) at_index;
-      within = (let long = length-placed schema (known_pages pager.store) entries in omega arith);
-      rows_are = λ now p there. is_rows ∙ ap (λ (d : ℕ). insert_row d row read) is_shape ∙ ap (insert_row schema.dims row) (is_read now p there);
-    }
+ready schema entries chain next count changed failed pager shape index key row read rows suits number fewer most not_last is_key is_shape at_index lt is_read is_rows = record {
+  good = numbered_row schema.dims (measures_of schema) row suits (omega arith, omega arith);
+  number = number;
+  is = index_moved index key (key_of schema.dims row) (first_keys entries) (firsts_of (regions_in (placed_of schema (known_pages pager.store) entries)))
+      (is_key ∙ ap (λ (d : ℕ). key_of d row) is_shape) (sym (firsts_back schema (known_pages pager.store) entries)) at_index;
+  within = (let long = length-placed schema (known_pages pager.store) entries in omega arith);
+  rows_are = λ now p there. is_rows ∙ ap (λ (d : ℕ). insert_row d row read) is_shape ∙ ap (insert_row schema.dims row) (is_read now p there);
+}
 
 -- a new row's region leaves room for its other half
 pub room_ready : (b : TreeView) (row : Row) (index : ℕ) (read rows : List Row) → IsReady b row index rows → ArePlaces (last_address b.schema.dims) (map entry_of b.placed)

@@ -1,5 +1,5 @@
 -- The region that a key falls into, and what calls must answer.
-use Rattle.std.proofs.Common.{◌≡◌, ◌<◌, ◌^◌, ◌++◌, inl, inr, ℕ, suc, Bool, true, false, List, [], ◌∷◌, Some, Result, Ok, Err, IfErr, MatchResult, length, map, ◌∙◌, sym, ap, subst, refl, arith, nat_eq, slice_get, IfOk, ℤ}
+use Rattle.std.proofs.Common.{◌≡◌, ◌<◌, ◌^◌, ◌++◌, inl, inr, ℕ, suc, Bool, true, false, List, [], ◌∷◌, Some, Result, Ok, Err, IfErr, MatchResult, length, map, ◌∙◌, sym, ap, subst, refl, arith, nat_eq, slice_get, IfOk}
 use Rattle.std.proofs.lemmas.Bool.{cases_Bool, eqb-true}
 use Rattle.std.proofs.lemmas.List.{length-append, length-map}
 use Rattle.std.proofs.lemmas.Map.Steps.{length-le_from_distinct_below}
@@ -15,7 +15,7 @@ use Rattle.ub_table.specs.declared.fault.PageFault.{PageFault}
 use Rattle.ub_table.specs.declared.fault.PageFault.TheVariants.{BadCount, BadOrder}
 use Rattle.ub_table.specs.declared.row.Row.{Row}
 use Rattle.ub_table.specs.declared.row.Key.{Key}
-use Rattle.ub_tree.specs.Change.{IsOnSeat, IsSeatIn, row_of}
+use Rattle.ub_tree.specs.Change.{IsOnSeat, IsSeatIn}
 use Rattle.ub_tree.specs.Faults.{tree_fault}
 use Rattle.ub_tree.specs.Holding.{Answers, AnswersKey, AnswersRemoval, FallsInto, index_for}
 use Rattle.ub_tree.specs.Opened.{IsPassing}
@@ -163,6 +163,5 @@ module _ (a b : TreeView) (key : Key) (seat : SeatView) (same : b ≡ a) (stands
         )
 
 -- the key of the row that is put in
-pub next_key : (t a : TreeView) (dims : List ℕ) (measures : List ℤ) (shape : ℕ) (row : Row) (key : Key) → t ≡ a → shape ≡ t.schema.dims → row ≡ row_of t.next dims measures → key ≡ key_of shape row
-    → key ≡ key_of a.schema.dims (row_of a.next dims measures)
-next_key t a dims measures shape row key same is made of = of ∙ ap (λ (d : ℕ). key_of d row) is ∙ ap (key_of t.schema.dims) made ∙ ap (λ (v : TreeView). key_of v.schema.dims (row_of v.next dims measures)) same
+pub next_key : (t a : TreeView) (shape : ℕ) (row : Row) (key : Key) → t ≡ a → shape ≡ t.schema.dims → key ≡ key_of shape row → key ≡ key_of a.schema.dims row
+next_key t a shape row key same is of = of ∙ ap (λ (d : ℕ). key_of d row) is ∙ ap (λ (v : TreeView). key_of v.schema.dims row) same

@@ -12,15 +12,14 @@ use Rattle.ub_tree.proofs.AnswerFacts.{answers_up}
 use Rattle.ub_tree.proofs.WalkFacts.{answers_are_those}
 use Rattle.ub_tree.specs.Laws.{SpansAscend, PagesDiffer, SpansCoverTheSpace, RowsLieInSpans, AnswersAreThoseThatMeet, AnswersAreRegionsThatMeet, AnswersAscend}
 use Rattle.ub_tree.specs.Placed.{Placed, entry_of, regions_in}
-use Rattle.ub_tree.specs.Spans.{Meets, first_keys, regions_of}
+use Rattle.ub_tree.specs.Spans.{Meets, first_keys, regions_of, Region as Span}
 use Rattle.ub_tree.specs.View.{TreeView, IsSound, regions, spans_of}
-use Rattle.ub_tree.specs.declared.region.Region.{Region as Span}
 use Rattle.ub_zaddr.specs.Address.{last_address}
 pub use Rattle.ub_tree.proofs.AnswerFacts.{HasAnswers, HasAnswers-none, HasAnswers-more, answers_after, answers_ended, answers_few, answers_later, answers_there}
-pub use Rattle.ub_tree.proofs.GrowFacts.{firsts_placed, new_row}
+pub use Rattle.ub_tree.proofs.GrowFacts.{firsts_placed, new_values, numbered_row}
 pub use Rattle.ub_tree.proofs.MeetFacts.{before, contained_at, contains_at, is_later, later_from, spans_long, take_all, those_next, those_up_to}
 pub use Rattle.ub_tree.proofs.ReadFacts.{IsTraced, Keeps, Keeps-by, Keeps-more, Keeps-none, begun_traced, given_before, memory_searches, read_fault_before, reads_by, reads_then, sound_fault, traced_spans, tree_reads, tree_searches, unchanged_trace, unchanged_traced, SearchesTree-regions, SearchesTree-sound, SearchesTree-trace}
-pub use Rattle.ub_tree.proofs.SeekFacts.{region_first}
+pub use Rattle.ub_directory.proofs.Laws.{region_first}
 use Rattle.ub_directory.specs.Inner.{reserved}
 
 -- the region of a span, with its page

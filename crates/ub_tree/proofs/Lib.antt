@@ -1,5 +1,3 @@
-pub mod SpanFacts
-pub mod SeekFacts
 pub mod TreeFacts
 pub mod CallFacts
 pub mod ReadFacts

@@ -10,9 +10,8 @@ use Rattle.ub_table.specs.Keys.{IsBefore}
 use Rattle.ub_tree.proofs.AnswerFacts.{HasAnswers, HasAnswers-none, HasAnswers-more, answers_after, answers_ended}
 use Rattle.ub_tree.specs.Handing.{AreMetBy, Began, TakesThese}
 use Rattle.ub_tree.specs.Placed.{Placed, entry_of}
-use Rattle.ub_tree.specs.Spans.{First, IsLater, Meets, regions_of}
+use Rattle.ub_tree.specs.Spans.{First, IsLater, Meets, regions_of, Region as Span}
 use Rattle.ub_tree.specs.View.{TreeView, spans_of}
-use Rattle.ub_tree.specs.declared.region.Region.{Region as Span}
 use Rattle.ub_zaddr.specs.Address.{last_address}
 
 -- the span before the one at a place, if there is one

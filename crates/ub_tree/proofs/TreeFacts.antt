@@ -5,7 +5,7 @@ use Rattle.std.proofs.lemmas.Option.{slice_get_read, slice_get_within, get_or_fr
 use Rattle.std.specs.List.{All, AllByRecursion, Contains}
 use Rattle.ub_zaddr.specs.Address.{last_address}
 use Rattle.ub_page.specs.Region.{region_on, region_page}
-use Rattle.ub_directory.specs.Slots.{IsSeat}
+use Rattle.ub_directory.specs.Spans.{IsSeat}
 use Rattle.ub_directory.specs.View.{SeatView}
 use Rattle.ub_page.specs.declared.directory.Entry.{Entry}
 use Rattle.ub_region.specs.Regions.{AreRegions, AreApart, firsts_of}
@@ -16,12 +16,11 @@ use Rattle.ub_table.specs.Region.{Region, IsRegion, key_of, keys_of}
 use Rattle.ub_table.specs.declared.row.Key.{Key}
 use Rattle.ub_table.specs.declared.row.Row.{Row}
 use Rattle.ub_table.specs.declared.schema.Schema.{Schema}
-use Rattle.ub_tree.specs.Spans.{first_keys, regions_of}
+use Rattle.ub_tree.specs.Spans.{first_keys, regions_of, Region as Span}
 use Rattle.ub_tree.specs.Tree.{IsHeldBy}
 use Rattle.ub_tree.specs.Placed.{Placed, ArePlaced, placed_of, regions_in, entry_of}
 use Rattle.ub_tree.specs.View.{spans_in}
-use Rattle.ub_tree.specs.declared.region.Region.{Region as Span}
-use Rattle.ub_tree.proofs.SpanFacts.{region_with}
+use Rattle.ub_directory.proofs.Laws.{region_with}
 
 -- the region of an entry, with the rows of its page
 abbrev pub placed_at : Schema → List (List ℕ) → Entry → Placed

@@ -6,8 +6,7 @@ use Rattle.ub_table.proofs.Laws.{not_both_before, not_before_self}
 use Rattle.ub_table.specs.Keys.{IsBefore}
 use Rattle.ub_tree.proofs.MeetFacts.{contained_at, contains_at}
 use Rattle.ub_tree.specs.Laws.{AreAnswers}
-use Rattle.ub_tree.specs.Spans.{IsLater}
-use Rattle.ub_tree.specs.declared.region.Region.{Region as Span}
+use Rattle.ub_tree.specs.Spans.{IsLater, Region as Span}
 
 module _ {X : Type 0} where
   pub drop_get : (n i : ℕ) (xs : List X) → slice_get (drop n xs) i ≡ slice_get xs (n + i)

@@ -1,5 +1,5 @@
 -- What a tree's pages are after a change.
-use Rattle.std.proofs.Common.{◌≡◌, ◌≢◌, ◌<◌, ◌≤◌, ◌+◌, ◌^◌, ◌⊎◌, inl, inr, ℕ, zero, suc, Bool, true, false, List, [], ◌∷◌, ◌++◌, Option, None, Some, Bor, option_copied, IsNone, IfSome, ◌↔◌, Err, length, map, drop, nat_eq, ◌∙◌, sym, ap, subst, refl, arith, slice_get, Ok, IfErr, IsTrue, OnOk, Result, IsErrOf}
+use Rattle.std.proofs.Common.{◌≡◌, ◌≢◌, ◌<◌, ◌≤◌, ◌+◌, ◌^◌, ◌⊎◌, inl, inr, ℕ, zero, suc, Bool, true, false, List, [], ◌∷◌, ◌++◌, Some, Err, length, map, drop, nat_eq, ◌∙◌, sym, ap, subst, refl, arith, slice_get, Ok, IfErr, IsTrue, OnOk, Result, IsErrOf}
 use Rattle.std.proofs.lemmas.Bool.{eq-eqb}
 use Rattle.std.proofs.lemmas.List.Elements.{recursion_from_All}
 use Rattle.std.proofs.lemmas.Map.Keys.{IsDistinct-head}
@@ -7,6 +7,7 @@ use Rattle.std.proofs.lemmas.Option.{slice_get_within}
 use Rattle.std.specs.List.{AllByRecursion, IsDistinct, insert}
 use Rattle.std.specs.Result.{IsErrAnd}
 use Rattle.ub_page.specs.Region.{region_on, region_page}
+use Rattle.ub_page.specs.Header.{header_page}
 use Rattle.ub_page.specs.declared.directory.Entry.{Entry}
 use Rattle.ub_region.proofs.Laws.{all_right}
 use Rattle.ub_region.specs.Regions.{AreRegions, rows_of}
@@ -29,7 +30,9 @@ use Rattle.ub_tree.specs.Tree.{known_pages, tree_view}
 use Rattle.ub_tree.specs.Placed.{Placed, ArePlaced, placed_of, regions_in, entry_of}
 use Rattle.ub_directory.specs.Chain.{IsChain}
 use Rattle.ub_tree.specs.Stored.{AreSoundPages}
-use Rattle.ub_writing.specs.Marks.{Marks, PutsMark, KeepsUnless, IsMarkPage, HasMark}
+use Rattle.ub_writing.specs.Marks.{Marks, PutsMark, KeepsUnless, HasMark, IsMarkOf, first_page, is_written}
+use Rattle.ub_writing.specs.declared.mark.Mark.{Mark}
+use Rattle.ub_writing.specs.declared.mark.Mark.TheVariants.{Due, Written}
 use Rattle.ub_writing.specs.Puts.{Puts, PutsTwo}
 use Rattle.ub_tree.specs.View.{TreeView, IsSound}
 use Rattle.ub_tree.proofs.CallFacts.{known_is}
@@ -79,11 +82,6 @@ rewritten schema entries chain next rows changed failed old new index e rs page 
         (puts.written stored.honest ∙ ap (λ (q : List ℕ). Some q) spells, ap (region_on schema) (sym spells) ∙ back good) in
         let both = by_pages (known_pages old.store) (known_pages new.store) (known_is old.store stored.honest) (known_is new.store now) stored.placed_are told in
         (record { working = stored.working; honest = now; placed_are = both.0 }, both.1)
-
--- a mark is given or not, whether it is seen or lent
-pub unmarked : (mark : Option (Bor (List ℕ))) (P : Type 0) → IsNone mark ↔ P → IsNone (option_copied mark) ↔ P
-unmarked None P h = (λ none. h.0 refl, λ p. refl)
-unmarked (Some page) P h = (λ none. cc, λ p. (let none = h.1 p in cc))
 
 -- the page of a region isn't the first
 pub own_page : (schema : Schema) (entries : List Entry) (chain : List ℕ) (pages known : List (List ℕ)) (index : ℕ) (e : Entry) → ArePlaced schema (placed_of schema known entries) (0 ∷ chain) pages
@@ -297,15 +295,18 @@ module _ (schema : Schema) (entries later : List Entry) (chain : List ℕ) (next
   }
 
   -- what a call did that marked the table, where it wasn't marked
-  pub marks_first : (mark : Option (List ℕ)) (numbers : List ℕ) → (IsNone mark ↔ (changed ≡ true)) → IfSome mark (IsMarkPage schema) → Marks mark numbers changed now_changed old.store new.store
+  pub marks_first : (was now : Mark) (numbers : List ℕ) → changed ≡ is_written was → now_changed ≡ is_written now → IsMarkOf schema was → Marks numbers was now old.store new.store
       → (IsSound (tree_view schema entries chain next rows changed failed old) → AllByRecursion (λ n. n ≢ 0) numbers)
       → IsMarkedFirst (tree_view schema entries chain next rows changed failed old) (tree_view schema later chain next rows now_changed now_failed new)
-  marks_first mark numbers is page marks own = record { kept = marks.kept; marked = λ sound e. by_mark mark sound is.0 page (marks.first sound.honest (own sound) e) }
+  marks_first was now numbers is now_is mark marks own = record {
+    kept = subst (λ (b : Bool). KeepsUnless b old.store new.store) (sym now_is) marks.kept;
+    marked = λ sound e. by_mark was is mark sound (marks.first sound.honest (own sound) (sym now_is ∙ e));
+  }
     where
-      by_mark : (o : Option (List ℕ)) → IsSound (tree_view schema entries chain next rows changed failed old) → (IsNone o → changed ≡ true) → IfSome o (IsMarkPage schema) → PutsMark o old.store new.store
+      by_mark : (m : Mark) → changed ≡ is_written m → IsMarkOf schema m → IsSound (tree_view schema entries chain next rows changed failed old) → PutsMark (first_page m) old.store new.store
           → HasMark schema new.store.pages
-      by_mark None sound is page puts = let had = sound.marked (is refl) in (had.0, had.1, puts ∙ had.2)
-      by_mark (Some p) sound is page puts = (p, page, puts)
+      by_mark Written is mark sound puts = let had = sound.marked is in (had.0, had.1, puts ∙ had.2)
+      by_mark (Due header) is mark sound puts = (header_page header, (header, mark, refl), puts)
 
   -- what a call that wrote did
   pub wrote : {T : Type 0} (r : Result T TreeFault) → new.store ≡ written_store r old.store new.store → SameTrace old new

@@ -1,7 +1,8 @@
 -- What a change of one region does to a tree.
-use Rattle.std.specs.Prelude.{IfSome, ◌≡◌, ◌+◌, ◌-◌, ◌<◌, ◌≤◌, ◌++◌, ℕ, ℤ, pos, suc, Bool, true, false, List, [], ◌∷◌, Some, IsTrue, Result, Err, IfErr, OnOk, length, map, take, drop, replicate, slice_get}
+use Rattle.std.specs.Prelude.{FitsSigned, IfSome, ◌≡◌, ◌+◌, ◌-◌, ◌^◌, ◌<◌, ◌≤◌, ◌++◌, ℕ, ℤ, pos, suc, Bool, true, false, List, [], ◌∷◌, Some, IsTrue, Result, Err, IfErr, OnOk, length, map, take, drop, replicate, slice_get}
 use Rattle.std.specs.Bool.{nat_eq}
-use Rattle.std.specs.List.{AllByRecursion, IsDistinct, insert as insert_at}
+use Rattle.std.specs.Int.{w64}
+use Rattle.std.specs.List.{All, AllByRecursion, IsDistinct, insert as insert_at}
 use Rattle.ub_region.specs.Regions.{AreTableRows, insert, split_region}
 use Rattle.ub_region.specs.Rows.{Halves}
 use Rattle.ub_zaddr.specs.Address.{last_address}
@@ -11,7 +12,7 @@ use Rattle.ub_store.specs.View.{PagerView}
 use Rattle.ub_page.specs.Region.{RegionView, region_page}
 use Rattle.ub_page.specs.declared.directory.Entry.{Entry}
 use Rattle.ub_table.specs.Keys.{AreKeysAscending, IsBefore}
-use Rattle.ub_table.specs.Region.{Region, IsRegion, keys_of}
+use Rattle.ub_table.specs.Region.{HasRest, Region, IsRegion, keys_of}
 use Rattle.ub_table.specs.declared.row.Key.{Key}
 use Rattle.ub_table.specs.declared.row.Row.{Row}
 use Rattle.ub_table.specs.declared.schema.Schema.{Schema}
@@ -24,13 +25,24 @@ use Rattle.ub_tree.specs.declared.fault.TreeFault.{TreeFault}
 use Rattle.ub_tree.specs.declared.fault.TreeFault.TheVariants.{Memory, Store}
 use Rattle.ub_store.specs.declared.fault.StoreFault.TheVariants as store
 use Rattle.ub_directory.specs.Inner.{reserved}
-use Rattle.ub_directory.specs.Slots.{IsSeat}
+use Rattle.ub_directory.specs.Spans.{IsSeat}
 use Rattle.ub_directory.specs.View.{SeatView}
 
 -- a row of this number with these coordinates and measures
 abbrev pub row_of : ℕ → List ℕ → List ℤ → Row
 row_of number dims measures =
     record { number = number; dims = dims ++ replicate (4 - length dims) 0; measures = measures ++ replicate (4 - length measures) (pos 0) }
+
+-- the same row with this number
+abbrev pub numbered : ℕ → Row → Row
+numbered n row = record row { number = n }
+
+-- the values of a row, whatever its number, are such as a row of so many dimensions and measures has
+pub record Suits (dims measures : ℕ) (row : Row) : Type 0 where
+  pub dims_rest : HasRest 0 dims row.dims
+  pub dims_words : All (λ x. x < 2 ^ 32) row.dims
+  pub measures_rest : HasRest (pos 0) measures row.measures
+  pub measures_words : All (λ x. FitsSigned w64 x) row.measures
 
 -- the pages of a tree that works, over an honest store: each of its regions stands on a page of its own that spells it
 pub record IsStored (t : TreeView) : Type 0 where
@@ -90,14 +102,6 @@ PutsRows seat page old new result =
     IsStored old → (p : Placed) (rows : List Row) → slice_get old.placed seat.index ≡ Some p → IsRegion old.schema (record { first = p.region.first; rows = rows })
     → page ≡ region_page old.schema (record { first = seat.first; rows = rows })
     → OnOk result (IsStored new × (new.placed ≡ placed_with seat.index (record { page = p.page; region = record { first = p.region.first; rows = rows } } ∷ []) old.placed))
-
--- the page is put in the place of that of the region of a seat
-pub record PutsAt {A : Type 0} (seat : SeatView) (page : List ℕ) (old new : TreeView) (result : Result A TreeFault) : Type 0 where
-  pub same : OnOk result (IsElsewhereSame old new)
-  pub written : PutsRows seat page old new result
-  pub count : length new.placed ≡ length old.placed
-  pub faults : IfErr result (λ fault. fault ≡ Store store.Device)
-  pub effect : Writes seat.index old new result
 
 -- a fault of the store
 abbrev pub IsStoreFault : TreeFault → Type 0

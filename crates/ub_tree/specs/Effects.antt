@@ -1,5 +1,5 @@
 -- What the calls of a tree leave, in a few words: a call that searches, one that reads regions, one that changes the tree.
-use Rattle.std.specs.Prelude.{◌+◌, ◌≡◌, ◌<◌, ◌≤◌, ◌⊎◌, ◌++◌, ℕ, true, [], ◌∷◌, IsTrue, Result, Ok, Err, IfErr, OnOk, length, map, slice_get, List, Option}
+use Rattle.std.specs.Prelude.{◌+◌, ◌≡◌, ◌<◌, ◌≤◌, ◌⊎◌, ℕ, true, IsTrue, Result, Ok, Err, IfErr, OnOk, length, map, slice_get, List, Option}
 use Rattle.std.specs.List.{Contains}
 use Rattle.ub_store.specs.Facts.{StoreFacts, IsHonest, IsPage, MayFlush, page_count, raised}
 use Rattle.ub_store.specs.View as trace
@@ -20,7 +20,7 @@ use Rattle.ub_writing.specs.Marks.{HasMark, KeepsUnless}
 use Rattle.ub_tree.specs.View.{TreeView, IsSound, KeepsTrace, spans_of}
 use Rattle.ub_tree.specs.declared.fault.TreeFault.{TreeFault}
 use Rattle.ub_tree.specs.declared.fault.TreeFault.TheVariants.{Full, Page, Store, Failed, Memory}
-use Rattle.ub_tree.specs.declared.region.Region.{Region as Span}
+use Rattle.ub_tree.specs.Spans.{Region as Span}
 use Rattle.ub_store.specs.declared.fault.StoreFault.TheVariants as store
 
 -- a count of failures after a call with this fault, and after one with this result: Device raises it by one

@@ -2,9 +2,8 @@
 use Rattle.std.specs.Prelude.{◌++◌, List, None}
 use Rattle.ub_bigmin.specs.Box.{Corners}
 use Rattle.ub_tree.specs.Laws.{AreAnswers}
-use Rattle.ub_tree.specs.Spans.{Meets}
+use Rattle.ub_tree.specs.Spans.{Meets, Region}
 use Rattle.ub_tree.specs.View.{TreeView, spans_of}
-use Rattle.ub_tree.specs.declared.region.Region.{Region}
 
 -- these are the regions that the tree tells of, asked for the next one that meets the boxes after each, until there is none: of
 -- a sound tree those that meet them, each once, in the order of their first keys

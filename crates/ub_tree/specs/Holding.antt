@@ -12,11 +12,10 @@ use Rattle.ub_table.specs.declared.row.TheConstants.{MAX_ROW_NUMBER}
 use Rattle.ub_tree.specs.Effects.{IsTakenIn}
 use Rattle.ub_tree.specs.Opened.{IsPassing}
 use Rattle.ub_tree.specs.Placed.{entry_of}
-use Rattle.ub_tree.specs.Spans.{first_keys}
+use Rattle.ub_tree.specs.Spans.{first_keys, Region as Span}
 use Rattle.ub_tree.specs.View.{TreeView, spans_of}
 use Rattle.ub_tree.specs.declared.fault.TreeFault.{TreeFault}
 use Rattle.ub_tree.specs.declared.fault.TreeFault.TheVariants.{Full, Page}
-use Rattle.ub_tree.specs.declared.region.Region.{Region as Span}
 
 -- where the region that a key falls into stands in the order of all
 abbrev pub index_for : TreeView → Key → ℕ

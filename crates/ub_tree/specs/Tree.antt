@@ -1,5 +1,5 @@
 -- A tree's parts, as contracts see them together.
-use Rattle.std.specs.Prelude.{◌+◌, ◌≡◌, ◌≤◌, ◌<◌, ◌^◌, ℕ, length, slice_get, Bool, if◌then◌else◌, List, [], Option, IfSome}
+use Rattle.std.specs.Prelude.{◌+◌, ◌≡◌, ◌≤◌, ◌<◌, ◌^◌, ℕ, length, Bool, if◌then◌else◌, List, [], Option, IfSome}
 use Rattle.std.specs.List.{AllByRecursion}
 use Rattle.ub_table.specs.declared.row.TheConstants.{MAX_ROW_NUMBER}
 use Rattle.ub_zaddr.specs.Address.{last_address}
@@ -12,7 +12,9 @@ use Rattle.ub_table.specs.declared.row.Key.{Key}
 use Rattle.ub_table.specs.declared.schema.Schema.{Schema}
 use Rattle.ub_tree.specs.Placed.{placed_of}
 use Rattle.ub_tree.specs.View.{TreeView}
-use Rattle.ub_directory.specs.Slots.{ArePlaces}
+use Rattle.ub_directory.specs.Spans.{ArePlaces}
+use Rattle.ub_writing.specs.Marks.{IsMarkOf}
+use Rattle.ub_writing.specs.declared.mark.Mark.{Mark}
 
 -- the pages of an honest store; of another one nothing is known
 abbrev pub known_pages : StoreFacts → List (List ℕ)
@@ -31,16 +33,16 @@ tree_view schema entries chain next rows is_changed is_failed pager = record {
   inner = record { chain = chain };
 }
 
--- what is true of a tree's parts: its directory is one of its schema's space, with regions in order that can be counted; it begins
--- on a page that isn't the first; there are fewer rows than the next number, which is at most one above the last
-pub record IsTree (schema : Schema) (last : ℕ) (entries : List Entry) (chain : List ℕ) (next rows : ℕ) : Type 0 where
+-- what is true of a tree's parts: its directory is one of its schema's space, with regions in order that can be counted, and has
+-- a page; there are fewer rows than the next number, which is at most one above the last; its mark is one of its schema
+pub record IsTree (schema : Schema) (last : ℕ) (entries : List Entry) (chain : List ℕ) (next rows : ℕ) (mark : Mark) : Type 0 where
   pub last_is : last ≡ last_address schema.dims
   pub places : ArePlaces last entries
   pub few : length entries < 2 ^ 32
-  pub root : IfSome (slice_get chain 0) (λ n. 1 ≤ n)
   pub some_chain : 1 ≤ length chain
   pub fewer : rows < next
   pub last_next : next ≤ MAX_ROW_NUMBER + 1
+  pub mark_is : IsMarkOf schema mark
 
 -- the region begins with this first key, and its rows are before the next region's, where there is one
 abbrev pub IsHeldBy : ℕ → Key → Option Key → Region → Type 0

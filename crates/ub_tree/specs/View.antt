@@ -12,7 +12,7 @@ use Rattle.ub_tree.specs.Placed.{Placed, ArePlaced, regions_in, entry_of}
 use Rattle.ub_tree.specs.Spans as spans
 use Rattle.ub_tree.specs.Stored.{AreSoundPages}
 use Rattle.ub_writing.specs.Marks.{HasMark}
-use Rattle.ub_tree.specs.declared.region.Region.{Region as Span}
+use Rattle.ub_tree.specs.Spans.{Region as Span}
 use Rattle.ub_directory.specs.Inner.{Inner, reserved}
 
 -- a tree: its schema; its regions in order; how many rows it counts; the next row number; whether it has changed since it was

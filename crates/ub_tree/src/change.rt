@@ -1,7 +1,6 @@
 ghost use Rattle.std.specs.Int.{w64};
 ghost use Rattle.std.specs.Prelude.{FitsSigned, map, ◌≡◌, ◌≢◌, ◌+◌, ◌-◌, ◌↔◌, pos, replicate, ◌<◌, ◌≤◌, ◌⊎◌, ◌∷◌, ◌++◌, [], true, false, IsTrue, Some, Ok, Err, length, slice_get, IfOk, IfErr, IfSome, IsNone, IsSome, MatchResult, OnOk, List, option_copied};
 ghost use Rattle.std.specs.List.{AllByRecursion, insert, list_any};
-ghost use Rattle.ub_page.specs.Bytes.{padded};
 ghost use Rattle.ub_region.specs.Rows.{insert_row, split};
 ghost use Rattle.ub_store.specs.Facts as facts;
 ghost use Rattle.ub_store.specs.Facts.{page_count, zero_page, Appends, MayFlush};
@@ -9,13 +8,12 @@ ghost use Rattle.ub_store.specs.View.{SameTrace};
 ghost use Rattle.ub_table.specs.Keys.{AreKeysAscending, is_same};
 ghost use Rattle.ub_table.specs.Region.{Region, IsRegion, key_of, keys_of, measures_of};
 ghost use Rattle.ub_tree.specs.Change as spec;
-ghost use Rattle.ub_tree.specs.Change.{AreRowsAt, IsStored, IsSeatIn, IsSeatThere, IsElsewhereSame, IsOnSeat, IsReadAt, placed_with, IsInserted, IsSplitAt, HasRoom, IsExtensionFault, IsStoreFault, PutsAt, PutsRows, StoresAt, StoresRows, Writes};
+ghost use Rattle.ub_tree.specs.Change.{AreRowsAt, IsStored, IsSeatIn, IsSeatThere, IsElsewhereSame, IsOnSeat, IsReadAt, placed_with, IsInserted, IsSplitAt, HasRoom, Suits, numbered, IsExtensionFault, IsStoreFault, PutsRows, StoresAt, StoresRows, Writes};
 ghost use Rattle.ub_tree.specs.Effects.{Searches, Changes};
 ghost use Rattle.ub_tree.specs.Holding.{AnswersKey, AnswersRow, CountsOut, index_for};
 ghost use Rattle.ub_tree.specs.Opened.{IsPassing};
 ghost use Rattle.ub_tree.specs.Others.{GrowsAt};
 ghost use Rattle.ub_tree.specs.Placed.{Placed, entry_of};
-ghost use Rattle.ub_writing.specs.Marks.{IsMarkPage};
 ghost use Rattle.ub_writing.specs.Puts.{Puts};
 ghost use Rattle.ub_tree.specs.View.{IsSound, regions};
 
@@ -28,7 +26,7 @@ use ub_page::{Draft, Page, RegionPage, write_region};
 use ub_region::{Halves, Rows, index_in, is_equal};
 use ub_store::{MAX_PAGES, PageStore, Pager, StoreFault};
 use ub_table::{Key, MAX_ROW_NUMBER, PageFault, Row};
-use ub_writing::{write_mark, write_page, write_pages};
+use ub_writing::{write_page, write_pages};
 
 // One above the last number that a row can have.
 const NEXT_END: u32 = MAX_ROW_NUMBER + 1;
@@ -101,32 +99,6 @@ impl<S: PageStore> Tree<S> {
         Ok(())
     }
 
-    // The page of a header that marks the table as changed, unless it is marked already.
-    fn mark<'a>(&self, draft: &'a mut Draft) -> Option<&'a Page>
-        ensures page { IfSome (option_copied result)
-            (λ page. IsMarkPage self.now.schema page) }
-        ensures changed { IsNone result ↔ IsTrue self.now.is_changed }
-    {
-        if self.is_changed {
-            return None;
-        }
-        Some(self.first_mark(draft))
-    }
-
-    // That page, which there is.
-    fn first_mark<'a>(&self, draft: &'a mut Draft) -> &'a Page
-        ensures { IsMarkPage self.now.schema result.now }
-    {
-        write_mark(
-            &self.schema,
-            self.next,
-            self.rows,
-            self.regions(),
-            self.directory.root(),
-            draft,
-        )
-    }
-
     // Puts these rows on the page of the region of a seat. After a fault the tree has failed.
     pub(crate) fn rewrite(
         &mut self,
@@ -150,38 +122,20 @@ impl<S: PageStore> Tree<S> {
         ensures effect { Writes seat.now.index self.old self.new result }
     {
         write_region(&self.schema, seat.first(), rows, &mut drafts.page);
-        self.put_page(seat, drafts)
+        self.put_page(seat, drafts.page.page())
     }
 
-    // Puts the page that was spelled in the place of that of the region of a seat, and before it the
-    // mark, unless the table is marked already. After a fault the tree has failed.
-    fn put_page(&mut self, seat: &Seat, drafts: &mut Drafts) -> Result<(), TreeFault>
+    // Puts a page in the place of that of the region of a seat, and before it the mark, where it is
+    // due. After a fault the tree has failed.
+    fn put_page(&mut self, seat: &Seat, page: &Page) -> Result<(), TreeFault>
         requires { IsSeatThere self.old seat.now }
-        ensures { PutsAt seat.now (padded drafts.old.page) self.old self.new result }
-    {
-        let mark = self.mark(&mut drafts.mark);
-        self.put_marked(mark, seat, drafts.page.page())
-    }
-
-    // Puts a page there with this mark, which is given where the table isn't marked.
-    fn put_marked(&mut self, mark: Option<&Page>, seat: &Seat, page: &Page) -> Result<(), TreeFault>
-        requires seat { IsSeatThere self.old seat.now }
-        requires mark { IfSome (option_copied mark)
-            (λ page. IsMarkPage self.old.schema page) }
-        requires unmarked { IsNone mark ↔ IsTrue self.old.is_changed }
         ensures same { OnOk result (IsElsewhereSame self.old self.new) }
         ensures written { PutsRows seat.now page.now self.old self.new result }
         ensures count { length self.new.placed ≡ length self.old.placed }
         ensures faults { IfErr result (λ fault. fault ≡ TreeFault.Store StoreFault.Device) }
         ensures effect { Writes seat.now.index self.old self.new result }
     {
-        match write_page(
-            &mut self.pager,
-            &mut self.is_changed,
-            mark,
-            seat.page(),
-            page,
-        ) {
+        match write_page(&mut self.pager, &mut self.mark, seat.page(), page) {
             Ok(()) => Ok(()),
             Err(fault) => {
                 self.is_failed = true;
@@ -236,7 +190,6 @@ impl<S: PageStore> Tree<S> {
         if self.regions() == MAX_PAGES {
             return Err(self.uncounted());
         }
-        let mark = self.mark(&mut drafts.mark);
         write_region(&self.schema, seat.first(), halves.left, &mut drafts.page);
         write_region(&self.schema, halves.first, halves.right, &mut drafts.other);
         let adding = self
@@ -245,8 +198,7 @@ impl<S: PageStore> Tree<S> {
         let number = add_page(&mut self.pager, &mut self.is_failed)?;
         match write_pages(
             &mut self.pager,
-            &mut self.is_changed,
-            mark,
+            &mut self.mark,
             (number, drafts.other.page()),
             (seat.page(), drafts.page.page()),
         ) {
@@ -293,7 +245,7 @@ impl<S: PageStore> Tree<S> {
         }
         room.region.insert_at(index, row);
         room.region.write(&self.schema, &mut room.drafts.page);
-        self.put_page(seat, &mut room.drafts)
+        self.put_page(seat, room.drafts.page.page())
     }
 
     // Puts a row in among the rows of the region of a seat, which was read into this room and fills
@@ -320,24 +272,10 @@ impl<S: PageStore> Tree<S> {
     {
         list_rows(&room.region, &mut room.rows);
         room.rows.insert_at(index, *row);
-        self.split_rows(seat, &room.rows, &mut room.drafts)
-    }
-
-    // Puts the rows of the region of a seat, of which there is one more than a page holds, on its
-    // page and a new one.
-    fn split_rows(&mut self, seat: &Seat, rows: &Rows, drafts: &mut Drafts) -> Result<(), TreeFault>
-        requires seat { IsSeatThere self.old seat.now }
-        requires over { length rows.now ≡ self.old.schema.page_rows + 1 }
-        requires room { HasRoom seat.now.index
-            (split self.old.schema.dims self.old.schema.page_rows rows.now).first self.old }
-        ensures same { OnOk result (StoresAt seat.now.index self.old.schema.page_rows
-            self.old self.new) }
-        ensures written { StoresRows seat.now.index rows.now self.old self.new result }
-        ensures counted { CountsOut (length self.old.placed ≡ 4294967295) result }
-        ensures effect { Changes self.old self.new result }
-    {
-        let halves = rows.split(self.schema.shape(), self.schema.page_rows());
-        self.split(seat, &halves, drafts)
+        let halves = room
+            .rows
+            .split(self.schema.shape(), self.schema.page_rows());
+        self.split(seat, &halves, &mut room.drafts)
     }
 
     /// Puts a row in, with these coordinates and measures, and gives its number: one more than the last row got.
@@ -363,41 +301,58 @@ impl<S: PageStore> Tree<S> {
             (key_of self.old.schema.dims (spec.row_of self.old.next dims.now measures.now)) result }
         ensures effect { Changes self.old self.new result }
     {
+        let row = row_of(self.next, dims, measures);
+        self.insert_row(&row)
+    }
+
+    /// Puts a row in, and gives its number: one more than the last row got. The number that the row comes with is not looked
+    /// at: the row that is kept has the next one. Its refusals are those of `insert`.
+    pub fn insert_row(&mut self, row: &Row) -> Result<u32, TreeFault>
+        requires { Suits self.old.schema.dims (measures_of self.old.schema) row.now }
+        ensures inserted { IsSound self.old
+            → OnOk result (IsInserted (numbered self.old.next row.now) self.old self.new) }
+        ensures number { IfOk result (λ n. n ≡ self.old.next) }
+        ensures counted { OnOk result ((self.new.next ≡ self.old.next + 1)
+            × (self.new.rows ≡ self.old.rows + 1) × (self.new.is_failed ≡ false)
+            × GrowsAt (index_for self.old (key_of self.old.schema.dims
+            (numbered self.old.next row.now))) self.old self.new) }
+        ensures failed { IsTrue self.old.is_failed → result ≡ Err TreeFault.Failed }
+        ensures refused { self.old.is_failed ≡ false → AnswersRow self.old
+            (key_of self.old.schema.dims (numbered self.old.next row.now)) result }
+        ensures effect { Changes self.old self.new result }
+    {
         if self.is_failed {
             return Err(TreeFault::Failed);
         }
         if self.next == NEXT_END {
             return Err(TreeFault::Full);
         }
+        let row = Row {
+            number: self.next,
+            ..*row
+        };
         let mut room = self.take_room()?;
-        let inserted = self.insert_within(dims, measures, &mut room);
+        let inserted = self.insert_within(&row, &mut room);
         self.room = Some(room);
         inserted
     }
 
-    // The same of a tree that works and has a number left, in this room.
-    fn insert_within(
-        &mut self,
-        dims: &[u32],
-        measures: &[i64],
-        room: &mut Room,
-    ) -> Result<u32, TreeFault>
-        requires dims { length dims.now ≡ self.old.schema.dims }
-        requires measures { length measures.now ≡ measures_of self.old.schema }
+    // The same of a tree that works and has a number left, which the row has, in this room.
+    fn insert_within(&mut self, row: &Row, room: &mut Room) -> Result<u32, TreeFault>
+        requires row { Suits self.old.schema.dims (measures_of self.old.schema) row.now
+            × (row.now.number ≡ self.old.next) }
         requires able { (self.old.is_failed ≡ false) × (self.old.next ≢ MAX_ROW_NUMBER + 1) }
         ensures inserted { IsSound self.old
-            → IfOk result (λ n. IsInserted
-            (spec.row_of n dims.now measures.now) self.old self.new) }
+            → OnOk result (IsInserted row.now self.old self.new) }
         ensures number { IfOk result (λ n. n ≡ self.old.next) }
         ensures counted { OnOk result ((self.new.next ≡ self.old.next + 1)
             × (self.new.rows ≡ self.old.rows + 1) × (self.new.is_failed ≡ false)
-            × GrowsAt (index_for self.old (key_of self.old.schema.dims
-            (spec.row_of self.old.next dims.now measures.now))) self.old self.new) }
-        ensures refused { facts.IsHonest self.old.store → AnswersKey self.old
-            (key_of self.old.schema.dims (spec.row_of self.old.next dims.now measures.now)) result }
+            × GrowsAt (index_for self.old (key_of self.old.schema.dims row.now))
+            self.old self.new) }
+        ensures refused { facts.IsHonest self.old.store
+            → AnswersKey self.old (key_of self.old.schema.dims row.now) result }
         ensures effect { Changes self.old self.new result }
     {
-        let row = row_of(self.next, dims, measures);
         let key = row.key(self.schema.shape());
         let seat = self.seat_of(&key)?;
         self.read_at(&seat, &mut room.region)?;
@@ -407,7 +362,7 @@ impl<S: PageStore> Tree<S> {
                 fault: PageFault::BadOrder,
             });
         }
-        self.store_with(&seat, &key, &row, room)?;
+        self.store_with(&seat, &key, row, room)?;
         self.next += 1;
         self.rows += 1;
         Ok(row.number)

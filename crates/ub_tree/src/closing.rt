@@ -49,7 +49,7 @@ impl<S: PageStore> Tree<S> {
                 fault: TreeFault::Failed,
             });
         }
-        if !self.is_changed {
+        if !self.mark.is_written() {
             return Ok(self.pager.into_store());
         }
         let Tree {

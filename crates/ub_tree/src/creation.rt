@@ -14,7 +14,7 @@ use std::num::NonZeroUsize;
 use ub_directory::Directory;
 use ub_store::{PageStore, Pager, Rejected};
 use ub_table::Schema;
-use ub_writing::write_first_pages;
+use ub_writing::{Mark, write_first_pages};
 use ub_zaddr::last;
 
 // How many pages the cache of a tree holds.
@@ -50,7 +50,7 @@ impl<S: PageStore> Tree<S> {
                 directory,
                 next: 1,
                 rows: 0,
-                is_changed: true,
+                mark: Mark::Written,
                 is_failed: false,
                 pager,
                 room: None,

@@ -20,7 +20,6 @@ pub mod law;
 mod opening;
 pub mod read_fault;
 mod reading;
-pub mod region;
 mod removal;
 mod room;
 mod seats;
@@ -30,6 +29,6 @@ mod walking;
 
 pub use fault::TreeFault;
 pub use read_fault::ReadFault;
-pub use region::Region;
 pub use sink::RegionSink;
 pub use tree::Tree;
+pub use ub_directory::Region;

@@ -18,6 +18,7 @@ use std::alloc::Global;
 use ub_directory::Directory;
 use ub_page::Header;
 use ub_store::{PageStore, Rejected};
+use ub_writing::Mark;
 
 impl<S: PageStore> Tree<S> {
     /// The tree of a closed table: its first page tells of the table, and the directory from the header's root on of its regions.
@@ -52,6 +53,7 @@ impl<S: PageStore> Tree<S> {
         };
         match Directory::read(alloc, &mut pager) {
             Ok((header, directory)) => {
+                let mark = Mark::due(&header);
                 let Header {
                     schema,
                     next,
@@ -63,7 +65,7 @@ impl<S: PageStore> Tree<S> {
                     directory,
                     next,
                     rows,
-                    is_changed: false,
+                    mark,
                     is_failed: false,
                     pager,
                     room: None,

@@ -25,8 +25,6 @@ pub struct Drafts {
     pub page: Draft,
     /// That of a new region.
     pub other: Draft,
-    /// The header that marks the table as changed.
-    pub mark: Draft,
 }
 
 /// Such room, in a box of its own, so that nothing of it moves.
@@ -40,7 +38,6 @@ pub fn new_room(alloc: Global, shape: Shape) -> Result<Box<Room>, AllocError> {
             drafts: Drafts {
                 page: Draft::new(),
                 other: Draft::new(),
-                mark: Draft::new(),
             },
         },
     )?)

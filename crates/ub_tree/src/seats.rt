@@ -1,5 +1,5 @@
 ghost use Rattle.std.specs.Prelude.{◌≡◌, ◌≤◌, map, IfErr, IfOk};
-ghost use Rattle.ub_directory.specs.Slots.{IsSeatAfter, IsSeatBefore};
+ghost use Rattle.ub_directory.specs.Spans.{IsSeatAfter, IsSeatBefore};
 ghost use Rattle.ub_region.specs.Regions.{index_holding};
 ghost use Rattle.ub_tree.specs.Change.{IsSeatIn};
 ghost use Rattle.ub_tree.specs.Effects.{Searches};

@@ -1,12 +1,11 @@
 ghost use Rattle.std.specs.Prelude.{◌∷◌, [], List, OnOk};
 ghost use Rattle.ub_bigmin.specs.Box.{Corners};
 ghost use Rattle.ub_tree.specs.Handing.{Began, TakesThese};
-ghost use Rattle.ub_tree.specs.Spans.{Meets};
-ghost use Rattle.ub_tree.specs.declared.region.Region.{Region as RegionView};
+ghost use Rattle.ub_tree.specs.Spans.{Meets, Region as RegionView};
 
-use crate::region::Region;
 use std::alloc::AllocError;
 use ub_bigmin::ZBox;
+use ub_directory::Region;
 
 /// What is handed the regions of a tree that meet some boxes, one after the other, and makes something of them.
 ///

@@ -9,15 +9,15 @@ ghost use Rattle.ub_tree.specs.View.{IsSound, spans_of};
 
 use crate::fault::TreeFault;
 use crate::reading::take_region;
-use crate::region::{Region, first_of, region_in};
 use crate::room::Room;
 use std::alloc::Global;
 use std::marker::Model;
 use ub_bigmin::ZBox;
-use ub_directory::Directory;
+use ub_directory::{Directory, Region};
 use ub_page::RegionPage;
 use ub_store::{PageStore, Pager};
 use ub_table::Schema;
+use ub_writing::Mark;
 
 /// A UB-tree (Bayer 1997) over a store of pages: the rows of a table in regions, each on a page, in the order of their
 /// addresses.
@@ -31,8 +31,8 @@ pub struct Tree<S: PageStore> {
     // The number that the next row gets.
     pub(crate) next: u32,
     pub(crate) rows: u32,
-    // Whether the header in the store is marked unclean.
-    pub(crate) is_changed: bool,
+    // Due until a page is written: the tree has changed once it is written itself.
+    pub(crate) mark: Mark,
     pub(crate) is_failed: bool,
     pub(crate) pager: Pager<S>,
     // Room for a region that is changed: none before the first change takes it from memory, nor while a call has it in hand.
@@ -44,12 +44,13 @@ impl<S: PageStore> Model for Tree<S> {
     ghost use Rattle.std.specs.Prelude.{◌≡◌};
     ghost use Rattle.ub_tree.specs.View.{TreeView};
     ghost use Rattle.ub_tree.specs.Tree.{tree_view, IsTree};
+    ghost use Rattle.ub_writing.specs.Marks.{is_written};
 
     ghost Value = { TreeView };
 
-    ghost view = { λ t. tree_view t.schema t.directory.entries t.directory.chain t.next t.rows t.is_changed t.is_failed t.pager };
+    ghost view = { λ t. tree_view t.schema t.directory.entries t.directory.chain t.next t.rows (is_written t.mark) t.is_failed t.pager };
 
-    ghost invariant = { λ t. IsTree t.schema t.directory.last t.directory.entries t.directory.chain t.next t.rows };
+    ghost invariant = { λ t. IsTree t.schema t.directory.last t.directory.entries t.directory.chain t.next t.rows t.mark };
 }
 
 impl<S: PageStore> Tree<S> {
@@ -106,8 +107,8 @@ impl<S: PageStore> Tree<S> {
         if self.has_failed() {
             return Err(TreeFault::Failed);
         }
-        let found = self.directory.seek(&mut self.pager, z, first_of(after))?;
-        Ok(region_in(found))
+        let found = self.directory.seek(&mut self.pager, z, after)?;
+        Ok(found)
     }
 
     /// The first region later than `after`, if one is given, that meets one of the boxes; `None` exactly where there is
@@ -125,10 +126,8 @@ impl<S: PageStore> Tree<S> {
         if self.has_failed() {
             return Err(TreeFault::Failed);
         }
-        let found = self
-            .directory
-            .next_meeting(&mut self.pager, boxes, first_of(after))?;
-        Ok(region_in(found))
+        let found = self.directory.next_meeting(&mut self.pager, boxes, after)?;
+        Ok(found)
     }
 
     /// A region of no rows, for `read_region`. Takes no memory.

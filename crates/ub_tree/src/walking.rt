@@ -1,7 +1,7 @@
 ghost use Rattle.std.specs.Prelude.{List, OnOk};
 ghost use Rattle.ub_tree.specs.Handing.{AreMetBy, Began, TakesThese};
 ghost use Rattle.ub_tree.specs.Reading.{SearchesTree};
-ghost use Rattle.ub_tree.specs.declared.region.Region.{Region as RegionView};
+ghost use Rattle.ub_tree.specs.Spans.{Region as RegionView};
 
 use crate::read_fault::ReadFault;
 use crate::sink::RegionSink;

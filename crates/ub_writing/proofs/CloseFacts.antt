@@ -1,4 +1,4 @@
--- What closing a table writes.
+-- What closing a table writes, and the header that marks it as changed.
 use Rattle.std.proofs.Common.{Result, Ok, Err, OnErr, ◌⊎◌, ◌≡◌, ◌<◌, ◌≤◌, ◌+◌, ◌-◌, ◌^◌, inl, inr, ℕ, zero, suc, Bool, true, false, if◌then◌else◌, List, [], ◌∷◌, ◌++◌, Some, length, ◌∙◌, sym, subst, refl, arith, slice_get}
 use Rattle.std.specs.List.{AllByRecursion}
 use Rattle.ub_page.specs.Header.{IsHeader, header_page}
@@ -12,6 +12,7 @@ use Rattle.ub_directory.specs.Chain.{levels_for, AreOwn, HasDirectory}
 use Rattle.ub_directory.specs.Writing.{SameBut, KeepsBut, IsUntouched, IsOther, AreKept}
 use Rattle.ub_directory.proofs.Laws.{chain_kept, not_first, kept_after}
 use Rattle.ub_writing.specs.Closing.{IsClosed, IsUnclosed}
+use Rattle.ub_writing.specs.Marks.{IsMark}
 
 pub on_err : {T E : Type 0} (r : Result T E) (P : Type 0) → P → OnErr r P
 on_err (Ok x) P p = tt
@@ -89,6 +90,28 @@ header_in_range h fewer last some few some_root root levels name columns =
       root = root;
       names = (name, columns);
     }
+
+-- a header that a page can hold, but unclean
+pub unclean_of : (h : Header) → IsHeader h → IsMark h.schema (record h { unclean = true })
+unclean_of h is = record {
+  in_range = record {
+    numbers = record {
+      state = flag_small true;
+      counts = is.numbers.counts;
+      some_next = is.numbers.some_next;
+      last_next = is.numbers.last_next;
+      rows = is.numbers.rows;
+      regions = is.numbers.regions;
+      root = is.numbers.root;
+      levels = is.numbers.levels;
+    };
+    regions = is.regions;
+    root = is.root;
+    names = is.names;
+  };
+  unclean = refl;
+  schema_is = refl;
+}
 
 pub closed_of : (numbers : List ℕ) (entries : List Entry) (a b d : StoreFacts) (h : Header) → AreKept (0 ∷ numbers) a b → HasDirectory numbers entries h.root b.pages → KeepsBut (0 ∷ []) b d → IsHonest b
     → slice_get d.pages 0 ≡ Some (header_page h) → h.unclean ≡ false → h.regions ≡ length entries → 1 ≤ length entries → length entries < 2 ^ 32 → h.rows < h.next → h.next ≤ 16777216 → h.root < 2 ^ 32

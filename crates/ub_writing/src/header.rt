@@ -1,40 +1,26 @@
-ghost use Rattle.std.specs.Prelude.{◌+◌, ◌<◌, ◌≤◌};
 ghost use Rattle.std.specs.List.{AllByRecursion};
 ghost use Rattle.ub_table.specs.Name.{IsName};
-ghost use Rattle.ub_writing.specs.Marks.{IsMarkPage};
+ghost use Rattle.ub_writing.specs.Marks.{IsMark};
 
 use ub_directory::levels_of;
-use ub_page::{Draft, Header, Page, write_header};
-use ub_table::{MAX_ROW_NUMBER, Name, Schema};
+use ub_page::Header;
+use ub_table::{Name, Schema};
 
-/// Spells the page of a header that marks a table as changed. What it tells of the rows and of the directory means nothing.
-pub fn write_mark<'a>(
-    schema: &Schema,
-    next: u32,
-    rows: u32,
-    regions: u32,
-    root: u32,
-    draft: &'a mut Draft,
-) -> &'a Page
-    requires fewer { rows < next }
-    requires last_next { next ≤ MAX_ROW_NUMBER + 1 }
-    requires some { 1 ≤ regions }
-    requires root { 1 ≤ root }
-    ensures { IsMarkPage schema.now result.now }
+/// The header of a new table, which marks it as changed: one region, and a directory that begins on page 2.
+pub fn first_header(schema: &Schema) -> Header
+    ensures { IsMark schema.now result }
 {
     tell_names(schema.columns());
     tell_name(schema.name());
-    let header = Header {
+    Header {
         schema: schema.copy(),
-        next,
-        rows,
-        regions,
-        root,
-        levels: levels_of(regions as usize) as u32,
+        next: 1,
+        rows: 0,
+        regions: 1,
+        root: 2,
+        levels: levels_of(1) as u32,
         unclean: true,
-    };
-    write_header(&header, draft);
-    draft.page()
+    }
 }
 
 // Each of these is a name: it tells this to the proof alone.

@@ -7,10 +7,10 @@
 // Closing: the pages of the directory, the last one first, so that none names one that does not stand yet; a sync; the clean header;
 // and a sync. So the header that lasts names a directory that lasts.
 
-ghost use Rattle.std.specs.Prelude.{ℕ, List, ◌≡◌, ◌⊎◌, ◌↔◌, ◌+◌, ◌^◌, ◌<◌, ◌≤◌, [], ◌∷◌, length, slice_get, Some, IsTrue, IsNone, IfErr, OnOk, OnErr, IsErrOf, option_copied};
+ghost use Rattle.std.specs.Prelude.{ℕ, List, ◌≡◌, ◌⊎◌, ◌+◌, ◌^◌, ◌<◌, ◌≤◌, [], ◌∷◌, length, slice_get, Some, IfErr, OnOk, OnErr, IsErrOf};
 ghost use Rattle.ub_page.specs.Header.{header_page};
 ghost use Rattle.ub_page.specs.Region.{region_on, region_page};
-ghost use Rattle.ub_store.specs.Facts.{page_count, IsHonest};
+ghost use Rattle.ub_store.specs.Facts.{page_count, IsHonest, WritesAt};
 ghost use Rattle.ub_store.specs.View.{SameTrace};
 ghost use Rattle.ub_directory.specs.Chain.{AreOwn};
 ghost use Rattle.ub_directory.specs.Writing.{KeepsBut, IsSaved, IsSaveFault, WritesStore, put_store};
@@ -18,8 +18,10 @@ ghost use Rattle.ub_writing.specs.Closing.{IsClosed, IsUnclosed};
 ghost use Rattle.ub_writing.specs.Creation.{IsLaidOut, IsLayoutFault, IsUncreated, empty_region};
 ghost use Rattle.ub_writing.specs.Marks.{Marks};
 ghost use Rattle.ub_writing.specs.Puts.{Puts, PutsTwo};
+ghost use Rattle.ub_writing.specs.declared.mark.Mark.TheVariants.{Written};
 
-use crate::header::{tell_name, tell_names, write_mark};
+use crate::header::{first_header, tell_name, tell_names};
+use crate::mark::Mark;
 use ub_directory::{Directory, ORIGIN, levels_of};
 use ub_page::{Draft, Header, Page, write_header, write_region};
 use ub_store::{PageStore, Pager, StoreFault};
@@ -41,11 +43,11 @@ pub fn write_first_pages<S: PageStore>(
     ensures left { pager.new.store ≡ put_store result pager.old.store pager.new.store }
     ensures refused { IfErr result (IsLayoutFault pager.old.store) }
 {
+    pager.extend()?;
+    put_header(pager, &first_header(schema))?;
+    pager.extend()?;
+    pager.extend()?;
     let mut draft = Draft::new();
-    pager.extend()?;
-    pager.put(0, write_mark(schema, 1, 0, 1, 2, &mut draft))?;
-    pager.extend()?;
-    pager.extend()?;
     pager.put(1, write_empty(schema, &mut draft))?;
     Ok(())
 }
@@ -59,23 +61,20 @@ fn write_empty<'a>(schema: &Schema, draft: &'a mut Draft) -> &'a Page
     draft.page()
 }
 
-/// Puts two pages in their places, and before them the header, where one is given: then the table is marked as changed.
+/// Puts two pages in their places, and before them the mark, where it is due.
 ///
 /// Device comes where the store failed in this call, and NoPage where it has no such page.
 pub fn write_pages<S: PageStore>(
     pager: &mut Pager<S>,
-    is_changed: &mut bool,
-    header: Option<&Page>,
+    mark: &mut Mark,
     first: (u32, &Page),
     second: (u32, &Page),
 ) -> Result<(), StoreFault>
-    requires { IsNone header ↔ IsTrue is_changed.old }
     ensures put { OnOk result (PutsTwo first.entry.0 first.entry.1.now second.entry.0
         second.entry.1.now pager.old.store pager.new.store) }
-    ensures marks { Marks (option_copied header.entry)
-        (first.entry.0 ∷ second.entry.0 ∷ []) is_changed.old is_changed.new pager.old.store
+    ensures marks { Marks (first.entry.0 ∷ second.entry.0 ∷ []) mark.old mark.new pager.old.store
         pager.new.store }
-    ensures marked { OnOk result (IsTrue is_changed.new) }
+    ensures marked { OnOk result (mark.new ≡ Written) }
     ensures trace { SameTrace pager.old pager.new }
     ensures effect { WritesStore pager.old.store pager.new.store result }
     ensures missing { IsErrOf result StoreFault.NoPage → (page_count pager.old.store ≡ 0)
@@ -84,26 +83,22 @@ pub fn write_pages<S: PageStore>(
     ensures faults { IfErr result (λ fault. (fault ≡ StoreFault.Device)
         ⊎ (fault ≡ StoreFault.NoPage)) }
 {
-    write_page(pager, is_changed, header, first.0, first.1)?;
-    write_page(pager, is_changed, None, second.0, second.1)
+    write_page(pager, mark, first.0, first.1)?;
+    write_page(pager, mark, second.0, second.1)
 }
 
-/// Puts a page in the place of that of this number, and before it the header, where one is given: then the table is marked
-/// as changed.
+/// Puts a page in the place of that of this number, and before it the mark, where it is due.
 ///
 /// Device comes where the store failed in this call, and NoPage where it has no such page.
 pub fn write_page<S: PageStore>(
     pager: &mut Pager<S>,
-    is_changed: &mut bool,
-    header: Option<&Page>,
+    mark: &mut Mark,
     n: u32,
     page: &Page,
 ) -> Result<(), StoreFault>
-    requires { IsNone header ↔ IsTrue is_changed.old }
     ensures put { OnOk result (Puts n page.now pager.old.store pager.new.store) }
-    ensures marks { Marks (option_copied header.entry)
-        (n ∷ []) is_changed.old is_changed.new pager.old.store pager.new.store }
-    ensures marked { OnOk result (IsTrue is_changed.new) }
+    ensures marks { Marks (n ∷ []) mark.old mark.new pager.old.store pager.new.store }
+    ensures marked { OnOk result (mark.new ≡ Written) }
     ensures trace { SameTrace pager.old pager.new }
     ensures effect { WritesStore pager.old.store pager.new.store result }
     ensures missing { IsErrOf result StoreFault.NoPage → (page_count pager.old.store ≡ 0)
@@ -111,9 +106,9 @@ pub fn write_page<S: PageStore>(
     ensures faults { IfErr result (λ fault. (fault ≡ StoreFault.Device)
         ⊎ (fault ≡ StoreFault.NoPage)) }
 {
-    if let Some(header) = header {
-        pager.put(0, header)?;
-        *is_changed = true;
+    if let Mark::Due(first) = mark {
+        put_header(pager, first)?;
+        *mark = Mark::Written;
     }
     pager.put(n, page)
 }
@@ -171,8 +166,20 @@ fn write_clean<S: PageStore>(pager: &mut Pager<S>, header: &Header) -> Result<()
     ensures faults { IfErr result (λ fault. (fault ≡ StoreFault.Device)
         ⊎ (fault ≡ StoreFault.NoPage)) }
 {
+    put_header(pager, header)?;
+    pager.sync()
+}
+
+// Puts the page of a header in the first place.
+fn put_header<S: PageStore>(pager: &mut Pager<S>, header: &Header) -> Result<(), StoreFault>
+    ensures trace { SameTrace pager.old pager.new }
+    ensures there { OnOk result (0 < page_count pager.old.store) }
+    ensures missing { IsErrOf result StoreFault.NoPage → page_count pager.old.store ≤ 0 }
+    ensures faults { IfErr result (λ fault. (fault ≡ StoreFault.Device)
+        ⊎ (fault ≡ StoreFault.NoPage)) }
+    ensures effect { WritesAt 0 (header_page header.now) pager.old.store pager.new.store result }
+{
     let mut draft = Draft::new();
     write_header(header, &mut draft);
-    pager.put(0, draft.page())?;
-    pager.sync()
+    pager.put(0, draft.page())
 }

@@ -11,7 +11,7 @@ use Rattle.ub_tetris.specs.declared.course.Course.{Course}
 use Rattle.ub_tetris.specs.declared.event.Awaited.{Awaited}
 use Rattle.ub_tree.specs.Handing.{AreMetBy}
 use Rattle.ub_tree.specs.View.{TreeView}
-use Rattle.ub_tree.specs.declared.region.Region.{Region}
+use Rattle.ub_tree.specs.Spans.{Region}
 
 -- each has its event value
 abbrev pub AreValued : List Corners → Course → List Awaited → Type 0

@@ -5,7 +5,7 @@ use Rattle.ub_store.specs.Facts.{StoreFacts}
 use Rattle.ub_tree.specs.Change.{IsInserted}
 use Rattle.ub_load.specs.LoadedTable.{row_of}
 use Rattle.ub_load.specs.Refusals.{content_refusal}
-use Rattle.ub_load.proofs.PutFacts.{accepted_row, number_is}
+use Rattle.ub_load.proofs.PutFacts.{accepted_row, accepted_values, number_is}
 use Rattle.ub_load.proofs.RefusalFacts.{record_is_fine, record_past_last, record_with_bad_content}
 use Rattle.ub_load.proofs.ToldFacts.{content_is_of_text, frame_keeps, told_first, told_put}
 use Rattle.ub_load.proofs.table.load_record.Goals as goal
@@ -22,6 +22,15 @@ returns-in_err-row-clause-refused g c =
     rw (p.1, p.2)
     (told_first _ _ _ c.in_err-row.field-0.0 (content_is_of_text s.dims (length s.columns) (c.args.number, fields_of c.args.fields.now) c.in_err-row.field-0.0 bad)
     (record_with_bad_content s.dims (length s.columns) (c.args.number, fields_of c.args.fields.now) c.in_err-row.field-0.0 bad))
+
+pub put_row-requires-clause-values : goal.put_row-requires-clause-values
+put_row-requires-clause-values g c =
+    let s : Schema = c.args.tree.now.schema in
+    let dims : c.dims-dims.result ≡ s.dims = c.dims-dims.ensures.dims ∙ ap (λ (t : Schema). t.dims) c.schema.ensures in
+    let width : length c.columns-width.result.now ≡ length s.columns = ap length (c.columns-width.ensures.columns ∙ ap (λ (t : Schema). t.columns) c.schema-2.ensures) in
+    let good : content_refusal s.dims (length s.columns) (c.args.number, fields_of c.args.fields.now) ≡ None = rw (dims, width) at c.in_ok-row.ensures.accepted in
+    let is : c.in_ok-row.row ≡ row_of s.dims (c.args.number, fields_of c.args.fields.now) = c.in_ok-row.ensures.row ∙ ap (λ (d : ℕ). row_of d (c.args.number, fields_of c.args.fields.now)) dims in
+    rw is (accepted_values s.dims (length s.columns) c.args.number (fields_of c.args.fields.now) s.counts.few_dims s.counts.covers_dims s.counts.few_measures good)
 
 pub returns-in_err-put_row-clause-refused : goal.returns-in_err-put_row-clause-refused
 returns-in_err-put_row-clause-refused g c =
@@ -56,7 +65,7 @@ returns-clause-taken g c =
       accepted = record_is_fine s.dims (length s.columns) (c.args.number, fields_of c.args.fields.now) number good;
       row = made;
       inserted = λ sound. subst (λ (r : Row). IsInserted r c.args.tree.now c.put_row.new.tree) is
-          (c.in_ok-put_row.ensures.inserted sound (next ∙ number_is c.dims-dims.result c.args.number (fields_of c.args.fields.now) c.in_ok-row.row row) (rw is made));
+          (c.in_ok-put_row.ensures.inserted sound (next ∙ number_is c.dims-dims.result c.args.number (fields_of c.args.fields.now) c.in_ok-row.row row));
       next = counted.1;
       schema = kept.0;
       trace = kept.1;

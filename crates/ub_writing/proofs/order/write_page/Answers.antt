@@ -2,8 +2,8 @@ use Rattle.std.proofs.Common.{arith, rules}
 use Rattle.std.proofs.lemmas.Grind.{elements}
 use Rattle.ub_writing.proofs.order.write_page.Goals as goal
 
-pub returns-in_err-put-clause-marks : goal.returns-in_err-put-clause-marks
-returns-in_err-put-clause-marks g c = search rules
+pub returns-in_err-put_header-clause-marks : goal.returns-in_err-put_header-clause-marks
+returns-in_err-put_header-clause-marks g c = search rules
 
 pub returns-clause-put : goal.returns-clause-put
 returns-clause-put g c = grind (arith, elements) steps 2000000

@@ -1,5 +1,5 @@
 use Rattle.std.proofs.Common.{◌-◌, ◌≤◌, length}
-use Rattle.ub_directory.specs.Slots.{first_keys}
+use Rattle.ub_directory.specs.Spans.{first_keys}
 use Rattle.ub_directory.proofs.IndexFacts.{IsParted}
 use Rattle.ub_directory.proofs.places.Places.count_up_to.Given as goal
 

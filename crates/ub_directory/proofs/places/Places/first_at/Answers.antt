@@ -1,6 +1,6 @@
 use Rattle.std.proofs.Common.{◌≡◌, ◌∙◌, Some, arith, length, refl, slice_get, sym}
 use Rattle.std.proofs.lemmas.Option.{slice_get_past, slice_get_read}
-use Rattle.ub_directory.specs.Slots.{first_keys}
+use Rattle.ub_directory.specs.Spans.{first_keys}
 use Rattle.ub_directory.proofs.IndexFacts.{first_at, length-first_keys}
 use Rattle.ub_directory.proofs.places.Places.first_at.Goals as goal
 

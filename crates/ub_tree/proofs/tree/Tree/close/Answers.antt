@@ -5,25 +5,26 @@ use Rattle.ub_tree.specs.Tree.{known_pages}
 use Rattle.ub_tree.proofs.TreeFacts.{entries_back}
 use Rattle.ub_store.specs.Facts.{StoreFacts}
 use Rattle.ub_tree.proofs.CloseFacts.{sound_pages, sound_unclosed, close_refused}
+use Rattle.ub_writing.specs.Marks.{is_written}
 use Rattle.ub_tree.proofs.tree.Tree.close.Goals as goal
 
 pub returns-in-Ok-clause-closed : goal.returns-in-Ok-clause-closed
 returns-in-Ok-clause-closed g c =
     let t = c.self.inside in
     rw (c.into_store-in-Ok.ensures, ← c.self.view_is)
-    (sound_pages t.schema t.directory.entries t.directory.chain t.next t.rows t.is_changed t.is_failed t.pager c.write_table.new.pager.store (ap (λ (s : StoreFacts). s.honest) c.write_table.ensures.same) c.in-Ok.ensures.closed)
+    (sound_pages t.schema t.directory.entries t.directory.chain t.next t.rows (is_written t.mark) t.is_failed t.pager c.write_table.new.pager.store (ap (λ (s : StoreFacts). s.honest) c.write_table.ensures.same) c.in-Ok.ensures.closed)
 
 pub returns-clause-first : goal.returns-clause-first
 returns-clause-first g c =
     let t = c.self.inside in
     rw (c.into_store-in-Err.ensures, ← c.self.view_is)
-    (sound_unclosed t.schema t.directory.entries t.directory.chain t.next t.rows t.is_changed t.is_failed t.pager c.write_table.new.pager.store c.in-Err.ensures.left)
+    (sound_unclosed t.schema t.directory.entries t.directory.chain t.next t.rows (is_written t.mark) t.is_failed t.pager c.write_table.new.pager.store c.in-Err.ensures.left)
 
 pub returns-clause-refused : goal.returns-clause-refused
 returns-clause-refused g c =
     let t = c.self.inside in
     rw (c.into_store-in-Err.ensures, c.from.ensures, ← c.self.view_is)
-    (close_refused t.schema t.directory.entries t.directory.chain t.next t.rows t.is_changed t.is_failed t.pager c.write_table.new.pager.store c.in-Err.fault c.in-Err.ensures.refused)
+    (close_refused t.schema t.directory.entries t.directory.chain t.next t.rows (is_written t.mark) t.is_failed t.pager c.write_table.new.pager.store c.in-Err.fault c.in-Err.ensures.refused)
 
 pub returns-in-Ok-clause-unchanged : goal.returns-in-Ok-clause-unchanged
 returns-in-Ok-clause-unchanged g c = search rules

@@ -1,7 +1,7 @@
 use Rattle.std.proofs.Common.{List}
 use Rattle.ub_tree.proofs.MeetFacts.{Walks}
 use Rattle.ub_tree.specs.Handing.{TakesThese}
-use Rattle.ub_tree.specs.declared.region.Region.{Region as RegionView}
+use Rattle.ub_tree.specs.Spans.{Region as RegionView}
 use Rattle.ub_tree.proofs.tree.Tree.for_each_meeting.Given as goal
 
 abbrev pub invariant-loop-turn : goal.invariant-loop-turn

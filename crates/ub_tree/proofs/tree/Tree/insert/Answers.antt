@@ -1,31 +1,36 @@
-use Rattle.std.proofs.Common.{rules, ap, arith, subst, sym}
-use Rattle.ub_store.specs.Facts.{IsHonest}
-use Rattle.ub_table.specs.Region.{key_of}
-use Rattle.ub_tree.specs.Change.{row_of}
-use Rattle.ub_tree.specs.Holding.{AnswersKey}
+use Rattle.std.proofs.Common.{◌≡◌, ◌+◌, ◌∙◌, OnOk, false, ap, arith, subst}
+use Rattle.ub_table.specs.Region.{key_of, measures_of}
+use Rattle.ub_table.specs.declared.row.Row.{Row}
+use Rattle.ub_table.specs.declared.schema.Schema.{Schema}
+use Rattle.ub_tree.specs.Change.{numbered, row_of}
+use Rattle.ub_tree.specs.Holding.{AnswersRow, index_for}
+use Rattle.ub_tree.specs.Others.{GrowsAt}
 use Rattle.ub_tree.specs.View.{TreeView}
-use Rattle.ub_tree.proofs.WriteFacts.{searched_by}
+use Rattle.ub_tree.proofs.GrowFacts.{inserted_as, new_values, words_of}
 use Rattle.ub_tree.proofs.tree.Tree.insert.Goals as goal
 
-pub returns-in_err-room-clause-effect : goal.returns-in_err-room-clause-effect
-returns-in_err-room-clause-effect g c =
-    searched_by c.from_residual.result c.in_err-room.field-0.0 c.args.self.now c.take_room.new.self c.from_residual.ensures.1 c.in_err-room.ensures.effect
+pub insert_row-requires : goal.insert_row-requires
+insert_row-requires g c =
+    let s : Schema = c.args.self.now.schema in
+    let few = s.counts.few_measures in
+    let covers = s.counts.covers_dims in
+    rw c.row_of-row.ensures.row (new_values s.dims (measures_of s) c.self.inside.next c.args.dims.now c.args.measures.now c.requires.dims c.requires.measures s.counts.few_dims (omega arith)
+    (words_of c.args.dims.now c.type_inv.dims) c.row_of-row.ensures.words)
 
-pub returns-then-self-eq-NEXT_END-clause-failed : goal.returns-then-self-eq-NEXT_END-clause-failed
-returns-then-self-eq-NEXT_END-clause-failed g c = search rules
+pub returns-clause-inserted : goal.returns-clause-inserted
+returns-clause-inserted g c = λ sound.
+    let is = c.row_of-row.ensures.row ∙ ap (λ (v : TreeView). row_of v.next c.args.dims.now c.args.measures.now) c.self.view_is in
+    inserted_as c.insert_row.result c.row_of-row.result c.args.dims.now c.args.measures.now c.args.self.now c.insert_row.new.self is (c.insert_row.ensures.inserted sound) c.insert_row.ensures.number
 
-pub returns-in_err-room-clause-failed : goal.returns-in_err-room-clause-failed
-returns-in_err-room-clause-failed g c = search rules
-
-pub returns-clause-failed : goal.returns-clause-failed
-returns-clause-failed g c = search rules
-
-pub insert_within-inserted-requires-clause-able : goal.insert_within-inserted-requires-clause-able
-insert_within-inserted-requires-clause-able g c = search rules
+pub returns-clause-counted : goal.returns-clause-counted
+returns-clause-counted g c =
+    let a = c.args.self.now in
+    let b = c.insert_row.new.self in
+    let is = c.row_of-row.ensures.row ∙ ap (λ (v : TreeView). row_of v.next c.args.dims.now c.args.measures.now) c.self.view_is in
+    subst (λ (row : Row). OnOk c.insert_row.result ((b.next ≡ a.next + 1) × (b.rows ≡ a.rows + 1) × (b.is_failed ≡ false) × GrowsAt (index_for a (key_of a.schema.dims (numbered a.next row))) a b)) is c.insert_row.ensures.counted
 
 pub returns-clause-refused : goal.returns-clause-refused
-returns-clause-refused g c = λ working. (
-  λ last. absurd (let differs = c.if-self-eq-NEXT_END.false in let same = ap (λ (v : TreeView). v.next) c.self.view_is in omega arith),
-  λ not_last honest. subst (λ (v : TreeView). AnswersKey v (key_of v.schema.dims (row_of v.next c.args.dims.now c.args.measures.now)) c.insert_within-inserted.result) c.in_ok-room.ensures.same
-      (c.insert_within-inserted.ensures.refused (subst (λ (v : TreeView). IsHonest v.store) (sym c.in_ok-room.ensures.same) honest)),
-)
+returns-clause-refused g c =
+    let a = c.args.self.now in
+    let is = c.row_of-row.ensures.row ∙ ap (λ (v : TreeView). row_of v.next c.args.dims.now c.args.measures.now) c.self.view_is in
+    subst (λ (row : Row). a.is_failed ≡ false → AnswersRow a (key_of a.schema.dims (numbered a.next row)) c.insert_row.result) is c.insert_row.ensures.refused

@@ -9,7 +9,7 @@ use Rattle.ub_tree.proofs.tree.Tree.open.Goals as goal
 pub returns-in-Ok-read-clause-opened : goal.returns-in-Ok-read-clause-opened
 returns-in-Ok-read-clause-opened g c =
     let t = c.in-Ok-read in
-    opened (g.S.PageStore.facts c.args.store) t.header t.directory.chain t.directory.entries c.in-Ok.pager c.read.new.pager c.in-Ok.ensures.made t.ensures.whole t.ensures.effect.same
+    rw c.due-mark.ensures.due (opened (g.S.PageStore.facts c.args.store) t.header t.directory.chain t.directory.entries c.in-Ok.pager c.read.new.pager c.in-Ok.ensures.made t.ensures.whole t.ensures.effect.same)
 
 pub returns-in-Ok-read-clause-sound : goal.returns-in-Ok-read-clause-sound
 returns-in-Ok-read-clause-sound g c =
@@ -17,7 +17,7 @@ returns-in-Ok-read-clause-sound g c =
     let count = c.pages-pages.ensures in
     let fits = c.pages-pages.type_inv in
     let small : page_count (g.S.PageStore.facts c.args.store) < 2 ^ 32 = omega arith in
-    sound_by (g.S.PageStore.facts c.args.store) small c.in-Ok.pager c.in-Ok.ensures.made t.header t.directory.chain t.directory.entries c.read.new.pager t.ensures.whole t.ensures.effect.same
+    rw c.due-mark.ensures.due (sound_by (g.S.PageStore.facts c.args.store) small c.in-Ok.pager c.in-Ok.ensures.made t.header t.directory.chain t.directory.entries c.read.new.pager t.ensures.whole t.ensures.effect.same)
 
 pub returns-in-Err-read-clause-exact : goal.returns-in-Err-read-clause-exact
 returns-in-Err-read-clause-exact g c =

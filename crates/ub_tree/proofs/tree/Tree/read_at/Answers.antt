@@ -11,28 +11,29 @@ use Rattle.ub_tree.proofs.TreeFacts.{entries_back, contained_at, placed_at, rows
 use Rattle.ub_page.specs.declared.directory.Entry.{Entry}
 use Rattle.ub_tree.specs.Effects.{IsRegionRefused}
 use Rattle.ub_tree.proofs.RoomFacts.{rows_at_index}
+use Rattle.ub_writing.specs.Marks.{is_written}
 use Rattle.ub_tree.proofs.tree.Tree.read_at.Goals as goal
 
 pub returns-in_err-bring-clause-effect : goal.returns-in_err-bring-clause-effect
 returns-in_err-bring-clause-effect g c =
     let t = c.self.inside in
-    let stands = seated t.schema t.directory.entries t.directory.chain t.next t.rows t.is_changed t.is_failed t.pager c.args.self.now c.args.seat.now c.self.view_is c.requires in
+    let stands = seated t.schema t.directory.entries t.directory.chain t.next t.rows (is_written t.mark) t.is_failed t.pager c.args.self.now c.args.seat.now c.self.view_is c.requires in
     let e : Entry = record { first = c.args.seat.now.first; page = c.page-number.result } in
     let at : slice_get t.directory.entries c.args.seat.now.index ≡ Some e = rw c.page-number.ensures stands.entry in
-    let old : TreeView = tree_view t.schema t.directory.entries t.directory.chain t.next t.rows t.is_changed t.is_failed t.pager in
+    let old : TreeView = tree_view t.schema t.directory.entries t.directory.chain t.next t.rows (is_written t.mark) t.is_failed t.pager in
     rw (← c.self.view_is) (record {
-      same = searched_tree c.from_residual.result t.schema t.directory.entries t.directory.chain t.next t.rows t.is_changed t.is_failed t.pager c.bring.new.self
+      same = searched_tree c.from_residual.result t.schema t.directory.entries t.directory.chain t.next t.rows (is_written t.mark) t.is_failed t.pager c.bring.new.self
           (read_there c.from_residual.result (Unit {0}) c.in_err-bring.field-0.0 t.pager.store c.bring.new.self.store c.from_residual.ensures.1 c.in_err-bring.ensures.effect.same) c.in_err-bring.ensures.trace;
       faults = store_refused old c.from_residual.result c.in_err-bring.field-0.0 c.from_residual.ensures.1
           c.in_err-bring.ensures.effect.device
           (λ no_page. (
             (λ sound.
-                let k = tree_entry_known t.schema t.directory.entries t.directory.chain t.next t.rows t.is_changed t.is_failed t.pager c.args.seat.now.index e sound at in
+                let k = tree_entry_known t.schema t.directory.entries t.directory.chain t.next t.rows (is_written t.mark) t.is_failed t.pager c.args.seat.now.index e sound at in
                 let known = known_is t.pager.store sound.honest in
                 let there : e.page < length t.pager.store.pages = slice_get_within t.pager.store.pages e.page (region_page t.schema (placed_at t.schema t.pager.store.pages e).region) (rw known at k.spelled) in
                 let past = c.in_err-bring.ensures.missing no_page in
                 omega arith),
-            missing_there t.schema t.directory.entries t.directory.chain t.next t.rows t.is_changed t.is_failed t.pager e (contained_at (λ (_ : Entry). Unit {0}) t.directory.entries c.args.seat.now.index e at) (c.in_err-bring.ensures.missing no_page),
+            missing_there t.schema t.directory.entries t.directory.chain t.next t.rows (is_written t.mark) t.is_failed t.pager e (contained_at (λ (_ : Entry). Unit {0}) t.directory.entries c.args.seat.now.index e at) (c.in_err-bring.ensures.missing no_page),
           ))
           c.in_err-bring.ensures.no_size;
     })
@@ -40,16 +41,16 @@ returns-in_err-bring-clause-effect g c =
 pub returns-in_err-take_region-clause-effect : goal.returns-in_err-take_region-clause-effect
 returns-in_err-take_region-clause-effect g c =
     let t = c.self.inside in
-    let stands = seated t.schema t.directory.entries t.directory.chain t.next t.rows t.is_changed t.is_failed t.pager c.args.self.now c.args.seat.now c.self.view_is c.requires in
+    let stands = seated t.schema t.directory.entries t.directory.chain t.next t.rows (is_written t.mark) t.is_failed t.pager c.args.self.now c.args.seat.now c.self.view_is c.requires in
     let e : Entry = record { first = c.first.result; page = c.page-number.result } in
     let at : slice_get t.directory.entries c.args.seat.now.index ≡ Some e = rw (c.first.ensures, c.page-number.ensures) stands.entry in
-    let old : TreeView = tree_view t.schema t.directory.entries t.directory.chain t.next t.rows t.is_changed t.is_failed t.pager in
+    let old : TreeView = tree_view t.schema t.directory.entries t.directory.chain t.next t.rows (is_written t.mark) t.is_failed t.pager in
     rw (← c.self.view_is) (record {
-      same = searched_tree c.from_residual-in_err-take_region.result t.schema t.directory.entries t.directory.chain t.next t.rows t.is_changed t.is_failed t.pager c.bring.new.self
+      same = searched_tree c.from_residual-in_err-take_region.result t.schema t.directory.entries t.directory.chain t.next t.rows (is_written t.mark) t.is_failed t.pager c.bring.new.self
           (read_page_by (IsRegionRefused t.schema e.first c.next.result c.cached.result.now) c.from_residual-in_err-take_region.result c.in_err-take_region.field-0.0 e.page t.pager.store c.bring.new.self.store c.from_residual-in_err-take_region.ensures.1 c.in_err-take_region.ensures.refused c.in_ok-bring.ensures.effect.same) c.in_ok-bring.ensures.trace;
       faults = page_refused_by (IsRegionRefused t.schema e.first c.next.result c.cached.result.now) c.from_residual-in_err-take_region.result c.in_err-take_region.field-0.0 e.page old c.from_residual-in_err-take_region.ensures.1 c.in_err-take_region.ensures.refused
           (λ sound.
-          let k = tree_entry_known t.schema t.directory.entries t.directory.chain t.next t.rows t.is_changed t.is_failed t.pager c.args.seat.now.index e sound at in
+          let k = tree_entry_known t.schema t.directory.entries t.directory.chain t.next t.rows (is_written t.mark) t.is_failed t.pager c.args.seat.now.index e sound at in
           let known = known_is t.pager.store sound.honest in
           let region : Region = (placed_at t.schema (known_pages t.pager.store) e).region in
           let at_page : slice_get (known_pages t.pager.store) e.page ≡ Some c.cached.result.now = rw known (page_still _ _ _ _ _ c.in_ok-bring.ensures.effect c.cached.ensures.page sound.honest) in
@@ -58,14 +59,14 @@ returns-in_err-take_region-clause-effect g c =
           let good = c.take_region.ensures.exact region k.region page (rw (c.next.ensures, stands.next) k.held) in
           let bad = rw c.in_err-take_region.was at good.0 in
           cc)
-          (λ f refused. refused_there t.schema t.directory.entries t.directory.chain t.next t.rows t.is_changed t.is_failed t.pager c.args.seat.now.index e e.page c.cached.result.now f
+          (λ f refused. refused_there t.schema t.directory.entries t.directory.chain t.next t.rows (is_written t.mark) t.is_failed t.pager c.args.seat.now.index e e.page c.cached.result.now f
           at refl (page_still _ _ _ _ _ c.in_ok-bring.ensures.effect c.cached.ensures.page) (rw (← stands.next, ← c.next.ensures) refused));
     })
 
 pub returns-clause-rows : goal.returns-clause-rows
 returns-clause-rows g c =
     let t = c.self.inside in
-    let stands = seated t.schema t.directory.entries t.directory.chain t.next t.rows t.is_changed t.is_failed t.pager c.args.self.now c.args.seat.now c.self.view_is c.requires in
+    let stands = seated t.schema t.directory.entries t.directory.chain t.next t.rows (is_written t.mark) t.is_failed t.pager c.args.self.now c.args.seat.now c.self.view_is c.requires in
     let e : Entry = record { first = c.first.result; page = c.page-number.result } in
     let at : slice_get t.directory.entries c.args.seat.now.index ≡ Some e = rw (c.first.ensures, c.page-number.ensures) stands.entry in
     rw (← c.self.view_is) (λ honest p there.
@@ -76,7 +77,7 @@ returns-clause-rows g c =
 pub returns-clause-at : goal.returns-clause-at
 returns-clause-at g c =
     let t = c.self.inside in
-    let stands = seated t.schema t.directory.entries t.directory.chain t.next t.rows t.is_changed t.is_failed t.pager c.args.self.now c.args.seat.now c.self.view_is c.requires in
+    let stands = seated t.schema t.directory.entries t.directory.chain t.next t.rows (is_written t.mark) t.is_failed t.pager c.args.self.now c.args.seat.now c.self.view_is c.requires in
     let e : Entry = record { first = c.first.result; page = c.page-number.result } in
     let at : slice_get t.directory.entries c.args.seat.now.index ≡ Some e = rw (c.first.ensures, c.page-number.ensures) stands.entry in
     rw (← c.self.view_is, entries_back t.schema (known_pages t.pager.store) t.directory.entries)

@@ -15,6 +15,7 @@ use Rattle.ub_tree.proofs.CallFacts.{same_seat, same_there}
 use Rattle.ub_tree.proofs.HoldingFacts.{no_answer, removal_answers, removal_fault, unread_removal}
 use Rattle.ub_tree.proofs.TreeFacts.{length-placed}
 use Rattle.ub_tree.proofs.WriteFacts.{counted_anew, left_by, nothing_changed, searched_by, then_changed, unchanged}
+use Rattle.ub_writing.specs.Marks.{is_written}
 use Rattle.ub_tree.proofs.tree.Tree.remove_within.Goals as goal
 
 pub returns-then-not-remove-clause-removed : goal.returns-then-not-remove-clause-removed
@@ -73,7 +74,7 @@ pub returns-clause-effect : goal.returns-clause-effect
 returns-clause-effect g c =
     let u = c.self-2.inside in
     let mid = c.settle.new.self in
-    let d : TreeView = tree_view u.schema u.directory.entries u.directory.chain u.next (u.rows - 1) u.is_changed u.is_failed u.pager in
+    let d : TreeView = tree_view u.schema u.directory.entries u.directory.chain u.next (u.rows - 1) (is_written u.mark) u.is_failed u.pager in
     counted_anew {T = Unit {0}} {U = Bool} tt _ c.args.self.now mid d mid.placed (mid.rows - 1) mid.next (ap (λ (v : TreeView). record v { rows = v.rows - 1 }) c.self-2.view_is)
     (then_changed {T = Unit {0}} _ c.args.self.now c.rows_at.new.self mid (c.in_ok-rows_at.ensures.effect.same ∙ c.in_ok-seat.ensures.effect.same) c.in_ok-settle.ensures.effect)
 
@@ -99,7 +100,7 @@ returns-clause-removed g c =
     let left : c.remove.new.self ≡ remove_row b.schema.dims key rows = c.remove.ensures.rows ∙ ap (λ (d : ℕ). remove_row d key rows) dims_b in
     let after = c.settle.new.self in
     let u = c.self-2.inside in
-    let d : TreeView = tree_view u.schema u.directory.entries u.directory.chain u.next (u.rows - 1) u.is_changed u.is_failed u.pager in
+    let d : TreeView = tree_view u.schema u.directory.entries u.directory.chain u.next (u.rows - 1) (is_written u.mark) u.is_failed u.pager in
     let few : length after.placed < 2 ^ 32 = (let most = c.self-2.invariant.few in subst (λ (v : TreeView). length v.placed < 2 ^ 32) c.self-2.view_is
     (let long = length-placed u.schema (known_pages u.pager.store) u.directory.entries in omega arith)) in
     shrunk a b after d key c.in_ok-seat.seat.index rows held same found c.in_ok-settle.ensures.same.same c.in_ok-settle.ensures.effect.marked.marked few
@@ -161,7 +162,7 @@ returns-clause-counted g c = λ _.
     let same : c.rows_at.new.self ≡ a = c.in_ok-rows_at.ensures.effect.same ∙ c.in_ok-seat.ensures.effect.same in
     let after = c.settle.new.self in
     let u = c.self-2.inside in
-    let d : TreeView = tree_view u.schema u.directory.entries u.directory.chain u.next (u.rows - 1) u.is_changed u.is_failed u.pager in
+    let d : TreeView = tree_view u.schema u.directory.entries u.directory.chain u.next (u.rows - 1) (is_written u.mark) u.is_failed u.pager in
     let shrinks = shrinks_by a c.rows_at.new.self after d same (ap (λ (v : TreeView). v.placed) c.self-2.view_is) (ap (λ (v : TreeView). v.store) c.self-2.view_is) c.in_ok-seat.seat.index c.in_ok-settle.ensures.same.shrunk in
     let stored = c.in_ok-settle.ensures.same.same in
     let rows : u.rows ≡ a.rows = ap (λ (v : TreeView). v.rows) c.self-2.view_is ∙ ap (λ (v : TreeView). v.rows) stored ∙ ap (λ (v : TreeView). v.rows) same in

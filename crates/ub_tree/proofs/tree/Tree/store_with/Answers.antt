@@ -44,4 +44,4 @@ returns-clause-written g c = λ stored p there all.
     ∙ ap (λ (rs : List Row). record { first = c.args.seat.now.first; rows = rs }) (sym made) in
     let page : padded c.write.new.draft ≡ region_page b.schema (record { first = c.args.seat.now.first; rows = new }) =
     c.write.ensures ∙ ap (λ (v : TreeView). region_page v.schema c.insert_at.new.self.region) c.self.view_is ∙ ap (region_page b.schema) region in
-    one_stored b c.put_page.new.self index p new c.put_page.result fits (c.put_page.ensures.written stored p new there (one_region b c.put_page.new.self index p new fits all) page)
+    one_stored b c.put_page.new.self index p new c.put_page.result fits (c.put_page.ensures.written stored p new there (one_region b c.put_page.new.self index p new fits all) (c.page.ensures ∙ page))

@@ -2,7 +2,7 @@
 use Rattle.std.specs.Prelude.{◌≡◌, ◌+◌, ◌≤◌, ◌<◌, ℕ, suc, List, [], ◌∷◌, map, Option, Some, None, IfSome, All, IsTrue, length, slice_get}
 use Rattle.ub_bigmin.specs.Box.{Corners, HoldsAny}
 use Rattle.ub_directory.specs.View.{SeatView}
-use Rattle.ub_directory.specs.declared.slot.Slot.{Slot}
+use Rattle.ub_directory.specs.declared.region.Region.{Region}
 use Rattle.ub_page.specs.declared.directory.Entry.{Entry}
 use Rattle.ub_region.specs.Spans.{span_end}
 use Rattle.ub_region.specs.Those.{FirstBy}
@@ -33,26 +33,26 @@ abbrev pub IsSeatBefore : List Entry → SeatView → Option SeatView → Type 0
 IsSeatBefore entries seat None = seat.index ≡ 0
 IsSeatBefore entries seat (Some before) = IsSeat entries before × (seat.index ≡ before.index + 1)
 
--- the slots of these entries, each with its region's span, in a space that ends with this address
-abbrev pub slots_of : ℕ → List Entry → List Slot
-slots_of last [] = []
-slots_of last (entry ∷ entries) =
+-- the regions of these entries, each with its span, in a space that ends with this address
+abbrev pub regions_of : ℕ → List Entry → List Region
+regions_of last [] = []
+regions_of last (entry ∷ entries) =
     record {
       first = entry.first;
       next = slice_get (first_keys entries) 0;
       from = entry.first.z;
       to = span_end last (first_keys entries);
       page = entry.page;
-    } ∷ slots_of last entries
+    } ∷ regions_of last entries
 
--- some address of the span lies in one of the boxes
-abbrev pub Meets : List Corners → Slot → Type 0
-Meets boxes slot = (z : ℕ) × HoldsAny boxes z × (slot.from ≤ z) × (z ≤ slot.to)
+-- some address of the region's span lies in one of the boxes
+abbrev pub Meets : List Corners → Region → Type 0
+Meets boxes region = (z : ℕ) × HoldsAny boxes z × (region.from ≤ z) × (z ≤ region.to)
 
--- the region begins after a key, where one is given
-abbrev pub IsLater : Option Key → Slot → Type 0
-IsLater after slot = IfSome after (λ key. IsBefore key slot.first)
+-- the region begins after another one, where one is given
+abbrev pub IsLater : Option Region → Region → Type 0
+IsLater after region = IfSome after (λ other. IsBefore other.first region.first)
 
--- the first of the slots that have a property, or none has it
-abbrev pub First : (Slot → Type 0) → List Slot → Option Slot → Type 0
-First P slots found = FirstBy (λ slot. slot.first) P slots found
+-- r is the first of the regions that have a property, in the order of their first keys; or none has it
+abbrev pub First : (Region → Type 0) → List Region → Option Region → Type 0
+First P regions found = FirstBy (λ region. region.first) P regions found

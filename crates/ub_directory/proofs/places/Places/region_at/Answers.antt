@@ -1,14 +1,14 @@
 use Rattle.std.proofs.Common.{◌≡◌, ◌+◌, ◌∙◌, drop, sym}
 use Rattle.ub_region.specs.Spans.{span_end}
-use Rattle.ub_directory.specs.Slots.{first_keys}
-use Rattle.ub_directory.proofs.SpanFacts.{slot_found, no_slot, end_before_next, end_at_last}
-use Rattle.ub_directory.proofs.places.Places.slot_at.Goals.{in-Some, in-None}
-use Rattle.ub_directory.proofs.places.Places.slot_at.Goals as goal
+use Rattle.ub_directory.specs.Spans.{first_keys}
+use Rattle.ub_directory.proofs.SpanFacts.{region_found, no_region, end_before_next, end_at_last}
+use Rattle.ub_directory.proofs.places.Places.region_at.Goals.{in-Some, in-None}
+use Rattle.ub_directory.proofs.places.Places.region_at.Goals as goal
 
 pub returns-in_err-entry : goal.returns-in_err-entry
 returns-in_err-entry c =
     let past = c.in_err-entry.ensures.lookup in
-    c.from_residual.ensures ∙ no_slot c.args.self.now.last _ c.deref.result.now c.args.i c.deref.ensures.value past.3
+    c.from_residual.ensures ∙ no_region c.args.self.now.last _ c.deref.result.now c.args.i c.deref.ensures.value past.3
 
 pub returns : goal.returns
 returns c =
@@ -22,4 +22,4 @@ returns c =
       | in-Some w ↦ w.next-is ∙ sym w.in-Some.is
       | in-None w ↦ w.next-is
     ] in
-    slot_found c.args.self.now.last _ c.deref.result.now c.args.i c.match-next.to c.match-next.next c.in_ok-entry.entry.now c.deref.ensures.value found.3.0 found.1 (next ∙ c.first_at-next.ensures) end
+    region_found c.args.self.now.last _ c.deref.result.now c.args.i c.match-next.to c.match-next.next c.in_ok-entry.entry.now c.deref.ensures.value found.3.0 found.1 (next ∙ c.first_at-next.ensures) end
