@@ -6,8 +6,7 @@ use Rattle.std.specs.List.{AllByRecursion}
 use Rattle.ub_table.proofs.Laws.{before_trans, not_before_self, precedes_trans}
 use Rattle.ub_table.specs.Keys.{IsBefore, precedes}
 use Rattle.ub_tree.specs.Laws.{AreAnswers}
-use Rattle.ub_tree.specs.Spans.{First, IsLater}
-use Rattle.ub_tree.specs.declared.region.Region.{Region as Span}
+use Rattle.ub_tree.specs.Spans.{First, IsLater, Region as Span}
 
 -- ---- how many spans are later than one
 
