@@ -1,6 +1,6 @@
 // Tables that are opened, from pages written by hand.
 use crate::samples::{FIVE_ROWS, Sheet};
-use crate::trial::{Answer, DEVICE, DONE, NO_PAGE, NO_STEPS, NOTHING, Step, UNCLEAN, goes};
+use crate::trial::{Answer, DONE, NO_PAGE, NO_STEPS, NOTHING, Step, UNCLEAN, goes};
 use ub_page::Entry;
 use ub_table::{Key, PageFault, Row};
 use ub_tree::TreeFault;
@@ -337,26 +337,7 @@ fn refuses_headers_and_pages_of_directories(rt: HostRuntime) {
     goes(&rt, rt.alloc(), &REFUSED_HEADERS, &REFUSED_DIRECTORIES);
 }
 
-const TWO_PARTS: [Sheet; 4] = [
-    Sheet::Header(1, 0, 171, false),
-    Sheet::Blank,
-    Sheet::Part(0, 170, 3),
-    Sheet::Part(170, 1, 0),
-];
-
-// Opening calls the store three times, to read the header and the two pages of the directory. Nor does a search call it, from
-// each region to the next: the fourth call is the reading of a region.
-static SEARCHED: [(Step, Answer); 7] = [
-    (Step::Store(3, &TWO_PARTS), DONE),
-    (Step::Open, DEVICE),
-    (Step::Store(4, &TWO_PARTS), DONE),
-    (Step::Open, DONE),
-    (Step::Walk, Ok([171, 0, 170, 171])),
-    (Step::Trace, DONE),
-    (Step::Span(170), DEVICE),
-];
-
 #[test]
 fn opens_closed_tables(rt: HostRuntime) {
-    goes(&rt, rt.alloc(), &OPENED, &SEARCHED);
+    goes(&rt, rt.alloc(), &OPENED, &NO_STEPS);
 }

@@ -14,6 +14,8 @@ pub(crate) enum Sheet {
     Header(u32, u32, u32, bool),
     // A region from an address on, of these rows, two at most.
     Region(u128, &'static [Row]),
+    // A region from an address on, of rows at the point (0, y): this y, the number of the first, and how many, four at most.
+    Equal(u128, u32, u32, usize),
     // A directory of these regions, and no page after it.
     Directory(&'static [Entry]),
     // A directory of so many regions that begin with the addresses from one on, 170 at most, and the next page of it.
@@ -94,8 +96,13 @@ pub(crate) const FIVE_ROWS: [Sheet; 5] = [
 
 // Two dimensions, one measure, two rows on a page.
 pub(crate) fn plane() -> Result<Schema, PageFault> {
+    plane_of(2)
+}
+
+// The same with so many rows on a page.
+pub(crate) fn plane_of(page_rows: u32) -> Result<Schema, PageFault> {
     let columns = [Name::new(b"x")?, Name::new(b"y")?, Name::new(b"m")?];
-    Schema::new(Name::new(b"t")?, &columns, 2, 2)
+    Schema::new(Name::new(b"t")?, &columns, 2, page_rows)
 }
 
 // The bytes of a page.
@@ -118,6 +125,9 @@ pub(crate) fn page_of(schema: &Schema, sheet: &Sheet) -> Page {
             let first = Key { z: *z, number: 0 };
             write_region(schema, first, &rows[..rows.len().min(2)], &mut draft);
         }
+        Sheet::Equal(z, y, number, count) => {
+            write_equal(schema, *z, *y, *number, *count, &mut draft);
+        }
         Sheet::Directory(entries) => {
             write_directory(&entries[..entries.len().min(170)], 0, &mut draft);
         }
@@ -125,6 +135,23 @@ pub(crate) fn page_of(schema: &Schema, sheet: &Sheet) -> Page {
         Sheet::Blank => {}
     }
     *draft.page()
+}
+
+// Writes a region from an address on, of so many rows at the point (0, y) that are numbered from one on.
+fn write_equal(schema: &Schema, z: u128, y: u32, from: u32, count: usize, draft: &mut Draft) {
+    let row = Row {
+        number: from,
+        dims: [0, y, 0, 0],
+        measures: [0; 4],
+    };
+    let mut rows = [row; 4];
+    let mut number = from;
+    for row in rows.iter_mut() {
+        row.number = number;
+        number = number.wrapping_add(1);
+    }
+    let first = Key { z, number: 0 };
+    write_region(schema, first, &rows[..count.min(4)], draft);
 }
 
 // Writes the directory of so many regions that begin with the addresses from one on.

@@ -40,8 +40,8 @@ pub(crate) enum Step {
     Begin,
     // How many regions page 2 of the store lists.
     List,
-    // Reads page 0 of the store.
-    Read,
+    // How many pages the store has.
+    Pages,
     // How many pages of the closed table of no rows the store has, from the first on.
     HoldsNoRows,
     // The same of the closed table of five rows.
@@ -71,7 +71,7 @@ pub(crate) static NO_STEPS: [(Step, Answer); 0] = [];
 
 // A tree of the plane, or the store that it left.
 #[derive(Drop)]
-struct Trial {
+pub(crate) struct Trial {
     alloc: Global,
     schema: Schema,
     tree: Option<Tree<Store>>,
@@ -97,17 +97,22 @@ fn steps_right(alloc: Global, first: &[(Step, Answer)], then: &[(Step, Answer)])
     let Ok(schema) = plane() else {
         return 0;
     };
-    let mut trial = Trial {
-        alloc,
-        schema,
-        tree: None,
-        store: None,
-    };
+    let mut trial = Trial::new(alloc, schema);
     let right = trial.count_right(first);
     right.saturating_add(trial.count_right(then))
 }
 
 impl Trial {
+    // No tree and no store yet.
+    pub(crate) fn new(alloc: Global, schema: Schema) -> Trial {
+        Trial {
+            alloc,
+            schema,
+            tree: None,
+            store: None,
+        }
+    }
+
     // How many of these steps are answered so, up to the first wrong one.
     fn count_right(&mut self, steps: &[(Step, Answer)]) -> usize {
         for (i, (step, wanted)) in steps.iter().enumerate() {
@@ -119,7 +124,7 @@ impl Trial {
     }
 
     // What a step answers.
-    fn answer(&mut self, step: &Step) -> Answer {
+    pub(crate) fn answer(&mut self, step: &Step) -> Answer {
         match step {
             Step::Store(k, sheets) => self.take_store(*k, sheets),
             Step::Create(k) => {
@@ -129,7 +134,7 @@ impl Trial {
             }
             Step::Open => self.open(),
             Step::Close => self.close(),
-            Step::List | Step::Read | Step::HoldsNoRows | Step::HoldsFiveRows =>
+            Step::List | Step::Pages | Step::HoldsNoRows | Step::HoldsFiveRows =>
                 match &mut self.store {
                     Some(store) => look(&self.schema, store, step),
                     None => NOTHING,
@@ -197,10 +202,7 @@ fn look(schema: &Schema, store: &mut Store, step: &Step) -> Answer {
         Step::List => list(schema, store),
         Step::HoldsNoRows => have(schema, store, &NO_ROWS),
         Step::HoldsFiveRows => have(schema, store, &FIVE_ROWS),
-        _ => match store.read_page(0) {
-            Ok(_) => DONE,
-            Err(fault) => Err(TreeFault::Store(fault)),
-        },
+        _ => Ok([u128::from(store.pages()), 0, 0, 0]),
     }
 }
 

@@ -1,0 +1,299 @@
+// How many calls of its store each call of a tree makes, and how many pages it adds.
+//
+// Each case is run over a store that fails at its first call, over one that fails at its second call, and so on, up to the
+// call after all that its steps make. So each step makes just the calls that stand beside it.
+use crate::samples::{Sheet, plane_of};
+use crate::trial::{Answer, DEVICE, DONE, NOTHING, Step, Trial};
+use std::alloc::Global;
+use ub_page::Entry;
+use ub_table::Key;
+use ub_tree::TreeFault;
+
+const LAST: u128 = 18_446_744_073_709_551_615;
+
+const FAILED: Answer = Err(TreeFault::Failed);
+
+// A step, what it answers, and the calls of the store that it makes, in order: `r` reads a page, `e` adds one, `w` writes one,
+// and `s` syncs. The runs tell reads and added pages from the others, and not a sync from a write.
+struct Made(Step, Answer, &'static [u8]);
+
+// Steps on the closed table that has these pages, four rows on a page. In the end it is closed.
+struct Case {
+    sheets: &'static [Sheet],
+    steps: &'static [Made],
+}
+
+// The closed table of 14 rows whose regions begin with the addresses 0, 1, 4, 16 and 64, which are those of the points (0,0),
+// (0,1), (0,2), (0,4) and (0,8). All their rows are there: 2, 2, 4, 2 and 4. So the third region and the last one are full.
+const FIVE_REGIONS: [Sheet; 7] = [
+    Sheet::Header(15, 14, 5, false),
+    Sheet::Equal(0, 0, 1, 2),
+    Sheet::Directory(&[
+        Entry {
+            first: Key { z: 0, number: 0 },
+            page: 1,
+        },
+        Entry {
+            first: Key { z: 1, number: 0 },
+            page: 3,
+        },
+        Entry {
+            first: Key { z: 4, number: 0 },
+            page: 4,
+        },
+        Entry {
+            first: Key { z: 16, number: 0 },
+            page: 5,
+        },
+        Entry {
+            first: Key { z: 64, number: 0 },
+            page: 6,
+        },
+    ]),
+    Sheet::Equal(1, 1, 3, 2),
+    Sheet::Equal(4, 2, 5, 4),
+    Sheet::Equal(16, 4, 9, 2),
+    Sheet::Equal(64, 8, 11, 4),
+];
+
+static CASES: [Case; 10] = [
+    // Opening and reading.
+    Case {
+        sheets: &FIVE_REGIONS,
+        steps: &[
+            // Reads the header, and the one page of the directory.
+            Made(Step::Open, DONE, b"rr"),
+            // The directory stands in memory.
+            Made(Step::Seek(5), DONE, b""),
+            Made(Step::Meet(1), Ok([4, 1, 64, 5]), b""),
+            Made(Step::Walk, Ok([5, 0, 64, 5]), b""),
+            // Reads the region, which is cached then.
+            Made(Step::Span(5), Ok([4, 15, 5, 8]), b"r"),
+            Made(Step::Span(5), Ok([4, 15, 5, 8]), b""),
+            Made(Step::Span(LAST), Ok([64, LAST, 11, 14]), b"r"),
+            // Nothing was changed.
+            Made(Step::Close, DONE, b""),
+            Made(Step::Open, DONE, b"rr"),
+            Made(Step::Count, Ok([14, 5, 0, 0]), b""),
+            Made(Step::Close, DONE, b""),
+        ],
+    },
+    // Insertions without a split.
+    Case {
+        sheets: &FIVE_REGIONS,
+        steps: &[
+            Made(Step::Open, DONE, b"rr"),
+            // Reads the region; marks; writes the region.
+            Made(Step::Put(0, 0, 0), Ok([15, 0, 0, 0]), b"rww"),
+            // The same region is cached, and the header marked: writes the region.
+            Made(Step::Put(0, 0, 0), Ok([16, 0, 0, 0]), b"w"),
+            // Reads another region, and writes it.
+            Made(Step::Put(0, 1, 0), Ok([17, 0, 0, 0]), b"rw"),
+            Made(Step::Count, Ok([17, 5, 0, 0]), b""),
+            // Writes the directory; syncs; writes the header; syncs.
+            Made(Step::Close, DONE, b"wsws"),
+        ],
+    },
+    // Insertions with a split.
+    Case {
+        sheets: &FIVE_REGIONS,
+        steps: &[
+            Made(Step::Open, DONE, b"rr"),
+            // Reads the region; adds a page; marks; writes the new region, and then the old one.
+            Made(Step::Put(0, 2, 0), Ok([15, 0, 0, 0]), b"rewww"),
+            // The same of another region, but the header is marked.
+            Made(Step::Put(0, 8, 0), Ok([16, 0, 0, 0]), b"reww"),
+            // The new region of the first split was written, and so isn't cached.
+            Made(Step::Put(0, 2, 0), Ok([17, 0, 0, 0]), b"rw"),
+            Made(Step::Count, Ok([17, 7, 0, 0]), b""),
+            Made(Step::Close, DONE, b"wsws"),
+        ],
+    },
+    // Removals of a row that isn't there.
+    Case {
+        sheets: &FIVE_REGIONS,
+        steps: &[
+            Made(Step::Open, DONE, b"rr"),
+            // Reads the region where it would be, which is cached then.
+            Made(Step::Remove(4, 99), DONE, b"r"),
+            Made(Step::Remove(4, 99), DONE, b""),
+            Made(Step::Close, DONE, b""),
+        ],
+    },
+    // Removals from the last region, which has four rows.
+    Case {
+        sheets: &FIVE_REGIONS,
+        steps: &[
+            Made(Step::Open, DONE, b"rr"),
+            // Three rows are enough. Reads the region; marks; writes the region.
+            Made(Step::Remove(64, 11), Ok([1, 0, 0, 0]), b"rww"),
+            // Two rows are enough.
+            Made(Step::Remove(64, 12), Ok([1, 0, 0, 0]), b"w"),
+            // One is few, and there is no next region. Reads the one before, which takes the row, and writes that.
+            Made(Step::Remove(64, 13), Ok([1, 0, 0, 0]), b"rw"),
+            Made(Step::Count, Ok([11, 4, 0, 0]), b""),
+            Made(Step::Close, DONE, b"wsws"),
+        ],
+    },
+    // A removal from the first region, which has two rows, as the next one has.
+    Case {
+        sheets: &FIVE_REGIONS,
+        steps: &[
+            Made(Step::Open, DONE, b"rr"),
+            // Reads the region, and the next one, whose rows it takes; marks; writes the region.
+            Made(Step::Remove(0, 1), Ok([1, 0, 0, 0]), b"rrww"),
+            Made(Step::Count, Ok([13, 4, 0, 0]), b""),
+            Made(Step::Close, DONE, b"wsws"),
+        ],
+    },
+    // A removal from the second region, which has two rows, as the one before has; the next one is full.
+    Case {
+        sheets: &FIVE_REGIONS,
+        steps: &[
+            Made(Step::Open, DONE, b"rr"),
+            // Reads the region, the next one, and the one before, which takes the row; marks; writes the one before.
+            Made(Step::Remove(1, 3), Ok([1, 0, 0, 0]), b"rrrww"),
+            Made(Step::Count, Ok([13, 4, 0, 0]), b""),
+            Made(Step::Close, DONE, b"wsws"),
+        ],
+    },
+    // A removal from the fourth region, which has two rows and stands between full ones.
+    Case {
+        sheets: &FIVE_REGIONS,
+        steps: &[
+            Made(Step::Open, DONE, b"rr"),
+            // Reads the region, the next one, and the one before; marks; writes the region.
+            Made(Step::Remove(16, 9), Ok([1, 0, 0, 0]), b"rrrww"),
+            Made(Step::Count, Ok([13, 5, 0, 0]), b""),
+            Made(Step::Close, DONE, b"wsws"),
+        ],
+    },
+    // A directory of two pages.
+    Case {
+        sheets: &[
+            Sheet::Header(1, 0, 171, false),
+            Sheet::Region(0, &[]),
+            Sheet::Part(0, 170, 3),
+            Sheet::Part(170, 1, 0),
+        ],
+        steps: &[
+            // Reads the header, and both pages of the directory.
+            Made(Step::Open, DONE, b"rrr"),
+            Made(Step::Walk, Ok([171, 0, 170, 171]), b""),
+            Made(Step::Trace, DONE, b""),
+            Made(Step::Put(0, 0, 0), Ok([1, 0, 0, 0]), b"rww"),
+            // Writes the directory's last page, and its first one; syncs; writes the header; syncs.
+            Made(Step::Close, DONE, b"wwsws"),
+        ],
+    },
+    // A directory whose one page is full.
+    Case {
+        sheets: &[
+            Sheet::Header(5, 4, 170, false),
+            Sheet::Equal(0, 0, 1, 4),
+            Sheet::Part(0, 170, 0),
+        ],
+        steps: &[
+            Made(Step::Open, DONE, b"rr"),
+            Made(Step::Put(0, 0, 0), Ok([5, 0, 0, 0]), b"rewww"),
+            Made(Step::Count, Ok([5, 171, 0, 0]), b""),
+            // Adds a page for the directory, and then writes as above.
+            Made(Step::Close, DONE, b"ewwsws"),
+        ],
+    },
+];
+
+// How many calls of the store the steps make.
+fn count_calls(steps: &[Made]) -> usize {
+    let mut count = 0usize;
+    for Made(_, _, calls) in steps {
+        count = count.saturating_add(calls.len());
+    }
+    count
+}
+
+// How many pages these calls add.
+fn count_added(calls: &[u8]) -> usize {
+    let mut count = 0usize;
+    for call in calls {
+        if *call == b'e' {
+            count = count.saturating_add(1);
+        }
+    }
+    count
+}
+
+// Whether all is left as it should be by a step of which this call failed, with so many pages: after a failed read the tree
+// goes on, after another failure it does no more, and where it was opened or closed the store is handed back.
+fn is_left(trial: &mut Trial, step: &Step, call: u8, pages: usize) -> bool {
+    let closed = match step {
+        Step::Open | Step::Close => NOTHING,
+        _ if call == b'r' => DONE,
+        _ => FAILED,
+    };
+    trial.answer(&Step::Close) == closed && has_pages(trial, pages)
+}
+
+// Whether the store that the tree left has so many pages.
+fn has_pages(trial: &mut Trial, pages: usize) -> bool {
+    trial.answer(&Step::Pages) == Ok([pages as u128, 0, 0, 0])
+}
+
+// Whether a case goes so over a store of which so many calls go well, and the next one fails.
+fn goes_over(trial: &mut Trial, case: &Case, good: usize) -> bool {
+    let k = (good as u64).saturating_add(1);
+    if trial.answer(&Step::Store(k, case.sheets)) != DONE {
+        return false;
+    }
+    let mut left = good;
+    let mut pages = case.sheets.len();
+    for Made(step, wanted, calls) in case.steps {
+        let answer = trial.answer(step);
+        if left < calls.len() {
+            let added = count_added(&calls[..left]);
+            return answer == DEVICE
+                && is_left(trial, step, calls[left], pages.saturating_add(added));
+        }
+        if answer != *wanted {
+            return false;
+        }
+        left -= calls.len();
+        pages = pages.saturating_add(count_added(calls));
+    }
+    has_pages(trial, pages)
+}
+
+// Whether a case goes so wherever its store fails, and where it doesn't.
+fn goes(trial: &mut Trial, case: &Case) -> bool {
+    for good in 0..=count_calls(case.steps) {
+        if !goes_over(trial, case, good) {
+            return false;
+        }
+    }
+    true
+}
+
+// How many of these cases go so, up to the first that doesn't.
+fn count_right(trial: &mut Trial, cases: &[Case]) -> usize {
+    for (i, case) in cases.iter().enumerate() {
+        if !goes(trial, case) {
+            return i;
+        }
+    }
+    cases.len()
+}
+
+// How many cases of the table go so, up to the first that doesn't.
+fn cases_right(alloc: Global) -> usize {
+    let Ok(schema) = plane_of(4) else {
+        return 0;
+    };
+    let mut trial = Trial::new(alloc, schema);
+    count_right(&mut trial, &CASES)
+}
+
+#[test]
+fn each_call_of_a_tree_makes_so_many_of_its_store(rt: HostRuntime) {
+    let right = cases_right(rt.alloc());
+    assert!(rt; right == CASES.len(), "{right} cases were right");
+}
