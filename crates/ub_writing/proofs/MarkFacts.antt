@@ -3,17 +3,9 @@ use Rattle.std.proofs.Common.{◌≡◌, ◌≢◌, ◌⊎◌, inl, inr, ℕ, tr
 use Rattle.std.specs.List.{AllByRecursion}
 use Rattle.ub_directory.specs.Writing.{SameBut}
 use Rattle.ub_store.specs.Facts.{StoreFacts, IsHonest}
-use Rattle.ub_table.specs.declared.schema.Schema.{Schema}
-use Rattle.ub_writing.specs.Marks.{IsMarkOf, Marks, PutsMark, first_page, is_written}
+use Rattle.ub_writing.specs.Marks.{Marks, PutsMark, first_page, is_written}
 use Rattle.ub_writing.specs.declared.mark.Mark.{Mark}
 use Rattle.ub_writing.specs.declared.mark.Mark.TheVariants.{Written}
-
--- a mark is of its schema after a write too
-pub still_of : {numbers : List ℕ} {was now : Mark} {old new : StoreFacts} → Marks numbers was now old new → (schema : Schema) → IsMarkOf schema was → IsMarkOf schema now
-still_of {numbers} {was} {now} {old} {new} marks schema of = elim marks.stays [
-  | inl e ↦ subst (IsMarkOf schema) (sym e) of
-  | inr e ↦ subst (IsMarkOf schema) (sym e) tt
-]
 
 -- a written mark stays written
 written_still : {numbers : List ℕ} {was now : Mark} {old new : StoreFacts} → Marks numbers was now old new → was ≡ Written → is_written now ≡ true
