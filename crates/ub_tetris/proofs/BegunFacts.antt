@@ -1,5 +1,5 @@
 -- A sweep that was begun over a tree stands to it as it should.
-use Rattle.std.proofs.Common.{◌≡◌, ℕ, List, [], refl, sym, subst}
+use Rattle.std.proofs.Common.{◌≡◌, List, [], refl, sym, subst}
 use Rattle.ub_planning.specs.Plan.{PlanView}
 use Rattle.ub_store.specs.View.{Trace}
 use Rattle.ub_tetris.proofs.MachineFacts.{begins}

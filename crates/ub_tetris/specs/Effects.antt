@@ -1,5 +1,5 @@
 -- What the calls of a sweep can answer, and what they leave of the tree.
-use Rattle.std.specs.Prelude.{◌≡◌, ◌≢◌, ◌++◌, [], ℕ, zero, suc, Bool, true, false, IsTrue, List, Option, None, Result, Ok, Err, IfErr, OnOk, Contains, length, map}
+use Rattle.std.specs.Prelude.{◌≡◌, ◌≢◌, ◌++◌, ℕ, zero, suc, Bool, true, false, IsTrue, List, Option, None, Result, Ok, Err, IfErr, OnOk, Contains, length, map}
 use Rattle.std.specs.List.{AllByRecursion}
 use Rattle.ub_store.specs.Facts.{raised}
 use Rattle.ub_store.specs.View.{emptied}
