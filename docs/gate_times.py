@@ -102,7 +102,7 @@ def tell(used, wall, before, after):
 
 
 def main():
-    if len(sys.argv) != 2:
+    if len(sys.argv) != 2 or sys.argv[1].startswith("-"):
         sys.exit(__doc__)
     sampler, began, before = Sampler(), time.time(), processors()
     with open(sys.argv[1], "w", encoding="utf-8") as log:
