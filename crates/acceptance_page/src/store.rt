@@ -166,7 +166,7 @@ fn put_and_bring(
 // A pager over three pages more of this store, whose cache holds one page.
 fn three_pages<S: PageStore>(alloc: Global, store: S) -> Result<Pager<S>, StoreFault>
     ensures honest { IsHonest (S.facts store) → IfOk result (λ pager. IsHonest pager.store) }
-    ensures trace { IfOk result (λ pager. pager.trace ≡ []) }
+    ensures trace { IfOk result (λ pager. pager.trace.pages ≡ []) }
 {
     let mut pager = match Pager::new(alloc, store, NonZeroUsize::MIN) {
         Ok(pager) => pager,
