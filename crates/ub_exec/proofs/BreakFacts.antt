@@ -1,10 +1,9 @@
 -- A sweep that was ended by a fault has fetched the first of the visits.
-use Rattle.std.proofs.Common.{◌≡◌, ◌<◌, ◌∙◌, ◌++◌, ◌∷◌, ℕ, List, [], length, map, refl, subst}
+use Rattle.std.proofs.Common.{◌≡◌, ◌<◌, ◌∙◌, ◌++◌, ◌∷◌, ℕ, List, [], IfSome, length, map, refl, subst}
 use Rattle.ub_exec.proofs.FirstFacts.{swept_first}
 use Rattle.ub_tree.proofs.Laws.{Keeps, Keeps-by, begun_traced}
 use Rattle.ub_exec.proofs.SweptFacts.{HasSwept, over, short}
 use Rattle.ub_exec.specs.Answers.{IsReady, begun}
-use Rattle.ub_exec.specs.Sweeping.{room, turns_of}
 use Rattle.ub_exec.specs.Visits.{HasFetchedFirst, fetches_then}
 use Rattle.ub_planning.specs.Plan.{PlanView}
 use Rattle.ub_planning.specs.Visits.{AreSweepVisits, Event}
@@ -29,23 +28,23 @@ visits_at plan start t dim is_descending events kept visits =
     (subst (λ (schema : Schema). AreSweepVisits schema plan dim is_descending (regions t) (map (λ event. event.span) events)) kept.regions.schema visits)
 
 -- it was while the next row was looked for
-pub swept_before : (plan : PlanView) (start t new : TreeView) (s : SweepView) (turns : ℕ) (rows : List (List Cell)) → Keeps start t → (swept : HasSwept plan t s turns rows)
-    → new.placed ≡ t.placed → new.trace.fetches ≡ fetches_then start.trace.fetches (length new.trace.pages) → turns < turns_of plan.asked.limit (room start)
+pub swept_before : (plan : PlanView) (start t new : TreeView) (s : SweepView) (rows : List (List Cell)) → Keeps start t → (swept : HasSwept plan t s rows)
+    → new.placed ≡ t.placed → new.trace.fetches ≡ fetches_then start.trace.fetches (length new.trace.pages) → IfSome plan.asked.limit (λ most. length rows < most)
     → HasBroken new s swept.rest swept.fetched swept.unread → (count : ℕ) × HasFetchedFirst plan (begun start) new count
-swept_before plan start t new s turns rows kept swept placed fetches left broken =
+swept_before plan start t new s rows kept swept placed fetches left broken =
     let (later, visits) = broken_before t.schema plan s.dim s.is_descending t.next (regions t) (rows_held s.held) swept.given swept.rest swept.fetched swept.unread broken.read broken.left
-    (over plan t s swept.given swept.rest swept.fetched swept.unread swept.sweeping) swept.sweeping.under_way (short plan.asked.limit (room start) turns (length swept.given) left swept.count) broken.parts
+    (over plan t s swept.given swept.rest swept.fetched swept.unread swept.sweeping) swept.sweeping.under_way (short plan t s rows swept left) broken.parts
     broken.reached in
     swept_first plan start new s.dim s.is_descending (swept.fetched ++ broken.read) later swept.sweeping.swept.kind (placed ∙ kept.regions.placed) broken.noted fetches
     (visits_at plan start t s.dim s.is_descending ((swept.fetched ++ broken.read) ++ later) kept visits)
 
 -- it was after the next row was given
-pub swept_after : (plan : PlanView) (start t new : TreeView) (s new_s : SweepView) (turns : ℕ) (rows : List (List Cell)) (swept : HasSwept plan t s turns rows) → Keeps start new
-    → new.trace.fetches ≡ fetches_then start.trace.fetches (length new.trace.pages) → turns < turns_of plan.asked.limit (room start) → (row : Row)
+pub swept_after : (plan : PlanView) (start t new : TreeView) (s new_s : SweepView) (rows : List (List Cell)) (swept : HasSwept plan t s rows) → Keeps start new
+    → new.trace.fetches ≡ fetches_then start.trace.fetches (length new.trace.pages) → IfSome plan.asked.limit (λ most. length rows < most) → (row : Row)
     → HasGiven plan new new_s swept.given swept.rest swept.fetched swept.unread row → (count : ℕ) × HasFetchedFirst plan (begun start) new count
-swept_after plan start t new s new_s turns rows swept kept fetches left row gives =
+swept_after plan start t new s new_s rows swept kept fetches left row gives =
     let (later, visits) = broken_after new.schema plan new_s.dim new_s.is_descending new.next (regions new) (rows_held new_s.held) swept.given gives.more (swept.fetched ++ gives.read) gives.left row
     (over plan new new_s (swept.given ++ row ∷ []) gives.more (swept.fetched ++ gives.read) gives.left gives.sweeping) gives.sweeping.under_way
-    (short plan.asked.limit (room start) turns (length swept.given) left swept.count) gives.reached in
+    (short plan t s rows swept left) gives.reached in
     swept_first plan start new new_s.dim new_s.is_descending (swept.fetched ++ gives.read) later gives.sweeping.swept.kind kept.regions.placed gives.sweeping.noted fetches
     (visits_at plan start new new_s.dim new_s.is_descending ((swept.fetched ++ gives.read) ++ later) kept visits)

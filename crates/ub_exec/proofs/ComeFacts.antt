@@ -1,18 +1,17 @@
 -- A sweep over any tree, asked for row after row until it has none: it has come to all regions that it awaited.
-use Rattle.std.proofs.Common.{◌≡◌, ◌≤◌, ◌<◌, ◌+◌, ◌*◌, ◌∙◌, ◌++◌, ℕ, Bool, List, [], Option, Some, None, Ok, IfSome, length, map, refl, sym, ap, subst, arith, append_assoc}
-use Rattle.std.proofs.lemmas.List.{append-nil, length-map, map-append}
-use Rattle.std.proofs.lemmas.List.Sorted.{length_permutation}
+use Rattle.std.proofs.Common.{◌≡◌, ◌<◌, ◌∙◌, ◌++◌, ℕ, Bool, List, [], Option, Some, None, Ok, IfSome, map, refl, sym, ap, subst, append_assoc}
+use Rattle.std.proofs.lemmas.List.{append-nil, map-append}
 use Rattle.std.specs.List.{AllByRecursion}
 use Rattle.ub_exec.proofs.NotedFacts.{all_joined}
 use Rattle.ub_exec.specs.Answers.{begun}
 use Rattle.ub_exec.specs.Reading.{HasSweptAll, IsIn}
-use Rattle.ub_exec.specs.Sweeping.{ComesOn, room, turns_of}
+use Rattle.ub_exec.specs.Sweeping.{ComesOn}
 use Rattle.ub_planning.specs.Plan.{PlanView}
 use Rattle.ub_table.specs.declared.row.Row.{Row}
 use Rattle.ub_tetris.specs.Awaited.{AreMetAlong}
 use Rattle.ub_tetris.specs.Effects.{Sweeps}
-use Rattle.ub_tetris.specs.Sweep.{AwaitedRegion, IsStarted, IsSweepOf, SweepView, rows_left}
-use Rattle.ub_tree.proofs.Laws.{IsTraced, answers_are_regions_that_meet}
+use Rattle.ub_tetris.specs.Sweep.{AwaitedRegion, IsSweepOf, SweepView, rows_left}
+use Rattle.ub_tree.proofs.Laws.{IsTraced}
 use Rattle.ub_tree.specs.View.{TreeView}
 
 -- what one call says
@@ -27,26 +26,24 @@ comes_on found s new_s old new sweeps ended fewer = record {
   fewer = fewer;
 }
 
--- so far as it has come, after so many rows: of the regions that it awaited first these were taken in, and their pages noted
-pub record HasComeOn (p : PlanView) (turns : ℕ) (start now : TreeView) (s : SweepView) : Type 0 where
+-- so far as it has come: of the regions that it awaited first these were taken in, and their pages noted
+pub record HasComeOn (p : PlanView) (start now : TreeView) (s : SweepView) : Type 0 where
   pub first : List AwaitedRegion
   pub met : (dim : ℕ) (is_descending : Bool) → IsSweepOf start.schema p dim is_descending → AreMetAlong p.covering.boxes dim is_descending start first
   pub come : List AwaitedRegion
   pub parts : first ≡ come ++ s.awaited
   pub taken : AllByRecursion (λ a. IsIn start a.region) come
   pub trace_is : now.trace.pages ≡ start.trace.pages ++ map (λ a. a.region.page) come
-  pub few : turns + rows_left s ≤ length first * 64
 
-pub HasComeOn-none : (p : PlanView) (old now : TreeView) (s : SweepView) → now ≡ begun old → IsStarted now s
-    → ((dim : ℕ) (is_descending : Bool) → IsSweepOf old.schema p dim is_descending → AreMetAlong p.covering.boxes dim is_descending now s.awaited) → HasComeOn p 0 (begun old) now s
-HasComeOn-none p old now s same started met = record {
+pub HasComeOn-none : (p : PlanView) (old now : TreeView) (s : SweepView) → now ≡ begun old
+    → ((dim : ℕ) (is_descending : Bool) → IsSweepOf old.schema p dim is_descending → AreMetAlong p.covering.boxes dim is_descending now s.awaited) → HasComeOn p (begun old) now s
+HasComeOn-none p old now s same met = record {
   first = s.awaited;
   met = λ dim is_descending of. subst (λ (t : TreeView). AreMetAlong p.covering.boxes dim is_descending t s.awaited) same (met dim is_descending of);
   come = [];
   parts = refl;
   taken = tt;
   trace_is = ap (λ (t : TreeView). t.trace.pages) same;
-  few = let none : length s.held ≡ 0 = ap length started.none in omega arith;
 }
 
 -- regions taken in after others
@@ -63,12 +60,9 @@ noted start now new some more first second =
     ∙ append_assoc start.trace.pages (map (λ (a : AwaitedRegion). a.region.page) some) (map (λ (a : AwaitedRegion). a.region.page) more)
     ∙ ap (λ (pages : List ℕ). start.trace.pages ++ pages) (sym (map-append (λ (a : AwaitedRegion). a.region.page) some more))
 
-fewer_turns : (turns old new most : ℕ) → turns + old ≤ most → new < old → turns + 1 + new ≤ most
-fewer_turns turns old new most few fewer = omega arith
-
-module _ (p : PlanView) (turns : ℕ) (start now : TreeView) (s : SweepView) (traced : IsTraced start now) (so_far : HasComeOn p turns start now s) (new : TreeView) (new_s : SweepView) where
+module _ (p : PlanView) (start now : TreeView) (s : SweepView) (traced : IsTraced start now) (so_far : HasComeOn p start now s) (new : TreeView) (new_s : SweepView) where
   -- it gave a row
-  pub HasComeOn-more : (row : Row) → ComesOn s new_s now new (Some row) → HasComeOn p (turns + 1) start new new_s
+  pub HasComeOn-more : (row : Row) → ComesOn s new_s now new (Some row) → HasComeOn p start new new_s
   HasComeOn-more row comes = record {
     first = so_far.first;
     met = so_far.met;
@@ -76,7 +70,6 @@ module _ (p : PlanView) (turns : ℕ) (start now : TreeView) (s : SweepView) (tr
     parts = so_far.parts ∙ ap (λ (those : List AwaitedRegion). so_far.come ++ those) comes.left ∙ sym (append_assoc so_far.come comes.come new_s.awaited);
     taken = joined start now traced so_far.come comes.come so_far.taken comes.taken;
     trace_is = noted start now new so_far.come comes.come so_far.trace_is comes.trace_is;
-    few = fewer_turns turns (rows_left s) (rows_left new_s) (length so_far.first * 64) so_far.few comes.fewer;
   }
 
   -- it has none left
@@ -91,19 +84,3 @@ module _ (p : PlanView) (turns : ℕ) (start now : TreeView) (s : SweepView) (tr
         trace_is = noted start now new so_far.come comes.come so_far.trace_is comes.trace_is
             ∙ ap (λ (those : List AwaitedRegion). start.trace.pages ++ map (λ (a : AwaitedRegion). a.region.page) those) (sym whole);
       }
-
--- no more rows were given than there is room for
-pub turns_few : (p : PlanView) (turns : ℕ) (start now : TreeView) (s : SweepView) → HasComeOn p turns start now s → (dim : ℕ) (is_descending : Bool) → IsSweepOf start.schema p dim is_descending
-    → turns ≤ room start
-turns_few p turns start now s so_far dim is_descending of =
-    let met = so_far.met dim is_descending of in
-    let all = (answers_are_regions_that_meet start p.covering.boxes met.met met.met_are).1 in
-    let same : length (map (λ (a : AwaitedRegion). a.region) so_far.first) ≡ length met.met = length_permutation met.met (map (λ (a : AwaitedRegion). a.region) so_far.first) met.same in
-    let long = length-map so_far.first (λ (a : AwaitedRegion). a.region) in
-    let few = so_far.few in
-    omega arith
-
--- so a sweep without a limit has not been asked as often as it may be
-pub turn_left : {X : Type 0} (limit : Option ℕ) (rows turns : ℕ) → limit ≡ None → turns ≡ turns_of limit rows → turns ≤ rows → X
-turn_left None rows turns none end few = absurd (omega arith)
-turn_left (Some n) rows turns none end few = cc

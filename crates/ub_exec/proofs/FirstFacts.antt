@@ -122,9 +122,9 @@ asked_some t mid new boxes after span sound first kept untraced (inr noted) =
     )
 
 -- where a walk has come it has read the first of the regions that meet the boxes
-pub come_first : (boxes : List Corners) (turns : ℕ) (start now new : TreeView) (rows : List Row) (after : Option Span) → IsSound start → HasCome boxes turns start now rows after → KeepsTrace now new
+pub come_first : (boxes : List Corners) (start now new : TreeView) (rows : List Row) (after : Option Span) → IsSound start → HasCome boxes start now rows after → KeepsTrace now new
     → HasWalkedFirst boxes start new
-come_first boxes turns start now new rows after sound come kept =
+come_first boxes start now new rows after sound come kept =
     let (all, are) = meeting_there start sound boxes in
     let (left, parts) = first_those (MeetsIn start boxes) start.placed come.visited all come.place come.visits are in
     record {
@@ -136,12 +136,11 @@ come_first boxes turns start now new rows after sound come kept =
     }
 
 -- also where a turn was ended by a fault
-pub turned_first : (boxes : List Corners) (turns : ℕ) (start now new : TreeView) (sound : IsSound start) (kept : Keeps start now) (after copied : Option Span) (rows : List Row)
-    → HasCome boxes turns start now rows after → copied ≡ after → HasTurnedSome boxes copied now new → HasWalkedFirst boxes start new
-turned_first boxes turns start now new sound kept after copied rows come same (inl still) = come_first boxes turns start now new rows after sound come still
-turned_first boxes turns start now new sound kept after copied rows come same (inr (span, more, turn)) =
-    come_first boxes (suc turns) start new new (rows ++ more) (Some span) sound
-    (turned_to boxes turns start now new sound kept after rows more come (suc turns) (Some span) copied refl same refl turn) refl
+pub turned_first : (boxes : List Corners) (start now new : TreeView) (sound : IsSound start) (kept : Keeps start now) (after copied : Option Span) (rows : List Row)
+    → HasCome boxes start now rows after → copied ≡ after → HasTurnedSome boxes copied now new → HasWalkedFirst boxes start new
+turned_first boxes start now new sound kept after copied rows come same (inl still) = come_first boxes start now new rows after sound come still
+turned_first boxes start now new sound kept after copied rows come same (inr (span, more, turn)) =
+    come_first boxes start new new (rows ++ more) (Some span) sound (turned_to boxes start now new sound kept after rows more come span copied same turn) refl
 
 -- so it has fetched the first of the visits
 pub walked_first : (p : PlanView) (t new : TreeView) → IsReady t p → ¬ IsSwept p.kind → HasWalkedFirst p.covering.boxes t new → (count : ℕ) × HasFetchedFirst p t new count

@@ -1,8 +1,7 @@
 -- Pages noted call by call, and each of them taken in.
-use Rattle.std.proofs.Common.{◌≡◌, ◌≤◌, ◌+◌, ◌∙◌, ◌++◌, ◌∷◌, ◌⊎◌, inl, inr, ℕ, zero, suc, Bool, true, false, List, [], Option, Some, None, Result, Ok, Err, Contains, length, map, refl, sym, ap, subst, arith, append_assoc}
+use Rattle.std.proofs.Common.{◌≡◌, ◌<◌, ◌+◌, ◌∙◌, ◌++◌, ◌∷◌, ◌⊎◌, inl, inr, ℕ, zero, suc, Bool, List, [], Option, Some, None, Result, Ok, Err, length, map, refl, sym, ap, subst, arith, append_assoc}
 use Rattle.std.proofs.lemmas.List.{append-nil, length-append, length-map, map-append}
 use Rattle.std.specs.List.{AllByRecursion}
-use Rattle.std.specs.Option.{is_some}
 use Rattle.std.specs.Prelude.{OnOk}
 use Rattle.std.specs.Result.{IsErrAnd}
 use Rattle.ub_bigmin.specs.Box.{Corners}
@@ -15,12 +14,13 @@ use Rattle.ub_table.specs.Region.{Region}
 use Rattle.ub_tetris.specs.Effects.{Sweeps, fetches_then}
 use Rattle.ub_tetris.specs.Sweep.{AreItsRegions, AwaitedRegion, IsSweepOf, SweepView}
 use Rattle.ub_tetris.specs.declared.fault.SweepFault.{SweepFault}
-use Rattle.ub_tree.proofs.Laws.{HasAnswers, HasAnswers-none, HasAnswers-more, IsTraced, answers_after, answers_ended, traced_spans}
+use Rattle.ub_tree.proofs.Laws.{HasAnswers, HasAnswers-none, HasAnswers-more, IsTraced, answers_ended, left_after, left_less, next_is_later, traced_gives}
 use Rattle.ub_store.specs.View.{Trace}
 use Rattle.ub_tree.specs.Effects.{HasNoted, IsTakenIn}
 use Rattle.ub_tree.specs.Handing.{AreMetBy}
-use Rattle.ub_tree.specs.Spans.{First, IsLater, Meets, Region as Span}
-use Rattle.ub_tree.specs.View.{TreeView, KeepsTrace, spans_of}
+use Rattle.ub_tree.specs.Spans.{Region as Span}
+use Rattle.ub_tree.specs.Told.{GivesNext, IsRegionOf}
+use Rattle.ub_tree.specs.View.{TreeView, KeepsTrace}
 use Rattle.ub_tree.specs.declared.read_fault.ReadFault.{ReadFault}
 
 -- ---- lists
@@ -98,43 +98,43 @@ next_notes boxes after old new (Some span) next = record {
   noted = span.page ∷ [];
   trace_is = next.1.pages_are;
   fetches_are = next.1.fetches_are;
-  read = ((span, next.0.0, refl, next.2), tt);
+  read = ((span, (next_is_later old boxes after span next.0).0, refl, next.2), tt);
 }
 
 -- the region that the tree told was read
 pub read_next : (boxes of_plan : List Corners) (after : Option Span) (old mid new : TreeView) (span : Span) (region : Region) → boxes ≡ of_plan → mid ≡ old
-    → First (λ s. IsLater after s × Meets boxes s) (spans_of old) (Some span) → HasNoted span.page mid new → IsTakenIn mid span region → HasReadNext of_plan after old new (Some span)
-read_next boxes of_plan after old mid new span region alike same first noted taken = (
-  subst (λ (bs : List Corners). First (λ s. IsLater after s × Meets bs s) (spans_of old) (Some span)) alike first,
+    → GivesNext boxes old after (Some span) → HasNoted span.page mid new → IsTakenIn mid span region → HasReadNext of_plan after old new (Some span)
+read_next boxes of_plan after old mid new span region alike same gives noted taken = (
+  subst (λ (bs : List Corners). GivesNext bs old after (Some span)) alike gives,
   subst (λ (t : TreeView). HasNoted span.page t new) same noted,
   (region, subst (λ (t : TreeView). IsTakenIn t span region) same taken),
 )
 
 -- ---- so far as a scan has come, over any tree
 
-pub record HasReadUpTo (boxes : List Corners) (turns : ℕ) (start now : TreeView) (after : Option Span) : Type 0 where
+pub record HasReadUpTo (boxes : List Corners) (start now : TreeView) (after : Option Span) : Type 0 where
   pub spans : List Span
-  pub answers : HasAnswers (Meets boxes) (spans_of start) turns spans after
-  pub there : AllByRecursion (Contains (spans_of start)) spans
+  pub answers : HasAnswers boxes start spans after
+  pub there : AllByRecursion (IsRegionOf start) spans
   pub taken : AllByRecursion (IsIn start) spans
   pub trace_is : now.trace.pages ≡ start.trace.pages ++ map (λ span. span.page) spans
   pub fetches_are : now.trace.fetches ≡ fetches_then start.trace.fetches (length spans)
 
-pub HasReadUpTo-none : (boxes : List Corners) (t : TreeView) → HasReadUpTo boxes 0 t t None
+pub HasReadUpTo-none : (boxes : List Corners) (t : TreeView) → HasReadUpTo boxes t t None
 HasReadUpTo-none boxes t = record {
   spans = [];
-  answers = HasAnswers-none (Meets boxes) (spans_of t);
+  answers = HasAnswers-none boxes t;
   there = tt;
   taken = tt;
   trace_is = sym (append-nil t.trace.pages);
   fetches_are = refl;
 }
 
-read_each : (t : TreeView) (spans : List Span) → AllByRecursion (Contains (spans_of t)) spans → AllByRecursion (IsIn t) spans → AllByRecursion (IsRead t) (map (λ (span : Span). span.page) spans)
+read_each : (t : TreeView) (spans : List Span) → AllByRecursion (IsRegionOf t) spans → AllByRecursion (IsIn t) spans → AllByRecursion (IsRead t) (map (λ (span : Span). span.page) spans)
 read_each t [] there taken = tt
 read_each t (span ∷ spans) there taken = ((span, there.0, refl, taken.0), read_each t spans there.1 taken.1)
 
-module _ (boxes : List Corners) (turns : ℕ) (start now new : TreeView) (traced : IsTraced start now) (after : Option Span) (come : HasReadUpTo boxes turns start now after) where
+module _ (boxes : List Corners) (start now new : TreeView) (traced : IsTraced start now) (after : Option Span) (come : HasReadUpTo boxes start now after) where
   -- the pages noted so far
   pub come_notes : {A : Type 0} (x : A) → NotesPages start now (Ok x)
   come_notes x = record {
@@ -153,26 +153,24 @@ module _ (boxes : List Corners) (turns : ℕ) (start now new : TreeView) (traced
     trace_is = ap (λ (t : Trace). t.pages) kept ∙ come.trace_is;
   }
 
-  -- as they are after as many turns as there are regions
-  pub whole_after : (n : ℕ) → n ≤ turns → n ≡ length (spans_of start) → KeepsTrace now new → HasReadAll boxes start new
-  whole_after n past long kept = whole kept (answers_after (Meets boxes) (spans_of start) turns come.spans after come.answers n past long)
+  given_at_start : (found copied : Option Span) → copied ≡ after → GivesNext boxes now copied found → GivesNext boxes start after found
+  given_at_start found copied same gives = traced_gives start now traced boxes after found (subst (λ (o : Option Span). GivesNext boxes now o found) same gives)
 
-  first_of_start : (found copied : Option Span) → copied ≡ after → First (λ s. IsLater copied s × Meets boxes s) (spans_of now) found → First (λ s. IsLater after s × Meets boxes s) (spans_of start) found
-  first_of_start found copied same first =
-      subst (λ (spans : List Span). First (λ s. IsLater after s × Meets boxes s) spans found) (traced_spans start now traced)
-      (subst (λ (o : Option Span). First (λ s. IsLater o s × Meets boxes s) (spans_of now) found) same first)
+  -- as they are where the tree gives no more
+  pub whole_by : (found copied : Option Span) → copied ≡ after → ((span : Span) → found ≡ Some span → ⊥) → HasReadNext boxes copied now new found → HasReadAll boxes start new
+  whole_by None copied same none next = whole next.1 (answers_ended boxes start come.spans after come.answers (given_at_start None copied same next.0))
+  whole_by (Some span) copied same none next = absurd (none span refl)
 
-  -- or where the next turn tells of none
-  pub whole_by : (found copied : Option Span) → copied ≡ after → is_some found ≡ false → HasReadNext boxes copied now new found → HasReadAll boxes start new
-  whole_by None copied same none next = whole next.1 (answers_ended (Meets boxes) (spans_of start) turns come.spans after come.answers (first_of_start None copied same next.0))
-  whole_by (Some span) copied same none next = cc
+  -- with each region that it gives fewer are left
+  pub come_down : (span : Span) (copied : Option Span) → copied ≡ after → HasReadNext boxes copied now new (Some span) → left_after start (Some span) < left_after start after
+  come_down span copied same next = left_less boxes start after span (given_at_start (Some span) copied same next.0)
 
   -- else it has come one region further
-  come_further : (span : Span) → First (λ s. IsLater after s × Meets boxes s) (spans_of start) (Some span) → HasNoted span.page now new → IsIn start span → HasReadUpTo boxes (turns + 1) start new (Some span)
-  come_further span first noted taken = record {
+  come_further : (span : Span) → GivesNext boxes start after (Some span) → HasNoted span.page now new → IsIn start span → HasReadUpTo boxes start new (Some span)
+  come_further span gives noted taken = record {
     spans = come.spans ++ span ∷ [];
-    answers = HasAnswers-more (Meets boxes) (spans_of start) turns come.spans after come.answers span first;
-    there = all_joined (Contains (spans_of start)) come.spans (span ∷ []) come.there (first.0, tt);
+    answers = HasAnswers-more boxes start come.spans after come.answers span gives;
+    there = all_joined (IsRegionOf start) come.spans (span ∷ []) come.there ((next_is_later start boxes after span gives).0, tt);
     taken = all_joined (IsIn start) come.spans (span ∷ []) come.taken (taken, tt);
     trace_is = noted.pages_are ∙ ap (λ (trace : List ℕ). trace ++ span.page ∷ []) come.trace_is ∙ append_assoc start.trace.pages (map (λ (s : Span). s.page) come.spans) (span.page ∷ [])
         ∙ ap (λ (pages : List ℕ). start.trace.pages ++ pages) (sym (map-append (λ (s : Span). s.page) come.spans (span ∷ [])));
@@ -180,11 +178,8 @@ module _ (boxes : List Corners) (turns : ℕ) (start now new : TreeView) (traced
         ∙ ap (fetches_then start.trace.fetches) (sym (length-append come.spans (span ∷ [])));
   }
 
-  pub come_on : (n : ℕ) (found copied : Option Span) → n ≡ turns + 1 → copied ≡ after → is_some found ≡ true → HasReadNext boxes copied now new found → HasReadUpTo boxes n start new found
-  come_on n None copied next same some turn = cc
-  come_on n (Some span) copied next same some (first, noted, taken) =
-      subst (λ (k : ℕ). HasReadUpTo boxes k start new (Some span)) (sym next)
-      (come_further span (first_of_start (Some span) copied same first) noted (subst (λ (t : TreeView). IsIn t span) traced taken))
+  pub come_on : (span : Span) (copied : Option Span) → copied ≡ after → HasReadNext boxes copied now new (Some span) → HasReadUpTo boxes start new (Some span)
+  come_on span copied same (gives, noted, taken) = come_further span (given_at_start (Some span) copied same gives) noted (subst (λ (t : TreeView). IsIn t span) traced taken)
 
 -- ---- carrying out
 
@@ -226,12 +221,12 @@ carries_swept r p t new swept notes all = record { notes = notes; scans = λ apa
 
 -- ---- what a sweep notes
 
--- those that it comes to are regions of the tree
-come_there : (t : TreeView) (come rest : List AwaitedRegion) → AllByRecursion (λ a. Contains (spans_of t) a.region) (come ++ rest) → AllByRecursion (λ a. Contains (spans_of t) a.region) come
+-- the tree tells of those that it comes to
+come_there : (t : TreeView) (come rest : List AwaitedRegion) → AllByRecursion (λ a. IsRegionOf t a.region) (come ++ rest) → AllByRecursion (λ a. IsRegionOf t a.region) come
 come_there t [] rest all = tt
 come_there t (a ∷ come) rest all = (all.0, come_there t come rest all.1)
 
-swept_each : (t : TreeView) (come : List AwaitedRegion) → AllByRecursion (λ a. Contains (spans_of t) a.region) come → AllByRecursion (λ a. IsIn t a.region) come
+swept_each : (t : TreeView) (come : List AwaitedRegion) → AllByRecursion (λ a. IsRegionOf t a.region) come → AllByRecursion (λ a. IsIn t a.region) come
     → AllByRecursion (IsRead t) (map (λ (a : AwaitedRegion). a.region.page) come)
 swept_each t [] there taken = tt
 swept_each t (a ∷ come) there taken = ((a.region, there.0, refl, taken.0), swept_each t come there.1 taken.1)
@@ -242,7 +237,7 @@ sweeps_notes x y s new_s old new regions sweeps = record {
   trace_is = sweeps.trace_is;
   fetches_are = sweeps.fetches_are;
   read = subst (λ (pages : List ℕ). AllByRecursion (IsRead old) pages) (sym sweeps.taken.0)
-      (swept_each old sweeps.come (come_there old sweeps.come new_s.awaited (subst (λ (those : List AwaitedRegion). AllByRecursion (λ a. Contains (spans_of old) a.region) those) sweeps.left regions)) sweeps.taken.1);
+      (swept_each old sweeps.come (come_there old sweeps.come new_s.awaited (subst (λ (those : List AwaitedRegion). AllByRecursion (λ a. IsRegionOf old a.region) those) sweeps.left regions)) sweeps.taken.1);
 }
 
 pub broken_notes : {A B : Type 0} (r : Result A ReadFault) (P : ReadFault → Type 0) (e : SweepFault) (s new_s : SweepView) (old new : TreeView) → IsErrAnd r P → Sweeps {A = B} s new_s old new (Err e)

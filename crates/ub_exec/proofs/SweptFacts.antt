@@ -1,7 +1,6 @@
 -- What a sweep has given and fetched, turn by turn, and when it stops.
-use Rattle.std.proofs.Common.{◌≡◌, ◌≢◌, ◌<◌, ◌≤◌, ◌+◌, ◌*◌, ◌∙◌, ℕ, zero, suc, Bool, true, false, List, [], ◌∷◌, ◌++◌, Option, Some, None, Result, IfSome, Contains, filter, length, map, refl, sym, ap, subst, arith}
+use Rattle.std.proofs.Common.{◌≡◌, ◌≢◌, ◌<◌, ◌≤◌, ◌∙◌, ℕ, zero, suc, Bool, true, false, not, List, [], ◌∷◌, ◌++◌, Option, Some, None, Result, IfSome, Contains, length, map, refl, sym, ap, subst, arith}
 use Rattle.std.proofs.lemmas.List.{length-append, length-map, map-append}
-use Rattle.std.proofs.lemmas.List.Sorted.{length_permutation}
 use Rattle.std.specs.List.{All, AllByRecursion}
 use Rattle.ub_answer.specs.Held.{lines}
 use Rattle.ub_tree.proofs.Laws.{Keeps}
@@ -9,19 +8,18 @@ use Rattle.ub_exec.proofs.MeantFacts.{empty_where}
 use Rattle.ub_exec.specs.Answers.{IsAnswer, IsSwept, begun}
 use Rattle.ub_exec.proofs.NotedFacts.{noted_sum}
 use Rattle.ub_exec.specs.Reading.{NotesPages}
-use Rattle.ub_exec.specs.Sweeping.{room, turns_of}
+use Rattle.ub_exec.specs.Sweeping.{IsFilled}
 use Rattle.ub_exec.specs.Visits.{HasFetched, fetches_then}
 use Rattle.ub_planning.specs.Plan.{PlanView}
 use Rattle.ub_planning.specs.Visits.{Event, AreSweepVisits, AreVisitsBy, selected_rows}
 use Rattle.ub_planning.specs.declared.planned.Kind.{Kind}
 use Rattle.ub_planning.specs.declared.planned.Kind.TheVariants.{Empty, Scan, Sweep}
 use Rattle.ub_query.specs.Cells.{row_cell}
-use Rattle.ub_query.specs.Groups.{is_selected}
 use Rattle.ub_query.specs.Meaning.{IsMeaning}
 use Rattle.ub_query.specs.Shape.{Asked}
 use Rattle.ub_query.specs.declared.cell.Cell.{Cell}
 use Rattle.ub_region.specs.Regions.{AreTableRows, rows_of}
-use Rattle.ub_table.specs.Region.{IsRegion, Region}
+use Rattle.ub_table.specs.Region.{Region}
 use Rattle.ub_table.specs.declared.row.Row.{Row}
 use Rattle.ub_table.specs.declared.schema.Schema.{Schema}
 use Rattle.ub_tetris.proofs.Laws.{IsSweepOver, stops, runs_out, stops_with_the_meaning, runs_out_with_the_meaning}
@@ -69,72 +67,44 @@ some_last (row ∷ other ∷ rows) some = let (front, last, is) = some_last (oth
 -- ---- turn by turn
 
 -- so many rows were given, and stand in the answer; no region was fetched whose event value is past the last of them
-pub record HasSwept (plan : PlanView) (t : TreeView) (s : SweepView) (turns : ℕ) (rows : List (List Cell)) : Type 0 where
+pub record HasSwept (plan : PlanView) (t : TreeView) (s : SweepView) (rows : List (List Cell)) : Type 0 where
   pub given : List Row
   pub rest : List Row
   pub fetched : List Event
   pub unread : List Event
   pub sweeping : IsSweeping plan t s given rest fetched unread
-  pub count : turns ≡ length given
   pub cells : rows ≡ lines t.schema plan.asked.items given
   pub reached : (front : List Row) (row : Row) → given ≡ front ++ row ∷ [] → All (λ event. ¬ IsRowAlong s.dim s.is_descending row event.value) fetched
 
-pub HasSwept-none : (plan : PlanView) (t : TreeView) (s : SweepView) → HasBegun plan t s → HasSwept plan t s 0 []
+-- as many stand in the answer
+pub given_long : (plan : PlanView) (t : TreeView) (s : SweepView) (rows : List (List Cell)) (swept : HasSwept plan t s rows) → length rows ≡ length swept.given
+given_long plan t s rows swept = ap length swept.cells ∙ length-map swept.given (λ (row : Row). map (row_cell t.schema row) plan.asked.items)
+
+pub HasSwept-none : (plan : PlanView) (t : TreeView) (s : SweepView) → HasBegun plan t s → HasSwept plan t s []
 HasSwept-none plan t s begins = record {
   given = [];
   rest = begins.rest;
   fetched = [];
   unread = begins.unread;
   sweeping = begins.sweeping;
-  count = refl;
   cells = refl;
   reached = λ front row e. absurd (no_last front row e);
 }
 
-pub HasSwept-more : (plan : PlanView) (t new : TreeView) (s new_s : SweepView) (turns : ℕ) (rows more : List (List Cell)) (row : Row) (swept : HasSwept plan t s turns rows)
+pub HasSwept-more : (plan : PlanView) (t new : TreeView) (s new_s : SweepView) (rows more : List (List Cell)) (row : Row) (swept : HasSwept plan t s rows)
     → HasGiven plan new new_s swept.given swept.rest swept.fetched swept.unread row → new.schema ≡ t.schema
-    → more ≡ rows ++ map (row_cell new.schema row) plan.asked.items ∷ [] → HasSwept plan new new_s (turns + 1) more
-HasSwept-more plan t new s new_s turns rows more row swept gives same is =
-    let count = swept.count in
+    → more ≡ rows ++ map (row_cell new.schema row) plan.asked.items ∷ [] → HasSwept plan new new_s more
+HasSwept-more plan t new s new_s rows more row swept gives same is =
     record {
       given = swept.given ++ row ∷ [];
       rest = gives.more;
       fetched = swept.fetched ++ gives.read;
       unread = gives.left;
       sweeping = gives.sweeping;
-      count = omega (arith, length-append swept.given (row ∷ []));
       cells = is ∙ ap (λ (cells : List (List Cell)). cells ++ map (row_cell new.schema row) plan.asked.items ∷ []) (swept.cells ∙ ap (λ (schema : Schema). lines schema plan.asked.items swept.given) (sym same))
           ∙ sym (map-append (λ (r : Row). map (row_cell new.schema r) plan.asked.items) swept.given (row ∷ []));
       reached = λ front last e. subst (λ (r : Row). All (λ event. ¬ IsRowAlong new_s.dim new_s.is_descending r event.value) (swept.fetched ++ gives.read)) (same_last swept.given front row last e) gives.reached;
     }
-
--- ---- no more rows are given than the tree has
-
-filter_few : (f : Row → Bool) (rows : List Row) → length (filter f rows) ≤ length rows
-filter_few f [] = omega arith
-filter_few f (row ∷ rows) = by_truth (f row) refl (filter_few f rows)
-  where
-    by_truth : (b : Bool) → f row ≡ b → length (filter f rows) ≤ length rows → length (filter f (row ∷ rows)) ≤ suc (length rows)
-    by_truth true e fewer = rw e (omega arith)
-    by_truth false e fewer = rw e (omega arith)
-
--- regions have no more rows than there is room for on their pages
-rows_fit : (schema : Schema) (placed : List Placed) → AllByRecursion (IsRegion schema) (regions_in placed) → length (rows_of (regions_in placed)) ≤ length placed * 64
-rows_fit schema [] each = omega arith
-rows_fit schema (p ∷ placed) each =
-    let rest = rows_fit schema placed each.1 in
-    let own = each.0.few in
-    let most : schema.page_rows ≤ 64 = schema.counts.few_rows in
-    let parts = length-append p.region.rows (rows_of (regions_in placed)) in
-    omega arith
-
-pub given_few : (plan : PlanView) (t : TreeView) (s : SweepView) (given rest : List Row) (fetched unread : List Event) → IsSweeping plan t s given rest fetched unread → length given ≤ room t
-given_few plan t s given rest fetched unread sweeping =
-    let all = rows_fit t.schema t.placed sweeping.swept.sound.regions_are.each in
-    let few = filter_few (is_selected t.schema plan.asked.filter) (tree_rows t) in
-    let same : length (selected_rows t.schema plan (regions t)) ≡ length (given ++ rest) = sym (length_permutation (selected_rows t.schema plan (regions t)) (given ++ rest) sweeping.under_way.rows.same) in
-    let parts = length-append given rest in
-    omega arith
 
 -- ---- when it stops
 
@@ -175,22 +145,16 @@ answer_of plan start t cells lines_then kept is means rows are =
     subst (λ (schema : Schema). IsMeaning (record { schema = schema; rows = rows }) plan.asked cells) kept.regions.schema
     (subst (λ (cs : List (List Cell)). IsMeaning (record { schema = t.schema; rows = rows }) plan.asked cs) (sym is) (means rows at_t))
 
--- the limit is filled where there is no turn left
-filled : (limit : Option ℕ) (rows turns count : ℕ) → turns ≡ turns_of limit rows → turns ≡ count → count ≤ rows → limit ≡ Some count
-filled None rows turns count end same few = absurd (omega arith)
-filled (Some n) rows turns count end same few = let is : n ≡ count = omega arith in ap (λ (m : ℕ). Some m) is
+-- so many rows as the limit says are given where it is filled, and not before
+filled : (limit : Option ℕ) (count : ℕ) → IsFilled limit count → IfSome limit (λ most. count ≤ most) → limit ≡ Some count
+filled None count full few = absurd full
+filled (Some most) count full few = let is : most ≡ count = omega arith in ap (λ (m : ℕ). Some m) is
 
-pub short : (limit : Option ℕ) (rows turns count : ℕ) → turns < turns_of limit rows → turns ≡ count → IfSome limit (λ n. count < n)
-short None rows turns count below same = tt
-short (Some n) rows turns count below same = omega arith
-
-module _ (plan : PlanView) (start t : TreeView) (s : SweepView) (turns : ℕ) (rows : List (List Cell)) (kept : Keeps start t) (fetches : t.trace.fetches ≡ fetches_then start.trace.fetches (length t.trace.pages))
-    (swept : HasSwept plan t s turns rows) (kind : IsSwept plan.kind) (end : turns ≡ turns_of plan.asked.limit (room start)) where
-  -- no turn was left
+module _ (plan : PlanView) (start t : TreeView) (s : SweepView) (rows : List (List Cell)) (kept : Keeps start t) (fetches : t.trace.fetches ≡ fetches_then start.trace.fetches (length t.trace.pages))
+    (swept : HasSwept plan t s rows) (kind : IsSwept plan.kind) (full : IsFilled plan.asked.limit (length rows)) (few : IfSome plan.asked.limit (λ most. length rows ≤ most)) where
+  -- the limit is filled
   is_filled : plan.asked.limit ≡ Some (length swept.given)
-  is_filled =
-      let few = given_few plan t s swept.given swept.rest swept.fetched swept.unread swept.sweeping in
-      filled plan.asked.limit (room start) turns (length swept.given) end swept.count (subst (λ (placed : List Placed). length swept.given ≤ length placed * 64) kept.regions.placed few)
+  is_filled = filled plan.asked.limit (length rows) full few ∙ ap (λ (n : ℕ). Some n) (given_long plan t s rows swept)
 
   has_some : 1 ≤ length swept.given
   has_some = by_count (length swept.given) refl
@@ -213,12 +177,17 @@ module _ (plan : PlanView) (start t : TreeView) (s : SweepView) (turns : ℕ) (r
       (λ table are. stops_with_the_meaning t.schema plan s.dim s.is_descending t.next (regions t) table (rows_held s.held) swept.given swept.rest swept.fetched swept.unread
       (over plan t s swept.given swept.rest swept.fetched swept.unread swept.sweeping) are swept.sweeping.under_way is_filled)
 
+-- the limit isn't filled by the rows that stand in the answer, nor by those that were given
+pub short : (plan : PlanView) (t : TreeView) (s : SweepView) (rows : List (List Cell)) (swept : HasSwept plan t s rows) → IfSome plan.asked.limit (λ most. length rows < most)
+    → IfSome plan.asked.limit (λ most. length swept.given < most)
+short plan t s rows swept left = subst (λ (n : ℕ). IfSome plan.asked.limit (λ most. n < most)) (given_long plan t s rows swept) left
+
 -- it answered that no row is left
-module _ (plan : PlanView) (start mid t : TreeView) (s new_s : SweepView) (turns : ℕ) (rows : List (List Cell)) (kept : Keeps start t) (fetches : t.trace.fetches ≡ fetches_then start.trace.fetches (length t.trace.pages))
-    (swept : HasSwept plan mid s turns rows) (same : t.schema ≡ mid.schema) (left : turns < turns_of plan.asked.limit (room start))
+module _ (plan : PlanView) (start mid t : TreeView) (s new_s : SweepView) (rows : List (List Cell)) (kept : Keeps start t) (fetches : t.trace.fetches ≡ fetches_then start.trace.fetches (length t.trace.pages))
+    (swept : HasSwept plan mid s rows) (same : t.schema ≡ mid.schema) (left : IfSome plan.asked.limit (λ most. length rows < most))
     (ends : HasEnded plan t new_s swept.given swept.rest swept.fetched swept.unread) where
   is_short : IfSome plan.asked.limit (λ n. length swept.given < n)
-  is_short = short plan.asked.limit (room start) turns (length swept.given) left swept.count
+  is_short = short plan mid s rows swept left
 
   pub ended_fetched : HasFetched plan (begun start) t
   ended_fetched =
@@ -236,13 +205,35 @@ module _ (plan : PlanView) (start mid t : TreeView) (s new_s : SweepView) (turns
 pub begun_fetches : (old new : TreeView) → new ≡ begun old → new.trace.fetches ≡ fetches_then old.trace.fetches (length new.trace.pages)
 begun_fetches old new is = ap (λ (t : TreeView). t.trace.fetches) is ∙ sym (ap (λ (t : TreeView). fetches_then old.trace.fetches (length t.trace.pages)) is)
 
-pub at_end : (turn end whole : ℕ) → end ≤ turn → turn ≤ end → end ≡ whole → turn ≡ whole
-at_end turn end whole past within is = omega arith
+-- the limit of a query is that of its plan
+pub filled_is : (query asked : Asked) (n : ℕ) (rows : List (List Cell)) → query ≡ asked → n ≡ length rows → IsFilled query.limit n → IsFilled asked.limit (length rows)
+filled_is query asked n rows same long full = subst (λ (m : ℕ). IsFilled asked.limit m) long (subst (λ (q : Asked). IsFilled q.limit n) same full)
 
--- how often the sweep is asked
-pub end_is : (query asked : Asked) (old new : TreeView) (end : ℕ) → end ≡ turns_of query.limit (room new) → new ≡ begun old → query ≡ asked → end ≡ turns_of asked.limit (room old)
-end_is query asked old new end is same alike =
-    is ∙ ap (λ (t : TreeView). turns_of query.limit (room t)) same ∙ ap (λ (q : Asked). turns_of q.limit (room old)) alike
+pub left_is : (query asked : Asked) (n : ℕ) (rows : List (List Cell)) → query ≡ asked → n ≡ length rows → IfSome query.limit (λ most. n < most) → IfSome asked.limit (λ most. length rows < most)
+left_is query asked n rows same long left = subst (λ (m : ℕ). IfSome asked.limit (λ most. m < most)) long (subst (λ (q : Asked). IfSome q.limit (λ most. n < most)) same left)
+
+-- where there is none it isn't filled
+pub unfilled : {X : Type 0} (limit : Option ℕ) (n : ℕ) → limit ≡ None → IsFilled limit n → X
+unfilled None n none full = absurd full
+unfilled (Some most) n none full = cc
+
+pub not_true : (b : Bool) → not b ≡ true → b ≡ false
+not_true true is = cc
+not_true false is = refl
+
+pub not_false : (b : Bool) → not b ≡ false → b ≡ true
+not_false true is = refl
+not_false false is = cc
+
+-- within the limit there are no more rows
+pub few_none : (limit : Option ℕ) (rows : List (List Cell)) → rows ≡ [] → IfSome limit (λ most. length rows ≤ most)
+few_none None rows none = tt
+few_none (Some most) rows none = let long = ap length none in omega arith
+
+pub few_more : (limit : Option ℕ) (rows : List (List Cell)) (row : List Cell) (more : List (List Cell)) → more ≡ rows ++ row ∷ [] → IfSome limit (λ most. length rows < most)
+    → IfSome limit (λ most. length more ≤ most)
+few_more None rows row more is left = tt
+few_more (Some most) rows row more is left = let long = ap length is in let parts = length-append rows (row ∷ []) in omega arith
 
 pub noted_more : {A : Type 0} (r : Result A ReadFault) (start t new : TreeView) → t.trace.fetches ≡ fetches_then start.trace.fetches (length t.trace.pages) → NotesPages t new r
     → new.trace.fetches ≡ fetches_then start.trace.fetches (length new.trace.pages)

@@ -5,7 +5,6 @@ use Rattle.std.proofs.lemmas.List.{map-append, append-nil, length-append}
 use Rattle.std.proofs.lemmas.List.Elements.{filter-append}
 use Rattle.std.proofs.lemmas.Option.{slice_get_within}
 use Rattle.std.specs.List.{Contains, filter}
-use Rattle.std.specs.Option.{is_some}
 use Rattle.ub_bigmin.specs.Box.{Corners}
 use Rattle.ub_tree.proofs.Laws.{Keeps, before, contained_at, spans_ascend, firsts_placed, is_later, later_from, spans_long, take_all, those_next, those_up_to}
 use Rattle.ub_exec.specs.Visits.{MeetsIn, AreMeeting, fetches_then, HasWalked, HasTurned}
@@ -141,11 +140,10 @@ module _ (t : TreeView) (sound : IsSound t) (boxes : List Corners) (place : ℕ)
         },
       )
 
--- after some turns of a walk: the regions before a place that meet the boxes have been read
-pub record HasCome (boxes : List Corners) (turns : ℕ) (start now : TreeView) (rows : List Row) (after : Option Span) : Type 0 where
+-- so far as a walk has come: the regions before a place that meet the boxes have been read
+pub record HasCome (boxes : List Corners) (start now : TreeView) (rows : List Row) (after : Option Span) : Type 0 where
   pub place : ℕ
   pub visited : List Placed
-  pub enough : turns ≤ place
   pub far : place ≤ length start.placed
   pub after_is : after ≡ before place (spans_of start)
   pub visits : AreThose (MeetsIn start boxes) (take place start.placed) visited
@@ -153,11 +151,10 @@ pub record HasCome (boxes : List Corners) (turns : ℕ) (start now : TreeView) (
   pub trace_is : now.trace.pages ≡ start.trace.pages ++ map (λ p. p.page) visited
   pub fetches_are : now.trace.fetches ≡ fetches_then start.trace.fetches (length visited)
 
-pub HasCome-none : (boxes : List Corners) (t : TreeView) → HasCome boxes 0 t t [] None
+pub HasCome-none : (boxes : List Corners) (t : TreeView) → HasCome boxes t t [] None
 HasCome-none boxes t = record {
   place = 0;
   visited = [];
-  enough = omega arith;
   far = omega arith;
   after_is = refl;
   visits = refl;
@@ -174,21 +171,7 @@ fetched_next : (fetches n : ℕ) → raised (fetches_then fetches n) 1 ≡ fetch
 fetched_next fetches zero = refl
 fetched_next fetches (suc n) = omega arith
 
--- a walk that has come to its end
-pub walked : (boxes : List Corners) (turns : ℕ) (start now : TreeView) (rows : List Row) (after : Option Span) → length start.placed ≤ turns → HasCome boxes turns start now rows after
-    → HasWalked boxes start now rows
-walked boxes turns start now rows after all come =
-    let enough = come.enough in
-    let whole : take come.place start.placed ≡ start.placed = take_all come.place start.placed (omega arith) in
-    record {
-      visited = come.visited;
-      visits = subst (λ (placed : List Placed). AreThose (MeetsIn start boxes) placed come.visited) whole come.visits;
-      rows_are = come.rows_are;
-      trace_is = come.trace_is;
-      fetches_are = come.fetches_are;
-    }
-
-module _ (boxes : List Corners) (turns : ℕ) (start now new : TreeView) (sound : IsSound start) (kept : Keeps start now) (after : Option Span) (rows more : List Row) (come : HasCome boxes turns start now rows after) where
+module _ (boxes : List Corners) (start now new : TreeView) (sound : IsSound start) (kept : Keeps start now) (after : Option Span) (rows more : List Row) (come : HasCome boxes start now rows after) where
   first_is : (found : Option Span) → First (λ s. IsLater after s × Meets boxes s) (spans_of now) found
       → First (λ s. IsLater (before come.place (spans_of start)) s × Meets boxes s) (spans_of start) found
   first_is found first =
@@ -204,18 +187,16 @@ module _ (boxes : List Corners) (turns : ℕ) (start now new : TreeView) (sound 
     fetches_are = ap (λ (t : Trace). t.fetches) untraced ∙ come.fetches_are;
   }
 
-  pub turned : (span : Span) → HasTurned boxes after now new (Some span) more → HasCome boxes (suc turns) start new (rows ++ more) (Some span)
+  pub turned : (span : Span) → HasTurned boxes after now new (Some span) more → HasCome boxes start new (rows ++ more) (Some span)
   turned span (first, visit) =
       let p = visit.region in
       let there : Contains start.placed p = subst (λ (placed : List Placed). Contains placed p) kept.regions.placed visit.there in
       let (i, next) = next_found start sound boxes come.place come.far come.visited come.visits span p (first_is (Some span) first) there visit.begins in
-      let enough = come.enough in
       let from = next.from in
       let within = slice_get_within start.placed i p next.at in
       record {
         place = suc i;
         visited = come.visited ++ p ∷ [];
-        enough = omega arith;
         far = omega arith;
         after_is = sym next.span_is;
         visits = next.those;
@@ -230,15 +211,12 @@ module _ (boxes : List Corners) (turns : ℕ) (start now new : TreeView) (sound 
       one_more placed p = omega (arith, length-append placed (p ∷ []))
 
   -- the same, whatever a turn answers
-  pub ended_by : (found copied : Option Span) → copied ≡ after → is_some found ≡ false → HasTurned boxes copied now new found more → HasWalked boxes start new (rows ++ more)
+  pub ended_by : (found copied : Option Span) → copied ≡ after → ((span : Span) → found ≡ Some span → ⊥) → HasTurned boxes copied now new found more → HasWalked boxes start new (rows ++ more)
   ended_by None copied same none turn = ended (subst (λ (o : Option Span). HasTurned boxes o now new None more) same turn)
-  ended_by (Some span) copied same none turn = cc
+  ended_by (Some span) copied same none turn = absurd (none span refl)
 
-  pub turned_to : (n : ℕ) (found copied : Option Span) → n ≡ suc turns → copied ≡ after → is_some found ≡ true → HasTurned boxes copied now new found more
-      → HasCome boxes n start new (rows ++ more) found
-  turned_to n None copied next same some turn = cc
-  turned_to n (Some span) copied next same some turn =
-      subst (λ (k : ℕ). HasCome boxes k start new (rows ++ more) (Some span)) (sym next) (turned span (subst (λ (o : Option Span). HasTurned boxes o now new (Some span) more) same turn))
+  pub turned_to : (span : Span) (copied : Option Span) → copied ≡ after → HasTurned boxes copied now new (Some span) more → HasCome boxes start new (rows ++ more) (Some span)
+  turned_to span copied same turn = turned span (subst (λ (o : Option Span). HasTurned boxes o now new (Some span) more) same turn)
 
 -- a turn that read the region that was found
 pub visited_by : (t mid new : TreeView) (boxes : List Corners) (after : Option Span) (span : Span) (region : Region) (rows : List Row) → IsSound t

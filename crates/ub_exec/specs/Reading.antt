@@ -1,6 +1,6 @@
 -- What carrying out a plan reads of any tree, also of one that isn't sound: which pages are noted, and that each was taken in.
 use Rattle.std.specs.Prelude.{◌≡◌, ◌≢◌, ◌++◌, ℕ, Bool, List, Option, Some, None, Result, OnOk, length, map}
-use Rattle.std.specs.List.{AllByRecursion, Contains}
+use Rattle.std.specs.List.{AllByRecursion}
 use Rattle.ub_bigmin.specs.Box.{Corners}
 use Rattle.ub_exec.specs.Answers.{IsSwept}
 use Rattle.ub_planning.specs.Plan.{PlanView}
@@ -10,20 +10,21 @@ use Rattle.ub_tetris.specs.Effects.{fetches_then}
 use Rattle.ub_tetris.specs.Sweep.{AwaitedRegion, IsSweepOf}
 use Rattle.ub_tree.specs.Effects.{HasNoted, IsTakenIn}
 use Rattle.ub_tree.specs.Handing.{AreMetBy}
-use Rattle.ub_tree.specs.Spans.{First, IsLater, Meets, Region as Span}
-use Rattle.ub_tree.specs.View.{TreeView, KeepsTrace, spans_of}
+use Rattle.ub_tree.specs.Spans.{Region as Span}
+use Rattle.ub_tree.specs.Told.{GivesNext, IsRegionOf}
+use Rattle.ub_tree.specs.View.{TreeView, KeepsTrace}
 use Rattle.ub_tree.specs.declared.read_fault.ReadFault.{ReadFault}
 
 -- the page spells the region of this span
 abbrev pub IsIn : TreeView → Span → Type 0
 IsIn t span = (region : Region) × IsTakenIn t span region
 
--- the page is that of a region of the tree, which was taken in
+-- the page is that of a region that the tree tells of, which was taken in
 abbrev pub IsRead : TreeView → ℕ → Type 0
-IsRead t page = (span : Span) × Contains (spans_of t) span × (span.page ≡ page) × IsIn t span
+IsRead t page = (span : Span) × IsRegionOf t span × (span.page ≡ page) × IsIn t span
 
 -- pages were noted after those that stood in the trace, and the fetches rose by their number; where the call answers, each is the
--- page of a region of the tree that was taken in
+-- page of a region that the tree tells of, which was taken in
 pub record NotesPages {A : Type 0} (old new : TreeView) (result : Result A ReadFault) : Type 0 where
   pub noted : List ℕ
   pub trace_is : new.trace.pages ≡ old.trace.pages ++ noted
@@ -53,9 +54,7 @@ pub record CarriesOut {A : Type 0} (p : PlanView) (old new : TreeView) (result :
   pub sweeps : (dim : ℕ) (is_descending : Bool) → IsSweepOf old.schema p dim is_descending → p.asked.limit ≡ None
       → OnOk result (HasSweptAll p.covering.boxes dim is_descending old new)
 
--- the first region later than one that meets the boxes was taken in, and its page noted; or there is none
+-- the region that the tree gives next was taken in, and its page noted; or it gives none
 abbrev pub HasReadNext : List Corners → Option Span → TreeView → TreeView → Option Span → Type 0
-HasReadNext boxes after old new None =
-    First (λ s. IsLater after s × Meets boxes s) (spans_of old) None × KeepsTrace old new
-HasReadNext boxes after old new (Some span) =
-    First (λ s. IsLater after s × Meets boxes s) (spans_of old) (Some span) × HasNoted span.page old new × IsIn old span
+HasReadNext boxes after old new None = GivesNext boxes old after None × KeepsTrace old new
+HasReadNext boxes after old new (Some span) = GivesNext boxes old after (Some span) × HasNoted span.page old new × IsIn old span

@@ -1,22 +1,17 @@
 -- How a sweep is asked for its rows.
-use Rattle.std.specs.Prelude.{◌≡◌, ◌<◌, ◌+◌, ◌*◌, ◌++◌, [], ℕ, false, min, List, Option, Some, None, IfSome, length, map}
+use Rattle.std.specs.Prelude.{◌≡◌, ◌<◌, ◌≤◌, ◌++◌, [], ℕ, false, List, Option, Some, None, IfSome, map}
 use Rattle.std.specs.List.{AllByRecursion}
 use Rattle.ub_exec.specs.Reading.{IsIn}
 use Rattle.ub_table.specs.declared.row.Row.{Row}
-use Rattle.ub_table.specs.declared.schema.TheConstants.{MAX_ROWS}
 use Rattle.ub_tetris.specs.Sweep.{AreItsRegions, AwaitedRegion, SweepView, rows_left}
 use Rattle.ub_tree.specs.View.{TreeView}
 
--- how many rows the pages of a tree's regions can hold
-abbrev pub room : TreeView → ℕ
-room t = length t.placed * MAX_ROWS
+-- so many rows are as many as the limit says, or more; without a limit none are
+abbrev pub IsFilled : Option ℕ → ℕ → Type 0
+IsFilled None given = ⊥
+IsFilled (Some most) given = most ≤ given
 
--- how often it is asked: as often as the limit says, but no more than once past all rows that there is room for
-abbrev pub turns_of : Option ℕ → ℕ → ℕ
-turns_of None rows = rows + 1
-turns_of (Some n) rows = min n (rows + 1)
-
--- it hasn't failed, and awaits regions of the tree
+-- it hasn't failed, and awaits regions that the tree tells of
 abbrev pub IsAtWork : TreeView → SweepView → Type 0
 IsAtWork t s = (s.is_failed ≡ false) × AreItsRegions t s
 

@@ -1,7 +1,7 @@
-ghost use Rattle.std.specs.Prelude.{◌≡◌, ◌++◌, ℕ, List, None, length, IfOk, OnErr, OnOk};
+ghost use Rattle.std.specs.Prelude.{◌≡◌, ◌<◌, ◌++◌, ℕ, true, false, List, None, length, IfOk, IfSome, OnErr, OnOk};
 ghost use Rattle.ub_exec.specs.Answers.{IsReady, IsAnswer, IsSwept, begun};
 ghost use Rattle.ub_exec.specs.Reading.{HasSweptAll, NotesPages};
-ghost use Rattle.ub_exec.specs.Sweeping.{ComesOn, IsAtWork, room, turns_of};
+ghost use Rattle.ub_exec.specs.Sweeping.{ComesOn, IsAtWork, IsFilled};
 ghost use Rattle.ub_exec.specs.Visits.{HasFetched, HasFetchedFirst};
 ghost use Rattle.ub_planning.specs.Visits.{Event};
 ghost use Rattle.ub_query.specs.Posed.{IsPosed};
@@ -16,7 +16,7 @@ use std::alloc::Global;
 use ub_answer::Cells;
 use ub_planning::Plan;
 use ub_store::PageStore;
-use ub_table::{MAX_ROWS, Row};
+use ub_table::Row;
 use ub_tetris::Sweep;
 use ub_tree::{ReadFault, Tree};
 
@@ -44,7 +44,7 @@ pub(crate) fn swept_rows<S: PageStore>(
     let mut sweep = begin_sweep(alloc, tree, plan)?;
     let query = plan.query();
     let mut rows = Cells::none(alloc);
-    for _turn in 0..turns(query.limit, tree) {
+    while !is_filled(query.limit, rows.len()) {
         let Some(row) = next_row(&mut sweep, tree, plan)? else {
             return Ok(rows);
         };
@@ -53,16 +53,15 @@ pub(crate) fn swept_rows<S: PageStore>(
     Ok(rows)
 }
 
-// How often a sweep is asked for a row: as often as the limit says, but no more than once past all rows that the regions have
-// room for, which on a sound tree it answers with None at the latest. The count of rows isn't asked for this: in a file whose
-// first page is damaged it may be wrong.
-fn turns<S: PageStore>(limit: Option<u64>, tree: &Tree<S>) -> u64
-    ensures { result ≡ turns_of limit (room tree.now) }
+// Whether so many rows are as many as the limit says. No count of the tree is asked how often a sweep is asked for a row: in a
+// file whose first page is damaged it may be wrong.
+fn is_filled(limit: Option<u64>, rows: usize) -> bool
+    ensures filled { result ≡ true → IsFilled limit rows }
+    ensures left { result ≡ false → IfSome limit (λ most. rows < most) }
 {
-    let all = u64::from(tree.regions()) * MAX_ROWS as u64 + 1;
     match limit {
-        None => all,
-        Some(most) => most.min(all),
+        None => false,
+        Some(most) => most <= rows as u64,
     }
 }
 

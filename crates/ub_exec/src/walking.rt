@@ -38,11 +38,8 @@ pub(crate) fn walk<S: PageStore, K: RowSink>(
 {
     let mut page = tree.empty_region();
     let mut after = None;
-    for _turn in 0..tree.regions() {
-        after = visit_next(tree, plan, choice, after.as_ref(), &mut page, sink)?;
-        if after.is_none() {
-            return Ok(());
-        }
+    while let Some(region) = visit_next(tree, plan, choice, after.as_ref(), &mut page, sink)? {
+        after = Some(region);
     }
     Ok(())
 }

@@ -1,8 +1,8 @@
-ghost use Rattle.std.specs.Prelude.{◌≡◌, ℕ, length, IfOk, IsTrue, Err};
+ghost use Rattle.std.specs.Prelude.{◌≡◌, ℕ, IfOk, IsTrue, Err};
 ghost use Rattle.ub_plan.specs.Counted.{AreCounted};
 ghost use Rattle.ub_plan.specs.Explained.{AreMet, IsExplained, explain_text};
 ghost use Rattle.ub_tree.specs.Reading.{SearchesTree};
-ghost use Rattle.ub_tree.specs.View.{IsSound, regions};
+ghost use Rattle.ub_tree.specs.View.{IsSound, region_count, regions};
 
 use crate::lines::plan_text;
 use std::alloc::{AllocError, Global};
@@ -24,7 +24,7 @@ pub fn explain<S: PageStore>(
 ) -> Result<Vec<u8>, ReadFault>
     ensures lines { IfOk result (λ text. (met : ℕ)
         × AreCounted plan.now.covering.boxes tree.old met
-        × (text.items ≡ explain_text tree.old.schema plan.now met (length tree.old.placed))) }
+        × (text.items ≡ explain_text tree.old.schema plan.now met (region_count tree.old))) }
     ensures text { IsSound tree.old
         → IfOk result (λ text. IsExplained tree.old.schema plan.now (regions tree.old) text.items) }
     ensures failed { IsTrue tree.old.is_failed → result ≡ Err (ReadFault.Tree TreeFault.Failed) }
@@ -44,31 +44,24 @@ fn count_met<S: PageStore>(tree: &mut Tree<S>, boxes: &[ZBox]) -> Result<u32, Re
         (regions tree.old)) }
     ensures effect { SearchesTree tree.old tree.new result }
 {
-    let mut met = Counter {
-        count: 0,
-        most: tree.regions(),
-    };
+    let mut met = Counter { count: 0 };
     tree.for_each_meeting(boxes, &mut met)?;
     Ok(met.count)
 }
 
-/// Counts the regions that it is handed, up to as many as the tree has.
+/// Counts the regions that it is handed, as far as 32 bits count.
 #[derive(Drop)]
 pub struct Counter {
     count: u32,
-    most: u32,
 }
 
 impl RegionSink for Counter {
     ghost use Rattle.std.specs.Prelude.{◌≡◌, min, length};
 
-    ghost Takes = { λ boxes start taken now. (now.most ≡ start.most)
-        × (now.count ≡ min (length taken) now.most) };
+    ghost Takes = { λ boxes start taken now. now.count ≡ min (length taken) 4294967295 };
 
     fn push(&mut self, _boxes: &[ZBox], _region: &Region) -> Result<(), AllocError> {
-        if self.count < self.most {
-            self.count += 1;
-        }
+        self.count = self.count.saturating_add(1);
         Ok(())
     }
 }

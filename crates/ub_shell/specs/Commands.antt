@@ -76,7 +76,7 @@ pub record IsTable (text name : List ℕ) (dims page_rows rows regions : ℕ) (p
   pub loaded : IsLoadedTree text dims page_rows name tree
   pub closed : AreSoundPages pages tree.schema tree.placed tree.next
   pub rows_are : rows ≡ tree.rows
-  pub regions_are : regions ≡ length tree.placed
+  pub regions_are : regions ≡ region_count tree
 
 -- a table file was made at this path, and a copying of these pages into it has ended so
 pub record IsCopied (table : List ℕ) (pages : List (List ℕ)) (old new : FilesFacts) (result : Result (Unit {0}) StoreFault) : Type 0 where
@@ -102,7 +102,7 @@ pub record IsFileOf (table text name : List ℕ) (dims page_rows rows regions : 
   pub synced : left.synced ≡ left.pages
   pub back : Returns table old new left
   pub rows_are : rows ≡ tree.rows
-  pub regions_are : regions ≡ length tree.placed
+  pub regions_are : regions ≡ region_count tree
 
 -- the text isn't loaded into memory
 abbrev pub IsUnloaded : List ℕ → List ℕ → ℕ → LoadFault → Type 0

@@ -1,5 +1,5 @@
 -- A sweep begins: the trace begins anew, and the regions that it awaits are found.
-use Rattle.std.proofs.Common.{◌≡◌, ◌<◌, ◌∙◌, ◌∷◌, ℕ, Bool, List, [], All, Option, Some, Result, Ok, Err, Contains, length, refl, sym, ap, subst}
+use Rattle.std.proofs.Common.{◌≡◌, ◌<◌, ◌∙◌, ◌∷◌, ℕ, Bool, List, [], All, Option, Some, Result, Ok, Err, length, refl, sym, ap, subst}
 use Rattle.std.specs.List.{AllByRecursion}
 use Rattle.std.specs.Result.{IsErrAnd}
 use Rattle.ub_bigmin.specs.Box.{Corners}
@@ -22,7 +22,8 @@ use Rattle.ub_tetris.specs.inner.Turns.{awaited_of, begun_view}
 use Rattle.ub_tree.proofs.Laws.{Keeps-by, begun_traced, given_before, unchanged_traced}
 use Rattle.ub_tree.specs.Reading.{IsGiven, SearchesTree, counted}
 use Rattle.ub_store.specs.View.{emptied}
-use Rattle.ub_tree.specs.View.{TreeView, spans_of}
+use Rattle.ub_tree.specs.Told.{IsRegionOf}
+use Rattle.ub_tree.specs.View.{TreeView}
 use Rattle.ub_tree.specs.declared.read_fault.ReadFault.{ReadFault}
 use Rattle.ub_tree.specs.declared.read_fault.ReadFault.TheVariants as read
 
@@ -40,8 +41,8 @@ begins_by {T = T} (Err f) e old mid new is began searches = rw is (begins e same
     begins read.Memory same fault = record { same = same; faults = tt }
     begins (read.Tree of_tree) same fault = record { same = same; faults = fault }
 
-ours : (t : TreeView) (awaited : List Awaited) → AllByRecursion (λ a. Contains (spans_of t) a.region) awaited
-    → AllByRecursion (λ (a : AwaitedRegion). Contains (spans_of t) a.region) (awaited_of awaited)
+ours : (t : TreeView) (awaited : List Awaited) → AllByRecursion (λ a. IsRegionOf t a.region) awaited
+    → AllByRecursion (λ (a : AwaitedRegion). IsRegionOf t a.region) (awaited_of awaited)
 ours t [] all = tt
 ours t (a ∷ awaited) all = (all.0, ours t awaited all.1)
 
@@ -51,8 +52,8 @@ started_by mid new boxes course awaited view same queued is =
     subst (λ (v : SweepView). IsStarted new v) (sym is) (subst (λ (t : TreeView). IsStarted t (begun_view course awaited)) (sym same) (record {
       none = refl;
       working = refl;
-      regions = ours mid awaited (all_permutation (λ a. Contains (spans_of mid) a.region) queued.met awaited queued.same
-          (of_regions (Contains (spans_of mid)) queued.met (met_there boxes mid (regions_awaited queued.met) queued.met_are.met)));
+      regions = ours mid awaited (all_permutation (λ a. IsRegionOf mid a.region) queued.met awaited queued.same
+          (of_regions (IsRegionOf mid) queued.met (met_there boxes mid (regions_awaited queued.met) queued.met_are.met)));
     }))
 
 same_course : (course : Course) (dim : ℕ) (is_descending : Bool) (found : Option Course) → found ≡ Some course → found ≡ Some (record { dim = dim; is_descending = is_descending })

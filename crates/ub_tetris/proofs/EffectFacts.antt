@@ -5,7 +5,7 @@ use Rattle.std.proofs.lemmas.List.Elements.{Contains-append_right}
 use Rattle.std.specs.List.{AllByRecursion}
 use Rattle.std.specs.Prelude.{OnOk}
 use Rattle.std.specs.Result.{IsErrAnd}
-use Rattle.ub_query.proofs.Laws.{contains_here}
+use Rattle.ub_query.proofs.Laws.{all_weaker, contains_here}
 use Rattle.ub_store.specs.Facts.{raised}
 use Rattle.ub_store.specs.View.{Trace, IsFull}
 use Rattle.ub_store.specs.declared.fault.StoreFault.TheVariants as store
@@ -14,10 +14,11 @@ use Rattle.ub_tetris.specs.Effects.{AreTakenIn, Sweeps, IsSweepFault, IsAwaitedF
 use Rattle.ub_tetris.specs.Sweep.{AwaitedRegion, SweepView, AreItsRegions}
 use Rattle.ub_tetris.specs.declared.fault.SweepFault.{SweepFault}
 use Rattle.ub_tetris.specs.declared.fault.SweepFault.TheVariants as sweep
-use Rattle.ub_tree.proofs.Laws.{IsTraced, given_before}
+use Rattle.ub_tree.proofs.Laws.{IsTraced, given_before, told_kept}
 use Rattle.ub_tree.specs.Effects.{IsReadFault, IsSpanFault, IsTakenIn, HasNoted, ReadsRegion, raised_by}
 use Rattle.ub_tree.specs.Reading.{fault_of_tree, read_store}
-use Rattle.ub_tree.specs.View.{TreeView, KeepsTrace, spans_of}
+use Rattle.ub_tree.specs.Told.{IsRegionOf}
+use Rattle.ub_tree.specs.View.{TreeView, KeepsTrace}
 use Rattle.ub_tree.specs.Spans.{Region as Span}
 use Rattle.ub_tree.specs.declared.fault.TreeFault.{TreeFault}
 use Rattle.ub_tree.specs.declared.fault.TreeFault.TheVariants.{Full, Page, Store, Failed as HasFailed, Memory}
@@ -53,8 +54,8 @@ noted_as old new page (inr noted) = (page ∷ [], (noted.pages_are, noted.fetche
 -- the next region awaited was come to, and nothing is known yet of the result but what it leaves of the store
 module _ {T : Type 0} (r : Result T SweepFault) (s new_s : SweepView) (a : AwaitedRegion) (old new : TreeView) (one : s.awaited ≡ a ∷ new_s.awaited)
     (same : new ≡ record old { store = read_store (as_reading r) old.store; trace = new.trace }) (pages : List ℕ) (notes : Notes old new pages) where
-  pub its_region : AreItsRegions old s → Contains (spans_of old) a.region
-  its_region all = (subst (λ (those : List AwaitedRegion). AllByRecursion (λ b. Contains (spans_of old) b.region) those) one all).0
+  pub its_region : AreItsRegions old s → IsRegionOf old a.region
+  its_region all = (subst (λ (those : List AwaitedRegion). AllByRecursion (λ b. IsRegionOf old b.region) those) one all).0
 
   pub swept_one : OnOk r (AreTakenIn old (a ∷ []) pages) → IfErr r (IsAwaitedFault s old) → (AreItsRegions old s → IfErr r (IsSweepFault s.is_failed old)) → Sweeps s new_s old new r
   swept_one taken refused faults =
@@ -69,8 +70,9 @@ module _ {T : Type 0} (r : Result T SweepFault) (s new_s : SweepView) (a : Await
         refused = refused;
         faults = faults;
         regions = λ all.
-            subst (λ (spans : List Span). AllByRecursion (λ b. Contains spans b.region) new_s.awaited) (sym (ap spans_of same))
-            (subst (λ (those : List AwaitedRegion). AllByRecursion (λ b. Contains (spans_of old) b.region) those) one all).1;
+            all_weaker (λ (b : AwaitedRegion). IsRegionOf old b.region) (λ b. IsRegionOf new b.region)
+            (λ b told. told_kept old new (ap (λ (t : TreeView). t.schema) same) (ap (λ (t : TreeView). t.placed) same) b.region told) new_s.awaited
+            (subst (λ (those : List AwaitedRegion). AllByRecursion (λ b. IsRegionOf old b.region) those) one all).1;
       }
 
 -- the region was read
@@ -97,7 +99,7 @@ first_awaited s new_s a one = subst (λ (those : List AwaitedRegion). Contains t
 module _ {T : Type 0} (s new_s : SweepView) (a : AwaitedRegion) (old new : TreeView) (one : s.awaited ≡ a ∷ new_s.awaited) (pages : List ℕ) (notes : Notes old new pages) where
   refused_by : (r : Result T SweepFault) (e : TreeFault) → IsErrAnd r (λ x. x ≡ of_read (fault_of_tree e))
       → new ≡ record old { store = record old.store { failed_reads = raised_by e old.store.failed_reads }; trace = new.trace }
-      → IsSpanFault a.region old e → (Contains (spans_of old) a.region → IsReadFault old e) → Sweeps s new_s old new r
+      → IsSpanFault a.region old e → (IsRegionOf old a.region → IsReadFault old e) → Sweeps s new_s old new r
   refused_by (Ok x) e is same refused faults = absurd is
   refused_by (Err f) Memory is same refused faults = rw is (swept_one (Err sweep.Memory) s new_s a old new one same pages notes tt tt (λ all. tt))
   refused_by (Err f) Full is same refused faults = absurd refused

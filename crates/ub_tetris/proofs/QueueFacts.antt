@@ -24,7 +24,7 @@ use Rattle.ub_table.specs.declared.row.Key.{Key}
 use Rattle.ub_tetris.proofs.ArrangeFacts.{rising_two}
 use Rattle.ub_tetris.proofs.EventFacts.{events_total}
 use Rattle.ub_tetris.proofs.SortedFacts.{keys_rise, rising_permutation, rising_weaker, strictly_from_sorted}
-use Rattle.ub_tetris.proofs.SpanFacts.{met_rise, met_there, of_regions}
+use Rattle.ub_tetris.proofs.SpanFacts.{met_own, met_rise, of_regions}
 use Rattle.ub_tetris.specs.Awaited.{AreMetAlong, IsAwaitedBefore, IsFirstValue}
 use Rattle.ub_tetris.specs.Sweep.{AreAwaited, AwaitedRegion}
 use Rattle.ub_tetris.specs.declared.course.Course.{Course}
@@ -313,7 +313,7 @@ module _ (t : TreeView) (boxes : List Corners) (course : Course) (awaited : List
       rising_permutation same_first same_flips queue.met awaited queue.same
       (rising_weaker (λ (a b : Awaited). IsBefore a.region.first b.region.first) (λ a b. same_first a b ≡ false) same_false queue.met
       (Rising-map (λ (a b : TreeRegion). IsBefore a.first b.first) (λ (a : Awaited). a.region) queue.met
-      (met_rise (Meets boxes) (spans_of t) None (regions_awaited queue.met) queue.met_are.met)))
+      (met_rise boxes t None (regions_awaited queue.met) queue.met_are.met)))
 
   queue_rises : Rising (λ a b. event_cmp course.is_descending a b ≡ Less) awaited
   queue_rises =
@@ -377,7 +377,7 @@ module _ (t : TreeView) (sound : IsSound t) (boxes : List Corners) (course : Cou
 pub queued : (t : TreeView) (boxes : List Corners) (course : Course) (awaited : List Awaited) → IsSound t → AreQueued boxes course t awaited
     → (events : List Event) × AreEvents t.schema boxes course.dim course.is_descending (regions t) events × AreAwaited t (awaited_of awaited) events
 queued t boxes course awaited sound queue =
-    let there = all_permutation (λ (a : Awaited). Contains (spans_of t) a.region) queue.met awaited queue.same (of_regions (Contains (spans_of t)) queue.met (met_there boxes t (regions_awaited queue.met) queue.met_are.met)) in
+    let there = all_permutation (λ (a : Awaited). Contains (spans_of t) a.region) queue.met awaited queue.same (of_regions (Contains (spans_of t)) queue.met (met_own boxes t (regions_awaited queue.met) sound queue.met_are.met)) in
     let (events, are) = matched t awaited there in
     (events, are_events t sound boxes course awaited queue events are, matched_awaited t awaited events are)
 

@@ -10,11 +10,11 @@ use Rattle.ub_tetris.specs.Awaited.{IsFirstOn, IsFirstValue}
 use Rattle.ub_tetris.specs.inner.Events.{AreMet, AreValued, HasMet, regions_awaited}
 use Rattle.ub_query.proofs.Laws.{Rising, all_weaker}
 use Rattle.ub_table.specs.Keys.{IsBefore}
-use Rattle.ub_tree.proofs.Laws.{answers_are_regions_that_meet, answers_later}
+use Rattle.ub_tree.proofs.Laws.{answers_are_regions_that_meet, answers_later, regions_are_told}
 use Rattle.ub_tree.specs.Handing.{AreMetBy}
-use Rattle.ub_tree.specs.Laws.{AreAnswers}
 use Rattle.ub_tree.specs.Spans.{Meets, Region}
-use Rattle.ub_tree.specs.View.{TreeView, spans_of}
+use Rattle.ub_tree.specs.Told.{AreAnswers, IsRegionOf}
+use Rattle.ub_tree.specs.View.{TreeView, IsSound, spans_of}
 
 met_value : (boxes : List Corners) (region : Region) (dim : ℕ) → Meets boxes region → (v : ℕ) × IsValueInSpan boxes region.from region.to dim v
 met_value boxes region dim (z, held, from, to) =
@@ -32,15 +32,19 @@ met_first boxes region dim down found meets first none =
     let (v, is) = met_value boxes region dim meets in
     none_first down (IsValueInSpan boxes region.from region.to dim) v (subst (λ (o : Option ℕ). IsFirstOn down (IsValueInSpan boxes region.from region.to dim) o) none first) is
 
--- the regions that a tree tells of are its own
-pub met_there : (boxes : List Corners) (t : TreeView) (met : List Region) → AreMetBy boxes t met → AllByRecursion (Contains (spans_of t)) met
+-- the tree tells of the regions that it gives
+pub met_there : (boxes : List Corners) (t : TreeView) (met : List Region) → AreMetBy boxes t met → AllByRecursion (IsRegionOf t) met
 met_there boxes t met by =
-    all_weaker (λ (r : Region). Contains (spans_of t) r × Meets boxes r) (Contains (spans_of t)) (λ r is. is.0) met (answers_are_regions_that_meet t boxes met by).0
+    all_weaker (λ (r : Region). IsRegionOf t r × Meets boxes r) (IsRegionOf t) (λ r is. is.0) met (answers_are_regions_that_meet t boxes met by)
+
+-- of a sound tree they are its own
+pub met_own : (boxes : List Corners) (t : TreeView) (met : List Region) → IsSound t → AreMetBy boxes t met → AllByRecursion (Contains (spans_of t)) met
+met_own boxes t met sound by = all_weaker (IsRegionOf t) (Contains (spans_of t)) (λ r is. (regions_are_told t r sound).0 is) met (met_there boxes t met by)
 
 -- and each begins before all later ones
-pub met_rise : (P : Region → Type 0) (spans : List Region) (after : Option Region) (answers : List Region) → AreAnswers P spans after answers → Rising (λ a b. IsBefore a.first b.first) answers
-met_rise P spans after [] are = tt
-met_rise P spans after (found ∷ more) (first, rest) = (answers_later P spans found more rest, met_rise P spans (Some found) more rest)
+pub met_rise : (boxes : List Corners) (t : TreeView) (after : Option Region) (answers : List Region) → AreAnswers boxes t after answers → Rising (λ a b. IsBefore a.first b.first) answers
+met_rise boxes t after [] are = tt
+met_rise boxes t after (found ∷ more) (gives, rest) = (answers_later boxes t found more rest, met_rise boxes t (Some found) more rest)
 
 -- what is true of the regions is so of each region awaited
 pub of_regions : (P : Region → Type 0) (awaited : List Awaited) → AllByRecursion P (regions_awaited awaited) → AllByRecursion (λ a. P a.region) awaited

@@ -13,6 +13,7 @@ use Rattle.ub_tetris.specs.Machine.{IsUnderWay, IsRowAlong, regions_at}
 use Rattle.ub_tree.specs.Placed.{Placed, regions_in}
 use Rattle.ub_tree.specs.View.{TreeView, IsSound, regions, spans_of}
 use Rattle.ub_tree.specs.Spans.{Region as TreeRegion}
+use Rattle.ub_tree.specs.Told.{IsRegionOf}
 
 -- a region that is not fetched yet, and its event value
 pub record AwaitedRegion : Type 0 where
@@ -112,11 +113,11 @@ pub record HasBegun (plan : PlanView) (t : TreeView) (s : SweepView) : Type 0 wh
   pub unread : List Event
   pub sweeping : IsSweeping plan t s [] rest [] unread
 
--- the regions that a sweep awaits are regions of the tree
+-- the regions that a sweep awaits are such as the tree tells of
 abbrev pub AreItsRegions : TreeView → SweepView → Type 0
-AreItsRegions t s = AllByRecursion (λ awaited. Contains (spans_of t) awaited.region) s.awaited
+AreItsRegions t s = AllByRecursion (λ awaited. IsRegionOf t awaited.region) s.awaited
 
--- a sweep that was begun over any tree: it holds nothing, hasn't failed, and awaits regions of the tree
+-- a sweep that was begun over any tree: it holds nothing, hasn't failed, and awaits regions that the tree tells of
 pub record IsStarted (t : TreeView) (s : SweepView) : Type 0 where
   pub none : s.held ≡ []
   pub working : s.is_failed ≡ false

@@ -1,12 +1,14 @@
--- What a search answers that is asked for the next region again and again, over regions in any order: each answer is later than
--- the one before it, so there are no more than regions, and after as many none is left.
+-- What a tree answers that is asked for the next region that meets some boxes again and again, its regions in any order: each
+-- answer is later than the one before it, so there are no more than regions, and fewer are left after each.
 use Rattle.std.proofs.Common.{◌≡◌, ◌<◌, ◌≤◌, ◌+◌, ◌∙◌, ◌++◌, ◌∷◌, ◌⊎◌, inl, inr, ℕ, zero, suc, Bool, true, false, List, [], Option, Some, None, Contains, IsTrue, length, slice_get, refl, sym, ap, subst, arith, append_assoc}
 use Rattle.std.proofs.lemmas.List.{append-nil}
 use Rattle.std.specs.List.{AllByRecursion}
 use Rattle.ub_table.proofs.Laws.{before_trans, not_before_self, precedes_trans}
 use Rattle.ub_table.specs.Keys.{IsBefore, precedes}
-use Rattle.ub_tree.specs.Laws.{AreAnswers}
-use Rattle.ub_tree.specs.Spans.{First, IsLater, Region as Span}
+use Rattle.ub_bigmin.specs.Box.{Corners}
+use Rattle.ub_tree.specs.Spans.{IsLater, Meets, Region as Span}
+use Rattle.ub_tree.specs.Told.{AreAnswers, GivesNext, IsRegionOf}
+use Rattle.ub_tree.specs.View.{TreeView, spans_of}
 
 -- ---- how many spans are later than one
 
@@ -70,14 +72,6 @@ count_less f g h (x ∷ xs) r there t n = elim (found_cases x xs r there) [
   | inr later ↦ let rest = count_less f g h xs r later t n in let one = weight_le (g x) (f x) (h x) in omega arith
 ]
 
-count_some : (f : Span → Bool) (xs : List Span) (r : Span) → Contains xs r → f r ≡ true → 1 ≤ count f xs
-unfolding count
-count_some f [] r there t = absurd (found_none r there)
-count_some f (x ∷ xs) r there t = elim (found_cases x xs r there) [
-  | inl same ↦ let one = weight_one (f x) (ap f same ∙ t) in omega arith
-  | inr later ↦ let rest = count_some f xs r later t in omega arith
-]
-
 abbrev pub comes_later : Option Span → Span → Bool
 comes_later None s = true
 comes_later (Some a) s = precedes a.first s.first
@@ -100,27 +94,40 @@ fewer_later spans after span there later =
     count_less (comes_later after) (comes_later (Some span)) (λ s t. later_then after span s later t) spans span there (later_is after span later)
     (not_later (precedes span.first span.first) (not_before_self span.first))
 
--- after so many turns: these are the first answers, and the last of them
-pub record HasAnswers (P : Span → Type 0) (spans : List Span) (turns : ℕ) (found : List Span) (after : Option Span) : Type 0 where
-  pub answers : (more : List Span) → AreAnswers P spans after more → AreAnswers P spans None (found ++ more)
-  pub few : turns + count (comes_later after) spans ≤ length spans
+-- how many of the regions that a tree tells of begin later than this one
+pub left_after : TreeView → Option Span → ℕ
+left_after t after = count (comes_later after) (spans_of t)
 
-module _ (P : Span → Type 0) (spans : List Span) where
+-- these are the first answers, and the last of them
+pub record HasAnswers (boxes : List Corners) (t : TreeView) (found : List Span) (after : Option Span) : Type 0 where
+  pub answers : (more : List Span) → AreAnswers boxes t after more → AreAnswers boxes t None (found ++ more)
+
+module _ (boxes : List Corners) (t : TreeView) where
+  -- ---- one answer
+
+  pub next_later : (after : Option Span) (span : Span) → GivesNext boxes t after (Some span) → IsRegionOf t span × IsLater after span × Meets boxes span
+  next_later after span gives = (record { there = gives.first.0 }, gives.first.1.0, gives.first.1.1)
+
+  -- fewer are left after it
+  pub left_less : (after : Option Span) (span : Span) → GivesNext boxes t after (Some span) → left_after t (Some span) < left_after t after
+  unfolding left_after
+  left_less after span gives = let fewer = fewer_later (spans_of t) after span gives.first.0 gives.first.1.0 in omega arith
+
   -- ---- all answers
 
-  -- they are spans that have the property
-  pub answers_there : (after : Option Span) (answers : List Span) → AreAnswers P spans after answers → AllByRecursion (λ r. Contains spans r × P r) answers
+  -- they are regions that the tree tells of and that meet the boxes
+  pub answers_there : (after : Option Span) (answers : List Span) → AreAnswers boxes t after answers → AllByRecursion (λ r. IsRegionOf t r × Meets boxes r) answers
   answers_there after [] are = tt
-  answers_there after (found ∷ more) (first, rest) = ((first.0, first.1.1), answers_there (Some found) more rest)
+  answers_there after (found ∷ more) (gives, rest) = ((record { there = gives.first.0 }, gives.first.1.1), answers_there (Some found) more rest)
 
   -- and later than the one after which they are asked for
-  pub answers_later : (a : Span) (answers : List Span) → AreAnswers P spans (Some a) answers → AllByRecursion (λ r. IsBefore a.first r.first) answers
+  pub answers_later : (a : Span) (answers : List Span) → AreAnswers boxes t (Some a) answers → AllByRecursion (λ r. IsBefore a.first r.first) answers
   answers_later a [] are = tt
-  answers_later a (found ∷ more) (first, rest) = (first.1.0, all_later more (answers_later found more rest))
+  answers_later a (found ∷ more) (gives, rest) = (gives.first.1.0, all_later more (answers_later found more rest))
     where
       all_later : (rs : List Span) → AllByRecursion (λ r. IsBefore found.first r.first) rs → AllByRecursion (λ r. IsBefore a.first r.first) rs
       all_later [] all = tt
-      all_later (r ∷ rs) all = (before_trans a.first found.first r.first first.1.0 all.0, all_later rs all.1)
+      all_later (r ∷ rs) all = (before_trans a.first found.first r.first gives.first.1.0 all.0, all_later rs all.1)
 
   later_at : (a : Span) (rs : List Span) → AllByRecursion (λ r. IsBefore a.first r.first) rs → (j : ℕ) (b : Span) → slice_get rs j ≡ Some b → IsBefore a.first b.first
   later_at a [] all j b at = cc
@@ -128,52 +135,41 @@ module _ (P : Span → Type 0) (spans : List Span) where
   later_at a (r ∷ rs) all (suc j) b at = later_at a rs all.1 j b at
 
   -- each is later than all before it
-  pub answers_up : (after : Option Span) (answers : List Span) → AreAnswers P spans after answers
+  pub answers_up : (after : Option Span) (answers : List Span) → AreAnswers boxes t after answers
       → (i j : ℕ) (a b : Span) → i < j → slice_get answers i ≡ Some a → slice_get answers j ≡ Some b → IsBefore a.first b.first
   answers_up after [] are i j a b lt at_i at_j = cc
   answers_up after (found ∷ more) are i zero a b lt at_i at_j = absurd (omega arith)
-  answers_up after (found ∷ more) (first, rest) zero (suc j) a b lt at_i at_j =
+  answers_up after (found ∷ more) (gives, rest) zero (suc j) a b lt at_i at_j =
       let same : found ≡ a = cc in
       subst (λ (s : Span). IsBefore s.first b.first) same (later_at found more (answers_later found more rest) j b at_j)
-  answers_up after (found ∷ more) (first, rest) (suc i) (suc j) a b lt at_i at_j = answers_up (Some found) more rest i j a b (omega arith) at_i at_j
+  answers_up after (found ∷ more) (gives, rest) (suc i) (suc j) a b lt at_i at_j = answers_up (Some found) more rest i j a b (omega arith) at_i at_j
 
-  few_later : (after : Option Span) (answers : List Span) → AreAnswers P spans after answers → length answers ≤ count (comes_later after) spans
+  few_later : (after : Option Span) (answers : List Span) → AreAnswers boxes t after answers → length answers ≤ count (comes_later after) (spans_of t)
   few_later after [] are = omega arith
-  few_later after (found ∷ more) (first, rest) =
-      let fewer = fewer_later spans after found first.0 first.1.0 in
+  few_later after (found ∷ more) (gives, rest) =
+      let fewer = fewer_later (spans_of t) after found gives.first.0 gives.first.1.0 in
       let few = few_later (Some found) more rest in
       omega arith
 
-  -- there are no more than spans
-  pub answers_few : (answers : List Span) → AreAnswers P spans None answers → length answers ≤ length spans
+  -- there are no more than regions
+  pub answers_few : (answers : List Span) → AreAnswers boxes t None answers → length answers ≤ length (spans_of t)
   answers_few answers are =
       let few = few_later None answers are in
-      let all = count_few (comes_later None) spans in
+      let all = count_few (comes_later None) (spans_of t) in
       omega arith
 
   -- ---- the answers so far
 
-  pub HasAnswers-none : HasAnswers P spans 0 [] None
-  HasAnswers-none = record { answers = λ more are. are; few = let all = count_few (comes_later None) spans in omega arith }
+  pub HasAnswers-none : HasAnswers boxes t [] None
+  HasAnswers-none = record { answers = λ more are. are }
 
-  module _ (turns : ℕ) (found : List Span) (after : Option Span) (so_far : HasAnswers P spans turns found after) where
+  module _ (found : List Span) (after : Option Span) (so_far : HasAnswers boxes t found after) where
     -- one more came
-    pub HasAnswers-more : (span : Span) → First (λ s. IsLater after s × P s) spans (Some span) → HasAnswers P spans (turns + 1) (found ++ span ∷ []) (Some span)
-    HasAnswers-more span first = record {
-      answers = λ more are. subst (λ (all : List Span). AreAnswers P spans None all) (sym (append_assoc found (span ∷ []) more)) (so_far.answers (span ∷ more) (first, are));
-      few =
-          let few = so_far.few in
-          let fewer = fewer_later spans after span first.0 first.1.0 in
-          omega arith;
+    pub HasAnswers-more : (span : Span) → GivesNext boxes t after (Some span) → HasAnswers boxes t (found ++ span ∷ []) (Some span)
+    HasAnswers-more span gives = record {
+      answers = λ more are. subst (λ (all : List Span). AreAnswers boxes t None all) (sym (append_assoc found (span ∷ []) more)) (so_far.answers (span ∷ more) (gives, are));
     }
 
     -- they are all where none is left
-    pub answers_ended : First (λ s. IsLater after s × P s) spans None → AreAnswers P spans None found
-    answers_ended none = subst (λ (all : List Span). AreAnswers P spans None all) (append-nil found) (so_far.answers [] none)
-
-    -- as it is after as many turns as there are spans
-    pub answers_after : (n : ℕ) → n ≤ turns → n ≡ length spans → AreAnswers P spans None found
-    answers_after n past long = answers_ended (λ s there meets.
-        let some = count_some (comes_later after) spans s there (later_is after s meets.0) in
-        let few = so_far.few in
-        absurd (omega arith))
+    pub answers_ended : GivesNext boxes t after None → AreAnswers boxes t None found
+    answers_ended none = subst (λ (all : List Span). AreAnswers boxes t None all) (append-nil found) (so_far.answers [] none)

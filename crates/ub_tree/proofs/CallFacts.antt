@@ -1,5 +1,5 @@
 -- What the calls of a tree find on a sound one, and why they are refused.
-use Rattle.std.proofs.Common.{◌⊎◌, inl, inr, ◌≡◌, ℕ, suc, Bool, IsTrue, List, ◌∷◌, Some, Result, Ok, Err, IfErr, IsOk, OnOk, ap, sym, subst, refl, slice_get, length, map, drop, ◌≤◌, ◌<◌, ◌∙◌, arith}
+use Rattle.std.proofs.Common.{◌⊎◌, inl, inr, ◌≡◌, ℕ, suc, Bool, IsTrue, List, ◌∷◌, Option, Some, None, IfSome, Result, Ok, Err, IfErr, IsOk, OnOk, ap, sym, subst, refl, slice_get, length, map, drop, ◌≤◌, ◌<◌, ◌∙◌, arith}
 use Rattle.std.proofs.lemmas.Option.{slice_get_read}
 use Rattle.std.specs.Result.{IsErrAnd, IsErrOf}
 use Rattle.std.specs.List.{Contains}
@@ -13,7 +13,7 @@ use Rattle.ub_page.specs.Region.{region_page}
 use Rattle.ub_table.specs.Region.{Region, IsRegion}
 use Rattle.ub_table.specs.declared.fault.PageFault.{PageFault}
 use Rattle.ub_table.specs.declared.schema.Schema.{Schema}
-use Rattle.ub_tree.specs.Change.{HasStopped, IsSeatIn, IsSeatThere, IsWriteFault}
+use Rattle.ub_tree.specs.inner.Change.{HasStopped, IsOnSeat, IsSeatIn, IsSeatThere, IsWriteFault}
 use Rattle.ub_tree.specs.Effects.{Searches, read_store, IsReadFault, IsRegionRefused, IsPageRefused, IsPageMissing, IsSpanFault, IsTakenIn}
 use Rattle.ub_directory.specs.Searching.{Searches as Looks}
 use Rattle.ub_directory.specs.Spans.{IsSeat}
@@ -21,9 +21,10 @@ use Rattle.ub_directory.specs.View.{SeatView}
 use Rattle.ub_directory.specs.declared.fault.DirectoryFault.{DirectoryFault}
 use Rattle.ub_directory.specs.declared.fault.DirectoryFault.TheVariants as directory
 use Rattle.ub_tree.specs.Faults.{tree_fault, opening_fault}
-use Rattle.ub_tree.specs.Spans.{first_keys, regions_of, Region as Span}
+use Rattle.ub_tree.specs.Spans.{First, first_keys, regions_of, Region as Span}
 use Rattle.ub_tree.specs.Tree.{IsHeldBy, known_pages, tree_view}
 use Rattle.ub_tree.specs.Placed.{Placed, ArePlaced, placed_of, entry_of}
+use Rattle.ub_tree.specs.Told.{IsRegionOf}
 use Rattle.ub_tree.specs.View.{TreeView, IsSound, spans_of}
 use Rattle.ub_tree.specs.declared.fault.TreeFault.{TreeFault}
 use Rattle.ub_tree.specs.declared.fault.TreeFault.TheVariants.{Failed, Page, Store}
@@ -53,6 +54,15 @@ pub on_ok_by : {T E : Type 0} (r : Result T E) {P : Type 0} → P → OnOk r P
 on_ok_by (Ok x) p = p
 on_ok_by (Err e) p = tt
 
+-- what is found first is later than the region given, and one that the tree tells of
+pub first_later : (P Q : Span → Type 0) (spans : List Span) (found : Option Span) → First (λ r. P r × Q r) spans found → IfSome found P
+first_later P Q spans None first = tt
+first_later P Q spans (Some r) first = first.1.0
+
+pub first_reached : (t : TreeView) (P Q : Span → Type 0) (found : Option Span) → First (λ r. P r × Q r) (spans_of t) found → IfSome found (λ r. IsRegionOf t r × P r × Q r)
+first_reached t P Q None first = tt
+first_reached t P Q (Some r) first = (record { there = first.0 }, first.1.0, first.1.1)
+
 -- what a tree's directory tells of a page that was refused, or isn't there
 pub refused_there : (schema : Schema) (entries : List Entry) (chain : List ℕ) (next rows : ℕ) (changed failed : Bool) (pager : PagerView) (i : ℕ) (e : Entry) (number : ℕ) (page : List ℕ) (fault : PageFault)
     → slice_get entries i ≡ Some e → e.page ≡ number → IsPage pager.store number page → IsRegionRefused schema e.first (slice_get (first_keys entries) (suc i)) page fault
@@ -61,27 +71,31 @@ refused_there schema entries chain next rows changed failed pager i e number pag
     let last = last_address schema.dims in
     let span : Span = region_with (span_end last (first_keys (drop (suc i) entries))) (slice_get (first_keys entries) (suc i)) e in
     let there = contained_at (λ (_ : Span). Unit {0}) (regions_of last entries) i span (region_is last entries i e at) in
-    (span, subst (λ (es : List Entry). Contains (regions_of last es) span) (sym (entries_back schema (known_pages pager.store) entries)) there, same, page, is, refused)
+    (span, record { there = subst (λ (es : List Entry). Contains (regions_of last es) span) (sym (entries_back schema (known_pages pager.store) entries)) there }, same, page, is, refused)
 
-pub missing_there : (schema : Schema) (entries : List Entry) (chain : List ℕ) (next rows : ℕ) (changed failed : Bool) (pager : PagerView) (e : Entry)
-    → Contains entries e → length pager.store.pages ≤ e.page → IsPageMissing (tree_view schema entries chain next rows changed failed pager)
-missing_there schema entries chain next rows changed failed pager e there past =
-    (e, subst (λ (es : List Entry). Contains es e) (sym (entries_back schema (known_pages pager.store) entries)) there, past)
+pub missing_there : (schema : Schema) (entries : List Entry) (chain : List ℕ) (next rows : ℕ) (changed failed : Bool) (pager : PagerView) (i : ℕ) (e : Entry)
+    → slice_get entries i ≡ Some e → length pager.store.pages ≤ e.page → IsPageMissing (tree_view schema entries chain next rows changed failed pager)
+missing_there schema entries chain next rows changed failed pager i e at past =
+    let last = last_address schema.dims in
+    let span : Span = region_with (span_end last (first_keys (drop (suc i) entries))) (slice_get (first_keys entries) (suc i)) e in
+    let there = contained_at (λ (_ : Span). Unit {0}) (regions_of last entries) i span (region_is last entries i e at) in
+    (span, record { there = subst (λ (es : List Entry). Contains (regions_of last es) span) (sym (entries_back schema (known_pages pager.store) entries)) there }, past)
 
-pub listed_there : (schema : Schema) (pages : List (List ℕ)) (entries : List Entry) (index : ℕ) (e : Entry) → slice_get entries index ≡ Some e
-    → (entry : Entry) × Contains (map entry_of (placed_of schema pages entries)) entry × (entry.page ≡ e.page)
-listed_there schema pages entries index e at =
-    (e, subst (λ (es : List Entry). Contains es e) (sym (entries_back schema pages entries)) (contained_at (λ (_ : Entry). Unit {0}) entries index e at), refl)
+-- the region of a seat, as the tree tells of it
+pub seat_told : (t : TreeView) (seat : SeatView) → IsSeatIn t seat
+    → (span : Span) × IsRegionOf t span × (span.first ≡ seat.first) × (span.next ≡ seat.next) × (span.page ≡ seat.page)
+seat_told t seat stands =
+    let last = last_address t.schema.dims in
+    let entries = map entry_of t.placed in
+    let e : Entry = record { first = seat.first; page = seat.page } in
+    let span : Span = region_with (span_end last (first_keys (drop (suc seat.index) entries))) (slice_get (first_keys entries) (suc seat.index)) e in
+    let there = contained_at (λ (_ : Span). Unit {0}) (regions_of last entries) seat.index span (region_is last entries seat.index e stands.entry) in
+    (span, record { there = there }, refl, sym stands.next, refl)
 
--- the entry of a region of the tree
-pub span_listed : (schema : Schema) (entries : List Entry) (chain : List ℕ) (next rows : ℕ) (changed failed : Bool) (pager : PagerView) (last : ℕ) (span : Span)
-    → last ≡ last_address schema.dims → Contains (spans_of (tree_view schema entries chain next rows changed failed pager)) span
-    → (e : Entry) × Contains entries e × (e.first ≡ span.first) × (e.page ≡ span.page)
-span_listed schema entries chain next rows changed failed pager last span is there =
-    let found = rw (← spans_are schema (known_pages pager.store) entries last is) at there in
-    let at : slice_get (regions_of last entries) found.0 ≡ Some span = slice_get_read (regions_of last entries) (length (regions_of last entries)) found.0 span refl found.1 (sym found.2) in
-    let entry = span_entry last entries found.0 span at in
-    (entry.0, contained_at (λ (_ : Entry). Unit {0}) entries found.0 entry.0 entry.1, entry.2, entry.3)
+-- what stands on the page of a seat is taken in
+pub taken_on : (t : TreeView) (seat : SeatView) (span : Span) (region : Region) → span.first ≡ seat.first → span.next ≡ seat.next → span.page ≡ seat.page
+    → IsOnSeat t seat region → IsTakenIn t span region
+taken_on t seat span region first next page on = rw (first, next, page) (on.is, on.held, on.page)
 
 -- a fault of a page of this number, of which this is known
 abbrev pub IsTold : ℕ → (PageFault → Type 0) → TreeFault → Type 0

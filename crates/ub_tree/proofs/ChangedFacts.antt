@@ -5,7 +5,7 @@ use Rattle.std.specs.List.{remove}
 use Rattle.ub_page.specs.declared.directory.Entry.{Entry}
 use Rattle.ub_store.specs.Facts.{StoreFacts, IsHonest}
 use Rattle.ub_table.specs.declared.row.Row.{Row}
-use Rattle.ub_tree.specs.Change.{IsElsewhereSame, JoinsAt, StoresAt, TakesAt, Writes}
+use Rattle.ub_tree.specs.inner.Change.{IsElsewhereSame, JoinsAt, StoresAt, TakesAt, Writes}
 use Rattle.ub_tree.specs.Others.{AddsEntry, GrowsAt, KeepsAllBut, KeepsEntries, KeepsOthers, ShrinksAt}
 use Rattle.ub_tree.specs.Placed.{Placed, entry_of}
 use Rattle.ub_tree.specs.View.{TreeView}

@@ -13,7 +13,8 @@ use Rattle.ub_zaddr.specs.Address.{last_address}
 use Rattle.ub_page.specs.declared.directory.Entry.{Entry}
 use Rattle.ub_store.specs.Facts.{IsHonest}
 use Rattle.ub_store.specs.View.{PagerView}
-use Rattle.ub_tree.specs.Change.{AreRowsAt, HasRoom, IsStored, IsSplitAt, IsInserted, Suits, numbered, placed_with, regions_with, row_of, split_of}
+use Rattle.ub_tree.specs.Change.{IsInserted, Suits, numbered, row_of}
+use Rattle.ub_tree.specs.inner.Change.{AreRowsAt, HasRoom, IsStored, IsSplitAt, placed_with, regions_with, split_of}
 use Rattle.ub_tree.specs.Spans.{ArePlaces, first_keys}
 use Rattle.ub_tree.specs.Tree.{known_pages, tree_view}
 use Rattle.ub_tree.specs.Placed.{placed_of, Placed, entry_of, regions_in}

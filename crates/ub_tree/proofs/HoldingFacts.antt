@@ -15,7 +15,7 @@ use Rattle.ub_table.specs.declared.fault.PageFault.{PageFault}
 use Rattle.ub_table.specs.declared.fault.PageFault.TheVariants.{BadCount, BadOrder}
 use Rattle.ub_table.specs.declared.row.Row.{Row}
 use Rattle.ub_table.specs.declared.row.Key.{Key}
-use Rattle.ub_tree.specs.Change.{IsOnSeat, IsSeatIn}
+use Rattle.ub_tree.specs.inner.Change.{IsOnSeat, IsSeatIn}
 use Rattle.ub_tree.specs.Faults.{tree_fault}
 use Rattle.ub_tree.specs.Holding.{Answers, AnswersKey, AnswersRemoval, FallsInto, index_for}
 use Rattle.ub_tree.specs.Opened.{IsPassing}

@@ -8,17 +8,17 @@ use Rattle.ub_region.proofs.Laws as lists
 use Rattle.ub_region.specs.Regions.{firsts_of}
 use Rattle.ub_region.specs.Spans.{span_end}
 use Rattle.ub_table.specs.Region.{Region}
-use Rattle.ub_tree.proofs.AnswerFacts.{answers_up}
+use Rattle.ub_tree.proofs.AnswerFacts.{answers_up, next_later}
 use Rattle.ub_tree.proofs.WalkFacts.{answers_are_those}
-use Rattle.ub_tree.specs.Laws.{SpansAscend, PagesDiffer, SpansCoverTheSpace, RowsLieInSpans, AnswersAreThoseThatMeet, AnswersAreRegionsThatMeet, AnswersAscend}
+use Rattle.ub_tree.specs.Laws.{SpansAscend, PagesDiffer, SpansCoverTheSpace, RowsLieInSpans, RegionsAreTold, NextIsTheFirst, NextIsLater, AnswersAreThoseThatMeet, AnswersAreRegionsThatMeet, AnswersAscend}
 use Rattle.ub_tree.specs.Placed.{Placed, entry_of, regions_in}
-use Rattle.ub_tree.specs.Spans.{Meets, first_keys, regions_of, Region as Span}
+use Rattle.ub_tree.specs.Spans.{first_keys, regions_of, Region as Span}
 use Rattle.ub_tree.specs.View.{TreeView, IsSound, regions, spans_of}
 use Rattle.ub_zaddr.specs.Address.{last_address}
-pub use Rattle.ub_tree.proofs.AnswerFacts.{HasAnswers, HasAnswers-none, HasAnswers-more, answers_after, answers_ended, answers_few, answers_later, answers_there}
+pub use Rattle.ub_tree.proofs.AnswerFacts.{HasAnswers, HasAnswers-none, HasAnswers-more, answers_ended, answers_later, answers_there, left_after, left_less}
 pub use Rattle.ub_tree.proofs.GrowFacts.{firsts_placed, new_values, numbered_row}
 pub use Rattle.ub_tree.proofs.MeetFacts.{before, contained_at, contains_at, is_later, later_from, spans_long, take_all, those_next, those_up_to}
-pub use Rattle.ub_tree.proofs.ReadFacts.{IsTraced, Keeps, Keeps-by, Keeps-more, Keeps-none, begun_traced, given_before, memory_searches, read_fault_before, reads_by, reads_then, sound_fault, traced_spans, tree_reads, tree_searches, unchanged_trace, unchanged_traced, SearchesTree-regions, SearchesTree-sound, SearchesTree-trace}
+pub use Rattle.ub_tree.proofs.ReadFacts.{IsTraced, Keeps, Keeps-by, Keeps-more, Keeps-none, begun_traced, given_before, memory_searches, read_fault_before, reads_by, reads_then, sound_fault, told_kept, traced_gives, traced_told, tree_reads, tree_searches, unchanged_trace, unchanged_traced, SearchesTree-regions, SearchesTree-sound, SearchesTree-trace}
 pub use Rattle.ub_directory.proofs.Laws.{region_first}
 use Rattle.ub_directory.specs.Inner.{reserved}
 
@@ -131,15 +131,21 @@ rows_lie_in_spans t span r row sound there stands has =
     let ends = one.to in
     (omega arith, omega arith)
 
+pub regions_are_told : RegionsAreTold
+regions_are_told t span sound = (λ told. told.there, λ there. record { there = there })
+
+pub next_is_the_first : NextIsTheFirst
+next_is_the_first t boxes after found sound gives = gives.first
+
+pub next_is_later : NextIsLater
+next_is_later t boxes after span gives = next_later boxes t after span gives
+
 pub answers_are_those_that_meet : AnswersAreThoseThatMeet
 answers_are_those_that_meet t boxes answers sound are =
-    answers_are_those (Meets boxes) (spans_of t) (λ i j a b lt at_i at_j. spans_ascend t i j a b sound lt at_i at_j) answers are
+    answers_are_those boxes t (λ i j a b lt at_i at_j. spans_ascend t i j a b sound lt at_i at_j) answers are
 
 pub answers_are_regions_that_meet : AnswersAreRegionsThatMeet
-answers_are_regions_that_meet t boxes answers are =
-    let few = answers_few (Meets boxes) (spans_of t) answers are in
-    let long = spans_long (last_address t.schema.dims) t.placed in
-    (answers_there (Meets boxes) (spans_of t) None answers are, omega arith)
+answers_are_regions_that_meet t boxes answers are = answers_there boxes t None answers are
 
 pub answers_ascend : AnswersAscend
-answers_ascend t boxes answers i j a b are lt at_i at_j = answers_up (Meets boxes) (spans_of t) None answers are i j a b lt at_i at_j
+answers_ascend t boxes answers i j a b are lt at_i at_j = answers_up boxes t None answers are i j a b lt at_i at_j

@@ -1,5 +1,5 @@
 -- The regions that meet some boxes, one after the other: which one comes next, and which have come.
-use Rattle.std.proofs.Common.{◌≡◌, ◌<◌, ◌≤◌, ◌+◌, inl, inr, ℕ, zero, suc, List, [], ◌∷◌, ◌++◌, Option, Some, None, IfSome, Contains, length, map, take, ◌∙◌, sym, ap, refl, arith, subst, slice_get, append_assoc}
+use Rattle.std.proofs.Common.{◌≡◌, ◌<◌, ◌≤◌, ◌+◌, ◌^◌, inl, inr, ℕ, zero, suc, List, [], ◌∷◌, ◌++◌, Option, Some, None, IfSome, Contains, length, map, take, ◌∙◌, sym, ap, refl, arith, subst, slice_get, append_assoc}
 use Rattle.std.proofs.lemmas.Bool.{cases_lt, cases_eq}
 use Rattle.std.proofs.lemmas.Option.{slice_get_read, slice_get_within, get_or_from_slice_get, slice_get_cases}
 use Rattle.std.proofs.Math.Seq.{take-suc}
@@ -7,11 +7,12 @@ use Rattle.ub_bigmin.specs.Box.{Corners}
 use Rattle.ub_region.specs.Those.{AreThose}
 use Rattle.ub_table.proofs.Laws.{not_both_before, not_before_self}
 use Rattle.ub_table.specs.Keys.{IsBefore}
-use Rattle.ub_tree.proofs.AnswerFacts.{HasAnswers, HasAnswers-none, HasAnswers-more, answers_after, answers_ended}
+use Rattle.ub_tree.proofs.AnswerFacts.{HasAnswers, HasAnswers-none, HasAnswers-more, answers_ended, answers_few, left_after, left_less}
 use Rattle.ub_tree.specs.Handing.{AreMetBy, Began, TakesThese}
 use Rattle.ub_tree.specs.Placed.{Placed, entry_of}
-use Rattle.ub_tree.specs.Spans.{First, IsLater, Meets, regions_of, Region as Span}
-use Rattle.ub_tree.specs.View.{TreeView, spans_of}
+use Rattle.ub_tree.specs.Spans.{IsLater, regions_of, Region as Span}
+use Rattle.ub_tree.specs.Told.{GivesNext}
+use Rattle.ub_tree.specs.View.{TreeView}
 use Rattle.ub_zaddr.specs.Address.{last_address}
 
 -- the span before the one at a place, if there is one
@@ -117,35 +118,40 @@ spans_long last [] = refl
 spans_long last (p ∷ placed) = ap suc (spans_long last placed)
 
 -- so far as a walk has come, in which nothing changes
-pub record Walks (boxes : List Corners) (t now : TreeView) (turns : ℕ) (found : List Span) (after : Option Span) : Type 0 where
+pub record Walks (boxes : List Corners) (t now : TreeView) (found : List Span) (after : Option Span) : Type 0 where
   pub same : now ≡ t
-  pub come : HasAnswers (Meets boxes) (spans_of t) turns found after
+  pub come : HasAnswers boxes t found after
 
-pub Walks-none : (boxes : List Corners) (t : TreeView) → Walks boxes t t 0 [] None
-Walks-none boxes t = record { same = refl; come = HasAnswers-none (Meets boxes) (spans_of t) }
+pub Walks-none : (boxes : List Corners) (t : TreeView) → Walks boxes t t [] None
+Walks-none boxes t = record { same = refl; come = HasAnswers-none boxes t }
 
-module _ (boxes : List Corners) (t now : TreeView) (turns : ℕ) (found : List Span) (after : Option Span) (walks : Walks boxes t now turns found after) where
-  pub walks_done : length t.placed ≤ turns → AreMetBy boxes t found
-  walks_done all =
-      answers_after (Meets boxes) (spans_of t) turns found after walks.come (length t.placed) all (sym (spans_long (last_address t.schema.dims) t.placed))
-
+module _ (boxes : List Corners) (t now : TreeView) (found : List Span) (after : Option Span) (walks : Walks boxes t now found after) where
   -- what the tree tells next, of one that is the same
-  told : (next copied : Option Span) → copied ≡ after → First (λ s. IsLater copied s × Meets boxes s) (spans_of now) next → First (λ s. IsLater after s × Meets boxes s) (spans_of t) next
-  told next copied is first =
-      subst (λ (a : Option Span). First (λ s. IsLater a s × Meets boxes s) (spans_of t) next) is
-      (subst (λ (x : TreeView). First (λ s. IsLater copied s × Meets boxes s) (spans_of x) next) walks.same first)
+  told : (next copied : Option Span) → copied ≡ after → GivesNext boxes now copied next → GivesNext boxes t after next
+  told next copied is gives =
+      subst (λ (a : Option Span). GivesNext boxes t a next) is (subst (λ (x : TreeView). GivesNext boxes x copied next) walks.same gives)
 
-  pub walks_ended : (next copied : Option Span) → ((x : Span) → next ≡ Some x → ⊥) → copied ≡ after → First (λ s. IsLater copied s × Meets boxes s) (spans_of now) next
-      → AreMetBy boxes t found
-  walks_ended None copied none is first = answers_ended (Meets boxes) (spans_of t) turns found after walks.come (told None copied is first)
-  walks_ended (Some span) copied none is first = absurd (none span refl)
+  pub walks_ended : (next copied : Option Span) → ((x : Span) → next ≡ Some x → ⊥) → copied ≡ after → GivesNext boxes now copied next → AreMetBy boxes t found
+  walks_ended None copied none is gives = answers_ended boxes t found after walks.come (told None copied is gives)
+  walks_ended (Some span) copied none is gives = absurd (none span refl)
 
-  pub walks_on : (new : TreeView) (copied : Option Span) (span : Span) → new ≡ now → copied ≡ after → First (λ s. IsLater copied s × Meets boxes s) (spans_of now) (Some span)
-      → Walks boxes t new (turns + 1) (found ++ span ∷ []) (Some span)
-  walks_on new copied span kept is next = record {
+  pub walks_on : (new : TreeView) (copied : Option Span) (span : Span) → new ≡ now → copied ≡ after → GivesNext boxes now copied (Some span)
+      → Walks boxes t new (found ++ span ∷ []) (Some span)
+  walks_on new copied span kept is gives = record {
     same = kept ∙ walks.same;
-    come = HasAnswers-more (Meets boxes) (spans_of t) turns found after walks.come span (told (Some span) copied is next);
+    come = HasAnswers-more boxes t found after walks.come span (told (Some span) copied is gives);
   }
+
+  -- and fewer regions are left after it
+  pub walks_down : (copied : Option Span) (span : Span) → copied ≡ after → GivesNext boxes now copied (Some span) → left_after t (Some span) < left_after t after
+  walks_down copied span is gives = left_less boxes t after span (told (Some span) copied is gives)
+
+-- a walk has come to no more regions than can be counted
+pub met_few : (boxes : List Corners) (t : TreeView) (met : List Span) → AreMetBy boxes t met → length t.placed < 2 ^ 32 → length met < 2 ^ 32
+met_few boxes t met are few =
+    let most = answers_few boxes t met are in
+    let long = spans_long (last_address t.schema.dims) t.placed in
+    omega arith
 
 -- ---- the sink
 

@@ -38,7 +38,7 @@ use Rattle.ub_tree.specs.declared.fault.TreeFault.{TreeFault}
 use Rattle.ub_tree.specs.declared.fault.TreeFault.TheVariants.{Full, Page, Store, Failed as HasFailed, Memory}
 use Rattle.ub_tree.proofs.CallFacts.{known_is}
 use Rattle.ub_tree.proofs.StoredFacts.{IsTold, IsSpelled, placed_told}
-use Rattle.ub_tree.proofs.TreeFacts.{entries_back}
+use Rattle.ub_tree.proofs.TreeFacts.{entries_back, length-placed}
 use Rattle.ub_page.proofs.PageLaws.{HasParts, header_not_refused, header_parts, listing_not_refused, listing_parts, region_parts, same_header}
 use Rattle.ub_store.specs.declared.fault.StoreFault.TheVariants as store
 use Rattle.ub_directory.specs.Reading.{IsReadFault}
@@ -54,12 +54,9 @@ opened first header chain entries pager now made whole kept =
     let found = subst (λ (s : StoreFacts). IsReadWhole s header chain entries) store_is whole in
     record {
       header = header;
-      chain = chain;
-      entries = entries;
-      directory = found.directory;
+      directory = λ honest. subst (λ (es : List Entry). IsDirectory first.pages header chain es) (sym (entries_back header.schema (known_pages now.store) entries)) (found.directory honest);
       schema_is = refl;
-      entries_are = entries_back header.schema (known_pages now.store) entries;
-      chain_is = refl;
+      count_is = length-placed header.schema (known_pages now.store) entries ∙ sym found.regions_are;
       rows_are = refl;
       next_is = refl;
       unchanged = refl;

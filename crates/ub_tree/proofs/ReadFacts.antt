@@ -1,11 +1,16 @@
 -- What a tree keeps over several calls that read it.
-use Rattle.std.proofs.Common.{◌≡◌, ◌≢◌, ◌∙◌, ℕ, IsTrue, Result, Ok, Err, IfErr, subst, sym, ap, refl}
+use Rattle.std.proofs.Common.{◌≡◌, ◌≢◌, ◌∙◌, ℕ, IsTrue, List, Option, Result, Ok, Err, IfErr, subst, sym, ap, refl}
+use Rattle.std.specs.List.{Contains}
 use Rattle.std.specs.Result.{IsErrAnd}
+use Rattle.ub_bigmin.specs.Box.{Corners}
 use Rattle.ub_store.specs.declared.fault.StoreFault.TheVariants as store
 use Rattle.ub_store.specs.View.{Trace, emptied}
+use Rattle.ub_table.specs.declared.schema.Schema.{Schema}
 use Rattle.ub_tree.specs.Effects.{IsReadFault, IsPageRefused, IsPageMissing, raised_by}
 use Rattle.ub_tree.specs.Reading.{IsGiven, ReadsTree, SearchesTree, counted, fault_of_tree}
-use Rattle.ub_tree.specs.View.{TreeView, IsSound, KeepsRegions, KeepsTrace, spans_of}
+use Rattle.ub_tree.specs.Spans.{First, IsLater, Meets, Region}
+use Rattle.ub_tree.specs.Told.{GivesNext, IsRegionOf}
+use Rattle.ub_tree.specs.View.{TreeView, IsSound, KeepsRegions, KeepsTrace, spans_in, spans_of}
 use Rattle.ub_tree.specs.declared.fault.TreeFault.{TreeFault}
 use Rattle.ub_tree.specs.declared.fault.TreeFault.TheVariants.{Full, Page, Store, Failed as HasFailed, Memory}
 use Rattle.ub_tree.specs.declared.read_fault.ReadFault.{ReadFault}
@@ -53,8 +58,20 @@ unchanged_traced old new is = is ∙ ap (λ (t : TreeView). record old { trace =
 pub unchanged_trace : (old new : TreeView) → new ≡ old → KeepsTrace old new
 unchanged_trace old new is = ap (λ (t : TreeView). t.trace) is
 
-pub traced_spans : (old new : TreeView) → IsTraced old new → spans_of new ≡ spans_of old
-traced_spans old new is = ap spans_of is
+-- a tree of which only the trace has changed tells of the same regions, and gives the same answers
+pub traced_told : (old new : TreeView) → IsTraced old new → (region : Region) → IsRegionOf new region → IsRegionOf old region
+traced_told old new is region told = record { there = subst (λ (t : TreeView). Contains (spans_of t) region) is told.there }
+
+-- and so does one that has the same regions
+pub told_kept : (old new : TreeView) → new.schema ≡ old.schema → new.placed ≡ old.placed → (region : Region) → IsRegionOf old region → IsRegionOf new region
+told_kept old new schema placed region told = record {
+  there = subst (λ (spans : List Region). Contains spans region)
+      (sym (ap (λ (s : Schema). spans_in s new.placed) schema ∙ ap (spans_in old.schema) placed)) told.there;
+}
+
+pub traced_gives : (old new : TreeView) → IsTraced old new → (boxes : List Corners) (after found : Option Region) → GivesNext boxes new after found → GivesNext boxes old after found
+traced_gives old new is boxes after found gives =
+    record { first = subst (λ (t : TreeView). First (λ r. IsLater after r × Meets boxes r) (spans_of t) found) is gives.first }
 
 pub Keeps-none : (t : TreeView) → Keeps t t
 Keeps-none t = Keeps-by t t refl

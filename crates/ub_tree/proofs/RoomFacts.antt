@@ -16,13 +16,15 @@ use Rattle.ub_table.specs.Region.{Region, IsRegion, IsRow, AreFrom, key_of, keys
 use Rattle.ub_table.specs.declared.row.Key.{Key}
 use Rattle.ub_table.specs.declared.row.Row.{Row}
 use Rattle.ub_table.specs.declared.schema.Schema.{Schema}
-use Rattle.ub_tree.specs.Change.{AreRowsAt}
+use Rattle.ub_directory.specs.View.{SeatView}
+use Rattle.ub_tree.specs.inner.Change.{AreRowsAt, IsOnSeat, IsSeatIn}
 use Rattle.ub_tree.specs.Effects.{IsNumberTaken}
 use Rattle.ub_tree.specs.Placed.{Placed}
 use Rattle.ub_tree.specs.Spans.{first_keys, ArePlaces}
 use Rattle.ub_tree.specs.Tree.{IsHeldBy}
 use Rattle.ub_tree.specs.View.{TreeView, IsSound, regions}
 use Rattle.ub_directory.proofs.Laws.{first_at, same_key}
+use Rattle.ub_tree.proofs.CallFacts.{seat_told, taken_on}
 use Rattle.ub_tree.proofs.TreeFacts.{contained_at, region_get}
 
 abbrev inserted_at : List Entry → ℕ → Entry → List Entry
@@ -226,20 +228,15 @@ any_key dims key [] = refl
 any_key dims key (row ∷ rows) = rw (any_key dims key rows) refl
 
 -- the key of a new row stands in the region at an index already
-pub key_there : (t : TreeView) (index : ℕ) (p : Placed) (key : Key) (rows : List Row) → slice_get t.placed index ≡ Some p → key.number ≡ t.next → has_key t.schema.dims key rows ≡ true
-    → (IsHonest t.store → rows ≡ p.region.rows) → (¬ (IsSound t)) × IsNumberTaken t p.page
-key_there t index p key rows at number has same = (
+pub key_there : (t : TreeView) (seat : SeatView) (p : Placed) (key : Key) (region : Region) → slice_get t.placed seat.index ≡ Some p → IsSeatIn t seat → IsOnSeat t seat region
+    → key.number ≡ t.next → has_key t.schema.dims key region.rows ≡ true → (IsHonest t.store → region.rows ≡ p.region.rows) → (¬ (IsSound t)) × IsNumberTaken t seat.page
+key_there t seat p key region at stands on number has same = (
   λ sound.
-      let less = rows_each (λ row. row.number < t.next) (regions t) index p.region (region_get t.placed index p at) sound.regions_are.numbered in
+      let less = rows_each (λ row. row.number < t.next) (regions t) seat.index p.region (region_get t.placed seat.index p at) sound.regions_are.numbered in
       number_free t.schema.dims key p.region.rows (subst (λ (n : ℕ). AllByRecursion (λ row. row.number < n) p.region.rows) (sym number) less) (rw (same sound.honest) at has),
-  (
-    p,
-    contained_at (λ (_ : Placed). Unit {0}) t.placed index p at,
-    refl,
-    λ honest.
-        let found = found_row t.schema.dims key p.region.rows (rw (same honest) at has) in
-        (found.0, contained_at (λ (_ : Row). Unit {0}) p.region.rows found.1 found.0 found.2, found.3 ∙ number),
-  ),
+  (let (span, told, first, next, page) = seat_told t seat stands in
+      let found = found_row t.schema.dims key region.rows has in
+      (span, told, page, region, taken_on t seat span region first next page on, found.0, contained_at (λ (_ : Row). Unit {0}) region.rows found.1 found.0 found.2, found.3 ∙ number)),
 )
 
 next_taken : (rows : List Row) (i : ℕ) (row : Row) → slice_get rows i ≡ Some row → take (suc i) rows ≡ take i rows ++ row ∷ []

@@ -19,7 +19,7 @@ use Rattle.ub_table.specs.declared.row.Key.{Key}
 use Rattle.ub_table.specs.declared.row.Row.{Row}
 use Rattle.ub_table.specs.declared.schema.Schema.{Schema}
 use Rattle.ub_directory.specs.View.{SeatView}
-use Rattle.ub_tree.specs.Change.{IsSeatIn, IsStored, placed_with, regions_with}
+use Rattle.ub_tree.specs.inner.Change.{IsSeatIn, IsStored, placed_with, regions_with}
 use Rattle.ub_tree.specs.Placed.{Placed, ArePlaced, entry_of, placed_of, regions_in}
 use Rattle.ub_tree.specs.Spans.{first_keys}
 use Rattle.ub_writing.specs.Marks.{HasMark}

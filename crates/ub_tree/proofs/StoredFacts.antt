@@ -14,7 +14,7 @@ use Rattle.ub_region.proofs.Laws.{nat_eq_flips, all_more, all_append, all_left, 
 use Rattle.ub_table.specs.Region.{Region}
 use Rattle.ub_table.specs.declared.row.Row.{Row}
 use Rattle.ub_table.specs.declared.schema.Schema.{Schema}
-use Rattle.ub_tree.specs.Change.{placed_with}
+use Rattle.ub_tree.specs.inner.Change.{placed_with}
 use Rattle.ub_tree.specs.Placed.{Placed, ArePlaced, placed_of, entry_of}
 use Rattle.ub_tree.proofs.TreeFacts.{placed_at}
 

@@ -1,12 +1,14 @@
 -- Answers, each the first one later than the answer before it, are the elements that have the property asked for.
 use Rattle.std.proofs.Common.{◌≡◌, ◌<◌, ◌≤◌, ◌+◌, ◌-◌, ◌↔◌, inl, inr, ℕ, zero, suc, List, [], ◌∷◌, Option, Some, None, drop, sym, ap, refl, arith, subst, slice_get, ◌∙◌}
 use Rattle.std.proofs.lemmas.Bool.{cases_lt, cases_eq}
+use Rattle.ub_bigmin.specs.Box.{Corners}
 use Rattle.ub_region.specs.Those.{AreThose}
 use Rattle.ub_table.proofs.Laws.{not_both_before, not_before_self}
 use Rattle.ub_table.specs.Keys.{IsBefore}
 use Rattle.ub_tree.proofs.MeetFacts.{contained_at, contains_at}
-use Rattle.ub_tree.specs.Laws.{AreAnswers}
-use Rattle.ub_tree.specs.Spans.{IsLater, Region as Span}
+use Rattle.ub_tree.specs.Spans.{IsLater, Meets, Region as Span}
+use Rattle.ub_tree.specs.Told.{AreAnswers}
+use Rattle.ub_tree.specs.View.{TreeView, spans_of}
 
 module _ {X : Type 0} where
   pub drop_get : (n i : ℕ) (xs : List X) → slice_get (drop n xs) i ≡ slice_get xs (n + i)
@@ -30,10 +32,10 @@ module _ {X : Type 0} where
     those_first (x ∷ xs) (suc n) found more at has before rest =
         inr (before 0 x (omega arith) refl, those_first xs n found more at has (λ m y lt at_m. before (suc m) y (omega arith) at_m) rest)
 
--- in a list whose first keys ascend
-module _ (P : Span → Type 0) (spans : List Span) (up : (i j : ℕ) (a b : Span) → i < j → slice_get spans i ≡ Some a → slice_get spans j ≡ Some b → IsBefore a.first b.first) where
+-- of a tree whose first keys ascend
+module _ (boxes : List Corners) (t : TreeView) (up : (i j : ℕ) (a b : Span) → i < j → slice_get (spans_of t) i ≡ Some a → slice_get (spans_of t) j ≡ Some b → IsBefore a.first b.first) where
   -- later than the one at an index are those from the next index on
-  later_from : (k i : ℕ) (a r : Span) → slice_get spans k ≡ Some a → slice_get spans i ≡ Some r → IsBefore a.first r.first ↔ (suc k ≤ i)
+  later_from : (k i : ℕ) (a r : Span) → slice_get (spans_of t) k ≡ Some a → slice_get (spans_of t) i ≡ Some r → IsBefore a.first r.first ↔ (suc k ≤ i)
   later_from k i a r at_k at_i = (to, λ after. up k i a r (omega arith) at_k at_i)
     where
       to : IsBefore a.first r.first → suc k ≤ i
@@ -41,29 +43,30 @@ module _ (P : Span → Type 0) (spans : List Span) (up : (i j : ℕ) (a b : Span
         | inl lt ↦ omega arith
         | inr ge ↦ elim (cases_eq i k) [
           | inl e ↦
-              let again : slice_get spans k ≡ Some r = ap (slice_get spans) (sym e) ∙ at_i in
+              let again : slice_get (spans_of t) k ≡ Some r = ap (slice_get (spans_of t)) (sym e) ∙ at_i in
               let same : a ≡ r = cc in
               absurd (not_before_self a.first (subst (λ (s : Span). IsBefore a.first s.first) (sym same) before))
           | inr ne ↦ absurd (not_both_before a.first r.first before (up i k r a (omega arith) at_i at_k))
         ]
       ]
 
-  answered : (answers : List Span) (after : Option Span) (index : ℕ) → ((i : ℕ) (r : Span) → slice_get spans i ≡ Some r → IsLater after r ↔ (index ≤ i))
-      → AreAnswers P spans after answers → AreThose P (drop index spans) answers
-  answered [] after index later none = those_none P (drop index spans) (λ i r at has.
-      let at_i : slice_get spans (index + i) ≡ Some r = sym (drop_get index i spans) ∙ at in
-      none r (contains_at spans (index + i) r at_i) ((later (index + i) r at_i).1 (omega arith), has))
-  answered (found ∷ more) after index later (first, rest) =
+  answered : (answers : List Span) (after : Option Span) (index : ℕ) → ((i : ℕ) (r : Span) → slice_get (spans_of t) i ≡ Some r → IsLater after r ↔ (index ≤ i))
+      → AreAnswers boxes t after answers → AreThose (Meets boxes) (drop index (spans_of t)) answers
+  answered [] after index later gives = those_none (Meets boxes) (drop index (spans_of t)) (λ i r at has.
+      let at_i : slice_get (spans_of t) (index + i) ≡ Some r = sym (drop_get index i (spans_of t)) ∙ at in
+      gives.first r (contains_at (spans_of t) (index + i) r at_i) ((later (index + i) r at_i).1 (omega arith), has))
+  answered (found ∷ more) after index later (gives, rest) =
+      let first = gives.first in
       let k : ℕ = first.0.0 in
-      let at_k : slice_get spans k ≡ Some found = contained_at spans found first.0 in
+      let at_k : slice_get (spans_of t) k ≡ Some found = contained_at (spans_of t) found first.0 in
       let from : index ≤ k = (later k found at_k).0 first.1.0 in
       let again : index + (k - index) ≡ k = omega arith in
-      let there : slice_get (drop index spans) (k - index) ≡ Some found = drop_get index (k - index) spans ∙ ap (slice_get spans) again ∙ at_k in
-      those_first P (drop index spans) (k - index) found more there first.1.1
+      let there : slice_get (drop index (spans_of t)) (k - index) ≡ Some found = drop_get index (k - index) (spans_of t) ∙ ap (slice_get (spans_of t)) again ∙ at_k in
+      those_first (Meets boxes) (drop index (spans_of t)) (k - index) found more there first.1.1
       (λ m r lt at has.
-      let at_m : slice_get spans (index + m) ≡ Some r = sym (drop_get index m spans) ∙ at in
-      first.2 r (contains_at spans (index + m) r at_m) ((later (index + m) r at_m).1 (omega arith), has) (up (index + m) k r found (omega arith) at_m at_k))
-      (subst (λ (xs : List Span). AreThose P xs more) (dropped index (k - index) k spans (sym again)) (answered more (Some found) (suc k) (λ i r at. later_from k i found r at_k at) rest))
+      let at_m : slice_get (spans_of t) (index + m) ≡ Some r = sym (drop_get index m (spans_of t)) ∙ at in
+      first.2 r (contains_at (spans_of t) (index + m) r at_m) ((later (index + m) r at_m).1 (omega arith), has) (up (index + m) k r found (omega arith) at_m at_k))
+      (subst (λ (xs : List Span). AreThose (Meets boxes) xs more) (dropped index (k - index) k (spans_of t) (sym again)) (answered more (Some found) (suc k) (λ i r at. later_from k i found r at_k at) rest))
     where
       dropped : (n m k : ℕ) (xs : List Span) → k ≡ n + m → drop (suc k) xs ≡ drop (suc m) (drop n xs)
       dropped zero m k xs is = let same : k ≡ m = omega arith in ap (λ (j : ℕ). drop (suc j) xs) same
@@ -71,5 +74,5 @@ module _ (P : Span → Type 0) (spans : List Span) (up : (i j : ℕ) (a b : Span
       dropped (suc n) m (suc k) [] is = refl
       dropped (suc n) m (suc k) (x ∷ xs) is = dropped n m k xs (omega arith)
 
-  pub answers_are_those : (answers : List Span) → AreAnswers P spans None answers → AreThose P spans answers
+  pub answers_are_those : (answers : List Span) → AreAnswers boxes t None answers → AreThose (Meets boxes) (spans_of t) answers
   answers_are_those answers are = answered answers None 0 (λ i r at. (λ _. omega arith, λ _. tt)) are

@@ -1,10 +1,11 @@
 -- What a tree's pages are after a change.
 use Rattle.std.proofs.Common.{◌≡◌, ◌≢◌, ◌<◌, ◌≤◌, ◌+◌, ◌^◌, ◌⊎◌, inl, inr, ℕ, zero, suc, Bool, true, false, List, [], ◌∷◌, ◌++◌, Some, Err, length, map, drop, nat_eq, ◌∙◌, sym, ap, subst, refl, arith, slice_get, Ok, IfErr, IsTrue, OnOk, Result, IsErrOf}
 use Rattle.std.proofs.lemmas.Bool.{eq-eqb}
+use Rattle.std.proofs.lemmas.List.{length-map}
 use Rattle.std.proofs.lemmas.List.Elements.{recursion_from_All}
 use Rattle.std.proofs.lemmas.Map.Keys.{IsDistinct-head}
 use Rattle.std.proofs.lemmas.Option.{slice_get_within}
-use Rattle.std.specs.List.{AllByRecursion, IsDistinct, insert}
+use Rattle.std.specs.List.{AllByRecursion, Contains, IsDistinct, insert}
 use Rattle.std.specs.Result.{IsErrAnd}
 use Rattle.ub_page.specs.Region.{region_on, region_page}
 use Rattle.ub_page.specs.Header.{header_page}
@@ -20,7 +21,7 @@ use Rattle.ub_table.specs.Region.{Region, IsRegion}
 use Rattle.ub_table.specs.declared.row.Key.{Key}
 use Rattle.ub_table.specs.declared.row.Row.{Row}
 use Rattle.ub_table.specs.declared.schema.Schema.{Schema}
-use Rattle.ub_tree.specs.Change.{HasStopped, IsStored, IsFresh, IsWriteFault, Writes, placed_with}
+use Rattle.ub_tree.specs.inner.Change.{HasStopped, IsStored, IsFresh, IsWriteFault, Writes, placed_with}
 use Rattle.ub_directory.specs.Searching.{Searches as Looks}
 use Rattle.ub_directory.specs.Writing.{KeepsBut, put_store}
 use Rattle.ub_tree.specs.Effects.{written_store, IsMarkedFirst, Leaves, HasEnded, IsLeft, Works, Changes, Searches}
@@ -34,13 +35,32 @@ use Rattle.ub_writing.specs.Marks.{Marks, PutsMark, KeepsUnless, HasMark, IsMark
 use Rattle.ub_writing.specs.declared.mark.Mark.{Mark}
 use Rattle.ub_writing.specs.declared.mark.Mark.TheVariants.{Due, Written}
 use Rattle.ub_writing.specs.Puts.{Puts, PutsTwo}
-use Rattle.ub_tree.specs.View.{TreeView, IsSound}
+use Rattle.ub_tree.specs.Spans.{regions_of, Region as Span}
+use Rattle.ub_tree.specs.Told.{IsRegionOf, KeepsTold}
+use Rattle.ub_tree.specs.View.{TreeView, IsSound, region_count, spans_of}
+use Rattle.ub_zaddr.specs.Address.{last_address}
 use Rattle.ub_tree.proofs.CallFacts.{known_is}
 use Rattle.ub_tree.proofs.OthersFacts.{numbers_get, others_added, others_extended}
 use Rattle.ub_tree.proofs.StoredFacts.{IsTold, numbers_of, differs, rewritten_pages, split_pages, extended_pages, fresh_number}
 use Rattle.ub_tree.proofs.TreeFacts.{each_get, entries_back, placed_at, placed_get}
 use Rattle.ub_store.specs.declared.fault.StoreFault.TheVariants as store
 use Rattle.ub_directory.specs.Inner.{reserved}
+
+-- where the entries are the same, two trees count as many regions, and tell of the same
+count_by : (old new : TreeView) → map entry_of new.placed ≡ map entry_of old.placed → region_count new ≡ region_count old
+count_by old new same = sym (length-map new.placed entry_of) ∙ ap length same ∙ length-map old.placed entry_of
+
+told_by : (old new : TreeView) → new.schema ≡ old.schema → map entry_of new.placed ≡ map entry_of old.placed → KeepsTold old new
+told_by old new schema same =
+    let spans : spans_of new ≡ spans_of old =
+    ap (λ (s : Schema). regions_of (last_address s.dims) (map entry_of new.placed)) schema ∙ ap (regions_of (last_address old.schema.dims)) same in
+    record {
+      count = count_by old new same;
+      told = λ region. (
+        λ is. record { there = subst (λ (all : List Span). Contains all region) (sym spans) is.there },
+        λ is. record { there = subst (λ (all : List Span). Contains all region) spans is.there },
+      );
+    }
 
 pub stored_of : (t : TreeView) → IsSound t → IsStored t
 stored_of t sound = record { working = sound.working; honest = sound.honest; placed_are = sound.placed_are }
@@ -204,7 +224,7 @@ module _ (schema : Schema) (entries : List Entry) (chain : List ℕ) (next rows 
   pub extended_leaves : new.store ≡ record old.store { pages = new.store.pages; synced = new.store.synced } → SameTrace old new → Leaves before after
   extended_leaves same trace = record {
     same = rw trace (ap (λ (s : StoreFacts). record after { store = s; trace = old.trace }) same);
-    entries = entries_back schema (known_pages new.store) entries ∙ sym (entries_back schema (known_pages old.store) entries);
+    told = told_by before after refl (entries_back schema (known_pages new.store) entries ∙ sym (entries_back schema (known_pages old.store) entries));
     more = extended.more;
     pages = extended.kept;
     flushed = extended.flushed;
@@ -334,7 +354,7 @@ module _ (schema : Schema) (entries : List Entry) (chain : List ℕ) (next rows 
         left = (
           can,
           (let stopped = ended_by schema entries entries chain next rows changed changed failed true old new U store.Device refl refl same trace in
-              inr (record { same = stopped.same; entries = stopped.entries; others = (0, inl refl, others_extended old.store new.store extended.honesty extended.kept extended.more extended.flushed 0) })),
+              inr (record { same = stopped.same; count = count_by _ _ stopped.entries; others = (0, inl refl, others_extended old.store new.store extended.honesty extended.kept extended.more extended.flushed 0) })),
         );
       }
 
@@ -443,7 +463,7 @@ module _ (a b c : TreeView) (grown : Leaves a b) where
   more_ended : (fault : TreeFault) → HasStopped fault b c → WritesOneRegion a c → HasEnded fault a c
   more_ended fault h others = record {
     same = h.same ∙ ap (λ (v : TreeView). record v { placed = c.placed; is_changed = c.is_changed; is_failed = true; store = written_store {A = TreeFault} (Err fault) v.store c.store }) grown.same;
-    entries = h.entries ∙ grown.entries;
+    count = count_by b c h.entries ∙ grown.told.count;
     others = others;
   }
 
@@ -484,7 +504,7 @@ same_marked : (a : TreeView) → IsMarkedFirst a a
 same_marked a = record { kept = λ honest unmarked m not_first lt. refl; marked = λ sound e. sound.marked e }
 
 pub same_leaves : (a : TreeView) → Leaves a a
-same_leaves a = record { same = refl; entries = refl; more = omega arith; pages = λ honest m lt. refl; flushed = inl refl; sound = λ sound. (refl, sound) }
+same_leaves a = record { same = refl; told = told_by a a refl refl; more = omega arith; pages = λ honest m lt. refl; flushed = inl refl; sound = λ sound. (refl, sound) }
 
 -- a call that only writes is a change
 pub changed_by : {T : Type 0} (r : Result T TreeFault) (index : ℕ) (a c : TreeView) → Writes index a c r → Changes a c r

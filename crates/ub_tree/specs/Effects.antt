@@ -1,12 +1,11 @@
 -- What the calls of a tree leave, in a few words: a call that searches, one that reads regions, one that changes the tree.
-use Rattle.std.specs.Prelude.{◌+◌, ◌≡◌, ◌<◌, ◌≤◌, ◌⊎◌, ℕ, true, IsTrue, Result, Ok, Err, IfErr, OnOk, length, map, slice_get, List, Option}
+use Rattle.std.specs.Prelude.{◌+◌, ◌≡◌, ◌<◌, ◌≤◌, ◌⊎◌, ℕ, true, IsTrue, Result, Ok, Err, IfErr, OnOk, slice_get, List, Option}
 use Rattle.std.specs.List.{Contains}
 use Rattle.ub_store.specs.Facts.{StoreFacts, IsHonest, IsPage, MayFlush, page_count, raised}
 use Rattle.ub_store.specs.View as trace
 use Rattle.ub_store.specs.View.{Notes}
 use Rattle.ub_table.specs.declared.row.TheConstants.{MAX_ROW_NUMBER}
 use Rattle.ub_page.specs.Region.{IsRegionFault, region_page}
-use Rattle.ub_page.specs.declared.directory.Entry.{Entry}
 use Rattle.ub_table.specs.Region.{Region, IsRegion}
 use Rattle.ub_table.specs.declared.fault.PageFault.{PageFault}
 use Rattle.ub_table.specs.declared.fault.PageFault.TheVariants.{BadCount, BadOrder, OutOfRegion}
@@ -15,9 +14,9 @@ use Rattle.ub_table.specs.declared.row.Row.{Row}
 use Rattle.ub_table.specs.declared.schema.Schema.{Schema}
 use Rattle.ub_tree.specs.Others.{WritesOneRegion}
 use Rattle.ub_tree.specs.Tree.{IsHeldBy}
-use Rattle.ub_tree.specs.Placed.{Placed, entry_of}
 use Rattle.ub_writing.specs.Marks.{HasMark, KeepsUnless}
-use Rattle.ub_tree.specs.View.{TreeView, IsSound, KeepsTrace, spans_of}
+use Rattle.ub_tree.specs.Told.{IsRegionOf, KeepsTold}
+use Rattle.ub_tree.specs.View.{TreeView, IsSound, KeepsTrace, region_count}
 use Rattle.ub_tree.specs.declared.fault.TreeFault.{TreeFault}
 use Rattle.ub_tree.specs.declared.fault.TreeFault.TheVariants.{Full, Page, Store, Failed, Memory}
 use Rattle.ub_tree.specs.Spans.{Region as Span}
@@ -48,15 +47,15 @@ IsRegionRefused schema first next page fault =
     ⊎ ((fault ≡ OutOfRegion) × (region : Region) × IsRegion schema region × (page ≡ region_page schema region)
     × (¬ (IsHeldBy schema.dims first next region)))
 
--- the page of this number is refused, on which the tree has a region
+-- the page of this number is refused, on which the tree tells of a region
 abbrev pub IsPageRefused : TreeView → ℕ → PageFault → Type 0
 IsPageRefused t number fault =
-    (span : Span) × Contains (spans_of t) span × (span.page ≡ number) × (page : List ℕ) × IsPage t.store number page
+    (span : Span) × IsRegionOf t span × (span.page ≡ number) × (page : List ℕ) × IsPage t.store number page
     × IsRegionRefused t.schema span.first span.next page fault
 
--- the directory has a region on a page that the store doesn't have
+-- the tree tells of a region on a page that the store doesn't have
 abbrev pub IsPageMissing : TreeView → Type 0
-IsPageMissing t = (entry : Entry) × Contains (map entry_of t.placed) entry × (page_count t.store ≤ entry.page)
+IsPageMissing t = (span : Span) × IsRegionOf t span × (page_count t.store ≤ span.page)
 
 -- what a call can answer that only reads: `Failed` where the tree has, the device's fault where the store can fail, and a fault
 -- of a page of the directory's, or that there is none, only where the tree isn't sound
@@ -106,7 +105,7 @@ pub record ReadsRegion {A : Type 0} (span : Span) (old new : TreeView) (result :
   pub noted : (KeepsTrace old new × ((result ≡ Err Failed) ⊎ ((result ≡ Err Memory) × trace.IsFull old.trace))) ⊎ HasNoted span.page old new
   pub listed : OnOk result (HasNoted span.page old new)
   pub failed : result ≡ Err Failed → new ≡ old
-  pub faults : Contains (spans_of old) span → IfErr result (IsReadFault old)
+  pub faults : IsRegionOf old span → IfErr result (IsReadFault old)
   pub refused : IfErr result (IsSpanFault span old)
 
 -- until a table is marked as changed no page but the first is written, and from then on the first page marks a sound tree's table
@@ -122,33 +121,33 @@ IsFull t = 4294967295 ≤ page_count t.store
 -- is what lasted before, or the pages that there are now
 pub record Leaves (old new : TreeView) : Type 0 where
   pub same : new ≡ record old { placed = new.placed; store = record old.store { pages = new.store.pages; synced = new.store.synced } }
-  pub entries : map entry_of new.placed ≡ map entry_of old.placed
+  pub told : KeepsTold old new
   pub more : page_count old.store ≤ page_count new.store
   pub pages : IsHonest old.store → (m : ℕ) → m < page_count old.store → slice_get new.store.pages m ≡ slice_get old.store.pages m
   pub flushed : MayFlush old.store new.store
   pub sound : IsSound old → (new.placed ≡ old.placed) × IsSound new
 
--- a write or an extension met this fault: the tree has failed, with the directory and the counts that it had
+-- a write or an extension met this fault: the tree has failed, with the counts that it had
 pub record HasEnded (fault : TreeFault) (old new : TreeView) : Type 0 where
   pub same : new ≡ record old { placed = new.placed; is_changed = new.is_changed; is_failed = true; store = written_store {A = TreeFault} (Err fault) old.store new.store }
-  pub entries : map entry_of new.placed ≡ map entry_of old.placed
+  pub count : region_count new ≡ region_count old
   pub others : WritesOneRegion old new
 
 -- a read failed: nothing but the count of failed reads has changed
 abbrev pub HasMissed : TreeView → TreeView → Type 0
 HasMissed old new = new ≡ record old { store = record old.store { failed_reads = raised old.store.failed_reads 1 } }
 
--- the region on this page has a row already of the number that the next row gets
+-- the region that the tree tells of on this page has a row already of the number that the next row gets
 abbrev pub IsNumberTaken : TreeView → ℕ → Type 0
 IsNumberTaken t number =
-    (p : Placed) × Contains t.placed p × (p.page ≡ number)
-    × (IsHonest t.store → (row : Row) × Contains p.region.rows row × (row.number ≡ t.next))
+    (span : Span) × IsRegionOf t span × (span.page ≡ number)
+    × (region : Region) × IsTakenIn t span region × (row : Row) × Contains region.rows row × (row.number ≡ t.next)
 
 -- which page a change refuses, and why: one that it reads; the first, where a row is there and none is counted, or a region
 -- would be one more than can be counted; or that of the region that has the new row's key already
 abbrev pub IsChangeRefused : TreeView → ℕ → PageFault → Type 0
 IsChangeRefused t number fault =
-    IsPageRefused t number fault ⊎ ((number ≡ 0) × (fault ≡ BadCount) × ((t.rows ≡ 0) ⊎ (length t.placed ≡ 4294967295)))
+    IsPageRefused t number fault ⊎ ((number ≡ 0) × (fault ≡ BadCount) × ((t.rows ≡ 0) ⊎ (region_count t ≡ 4294967295)))
     ⊎ ((fault ≡ BadOrder) × IsNumberTaken t number)
 
 -- what a call can answer that changes the tree, and what it leaves then

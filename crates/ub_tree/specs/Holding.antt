@@ -13,7 +13,7 @@ use Rattle.ub_tree.specs.Effects.{IsTakenIn}
 use Rattle.ub_tree.specs.Opened.{IsPassing}
 use Rattle.ub_tree.specs.Placed.{entry_of}
 use Rattle.ub_tree.specs.Spans.{first_keys, Region as Span}
-use Rattle.ub_tree.specs.View.{TreeView, spans_of}
+use Rattle.ub_tree.specs.View.{TreeView, region_count, spans_of}
 use Rattle.ub_tree.specs.declared.fault.TreeFault.{TreeFault}
 use Rattle.ub_tree.specs.declared.fault.TreeFault.TheVariants.{Full, Page}
 
@@ -44,10 +44,10 @@ abbrev pub AnswersKey : {A : Type 0} → TreeView → Key → Result A TreeFault
 AnswersKey t key result =
     (number : ℕ) (region : Region) → FallsInto t key number region
     → (has_key t.schema.dims key region.rows ≡ true → Answers result (Page number BadOrder))
-    × (has_key t.schema.dims key region.rows ≡ false → length region.rows ≡ t.schema.page_rows → length t.placed ≡ 4294967295
+    × (has_key t.schema.dims key region.rows ≡ false → length region.rows ≡ t.schema.page_rows → region_count t ≡ 4294967295
     → Answers result (Page 0 BadCount))
     × (has_key t.schema.dims key region.rows ≡ false → (page : ℕ) (fault : PageFault) → result ≡ Err (Page page fault)
-    → (length region.rows ≡ t.schema.page_rows) × (length t.placed ≡ 4294967295))
+    → (length region.rows ≡ t.schema.page_rows) × (region_count t ≡ 4294967295))
 
 -- the same, and Full where the last number is given
 abbrev pub AnswersRow : {A : Type 0} → TreeView → Key → Result A TreeFault → Type 0

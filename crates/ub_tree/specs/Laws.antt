@@ -1,7 +1,7 @@
--- The laws of a tree, and what a search answers that is asked again and again. Each law is what the function of its name in
+-- The laws of a tree. Each law is what the function of its name in
 -- `law` ensures, and is proved in proofs/Laws.antt. That an insertion and a removal keep what regions are is a law of
 -- `ub_region`.
-use Rattle.std.specs.Prelude.{◌≡◌, ◌≤◌, ◌<◌, ℕ, List, [], ◌∷◌, Option, Some, None, Contains, length, slice_get}
+use Rattle.std.specs.Prelude.{◌≡◌, ◌≤◌, ◌<◌, ◌↔◌, ℕ, List, Option, Some, None, Contains, slice_get}
 use Rattle.std.specs.List.{AllByRecursion}
 use Rattle.ub_bigmin.specs.Box.{Corners}
 use Rattle.ub_region.specs.Those.{AreThose}
@@ -10,6 +10,7 @@ use Rattle.ub_table.specs.Region.{Region, key_of}
 use Rattle.ub_table.specs.declared.row.Row.{Row}
 use Rattle.ub_tree.specs.Calls.{StandsAt}
 use Rattle.ub_tree.specs.Spans.{First, IsLater, Meets, Region as Span}
+use Rattle.ub_tree.specs.Told.{AreAnswers, GivesNext, IsRegionOf}
 use Rattle.ub_tree.specs.View.{TreeView, IsSound, spans_of}
 use Rattle.ub_zaddr.specs.Address.{last_address}
 
@@ -37,27 +38,34 @@ abbrev pub RowsLieInSpans : Type 0
 RowsLieInSpans = (t : TreeView) (span : Span) (region : Region) (row : Row) → IsSound t → Contains (spans_of t) span
     → StandsAt t.placed span.page region → Contains region.rows row → LiesIn span (key_of t.schema.dims row).z
 
--- the answers of a search for the next region that has a property, from the one after the given one on: each is asked for with
--- the answer before it, until there is none
-abbrev pub AreAnswers : (Span → Type 0) → List Span → Option Span → List Span → Type 0
-AreAnswers P spans after [] = First (λ r. IsLater after r × P r) spans None
-AreAnswers P spans after (found ∷ more) =
-    First (λ r. IsLater after r × P r) spans (Some found) × AreAnswers P spans (Some found) more
+-- a sound tree tells of its regions, each with its span, and of no others
+abbrev pub RegionsAreTold : Type 0
+RegionsAreTold = (t : TreeView) (span : Span) → IsSound t → IsRegionOf t span ↔ Contains (spans_of t) span
 
--- so `next_meeting`, from the beginning on, answers the regions that meet the boxes, each once and in order, and no others
+-- of a sound tree `next_meeting` gives the first of its regions, later than the one given, that meets the boxes, or none
+abbrev pub NextIsTheFirst : Type 0
+NextIsTheFirst = (t : TreeView) (boxes : List Corners) (after found : Option Span) → IsSound t
+    → GivesNext boxes t after found → First (λ r. IsLater after r × Meets boxes r) (spans_of t) found
+
+-- what it gives of any tree is a region that the tree tells of; it begins later than the one given, and meets the boxes
+abbrev pub NextIsLater : Type 0
+NextIsLater = (t : TreeView) (boxes : List Corners) (after : Option Span) (span : Span)
+    → GivesNext boxes t after (Some span) → IsRegionOf t span × IsLater after span × Meets boxes span
+
+-- so `next_meeting` of a sound tree, from the beginning on, answers the regions that meet the boxes, each once and in order,
+-- and no others
 abbrev pub AnswersAreThoseThatMeet : Type 0
 AnswersAreThoseThatMeet = (t : TreeView) (boxes : List Corners) (answers : List Span) → IsSound t
-    → AreAnswers (Meets boxes) (spans_of t) None answers → AreThose (Meets boxes) (spans_of t) answers
+    → AreAnswers boxes t None answers → AreThose (Meets boxes) (spans_of t) answers
 
--- over any tree `next_meeting`, from the beginning on, answers regions of the tree that meet the boxes, and no more than it has
+-- over any tree it answers, from the beginning on, regions that the tree tells of and that meet the boxes
 abbrev pub AnswersAreRegionsThatMeet : Type 0
-AnswersAreRegionsThatMeet = (t : TreeView) (boxes : List Corners) (answers : List Span)
-    → AreAnswers (Meets boxes) (spans_of t) None answers
-    → AllByRecursion (λ r. Contains (spans_of t) r × Meets boxes r) answers × (length answers ≤ length t.placed)
+AnswersAreRegionsThatMeet = (t : TreeView) (boxes : List Corners) (answers : List Span) → AreAnswers boxes t None answers
+    → AllByRecursion (λ r. IsRegionOf t r × Meets boxes r) answers
 
 -- over any tree, of two answers of `next_meeting`, from the beginning on, the later one begins with the later key, so that none
 -- comes twice
 abbrev pub AnswersAscend : Type 0
 AnswersAscend = (t : TreeView) (boxes : List Corners) (answers : List Span) (i j : ℕ) (a b : Span)
-    → AreAnswers (Meets boxes) (spans_of t) None answers → i < j
+    → AreAnswers boxes t None answers → i < j
     → slice_get answers i ≡ Some a → slice_get answers j ≡ Some b → IsBefore a.first b.first

@@ -2,6 +2,7 @@ pub mod Spans
 pub mod Placed
 pub mod View
 pub mod Stored
+pub mod Told
 pub mod Effects
 pub mod Reading
 pub mod Handing
@@ -15,3 +16,4 @@ pub mod Others
 pub mod Holding
 pub mod Removal
 pub mod Laws
+pub mod inner

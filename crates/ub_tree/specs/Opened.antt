@@ -1,12 +1,11 @@
 -- Opening a store: which pages tell of a table, what is made of them, and why others are refused.
 use Rattle.std.specs.Prelude.{◌≡◌, ◌≤◌, ◌⊎◌, ℕ, false, IsTrue, List, map}
-use Rattle.ub_page.specs.declared.directory.Entry.{Entry}
 use Rattle.ub_page.specs.declared.header.Header.{Header}
 use Rattle.ub_store.specs.Facts.{StoreFacts, IsHonest, page_count}
 use Rattle.ub_store.specs.View.{untouched}
 use Rattle.ub_table.specs.declared.fault.PageFault.TheVariants.{Unclean}
 use Rattle.ub_tree.specs.Placed.{entry_of}
-use Rattle.ub_tree.specs.View.{TreeView}
+use Rattle.ub_tree.specs.View.{TreeView, region_count}
 use Rattle.ub_tree.specs.declared.fault.TreeFault.{TreeFault}
 use Rattle.ub_tree.specs.declared.fault.TreeFault.TheVariants.{Page, Store, Memory}
 use Rattle.ub_store.specs.Facts as facts
@@ -16,12 +15,9 @@ use Rattle.ub_directory.specs.Reading.{IsDirectory, IsAskedFor, IsRefused}
 -- what opening a store with these facts makes
 pub record IsOpened (store : StoreFacts) (t : TreeView) : Type 0 where
   pub header : Header
-  pub chain : List ℕ
-  pub entries : List Entry
-  pub directory : IsHonest store → IsDirectory store.pages header chain entries
+  pub directory : IsHonest store → IsDirectory store.pages header t.inner.chain (map entry_of t.placed)
   pub schema_is : t.schema ≡ header.schema
-  pub entries_are : map entry_of t.placed ≡ entries
-  pub chain_is : t.inner.chain ≡ chain
+  pub count_is : region_count t ≡ header.regions
   pub rows_are : t.rows ≡ header.rows
   pub next_is : t.next ≡ header.next
   pub unchanged : t.is_changed ≡ false

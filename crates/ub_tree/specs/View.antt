@@ -36,6 +36,10 @@ regions t = regions_in t.placed
 abbrev pub tree_rows : TreeView → List Row
 tree_rows t = rows_of (regions t)
 
+-- how many regions a tree counts: of a sound tree as many as it has
+abbrev pub region_count : TreeView → ℕ
+region_count t = length t.placed
+
 -- the regions with their spans, in order
 abbrev pub spans_in : Schema → List Placed → List Span
 spans_in schema placed = spans.regions_of (last_address schema.dims) (map entry_of placed)

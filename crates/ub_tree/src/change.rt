@@ -8,14 +8,15 @@ ghost use Rattle.ub_store.specs.View.{SameTrace};
 ghost use Rattle.ub_table.specs.Keys.{AreKeysAscending, is_same};
 ghost use Rattle.ub_table.specs.Region.{Region, IsRegion, key_of, keys_of, measures_of};
 ghost use Rattle.ub_tree.specs.Change as spec;
-ghost use Rattle.ub_tree.specs.Change.{AreRowsAt, IsStored, IsSeatIn, IsSeatThere, IsElsewhereSame, IsOnSeat, IsReadAt, placed_with, IsInserted, IsSplitAt, HasRoom, Suits, numbered, IsExtensionFault, IsStoreFault, PutsRows, StoresAt, StoresRows, Writes};
+ghost use Rattle.ub_tree.specs.Change.{IsInserted, Suits, numbered};
+ghost use Rattle.ub_tree.specs.inner.Change.{AreRowsAt, IsStored, IsSeatIn, IsSeatThere, IsElsewhereSame, IsOnSeat, IsReadAt, placed_with, IsSplitAt, HasRoom, IsExtensionFault, IsStoreFault, PutsRows, StoresAt, StoresRows, Writes};
 ghost use Rattle.ub_tree.specs.Effects.{Searches, Changes};
 ghost use Rattle.ub_tree.specs.Holding.{AnswersKey, AnswersRow, CountsOut, index_for};
 ghost use Rattle.ub_tree.specs.Opened.{IsPassing};
 ghost use Rattle.ub_tree.specs.Others.{GrowsAt};
 ghost use Rattle.ub_tree.specs.Placed.{Placed, entry_of};
 ghost use Rattle.ub_writing.specs.Puts.{Puts};
-ghost use Rattle.ub_tree.specs.View.{IsSound, regions};
+ghost use Rattle.ub_tree.specs.View.{IsSound, region_count, regions};
 
 use crate::fault::TreeFault;
 use crate::reading::take_region;
@@ -73,6 +74,7 @@ impl<S: PageStore> Tree<S> {
         requires { IsSeatIn self.old seat.now }
         ensures begins { OnOk result ((region.new.dims ≡ self.old.schema.dims)
             × (region.new.region.first ≡ seat.now.first)) }
+        ensures on { OnOk result (IsOnSeat self.old seat.now region.new.region) }
         ensures few { OnOk result
             (length region.new.region.rows ≤ self.old.schema.page_rows) }
         ensures at { OnOk result (AreRowsAt self.old.schema
@@ -148,7 +150,7 @@ impl<S: PageStore> Tree<S> {
     // regions have pages of their own.
     fn uncounted(&self) -> TreeFault
         ensures fault { result ≡ TreeFault.Page 0 PageFault.BadCount }
-        ensures unsound { length self.now.placed ≡ 4294967295 → ¬ (IsSound self.now) }
+        ensures unsound { region_count self.now ≡ 4294967295 → ¬ (IsSound self.now) }
     {
         // Its contract tells the proof how many pages there can be.
         let _pages = self.pager.pages();
@@ -184,7 +186,7 @@ impl<S: PageStore> Tree<S> {
               first = halves.now.first;
               right = halves.now.right.now;
             }) self.old self.new) }
-        ensures counted { CountsOut (length self.old.placed ≡ 4294967295) result }
+        ensures counted { CountsOut (region_count self.old ≡ 4294967295) result }
         ensures effect { Changes self.old self.new result }
     {
         if self.regions() == MAX_PAGES {
@@ -236,7 +238,7 @@ impl<S: PageStore> Tree<S> {
             self.old self.new result }
         ensures counted { CountsOut
             ((length room.old.region.region.rows ≡ self.old.schema.page_rows)
-            × (length self.old.placed ≡ 4294967295)) result }
+            × (region_count self.old ≡ 4294967295)) result }
         ensures effect { Changes self.old self.new result }
     {
         let index = index_in(room.region.keys(), key);
@@ -267,7 +269,7 @@ impl<S: PageStore> Tree<S> {
             self.old self.new) }
         ensures written { StoresRows seat.now.index
             (insert room.old.region.region.rows index row.now) self.old self.new result }
-        ensures counted { CountsOut (length self.old.placed ≡ 4294967295) result }
+        ensures counted { CountsOut (region_count self.old ≡ 4294967295) result }
         ensures effect { Changes self.old self.new result }
     {
         list_rows(&room.region, &mut room.rows);

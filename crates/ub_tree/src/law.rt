@@ -1,4 +1,4 @@
-ghost use Rattle.ub_tree.specs.Laws.{SpansAscend, PagesDiffer, SpansCoverTheSpace, RowsLieInSpans, AnswersAreThoseThatMeet, AnswersAreRegionsThatMeet, AnswersAscend};
+ghost use Rattle.ub_tree.specs.Laws.{SpansAscend, PagesDiffer, SpansCoverTheSpace, RowsLieInSpans, RegionsAreTold, NextIsTheFirst, NextIsLater, AnswersAreThoseThatMeet, AnswersAreRegionsThatMeet, AnswersAscend};
 
 // Each function here does nothing, and its clause is a law of the definitions in specs/. So the law is proved, and is read
 // beside the code.
@@ -23,14 +23,28 @@ pub fn rows_lie_in_spans()
     ensures { RowsLieInSpans }
 {}
 
-/// `next_meeting`, from the beginning on and each time after the last answer, answers the regions that meet the boxes, each once
-/// and in order, and no others.
+/// A sound tree tells of its regions, each with its span, and of no others.
+pub fn regions_are_told()
+    ensures { RegionsAreTold }
+{}
+
+/// Of a sound tree `next_meeting` gives the first of its regions, later than the one given, that meets the boxes, or none.
+pub fn next_is_the_first()
+    ensures { NextIsTheFirst }
+{}
+
+/// What it gives of any tree is a region that the tree tells of; it begins later than the one given, and meets the boxes.
+pub fn next_is_later()
+    ensures { NextIsLater }
+{}
+
+/// `next_meeting` of a sound tree, from the beginning on and each time after the last answer, answers the regions that meet the
+/// boxes, each once and in order, and no others.
 pub fn answers_are_those_that_meet()
     ensures { AnswersAreThoseThatMeet }
 {}
 
-/// Over any tree `next_meeting`, from the beginning on and each time after the last answer, answers regions of the tree that
-/// meet the boxes, and no more than it has.
+/// Over any tree it answers regions that the tree tells of and that meet the boxes.
 pub fn answers_are_regions_that_meet()
     ensures { AnswersAreRegionsThatMeet }
 {}

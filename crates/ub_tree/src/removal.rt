@@ -4,7 +4,7 @@ ghost use Rattle.ub_region.specs.Joins.{JoinsNext, JoinsBefore, put_rows};
 ghost use Rattle.ub_region.specs.Regions.{settle};
 ghost use Rattle.ub_store.specs.Facts as facts;
 ghost use Rattle.ub_table.specs.Region.{Region, IsRegion};
-ghost use Rattle.ub_tree.specs.Change.{IsStored, IsSeatIn, IsSeatThere, JoinsAt, TakesAt};
+ghost use Rattle.ub_tree.specs.inner.Change.{IsStored, IsSeatIn, IsSeatThere, JoinsAt, TakesAt};
 ghost use Rattle.ub_tree.specs.Effects.{Searches, Changes};
 ghost use Rattle.ub_tree.specs.Holding.{AnswersRemoval, index_for};
 ghost use Rattle.ub_tree.specs.Others.{ShrinksAt};

@@ -1,7 +1,7 @@
 ghost use Rattle.std.specs.Prelude.{◌≡◌, ◌≤◌, map, IfErr, IfOk};
 ghost use Rattle.ub_directory.specs.Spans.{IsSeatAfter, IsSeatBefore};
 ghost use Rattle.ub_region.specs.Regions.{index_holding};
-ghost use Rattle.ub_tree.specs.Change.{IsSeatIn};
+ghost use Rattle.ub_tree.specs.inner.Change.{IsSeatIn};
 ghost use Rattle.ub_tree.specs.Effects.{Searches};
 ghost use Rattle.ub_tree.specs.Opened.{IsPassing};
 ghost use Rattle.ub_tree.specs.Placed.{entry_of};

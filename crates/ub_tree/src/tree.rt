@@ -1,11 +1,12 @@
-ghost use Rattle.std.specs.Prelude.{◌≡◌, ◌≤◌, [], IsTrue, Err, length, IfOk, OnOk, option_copied};
+ghost use Rattle.std.specs.Prelude.{◌≡◌, ◌≤◌, [], IsTrue, Err, length, IfOk, IfSome, OnOk, option_copied};
 ghost use Rattle.std.specs.List.{Contains};
 ghost use Rattle.ub_page.specs.Region.{empty_region};
 ghost use Rattle.ub_store.specs.View.{emptied};
 ghost use Rattle.ub_tree.specs.Calls.{StandsAt};
 ghost use Rattle.ub_tree.specs.Effects.{IsTakenIn, ReadsRegion, Searches};
 ghost use Rattle.ub_tree.specs.Spans.{IsLater, Meets, First};
-ghost use Rattle.ub_tree.specs.View.{IsSound, spans_of};
+ghost use Rattle.ub_tree.specs.Told.{GivesNext, IsRegionOf};
+ghost use Rattle.ub_tree.specs.View.{IsSound, region_count, spans_of};
 
 use crate::fault::TreeFault;
 use crate::reading::take_region;
@@ -63,7 +64,8 @@ impl<S: PageStore> Tree<S> {
 
     /// How many regions there are.
     pub fn regions(&self) -> u32
-        ensures { result ≡ length self.now.placed }
+        ensures count { result ≡ region_count self.now }
+        ensures placed { IsSound self.now → result ≡ length self.now.placed }
     {
         self.directory.count() as u32
     }
@@ -96,11 +98,14 @@ impl<S: PageStore> Tree<S> {
         self.pager.trace()
     }
 
-    /// The first region later than `after`, if one is given, whose span ends at z or later; `None` exactly where there is
-    /// none. Failed where the tree has failed.
+    /// The first region later than `after`, if one is given, whose span ends at z or later; `None` exactly where a sound tree
+    /// has none. What is found of any tree begins later than `after`. Failed where the tree has failed.
     pub fn seek(&mut self, z: u128, after: Option<&Region>) -> Result<Option<Region>, TreeFault>
-        ensures found { IfOk result (λ found. First (λ r. IsLater (option_copied after.entry) r
-            × (z ≤ r.to)) (spans_of self.old) found) }
+        ensures found { IsSound self.old → IfOk result
+            (λ found. First (λ r. IsLater (option_copied after.entry) r × (z ≤ r.to))
+            (spans_of self.old) found) }
+        ensures later { IfOk result (λ found. IfSome found (λ r. IsRegionOf self.old r
+            × IsLater (option_copied after.entry) r × (z ≤ r.to))) }
         ensures failed { IsTrue self.old.is_failed → result ≡ Err TreeFault.Failed }
         ensures effect { Searches self.old self.new result }
     {
@@ -111,15 +116,19 @@ impl<S: PageStore> Tree<S> {
         Ok(found)
     }
 
-    /// The first region later than `after`, if one is given, that meets one of the boxes; `None` exactly where there is
-    /// none. Failed where the tree has failed.
+    /// The first region later than `after`, if one is given, that meets one of the boxes; `None` exactly where a sound tree
+    /// has none. What is found of any tree begins later than `after`, so that asking on from it comes to an end. Failed where
+    /// the tree has failed.
     pub fn next_meeting(
         &mut self,
         boxes: &[ZBox],
         after: Option<&Region>,
     ) -> Result<Option<Region>, TreeFault>
-        ensures found { IfOk result (λ found. First (λ r. IsLater (option_copied after.entry) r
-            × Meets boxes.now r) (spans_of self.old) found) }
+        ensures found { IsSound self.old → IfOk result
+            (λ found. First (λ r. IsLater (option_copied after.entry) r × Meets boxes.now r)
+            (spans_of self.old) found) }
+        ensures later { IfOk result (λ found. IfSome found (IsLater (option_copied after.entry))) }
+        ensures gives { IfOk result (GivesNext boxes.now self.old (option_copied after.entry)) }
         ensures failed { IsTrue self.old.is_failed → result ≡ Err TreeFault.Failed }
         ensures effect { Searches self.old self.new result }
     {

@@ -1,14 +1,15 @@
-use Rattle.std.proofs.Common.{◌≡◌, ◌∙◌, inl, inr, List, [], Ok, Some, None, Contains, ap, refl, subst, sym}
+use Rattle.std.proofs.Common.{◌≡◌, ◌∙◌, inl, inr, List, [], Ok, Some, None, ap, refl, subst, sym}
 use Rattle.std.proofs.lemmas.List.{append-nil}
 use Rattle.std.specs.Option.{option_copied}
 use Rattle.ub_bigmin.specs.Box.{Corners}
-use Rattle.ub_tree.proofs.Laws.{Keeps-by, tree_reads, unchanged_trace, unchanged_traced}
+use Rattle.ub_tree.proofs.Laws.{Keeps-by, next_is_later, tree_reads, unchanged_trace, unchanged_traced}
 use Rattle.ub_exec.proofs.FirstFacts.{asked_some, on_err}
 use Rattle.ub_exec.proofs.NotedFacts.{next_notes, notes_none, notes_one, read_next}
 use Rattle.ub_exec.proofs.WalkFacts.{visited_by}
 use Rattle.ub_table.specs.declared.row.Row.{Row}
 use Rattle.ub_tetris.proofs.Laws.{either_noted}
 use Rattle.ub_tree.specs.Spans.{First, IsLater, Meets}
+use Rattle.ub_tree.specs.Told.{GivesNext, IsRegionOf}
 use Rattle.ub_tree.specs.View.{TreeView, spans_of}
 use Rattle.ub_exec.proofs.walking.visit_next.Goals as goal
 
@@ -17,7 +18,7 @@ returns-in_default-clause-rows g c before taken has = (
   [],
   subst (λ (rows : List Row). g.K.RowSink.HasTaken c.args.tree.now.schema c.args.plan.now.asked before rows c.args.sink.now) (sym (append-nil taken)) has,
   λ sound. (
-    subst (λ (boxes : List Corners). First (λ s. IsLater (option_copied c.args.after) s × Meets boxes s) (spans_of c.args.tree.now) None) c.boxes.ensures.boxes (rw c.in_default.is at c.in_ok-region.ensures.found),
+    subst (λ (boxes : List Corners). First (λ s. IsLater (option_copied c.args.after) s × Meets boxes s) (spans_of c.args.tree.now) None) c.boxes.ensures.boxes (rw c.in_default.is at (c.in_ok-region.ensures.found sound)),
     unchanged_trace c.args.tree.now c.next_meeting.new.self c.in_ok-region.ensures.effect.same,
     refl,
   ),
@@ -31,16 +32,16 @@ returns-clause-rows g c before taken has =
       c.read_region.new.page.region.rows,
       (rw schema at (c.in_ok-push_chosen.ensures before taken)) has,
       λ sound. visited_by c.args.tree.now _ c.read_region.new.self _ _ c.in-Some.region c.read_region.new.page.region _ sound
-          (subst (λ (boxes : List Corners). First (λ s. IsLater (option_copied c.args.after) s × Meets boxes s) (spans_of c.args.tree.now) (Some c.in-Some.region)) c.boxes.ensures.boxes (rw c.in-Some.is at c.in_ok-region.ensures.found))
+          (subst (λ (boxes : List Corners). First (λ s. IsLater (option_copied c.args.after) s × Meets boxes s) (spans_of c.args.tree.now) (Some c.in-Some.region)) c.boxes.ensures.boxes (rw c.in-Some.is at (c.in_ok-region.ensures.found sound)))
           (Keeps-by _ _ (unchanged_traced _ _ same)) (unchanged_trace _ _ same) c.in_ok-read_region.ensures.stands c.in_ok-read_region.ensures.first c.in_ok-read_region.ensures.effect.listed refl,
     )
 
 pub returns-in_err-read_region-clause-effect : goal.returns-in_err-read_region-clause-effect
 returns-in_err-read_region-clause-effect g c =
     let same = c.in_ok-region.ensures.effect.same in
-    let first = rw c.in-Some.is at c.in_ok-region.ensures.found in
+    let gives = rw c.in-Some.is at c.in_ok-region.ensures.gives in
     tree_reads c.from_residual-in_err-read_region.result _ c.args.tree.now _ c.read_region.new.self c.from_residual-in_err-read_region.ensures.1 (unchanged_traced _ _ same) c.in_err-read_region.ensures.effect.same
-    (c.in_err-read_region.ensures.effect.faults (subst (λ (t : TreeView). Contains (spans_of t) c.in-Some.region) (sym same) first.0))
+    (c.in_err-read_region.ensures.effect.faults (subst (λ (t : TreeView). IsRegionOf t c.in-Some.region) (sym same) (next_is_later c.args.tree.now _ _ c.in-Some.region gives).0))
 
 pub returns-in_err-region-clause-broken : goal.returns-in_err-region-clause-broken
 returns-in_err-region-clause-broken g c sound =
@@ -51,7 +52,7 @@ returns-in_err-read_region-clause-broken g c sound =
     let same = c.in_ok-region.ensures.effect.same in
     on_err c.from_residual-in_err-read_region.result _
     (asked_some c.args.tree.now c.next_meeting.new.self c.read_region.new.self _ _ c.in-Some.region sound
-    (subst (λ (boxes : List Corners). First (λ s. IsLater (option_copied c.args.after) s × Meets boxes s) (spans_of c.args.tree.now) (Some c.in-Some.region)) c.boxes.ensures.boxes (rw c.in-Some.is at c.in_ok-region.ensures.found))
+    (subst (λ (boxes : List Corners). First (λ s. IsLater (option_copied c.args.after) s × Meets boxes s) (spans_of c.args.tree.now) (Some c.in-Some.region)) c.boxes.ensures.boxes (rw c.in-Some.is at (c.in_ok-region.ensures.found sound)))
     (Keeps-by c.args.tree.now c.next_meeting.new.self (unchanged_traced c.args.tree.now c.next_meeting.new.self same)) (unchanged_trace c.args.tree.now c.next_meeting.new.self same) (either_noted _ c.next_meeting.new.self c.read_region.new.self _ c.in_err-read_region.ensures.effect.noted))
 
 pub returns-in_err-push_chosen-clause-broken : goal.returns-in_err-push_chosen-clause-broken
@@ -59,12 +60,12 @@ returns-in_err-push_chosen-clause-broken g c sound =
     let same = c.in_ok-region.ensures.effect.same in
     on_err c.from_residual-in_err-push_chosen.result _
     (asked_some c.args.tree.now c.next_meeting.new.self c.read_region.new.self _ _ c.in-Some.region sound
-    (subst (λ (boxes : List Corners). First (λ s. IsLater (option_copied c.args.after) s × Meets boxes s) (spans_of c.args.tree.now) (Some c.in-Some.region)) c.boxes.ensures.boxes (rw c.in-Some.is at c.in_ok-region.ensures.found))
+    (subst (λ (boxes : List Corners). First (λ s. IsLater (option_copied c.args.after) s × Meets boxes s) (spans_of c.args.tree.now) (Some c.in-Some.region)) c.boxes.ensures.boxes (rw c.in-Some.is at (c.in_ok-region.ensures.found sound)))
     (Keeps-by c.args.tree.now c.next_meeting.new.self (unchanged_traced c.args.tree.now c.next_meeting.new.self same)) (unchanged_trace c.args.tree.now c.next_meeting.new.self same) (inr c.in_ok-read_region.ensures.effect.listed))
 
 pub returns-in_default-clause-next : goal.returns-in_default-clause-next
 returns-in_default-clause-next g c = (
-  subst (λ (boxes : List Corners). First (λ s. IsLater (option_copied c.args.after) s × Meets boxes s) (spans_of c.args.tree.now) None) c.boxes.ensures.boxes (rw c.in_default.is at c.in_ok-region.ensures.found),
+  subst (λ (boxes : List Corners). GivesNext boxes c.args.tree.now (option_copied c.args.after) None) c.boxes.ensures.boxes (rw c.in_default.is at c.in_ok-region.ensures.gives),
   unchanged_trace c.args.tree.now c.next_meeting.new.self c.in_ok-region.ensures.effect.same,
 )
 
@@ -90,10 +91,10 @@ returns-in_err-push_chosen-clause-notes g c =
 pub returns-clause-next : goal.returns-clause-next
 returns-clause-next g c =
     read_next c.boxes.result.now c.args.plan.now.covering.boxes _ c.args.tree.now c.next_meeting.new.self c.read_region.new.self c.in-Some.region c.read_region.new.page.region
-    c.boxes.ensures.boxes c.in_ok-region.ensures.effect.same (rw c.in-Some.is at c.in_ok-region.ensures.found) c.in_ok-read_region.ensures.effect.listed c.in_ok-read_region.ensures.taken
+    c.boxes.ensures.boxes c.in_ok-region.ensures.effect.same (rw c.in-Some.is at c.in_ok-region.ensures.gives) c.in_ok-read_region.ensures.effect.listed c.in_ok-read_region.ensures.taken
 
 pub returns-clause-notes : goal.returns-clause-notes
 returns-clause-notes g c =
     next_notes c.args.plan.now.covering.boxes (option_copied c.args.after) c.args.tree.now c.read_region.new.self (Some c.in-Some.region)
     (read_next c.boxes.result.now c.args.plan.now.covering.boxes _ c.args.tree.now c.next_meeting.new.self c.read_region.new.self c.in-Some.region c.read_region.new.page.region
-    c.boxes.ensures.boxes c.in_ok-region.ensures.effect.same (rw c.in-Some.is at c.in_ok-region.ensures.found) c.in_ok-read_region.ensures.effect.listed c.in_ok-read_region.ensures.taken)
+    c.boxes.ensures.boxes c.in_ok-region.ensures.effect.same (rw c.in-Some.is at c.in_ok-region.ensures.gives) c.in_ok-read_region.ensures.effect.listed c.in_ok-read_region.ensures.taken)

@@ -1,6 +1,6 @@
 use Rattle.std.proofs.Common.{◌++◌, List}
 use Rattle.std.specs.List.{filter}
-use Rattle.ub_tree.proofs.Laws.{Keeps}
+use Rattle.ub_tree.proofs.Laws.{Keeps, left_after}
 use Rattle.ub_exec.proofs.NotedFacts.{HasReadUpTo}
 use Rattle.ub_exec.proofs.WalkFacts.{HasCome}
 use Rattle.ub_filter.specs.Choice.{is_chosen}
@@ -8,11 +8,14 @@ use Rattle.ub_table.specs.declared.row.Row.{Row as RowView}
 use Rattle.ub_tree.specs.View.{IsSound}
 use Rattle.ub_exec.proofs.walking.walk.Given as goal
 
-abbrev pub invariant-loop-turn : goal.invariant-loop-turn
-invariant-loop-turn g l = record {
+abbrev pub invariant-loop-region : goal.invariant-loop-region
+invariant-loop-region g l = record {
   kept : Keeps l.initial.tree l.tree;
-  read : HasReadUpTo l.plan.covering.boxes l._turn l.initial.tree l.tree l.after;
+  read : HasReadUpTo l.plan.covering.boxes l.initial.tree l.tree l.after;
   come : (before : _) (taken : List RowView) → g.K.RowSink.HasTaken l.initial.tree.schema l.plan.asked before taken l.initial.sink
       → (rows : List RowView) × g.K.RowSink.HasTaken l.initial.tree.schema l.plan.asked before (taken ++ filter (is_chosen l.fn.choice l.initial.tree.schema l.plan) rows) l.sink
-      × (IsSound l.initial.tree → HasCome l.plan.covering.boxes l._turn l.initial.tree l.tree rows l.after);
+      × (IsSound l.initial.tree → HasCome l.plan.covering.boxes l.initial.tree l.tree rows l.after);
 }
+
+abbrev pub decreases-loop-region : goal.decreases-loop-region
+decreases-loop-region g l = left_after l.initial.tree l.after

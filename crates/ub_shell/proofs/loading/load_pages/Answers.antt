@@ -9,5 +9,5 @@ returns-in-Ok-clause-loaded c =
       loaded = loaded;
       closed = (c.in-Ok.ensures.closed loaded.sound).1;
       rows_are = c.rows.ensures;
-      regions_are = c.regions.ensures;
+      regions_are = c.regions.ensures.count;
     }

@@ -2,7 +2,7 @@ use Rattle.std.proofs.Common.{◌≡◌, ◌≢◌, ◌<◌, ◌≤◌, ◌+◌,
 use Rattle.std.specs.List.{list_any}
 use Rattle.ub_page.specs.declared.directory.Entry.{Entry}
 use Rattle.ub_table.specs.Region.{Region, key_of, keys_of}
-use Rattle.ub_tree.specs.Change.{AreRowsAt, IsReadAt}
+use Rattle.ub_tree.specs.inner.Change.{AreRowsAt, IsOnSeat, IsReadAt}
 use Rattle.ub_tree.specs.Effects.{Changes, IsNumberTaken}
 use Rattle.ub_tree.specs.Holding.{AnswersKey, index_for}
 use Rattle.ub_tree.specs.Others.{GrowsAt}
@@ -157,8 +157,10 @@ returns-then-has_key-clause-effect g c =
     let keys : c.keys.result.now ≡ keys_of a.schema.dims rows = c.keys.ensures.keys ∙ ap (λ (d : ℕ). keys_of d rows) of_room in
     let has : has_key a.schema.dims c.key-key.result rows ≡ true =
     sym (any_key a.schema.dims c.key-key.result rows) ∙ ap (λ (ks : List Key). list_any (is_same c.key-key.result) ks) (sym keys) ∙ sym c.has_key.ensures ∙ c.if-has_key.true in
-    let taken = key_there a seat.index p c.key-key.result rows there number has (λ honest. read honest p there) in
-    let on : p.page ≡ c.page.result = page ∙ sym c.page.ensures in
+    let stood : IsOnSeat a seat c.read_at.new.region.region =
+    subst (λ (v : TreeView). IsOnSeat v seat c.read_at.new.region.region) c.in_ok-seat.ensures.effect.same c.in_ok-read_at.ensures.on in
+    let taken = key_there a seat p c.key-key.result c.read_at.new.region.region there c.in_ok-seat.ensures.seat stood number has (λ honest. read honest p there) in
+    let on : seat.page ≡ c.page.result = sym c.page.ensures in
     subst (λ (v : TreeView). Changes {A = ℕ} a v (Err (Page c.page.result BadOrder))) (sym same)
     (unchanged (Page c.page.result BadOrder) a (taken.0, inr (inr (refl, subst (λ (n : ℕ). IsNumberTaken a n) on taken.1)), refl))
 

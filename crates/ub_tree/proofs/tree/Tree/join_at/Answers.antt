@@ -2,7 +2,7 @@ use Rattle.std.proofs.Common.{◌≡◌, ◌+◌, ℕ, List, [], ◌∷◌, Some
 use Rattle.std.specs.List.{remove}
 use Rattle.ub_directory.specs.View.{DroppingView}
 use Rattle.ub_table.specs.Region.{IsRegion}
-use Rattle.ub_tree.specs.Change.{IsStored, placed_with}
+use Rattle.ub_tree.specs.inner.Change.{IsStored, placed_with}
 use Rattle.std.proofs.lemmas.List.{length-map}
 use Rattle.ub_tree.specs.View.{TreeView}
 use Rattle.ub_tree.specs.Placed.{Placed, entry_of}

@@ -1,16 +1,26 @@
-use Rattle.std.proofs.Common.{Option}
-use Rattle.ub_tree.proofs.CallFacts.{searched_there, search_refused}
+use Rattle.std.proofs.Common.{Option, option_copied}
+use Rattle.ub_tree.proofs.CallFacts.{first_later, searched_there, search_refused}
 use Rattle.ub_tree.proofs.TreeFacts.{spans_are}
-use Rattle.ub_tree.specs.Spans.{Region}
+use Rattle.ub_tree.specs.Spans.{IsLater, Meets, Region, regions_of}
 use Rattle.ub_tree.specs.Tree.{known_pages}
 use Rattle.ub_writing.specs.Marks.{is_written}
 use Rattle.ub_tree.proofs.tree.Tree.next_meeting.Goals as goal
 
 pub returns-clause-found : goal.returns-clause-found
-returns-clause-found g c =
+returns-clause-found g c sound =
     let t = c.self.inside in
     let spans = spans_are t.schema (known_pages t.pager.store) t.directory.entries t.directory.last c.self.invariant.last_is in
     rw (← c.self.view_is) (rw spans at c.in_ok-found.ensures.found)
+
+pub returns-clause-later : goal.returns-clause-later
+returns-clause-later g c =
+    first_later (IsLater (option_copied c.args.after)) (Meets c.args.boxes.now) (regions_of c.self.inside.directory.last c.self.inside.directory.entries) c.in_ok-found.found c.in_ok-found.ensures.found
+
+pub returns-clause-gives : goal.returns-clause-gives
+returns-clause-gives g c =
+    let t = c.self.inside in
+    let spans = spans_are t.schema (known_pages t.pager.store) t.directory.entries t.directory.last c.self.invariant.last_is in
+    record { first = rw (← c.self.view_is) (rw spans at c.in_ok-found.ensures.found) }
 
 pub returns-in_err-found-clause-effect : goal.returns-in_err-found-clause-effect
 returns-in_err-found-clause-effect g c =

@@ -1,13 +1,14 @@
-use Rattle.std.proofs.Common.{◌≡◌, ◌<◌, ◌∙◌, Some, refl, ap, arith, length, slice_get}
+use Rattle.std.proofs.Common.{◌≡◌, ◌<◌, ◌∙◌, ℕ, List, Some, refl, ap, arith, length, slice_get, subst}
 use Rattle.std.proofs.lemmas.Option.{slice_get_within}
 use Rattle.ub_page.specs.Region.{RegionView, region_page}
+use Rattle.ub_store.specs.Facts.{IsPage}
 use Rattle.ub_table.specs.Region.{Region}
 use Rattle.ub_tree.specs.Faults.{tree_fault}
 use Rattle.ub_tree.proofs.HoldingFacts.{passing_by, passing_read}
 use Rattle.ub_tree.specs.Tree.{tree_view, known_pages}
 use Rattle.ub_tree.specs.View.{TreeView}
 use Rattle.ub_tree.proofs.CallFacts.{tree_entry_known, page_refused_by, store_refused, known_is, refused_there, missing_there, read_there, read_page_by, searched_tree, page_still, seated}
-use Rattle.ub_tree.proofs.TreeFacts.{entries_back, contained_at, placed_at, rows_read}
+use Rattle.ub_tree.proofs.TreeFacts.{entries_back, placed_at, rows_read}
 use Rattle.ub_page.specs.declared.directory.Entry.{Entry}
 use Rattle.ub_tree.specs.Effects.{IsRegionRefused}
 use Rattle.ub_tree.proofs.RoomFacts.{rows_at_index}
@@ -33,7 +34,7 @@ returns-in_err-bring-clause-effect g c =
                 let there : e.page < length t.pager.store.pages = slice_get_within t.pager.store.pages e.page (region_page t.schema (placed_at t.schema t.pager.store.pages e).region) (rw known at k.spelled) in
                 let past = c.in_err-bring.ensures.missing no_page in
                 omega arith),
-            missing_there t.schema t.directory.entries t.directory.chain t.next t.rows (is_written t.mark) t.is_failed t.pager e (contained_at (λ (_ : Entry). Unit {0}) t.directory.entries c.args.seat.now.index e at) (c.in_err-bring.ensures.missing no_page),
+            missing_there t.schema t.directory.entries t.directory.chain t.next t.rows (is_written t.mark) t.is_failed t.pager c.args.seat.now.index e at (c.in_err-bring.ensures.missing no_page),
           ))
           c.in_err-bring.ensures.no_size;
     })
@@ -83,6 +84,17 @@ returns-clause-at g c =
     rw (← c.self.view_is, entries_back t.schema (known_pages t.pager.store) t.directory.entries)
     (rows_at_index t.schema t.directory.entries c.args.seat.now.index e c.next.result c.take_region.new.region.region c.take_region.new.region.region.rows at (c.next.ensures ∙ stands.next) c.in_ok-take_region.ensures.found.0
     c.in_ok-take_region.ensures.held refl)
+
+pub returns-clause-on : goal.returns-clause-on
+returns-clause-on g c =
+    let t = c.self.inside in
+    let at = page_still _ _ _ _ _ c.in_ok-bring.ensures.effect c.cached.ensures.page in
+    rw (← c.self.view_is) (record {
+      is = c.in_ok-take_region.ensures.found.0;
+      held = rw (← c.first.ensures, ← c.next.ensures) c.in_ok-take_region.ensures.held;
+      page = subst (λ (n : ℕ). IsPage t.pager.store n (region_page t.schema c.take_region.new.region.region)) c.page-number.ensures
+          (subst (λ (p : List ℕ). IsPage t.pager.store c.page-number.result p) c.in_ok-take_region.ensures.found.1 at);
+    })
 
 pub returns-in_err-bring-clause-taken : goal.returns-in_err-bring-clause-taken
 returns-in_err-bring-clause-taken g c =

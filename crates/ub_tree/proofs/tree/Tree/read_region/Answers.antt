@@ -4,7 +4,7 @@ use Rattle.ub_page.specs.Region.{region_page}
 use Rattle.ub_tree.specs.Effects.{IsRegionRefused}
 use Rattle.ub_tree.specs.Tree.{tree_view}
 use Rattle.ub_tree.specs.View.{TreeView}
-use Rattle.ub_tree.proofs.CallFacts.{tree_known, page_refused, span_refused, span_unread, span_listed, missing_there, store_refused, known_is, read_there, read_page, read_tree, page_still, on_ok_by, never_failed, told_failed, taken_in}
+use Rattle.ub_tree.proofs.CallFacts.{tree_known, page_refused, span_refused, span_unread, store_refused, known_is, read_there, read_page, read_tree, page_still, on_ok_by, never_failed, told_failed, taken_in}
 use Rattle.ub_writing.specs.Marks.{is_written}
 use Rattle.ub_tree.proofs.tree.Tree.read_region.Goals as goal
 
@@ -19,19 +19,16 @@ returns-in_err-bring_region-clause-effect g c =
       listed = search rules;
       failed = never_failed c.from_residual.result c.in_err-bring_region.field-0.0 old _ c.from_residual.ensures.1;
       refused = span_unread (Unit {0}) c.from_residual.result c.in_err-bring_region.field-0.0 c.args.region.now old c.from_residual.ensures.1 c.in_err-bring_region.ensures.effect.device c.in_err-bring_region.ensures.missing c.in_err-bring_region.ensures.no_size;
-      faults = λ there. store_refused old c.from_residual.result c.in_err-bring_region.field-0.0 c.from_residual.ensures.1
+      faults = λ told. store_refused old c.from_residual.result c.in_err-bring_region.field-0.0 c.from_residual.ensures.1
           c.in_err-bring_region.ensures.effect.device
           (λ e. (
             (λ sound.
-                let k = tree_known t.schema t.directory.entries t.directory.chain t.next t.rows (is_written t.mark) t.is_failed t.pager t.directory.last c.args.region.now c.self.invariant.last_is sound there in
+                let k = tree_known t.schema t.directory.entries t.directory.chain t.next t.rows (is_written t.mark) t.is_failed t.pager t.directory.last c.args.region.now c.self.invariant.last_is sound told.there in
                 let known = known_is t.pager.store sound.honest in
                 let within : c.args.region.now.page < length t.pager.store.pages = slice_get_within t.pager.store.pages c.args.region.now.page (region_page t.schema k.0.region) (rw known at k.1.spelled) in
                 let past = c.in_err-bring_region.ensures.missing e in
                 omega arith),
-            (let listed = span_listed t.schema t.directory.entries t.directory.chain t.next t.rows (is_written t.mark) t.is_failed t.pager t.directory.last c.args.region.now c.self.invariant.last_is there in
-                let past = c.in_err-bring_region.ensures.missing e in
-                let same = listed.3 in
-                missing_there t.schema t.directory.entries t.directory.chain t.next t.rows (is_written t.mark) t.is_failed t.pager listed.0 listed.1 (omega arith)),
+            (c.args.region.now, told, c.in_err-bring_region.ensures.missing e),
           ))
           c.in_err-bring_region.ensures.no_size;
     })
@@ -65,14 +62,14 @@ returns-clause-effect g c =
         (page_still _ _ _ _ _ c.in_ok-bring_region.ensures.effect c.cached.ensures.page),
         refused,
       ));
-      faults = λ there. page_refused (IsRegionRefused t.schema c.args.region.now.first c.args.region.now.next c.cached.result.now) c.take_region.result c.args.region.now.page old c.take_region.ensures.refused (λ sound.
-          let k = tree_known t.schema t.directory.entries t.directory.chain t.next t.rows (is_written t.mark) t.is_failed t.pager t.directory.last c.args.region.now c.self.invariant.last_is sound there in
+      faults = λ told. page_refused (IsRegionRefused t.schema c.args.region.now.first c.args.region.now.next c.cached.result.now) c.take_region.result c.args.region.now.page old c.take_region.ensures.refused (λ sound.
+          let k = tree_known t.schema t.directory.entries t.directory.chain t.next t.rows (is_written t.mark) t.is_failed t.pager t.directory.last c.args.region.now c.self.invariant.last_is sound told.there in
           let known = known_is t.pager.store sound.honest in
           let at = page_still _ _ _ _ _ c.in_ok-bring_region.ensures.effect c.cached.ensures.page sound.honest in
           let spelled = rw known at k.1.spelled in
           let page : c.cached.result.now ≡ region_page t.schema k.0.region = cc in
           (c.take_region.ensures.exact k.0.region k.1.region page k.1.held).0)
-          (λ f refused. (c.args.region.now, there, refl, c.cached.result.now, (page_still _ _ _ _ _ c.in_ok-bring_region.ensures.effect c.cached.ensures.page), refused));
+          (λ f refused. (c.args.region.now, told, refl, c.cached.result.now, (page_still _ _ _ _ _ c.in_ok-bring_region.ensures.effect c.cached.ensures.page), refused));
     })
 
 pub returns-clause-taken : goal.returns-clause-taken

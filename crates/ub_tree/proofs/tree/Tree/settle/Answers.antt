@@ -2,7 +2,7 @@ use Rattle.std.proofs.Common.{◌≡◌, ◌-◌, ◌/◌, ◌∙◌, ℕ, inl, 
 use Rattle.std.specs.List.{AllByRecursion}
 use Rattle.ub_region.specs.Joins.{put_rows}
 use Rattle.ub_table.specs.Region.{IsRegion}
-use Rattle.ub_tree.specs.Change.{IsStored}
+use Rattle.ub_tree.specs.inner.Change.{IsStored}
 use Rattle.ub_tree.specs.View.{TreeView, regions}
 use Rattle.ub_tree.proofs.ChangedFacts.{taken_alone, taken_joined}
 use Rattle.ub_tree.proofs.ShrinkFacts.{settled_large, settled_alone, settled_before}

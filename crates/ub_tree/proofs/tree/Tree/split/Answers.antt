@@ -4,7 +4,7 @@ use Rattle.ub_directory.specs.View.{AddingView}
 use Rattle.ub_store.specs.Facts.{StoreFacts}
 use Rattle.ub_store.specs.View.{PagerView}
 use Rattle.ub_page.specs.declared.directory.Entry.{Entry}
-use Rattle.ub_tree.specs.Change.{placed_with}
+use Rattle.ub_tree.specs.inner.Change.{placed_with}
 use Rattle.ub_tree.specs.Effects.{Changes}
 use Rattle.ub_tree.specs.Placed.{Placed}
 use Rattle.ub_tree.specs.Tree.{tree_view, known_pages}

@@ -9,7 +9,7 @@ use Rattle.ub_table.specs.Region.{keys_of}
 use Rattle.ub_table.specs.declared.row.Key.{Key}
 use Rattle.ub_table.specs.declared.row.Row.{Row}
 use Rattle.ub_tree.proofs.GrowFacts.{one_region, one_stored}
-use Rattle.ub_tree.specs.Change.{HasRoom}
+use Rattle.ub_tree.specs.inner.Change.{HasRoom}
 use Rattle.ub_tree.specs.View.{TreeView}
 use Rattle.ub_tree.proofs.tree.Tree.store_with.Goals as goal
 
