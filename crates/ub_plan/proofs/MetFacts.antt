@@ -1,5 +1,5 @@
 -- The count of the regions that meet some boxes, which a tree hands over one after the other.
-use Rattle.std.proofs.Common.{◌≡◌, ◌<◌, ◌^◌, inl, inr, ℕ, suc, List, [], ◌∷◌, length, map, min, ◌∙◌, sym, ap, refl, arith, subst}
+use Rattle.std.proofs.Common.{◌≡◌, inl, inr, ℕ, suc, List, [], ◌∷◌, length, map, min, ◌∙◌, sym, ap, refl, arith, subst}
 use Rattle.ub_bigmin.specs.Box.{Corners}
 use Rattle.ub_plan.specs.Explained.{AreMet}
 use Rattle.ub_planning.specs.Visits as plan
@@ -8,7 +8,7 @@ use Rattle.ub_region.specs.Those.{AreThose}
 use Rattle.ub_region.specs.Regions.{firsts_of}
 use Rattle.ub_region.specs.Spans.{span_end}
 use Rattle.ub_table.specs.declared.row.Key.{Key}
-use Rattle.ub_tree.proofs.Laws.{answers_are_those_that_meet, firsts_placed}
+use Rattle.ub_tree.proofs.Laws.{answers_are_those_that_meet, firsts_placed, met_few}
 use Rattle.ub_tree.specs.Handing.{AreMetBy}
 use Rattle.ub_tree.specs.Placed.{Placed, regions_in, entry_of}
 use Rattle.ub_tree.specs.Spans.{regions_of, Meets, Region as Span}
@@ -39,13 +39,12 @@ met_are t boxes those n count are =
     (meeting, is, sym count ∙ long)
 
 -- none are counted yet
-pub none_counted : 0 ≡ min 0 4294967295
+pub none_counted : 0 ≡ min 0 18446744073709551615
 none_counted = omega arith
 
--- they are few enough to be counted
-pub counted_all : (met : List Span) (n : ℕ) → length met < 2 ^ 32 → n ≡ min (length met) 4294967295 → n ≡ length met
-counted_all met n few counted = omega arith
-
--- of a sound tree those that meet the boxes
-pub counted_met : (t : TreeView) (boxes : List Corners) (met : List Span) (n : ℕ) → IsSound t → AreMetBy boxes t met → n ≡ length met → AreMet t.schema boxes (regions t) n
-counted_met t boxes met n sound by counted = met_are t boxes met n (sym counted) (answers_are_those_that_meet t boxes met sound by)
+-- of a sound tree those that meet the boxes, few enough to be counted
+pub counted_met : (t : TreeView) (boxes : List Corners) (met : List Span) (n : ℕ) → IsSound t → AreMetBy boxes t met → n ≡ min (length met) 18446744073709551615 → AreMet t.schema boxes (regions t) n
+counted_met t boxes met n sound by counted =
+    let few = met_few boxes t met sound by in
+    let all : length met ≡ n = omega arith in
+    met_are t boxes met n all (answers_are_those_that_meet t boxes met sound by)

@@ -38,7 +38,7 @@ pub fn explain<S: PageStore>(
 }
 
 // How many regions meet the boxes. None is fetched.
-fn count_met<S: PageStore>(tree: &mut Tree<S>, boxes: &[ZBox]) -> Result<u32, ReadFault>
+fn count_met<S: PageStore>(tree: &mut Tree<S>, boxes: &[ZBox]) -> Result<u64, ReadFault>
     ensures counted { IfOk result (AreCounted boxes.now tree.old) }
     ensures met { IsSound tree.old → IfOk result (AreMet tree.old.schema boxes.now
         (regions tree.old)) }
@@ -49,16 +49,16 @@ fn count_met<S: PageStore>(tree: &mut Tree<S>, boxes: &[ZBox]) -> Result<u32, Re
     Ok(met.count)
 }
 
-/// Counts the regions that it is handed, as far as 32 bits count.
+/// Counts the regions that it is handed, as far as 64 bits count.
 #[derive(Drop)]
 pub struct Counter {
-    count: u32,
+    count: u64,
 }
 
 impl RegionSink for Counter {
     ghost use Rattle.std.specs.Prelude.{◌≡◌, min, length};
 
-    ghost Takes = { λ boxes start taken now. now.count ≡ min (length taken) 4294967295 };
+    ghost Takes = { λ boxes start taken now. now.count ≡ min (length taken) 18446744073709551615 };
 
     fn push(&mut self, _boxes: &[ZBox], _region: &Region) -> Result<(), AllocError> {
         self.count = self.count.saturating_add(1);

@@ -21,7 +21,7 @@ pub(crate) fn plan_text(
     alloc: Global,
     schema: &Schema,
     plan: &Plan,
-    met: u32,
+    met: u64,
     regions: u32,
 ) -> Result<Vec<u8>, AllocError>
     ensures { IfOk result (λ text. text.items ≡ spec.explain_text schema.now plan.now met regions) }
@@ -173,7 +173,7 @@ fn push_total(text: &mut Vec<u8>, boxes: &[ZBox]) -> Result<(), AllocError>
 }
 
 // Puts the line of how many regions meet the boxes, and how many there are.
-fn push_regions(text: &mut Vec<u8>, met: u32, regions: u32) -> Result<(), AllocError>
+fn push_regions(text: &mut Vec<u8>, met: u64, regions: u32) -> Result<(), AllocError>
     ensures { OnOk result (text.new.items
         ≡ text.old.items ++ spec.line (codes "regions " ++ decimal met ++ codes " of " ++ decimal regions)) }
 {

@@ -1,6 +1,5 @@
 -- What the calls of a tree find on a sound one, and why they are refused.
 use Rattle.std.proofs.Common.{◌⊎◌, inl, inr, ◌≡◌, ℕ, suc, Bool, IsTrue, List, ◌∷◌, Option, Some, None, IfSome, Result, Ok, Err, IfErr, IsOk, OnOk, ap, sym, subst, refl, slice_get, length, map, drop, ◌≤◌, ◌<◌, ◌∙◌, arith}
-use Rattle.std.proofs.lemmas.Option.{slice_get_read}
 use Rattle.std.specs.Result.{IsErrAnd, IsErrOf}
 use Rattle.std.specs.List.{Contains}
 use Rattle.ub_zaddr.specs.Address.{last_address}
@@ -29,7 +28,7 @@ use Rattle.ub_tree.specs.View.{TreeView, IsSound, spans_of}
 use Rattle.ub_tree.specs.declared.fault.TreeFault.{TreeFault}
 use Rattle.ub_tree.specs.declared.fault.TreeFault.TheVariants.{Failed, Page, Store}
 use Rattle.ub_directory.proofs.Laws.{region_is, region_with}
-use Rattle.ub_tree.proofs.TreeFacts.{IsKnownAt, entry_known, IsKnown, span_known, spans_are, entries_back, span_entry, contained_at}
+use Rattle.ub_tree.proofs.TreeFacts.{IsKnownAt, entry_known, IsKnown, span_known, spans_are, entries_back, contained_at}
 use Rattle.ub_store.specs.declared.fault.StoreFault.TheVariants as store
 
 pub known_is : (facts : StoreFacts) → IsHonest facts → known_pages facts ≡ facts.pages

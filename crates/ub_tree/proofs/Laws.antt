@@ -17,7 +17,7 @@ use Rattle.ub_tree.specs.View.{TreeView, IsSound, regions, spans_of}
 use Rattle.ub_zaddr.specs.Address.{last_address}
 pub use Rattle.ub_tree.proofs.AnswerFacts.{HasAnswers, HasAnswers-none, HasAnswers-more, answers_ended, answers_later, answers_there, left_after, left_less}
 pub use Rattle.ub_tree.proofs.GrowFacts.{firsts_placed, new_values, numbered_row}
-pub use Rattle.ub_tree.proofs.MeetFacts.{before, contained_at, contains_at, is_later, later_from, spans_long, take_all, those_next, those_up_to}
+pub use Rattle.ub_tree.proofs.MeetFacts.{before, contained_at, contains_at, is_later, later_from, met_few, spans_long, take_all, those_next, those_up_to}
 pub use Rattle.ub_tree.proofs.ReadFacts.{IsTraced, Keeps, Keeps-by, Keeps-more, Keeps-none, begun_traced, given_before, memory_searches, read_fault_before, reads_by, reads_then, sound_fault, told_kept, traced_gives, traced_told, tree_reads, tree_searches, unchanged_trace, unchanged_traced, SearchesTree-regions, SearchesTree-sound, SearchesTree-trace}
 pub use Rattle.ub_directory.proofs.Laws.{region_first}
 use Rattle.ub_directory.specs.Inner.{reserved}

@@ -1,12 +1,14 @@
 -- What a tree keeps over several calls that read it.
-use Rattle.std.proofs.Common.{◌≡◌, ◌≢◌, ◌∙◌, ℕ, IsTrue, List, Option, Result, Ok, Err, IfErr, subst, sym, ap, refl}
+use Rattle.std.proofs.Common.{◌≡◌, ◌≢◌, ◌≤◌, ◌∙◌, ℕ, IsTrue, List, Option, Result, Ok, Err, IfErr, subst, sym, ap, refl}
 use Rattle.std.specs.List.{Contains}
 use Rattle.std.specs.Result.{IsErrAnd}
 use Rattle.ub_bigmin.specs.Box.{Corners}
 use Rattle.ub_store.specs.declared.fault.StoreFault.TheVariants as store
+use Rattle.ub_store.specs.Facts.{IsPage, page_count}
 use Rattle.ub_store.specs.View.{Trace, emptied}
+use Rattle.ub_table.specs.declared.fault.PageFault.{PageFault}
 use Rattle.ub_table.specs.declared.schema.Schema.{Schema}
-use Rattle.ub_tree.specs.Effects.{IsReadFault, IsPageRefused, IsPageMissing, raised_by}
+use Rattle.ub_tree.specs.Effects.{IsReadFault, IsPageRefused, IsPageMissing, IsRegionRefused, raised_by}
 use Rattle.ub_tree.specs.Reading.{IsGiven, ReadsTree, SearchesTree, counted, fault_of_tree}
 use Rattle.ub_tree.specs.Spans.{First, IsLater, Meets, Region}
 use Rattle.ub_tree.specs.Told.{GivesNext, IsRegionOf}
@@ -81,13 +83,26 @@ Keeps-more a b c h k = Keeps-by a c (k.traced ∙ ap (λ (t : TreeView). record 
 
 -- ---- a call's fault, seen from before an earlier call that only read
 
+page_refused_before : (a b : TreeView) (number : ℕ) (fault : PageFault) → IsTraced a b → IsPageRefused b number fault → IsPageRefused a number fault
+page_refused_before a b number fault h (span, told, same, page, is, refused) = (
+  span,
+  traced_told a b h span told,
+  same,
+  page,
+  subst (λ (t : TreeView). IsPage t.store number page) h is,
+  subst (λ (t : TreeView). IsRegionRefused t.schema span.first span.next page fault) h refused,
+)
+
+page_missing_before : (a b : TreeView) → IsTraced a b → IsPageMissing b → IsPageMissing a
+page_missing_before a b h (span, told, past) = (span, traced_told a b h span told, subst (λ (t : TreeView). page_count t.store ≤ span.page) h past)
+
 pub read_fault_before : (a b : TreeView) (fault : TreeFault) → IsTraced a b → IsReadFault b fault → IsReadFault a fault
 read_fault_before a b Full h is = is
 read_fault_before a b HasFailed h is = subst (λ (t : TreeView). IsTrue t.is_failed) h is
 read_fault_before a b Memory h is = tt
-read_fault_before a b (Page page of_page) h is = ((λ sound. is.0 ((Keeps-by a b h).sound sound)), subst (λ (t : TreeView). IsPageRefused t page of_page) h is.1)
+read_fault_before a b (Page page of_page) h is = ((λ sound. is.0 ((Keeps-by a b h).sound sound)), page_refused_before a b page of_page h is.1)
 read_fault_before a b (Store store.Device) h is = subst (λ (t : TreeView). IsTrue t.store.can_fail) h is
-read_fault_before a b (Store store.NoPage) h is = ((λ sound. is.0 ((Keeps-by a b h).sound sound)), subst (λ (t : TreeView). IsPageMissing t) h is.1)
+read_fault_before a b (Store store.NoPage) h is = ((λ sound. is.0 ((Keeps-by a b h).sound sound)), page_missing_before a b h is.1)
 read_fault_before a b (Store store.Memory) h is = is
 read_fault_before a b (Store store.BadSize) h is = is
 

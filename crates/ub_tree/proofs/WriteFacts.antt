@@ -36,7 +36,7 @@ use Rattle.ub_writing.specs.declared.mark.Mark.{Mark}
 use Rattle.ub_writing.specs.declared.mark.Mark.TheVariants.{Due, Written}
 use Rattle.ub_writing.specs.Puts.{Puts, PutsTwo}
 use Rattle.ub_tree.specs.Spans.{regions_of, Region as Span}
-use Rattle.ub_tree.specs.Told.{IsRegionOf, KeepsTold}
+use Rattle.ub_tree.specs.Told.{KeepsTold}
 use Rattle.ub_tree.specs.View.{TreeView, IsSound, region_count, spans_of}
 use Rattle.ub_zaddr.specs.Address.{last_address}
 use Rattle.ub_tree.proofs.CallFacts.{known_is}
@@ -354,7 +354,7 @@ module _ (schema : Schema) (entries : List Entry) (chain : List ℕ) (next rows 
         left = (
           can,
           (let stopped = ended_by schema entries entries chain next rows changed changed failed true old new U store.Device refl refl same trace in
-              inr (record { same = stopped.same; count = count_by _ _ stopped.entries; others = (0, inl refl, others_extended old.store new.store extended.honesty extended.kept extended.more extended.flushed 0) })),
+              inr (record { same = stopped.same; count = count_by (tree_view schema entries chain next rows changed failed old) (tree_view schema entries chain next rows changed true new) stopped.entries; others = (0, inl refl, others_extended old.store new.store extended.honesty extended.kept extended.more extended.flushed 0) })),
         );
       }
 

@@ -1,4 +1,4 @@
-ghost use Rattle.std.specs.Prelude.{◌<◌, ◌^◌, List, length, OnOk};
+ghost use Rattle.std.specs.Prelude.{List, OnOk};
 ghost use Rattle.ub_tree.specs.Handing.{AreMetBy, Began, TakesThese};
 ghost use Rattle.ub_tree.specs.Reading.{SearchesTree};
 ghost use Rattle.ub_tree.specs.Spans.{Region as RegionView};
@@ -11,8 +11,8 @@ use ub_store::PageStore;
 
 impl<S: PageStore> Tree<S> {
     /// Hands each region that meets one of the boxes to a sink, one after the other, in the order of their first keys: over any
-    /// tree just those that `next_meeting` answers, asked after each of them until there is none, which are fewer than 2^32. No
-    /// region is fetched, and the trace stays.
+    /// tree just those that `next_meeting` answers, asked after each of them until there is none. No region is fetched, and the
+    /// trace stays.
     ///
     /// `Memory` where memory was refused, here or by the sink; `Tree` where the tree refused.
     pub fn for_each_meeting<T: RegionSink>(
@@ -22,7 +22,7 @@ impl<S: PageStore> Tree<S> {
     ) -> Result<(), ReadFault>
         requires { Began (T.Takes boxes.now) sink.old }
         ensures met { OnOk result ((met : List RegionView) × AreMetBy boxes.now self.old met
-            × (length met < 2 ^ 32) × TakesThese (T.Takes boxes.now) sink.old sink.new met) }
+            × TakesThese (T.Takes boxes.now) sink.old sink.new met) }
         ensures effect { SearchesTree self.old self.new result }
     {
         let mut after = None;

@@ -1,5 +1,5 @@
 -- What the steps of a change of one region do to a tree, and what they need.
-use Rattle.std.specs.Prelude.{IfSome, ◌≡◌, ◌+◌, ◌-◌, ◌<◌, ◌≤◌, ◌++◌, ℕ, suc, Bool, true, false, List, [], ◌∷◌, Some, IsTrue, Result, Err, IfErr, OnOk, length, map, take, drop, slice_get}
+use Rattle.std.specs.Prelude.{IfSome, ◌≡◌, ◌+◌, ◌<◌, ◌≤◌, ◌++◌, ℕ, suc, Bool, true, false, List, [], ◌∷◌, Some, IsTrue, Result, Err, IfErr, OnOk, length, map, take, drop, slice_get}
 use Rattle.std.specs.Bool.{nat_eq}
 use Rattle.std.specs.List.{AllByRecursion, IsDistinct, insert as insert_at}
 use Rattle.ub_region.specs.Regions.{split_region}

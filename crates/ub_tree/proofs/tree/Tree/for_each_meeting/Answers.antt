@@ -1,9 +1,6 @@
-use Rattle.std.proofs.Common.{◌<◌, ◌^◌, ◌++◌, ◌∷◌, ◌∙◌, [], arith, length, option_copied, subst}
-use Rattle.ub_tree.proofs.MeetFacts.{Walks-none, met_few, still_began, takes_more, takes_none, walks_down, walks_ended, walks_on}
+use Rattle.std.proofs.Common.{◌++◌, ◌∷◌, ◌∙◌, []}
+use Rattle.ub_tree.proofs.MeetFacts.{Walks-none, still_began, takes_more, takes_none, walks_down, walks_ended, walks_on}
 use Rattle.ub_tree.proofs.AnswerFacts.{next_later}
-use Rattle.ub_tree.proofs.TreeFacts.{length-placed}
-use Rattle.ub_tree.specs.Tree.{known_pages}
-use Rattle.ub_tree.specs.View.{TreeView}
 use Rattle.ub_tree.proofs.ReadFacts.{memory_searches, tree_searches}
 use Rattle.ub_tree.proofs.tree.Tree.for_each_meeting.Goals as goal
 
@@ -12,7 +9,7 @@ loop-region-init g c = ([], Walks-none c.args.boxes.now c.args.self.now, takes_n
 
 pub push-requires-clause-meets : goal.push-requires-clause-meets
 push-requires-clause-meets g c =
-    (next_later c.args.boxes.now c.loop-region.self (option_copied c.loop-region.after) c.in-Some.region (rw c.in-Some.is at c.in_ok-region.ensures.gives)).2
+    (next_later c.args.boxes.now c.loop-region.self _ c.in-Some.region (rw c.in-Some.is at c.in_ok-region.ensures.gives)).2
 
 pub push-requires-clause-began : goal.push-requires-clause-began
 push-requires-clause-began g c =
@@ -36,11 +33,8 @@ loop-region-smaller g c =
 pub returns-clause-met : goal.returns-clause-met
 returns-clause-met g c =
     let (found, walks, takes) = c.loop-region.invariant in
-    let met = walks_ended c.args.boxes.now c.args.self.now c.loop-region.self found c.loop-region.after walks
-    c.in_ok-region.field-0 _ c.in_default.not-Some c.as_ref.ensures.value c.in_ok-region.ensures.gives in
-    let few : length c.args.self.now.placed < 2 ^ 32 = (let most = c.self.invariant.few in subst (λ (v : TreeView). length v.placed < 2 ^ 32) c.self.view_is
-    (let long = length-placed c.self.inside.schema (known_pages c.self.inside.pager.store) c.self.inside.directory.entries in omega arith)) in
-    (found, met, met_few c.args.boxes.now c.args.self.now found met few, takes)
+    (found, walks_ended c.args.boxes.now c.args.self.now c.loop-region.self found c.loop-region.after walks
+    c.in_ok-region.field-0 _ c.in_default.not-Some c.as_ref.ensures.value c.in_ok-region.ensures.gives, takes)
 
 pub returns-in_err-region-clause-effect : goal.returns-in_err-region-clause-effect
 returns-in_err-region-clause-effect g c =

@@ -1,0 +1,2 @@
+-- What the clauses of a tree's steps say, and its public ones do not.
+pub mod Change
