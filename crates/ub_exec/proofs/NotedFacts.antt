@@ -10,11 +10,12 @@ use Rattle.ub_exec.specs.Reading.{CarriesOut, HasReadAll, HasReadNext, HasSweptA
 use Rattle.ub_planning.specs.Plan.{PlanView}
 use Rattle.ub_planning.specs.declared.planned.Kind.{Kind}
 use Rattle.ub_planning.specs.declared.planned.Kind.TheVariants.{Empty, Scan, Sweep}
+use Rattle.ub_query.proofs.Laws.{all_weaker}
 use Rattle.ub_table.specs.Region.{Region}
 use Rattle.ub_tetris.specs.Effects.{Sweeps, fetches_then}
 use Rattle.ub_tetris.specs.Sweep.{AreItsRegions, AwaitedRegion, IsSweepOf, SweepView}
 use Rattle.ub_tetris.specs.declared.fault.SweepFault.{SweepFault}
-use Rattle.ub_tree.proofs.Laws.{HasAnswers, HasAnswers-none, HasAnswers-more, IsTraced, answers_ended, left_after, left_less, next_is_later, traced_gives}
+use Rattle.ub_tree.proofs.Laws.{HasAnswers, HasAnswers-none, HasAnswers-more, IsTraced, answers_ended, left_after, left_less, next_is_later, traced_gives, traced_told}
 use Rattle.ub_store.specs.View.{Trace}
 use Rattle.ub_tree.specs.Effects.{HasNoted, IsTakenIn}
 use Rattle.ub_tree.specs.Handing.{AreMetBy}
@@ -53,9 +54,12 @@ notes_none r old new kept = record {
   read = on_ok r (AllByRecursion (IsRead old) []) tt;
 }
 
+read_before : (a b : TreeView) → IsTraced a b → (page : ℕ) → IsRead b page → IsRead a page
+read_before a b traced page (span, told, same, taken) = (span, traced_told a b traced span told, same, subst (λ (t : TreeView). IsIn t span) traced taken)
+
 read_more : {A : Type 0} (r : Result A ReadFault) (a b : TreeView) (some more : List ℕ) → IsTraced a b → AllByRecursion (IsRead a) some → OnOk r (AllByRecursion (IsRead b) more)
     → OnOk r (AllByRecursion (IsRead a) (some ++ more))
-read_more (Ok x) a b some more traced first second = all_joined (IsRead a) some more first (subst (λ (v : TreeView). AllByRecursion (IsRead v) more) traced second)
+read_more (Ok x) a b some more traced first second = all_joined (IsRead a) some more first (all_weaker (IsRead b) (IsRead a) (read_before a b traced) more second)
 read_more (Err e) a b some more traced first second = tt
 
 pub notes_then : {A B : Type 0} (x : A) (r : Result B ReadFault) (a b c : TreeView) → IsTraced a b → NotesPages a b (Ok x) → NotesPages b c r → NotesPages a c r

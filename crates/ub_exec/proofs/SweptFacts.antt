@@ -1,5 +1,5 @@
 -- What a sweep has given and fetched, turn by turn, and when it stops.
-use Rattle.std.proofs.Common.{◌≡◌, ◌≢◌, ◌<◌, ◌≤◌, ◌∙◌, ℕ, zero, suc, Bool, true, false, not, List, [], ◌∷◌, ◌++◌, Option, Some, None, Result, IfSome, Contains, length, map, refl, sym, ap, subst, arith}
+use Rattle.std.proofs.Common.{◌≡◌, ◌≢◌, ◌<◌, ◌≤◌, ◌∙◌, ℕ, zero, suc, Bool, List, [], ◌∷◌, ◌++◌, Option, Some, None, Result, IfSome, Contains, length, map, refl, sym, ap, subst, arith}
 use Rattle.std.proofs.lemmas.List.{length-append, length-map, map-append}
 use Rattle.std.specs.List.{All, AllByRecursion}
 use Rattle.ub_answer.specs.Held.{lines}
@@ -11,14 +11,14 @@ use Rattle.ub_exec.specs.Reading.{NotesPages}
 use Rattle.ub_exec.specs.Sweeping.{IsFilled}
 use Rattle.ub_exec.specs.Visits.{HasFetched, fetches_then}
 use Rattle.ub_planning.specs.Plan.{PlanView}
-use Rattle.ub_planning.specs.Visits.{Event, AreSweepVisits, AreVisitsBy, selected_rows}
+use Rattle.ub_planning.specs.Visits.{Event, AreSweepVisits, AreVisitsBy}
 use Rattle.ub_planning.specs.declared.planned.Kind.{Kind}
 use Rattle.ub_planning.specs.declared.planned.Kind.TheVariants.{Empty, Scan, Sweep}
 use Rattle.ub_query.specs.Cells.{row_cell}
 use Rattle.ub_query.specs.Meaning.{IsMeaning}
 use Rattle.ub_query.specs.Shape.{Asked}
 use Rattle.ub_query.specs.declared.cell.Cell.{Cell}
-use Rattle.ub_region.specs.Regions.{AreTableRows, rows_of}
+use Rattle.ub_region.specs.Regions.{AreTableRows}
 use Rattle.ub_table.specs.Region.{Region}
 use Rattle.ub_table.specs.declared.row.Row.{Row}
 use Rattle.ub_table.specs.declared.schema.Schema.{Schema}
@@ -27,7 +27,7 @@ use Rattle.ub_tetris.specs.Held.{rows_held}
 use Rattle.ub_tetris.specs.Machine.{IsUnderWay, IsRowAlong, regions_at}
 use Rattle.ub_tetris.specs.Sweep.{SweepView, IsSweeping, HasBegun, HasGiven, HasEnded}
 use Rattle.ub_tree.specs.Placed.{Placed, regions_in}
-use Rattle.ub_tree.specs.View.{TreeView, regions, tree_rows}
+use Rattle.ub_tree.specs.View.{TreeView, regions}
 use Rattle.ub_tree.specs.declared.read_fault.ReadFault.{ReadFault}
 
 -- ---- a kind that is a sweep
@@ -216,14 +216,6 @@ left_is query asked n rows same long left = subst (λ (m : ℕ). IfSome asked.li
 pub unfilled : {X : Type 0} (limit : Option ℕ) (n : ℕ) → limit ≡ None → IsFilled limit n → X
 unfilled None n none full = absurd full
 unfilled (Some most) n none full = cc
-
-pub not_true : (b : Bool) → not b ≡ true → b ≡ false
-not_true true is = cc
-not_true false is = refl
-
-pub not_false : (b : Bool) → not b ≡ false → b ≡ true
-not_false true is = refl
-not_false false is = cc
 
 -- within the limit there are no more rows
 pub few_none : (limit : Option ℕ) (rows : List (List Cell)) → rows ≡ [] → IfSome limit (λ most. length rows ≤ most)

@@ -1,5 +1,5 @@
 -- Reading the regions that meet some boxes: which one comes next, and what has been read.
-use Rattle.std.proofs.Common.{◌≡◌, ◌<◌, ◌≤◌, inl, inr, ℕ, zero, suc, List, [], ◌∷◌, ◌++◌, true, false, Bool, Option, Some, None, length, map, take, ◌∙◌, sym, ap, refl, arith, subst, slice_get, append_assoc}
+use Rattle.std.proofs.Common.{◌≡◌, ◌<◌, ◌≤◌, inl, inr, ℕ, zero, suc, List, [], ◌∷◌, ◌++◌, true, Bool, Option, Some, None, length, map, take, ◌∙◌, sym, ap, refl, arith, subst, slice_get, append_assoc}
 use Rattle.std.proofs.lemmas.Bool.{cases_lt, cases_eq}
 use Rattle.std.proofs.lemmas.List.{map-append, append-nil, length-append}
 use Rattle.std.proofs.lemmas.List.Elements.{filter-append}

@@ -10,8 +10,8 @@ use Rattle.ub_exec.specs.Visits.{fetches_then}
 use Rattle.ub_tetris.specs.Sweep.{rows_left}
 use Rattle.ub_exec.proofs.sweeping.swept_rows.Given as goal
 
-abbrev pub invariant-loop-rows : goal.invariant-loop-rows
-invariant-loop-rows g l = record {
+abbrev pub invariant-loop-query : goal.invariant-loop-query
+invariant-loop-query g l = record {
   kept : Keeps l.fn.tree l.tree;
   few : IfSome l.plan.asked.limit (λ most. length l.rows ≤ most);
   works : IsAtWork l.tree l.sweep;
@@ -22,5 +22,5 @@ invariant-loop-rows g l = record {
   come : IsReady l.fn.tree l.plan → IsSwept l.plan.kind → HasSwept l.plan l.tree l.sweep l.rows;
 }
 
-abbrev pub decreases-loop-rows : goal.decreases-loop-rows
-decreases-loop-rows g l = rows_left l.sweep
+abbrev pub decreases-loop-query : goal.decreases-loop-query
+decreases-loop-query g l = rows_left l.sweep
