@@ -1,5 +1,5 @@
 -- What the commands that read and write files leave of them, and what they tell.
-use Rattle.std.specs.Prelude.{◌≡◌, ◌≢◌, ◌⊎◌, ◌++◌, ℕ, List, [], Result, Ok, Err, length, codes, decimal, true, false, IfErr, OnOk, IsOk}
+use Rattle.std.specs.Prelude.{◌≡◌, ◌≢◌, ◌⊎◌, ◌++◌, ℕ, List, [], Result, Ok, Err, codes, decimal, true, false, IfErr, OnOk, IsOk}
 use Rattle.ub_load.specs.LoadedTree.{IsLoadedTree}
 use Rattle.ub_load.specs.Loading.{IsLoadFault}
 use Rattle.ub_load.specs.Refusals.{fault_of_tree}
@@ -21,7 +21,7 @@ use Rattle.ub_tree.specs.Faults.{tree_fault}
 use Rattle.ub_tree.specs.Opened.{IsOpened, IsOpenFault, IsPassing}
 use Rattle.ub_tree.specs.Placed.{Placed}
 use Rattle.ub_tree.specs.Stored.{AreSoundPages}
-use Rattle.ub_tree.specs.View.{TreeView, IsSound}
+use Rattle.ub_tree.specs.View.{TreeView, IsSound, region_count}
 use Rattle.ub_tree.specs.declared.fault.TreeFault.{TreeFault}
 use Rattle.ub_tree.specs.declared.fault.TreeFault.TheVariants.{Store}
 use Rattle.ub_shell.specs.Copying.{Copies}

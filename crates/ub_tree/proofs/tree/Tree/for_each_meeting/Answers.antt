@@ -32,9 +32,12 @@ loop-region-smaller g c =
 
 pub returns-clause-met : goal.returns-clause-met
 returns-clause-met g c =
-    let (found, walks, takes) = c.loop-region.invariant in
-    (found, walks_ended c.args.boxes.now c.args.self.now c.loop-region.self found c.loop-region.after walks
-    c.in_ok-region.field-0 _ c.in_default.not-Some c.as_ref.ensures.value c.in_ok-region.ensures.gives, takes)
+    let (found, walks, takes) = c.loop-region.invariant in (
+      found,
+      walks_ended c.args.boxes.now c.args.self.now c.loop-region.self found c.loop-region.after walks
+          c.in_ok-region.field-0 _ c.in_default.not-Some c.as_ref.ensures.value c.in_ok-region.ensures.gives,
+      takes,
+    )
 
 pub returns-in_err-region-clause-effect : goal.returns-in_err-region-clause-effect
 returns-in_err-region-clause-effect g c =
