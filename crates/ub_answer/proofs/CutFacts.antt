@@ -27,6 +27,14 @@ unfolding cut
 length-cut zero width xs = refl
 length-cut (suc count) width xs = ap suc (length-cut count width (drop width xs))
 
+-- the pieces of a whole are as long as was asked
+pub cut-wide : {E : Type 0} (count width : ℕ) (xs : List E) → length xs ≡ count * width → AllByRecursion (λ ys. length ys ≡ width) (cut count width xs)
+unfolding cut
+cut-wide zero width xs long = tt
+cut-wide (suc count) width xs long =
+    let more : suc count * width ≡ width + count * width = omega arith in
+    (length-take-le width xs (omega arith), cut-wide count width (drop width xs) (omega (arith, length-drop width xs)))
+
 pub cut-at : {E : Type 0} (count width : ℕ) (xs : List E) (i : ℕ) → i < count → slice_get (cut count width xs) i ≡ Some (take width (drop (i * width) xs))
 unfolding cut
 cut-at zero width xs i below = absurd (omega arith)

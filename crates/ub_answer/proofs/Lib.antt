@@ -8,3 +8,4 @@ pub mod TotalFacts
 pub mod EntryFacts
 pub mod GroupedFacts
 pub mod GatheredFacts
+pub mod ShapedFacts

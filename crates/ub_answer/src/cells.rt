@@ -36,7 +36,8 @@ impl Cells {
     /// So many rows of so many cells each, which stand one after the other.
     pub fn new(cells: Vec<Cell>, width: usize, count: usize) -> Cells
         requires { length cells.items ≡ count * width }
-        ensures { result ≡ cut count width cells.items }
+        ensures rows { result ≡ cut count width cells.items }
+        ensures wide { AllByRecursion (λ cells. length cells ≡ width) result }
     {
         Cells {
             cells,

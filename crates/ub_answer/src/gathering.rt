@@ -3,6 +3,7 @@ ghost use Rattle.std.specs.List.{All};
 ghost use Rattle.std.specs.List.Sorted.{IsPermutation};
 ghost use Rattle.ub_answer.specs.Gathered.{HasTaken, IsGathered, groups_held, rows_held, rows_held_by};
 ghost use Rattle.ub_answer.specs.Held.{StayFew, many};
+ghost use Rattle.ub_answer.specs.Shaped.{IsShaped};
 ghost use Rattle.ub_query.specs.Cells.{Group};
 ghost use Rattle.ub_query.specs.Groups.{AreGroups, selected};
 ghost use Rattle.ub_query.specs.Meaning.{IsMeaning};
@@ -70,7 +71,8 @@ impl Gathering {
         }
     }
 
-    /// The answer. Of a table whose selected rows are those taken, it is what the query means.
+    /// The answer. Of a table whose selected rows are those taken, it is what the query means; whatever was taken, it has the
+    /// query's shape.
     ///
     /// Until then a query with GROUP BY holds one entry for each group of the rows taken.
     pub fn finish(self, schema: &Schema, query: &Query) -> Result<Cells, AllocError>
@@ -82,6 +84,7 @@ impl Gathering {
             → IsGathered schema.now (asked query.now) taken self
             → IfOk result (λ cells. IsMeaning table (record (asked query.now) { filter = filter })
             cells) }
+        ensures shaped { IfOk result (IsShaped (asked query.now)) }
         ensures groups { (taken : List _) (groups : List Group)
             → query.now.group ≢ [] → length taken < many
             → IsGathered schema.now (asked query.now) taken self

@@ -1,8 +1,9 @@
-ghost use Rattle.std.specs.Prelude.{◌≡◌, ◌≢◌, ◌+◌, ◌<◌, ◌≤◌, ◌∷◌, ◌++◌, [], ℕ, List, Option, length, map, take, IfOk, OnOk};
+ghost use Rattle.std.specs.Prelude.{◌≡◌, ◌≢◌, ◌+◌, ◌<◌, ◌≤◌, ◌∷◌, ◌++◌, [], ℕ, List, Option, length, map, take, IfOk, IfSome, OnOk};
 ghost use Rattle.std.specs.HashMap.{IsUnique};
-ghost use Rattle.std.specs.List.{All, Contains, flat_map};
+ghost use Rattle.std.specs.List.{All, AllByRecursion, Contains, flat_map};
 ghost use Rattle.std.specs.List.Sorted.{IsPermutation};
 ghost use Rattle.ub_answer.specs.Held.{many};
+ghost use Rattle.ub_answer.specs.Shaped.{IsShaped};
 ghost use Rattle.ub_answer.specs.inner.Groups as spec;
 ghost use Rattle.ub_answer.specs.inner.Kept.{IsArranged};
 ghost use Rattle.ub_query.specs.Cells.{Group};
@@ -82,6 +83,7 @@ impl CollectedGroups {
             self.groups.entries
             → IfOk result
             (λ cells. IsGroupMeaning table (record (asked query.now) { filter = filter }) cells) }
+        ensures shaped { IfOk result (IsShaped (asked query.now)) }
         ensures held { (schema : _) (taken : List _) (groups : List Group)
             → query.now.group ≢ [] → length taken < many
             → spec.HoldsGroups schema query.now.group query.now.items taken self.groups.entries
@@ -188,8 +190,9 @@ fn arrange_entries(
     limit: Option<u64>,
 )
     requires { length items.now ≤ MAX_ITEMS }
-    ensures { IsArranged (spec.lent_cmp items.now keys.now) limit entries.old.items
+    ensures arranged { IsArranged (spec.lent_cmp items.now keys.now) limit entries.old.items
         entries.new.items }
+    ensures few { IfSome limit (λ n. length entries.new.items ≤ n) }
 {
     arrange(entries, |a, b| compare_entries(items, keys, a, b), limit);
 }
@@ -201,7 +204,8 @@ fn cells_of_entries(
     entries: &[(&Values, &Tally)],
 ) -> Result<Cells, AllocError>
     requires { length items.now ≤ MAX_ITEMS }
-    ensures { IfOk result (λ cells. cells ≡ spec.entry_lines items.now entries.now) }
+    ensures lines { IfOk result (λ cells. cells ≡ spec.entry_lines items.now entries.now) }
+    ensures wide { IfOk result (AllByRecursion (λ cells. length cells ≡ length items.now)) }
 {
     let mut cells = Vec::new(alloc);
     for entry in entries {

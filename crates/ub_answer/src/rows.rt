@@ -3,6 +3,7 @@ ghost use Rattle.std.specs.List.{All};
 ghost use Rattle.std.specs.declared.cmp.Ordering.TheVariants.{Less};
 ghost use Rattle.std.specs.List.Sorted.{IsPermutation};
 ghost use Rattle.ub_answer.specs.Held.{StayFew, lines, most_held};
+ghost use Rattle.ub_answer.specs.Shaped.{IsShaped};
 ghost use Rattle.ub_answer.specs.inner.Compare.{row_cmp};
 ghost use Rattle.ub_answer.specs.inner.Kept.{HoldsRows, IsArranged};
 ghost use Rattle.ub_query.specs.Cells as sql;
@@ -83,12 +84,13 @@ impl CollectedRows {
         requires items { All (λ item. IsItemOver (length schema.now.columns) item) query.now.items }
         requires keys { All (λ key. IsItemOver (length schema.now.columns) key.item)
             query.now.order }
-        ensures { (table : Table) (filter : Option Shape) (taken : List _)
+        ensures answer { (table : Table) (filter : Option Shape) (taken : List _)
             → table.schema ≡ schema.now → IsInOrder table.rows
             → IsPermutation (selected table filter) taken
             → HoldsRows schema.now query.now.order query.now.limit taken self.rows.items self.last
             → IfOk result (λ cells. IsRowMeaning table
             (record (asked query.now) { filter = filter }) cells) }
+        ensures shaped { IfOk result (IsShaped (asked query.now)) }
     {
         let mut rows = self.rows;
         arrange_rows(&mut rows, schema, query.order.as_slice(), query.limit);

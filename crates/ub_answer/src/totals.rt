@@ -2,6 +2,7 @@ ghost use Rattle.std.specs.Prelude.{◌≡◌, ◌≢◌, ◌<◌, ◌≤◌, �
 ghost use Rattle.std.specs.List.{All};
 ghost use Rattle.std.specs.List.Sorted.{IsPermutation};
 ghost use Rattle.ub_answer.specs.Held.{many};
+ghost use Rattle.ub_answer.specs.Shaped.{IsShaped};
 ghost use Rattle.ub_answer.specs.inner.Tally.{HoldsTotals};
 ghost use Rattle.ub_query.specs.Groups.{selected};
 ghost use Rattle.ub_query.specs.Meaning.{IsGroupMeaning};
@@ -46,12 +47,13 @@ impl CollectedTotals {
     /// The answer: one row, also of no rows, and none where LIMIT 0 stands.
     pub fn finish(self, alloc: Global, query: &Query) -> Result<Cells, AllocError>
         requires few { length query.now.items ≤ MAX_ITEMS }
-        ensures { (table : Table) (filter : Option Shape) (taken : List _)
+        ensures answer { (table : Table) (filter : Option Shape) (taken : List _)
             → query.now.group ≡ [] → length taken < many
             → IsPermutation (selected table filter) taken
             → HoldsTotals table.schema query.now.items taken self.tally
             → IfOk result
             (λ cells. IsGroupMeaning table (record (asked query.now) { filter = filter }) cells) }
+        ensures shaped { IfOk result (IsShaped (asked query.now)) }
     {
         let width = query.items.as_slice().len();
         let count = one_within(query.limit);

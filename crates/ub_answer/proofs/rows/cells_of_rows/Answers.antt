@@ -17,6 +17,6 @@ new-requires c =
 
 pub returns : goal.returns
 returns c =
-    c.new.ensures ∙ (pieces-all (λ row. map (row_cell c.args.schema.now row) c.args.items.now) (length c.args.items.now)
+    c.new.ensures.rows ∙ (pieces-all (λ row. map (row_cell c.args.schema.now row) c.args.items.now) (length c.args.items.now)
     (λ row. length-map c.args.items.now (row_cell c.args.schema.now row)) c.args.rows.now c.loop-row.row-index c.loop-row.cells.items
     c.loop-row-test.false c.loop-row.invariant).1

@@ -13,14 +13,14 @@ pub returns-in-Rows-clause-answer : goal.returns-in-Rows-clause-answer
 unfolding IsGathered
 returns-in-Rows-clause-answer c table filter taken of order numbered moved held =
     let h = subst (λ (t : Collected). HasTaken c.args.schema.now (asked c.args.query.now) taken t) c.in-Rows.is held in
-    IfOk-weaker c.finish.result _ _ (λ cells means. inr (h.0, means)) (c.finish.ensures table filter taken of order moved h.1)
+    IfOk-weaker c.finish.result _ _ (λ cells means. inr (h.0, means)) (c.finish.ensures.answer table filter taken of order moved h.1)
 
 pub returns-in-Totals-clause-answer : goal.returns-in-Totals-clause-answer
 unfolding IsGathered
 returns-in-Totals-clause-answer c table filter taken of order numbered moved held =
     let h = subst (λ (t : Collected). HasTaken c.args.schema.now (asked c.args.query.now) taken t) c.in-Totals.is held in
     IfOk-weaker c.finish-in-Totals.result _ _ (λ cells means. inl (h.0, means))
-    (c.finish-in-Totals.ensures table filter taken h.1 (few_taken table filter taken order numbered moved) moved
+    (c.finish-in-Totals.ensures.answer table filter taken h.1 (few_taken table filter taken order numbered moved) moved
     (subst (λ (s : Schema). HoldsTotals s c.args.query.now.items taken c.in-Totals.totals.tally) (sym of) h.2))
 
 pub returns-in-Groups-clause-answer : goal.returns-in-Groups-clause-answer
