@@ -1,5 +1,5 @@
--- The comparison by keys is a total order; where it answers Less, the one stands before the other in the order asked, and where it
--- answers Equal, the last comparison does.
+-- The comparison by keys is a total order; where it answers Less, the one stands before the other in the order asked, and where
+-- it answers Equal, the last comparison does.
 use Rattle.std.proofs.Common.{◌≡◌, ◌<◌, Bool, true, false, List, [], ◌∷◌, inl, inr, refl, sym, ap, arith}
 use Rattle.std.proofs.lemmas.Cmp.{ranked, int_ranked, nat_cmp_total, int_cmp_total, on_total, then_total, back_total}
 use Rattle.std.specs.Cmp.{IsTotalOrder}

@@ -406,8 +406,8 @@ module _ {E : Type 0} (cmp : E → E → Ordering) (o : IsTotalOrder cmp) where
   limited_same (Some n) all held gone up down parts behind =
       first_same n all held gone up down parts (λ z c. all_at (λ e. IsBehind cmp (Some n) held e) gone z behind c)
 
-  -- of entries of which no two are alike, and which were taken in any order: they have an arrangement, and its first n are the first n of
-  -- those held
+  -- of entries of which no two are alike, and which were taken in any order: they have an arrangement, and its first n are the
+  -- first n of those held
   pub first_of_held : (limit : Option ℕ) (entries taken held sorted : List E) → Rising (λ a b. is_eq (cmp a b) ≡ false) entries → IsPermutation entries taken
       → HoldsFirst cmp limit taken held → IsPermutation held sorted → IsSorted cmp sorted
       → (arranged : List E) × IsPermutation entries arranged × Rising (λ a b. cmp a b ≡ Less) arranged × (limited limit arranged ≡ limited limit sorted)
