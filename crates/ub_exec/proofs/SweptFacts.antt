@@ -3,6 +3,7 @@ use Rattle.std.proofs.Common.{◌≡◌, ◌≢◌, ◌<◌, ◌≤◌, ◌∙�
 use Rattle.std.proofs.lemmas.List.{length-append, length-map, map-append}
 use Rattle.std.specs.List.{All, AllByRecursion}
 use Rattle.ub_answer.specs.Held.{lines}
+use Rattle.ub_answer.specs.Shaped.{IsShaped}
 use Rattle.ub_tree.proofs.Laws.{Keeps}
 use Rattle.ub_exec.proofs.MeantFacts.{empty_where}
 use Rattle.ub_exec.specs.Answers.{IsAnswer, IsSwept, begun}
@@ -226,6 +227,13 @@ pub few_more : (limit : Option ℕ) (rows : List (List Cell)) (row : List Cell) 
     → IfSome limit (λ most. length more ≤ most)
 few_more None rows row more is left = tt
 few_more (Some most) rows row more is left = let long = ap length is in let parts = length-append rows (row ∷ []) in omega arith
+
+-- no rows have every shape
+pub shaped_none : (q : Asked) (rows : List (List Cell)) → rows ≡ [] → IsShaped q rows
+shaped_none q rows none = record {
+  wide = subst (λ (rs : List (List Cell)). AllByRecursion (λ cells. length cells ≡ length q.items) rs) (sym none) tt;
+  few = few_none q.limit rows none;
+}
 
 pub noted_more : {A : Type 0} (r : Result A ReadFault) (start t new : TreeView) → t.trace.fetches ≡ fetches_then start.trace.fetches (length t.trace.pages) → NotesPages t new r
     → new.trace.fetches ≡ fetches_then start.trace.fetches (length new.trace.pages)

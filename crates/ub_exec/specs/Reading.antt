@@ -23,8 +23,8 @@ IsIn t span = (region : Region) × IsTakenIn t span region
 abbrev pub IsRead : TreeView → ℕ → Type 0
 IsRead t page = (span : Span) × IsRegionOf t span × (span.page ≡ page) × IsIn t span
 
--- pages were noted after those that stood in the trace, and the fetches rose by their number; where the call answers, each is the
--- page of a region that the tree tells of, which was taken in
+-- pages were noted after those that stood in the trace, and the fetches rose by their number; where the call answers, each is
+-- the page of a region that the tree tells of, which was taken in
 pub record NotesPages {A : Type 0} (old new : TreeView) (result : Result A ReadFault) : Type 0 where
   pub noted : List ℕ
   pub trace_is : new.trace.pages ≡ old.trace.pages ++ noted

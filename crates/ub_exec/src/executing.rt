@@ -1,4 +1,5 @@
 ghost use Rattle.std.specs.Prelude.{◌≡◌, ◌↔◌, ℕ, Some, Err, length, IsTrue, IfOk, OnErr, OnOk};
+ghost use Rattle.ub_answer.specs.Shaped.{IsShaped};
 ghost use Rattle.ub_exec.specs.Answers.{IsReady, IsAnswer, IsSwept, begun};
 ghost use Rattle.ub_exec.specs.Reading.{CarriesOut};
 ghost use Rattle.ub_exec.specs.Visits.{HasFetched, HasFetchedFirst};
@@ -27,7 +28,7 @@ pub struct Answer {
 /// The answer of a query by its plan, on the rows of a tree's table. The trace begins anew, and then has the pages that were
 /// fetched: on a sound tree those of the regions that the plan visits, each once, in their order; on any tree, where it
 /// answers, those of regions whose pages were taken in, and of a scan, or a sweep without LIMIT, of all regions that the tree
-/// tells of for its boxes.
+/// tells of for its boxes. On any tree each row has as many cells as the query has items, and there are no more than its LIMIT.
 ///
 /// `Memory` where memory was refused; `Tree` where the tree refused, as it does where it has failed, whatever the plan. On a
 /// sound tree it refuses only where its store failed in this call; then so many of the visits were fetched, the first ones.
@@ -39,6 +40,7 @@ pub fn execute<S: PageStore>(
     requires { IsPosed (length tree.old.schema.columns) plan.now.asked }
     ensures rows { IsReady tree.old plan.now → IfOk result
         (λ a. IsAnswer tree.old plan.now.asked a.rows) }
+    ensures shaped { IfOk result (λ a. IsShaped plan.now.asked a.rows) }
     ensures pages { IsReady tree.old plan.now → OnOk result
         (HasFetched plan.now (begun tree.old) tree.new) }
     ensures broken { IsReady tree.old plan.now → OnErr result ((count : ℕ)
@@ -64,6 +66,7 @@ fn result_rows<S: PageStore>(
     requires { IsPosed (length tree.old.schema.columns) plan.now.asked }
     ensures rows { IsReady tree.old plan.now → IfOk result
         (λ cells. IsAnswer tree.old plan.now.asked cells) }
+    ensures shaped { IfOk result (IsShaped plan.now.asked) }
     ensures pages { IsReady tree.old plan.now → OnOk result
         (HasFetched plan.now (begun tree.old) tree.new) }
     ensures broken { IsReady tree.old plan.now → OnErr result ((count : ℕ)
@@ -91,6 +94,7 @@ fn scanned_rows<S: PageStore>(
     requires { IsPosed (length tree.old.schema.columns) plan.now.asked }
     ensures rows { IsReady tree.old plan.now → IfOk result
         (λ cells. IsAnswer tree.old plan.now.asked cells) }
+    ensures shaped { IfOk result (IsShaped plan.now.asked) }
     ensures pages { IsReady tree.old plan.now → ¬ IsSwept plan.now.kind
         → OnOk result (HasFetched plan.now tree.old tree.new) }
     ensures broken { IsReady tree.old plan.now → ¬ IsSwept plan.now.kind

@@ -2,7 +2,8 @@
 //
 // A walk reads the regions that meet the plan's boxes, each once, in the order of their keys, and hands the chosen rows of each
 // to a sink (`walking`; which are chosen, and the loop over them, stand in `ub_filter`). The sink of a query is its gathering,
-// which makes the answer of them (`executing`). Where the plan is a sweep, the rows come from it in the order asked (`sweeping`).
+// which makes the answer of them (`executing`). Where the plan is a sweep, the rows come from it in the order asked
+// (`sweeping`).
 #![tactic(auto)]
 
 mod executing;

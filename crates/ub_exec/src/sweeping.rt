@@ -1,4 +1,5 @@
 ghost use Rattle.std.specs.Prelude.{◌≡◌, ◌<◌, ◌++◌, ℕ, true, false, List, None, length, IfOk, IfSome, OnErr, OnOk};
+ghost use Rattle.ub_answer.specs.Shaped.{IsShaped};
 ghost use Rattle.ub_exec.specs.Answers.{IsReady, IsAnswer, IsSwept, begun};
 ghost use Rattle.ub_exec.specs.Reading.{HasSweptAll, NotesPages};
 ghost use Rattle.ub_exec.specs.Sweeping.{ComesOn, IsAtWork, IsFilled};
@@ -20,8 +21,8 @@ use ub_table::Row;
 use ub_tetris::Sweep;
 use ub_tree::{ReadFault, Tree};
 
-/// The rows of the result by a sweep, each put in as the sweep gives it. Once the limit is filled no more is asked of the sweep,
-/// so that no region is fetched for a row that isn't asked for. The trace begins anew.
+/// The rows of the result by a sweep, each put in as the sweep gives it. Once the limit is filled no more is asked of the
+/// sweep, so that no region is fetched for a row that isn't asked for. The trace begins anew.
 pub(crate) fn swept_rows<S: PageStore>(
     alloc: Global,
     tree: &mut Tree<S>,
@@ -30,6 +31,7 @@ pub(crate) fn swept_rows<S: PageStore>(
     requires { IsPosed (length tree.old.schema.columns) plan.now.asked }
     ensures rows { IsReady tree.old plan.now → IsSwept plan.now.kind
         → IfOk result (λ cells. IsAnswer tree.old plan.now.asked cells) }
+    ensures shaped { IfOk result (IsShaped plan.now.asked) }
     ensures pages { IsReady tree.old plan.now → IsSwept plan.now.kind
         → OnOk result (HasFetched plan.now (begun tree.old) tree.new) }
     ensures broken { IsReady tree.old plan.now → IsSwept plan.now.kind → OnErr result ((count : ℕ)

@@ -38,6 +38,7 @@ pub returns-in-Empty : goal.returns-in-Empty
 returns-in-Empty g c = record {
   rows = λ ready. subst (λ (t : TreeView). IfOk c.scanned_rows.result (λ cells. IsAnswer t c.args.plan.now.asked cells)) c.begin.ensures
       (c.scanned_rows.ensures.rows (then c.args.tree.now c.begin.new.self c.args.plan.now c.begin.ensures ready));
+  shaped = c.scanned_rows.ensures.shaped;
   pages = λ ready. subst (λ (t : TreeView). OnOk c.scanned_rows.result (HasFetched c.args.plan.now t c.scanned_rows.new.tree)) c.begin.ensures
       (c.scanned_rows.ensures.pages (then c.args.tree.now c.begin.new.self c.args.plan.now c.begin.ensures ready) (apart c.kind.result c.args.plan.now.kind c.kind.ensures c.in-Empty.is));
   broken = λ ready. subst (λ (t : TreeView). OnErr c.scanned_rows.result ((count : ℕ) × HasFetchedFirst c.args.plan.now t c.scanned_rows.new.tree count)) c.begin.ensures
@@ -54,6 +55,7 @@ returns-in-Sweep g c =
     record {
       rows = λ ready. subst (λ (t : TreeView). IfOk c.swept_rows.result (λ cells. IsAnswer t c.args.plan.now.asked cells)) c.begin.ensures
           (c.swept_rows.ensures.rows (then c.args.tree.now c.begin.new.self c.args.plan.now c.begin.ensures ready) swept);
+      shaped = c.swept_rows.ensures.shaped;
       pages = λ ready. subst (λ (t : TreeView). OnOk c.swept_rows.result (HasFetched c.args.plan.now (begun t) c.swept_rows.new.tree)) c.begin.ensures
           (c.swept_rows.ensures.pages (then c.args.tree.now c.begin.new.self c.args.plan.now c.begin.ensures ready) swept);
       broken = λ ready. subst (λ (t : TreeView). OnErr c.swept_rows.result ((count : ℕ) × HasFetchedFirst c.args.plan.now (begun t) c.swept_rows.new.tree count)) c.begin.ensures

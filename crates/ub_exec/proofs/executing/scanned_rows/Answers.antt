@@ -2,10 +2,12 @@ use Rattle.std.proofs.Common.{◌≡◌, ◌≢◌, ◌∙◌, Ok, Err, Bool, tr
 use Rattle.std.proofs.lemmas.List.{append-nil}
 use Rattle.std.specs.List.{filter}
 use Rattle.ub_answer.specs.Gathered.{IsGathered}
+use Rattle.ub_answer.specs.Shaped.{IsShaped}
 use Rattle.ub_answer.specs.Sink.{HasGathered}
 use Rattle.ub_answer.specs.declared.gathering.Gathering.{Gathering}
 use Rattle.ub_exec.proofs.FirstFacts.{all_fetched, on_err, walked_first}
 use Rattle.ub_exec.proofs.MeantFacts.{nothing_fetched, walk_fetched, answered}
+use Rattle.ub_exec.proofs.SweptFacts.{shaped_none}
 use Rattle.ub_exec.proofs.NotedFacts.{carries_all, carries_err, carries_none}
 use Rattle.ub_filter.specs.Choice.{is_chosen}
 use Rattle.ub_planning.proofs.Laws.{limit_of_zero_means_nothing}
@@ -22,6 +24,12 @@ pub returns-then-asks_for_none-clause-rows : goal.returns-then-asks_for_none-cla
 returns-then-asks_for_none-clause-rows g c ready rows are =
     let limit = sym (ap (λ (q : Asked). q.limit) c.query-query.ensures) ∙ c.asks_for_none.ensures.0 c.if-asks_for_none.true in
     (limit_of_zero_means_nothing (record { schema = c.args.tree.now.schema; rows = rows }) c.args.plan.now.asked c.none.result limit are.ascending).1 c.none.ensures
+
+pub returns-then-asks_for_none-clause-shaped : goal.returns-then-asks_for_none-clause-shaped
+returns-then-asks_for_none-clause-shaped g c = shaped_none c.args.plan.now.asked c.none.result c.none.ensures
+
+pub returns-clause-shaped : goal.returns-clause-shaped
+returns-clause-shaped g c = subst (λ (q : Asked). IsShaped q c.in_ok-finish.field-0) c.query-query.ensures c.in_ok-finish.ensures.shaped
 
 pub returns-then-asks_for_none-clause-pages : goal.returns-then-asks_for_none-clause-pages
 returns-then-asks_for_none-clause-pages g c ready apart =

@@ -55,6 +55,9 @@ returns-in_default-clause-pages g c ready kind =
     swept after.regions.schema (left_is (asked c.query-query.result.now) c.args.plan.now.asked c.len.result c.loop-query.rows c.query-query.ensures c.len.ensures (c.is_filled.ensures.left c.loop-query-test.true))
     (rw c.in_default.is at (c.in_ok-row.ensures.next swept.given swept.rest swept.fetched swept.unread swept.sweeping))
 
+pub returns-in_default-clause-shaped : goal.returns-in_default-clause-shaped
+returns-in_default-clause-shaped g c = record { wide = c.loop-query.invariant.wide; few = c.loop-query.invariant.few }
+
 pub push_row-requires-clause-wide : goal.push_row-requires-clause-wide
 push_row-requires-clause-wide g c =
     let items : c.as_slice.result.now ≡ c.args.plan.now.asked.items = c.as_slice.ensures ∙ ap (λ (q : Asked). q.items) c.query-query.ensures in
@@ -90,6 +93,9 @@ pub returns-clause-rows : goal.returns-clause-rows
 returns-clause-rows g c ready kind =
     let inv = c.loop-query.invariant in
     filled_answered c.args.plan.now c.args.tree.now c.loop-query.tree c.loop-query.sweep c.loop-query.rows inv.kept inv.fetches (inv.come ready kind) kind (filled_is (asked c.query-query.result.now) c.args.plan.now.asked c.len.result c.loop-query.rows c.query-query.ensures c.len.ensures (c.is_filled.ensures.filled c.loop-query-test.false)) inv.few
+
+pub returns-clause-shaped : goal.returns-clause-shaped
+returns-clause-shaped g c = record { wide = c.loop-query.invariant.wide; few = c.loop-query.invariant.few }
 
 pub returns-clause-pages : goal.returns-clause-pages
 returns-clause-pages g c ready kind =
