@@ -129,9 +129,10 @@ loading_none {text} {dims} {page_rows} {name} {schema} is store t made =
       next_is = made.next_is;
       at_work = record {
         working = made.working;
-        can_fail = ap (λ (s : StoreFacts). s.can_fail) made.store_is;
+        store_is = made.store_is;
         trace_is = made.trace_is;
       };
+      pages = (let three = made.pages in omega arith);
       holds = λ honest. rw (rows_of-none dims) (holds_none dims page_rows t (made.sound honest) (made.regions_are honest) made.next_is);
     }
 
@@ -162,9 +163,10 @@ loading_more {text} {dims} {page_rows} {name} {store} {number} {t} is u b r s ta
       next_is = taken.next ∙ ap (λ (k : ℕ). k + 1) is.next_is;
       at_work = record {
         working = taken.working;
-        can_fail = taken.can_fail ∙ is.at_work.can_fail;
+        store_is = taken.store_is ∙ ap (λ (s : StoreFacts). record s { pages = u.store.pages; synced = u.store.synced }) is.at_work.store_is;
         trace_is = taken.trace ∙ is.at_work.trace_is;
       };
+      pages = (let before = is.pages in let more = taken.pages in omega arith);
       holds = λ honest.
           let row = row_of t.schema.dims (number, r) in
           let before = is.holds honest in
@@ -191,8 +193,10 @@ refused_here {text} {dims} {page_rows} {name} {store} {number} {t} is b r s f ba
 pub told_record : {text : List ℕ} {dims page_rows : ℕ} {name : List ℕ} {store : StoreFacts} {number : ℕ} {t : TreeView} {a : Reader Source}
     → IsLoading text dims page_rows name store number t a → (b : Reader Source) (r : List (List ℕ)) → Took a b r → (f : LoadFault)
     → IsTakeFault (number, r) t f → IsLoadFault dims name text store f
-told_record is b r s f h =
-    inr (told_after (refused_here is b r s) (λ can. rw is.at_work.can_fail at can) (λ broken honest. broken (is.holds honest).sound) f h)
+told_record is b r s f (inl full) = let few = is.few in let pages = is.pages in let most = full.1 in absurd (omega arith)
+told_record is b r s f (inr h) =
+    let can_fail = ap (λ (facts : StoreFacts). facts.can_fail) is.at_work.store_is in
+    inr (told_after (refused_here is b r s) (λ can. rw can_fail at can) (λ broken honest. broken (is.holds honest).sound) f h)
 
 -- a header that is refused is the first thing wrong
 pub refused_header : {text : List ℕ} {header : List (List ℕ)} {a : Reader Source} → IsAt text (header ∷ []) a → (dims : ℕ) (name : List ℕ) (f : LoadFault)

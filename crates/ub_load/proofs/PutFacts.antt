@@ -1,5 +1,5 @@
 -- A record that is accepted makes a row.
-use Rattle.std.proofs.Common.{◌≡◌, ◌+◌, ◌-◌, ◌<◌, ◌≤◌, ◌==◌, ◌^◌, ℕ, zero, suc, true, false, List, [], ◌∷◌, length, take, drop, map, Option, Some, None, refl, ap, ◌∙◌, arith, inl, inr}
+use Rattle.std.proofs.Common.{◌⊎◌, ◌≡◌, ◌+◌, ◌-◌, ◌<◌, ◌≤◌, ◌==◌, ◌^◌, ℕ, zero, suc, true, false, List, [], ◌∷◌, length, take, drop, map, Option, Some, None, refl, ap, ◌∙◌, arith, inl, inr}
 use Rattle.std.specs.Prelude.{FitsSigned, nat_lt, if◌then◌else◌}
 use Rattle.std.specs.Int.{w64}
 use Rattle.std.specs.List.{AllByRecursion, enumerate_from}
@@ -8,7 +8,10 @@ use Rattle.std.proofs.lemmas.List.{length-map}
 use Rattle.std.proofs.lemmas.List.FromFn.{length-enumerate_from}
 use Rattle.std.proofs.lemmas.List.Elements.{All-from_recursion}
 use Rattle.ub_tree.proofs.Laws.{new_values, numbered_row}
+use Rattle.ub_store.specs.Facts.{page_count}
 use Rattle.ub_tree.specs.Change.{Suits, numbered}
+use Rattle.ub_tree.specs.Others.{AddsEntry, KeepsEntries}
+use Rattle.ub_tree.specs.View.{TreeView}
 use Rattle.ub_load.specs.Field.{trimmed, is_number, number_of}
 use Rattle.ub_load.specs.LoadedTable.{coordinate_of, row_of}
 use Rattle.ub_load.specs.Refusals.{content_refusal, content_refusals, field_refusal, fields_refusal, first_of}
@@ -116,3 +119,8 @@ accepted_row dims width number fields few covers most some last h =
 pub number_is : (dims number : ℕ) (fields : List (List ℕ)) (row : Row) → row ≡ row_of dims (number, fields) → number ≡ row.number
 unfolding row_of
 number_is dims number fields row is = rw is refl
+
+-- a store gets one page more at the most where a row is put in
+pub few_more : (index : ℕ) (old new : TreeView) → KeepsEntries old new ⊎ AddsEntry index old new → page_count new.store ≤ page_count old.store + 1
+few_more index old new (inl kept) = let same = kept.1 in omega arith
+few_more index old new (inr added) = let more = added.2 in omega arith

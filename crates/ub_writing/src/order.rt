@@ -35,6 +35,7 @@ pub fn write_first_pages<S: PageStore>(
     schema: &Schema,
 ) -> Result<(), StoreFault>
     requires { page_count pager.old.store ≡ 0 }
+    ensures count { OnOk result (page_count pager.new.store ≡ 3) }
     ensures pages { OnOk result (IsHonest pager.old.store
         → IsLaidOut schema.now pager.new.store.pages) }
     ensures first { OnErr result (IsHonest pager.old.store
