@@ -12,13 +12,15 @@ use Rattle.ub_table.specs.declared.row.Row.{Row}
 use Rattle.ub_table.specs.declared.row.TheConstants.{MAX_ROW_NUMBER}
 use Rattle.ub_tree.specs.Change.{IsInserted}
 use Rattle.ub_tree.specs.Effects.{IsFull}
-use Rattle.ub_tree.specs.View.{TreeView, IsSound, KeepsTrace}
+use Rattle.ub_tree.specs.View.{TreeView, IsSound, KeepsTrace, region_count}
 use Rattle.ub_tree.specs.declared.fault.TreeFault.TheVariants as tree
 
--- a tree that works, over the store that had these facts, no call of which has failed since, and no region of which was read
+-- a tree that works, over the store that had these facts, no call of which has failed since, and no region of which was read; there are
+-- no more pages than the first three and one for each row number that was given
 pub record IsAtWork (facts : StoreFacts) (t : TreeView) : Type 0 where
   pub working : t.is_failed ≡ false
   pub store_is : t.store ≡ record facts { pages = t.store.pages; synced = t.store.synced }
+  pub pages : page_count t.store ≤ t.next + 2
   pub trace_is : t.trace ≡ untouched
 
 -- a new tree is refused for want of memory, or the store failed, which it then can
@@ -56,6 +58,10 @@ row_in t r = row_of t.schema.dims r
 abbrev pub HasCounted : TreeView → TreeView → Type 0
 HasCounted old new = (old.next ≢ MAX_ROW_NUMBER + 1) × (new.next ≡ old.next + 1)
 
+-- one region more and one page more at the most
+abbrev pub HasGrown : TreeView → TreeView → Type 0
+HasGrown old new = (region_count new ≤ region_count old + 1) × (page_count new.store ≤ page_count old.store + 1)
+
 -- a record with nothing wrong in it has become a row of the tree
 pub record HasTaken (r : ℕ × List (List ℕ)) (old new : TreeView) : Type 0 where
   pub number : r.0 ≤ MAX_ROW_NUMBER
@@ -67,7 +73,7 @@ pub record HasTaken (r : ℕ × List (List ℕ)) (old new : TreeView) : Type 0 w
   pub trace : KeepsTrace old new
   pub working : new.is_failed ≡ false
   pub store_is : new.store ≡ record old.store { pages = new.store.pages; synced = new.store.synced }
-  pub pages : page_count new.store ≤ page_count old.store + 1
+  pub grown : HasGrown old new
 
 -- why a record isn't taken; also where the store has as many pages as one can have
 abbrev pub IsTakeFault : ℕ × List (List ℕ) → TreeView → LoadFault → Type 0

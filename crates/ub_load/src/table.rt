@@ -4,7 +4,7 @@ ghost use Rattle.std.specs.Prelude.{◌≡◌, ◌≤◌, ◌+◌, ℕ, false, L
 ghost use Rattle.std.specs.Result.{OnOk};
 ghost use Rattle.csv.specs.Records.{fields_of};
 ghost use Rattle.ub_load.specs.LoadedTree.{IsLoadedTree};
-ghost use Rattle.ub_load.specs.Loading.{HasCounted, HasTaken, IsAtWork, IsLoadFault, IsNewFault, IsTakeFault};
+ghost use Rattle.ub_load.specs.Loading.{HasCounted, HasGrown, HasTaken, IsAtWork, IsLoadFault, IsNewFault, IsTakeFault};
 ghost use Rattle.ub_load.specs.inner.Progress.{HasLoadedRecords, HasReadHeader, IsAt, IsHeaderFault, IsRecordsFault};
 ghost use Rattle.ub_store.specs.Facts.{page_count, IsHonest};
 ghost use Rattle.ub_table.specs.Region.{measures_of};
@@ -165,7 +165,7 @@ fn put_row<S: PageStore>(tree: &mut Tree<S>, row: &Row) -> Result<(), TreeFault>
     ensures inserted { IsSound tree.old → tree.old.next ≡ row.now.number
         → OnOk result (IsInserted row.now tree.old tree.new) }
     ensures counted { OnOk result (HasCounted tree.old tree.new) }
-    ensures pages { OnOk result (page_count tree.new.store ≤ page_count tree.old.store + 1) }
+    ensures grown { OnOk result (HasGrown tree.old tree.new) }
     ensures effect { Changes tree.old tree.new result }
 {
     tree.insert_row(row)?;

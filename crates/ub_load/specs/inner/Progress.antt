@@ -12,10 +12,10 @@ use Rattle.ub_load.specs.Loading.{IsAtWork, IsLoadFault}
 use Rattle.ub_load.specs.Refusals.{first_of, header_refusal, record_refusals}
 use Rattle.ub_load.specs.declared.fault.LoadFault.{LoadFault}
 use Rattle.ub_region.specs.Regions.{AreTableRows}
-use Rattle.ub_store.specs.Facts.{StoreFacts, IsHonest, page_count}
+use Rattle.ub_store.specs.Facts.{StoreFacts, IsHonest}
 use Rattle.ub_table.specs.declared.row.Row.{Row}
 use Rattle.ub_table.specs.declared.schema.Schema.{Schema}
-use Rattle.ub_tree.specs.View.{TreeView, IsSound, regions}
+use Rattle.ub_tree.specs.View.{TreeView, IsSound, region_count, regions}
 
 abbrev pub Source : Type 0
 Source = Bor (List ℕ)
@@ -38,6 +38,7 @@ pub record HoldsRows (dims c : ℕ) (rows : List Row) (t : TreeView) : Type 0 wh
   pub regions_are : regions t ≡ loaded_regions dims c rows
   pub table : AreTableRows (regions t) rows
   pub next : t.next ≡ length rows + 1
+  pub few : region_count t ≤ t.next
 
 -- the header has been read, with nothing wrong in it, and it makes this schema
 pub record IsHeaded (text : List ℕ) (dims page_rows : ℕ) (name : List ℕ) (schema : Schema) (rdr : Reader Source) : Type 0 where
@@ -46,8 +47,8 @@ pub record IsHeaded (text : List ℕ) (dims page_rows : ℕ) (name : List ℕ) (
   pub fine : header_refusal dims name (columns_of header) ≡ None
   pub schema_is : IsSchemaOf header dims page_rows name schema
 
--- the header and the records before the row of this number have been read, with nothing wrong in them; the tree works, its store
--- has a page more than a new one for each of them at the most, and where it is honest the tree holds their rows
+-- the header and the records before the row of this number have been read, with nothing wrong in them; the tree works, and
+-- where its store is honest it holds their rows
 pub record IsLoading (text : List ℕ) (dims page_rows : ℕ) (name : List ℕ) (store : StoreFacts) (number : ℕ) (t : TreeView) (rdr : Reader Source) : Type 0 where
   pub header : List (List ℕ)
   pub taken : List (List (List ℕ))
@@ -62,7 +63,6 @@ pub record IsLoading (text : List ℕ) (dims page_rows : ℕ) (name : List ℕ) 
   pub page_rows_are : t.schema.page_rows ≡ page_rows
   pub next_is : t.next ≡ number
   pub at_work : IsAtWork store t
-  pub pages : page_count t.store ≤ number + 2
   pub holds : IsHonest store → HoldsRows dims page_rows (rows_of dims taken) t
 
 -- what a reader at the start of any text gives where its header is read, and why it is refused

@@ -70,5 +70,5 @@ returns-clause-taken g c =
       trace = kept.1;
       working = effect.done.0 ∙ c.requires.working;
       store_is = effect.done.1;
-      pages = c.in_ok-put_row.ensures.pages;
+      grown = c.in_ok-put_row.ensures.grown;
     }

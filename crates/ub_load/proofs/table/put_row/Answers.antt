@@ -8,5 +8,5 @@ pub returns-clause-inserted : goal.returns-clause-inserted
 returns-clause-inserted g c sound next =
     subst (λ (row : Row). IsInserted row c.args.tree.now c.insert_row.new.self) (numbered_again c.args.tree.now.next c.args.row.now next) (c.in_ok-insert_row.ensures.inserted sound)
 
-pub returns-clause-pages : goal.returns-clause-pages
-returns-clause-pages g c = few_more _ c.args.tree.now c.insert_row.new.self c.in_ok-insert_row.ensures.counted.3.entries
+pub returns-clause-grown : goal.returns-clause-grown
+returns-clause-grown g c = few_more _ c.args.tree.now c.insert_row.new.self c.in_ok-insert_row.ensures.counted.3.entries
