@@ -1,6 +1,6 @@
 -- What contracts see of the files over which a transcript's command lines run.
 use Rattle.std.specs.Prelude.{ℕ, true, false}
-use Rattle.ub_shell.specs.Files.{FilesFacts, untold}
+use Rattle.ub_files.specs.Files.{FilesFacts, untold}
 
 -- nothing is told of what paths hold, and a table file can fail; so many readings, and openings or makings of tables, answered Device
 abbrev pub bench_facts : ℕ → ℕ → FilesFacts

@@ -5,6 +5,7 @@ use Rattle.std.proofs.lemmas.List.{drop-drop, get_or-drop, length-drop, length-t
 use Rattle.std.proofs.lemmas.Option.{get_or_from_slice_get, slice_get-get_or}
 use Rattle.std.proofs.Math.Seq.{drop-cons}
 use Rattle.std.specs.List.{AllByRecursion, IsDistinct}
+use Rattle.std.specs.Prelude.{IsTrue}
 use Rattle.std.specs.Result.{IsErrAnd}
 use Rattle.ub_page.specs.Directory.{directory_page}
 use Rattle.ub_page.specs.declared.directory.Entry.{Entry}
@@ -12,7 +13,7 @@ use Rattle.ub_region.proofs.Laws.{all_more, all_both, all_left, all_right}
 use Rattle.ub_store.specs.Facts.{StoreFacts, IsHonest, MayFlush, WritesAt, Syncs, Appends, page_count}
 use Rattle.ub_store.specs.declared.fault.StoreFault.{StoreFault}
 use Rattle.ub_directory.specs.Chain.{levels_for, AreOwn, IsChain}
-use Rattle.ub_directory.specs.Writing.{Grows, SameBut, KeepsBut, KeepsFirst, IsUntouched, IsOther, AreKept, put_store}
+use Rattle.ub_directory.specs.Writing.{Grows, SameBut, KeepsBut, KeepsFirst, IsSaveFault, IsUntouched, IsOther, AreKept, put_store}
 use Rattle.ub_store.specs.declared.fault.StoreFault.TheVariants as store
 
 module _ (P : ℕ → Type 0) where
@@ -340,3 +341,11 @@ pub untouched_synced : {A : Type 0} (r : Result A StoreFault) (numbers : List �
 untouched_synced r numbers a b d h s =
     let pages = ap (λ (f : StoreFacts). f.pages) s.frame in
     untouched_after numbers a b d h (record { kept = kept_all (0 ∷ numbers) b d pages; first = first_synced b d s.flushed pages })
+
+-- why a page isn't added to a chain that isn't long enough yet
+pub add_fault : (levels : ℕ) (chain : List ℕ) (old : StoreFacts) (fault : StoreFault) → (fault ≡ store.Device → IsTrue old.can_fail)
+    → (fault ≡ store.BadSize → 4294967295 < page_count old + (levels - length chain)) → ¬ (fault ≡ store.NoPage) → IsSaveFault levels chain old fault
+add_fault levels chain old store.Memory can room there = tt
+add_fault levels chain old store.Device can room there = can refl
+add_fault levels chain old store.BadSize can room there = room refl
+add_fault levels chain old store.NoPage can room there = absurd (there refl)

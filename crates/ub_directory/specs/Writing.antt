@@ -58,10 +58,10 @@ pub record IsSaved (regions chain : ℕ) (old new : StoreFacts) : Type 0 where
   pub synced : new.synced ≡ new.pages
   pub count : page_count new ≡ page_count old + (levels_for regions - chain)
 
--- why a directory can't be written on these pages and more: memory was refused, or the store failed, is full, or has no such
--- pages
-abbrev pub IsSaveFault : List ℕ → StoreFacts → StoreFacts → StoreFault → Type 0
-IsSaveFault chain old new store.Memory = Unit {0}
-IsSaveFault chain old new store.Device = IsTrue old.can_fail
-IsSaveFault chain old new store.BadSize = 4294967295 ≤ page_count new
-IsSaveFault chain old new store.NoPage = (numbers : List ℕ) → ¬ (AreOwn (page_count old) chain numbers)
+-- why a directory of so many pages can't be written on those of this chain and more: memory was refused; the store failed, which it
+-- then can; it would have more pages than a store can have; or it has no such pages
+abbrev pub IsSaveFault : ℕ → List ℕ → StoreFacts → StoreFault → Type 0
+IsSaveFault levels chain old store.Memory = Unit {0}
+IsSaveFault levels chain old store.Device = IsTrue old.can_fail
+IsSaveFault levels chain old store.BadSize = 4294967295 < page_count old + (levels - length chain)
+IsSaveFault levels chain old store.NoPage = (numbers : List ℕ) → ¬ (AreOwn (page_count old) chain numbers)

@@ -5,7 +5,7 @@ ghost use Rattle.ub_page.specs.Header.{IsHeader};
 ghost use Rattle.ub_region.specs.Regions.{index_holding};
 ghost use Rattle.ub_store.specs.Facts.{page_count, IsHonest};
 ghost use Rattle.ub_table.specs.Keys.{origin};
-ghost use Rattle.ub_directory.specs.Chain.{AreOwn, HasDirectory};
+ghost use Rattle.ub_directory.specs.Chain.{levels_for, AreOwn, HasDirectory};
 ghost use Rattle.ub_directory.specs.Reading.{IsReadWhole, Opens};
 ghost use Rattle.ub_directory.specs.Searching.{Searches};
 ghost use Rattle.ub_directory.specs.Spans.{ArePlaces, IsSeat, IsSeatAfter, IsSeatBefore, first_keys, regions_of, Meets, IsLater, First};
@@ -111,7 +111,8 @@ impl Directory {
         ensures saved { OnOk result (IsSaved (length self.entries)
             (length self.chain) pager.old.store pager.new.store) }
         ensures same { pager.new.store ≡ put_store result pager.old.store pager.new.store }
-        ensures refused { IfErr result (IsSaveFault self.chain pager.old.store pager.new.store) }
+        ensures refused { IfErr result (IsSaveFault (levels_for (length self.entries)) self.chain
+            pager.old.store) }
     {
         let Directory { places, chain } = self;
         write_places(pager, chain, &places.entries)

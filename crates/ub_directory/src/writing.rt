@@ -36,7 +36,8 @@ pub fn write_places<S: PageStore>(
     ensures saved { OnOk result (IsSaved (length entries.now)
         (length chain.items) pager.old.store pager.new.store) }
     ensures same { pager.new.store ≡ put_store result pager.old.store pager.new.store }
-    ensures refused { IfErr result (IsSaveFault chain.items pager.old.store pager.new.store) }
+    ensures refused { IfErr result (IsSaveFault (levels_for (length entries.now)) chain.items
+        pager.old.store) }
 {
     grow_chain(pager, &mut chain, levels_of(entries.len()))?;
     write_chain(pager, &chain, entries)?;
@@ -57,7 +58,7 @@ fn grow_chain<S: PageStore>(
         (levels - length chain.old.items)) }
     ensures grows { Grows pager.old.store pager.new.store }
     ensures same { pager.new.store ≡ put_store result pager.old.store pager.new.store }
-    ensures refused { IfErr result (IsSaveFault chain.old.items pager.old.store pager.new.store) }
+    ensures refused { IfErr result (IsSaveFault levels chain.old.items pager.old.store) }
 {
     chain.truncate(levels);
     while chain.len() < levels {

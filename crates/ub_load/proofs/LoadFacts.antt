@@ -14,11 +14,12 @@ use Rattle.csv.specs.declared.reader.Trim.TheVariants as trim
 use Rattle.ub_store.specs.Facts.{StoreFacts, IsHonest}
 use Rattle.ub_tree.specs.Calls.{IsCreated}
 use Rattle.ub_tree.specs.Change.{IsInserted}
+use Rattle.ub_tree.specs.Placed.{Placed}
 use Rattle.ub_tree.specs.View.{TreeView, IsSound, regions}
 use Rattle.ub_load.specs.Field.{trimmed}
 use Rattle.ub_load.specs.LoadedTable.{IsSchemaOf, columns_of, records_of, row_of, rows_of}
 use Rattle.ub_load.specs.LoadedTree.{IsLoadedTree, insert_all}
-use Rattle.ub_load.specs.Loading.{HasTaken, IsLoadFault, IsTakeFault}
+use Rattle.ub_load.specs.Loading.{HasGrown, HasTaken, IsLoadFault, IsTakeFault}
 use Rattle.ub_load.specs.inner.Progress.{HasLoadedRecords, HasReadHeader, HoldsRows, IsAt, IsHeaded, IsHeaderFault, IsLoading, IsRecordsFault, Source, bytes_of}
 use Rattle.ub_load.proofs.ToldFacts.{header_is_of_text, told_after, told_first}
 use Rattle.ub_load.specs.Refusals.{first_of, first_refusal, header_refusal, header_refusals, record_refusals, refusals}
@@ -94,18 +95,20 @@ holds_none dims c t sound are next = record {
   regions_are = are;
   table = rw are (record { ascending = λ k lt. absurd (omega arith); same = λ row. (λ c. c, λ c. c) });
   next = next;
+  few = (let one = sym (length-map t.placed (λ (p : Placed). p.region)) ∙ ap length are in omega arith);
 }
 
 -- one more row, which is put in
 holds_more : (dims c : ℕ) (rows : List Row) (row : Row) (t u : TreeView) → HoldsRows dims c rows t → t.schema.dims ≡ dims → t.schema.page_rows ≡ c → IsRow t.schema.dims (measures_of t.schema) row
-    → IsInserted row t u → HoldsRows dims c (rows ++ row ∷ []) u
-holds_more dims c rows row t u h dims_are page_rows_are good put =
+    → IsInserted row t u → HasGrown t u → HoldsRows dims c (rows ++ row ∷ []) u
+holds_more dims c rows row t u h dims_are page_rows_are good put grown =
     let are : regions u ≡ insert t.schema.dims t.schema.page_rows row (regions t) = put.regions_are in
     record {
       sound = put.sound;
       regions_are = are ∙ rw (dims_are, page_rows_are, h.regions_are) (sym (insert_all-more dims c rows row (record { first = origin; rows = [] } ∷ [])));
       table = rw are (insertion_adds_the_row t.schema t.next (regions t) rows row h.sound.regions_are h.table good put.number);
       next = put.next ∙ (let old = h.next in let long = length-append rows (row ∷ []) in omega arith);
+      few = (let before = h.few in let more = grown.0 in let next = put.next in omega arith);
     }
 
 -- before the first record
@@ -129,7 +132,8 @@ loading_none {text} {dims} {page_rows} {name} {schema} is store t made =
       next_is = made.next_is;
       at_work = record {
         working = made.working;
-        can_fail = ap (λ (s : StoreFacts). s.can_fail) made.store_is;
+        store_is = made.store_is;
+        pages = (let three = made.pages in let next = made.next_is in omega arith);
         trace_is = made.trace_is;
       };
       holds = λ honest. rw (rows_of-none dims) (holds_none dims page_rows t (made.sound honest) (made.regions_are honest) made.next_is);
@@ -162,13 +166,14 @@ loading_more {text} {dims} {page_rows} {name} {store} {number} {t} is u b r s ta
       next_is = taken.next ∙ ap (λ (k : ℕ). k + 1) is.next_is;
       at_work = record {
         working = taken.working;
-        can_fail = taken.can_fail ∙ is.at_work.can_fail;
+        store_is = taken.store_is ∙ ap (λ (s : StoreFacts). record s { pages = u.store.pages; synced = u.store.synced }) is.at_work.store_is;
+        pages = (let before = is.at_work.pages in let more = taken.grown.1 in let next = taken.next in omega arith);
         trace_is = taken.trace ∙ is.at_work.trace_is;
       };
       holds = λ honest.
           let row = row_of t.schema.dims (number, r) in
           let before = is.holds honest in
-          let more = holds_more dims page_rows (rows_of dims is.taken) row t u before is.dims_are is.page_rows_are taken.row (taken.inserted before.sound) in
+          let more = holds_more dims page_rows (rows_of dims is.taken) row t u before is.dims_are is.page_rows_are taken.row (taken.inserted before.sound) taken.grown in
           let same : rows_of dims is.taken ++ row ∷ [] ≡ rows_of dims (is.taken ++ r ∷ []) =
           rw (is.dims_are, is.number_is) (sym (rows_of-more dims is.taken (r))) in
           subst (λ (rows : List Row). HoldsRows dims page_rows rows u) same more;
@@ -191,8 +196,10 @@ refused_here {text} {dims} {page_rows} {name} {store} {number} {t} is b r s f ba
 pub told_record : {text : List ℕ} {dims page_rows : ℕ} {name : List ℕ} {store : StoreFacts} {number : ℕ} {t : TreeView} {a : Reader Source}
     → IsLoading text dims page_rows name store number t a → (b : Reader Source) (r : List (List ℕ)) → Took a b r → (f : LoadFault)
     → IsTakeFault (number, r) t f → IsLoadFault dims name text store f
-told_record is b r s f h =
-    inr (told_after (refused_here is b r s) (λ can. rw is.at_work.can_fail at can) (λ broken honest. broken (is.holds honest).sound) f h)
+told_record is b r s f (inl full) = let few = is.few in let next = is.next_is in let pages = is.at_work.pages in let most = full.1 in absurd (omega arith)
+told_record is b r s f (inr h) =
+    let can_fail = ap (λ (facts : StoreFacts). facts.can_fail) is.at_work.store_is in
+    inr (told_after (refused_here is b r s) (λ can. rw can_fail at can) (λ broken honest. broken (is.holds honest).sound) f h)
 
 -- a header that is refused is the first thing wrong
 pub refused_header : {text : List ℕ} {header : List (List ℕ)} {a : Reader Source} → IsAt text (header ∷ []) a → (dims : ℕ) (name : List ℕ) (f : LoadFault)
@@ -252,6 +259,7 @@ all_loaded {text} {dims} {page_rows} {name} is b fields s honest =
       regions_are = h.regions_are;
       table = h.table;
       next = h.next;
+      few = h.few;
     }
 
 -- the records before the row of this number have been put into a tree that had none

@@ -7,7 +7,7 @@ use Rattle.std.proofs.lemmas.Bool.{cases_Bool}
 use Rattle.ub_store.specs.Facts.{StoreFacts}
 use Rattle.ub_store.specs.declared.fault.StoreFault.TheVariants as store
 use Rattle.ub_tree.specs.Calls.{IsCreateFault}
-use Rattle.ub_tree.specs.Effects.{IsLeft}
+use Rattle.ub_tree.specs.Effects.{IsFull, IsLeft}
 use Rattle.ub_tree.specs.View.{TreeView, IsSound, KeepsTrace}
 use Rattle.ub_tree.specs.declared.fault.TreeFault.{TreeFault}
 use Rattle.ub_tree.specs.declared.fault.TreeFault.TheVariants as tree
@@ -32,7 +32,7 @@ told_after same can broken (Tree tree.Full) h = same (Tree tree.Full) h
 told_after same can broken (Tree (tree.Page page fault)) h = broken h
 told_after same can broken (Tree (tree.Store store.Device)) h = can h
 told_after same can broken (Tree (tree.Store store.NoPage)) h = broken h
-told_after same can broken (Tree (tree.Store store.BadSize)) h = tt
+told_after same can broken (Tree (tree.Store store.BadSize)) h = absurd h
 told_after same can broken (Tree (tree.Store store.Memory)) h = absurd h
 told_after same can broken (Tree tree.Failed) h = absurd h
 told_after same can broken (Tree tree.Memory) h = absurd h
@@ -82,46 +82,46 @@ new_fault facts tree.Memory h = tt
 
 -- what a refused insertion into a tree that works tells
 pub told_put : (first : Option LoadFault) (t u : TreeView) → t.is_failed ≡ false → (t.next ≡ 16777216 → first ≡ Some (Tree tree.Full)) → (fault : TreeFault) → IsLeft t u fault
-    → IsToldOf first (IsTrue t.store.can_fail) (¬ (IsSound t)) (fault_of_tree fault)
-told_put first t u works last tree.Full h = last h.0
-told_put first t u works last (tree.Page page fault) h = h.0
-told_put first t u works last (tree.Store store.Device) h = h.0
-told_put first t u works last (tree.Store store.NoPage) h = h.0
-told_put first t u works last (tree.Store store.BadSize) h = tt
+    → ((fault_of_tree fault ≡ Tree (tree.Store store.BadSize)) × IsFull t) ⊎ IsToldOf first (IsTrue t.store.can_fail) (¬ (IsSound t)) (fault_of_tree fault)
+told_put first t u works last tree.Full h = inr (last h.0)
+told_put first t u works last (tree.Page page fault) h = inr h.0
+told_put first t u works last (tree.Store store.Device) h = inr h.0
+told_put first t u works last (tree.Store store.NoPage) h = inr h.0
+told_put first t u works last (tree.Store store.BadSize) h = inl (refl, h.0)
 told_put first t u works last (tree.Store store.Memory) h = absurd h
 told_put first t u works last tree.Failed h = let bad = rw works at h.0 in cc
-told_put first t u works last tree.Memory h = tt
+told_put first t u works last tree.Memory h = inr tt
 
 -- what a change of a tree keeps
 pub frame_keeps : (t u : TreeView) → u ≡ record t { placed = u.placed; rows = u.rows; next = u.next; is_changed = u.is_changed; is_failed = u.is_failed; store = u.store }
     → (u.schema ≡ t.schema) × KeepsTrace t u
 frame_keeps t u e = (ap (λ (v : TreeView). v.schema) e, ap (λ (v : TreeView). v.trace) e)
 
--- over an honest store that can't fail: what is told is the first thing wrong, unless memory was refused or there is no room
-pub told_sure : {first : Option LoadFault} {F B : Type 0} → ¬ F → ¬ B → (f : LoadFault) → IsToldOf first F B f → f ≢ Memory → f ≢ Tree (tree.Store store.BadSize) → first ≡ Some f
-told_sure reliable honest NoHeader h some room = h
-told_sure reliable honest (BadName n) h some room = h
-told_sure reliable honest ColumnCount h some room = h
-told_sure reliable honest (BadNumber row column) h some room = h
-told_sure reliable honest (OutOfRange row column) h some room = h
-told_sure reliable honest Csv h some room = h
-told_sure reliable honest (Tree tree.Full) h some room = h
-told_sure reliable honest (Tree (tree.Page page fault)) h some room = absurd (honest h)
-told_sure reliable honest (Tree (tree.Store store.Device)) h some room = absurd (reliable h)
-told_sure reliable honest (Tree (tree.Store store.NoPage)) h some room = absurd (honest h)
-told_sure reliable honest (Tree (tree.Store store.BadSize)) h some room = absurd (room refl)
-told_sure reliable honest (Tree (tree.Store store.Memory)) h some room = absurd h
-told_sure reliable honest (Tree tree.Failed) h some room = absurd h
-told_sure reliable honest (Tree tree.Memory) h some room = absurd h
-told_sure reliable honest Memory h some room = absurd (some refl)
+-- over an honest store that can't fail: what is told is the first thing wrong, unless memory was refused
+pub told_sure : {first : Option LoadFault} {F B : Type 0} → ¬ F → ¬ B → (f : LoadFault) → IsToldOf first F B f → f ≢ Memory → first ≡ Some f
+told_sure reliable honest NoHeader h some = h
+told_sure reliable honest (BadName n) h some = h
+told_sure reliable honest ColumnCount h some = h
+told_sure reliable honest (BadNumber row column) h some = h
+told_sure reliable honest (OutOfRange row column) h some = h
+told_sure reliable honest Csv h some = h
+told_sure reliable honest (Tree tree.Full) h some = h
+told_sure reliable honest (Tree (tree.Page page fault)) h some = absurd (honest h)
+told_sure reliable honest (Tree (tree.Store store.Device)) h some = absurd (reliable h)
+told_sure reliable honest (Tree (tree.Store store.NoPage)) h some = absurd (honest h)
+told_sure reliable honest (Tree (tree.Store store.BadSize)) h some = absurd h
+told_sure reliable honest (Tree (tree.Store store.Memory)) h some = absurd h
+told_sure reliable honest (Tree tree.Failed) h some = absurd h
+told_sure reliable honest (Tree tree.Memory) h some = absurd h
+told_sure reliable honest Memory h some = absurd (some refl)
 
--- and of the tree's faults it is one of these
-pub told_tree : (first : Option LoadFault) {F B : Type 0} → ¬ F → ¬ B → (fault : TreeFault) → IsToldOf first F B (Tree fault) → (fault ≡ tree.Full) ⊎ (fault ≡ tree.Store store.BadSize)
-told_tree first reliable honest tree.Full h = inl refl
+-- and of the tree's faults it is this one
+pub told_tree : (first : Option LoadFault) {F B : Type 0} → ¬ F → ¬ B → (fault : TreeFault) → IsToldOf first F B (Tree fault) → fault ≡ tree.Full
+told_tree first reliable honest tree.Full h = refl
 told_tree first reliable honest (tree.Page page fault) h = absurd (honest h)
 told_tree first reliable honest (tree.Store store.Device) h = absurd (reliable h)
 told_tree first reliable honest (tree.Store store.NoPage) h = absurd (honest h)
-told_tree first reliable honest (tree.Store store.BadSize) h = inr refl
+told_tree first reliable honest (tree.Store store.BadSize) h = absurd h
 told_tree first reliable honest (tree.Store store.Memory) h = absurd h
 told_tree first reliable honest tree.Failed h = absurd h
 told_tree first reliable honest tree.Memory h = absurd h

@@ -4,20 +4,23 @@ use Rattle.ub_load.specs.LoadedTable.{records_of, row_of}
 use Rattle.ub_load.specs.Refusals.{first_of, first_refusal, record_refusals}
 use Rattle.ub_load.specs.declared.fault.LoadFault.{LoadFault}
 use Rattle.ub_load.specs.declared.fault.LoadFault.TheVariants.{Csv, Tree, Memory}
-use Rattle.ub_store.specs.Facts.{StoreFacts, IsHonest}
+use Rattle.ub_store.specs.Facts.{StoreFacts, IsHonest, page_count}
 use Rattle.ub_store.specs.View.{untouched}
 use Rattle.ub_store.specs.declared.fault.StoreFault.TheVariants as store
 use Rattle.ub_table.specs.Region.{IsRow, measures_of}
 use Rattle.ub_table.specs.declared.row.Row.{Row}
 use Rattle.ub_table.specs.declared.row.TheConstants.{MAX_ROW_NUMBER}
 use Rattle.ub_tree.specs.Change.{IsInserted}
-use Rattle.ub_tree.specs.View.{TreeView, IsSound, KeepsTrace}
+use Rattle.ub_tree.specs.Effects.{IsFull}
+use Rattle.ub_tree.specs.View.{TreeView, IsSound, KeepsTrace, region_count}
 use Rattle.ub_tree.specs.declared.fault.TreeFault.TheVariants as tree
 
--- a tree that works, over a store that fails where the other can, and no region of which was read
+-- a tree that works, over the store that had these facts, no call of which has failed since, and no region of which was read; there are
+-- no more pages than the first three and one for each row number that was given
 pub record IsAtWork (facts : StoreFacts) (t : TreeView) : Type 0 where
   pub working : t.is_failed ≡ false
-  pub can_fail : t.store.can_fail ≡ facts.can_fail
+  pub store_is : t.store ≡ record facts { pages = t.store.pages; synced = t.store.synced }
+  pub pages : page_count t.store ≤ t.next + 2
   pub trace_is : t.trace ≡ untouched
 
 -- a new tree is refused for want of memory, or the store failed, which it then can
@@ -26,12 +29,11 @@ IsNewFault facts Memory = Unit {0}
 IsNewFault facts (Tree (tree.Store store.Device)) = IsTrue facts.can_fail
 IsNewFault facts _ = ⊥
 
--- what can be told where this is the first thing wrong, if anything is: that; or that memory was refused, or that the store has room
--- for no more pages, or failed, which it then can; and only of a broken store that a page of the tree is not what it was
+-- what can be told where this is the first thing wrong, if anything is: that; or that memory was refused, or that the store
+-- failed, which it then can; and only of a broken store that a page of the tree is not what it was
 abbrev pub IsToldOf : Option LoadFault → (CanFail IsBroken : Type 0) → LoadFault → Type 0
 IsToldOf first CanFail IsBroken Memory = Unit {0}
 IsToldOf first CanFail IsBroken (Tree tree.Full) = first ≡ Some (Tree tree.Full)
-IsToldOf first CanFail IsBroken (Tree (tree.Store store.BadSize)) = Unit {0}
 IsToldOf first CanFail IsBroken (Tree (tree.Store store.Device)) = CanFail
 IsToldOf first CanFail IsBroken (Tree (tree.Store store.NoPage)) = IsBroken
 IsToldOf first CanFail IsBroken (Tree (tree.Page page fault)) = IsBroken
@@ -56,6 +58,10 @@ row_in t r = row_of t.schema.dims r
 abbrev pub HasCounted : TreeView → TreeView → Type 0
 HasCounted old new = (old.next ≢ MAX_ROW_NUMBER + 1) × (new.next ≡ old.next + 1)
 
+-- one region more and one page more at the most
+abbrev pub HasGrown : TreeView → TreeView → Type 0
+HasGrown old new = (region_count new ≤ region_count old + 1) × (page_count new.store ≤ page_count old.store + 1)
+
 -- a record with nothing wrong in it has become a row of the tree
 pub record HasTaken (r : ℕ × List (List ℕ)) (old new : TreeView) : Type 0 where
   pub number : r.0 ≤ MAX_ROW_NUMBER
@@ -66,8 +72,10 @@ pub record HasTaken (r : ℕ × List (List ℕ)) (old new : TreeView) : Type 0 w
   pub schema : new.schema ≡ old.schema
   pub trace : KeepsTrace old new
   pub working : new.is_failed ≡ false
-  pub can_fail : new.store.can_fail ≡ old.store.can_fail
+  pub store_is : new.store ≡ record old.store { pages = new.store.pages; synced = new.store.synced }
+  pub grown : HasGrown old new
 
--- why a record isn't taken
+-- why a record isn't taken; also where the store has as many pages as one can have
 abbrev pub IsTakeFault : ℕ × List (List ℕ) → TreeView → LoadFault → Type 0
-IsTakeFault r t fault = IsToldOf (record_refusal r t) (IsTrue t.store.can_fail) (¬ (IsSound t)) fault
+IsTakeFault r t fault =
+    ((fault ≡ Tree (tree.Store store.BadSize)) × IsFull t) ⊎ IsToldOf (record_refusal r t) (IsTrue t.store.can_fail) (¬ (IsSound t)) fault

@@ -4,7 +4,7 @@ ghost use Rattle.std.specs.Prelude.{◌≡◌, ◌≤◌, ◌+◌, ℕ, false, L
 ghost use Rattle.std.specs.Result.{OnOk};
 ghost use Rattle.csv.specs.Records.{fields_of};
 ghost use Rattle.ub_load.specs.LoadedTree.{IsLoadedTree};
-ghost use Rattle.ub_load.specs.Loading.{HasCounted, HasTaken, IsAtWork, IsLoadFault, IsNewFault, IsTakeFault};
+ghost use Rattle.ub_load.specs.Loading.{HasCounted, HasGrown, HasTaken, IsAtWork, IsLoadFault, IsNewFault, IsTakeFault};
 ghost use Rattle.ub_load.specs.inner.Progress.{HasLoadedRecords, HasReadHeader, IsAt, IsHeaderFault, IsRecordsFault};
 ghost use Rattle.ub_store.specs.Facts.{page_count, IsHonest};
 ghost use Rattle.ub_table.specs.Region.{measures_of};
@@ -32,8 +32,9 @@ use ub_tree::{Tree, TreeFault};
 /// The error is the first thing that is wrong, in the order of the text: `NoHeader`, `ColumnCount`, `BadName`, and then for
 /// each row `Csv` for a length other than the header's, `BadNumber` or `OutOfRange`, and `Tree` with `Full`. `Csv` comes only
 /// where `csv` refused a record, which is also where reading failed, `Memory` only where memory was refused, and `Tree` with
-/// another fault only from the store: `Device` where it failed (never where it can't fail), `BadSize` where it has room for no
-/// more pages, and `NoPage` or a page's fault where it isn't honest. With each refusal the store is dropped, and the rows in it.
+/// another fault only from the store: `Device` where it failed (never where it can't fail), and `NoPage` or a page's fault
+/// where it isn't honest. It never is `BadSize`, since a store has room for more pages than a table can have rows. With each
+/// refusal the store is dropped, and the rows in it. Where a table is loaded no call of the store has failed.
 pub fn load<S: PageStore>(
     alloc: Global,
     text: &[u8],
@@ -164,6 +165,7 @@ fn put_row<S: PageStore>(tree: &mut Tree<S>, row: &Row) -> Result<(), TreeFault>
     ensures inserted { IsSound tree.old → tree.old.next ≡ row.now.number
         → OnOk result (IsInserted row.now tree.old tree.new) }
     ensures counted { OnOk result (HasCounted tree.old tree.new) }
+    ensures grown { OnOk result (HasGrown tree.old tree.new) }
     ensures effect { Changes tree.old tree.new result }
 {
     tree.insert_row(row)?;

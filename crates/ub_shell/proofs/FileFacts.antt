@@ -24,13 +24,14 @@ use Rattle.ub_words.specs.declared.given.TryWords.{TryWords}
 use Rattle.ub_words.specs.declared.words.Asked.{Asked}
 use Rattle.ub_words.specs.declared.words.Asked.TheVariants as asked
 use Rattle.ub_shell.specs.Commands.{AsksStore, HasRunTree, IsAskedOf, IsCopied, IsFileOf, IsTable, IsUnopened, LoadsFile, RunsFile, TellsRan, TriesFiles, WritesFile}
-use Rattle.ub_shell.specs.Copying.{Copies}
+use Rattle.ub_files.specs.Copying.{Copies}
 use Rattle.ub_shell.specs.Ending.{HasTried, Tells, trial}
-use Rattle.ub_shell.specs.Files.{FilesFacts, IsLent, IsText, LendsFile, OpensFile, PutsBack, Returns}
-use Rattle.ub_shell.specs.Next.{IsNextAnswer, answer_text, answer_status}
+use Rattle.ub_files.specs.Files.{FilesFacts, IsLent, IsText, LendsFile, OpensFile, PutsBack, Returns}
+use Rattle.ub_next.specs.Next.{IsNextAnswer, answer_text}
 use Rattle.ub_shell.specs.Ran.{HasEnded}
-use Rattle.ub_shell.specs.declared.next.Neighbours.{Neighbours}
-use Rattle.ub_shell.specs.declared.next.NextFault.{NextFault}
+use Rattle.ub_shell.specs.Status.{answer_status}
+use Rattle.ub_next.specs.declared.next.Neighbours.{Neighbours}
+use Rattle.ub_next.specs.declared.next.NextFault.{NextFault}
 use Rattle.ub_shell.specs.declared.status.Status.{Status}
 use Rattle.ub_shell.specs.declared.status.Status.TheVariants.{Done, CommandLine}
 

@@ -2,7 +2,7 @@
 use Rattle.std.specs.Prelude.{◌⊎◌, ℕ, List}
 use Rattle.ub_words.specs.CommandLine.{AsksHelp, AsksHelpAlone, AsksNothing}
 use Rattle.ub_script.specs.Output.{OutFacts}
-use Rattle.ub_shell.specs.Files.{FilesFacts}
+use Rattle.ub_files.specs.Files.{FilesFacts}
 use Rattle.ub_shell.specs.Ran.{HasEnded, HasHelped, HasNoMemory, HasRefused}
 use Rattle.ub_shell.specs.declared.status.Status.{Status}
 

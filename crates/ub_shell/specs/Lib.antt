@@ -1,9 +1,3 @@
-pub mod Files
-pub mod Host
-pub mod Copying
-pub mod Faulty
-pub mod Memory
-pub mod Next
 pub mod Status
 pub mod Ending
 pub mod Commands

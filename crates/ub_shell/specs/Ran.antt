@@ -4,11 +4,12 @@ use Rattle.ub_words.specs.Asked.{AreLines}
 use Rattle.ub_words.specs.CommandLine.{AsksHelp, AsksLoad, AsksNext, AsksNothing, AsksRun, AsksTry}
 use Rattle.ub_shell.specs.Commands.{LoadsFile, RunsFile, TriesFiles}
 use Rattle.ub_shell.specs.Ending.{Tells, words_fault_status, words_fault_text}
+use Rattle.ub_shell.specs.Status.{answer_status}
 use Rattle.ub_script.specs.Output.{OutFacts}
-use Rattle.ub_shell.specs.Files.{FilesFacts}
-use Rattle.ub_shell.specs.Next.{IsNextAnswer, answer_text, answer_status}
-use Rattle.ub_shell.specs.declared.next.Neighbours.{Neighbours}
-use Rattle.ub_shell.specs.declared.next.NextFault.{NextFault}
+use Rattle.ub_files.specs.Files.{FilesFacts}
+use Rattle.ub_next.specs.Next.{IsNextAnswer, answer_text}
+use Rattle.ub_next.specs.declared.next.Neighbours.{Neighbours}
+use Rattle.ub_next.specs.declared.next.NextFault.{NextFault}
 use Rattle.ub_shell.specs.declared.program.WordsFault.{WordsFault}
 use Rattle.ub_shell.specs.declared.status.Status.{Status}
 use Rattle.ub_shell.specs.declared.status.Status.TheVariants.{Done, CommandLine, Memory}

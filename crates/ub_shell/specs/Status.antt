@@ -1,5 +1,5 @@
 -- How the program's commands end, and what they write then.
-use Rattle.std.specs.Prelude.{ℕ, ◌==◌, if◌then◌else◌, List, ◌++◌, codes, decimal}
+use Rattle.std.specs.Prelude.{ℕ, ◌==◌, if◌then◌else◌, List, ◌++◌, Result, Ok, Err, codes, decimal}
 use Rattle.ub_load.specs.declared.fault.LoadFault.{LoadFault}
 use Rattle.ub_load.specs.declared.fault.LoadFault.TheVariants.{NoHeader, BadName, ColumnCount, BadNumber, OutOfRange, Csv, Tree}
 use Rattle.ub_load.specs.declared.fault.LoadFault.TheVariants as load
@@ -8,6 +8,9 @@ use Rattle.ub_store.specs.declared.fault.StoreFault.TheVariants as store
 use Rattle.ub_tree.specs.declared.fault.TreeFault.{TreeFault}
 use Rattle.ub_tree.specs.declared.fault.TreeFault.TheVariants as tree
 use Rattle.ub_script.specs.declared.script.Summary.{Summary}
+use Rattle.ub_next.specs.declared.next.Neighbours.{Neighbours}
+use Rattle.ub_next.specs.declared.next.NextFault.{NextFault}
+use Rattle.ub_next.specs.declared.next.NextFault.TheVariants as next
 use Rattle.ub_shell.specs.declared.status.Status.{Status}
 use Rattle.ub_shell.specs.declared.status.Status.TheVariants.{Done, Refused, CommandLine, Data, Device, Memory}
 use Rattle.ub_table.specs.declared.fault.PageFault.TheVariants as page
@@ -44,6 +47,12 @@ abbrev pub load_fault_status : LoadFault → Status
 load_fault_status load.Memory = Memory
 load_fault_status (Tree fault) = tree_fault_status fault
 load_fault_status fault = Data
+
+-- how the program ends that was asked for the neighbours of an address
+abbrev pub answer_status : Result Neighbours NextFault → Status
+answer_status (Ok n) = Done
+answer_status (Err next.Memory) = Memory
+answer_status (Err fault) = CommandLine
 
 -- the place of a field, rows and columns counted from 1
 abbrev pub place_text : ℕ → ℕ → List ℕ

@@ -1,6 +1,6 @@
 ghost use Rattle.ub_shell.specs.Commands.{ClosesFile};
 
-use crate::files::Files;
+use ub_files::Files;
 use ub_tree::{Tree, TreeFault};
 
 /// Closes the tree of a table file, and puts its store back at this path, also where the closing is refused.

@@ -3,13 +3,13 @@ ghost use Rattle.ub_shell.specs.Ran.{HasEnded};
 ghost use Rattle.ub_shell.specs.Status.{status_code};
 ghost use Rattle.ub_shell.specs.declared.status.Status.{Status};
 
-use crate::files::Files;
 use crate::loading::load_file;
 use crate::next::tell_next;
 use crate::running::run_file;
 use crate::status::{Status, tell, tell_memory};
 use crate::trial::try_files;
 use std::alloc::Global;
+use ub_files::Files;
 use ub_script::Out;
 use ub_words::{Asked, read_words};
 

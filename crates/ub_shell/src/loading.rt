@@ -4,10 +4,9 @@ ghost use Rattle.ub_shell.specs.Commands.{loaded_line, IsFileOf, IsTable, IsUncl
 ghost use Rattle.ub_shell.specs.Ending.{TellsIfMemory};
 ghost use Rattle.ub_shell.specs.declared.status.Status.{Status};
 
-use crate::copying::copy_pages;
-use crate::files::Files;
 use crate::status::{Status, tell, tell_load_fault, tell_memory, tell_store_fault};
 use std::alloc::{AllocError, Global};
+use ub_files::{Files, copy_pages};
 use ub_load::{LoadFault, load};
 use ub_script::Out;
 use ub_store::{MemStore, StoreFault};

@@ -6,12 +6,12 @@ ghost use Rattle.ub_shell.specs.Status.{status_code};
 ghost use Rattle.ub_shell.specs.declared.status.Status.{Status};
 
 use crate::command::command;
-use crate::files::Files;
 use crate::status::{Status, tell, tell_memory};
 use std::alloc::Global;
 use std::io::Write;
 use std::rt::Env;
 use std::{env, io};
+use ub_files::Files;
 use ub_script::{Out, Over};
 
 /// Why the words of the program's command line were not read.

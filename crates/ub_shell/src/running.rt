@@ -1,14 +1,14 @@
 ghost use Rattle.ub_shell.specs.Commands.{AsksStore, HasRunTree, RunsFile, TellsClosed, TellsRan};
 ghost use Rattle.std.specs.Prelude.{◌≡◌, false};
-ghost use Rattle.ub_shell.specs.Files.{PutsBack};
+ghost use Rattle.ub_files.specs.Files.{PutsBack};
 ghost use Rattle.ub_store.specs.Facts.{StoreFacts};
 
 use crate::closing::close_table;
-use crate::files::Files;
 use crate::status::{
     Status, summary_status, tell_load_fault, tell_memory, tell_store_fault, tell_tree_fault,
 };
 use std::alloc::Global;
+use ub_files::Files;
 use ub_script::{Out, RunFault, Summary, run};
 use ub_tree::{Tree, TreeFault};
 use ub_words::RunWords;

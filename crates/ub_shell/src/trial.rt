@@ -2,11 +2,11 @@ ghost use Rattle.std.specs.Prelude.{◌≤◌};
 ghost use Rattle.ub_shell.specs.Commands.{TriesFiles};
 ghost use Rattle.ub_shell.specs.Ending.{trial, HasTried};
 
-use crate::files::Files;
 use crate::status::{
     Status, summary_status, tell_load_fault, tell_memory, tell_store_fault, tell_tree_fault,
 };
 use std::alloc::Global;
+use ub_files::Files;
 use ub_script::{Out, RunFault, try_text};
 use ub_words::TryWords;
 

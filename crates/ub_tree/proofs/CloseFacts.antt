@@ -20,7 +20,7 @@ use Rattle.ub_tree.specs.Faults.{tree_fault}
 use Rattle.ub_tree.specs.Placed.{Placed, ArePlaced, regions_in, entry_of}
 use Rattle.ub_tree.specs.Stored.{AreSoundPages}
 use Rattle.ub_tree.specs.Tree.{tree_view, known_pages}
-use Rattle.ub_tree.specs.View.{TreeView, IsSound}
+use Rattle.ub_tree.specs.View.{TreeView, IsSound, region_count}
 use Rattle.ub_tree.proofs.TreeFacts.{entries_back}
 use Rattle.ub_store.specs.declared.fault.StoreFault.TheVariants as store
 
@@ -95,8 +95,11 @@ module _ (schema : Schema) (entries : List Entry) (chain : List ℕ) (next rows 
       subst (λ (es : List Entry). IsUnclosed numbers_in es pager.store new) (sym (entries_back schema (known_pages pager.store) entries))
       (left numbers_in sound.honest (own_of schema tree.placed chain pager.store.pages sound.placed_are))
 
-  pub close_refused : (new : StoreFacts) (fault : StoreFault) → IsSaveFault chain pager.store new fault → IsCloseFault tree new (tree_fault fault)
-  close_refused new store.Device h = h
-  close_refused new store.BadSize h = h
-  close_refused new store.Memory h = h
-  close_refused new store.NoPage h = λ sound. h numbers_in (own_of schema tree.placed chain pager.store.pages sound.placed_are)
+  count_is : length entries ≡ region_count tree
+  count_is = ap length (sym (entries_back schema (known_pages pager.store) entries)) ∙ length-map tree.placed entry_of
+
+  pub close_refused : (fault : StoreFault) → IsSaveFault (levels_for (length entries)) chain pager.store fault → IsCloseFault tree (tree_fault fault)
+  close_refused store.Device h = h
+  close_refused store.BadSize h = rw count_is at h
+  close_refused store.Memory h = h
+  close_refused store.NoPage h = λ sound. h numbers_in (own_of schema tree.placed chain pager.store.pages sound.placed_are)

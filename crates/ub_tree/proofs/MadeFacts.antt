@@ -40,9 +40,9 @@ placed_with : ℕ → List Row → List Placed
 placed_with page rows = record { page = page; region = record { first = origin; rows = rows } } ∷ []
 
 pub created : (facts : StoreFacts) (schema : Schema) (pager : PagerView) → pager.store ≡ record facts { pages = pager.store.pages; synced = pager.store.synced } → pager.trace ≡ untouched
-    → (IsHonest facts → IsLaidOut schema pager.store.pages) → IsCreated facts schema (tree_view schema (record { first = origin; page = 1 } ∷ []) (2 ∷ []) 1 0 true false pager)
+    → length pager.store.pages ≡ 3 → (IsHonest facts → IsLaidOut schema pager.store.pages) → IsCreated facts schema (tree_view schema (record { first = origin; page = 1 } ∷ []) (2 ∷ []) 1 0 true false pager)
 unfolding placed_with
-created facts schema pager same trace laid = record {
+created facts schema pager same trace count laid = record {
   schema_is = refl;
   regions_are = λ is. regions is;
   sound = λ is.
@@ -64,6 +64,7 @@ created facts schema pager same trace laid = record {
         marked = λ _. (laid is).marked;
       };
   store_is = same;
+  pages = count;
   working = refl;
   changed = refl;
   rows_are = refl;

@@ -1,6 +1,6 @@
 -- What reading a region tells, and what creation makes.
 use Rattle.std.specs.Prelude.{true, false, ◌≡◌, ℕ, [], ◌∷◌, IsTrue, List, Contains}
-use Rattle.ub_store.specs.Facts.{StoreFacts, IsHonest}
+use Rattle.ub_store.specs.Facts.{StoreFacts, IsHonest, page_count}
 use Rattle.ub_store.specs.View.{untouched}
 use Rattle.ub_table.specs.Keys.{origin}
 use Rattle.ub_table.specs.Region.{Region}
@@ -15,13 +15,14 @@ use Rattle.ub_store.specs.declared.fault.StoreFault.TheVariants as store
 abbrev pub StandsAt : List Placed → ℕ → Region → Type 0
 StandsAt placed page region = (p : Placed) × Contains placed p × (p.page ≡ page) × (p.region ≡ region)
 
--- what creation over a store with these facts makes: a tree of this schema with no rows, in one region that begins with the
--- least key of all; it counts as changed, so that closing it writes and syncs it
+-- what creation over a store with these facts makes: a tree of this schema with no rows, on three pages, in one region that
+-- begins with the least key of all; it counts as changed, so that closing it writes and syncs it
 pub record IsCreated (store : StoreFacts) (schema : Schema) (t : TreeView) : Type 0 where
   pub schema_is : t.schema ≡ schema
   pub regions_are : IsHonest store → regions t ≡ record { first = origin; rows = [] } ∷ []
   pub sound : IsHonest store → IsSound t
   pub store_is : t.store ≡ record store { pages = t.store.pages; synced = t.store.synced }
+  pub pages : page_count t.store ≡ 3
   pub working : t.is_failed ≡ false
   pub changed : t.is_changed ≡ true
   pub rows_are : t.rows ≡ 0

@@ -41,7 +41,7 @@ impl<S: PageStore> Tree<S> {
             (S.facts r.store)) }
         ensures left { IfErr result (λ r. S.facts r.store ≡ written_store {A = S}
             (Err r.fault) self.store (S.facts r.store)) }
-        ensures refused { IfErr result (λ r. IsCloseFault self (S.facts r.store) r.fault) }
+        ensures refused { IfErr result (λ r. IsCloseFault self r.fault) }
     {
         if self.is_failed {
             return Err(Rejected {

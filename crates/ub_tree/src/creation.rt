@@ -93,6 +93,7 @@ fn lay_out<S: PageStore>(
       last = last_address schema.now.dims;
       room = made.room;
     }) }
+    ensures count { OnOk result (page_count pager.new.store ≡ 3) }
     ensures pages { OnOk result (IsHonest pager.old.store
         → IsLaidOut schema.now pager.new.store.pages) }
     ensures first { OnErr result (IsHonest pager.old.store

@@ -12,7 +12,7 @@ ghost use Rattle.ub_page.specs.Header.{header_page};
 ghost use Rattle.ub_page.specs.Region.{region_on, region_page};
 ghost use Rattle.ub_store.specs.Facts.{page_count, IsHonest, WritesAt};
 ghost use Rattle.ub_store.specs.View.{SameTrace};
-ghost use Rattle.ub_directory.specs.Chain.{AreOwn};
+ghost use Rattle.ub_directory.specs.Chain.{levels_for, AreOwn};
 ghost use Rattle.ub_directory.specs.Writing.{KeepsBut, IsSaved, IsSaveFault, WritesStore, put_store};
 ghost use Rattle.ub_writing.specs.Closing.{IsClosed, IsUnclosed};
 ghost use Rattle.ub_writing.specs.Creation.{IsLaidOut, IsLayoutFault, IsUncreated, empty_region};
@@ -35,6 +35,7 @@ pub fn write_first_pages<S: PageStore>(
     schema: &Schema,
 ) -> Result<(), StoreFault>
     requires { page_count pager.old.store ≡ 0 }
+    ensures count { OnOk result (page_count pager.new.store ≡ 3) }
     ensures pages { OnOk result (IsHonest pager.old.store
         → IsLaidOut schema.now pager.new.store.pages) }
     ensures first { OnErr result (IsHonest pager.old.store
@@ -136,7 +137,8 @@ pub fn write_table<S: PageStore>(
     ensures saved { OnOk result (IsSaved (length directory.entries)
         (length directory.chain) pager.old.store pager.new.store) }
     ensures same { pager.new.store ≡ put_store result pager.old.store pager.new.store }
-    ensures refused { IfErr result (IsSaveFault directory.chain pager.old.store pager.new.store) }
+    ensures refused { IfErr result (IsSaveFault (levels_for (length directory.entries)) directory.chain
+        pager.old.store) }
 {
     tell_names(schema.columns());
     tell_name(schema.name());

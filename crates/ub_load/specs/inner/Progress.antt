@@ -15,7 +15,7 @@ use Rattle.ub_region.specs.Regions.{AreTableRows}
 use Rattle.ub_store.specs.Facts.{StoreFacts, IsHonest}
 use Rattle.ub_table.specs.declared.row.Row.{Row}
 use Rattle.ub_table.specs.declared.schema.Schema.{Schema}
-use Rattle.ub_tree.specs.View.{TreeView, IsSound, regions}
+use Rattle.ub_tree.specs.View.{TreeView, IsSound, region_count, regions}
 
 abbrev pub Source : Type 0
 Source = Bor (List ℕ)
@@ -38,6 +38,7 @@ pub record HoldsRows (dims c : ℕ) (rows : List Row) (t : TreeView) : Type 0 wh
   pub regions_are : regions t ≡ loaded_regions dims c rows
   pub table : AreTableRows (regions t) rows
   pub next : t.next ≡ length rows + 1
+  pub few : region_count t ≤ t.next
 
 -- the header has been read, with nothing wrong in it, and it makes this schema
 pub record IsHeaded (text : List ℕ) (dims page_rows : ℕ) (name : List ℕ) (schema : Schema) (rdr : Reader Source) : Type 0 where

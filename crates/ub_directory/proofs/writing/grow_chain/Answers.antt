@@ -1,8 +1,10 @@
-use Rattle.std.proofs.Common.{◌≡◌, ◌+◌, ◌++◌, ◌∷◌, [], ◌∙◌, true, ℕ, length, ap, refl, arith}
+use Rattle.std.proofs.Common.{Err, ◌≡◌, ◌+◌, ◌++◌, ◌∷◌, [], ◌∙◌, true, ℕ, length, ap, refl, sym, arith}
 use Rattle.std.proofs.lemmas.List.{length-take, length-append}
+use Rattle.std.proofs.lemmas.Result.{err_from_is_err_and}
+use Rattle.ub_store.specs.declared.fault.StoreFault.{StoreFault}
 use Rattle.ub_store.specs.Facts.{StoreFacts, zero_page, page_count}
 use Rattle.std.specs.Result.{is_ok}
-use Rattle.ub_directory.proofs.WriteFacts.{own_cut, own_push, grows_same, grows_by, grows_may, then_done, then_put}
+use Rattle.ub_directory.proofs.WriteFacts.{own_cut, own_push, add_fault, grows_same, grows_by, grows_may, then_done, then_put}
 use Rattle.ub_directory.proofs.writing.grow_chain.Goals as goal
 
 pub loop-pager-init : goal.loop-pager-init
@@ -50,3 +52,13 @@ returns-in_err-n-clause-same g c =
 pub returns-then-is_err-clause-same : goal.returns-then-is_err-clause-same
 returns-then-is_err-clause-same g c =
     then_done c.args.pager.now.store c.loop-pager.pager.store c.extend.new.self.store c.loop-pager.invariant.same c.in_ok-n.ensures.effect.frame
+
+pub returns-in_err-n-clause-refused : goal.returns-in_err-n-clause-refused
+returns-in_err-n-clause-refused g c =
+    let p = err_from_is_err_and c.from_residual.result c.from_residual.ensures.1 in
+    let inv = c.loop-pager.invariant in
+    let more = c.loop-pager-test.true in
+    rw (p.1, p.2) (add_fault c.args.levels c.args.chain.now.items c.args.pager.now.store c.in_err-n.field-0.0
+    (λ e. ap (λ (s : StoreFacts). s.can_fail) (sym inv.same) ∙ c.in_err-n.ensures.effect.device (ap (λ (f : StoreFault). Err f) e))
+    (λ e. let full = c.in_err-n.ensures.full (ap (λ (f : StoreFault). Err f) e) in let pages = inv.pages in let least = inv.least in let len = c.len.ensures in omega arith)
+    (λ e. c.in_err-n.ensures.no_page (ap (λ (f : StoreFault). Err f) e)))

@@ -1,7 +1,6 @@
-use Rattle.std.proofs.Common.{ℕ, subst, ◌≡◌, ◌≢◌, ◌≤◌, None, Some, length, ap, ◌∙◌, arith}
+use Rattle.std.proofs.Common.{ℕ, subst, ◌≡◌, ◌≢◌, ◌≤◌, None, Some, length, ap, ◌∙◌, arith, inr}
 use Rattle.std.proofs.lemmas.Result.{err_from_is_err_and}
 use Rattle.csv.specs.Records.{fields_of}
-use Rattle.ub_store.specs.Facts.{StoreFacts}
 use Rattle.ub_tree.specs.Change.{IsInserted}
 use Rattle.ub_load.specs.LoadedTable.{row_of}
 use Rattle.ub_load.specs.Refusals.{content_refusal}
@@ -20,8 +19,8 @@ returns-in_err-row-clause-refused g c =
     let width : length c.columns-width.result.now ≡ length s.columns = ap length (c.columns-width.ensures.columns ∙ ap (λ (t : Schema). t.columns) c.schema-2.ensures) in
     let bad : content_refusal s.dims (length s.columns) (c.args.number, fields_of c.args.fields.now) ≡ Some c.in_err-row.field-0.0 = rw (dims, width) at c.in_err-row.ensures.refused in
     rw (p.1, p.2)
-    (told_first _ _ _ c.in_err-row.field-0.0 (content_is_of_text s.dims (length s.columns) (c.args.number, fields_of c.args.fields.now) c.in_err-row.field-0.0 bad)
-    (record_with_bad_content s.dims (length s.columns) (c.args.number, fields_of c.args.fields.now) c.in_err-row.field-0.0 bad))
+    (inr (told_first _ _ _ c.in_err-row.field-0.0 (content_is_of_text s.dims (length s.columns) (c.args.number, fields_of c.args.fields.now) c.in_err-row.field-0.0 bad)
+    (record_with_bad_content s.dims (length s.columns) (c.args.number, fields_of c.args.fields.now) c.in_err-row.field-0.0 bad)))
 
 pub put_row-requires-clause-values : goal.put_row-requires-clause-values
 put_row-requires-clause-values g c =
@@ -70,5 +69,6 @@ returns-clause-taken g c =
       schema = kept.0;
       trace = kept.1;
       working = effect.done.0 ∙ c.requires.working;
-      can_fail = ap (λ (f : StoreFacts). f.can_fail) effect.done.1;
+      store_is = effect.done.1;
+      grown = c.in_ok-put_row.ensures.grown;
     }

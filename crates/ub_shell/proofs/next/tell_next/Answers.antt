@@ -1,6 +1,6 @@
 use Rattle.std.proofs.Common.{Err, rules}
-use Rattle.ub_shell.specs.Next.{answer_text}
-use Rattle.ub_shell.specs.declared.next.NextFault.TheVariants.{Memory}
+use Rattle.ub_next.specs.Next.{answer_text}
+use Rattle.ub_next.specs.declared.next.NextFault.TheVariants.{Memory}
 use Rattle.ub_shell.proofs.next.tell_next.Goals as goal
 
 pub returns-in-Err : goal.returns-in-Err

@@ -23,8 +23,8 @@ returns-clause-first g c =
 pub returns-clause-refused : goal.returns-clause-refused
 returns-clause-refused g c =
     let t = c.self.inside in
-    rw (c.into_store-in-Err.ensures, c.from.ensures, ← c.self.view_is)
-    (close_refused t.schema t.directory.entries t.directory.chain t.next t.rows (is_written t.mark) t.is_failed t.pager c.write_table.new.pager.store c.in-Err.fault c.in-Err.ensures.refused)
+    rw (c.from.ensures, ← c.self.view_is)
+    (close_refused t.schema t.directory.entries t.directory.chain t.next t.rows (is_written t.mark) t.is_failed t.pager c.in-Err.fault c.in-Err.ensures.refused)
 
 pub returns-in-Ok-clause-unchanged : goal.returns-in-Ok-clause-unchanged
 returns-in-Ok-clause-unchanged g c = search rules

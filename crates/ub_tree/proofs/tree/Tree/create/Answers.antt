@@ -10,5 +10,5 @@ returns-in-Ok-lay_out-clause-made g c =
     let trace = c.in-Ok-lay_out.ensures.trace in
     rw (c.copy.ensures, c.in-Ok-lay_out.ensures.directory)
     (created facts c.args.schema.now c.lay_out.new.pager (c.in-Ok-lay_out.ensures.left ∙ ap (λ (p : PagerView). record p.store { pages = c.lay_out.new.pager.store.pages; synced = c.lay_out.new.pager.store.synced }) made)
-    (trace ∙ ap (λ (p : PagerView). p.trace) made)
+    (trace ∙ ap (λ (p : PagerView). p.trace) made) c.in-Ok-lay_out.ensures.count
     (λ honest. c.in-Ok-lay_out.ensures.pages (ap (λ (p : PagerView). p.store.honest) made ∙ honest)))

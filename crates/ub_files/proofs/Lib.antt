@@ -1,0 +1,2 @@
+pub mod CopyFacts
+pub mod MemoryFacts

@@ -1,0 +1,93 @@
+-- Files in memory: where a path's file stands, and what the others hold after it was exchanged.
+use Rattle.std.proofs.Common.{◌≡◌, ◌≢◌, ◌<◌, ℕ, zero, suc, List, [], ◌∷◌, ◌++◌, length, Option, Some, None, true, false, cond, refl, sym, ap, ◌∙◌, arith, inl, inr, set, get_or, string_bytes}
+use Rattle.std.proofs.lemmas.Bool.{cases_Bool}
+use Rattle.std.proofs.lemmas.Slice.Eq.{bytes_eq-Decides}
+use Rattle.std.specs.Option.{option_map}
+use Rattle.std.specs.Str.{bytes_eq}
+use Rattle.ub_files.specs.Files.{Held, absent}
+use Rattle.ub_files.specs.Memory.{held_in, place_in, told, IsSetTo}
+use Rattle.ub_files.specs.declared.memory.Entry.{Entry}
+use Rattle.ub_files.specs.declared.memory.MemFile.{MemFile}
+use Rattle.ub_files.specs.declared.memory.MemFile.TheVariants.{Text, Table, Lent}
+
+no_later : (o : Option ℕ) → option_map suc o ≡ None → o ≡ None
+no_later None h = refl
+no_later (Some i) h = cc
+
+-- a path that has no place holds nothing
+pub held_none : (es : List Entry) (path : List ℕ) → place_in es path ≡ None → held_in es path ≡ absent
+held_none [] path h = refl
+held_none (e ∷ es) path h = elim (cases_Bool (bytes_eq (string_bytes e.name) path)) [
+  | inl t ↦ let h' = rw t at h in cc
+  | inr n ↦ rw n (held_none es path (no_later (place_in es path) (rw n at h)))
+]
+
+-- what holds of a place that was found, in the list from there on
+by_place : (P : ℕ → Type 0) (o : Option ℕ) (i : ℕ) → option_map suc o ≡ Some i → ((j : ℕ) → o ≡ Some j → P (suc j)) → P i
+by_place P None i h k = cc
+by_place P (Some j) i h k = let same : suc j ≡ i = cc in rw same at (k j refl)
+
+-- the file at the place of a path is what the path holds
+pub held_place : (es : List Entry) (path : List ℕ) (i : ℕ) (d : Entry) → place_in es path ≡ Some i
+    → (i < length es) × (held_in es path ≡ told (get_or es i d).file)
+held_place [] path i d h = cc
+held_place (e ∷ es) path i d h = elim (cases_Bool (bytes_eq (string_bytes e.name) path)) [
+  | inl t ↦ let first : 0 ≡ i = let h' = rw t at h in cc in rw (← first, t) (omega arith, refl)
+  | inr n ↦ rw n (by_place (λ (j : ℕ). (j < length (e ∷ es)) × (held_in es path ≡ told (get_or (e ∷ es) j d).file)) (place_in es path) i (rw n at h)
+      (λ j found. let rest = held_place es path j d found in let within = rest.0 in (omega arith, rest.1)))
+]
+
+-- a name that is one path is no other one
+no_other : (name path other : List ℕ) → bytes_eq name path ≡ true → other ≢ path → bytes_eq name other ≡ false
+no_other name path other is ne = elim (cases_Bool (bytes_eq name other)) [
+  | inl t ↦ absurd (ne (sym ((bytes_eq-Decides name other).0 t) ∙ (bytes_eq-Decides name path).0 is))
+  | inr n ↦ n
+]
+
+set_first : (f e : Entry) (es : List Entry) (path : List ℕ) → bytes_eq (string_bytes f.name) path ≡ true → e.name ≡ f.name
+    → IsSetTo path (told e.file) (f ∷ es) (e ∷ es)
+set_first f e es path is same =
+    let named : bytes_eq (string_bytes e.name) path ≡ true = rw same is in (
+      rw named refl,
+      λ other ne.
+          let old : bytes_eq (string_bytes f.name) other ≡ false = no_other (string_bytes f.name) path other is ne in
+          let new : bytes_eq (string_bytes e.name) other ≡ false = rw same old in
+          rw (old, new) refl,
+    )
+
+set_later : (f : Entry) (es new : List Entry) (path : List ℕ) (held : Held) → bytes_eq (string_bytes f.name) path ≡ false
+    → IsSetTo path held es new → IsSetTo path held (f ∷ es) (f ∷ new)
+set_later f es new path held is h =
+    (rw is h.0, λ other ne. ap (λ (x : Held). cond (bytes_eq (string_bytes f.name) other) (told f.file) x) (h.1 other ne))
+
+-- where another file stands at the place of a path, that path holds it, and the others what they did
+pub held_set : (es : List Entry) (path : List ℕ) (i : ℕ) (d e : Entry) → place_in es path ≡ Some i → e.name ≡ (get_or es i d).name
+    → IsSetTo path (told e.file) es (set es i e)
+held_set [] path i d e h same = cc
+held_set (f ∷ es) path i d e h same = elim (cases_Bool (bytes_eq (string_bytes f.name) path)) [
+  | inl t ↦ first i (let h' = rw t at h in cc) t same
+  | inr n ↦ by_place (λ (j : ℕ). e.name ≡ (get_or (f ∷ es) j d).name → IsSetTo path (told e.file) (f ∷ es) (set (f ∷ es) j e))
+      (place_in es path) i (rw n at h)
+      (λ j found named. set_later f es (set es j e) path (told e.file) n (held_set es path j d e found named)) same
+]
+  where
+    first : (j : ℕ) → 0 ≡ j → bytes_eq (string_bytes f.name) path ≡ true → e.name ≡ (get_or (f ∷ es) j d).name
+        → IsSetTo path (told e.file) (f ∷ es) (set (f ∷ es) j e)
+    first zero z t named = set_first f e es path t named
+    first (suc j) z t named = cc
+
+there : (file : MemFile) → told file ≢ absent
+there (Text text) h = cc
+there (Table store) h = cc
+there Lent h = cc
+
+-- where a file is put behind all others at a path that held nothing, that path holds it, and the others what they did
+pub held_push : (es : List Entry) (path : List ℕ) (e : Entry) → held_in es path ≡ absent → string_bytes e.name ≡ path
+    → IsSetTo path (told e.file) es (es ++ e ∷ [])
+held_push [] path e h same =
+    let named : bytes_eq (string_bytes e.name) path ≡ true = (bytes_eq-Decides (string_bytes e.name) path).1 same in
+    (rw named refl, λ other ne. rw (no_other (string_bytes e.name) path other named ne) refl)
+held_push (f ∷ es) path e h same = elim (cases_Bool (bytes_eq (string_bytes f.name) path)) [
+  | inl t ↦ absurd (there f.file (rw t at h))
+  | inr n ↦ set_later f es (es ++ e ∷ []) path (told e.file) n (held_push es path e (rw n at h) same)
+]

@@ -1,0 +1,4 @@
+pub mod Files
+pub mod Host
+pub mod Copying
+pub mod Memory
