@@ -6,13 +6,13 @@ use Rattle.ub_tree.specs.Placed.{Placed, regions_in}
 use Rattle.ub_tree.specs.View.{TreeView, regions}
 use Rattle.ub_script.specs.Faults.{IsGiven, Runs, counted}
 use Rattle.ub_region.specs.Regions.{AreTableRows}
-use Rattle.ub_script.specs.Run.{IsTableOf}
+use Rattle.ub_script.specs.Basis.{Basis, on_table, over_any, IsBasisOf, IsTableOf}
 use Rattle.ub_script.specs.declared.fault.RunFault.{RunFault}
 use Rattle.ub_script.specs.declared.fault.RunFault.TheVariants as run
 use Rattle.ub_table.specs.Table.{Table}
 
 -- the table of a tree is still that of the tree
-pub table_kept : (a b : TreeView) (table : Table) → Keeps a b → IsTableOf a table → IsTableOf b table
+table_kept : (a b : TreeView) (table : Table) → Keeps a b → IsTableOf a table → IsTableOf b table
 table_kept a b table h is = record {
   sound = h.sound is.sound;
   schema_is = is.schema_is ∙ sym h.regions.schema;
@@ -35,5 +35,10 @@ runs_by {T = T} (Err f) e a b c is h runs = rw is (record {
 })
 
 -- the regions of such a tree
-pub regions_kept : (a b : TreeView) → Keeps a b → regions b ≡ regions a
+regions_kept : (a b : TreeView) → Keeps a b → regions b ≡ regions a
 regions_kept a b h = ap (λ (t : TreeView). regions t) h.traced
+
+-- what replies over a tree rest on is kept
+pub basis_kept : (a b : TreeView) (basis : Basis) → Keeps a b → IsBasisOf a basis → IsBasisOf b basis
+basis_kept a b (on_table table in_regions) h is = (table_kept a b table h is.0, is.1 ∙ sym (regions_kept a b h))
+basis_kept a b (over_any seen) h is = h.traced ∙ ap (λ (t : TreeView). record t { trace = b.trace }) is

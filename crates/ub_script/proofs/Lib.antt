@@ -4,6 +4,7 @@ pub mod QueryFacts
 pub mod KeptFacts
 pub mod LoadedFacts
 pub mod RowsFacts
+pub mod FormedFacts
 pub mod RunFacts
 pub mod StartFacts
 pub mod Laws

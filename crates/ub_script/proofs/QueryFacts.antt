@@ -1,17 +1,20 @@
 -- How the reply to a statement says what its outcome is.
-use Rattle.std.proofs.Common.{◌≡◌, ◌≢◌, ◌⊎◌, ◌∙◌, inl, inr, Ok, Err, ℕ, Bool, true, List, refl, sym, ap, subst}
+use Rattle.std.proofs.Common.{◌≡◌, ◌≢◌, ◌⊎◌, ◌∙◌, inl, inr, Result, Ok, Err, IfErr, ℕ, Bool, true, List, refl, sym, ap, subst}
+use Rattle.std.specs.Prelude.{OnErr}
 use Rattle.ub_lexer.specs.declared.token.Token.{Token}
 use Rattle.ub_parser.specs.Outcome.{Told, IsAccepted}
 use Rattle.ub_parser.specs.Refusals.{IsFirstFault}
 use Rattle.ub_parser.specs.declared.fault.SqlFault.{SqlFault}
 use Rattle.ub_parser.specs.declared.fault.SqlFault.TheVariants.{Memory}
-use Rattle.ub_script.specs.Loop.{Makes}
-use Rattle.ub_script.specs.Run.{IsAnswer}
+use Rattle.ub_script.specs.Basis.{Basis, on_table, over_any, schema_of, AreSomeOf, IsBasisOf, IsReply}
+use Rattle.ub_script.specs.Loop.{Fetches, Makes}
+use Rattle.ub_script.specs.Run.{IsAnswer, IsEnded}
 use Rattle.ub_script.specs.Script.{IsOutcome, IsTheOutcome, Outcome}
-use Rattle.ub_script.specs.Text.{IsReply, Reply, refused_text, reply}
-use Rattle.ub_table.specs.Region.{Region}
-use Rattle.ub_table.specs.Table.{Table}
+use Rattle.ub_script.specs.Text.{refused_text}
+use Rattle.ub_script.specs.declared.fault.RunFault.{RunFault}
+use Rattle.ub_script.specs.declared.fault.RunFault.TheVariants as run
 use Rattle.ub_table.specs.declared.schema.Schema.{Schema}
+use Rattle.ub_tree.specs.View.{TreeView}
 
 module _ (schema : Schema) (source : List ℕ) (tokens : List Token) where
   -- what is accepted and asks nothing else is told nothing else
@@ -36,37 +39,49 @@ module _ (schema : Schema) (source : List ℕ) (tokens : List Token) where
       only other (inl (f, is, e)) = e ∙ ap (λ (g : SqlFault). Err g) (one f (same f is))
       only other (inr (u, is, e)) = absurd (differs (none u is))
 
--- a reply to what an accepted statement asks is its answer
-pub accepted_one : (table : Table) (regions : List Region) (source : List ℕ) (tokens : List Token) (schema : Schema) (t : Told) (r : Reply) → schema ≡ table.schema
-    → IsAccepted source schema tokens t → ((u : Told) → IsAccepted source schema tokens u → t ≡ u) → IsReply table regions (Ok t) r → IsAnswer table regions source tokens r
-accepted_one table regions source tokens schema t r same accepted only is = record {
-  outcome = Ok t;
-  heard = subst (λ (s : Schema). IsTheOutcome s source tokens (Ok t)) same (accepted_outcome schema source tokens t accepted only);
-  reply_is = is;
-}
+module _ (basis : Basis) (source : List ℕ) (tokens : List Token) (schema : Schema) (same : schema ≡ schema_of basis) where
+  module _ (t : Told) (accepted : IsAccepted source schema tokens t) (only : (u : Told) → IsAccepted source schema tokens u → t ≡ u) where
+    heard_so : IsTheOutcome (schema_of basis) source tokens (Ok t)
+    heard_so = subst (λ (s : Schema). IsTheOutcome s source tokens (Ok t)) same (accepted_outcome schema source tokens t accepted only)
 
--- what is made of an accepted statement answers it
-pub accepted_answer : (table : Table) (regions : List Region) (source : List ℕ) (tokens : List Token) (schema : Schema) (t : Told) (text : List ℕ) (is_refused : Bool) (before after : ℕ)
-    → schema ≡ table.schema → IsAccepted source schema tokens t → ((u : Told) → IsAccepted source schema tokens u → t ≡ u)
-    → Makes (IsReply table regions (Ok t)) text is_refused before after → Makes (IsAnswer table regions source tokens) text is_refused before after
-accepted_answer table regions source tokens schema t text is_refused before after same accepted only (pages, is, fetched) = (
-  pages,
-  accepted_one table regions source tokens schema t (reply text pages is_refused) same accepted only is,
-  fetched,
-)
+    -- what is made of an accepted statement answers it
+    pub accepted_answer : (text : List ℕ) (is_refused : Bool) (before after : ℕ) → Makes (IsReply basis (Ok t)) text is_refused before after
+        → Makes (IsAnswer basis source tokens) text is_refused before after
+    accepted_answer text is_refused before after (pages, is, fetched) = (pages, record { outcome = Ok t; heard = heard_so; reply_is = is }, fetched)
 
--- a refusal answers a statement that is refused
-pub refused_answer : (table : Table) (regions : List Region) (source : List ℕ) (tokens : List Token) (schema : Schema) (fault : SqlFault) (text : List ℕ) (is_refused : Bool) (fetches : ℕ)
-    → schema ≡ table.schema → (fault ≡ Memory) ⊎ IsFirstFault source schema tokens fault → ((u : Told) → IsAccepted source schema tokens u → fault ≡ Memory)
-    → ((f : SqlFault) → IsFirstFault source schema tokens f → (fault ≡ Memory) ⊎ (fault ≡ f))
-    → (text ≡ refused_text fault) × (is_refused ≡ true) × (fault ≢ Memory) → Makes (IsAnswer table regions source tokens) text is_refused fetches fetches
-refused_answer table regions source tokens schema fault text is_refused fetches same (inl memory) none only is = absurd (is.2 memory)
-refused_answer table regions source tokens schema fault text is_refused fetches same (inr first) none only is = (
-  0,
-  record {
-    outcome = Err fault;
-    heard = subst (λ (s : Schema). IsTheOutcome s source tokens (Err fault)) same (refused_outcome schema source tokens fault is.2 first none only);
-    reply_is = rw (is.0, is.1) refl;
-  },
-  refl,
-)
+    -- where no reply is made of it, it is unanswered
+    pub accepted_ended : (fault : RunFault) (before after : ℕ) → Fetches (AreSomeOf t.is_explained basis t.asked) before after
+        → Fetches (IsEnded basis source tokens fault) before after
+    accepted_ended fault before after (pages, some, fetched) = (pages, inr (record { told = t; heard = heard_so; some = some }), fetched)
+
+  -- a refusal answers a statement that is refused
+  pub refused_answer : (fault : SqlFault) (text : List ℕ) (is_refused : Bool) (fetches : ℕ)
+      → (fault ≡ Memory) ⊎ IsFirstFault source schema tokens fault → ((u : Told) → IsAccepted source schema tokens u → fault ≡ Memory)
+      → ((f : SqlFault) → IsFirstFault source schema tokens f → (fault ≡ Memory) ⊎ (fault ≡ f))
+      → (text ≡ refused_text fault) × (is_refused ≡ true) × (fault ≢ Memory) → Makes (IsAnswer basis source tokens) text is_refused fetches fetches
+  refused_answer fault text is_refused fetches (inl memory) none only is = absurd (is.2 memory)
+  refused_answer fault text is_refused fetches (inr first) none only is = (
+    0,
+    record {
+      outcome = Err fault;
+      heard = subst (λ (s : Schema). IsTheOutcome s source tokens (Err fault)) same (refused_outcome schema source tokens fault is.2 first none only);
+      reply_is = rw (is.0, is.1) refl;
+    },
+    refl,
+  )
+
+-- the schema of a tree is that of what its replies rest on
+pub schema_of_basis : (t : TreeView) (basis : Basis) → IsBasisOf t basis → t.schema ≡ schema_of basis
+schema_of_basis t (on_table table in_regions) is = sym is.0.schema_is
+schema_of_basis t (over_any seen) is = ap (λ (u : TreeView). u.schema) is
+
+-- what follows from what holds of the fault holds of the fault, where the fault is handed on
+pub if_ended : {T : Type 0} (r : Result T RunFault) (P : Type 0) (Q : RunFault → Type 0) → ((e : RunFault) → P → Q e) → OnErr r P → IfErr r Q
+if_ended (Ok x) P Q f h = tt
+if_ended (Err e) P Q f h = f e h
+
+-- want of memory before any page
+pub memory_ended : {T : Type 0} (r : Result T RunFault) (basis : Basis) (source : List ℕ) (tokens : List Token) (fetches : ℕ) → IfErr r (λ e. e ≡ run.Memory)
+    → IfErr r (λ fault. Fetches (IsEnded basis source tokens fault) fetches fetches)
+memory_ended (Ok x) basis source tokens fetches h = tt
+memory_ended (Err e) basis source tokens fetches h = (0, inl (h, refl), refl)

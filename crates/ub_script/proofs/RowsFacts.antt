@@ -11,7 +11,7 @@ use Rattle.ub_planning.specs.Plan.{PlanView, plan_of}
 use Rattle.ub_planning.specs.Visits.{Span, AreVisits}
 use Rattle.ub_load.specs.LoadedTree.{IsLoadedTree}
 use Rattle.ub_script.specs.declared.fault.RunFault.{RunFault}
-use Rattle.ub_script.specs.declared.fault.RunFault.TheVariants.{Write}
+use Rattle.ub_script.specs.declared.fault.RunFault.TheVariants.{Memory, Write}
 use Rattle.ub_script.specs.declared.script.Summary.{Summary}
 use Rattle.ub_tree.specs.View.{TreeView, IsSound, regions}
 use Rattle.ub_tree.specs.Placed.{Placed}
@@ -21,9 +21,10 @@ use Rattle.ub_query.specs.declared.cell.Cell.{Cell}
 use Rattle.std.proofs.lemmas.List.{length-map}
 use Rattle.ub_region.specs.Regions.{rows_of}
 use Rattle.ub_script.specs.Loop.{Makes}
-use Rattle.ub_script.specs.Run.{IsTableOf, FirstOver, FirstOn, FirstIn, IsWhole, IsStopped, IsCutOff, Ran, IsDone, IsBegun, IsBroken}
+use Rattle.ub_script.specs.Basis.{Basis, on_table, IsBasisOf, IsTableOf}
+use Rattle.ub_script.specs.Run.{EndedIn, EndedOver, FirstOver, FirstIn, IsUnbegun, IsWhole, IsStopped, IsCutOff, Ran, IsDone, IsBegun, IsBroken}
 use Rattle.ub_script.specs.Output.{OutFacts, Takes}
-use Rattle.ub_script.specs.Text.{ArePages, Reply, IsAskedReply, answer_text}
+use Rattle.ub_script.specs.Text.{ArePages, Reply, IsTableReply, answer_text}
 use Rattle.ub_table.specs.Region.{Region}
 use Rattle.ub_table.specs.Table.{Table, IsInOrder}
 use Rattle.ub_table.specs.declared.row.Row.{Row}
@@ -207,7 +208,7 @@ pages_of p old new h =
 -- what carrying out the plan of a query answers is the reply to the query
 pub reply_of_plan : (old new : TreeView) (table : Table) (schema : Schema) (fetched : ℕ) (p : PlanView) (q : Asked) (cells : List (List Cell)) (text : List ℕ)
     → IsTableOf old table → schema ≡ old.schema → fetched ≡ length new.trace.pages → p ≡ plan_of old.schema q → IsPlanAnswer old p.asked cells
-    → IsFetchedBy p (begun old) new → text ≡ answer_text schema q cells fetched → Makes (IsAskedReply false table (regions old) q) text false old.trace.fetches new.trace.fetches
+    → IsFetchedBy p (begun old) new → text ≡ answer_text schema q cells fetched → Makes (IsTableReply false table (regions old) q) text false old.trace.fetches new.trace.fetches
 reply_of_plan old new table schema fetched p q cells text is schema_is noted planned answer by e =
     let pages : fetched ≡ length by.visits = noted ∙ pages_of p old new by in (
       fetched,
@@ -227,7 +228,7 @@ reply_of_plan old new table schema fetched p q cells text is schema_is noted pla
 
 -- how the plan of a query reads the tree's regions is the reply to an EXPLAIN of it
 pub reply_of_explain : (t : TreeView) (table : Table) (p : PlanView) (q : Asked) (text : List ℕ) (after : ℕ) → IsTableOf t table → p ≡ plan_of t.schema q → after ≡ t.trace.fetches
-    → IsExplained t.schema p (regions t) text → Makes (IsAskedReply true table (regions t) q) text false t.trace.fetches after
+    → IsExplained t.schema p (regions t) text → Makes (IsTableReply true table (regions t) q) text false t.trace.fetches after
 reply_of_explain t table p q text after is planned kept explained = (
   0,
   record {
@@ -247,45 +248,46 @@ ready_of t p q sound planned = record {
 
 -- what was run on the tree that a CSV text is loaded into was run on the text's table
 module _ (text : List ℕ) (dims page_rows : ℕ) (name : List ℕ) (t : TreeView) (loaded : IsLoadedTree text dims page_rows name t) (script : List ℕ) where
-  table : Table
-  table = record { schema = t.schema; rows = loaded.rows }
+  pub loaded_table : Basis
+  loaded_table = on_table (record { schema = t.schema; rows = loaded.rows }) (regions t)
 
-  table_is : IsTableOf t table
-  unfolding table
-  table_is = record { sound = loaded.sound; schema_is = refl; rows_are = loaded.table }
+  pub loaded_is : IsBasisOf t loaded_table
+  unfolding loaded_table
+  loaded_is = (record { sound = loaded.sound; schema_is = refl; rows_are = loaded.table }, refl)
 
-  pub loaded_first : (replies : List Reply) (left : ℕ) → FirstOn t script replies left → FirstIn text dims page_rows name script replies left
-  unfolding table
-  loaded_first replies left (found, is, first) = (
-    table,
+  loaded_first : (replies : List Reply) (left : ℕ) → FirstOver loaded_table script replies left → FirstIn text dims page_rows name script replies left
+  unfolding loaded_table
+  loaded_first replies left first = (
+    record { schema = t.schema; rows = loaded.rows },
     loaded.loaded,
-    subst (λ (rs : List Region). FirstOver table rs script replies left) loaded.regions_are
-        (subst (λ (of_table : Table). FirstOver of_table (regions t) script replies left) (rows_alike t found table is table_is) first),
+    subst (λ (rs : List Region). FirstOver (on_table (record { schema = t.schema; rows = loaded.rows }) rs) script replies left) loaded.regions_are first,
   )
 
-  pub loaded_done : (s : Summary) (old new : OutFacts) (before after : ℕ) → Ran (IsWhole (FirstOn t script) s) false old new before after
+  loaded_ended : (fault : RunFault) (replies : List Reply) (left pages : ℕ) → EndedOver loaded_table script fault replies left pages
+      → EndedIn text dims page_rows name script fault replies left pages
+  unfolding loaded_table
+  loaded_ended fault replies left pages ended = (
+    record { schema = t.schema; rows = loaded.rows },
+    loaded.loaded,
+    subst (λ (rs : List Region). EndedOver (on_table (record { schema = t.schema; rows = loaded.rows }) rs) script fault replies left pages) loaded.regions_are ended,
+  )
+
+  pub loaded_done : (s : Summary) (old new : OutFacts) (before after : ℕ) → Ran (IsWhole (FirstOver loaded_table script) s) false old new before after
       → Takes (IsDone text dims page_rows name script s) false old new
   loaded_done s old new before after (bytes, pages, (replies, first, is, sum, counts), taken, fetched) =
       (bytes, (pages, (replies, loaded_first replies 0 first, is, sum, counts)), taken)
 
-  loaded_begun : (old new : OutFacts) (before after : ℕ) → Ran (IsStopped (FirstOn t script)) false old new before after
-      → Takes (IsBegun text dims page_rows name script) false old new
-  loaded_begun old new before after (bytes, pages, (replies, left, more, first, is, sum, some), taken, fetched) = (
-    bytes,
-    (pages, (replies, left, more, loaded_first replies (suc left) first, is, sum, λ any. let (r, next, few) = some any in (r, loaded_first (replies ++ r ∷ []) left next, few))),
-    taken,
-  )
-
-  pub loaded_broken : (old new : OutFacts) (before after : ℕ) → Ran (IsCutOff (FirstOn t script)) true old new before after
+  pub loaded_broken : (old new : OutFacts) (before after : ℕ) → Ran (IsCutOff (FirstOver loaded_table script)) true old new before after
       → Takes (IsBroken text dims page_rows name script) true old new
   loaded_broken old new before after (bytes, pages, (replies, next, left, front, first, cut, is, sum), taken, fetched) =
       (bytes, (pages, (replies, next, left, front, loaded_first (replies ++ next ∷ []) left first, cut, is, sum)), taken)
 
-  -- a run that stopped for another reason than a failed write
-  pub loaded_stopped : (old new : OutFacts) (before after : ℕ) (r : Result Summary RunFault) (fault : RunFault) → r ≡ Err fault → fault ≢ Write
-      → IfErr r (λ e. e ≢ Write → ((new ≡ old) × (after ≡ before)) ⊎ Ran (IsStopped (FirstOn t script)) false old new before after)
+  -- a run for which memory was refused
+  pub loaded_stopped : (old new : OutFacts) (now : TreeView) (before after : ℕ) (r : Result Summary RunFault) → r ≡ Err Memory
+      → IfErr r (λ e. e ≢ Write → IsUnbegun t now e old new ⊎ Ran (IsStopped (EndedOver loaded_table script e)) false old new before after)
       → (new ≡ old) ⊎ Takes (IsBegun text dims page_rows name script) false old new
-  loaded_stopped old new before after r fault same differs h = elim (rw same at h differs) [
-    | inl kept ↦ inl kept.0
-    | inr begun ↦ inr (loaded_begun old new before after begun)
+  loaded_stopped old new now before after r same h = elim (rw same at h (λ e. cc)) [
+    | inl kept ↦ inl kept.2
+    | inr (bytes, pages, (replies, left, more, ended, is, sum), taken, fetched) ↦
+        inr (bytes, (pages, (replies, left, more, loaded_ended Memory replies left more ended, is, sum)), taken)
   ]

@@ -1,5 +1,5 @@
 -- How a run grows by one statement, and what a run of all statements is.
-use Rattle.std.proofs.Common.{◌≡◌, ◌≢◌, ◌<◌, ◌+◌, ◌-◌, subst, ℕ, zero, suc, Bool, false, true, cond, List, [], ◌∷◌, ◌++◌, length, take, All, slice_range, slice_index_or, Result, refl, sym, ap, ◌∙◌, zero-add, IfOk, IfErr, Ok, Err, arith}
+use Rattle.std.proofs.Common.{◌≡◌, ◌≢◌, ◌<◌, ◌+◌, ◌-◌, subst, ℕ, zero, suc, Bool, false, true, cond, List, [], ◌∷◌, ◌++◌, length, take, All, Some, slice_get, slice_range, slice_index_or, Result, refl, sym, ap, ◌∙◌, zero-add, IfOk, IfErr, IsErrOf, Ok, Err, inl, inr, arith}
 use Rattle.std.proofs.lemmas.List.{flat_map_more, length-append, take_more}
 use Rattle.std.proofs.lemmas.List.Elements.{All-contains_itself}
 use Rattle.std.proofs.lemmas.List.Sums.{sum_by_push}
@@ -8,18 +8,17 @@ use Rattle.ub_exec.specs.Visits.{fetches_then}
 use Rattle.ub_lexer.specs.Statements.{AreStatements}
 use Rattle.ub_lexer.specs.Tokens.{AreTokens}
 use Rattle.ub_lexer.specs.declared.token.Token.{Token}
-use Rattle.ub_script.specs.Faults.{failures_after}
-use Rattle.ub_script.specs.Loop.{IsAnswerAt, IsCutAt, Starts}
+use Rattle.ub_script.specs.Basis.{Basis}
+use Rattle.ub_script.specs.Faults.{Runs, failures_after}
+use Rattle.ub_script.specs.Loop.{Fetches, IsAnswerAt, IsCutAt, OnEach}
 use Rattle.ub_script.specs.Output.{OutFacts, Breaks, Puts}
-use Rattle.ub_script.specs.Run.{IsRange, IsAnswer, AreAnswers, FirstAt, FirstOn, IsTableOf, IsWhole, IsStopped, IsCutOff, Ran}
+use Rattle.ub_script.specs.Run.{EndedAt, EndedOver, IsEnded, IsRange, IsAnswer, AreAnswers, FirstAt, FirstOver, IsWhole, IsStopped, IsCutOff, IsRun, Ran}
 use Rattle.ub_script.specs.Text.{Reply, reply, texts_of, pages_of, refused_in}
 use Rattle.ub_script.specs.declared.fault.RunFault.{RunFault}
-use Rattle.ub_script.specs.declared.fault.RunFault.TheVariants.{Write}
+use Rattle.ub_script.specs.declared.fault.RunFault.TheVariants.{Memory, Write}
 use Rattle.ub_script.specs.declared.script.Summary.{Summary}
 use Rattle.ub_script.proofs.HeldFacts.{Puts-none, Puts-more}
-use Rattle.ub_table.specs.Region.{Region}
-use Rattle.ub_table.specs.Table.{Table}
-use Rattle.ub_tree.specs.View.{TreeView, regions}
+use Rattle.ub_tree.specs.View.{TreeView}
 
 -- the ranges of statements are ranges of the tokens
 pub All-ranges : (tokens : List Token) (ranges : List (ℕ × ℕ)) → AreStatements tokens ranges → All (λ range. IsRange tokens range) ranges
@@ -33,46 +32,48 @@ fetches_add fetches (suc a) zero = let same : suc a + 0 ≡ suc a = omega arith 
 fetches_add fetches (suc a) (suc b) = let same : suc a + suc b ≡ suc (a + suc b) = omega arith in rw same (omega arith)
 
 -- a front of the answer's text was taken
-pub answer_front : (table : Table) (regions : List Region) (source : List ℕ) (tokens : List Token) (range : ℕ × ℕ) (text bytes : List ℕ) (is_refused : Bool) (a b : OutFacts) (f n pages : ℕ)
-    → IsAnswer table regions source (slice_range tokens range.0 range.1) (reply text pages is_refused) → n ≡ fetches_then f pages → bytes ≡ text → Breaks bytes a b
-    → Ran (IsCutAt table regions source tokens range) true a b f n
-answer_front table regions source tokens range text bytes is_refused a b f n pages answer fetched same (front, cut, taken) =
+pub answer_front : (basis : Basis) (source : List ℕ) (tokens : List Token) (range : ℕ × ℕ) (text bytes : List ℕ) (is_refused : Bool) (a b : OutFacts) (f n pages : ℕ)
+    → IsAnswer basis source (slice_range tokens range.0 range.1) (reply text pages is_refused) → n ≡ fetches_then f pages → bytes ≡ text → Breaks bytes a b
+    → Ran (IsCutAt basis source tokens range) true a b f n
+answer_front basis source tokens range text bytes is_refused a b f n pages answer fetched same (front, cut, taken) =
     (front, pages, (reply text pages is_refused, answer, rw same at cut, refl), taken, fetched)
 
--- a refusal that is another one's in another type, where what follows from it follows from that
-pub other_err : {T : Type 0} (r : Result T RunFault) (fault : RunFault) (X : Type 0) → IsErrAnd r (λ e. e ≡ fault) → (fault ≢ Write → X) → IfErr r (λ e. e ≢ Write → X)
+-- a fault that is another one's in another type, where what follows from it follows from that
+pub other_err : {T : Type 0} (r : Result T RunFault) (fault : RunFault) (X : RunFault → Type 0) → IsErrAnd r (λ e. e ≡ fault) → (fault ≢ Write → X fault) → IfErr r (λ e. e ≢ Write → X e)
 other_err (Ok x) fault X h f = absurd h
-other_err (Err e) fault X h f = λ differs. f (subst (λ (e' : RunFault). e' ≢ Write) h differs)
+other_err (Err e) fault X h f = subst (λ (e' : RunFault). e' ≢ Write → X e') (sym h) f
 
-pub always_err : {T : Type 0} (r : Result T RunFault) (X : Type 0) → X → IfErr r (λ e. e ≢ Write → X)
-always_err (Ok x) X is = tt
-always_err (Err e) X is = λ differs. is
+-- an element that is there
+there : {X : Type 0} (xs : List X) (i : ℕ) (d : X) → i < length xs → slice_get xs i ≡ Some (slice_index_or xs i d)
+there [] i d lt = absurd (omega arith)
+there (x ∷ xs) zero d lt = refl
+there (x ∷ xs) (suc i) d lt = there xs i d (omega arith)
 
 -- what was done up to a place in the statements at these ranges
-pub record HasCome (table : Table) (regions : List Region) (source : List ℕ) (tokens : List Token) (ranges : List (ℕ × ℕ)) (i refused : ℕ) (old new : OutFacts) (before after : ℕ) : Type 0 where
+pub record HasCome (basis : Basis) (source : List ℕ) (tokens : List Token) (ranges : List (ℕ × ℕ)) (i refused : ℕ) (old new : OutFacts) (before after : ℕ) : Type 0 where
   pub replies : List Reply
   pub counted : length replies ≡ i
-  pub answers : AreAnswers table regions source tokens (take i ranges) replies
+  pub answers : AreAnswers basis source tokens (take i ranges) replies
   pub refused_is : refused ≡ refused_in replies
   pub taken : Puts (texts_of replies) old new
   pub fetched : after ≡ fetches_then before (pages_of replies)
 
-pub come_none : (table : Table) (regions : List Region) (source : List ℕ) (tokens : List Token) (ranges : List (ℕ × ℕ)) (o : OutFacts) (before : ℕ)
-    → HasCome table regions source tokens ranges 0 0 o o before before
-come_none table regions source tokens ranges o before =
+pub come_none : (basis : Basis) (source : List ℕ) (tokens : List Token) (ranges : List (ℕ × ℕ)) (o : OutFacts) (before : ℕ)
+    → HasCome basis source tokens ranges 0 0 o o before before
+come_none basis source tokens ranges o before =
     record { replies = []; counted = refl; answers = tt; refused_is = refl; taken = Puts-none o; fetched = refl }
 
-module _ (table : Table) (regions : List Region) (source : List ℕ) (tokens : List Token) (ranges : List (ℕ × ℕ)) where
-  answers_more : (some : List (ℕ × ℕ)) (replies : List Reply) (range : ℕ × ℕ) (r : Reply) → AreAnswers table regions source tokens some replies
-      → IsAnswer table regions source (slice_range tokens range.0 range.1) r → AreAnswers table regions source tokens (some ++ range ∷ []) (replies ++ r ∷ [])
+module _ (basis : Basis) (source : List ℕ) (tokens : List Token) (ranges : List (ℕ × ℕ)) where
+  answers_more : (some : List (ℕ × ℕ)) (replies : List Reply) (range : ℕ × ℕ) (r : Reply) → AreAnswers basis source tokens some replies
+      → IsAnswer basis source (slice_range tokens range.0 range.1) r → AreAnswers basis source tokens (some ++ range ∷ []) (replies ++ r ∷ [])
   answers_more [] [] range r h is = (is, tt)
   answers_more [] (x ∷ replies) range r h is = absurd h
   answers_more (x ∷ some) [] range r h is = absurd h
   answers_more (x ∷ some) (y ∷ replies) range r h is = (h.0, answers_more some replies range r h.1 is)
 
-  module _ (i refused : ℕ) (a b c : OutFacts) (f m : ℕ) (d : ℕ × ℕ) (below : i < length ranges) (come : HasCome table regions source tokens ranges i refused a b f m) where
-    one_more : (r : Reply) → IsAnswer table regions source (slice_range tokens (slice_index_or ranges i d).0 (slice_index_or ranges i d).1) r
-        → AreAnswers table regions source tokens (take (i + 1) ranges) (come.replies ++ r ∷ [])
+  module _ (i refused : ℕ) (a b c : OutFacts) (f m : ℕ) (d : ℕ × ℕ) (below : i < length ranges) (come : HasCome basis source tokens ranges i refused a b f m) where
+    one_more : (r : Reply) → IsAnswer basis source (slice_range tokens (slice_index_or ranges i d).0 (slice_index_or ranges i d).1) r
+        → AreAnswers basis source tokens (take (i + 1) ranges) (come.replies ++ r ∷ [])
     one_more r answer = rw (take_more ranges i d below) (answers_more (take i ranges) come.replies (slice_index_or ranges i d) r come.answers answer)
 
     pages_more : (r : Reply) (n : ℕ) → n ≡ fetches_then m r.pages → n ≡ fetches_then f (pages_of (come.replies ++ r ∷ []))
@@ -80,8 +81,8 @@ module _ (table : Table) (regions : List Region) (source : List ℕ) (tokens : L
         is ∙ ap (λ (x : ℕ). fetches_then x r.pages) come.fetched ∙ fetches_add f (pages_of come.replies) r.pages ∙ ap (fetches_then f) (sym (sum_by_push (λ (x : Reply). x.pages) come.replies r))
 
     -- with this reply
-    first_more : (r : Reply) → IsAnswer table regions source (slice_range tokens (slice_index_or ranges i d).0 (slice_index_or ranges i d).1) r
-        → FirstAt table regions source tokens ranges (come.replies ++ r ∷ []) (length ranges - (i + 1))
+    first_more : (r : Reply) → IsAnswer basis source (slice_range tokens (slice_index_or ranges i d).0 (slice_index_or ranges i d).1) r
+        → FirstAt basis source tokens ranges (come.replies ++ r ∷ []) (length ranges - (i + 1))
     first_more r answer = (
       omega (arith, come.counted, length-append come.replies (r ∷ [])),
       (let long : length (come.replies ++ r ∷ []) ≡ i + 1 = omega (arith, come.counted, length-append come.replies (r ∷ [])) in rw long (one_more r answer)),
@@ -89,8 +90,8 @@ module _ (table : Table) (regions : List Region) (source : List ℕ) (tokens : L
 
     -- one more statement
     pub come_more : (next : ℕ) (is_refused : Bool) (n : ℕ)
-        → Ran (IsAnswerAt table regions source tokens (slice_index_or ranges i d) is_refused) false b c m n → next ≡ refused + cond is_refused 1 0
-        → HasCome table regions source tokens ranges (i + 1) next a c f n
+        → Ran (IsAnswerAt basis source tokens (slice_index_or ranges i d) is_refused) false b c m n → next ≡ refused + cond is_refused 1 0
+        → HasCome basis source tokens ranges (i + 1) next a c f n
     come_more next is_refused n (text, pages, answer, taken, fetched) e =
         let r : Reply = reply text pages is_refused in record {
           replies = come.replies ++ r ∷ [];
@@ -102,8 +103,8 @@ module _ (table : Table) (regions : List Region) (source : List ℕ) (tokens : L
         }
 
     -- one more statement, of whose text only a front was taken
-    pub come_broken : (n : ℕ) → Ran (IsCutAt table regions source tokens (slice_index_or ranges i d)) true b c m n
-        → Ran (IsCutOff (FirstAt table regions source tokens ranges)) true a c f n
+    pub come_broken : (n : ℕ) → Ran (IsCutAt basis source tokens (slice_index_or ranges i d)) true b c m n
+        → Ran (IsCutOff (FirstAt basis source tokens ranges)) true a c f n
     come_broken n (front, pages, (r, answer, cut, all), taken, fetched) = (
       texts_of come.replies ++ front,
       pages_of (come.replies ++ r ∷ []),
@@ -121,28 +122,31 @@ module _ (table : Table) (regions : List Region) (source : List ℕ) (tokens : L
       pages_more r n (fetched ∙ ap (fetches_then m) all),
     )
 
-    -- nothing was taken for the next statement, for which some pages were fetched, or none
-    pub come_stopped : (n : ℕ) → c ≡ b → Starts (IsAnswer table regions source (slice_range tokens (slice_index_or ranges i d).0 (slice_index_or ranges i d).1)) m n
-        → Ran (IsStopped (FirstAt table regions source tokens ranges)) false a c f n
-    come_stopped n kept (more, some, fetched) = (
+    -- nothing was taken for the next statement, which a fault ended
+    pub come_stopped : (fault : RunFault) (n : ℕ) → c ≡ b
+        → Fetches (IsEnded basis source (slice_range tokens (slice_index_or ranges i d).0 (slice_index_or ranges i d).1) fault) m n
+        → Ran (IsStopped (EndedAt basis source tokens ranges fault)) false a c f n
+    come_stopped fault n kept (more, ended, fetched) = (
       texts_of come.replies,
       pages_of come.replies + more,
       (
         come.replies,
         length ranges - (i + 1),
         more,
-        (omega (arith, come.counted), rw come.counted come.answers),
+        (
+          (omega (arith, come.counted), rw come.counted come.answers),
+          (slice_index_or ranges i d, rw come.counted (there ranges i d below), ended),
+        ),
         refl,
         refl,
-        λ any. let (r, answer, few) = some any in (r, first_more r answer, few),
       ),
       subst (λ (o : OutFacts). Puts (texts_of come.replies) a o) (sym kept) come.taken,
       fetched ∙ ap (λ (x : ℕ). fetches_then x more) come.fetched ∙ fetches_add f (pages_of come.replies) more,
     )
 
   -- all statements
-  pub come_whole : (i refused : ℕ) (a b : OutFacts) (f n : ℕ) → i ≡ length ranges → HasCome table regions source tokens ranges i refused a b f n
-      → Ran (IsWhole (FirstAt table regions source tokens ranges) (record { statements = length ranges; refused = refused })) false a b f n
+  pub come_whole : (i refused : ℕ) (a b : OutFacts) (f n : ℕ) → i ≡ length ranges → HasCome basis source tokens ranges i refused a b f n
+      → Ran (IsWhole (FirstAt basis source tokens ranges) (record { statements = length ranges; refused = refused })) false a b f n
   come_whole i refused a b f n all come = (
     texts_of come.replies,
     pages_of come.replies,
@@ -157,26 +161,25 @@ module _ (table : Table) (regions : List Region) (source : List ℕ) (tokens : L
     come.fetched,
   )
 
--- what is known of the first statements at the ranges of a script is known of its first statements, on a tree's table
-pub on_tree : (t : TreeView) (table : Table) (script : List ℕ) (tokens : List Token) (ranges : List (ℕ × ℕ)) → IsTableOf t table → AreTokens script tokens → AreStatements tokens ranges
-    → (replies : List Reply) (left : ℕ) → FirstAt table (regions t) script tokens ranges replies left → FirstOn t script replies left
-on_tree t table script tokens ranges is tokens_are ranges_are replies left first =
-    (table, is, record { tokens = tokens; ranges = ranges; tokens_are = tokens_are; ranges_are = ranges_are; first = first })
+-- what is known of the first statements at the ranges of a script is known of its first statements
+module _ (basis : Basis) (script : List ℕ) (tokens : List Token) (ranges : List (ℕ × ℕ)) (tokens_are : AreTokens script tokens) (ranges_are : AreStatements tokens ranges)
+    (a b : OutFacts) (f n : ℕ) where
+  first_over : (replies : List Reply) (left : ℕ) → FirstAt basis script tokens ranges replies left → FirstOver basis script replies left
+  first_over replies left first = record { tokens = tokens; ranges = ranges; tokens_are = tokens_are; ranges_are = ranges_are; first = first }
 
--- so is how a run ends
-module _ (First Other : List Reply → ℕ → Type 0) (give : (replies : List Reply) (left : ℕ) → First replies left → Other replies left) (a b : OutFacts) (f n : ℕ) where
-  pub whole_as : (s : Summary) → Ran (IsWhole First s) false a b f n → Ran (IsWhole Other s) false a b f n
-  whole_as s (bytes, pages, (replies, first, is, sum, counts), taken, fetched) = (bytes, pages, (replies, give replies 0 first, is, sum, counts), taken, fetched)
+  -- so is how a run ends
+  pub whole_over : (s : Summary) → Ran (IsWhole (FirstAt basis script tokens ranges) s) false a b f n → Ran (IsWhole (FirstOver basis script) s) false a b f n
+  whole_over s (bytes, pages, (replies, first, is, sum, counts), taken, fetched) = (bytes, pages, (replies, first_over replies 0 first, is, sum, counts), taken, fetched)
 
-  pub cut_as : Ran (IsCutOff First) true a b f n → Ran (IsCutOff Other) true a b f n
-  cut_as (bytes, pages, (replies, next, left, front, first, cut, is, sum), taken, fetched) =
-      (bytes, pages, (replies, next, left, front, give (replies ++ next ∷ []) left first, cut, is, sum), taken, fetched)
+  pub cut_over : Ran (IsCutOff (FirstAt basis script tokens ranges)) true a b f n → Ran (IsCutOff (FirstOver basis script)) true a b f n
+  cut_over (bytes, pages, (replies, next, left, front, first, cut, is, sum), taken, fetched) =
+      (bytes, pages, (replies, next, left, front, first_over (replies ++ next ∷ []) left first, cut, is, sum), taken, fetched)
 
-  pub stopped_as : Ran (IsStopped First) false a b f n → Ran (IsStopped Other) false a b f n
-  stopped_as (bytes, pages, (replies, left, more, first, is, sum, some), taken, fetched) = (
+  pub stopped_over : (fault : RunFault) → Ran (IsStopped (EndedAt basis script tokens ranges fault)) false a b f n → Ran (IsStopped (EndedOver basis script fault)) false a b f n
+  stopped_over fault (bytes, pages, (replies, left, more, ended, is, sum), taken, fetched) = (
     bytes,
     pages,
-    (replies, left, more, give replies (suc left) first, is, sum, λ any. let (r, next, few) = some any in (r, give (replies ++ r ∷ []) left next, few)),
+    (replies, left, more, record { tokens = tokens; ranges = ranges; tokens_are = tokens_are; ranges_are = ranges_are; ended = ended }, is, sum),
     taken,
     fetched,
   )
@@ -200,3 +203,31 @@ same_statements tokens tokens' ranges ranges' e f h = rw (e, f) h
 pub same_failures : {T : Type 0} (U : Type 0) (r : Result T RunFault) (e : RunFault) (n : ℕ) → IsErrAnd r (λ x. x ≡ e) → failures_after r n ≡ failures_after {A = U} (Err e) n
 same_failures U (Ok x) e n h = absurd h
 same_failures U (Err f) e n h = rw h refl
+
+-- ---- a run as a whole
+
+-- memory was refused before the first statement
+pub run_unbegun : (t : TreeView) (script : List ℕ) (r : Result Summary RunFault) (out : OutFacts) → r ≡ Err Memory → IsRun t t script r out out
+run_unbegun t script r out is = subst (λ (q : Result Summary RunFault). IsRun t t script q out out) (sym is) (record {
+  done = λ basis of. tt;
+  cut = λ basis of bad. cc;
+  stopped = λ basis of differs. inl (refl, refl, refl);
+  failures = refl;
+  effect = record { same = refl; faults = tt };
+})
+
+-- the statements of its tokens were run
+pub run_over : (t now : TreeView) (script : List ℕ) (tokens : List Token) (ranges : List (ℕ × ℕ)) (r : Result Summary RunFault) (out out_now : OutFacts)
+    → AreTokens script tokens → AreStatements tokens ranges
+    → OnEach t (λ basis. IfOk r (λ s. Ran (IsWhole (FirstAt basis script tokens ranges) s) false out out_now t.trace.fetches now.trace.fetches))
+    → OnEach t (λ basis. IsErrOf r Write → Ran (IsCutOff (FirstAt basis script tokens ranges)) true out out_now t.trace.fetches now.trace.fetches)
+    → OnEach t (λ basis. IfErr r (λ e. e ≢ Write → Ran (IsStopped (EndedAt basis script tokens ranges e)) false out out_now t.trace.fetches now.trace.fetches))
+    → out_now.failures ≡ failures_after r out.failures → Runs t now r → IsRun t now script r out out_now
+run_over t now script tokens ranges r out out_now tokens_are ranges_are done cut stopped failures effect = record {
+  done = λ basis of. if_ok r _ _ (λ s h. whole_over basis script tokens ranges tokens_are ranges_are out out_now t.trace.fetches now.trace.fetches s h) (done basis of);
+  cut = λ basis of is. cut_over basis script tokens ranges tokens_are ranges_are out out_now t.trace.fetches now.trace.fetches (cut basis of is);
+  stopped = λ basis of. if_err r _ _
+      (λ e h differs. inr (stopped_over basis script tokens ranges tokens_are ranges_are out out_now t.trace.fetches now.trace.fetches e (h differs))) (stopped basis of);
+  failures = failures;
+  effect = effect;
+}

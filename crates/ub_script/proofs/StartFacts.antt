@@ -1,18 +1,22 @@
 -- What was fetched for a statement for which there is no reply.
-use Rattle.std.proofs.Common.{◌≡◌, ◌≤◌, ℕ, false, List, Ok, Err, Result, length, refl, sym, subst, arith}
+use Rattle.std.proofs.Common.{◌≡◌, ◌≤◌, ℕ, Bool, false, List, Ok, Err, Result, length, refl, sym, subst, arith}
 use Rattle.std.specs.Prelude.{OnErr}
-use Rattle.ub_exec.specs.Answers.{begun}
+use Rattle.ub_exec.specs.Answers.{IsReady, begun}
+use Rattle.ub_exec.specs.Reading.{CarriesOut}
 use Rattle.ub_exec.specs.Visits.{HasFetched, HasFetchedFirst, fetches_then}
 use Rattle.ub_planning.specs.Plan.{PlanView, plan_of}
 use Rattle.ub_planning.specs.Visits.{Span, AreVisits}
 use Rattle.ub_query.proofs.Laws.{queries_have_a_meaning}
 use Rattle.ub_query.specs.Shape.{Asked}
-use Rattle.ub_script.specs.Loop.{Starts}
-use Rattle.ub_script.specs.Run.{IsTableOf}
-use Rattle.ub_script.specs.Text.{ArePages, IsAskedReply, Reply, answer_text, reply}
+use Rattle.ub_script.proofs.RowsFacts.{ready_of}
+use Rattle.ub_script.specs.Basis.{Basis, on_table, over_any, AreSomeOf, IsBasisOf, IsTableOf}
+use Rattle.ub_script.specs.Loop.{Fetches}
+use Rattle.ub_script.specs.Text.{ArePages, answer_text, reply}
+use Rattle.ub_table.specs.Region.{Region}
 use Rattle.ub_table.specs.Table.{Table}
 use Rattle.ub_table.specs.declared.schema.Schema.{Schema}
 use Rattle.ub_tree.specs.View.{TreeView, regions}
+use Rattle.ub_tree.specs.declared.read_fault.ReadFault.{ReadFault}
 
 pub on_err : {T E : Type 0} (r : Result T E) (P : Type 0) → P → OnErr r P
 on_err (Ok x) P p = tt
@@ -23,16 +27,14 @@ if_started (Ok x) P Q f h = tt
 if_started (Err e) P Q f h = f h
 
 -- nothing was
-pub starts_none : (Is : Reply → Type 0) (before after : ℕ) → after ≡ before → Starts Is before after
-starts_none Is before after same = (0, λ some. absurd (omega arith), same)
-
--- what was fetched of one reply was fetched of the other
-pub starts_as : (Is Other : Reply → Type 0) (before after : ℕ) → ((r : Reply) → Is r → Other r) → Starts Is before after → Starts Other before after
-starts_as Is Other before after give (pages, some, fetched) = (pages, λ any. let (r, is, few) = some any in (r, give r is, few), fetched)
+pub starts_none : (is_explained : Bool) (basis : Basis) (q : Asked) (before after : ℕ) → after ≡ before → Fetches (AreSomeOf is_explained basis q) before after
+starts_none is_explained (on_table table in_regions) q before after same = (0, λ some. absurd (omega arith), same)
+starts_none is_explained (over_any seen) q before after same = (0, λ some. absurd (omega arith), same)
 
 -- the first so many of the visits of a query's plan were
 starts_with : (old : TreeView) (after : ℕ) (table : Table) (p : PlanView) (q : Asked) (visits : List Span) (count : ℕ) → IsTableOf old table → p ≡ plan_of old.schema q
-    → AreVisits old.schema p (regions old) visits → count ≤ length visits → after ≡ fetches_then old.trace.fetches count → Starts (IsAskedReply false table (regions old) q) old.trace.fetches after
+    → AreVisits old.schema p (regions old) visits → count ≤ length visits → after ≡ fetches_then old.trace.fetches count
+    → Fetches (AreSomeOf false (on_table table (regions old)) q) old.trace.fetches after
 starts_with old after table p q visits count is planned are few fetched = (
   count,
   λ any.
@@ -54,12 +56,25 @@ starts_with old after table p q visits count is planned are few fetched = (
   fetched,
 )
 
+in_regions_of : (old : TreeView) (table : Table) (q : Asked) (after : ℕ) (in_regions : List Region) → in_regions ≡ regions old
+    → Fetches (AreSomeOf false (on_table table (regions old)) q) old.trace.fetches after → Fetches (AreSomeOf false (on_table table in_regions) q) old.trace.fetches after
+in_regions_of old table q after in_regions same h = rw same h
+
 -- where carrying out the plan was ended by a fault
-pub starts_of_plan : (old new : TreeView) (table : Table) (p : PlanView) (q : Asked) → IsTableOf old table → p ≡ plan_of old.schema q
-    → (count : ℕ) × HasFetchedFirst p (begun old) new count → Starts (IsAskedReply false table (regions old) q) old.trace.fetches new.trace.fetches
-starts_of_plan old new table p q is planned (count, by) = starts_with old new.trace.fetches table p q by.visits count is planned by.visits_are by.few by.fetches_are
+pub starts_of_plan : {A : Type 0} (r : Result A ReadFault) (basis : Basis) (old new : TreeView) (p : PlanView) (q : Asked) → IsBasisOf old basis → p ≡ plan_of old.schema q
+    → (IsReady old p → (count : ℕ) × HasFetchedFirst p (begun old) new count) → CarriesOut p (begun old) new r
+    → Fetches (AreSomeOf false basis q) old.trace.fetches new.trace.fetches
+starts_of_plan r (on_table table in_regions) old new p q is planned first carried =
+    let (count, by) = first (ready_of old p q is.0.sound planned) in
+    in_regions_of old table q new.trace.fetches in_regions is.1
+    (starts_with old new.trace.fetches table p q by.visits count is.0 planned by.visits_are by.few by.fetches_are)
+starts_of_plan r (over_any seen) old new p q is planned first carried = (length carried.notes.noted, λ some. refl, carried.notes.fetches_are)
 
 -- and where it came to its end, but there is no text
-pub starts_of_all : (old new : TreeView) (table : Table) (p : PlanView) (q : Asked) → IsTableOf old table → p ≡ plan_of old.schema q
-    → HasFetched p (begun old) new → Starts (IsAskedReply false table (regions old) q) old.trace.fetches new.trace.fetches
-starts_of_all old new table p q is planned by = starts_with old new.trace.fetches table p q by.visits (length by.visits) is planned by.visits_are (omega arith) by.fetches_are
+pub starts_of_all : {A : Type 0} (r : Result A ReadFault) (basis : Basis) (old new : TreeView) (p : PlanView) (q : Asked) → IsBasisOf old basis → p ≡ plan_of old.schema q
+    → (IsReady old p → HasFetched p (begun old) new) → CarriesOut p (begun old) new r → Fetches (AreSomeOf false basis q) old.trace.fetches new.trace.fetches
+starts_of_all r (on_table table in_regions) old new p q is planned all carried =
+    let by = all (ready_of old p q is.0.sound planned) in
+    in_regions_of old table q new.trace.fetches in_regions is.1
+    (starts_with old new.trace.fetches table p q by.visits (length by.visits) is.0 planned by.visits_are (omega arith) by.fetches_are)
+starts_of_all r (over_any seen) old new p q is planned all carried = (length carried.notes.noted, λ some. refl, carried.notes.fetches_are)

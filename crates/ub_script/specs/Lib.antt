@@ -2,6 +2,8 @@ pub mod Output
 pub mod Faults
 pub mod Script
 pub mod Text
+pub mod Formed
+pub mod Basis
 pub mod Run
 pub mod Loop
 pub mod Laws

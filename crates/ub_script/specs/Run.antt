@@ -1,26 +1,22 @@
--- How far a script runs on a table: to which of its statements there are replies, what is written, and how many region pages
--- are fetched.
-use Rattle.std.specs.Prelude.{◌≡◌, ◌<◌, ◌≤◌, ◌+◌, ◌++◌, ℕ, suc, Bool, List, [], ◌∷◌, length, slice_range, take}
+-- How far a script runs: to which of its statements there are replies, what is written, and how many region pages are fetched.
+use Rattle.std.specs.Prelude.{◌≡◌, ◌≢◌, ◌⊎◌, ◌<◌, ◌≤◌, ◌+◌, ◌++◌, ℕ, suc, Bool, true, false, List, [], ◌∷◌, Some, Ok, Result, IfErr, IfOk, IsErrOf, length, slice_get, slice_range, take}
 use Rattle.ub_exec.specs.Visits.{fetches_then}
 use Rattle.ub_lexer.specs.Tokens.{AreTokens}
 use Rattle.ub_lexer.specs.Statements.{AreStatements}
 use Rattle.ub_lexer.specs.declared.token.Token.{Token}
 use Rattle.ub_load.specs.LoadedTable.{IsLoaded}
 use Rattle.ub_load.specs.LoadedTree.{loaded_regions}
-use Rattle.ub_region.specs.Regions.{AreTableRows}
-use Rattle.ub_tree.specs.View.{TreeView, IsSound, regions}
+use Rattle.ub_parser.specs.Outcome.{Told}
+use Rattle.ub_tree.specs.View.{TreeView}
+use Rattle.ub_script.specs.Basis.{Basis, on_table, schema_of, AreSomeOf, IsBasisOf, IsReply}
+use Rattle.ub_script.specs.Faults.{Runs, failures_after}
 use Rattle.ub_script.specs.Output.{OutFacts, HasTaken, IsFrontOf}
 use Rattle.ub_script.specs.Script.{Outcome, IsTheOutcome}
-use Rattle.ub_script.specs.Text.{Reply, IsReply, texts_of, pages_of, refused_in}
+use Rattle.ub_script.specs.Text.{Reply, texts_of, pages_of, refused_in}
+use Rattle.ub_script.specs.declared.fault.RunFault.{RunFault}
+use Rattle.ub_script.specs.declared.fault.RunFault.TheVariants.{Memory, Write}
 use Rattle.ub_script.specs.declared.script.Summary.{Summary}
-use Rattle.ub_table.specs.Region.{Region}
 use Rattle.ub_table.specs.Table.{Table}
-
--- the table of a sound tree
-pub record IsTableOf (t : TreeView) (table : Table) : Type 0 where
-  pub sound : IsSound t
-  pub schema_is : table.schema ≡ t.schema
-  pub rows_are : AreTableRows (regions t) table.rows
 
 -- a range of tokens, not empty
 abbrev pub IsRange : List Token → ℕ × ℕ → Type 0
@@ -28,47 +24,70 @@ IsRange tokens range = (range.0 < range.1) × (range.1 ≤ length tokens)
 
 -- ---- the replies to the statements of a script
 
--- the reply to the statement of these tokens, on a table in these regions
-pub record IsAnswer (table : Table) (regions : List Region) (source : List ℕ) (tokens : List Token) (r : Reply)
-    : Type 0 where
+-- the reply to the statement of these tokens
+pub record IsAnswer (basis : Basis) (source : List ℕ) (tokens : List Token) (r : Reply) : Type 0 where
   pub outcome : Outcome
-  pub heard : IsTheOutcome table.schema source tokens outcome
-  pub reply_is : IsReply table regions outcome r
+  pub heard : IsTheOutcome (schema_of basis) source tokens outcome
+  pub reply_is : IsReply basis outcome r
+
+-- the statement of these tokens is accepted, and has no reply; so many pages were fetched for it
+pub record IsUnanswered (basis : Basis) (source : List ℕ) (tokens : List Token) (pages : ℕ) : Type 0 where
+  pub told : Told
+  pub heard : IsTheOutcome (schema_of basis) source tokens (Ok told)
+  pub some : AreSomeOf told.is_explained basis told.asked pages
+
+-- a fault ended the statement of these tokens: want of memory, before any page; or the statement is accepted
+abbrev pub IsEnded : Basis → List ℕ → List Token → RunFault → ℕ → Type 0
+IsEnded basis source tokens fault pages =
+    ((fault ≡ Memory) × (pages ≡ 0)) ⊎ IsUnanswered basis source tokens pages
 
 -- the replies to the statements at these ranges of the tokens, in order
-abbrev pub AreAnswers : Table → List Region → List ℕ → List Token → List (ℕ × ℕ) → List Reply → Type 0
-AreAnswers table regions source tokens [] [] = Unit {0}
-AreAnswers table regions source tokens [] (r ∷ replies) = ⊥
-AreAnswers table regions source tokens (range ∷ ranges) [] = ⊥
-AreAnswers table regions source tokens (range ∷ ranges) (r ∷ replies) =
-    IsAnswer table regions source (slice_range tokens range.0 range.1) r
-    × AreAnswers table regions source tokens ranges replies
+abbrev pub AreAnswers : Basis → List ℕ → List Token → List (ℕ × ℕ) → List Reply → Type 0
+AreAnswers basis source tokens [] [] = Unit {0}
+AreAnswers basis source tokens [] (r ∷ replies) = ⊥
+AreAnswers basis source tokens (range ∷ ranges) [] = ⊥
+AreAnswers basis source tokens (range ∷ ranges) (r ∷ replies) =
+    IsAnswer basis source (slice_range tokens range.0 range.1) r × AreAnswers basis source tokens ranges replies
 
 -- these are the replies to the first statements at these ranges, and so many statements are left
-abbrev pub FirstAt : Table → List Region → List ℕ → List Token → List (ℕ × ℕ) → List Reply → ℕ → Type 0
-FirstAt table regions source tokens ranges replies left =
-    (length replies + left ≡ length ranges)
-    × AreAnswers table regions source tokens (take (length replies) ranges) replies
+abbrev pub FirstAt : Basis → List ℕ → List Token → List (ℕ × ℕ) → List Reply → ℕ → Type 0
+FirstAt basis source tokens ranges replies left =
+    (length replies + left ≡ length ranges) × AreAnswers basis source tokens (take (length replies) ranges) replies
+
+-- these are the replies to the first ones, the next one was ended by a fault with so many pages fetched for it, and so many are
+-- left after it
+abbrev pub EndedAt : Basis → List ℕ → List Token → List (ℕ × ℕ) → RunFault → List Reply → ℕ → ℕ → Type 0
+EndedAt basis source tokens ranges fault replies left pages =
+    FirstAt basis source tokens ranges replies (suc left)
+    × ((range : ℕ × ℕ) × (slice_get ranges (length replies) ≡ Some range)
+    × IsEnded basis source (slice_range tokens range.0 range.1) fault pages)
 
 -- the same of the statements of a script
-pub record FirstOver (table : Table) (regions : List Region) (script : List ℕ) (replies : List Reply) (left : ℕ)
+pub record FirstOver (basis : Basis) (script : List ℕ) (replies : List Reply) (left : ℕ) : Type 0 where
+  pub tokens : List Token
+  pub ranges : List (ℕ × ℕ)
+  pub tokens_are : AreTokens script tokens
+  pub ranges_are : AreStatements tokens ranges
+  pub first : FirstAt basis script tokens ranges replies left
+
+pub record EndedOver (basis : Basis) (script : List ℕ) (fault : RunFault) (replies : List Reply) (left pages : ℕ)
     : Type 0 where
   pub tokens : List Token
   pub ranges : List (ℕ × ℕ)
   pub tokens_are : AreTokens script tokens
   pub ranges_are : AreStatements tokens ranges
-  pub first : FirstAt table regions script tokens ranges replies left
-
--- on the table of a tree, in the tree's regions
-abbrev pub FirstOn : TreeView → List ℕ → List Reply → ℕ → Type 0
-FirstOn t script replies left =
-    (table : Table) × IsTableOf t table × FirstOver table (regions t) script replies left
+  pub ended : EndedAt basis script tokens ranges fault replies left pages
 
 -- on the table of a CSV text, in the regions of the tree that it is loaded into
 abbrev pub FirstIn : List ℕ → ℕ → ℕ → List ℕ → List ℕ → List Reply → ℕ → Type 0
 FirstIn text dims page_rows name script replies left =
     (table : Table) × IsLoaded text dims page_rows name table.schema table.rows
-    × FirstOver table (loaded_regions dims page_rows table.rows) script replies left
+    × FirstOver (on_table table (loaded_regions dims page_rows table.rows)) script replies left
+
+abbrev pub EndedIn : List ℕ → ℕ → ℕ → List ℕ → List ℕ → RunFault → List Reply → ℕ → ℕ → Type 0
+EndedIn text dims page_rows name script fault replies left pages =
+    (table : Table) × IsLoaded text dims page_rows name table.schema table.rows
+    × EndedOver (on_table table (loaded_regions dims page_rows table.rows)) script fault replies left pages
 
 -- ---- the ends of a run, by what is known of the replies to its first statements
 
@@ -81,16 +100,11 @@ IsWhole First summary bytes pages =
     (replies : List Reply) × First replies 0 × (bytes ≡ texts_of replies) × (pages ≡ pages_of replies)
     × (summary ≡ summary_of replies)
 
--- so many pages are some of those of a reply of which this holds, or there are none
-abbrev pub AreSomeOf : (Reply → Type 0) → ℕ → Type 0
-AreSomeOf Is pages = 1 ≤ pages → (r : Reply) × Is r × (pages ≤ r.pages)
-
--- the first statements were answered, and nothing was written for the next one, for which some of its pages were fetched, or
--- none
-abbrev pub IsStopped : (List Reply → ℕ → Type 0) → List ℕ → ℕ → Type 0
-IsStopped First bytes pages =
-    (replies : List Reply) × (left : ℕ) × (more : ℕ) × First replies (suc left) × (bytes ≡ texts_of replies)
-    × (pages ≡ pages_of replies + more) × AreSomeOf (λ next. First (replies ++ next ∷ []) left) more
+-- the first statements were answered, and nothing was written for the next one, which a fault ended
+abbrev pub IsStopped : (List Reply → ℕ → ℕ → Type 0) → List ℕ → ℕ → Type 0
+IsStopped Ended bytes pages =
+    (replies : List Reply) × (left : ℕ) × (more : ℕ) × Ended replies left more × (bytes ≡ texts_of replies)
+    × (pages ≡ pages_of replies + more)
 
 -- the first statements were answered, and of the text of the next one a front was written, not all of it
 abbrev pub IsCutOff : (List Reply → ℕ → Type 0) → List ℕ → ℕ → Type 0
@@ -104,25 +118,39 @@ Ran Are failed old new fetches fetches_now =
     (bytes : List ℕ) × (pages : ℕ) × Are bytes pages × HasTaken bytes failed old new
     × (fetches_now ≡ fetches_then fetches pages)
 
--- what is written where a script is run on the table of a CSV text: to its end, up to a statement, or up to a failed write
+-- memory was refused before the first statement: nothing was written, and the tree is as it was
+abbrev pub IsUnbegun : TreeView → TreeView → RunFault → OutFacts → OutFacts → Type 0
+IsUnbegun t now fault out out_now = (fault ≡ Memory) × (now ≡ t) × (out_now ≡ out)
+
+-- what a run does to a tree and to an output, on each basis of the tree's: on any tree, and where it is sound, on its table.
+-- Without a fault the text of each statement is written, and for each query that is answered its pages are fetched. After a
+-- failed write a front of the next text stands, and nothing is written after it. After another fault the first texts stand, and
+-- nothing of the next one; a fault of the tree comes of an accepted statement alone.
+pub record IsRun (t now : TreeView) (script : List ℕ) (result : Result Summary RunFault) (out out_now : OutFacts)
+    : Type 0 where
+  pub done : (basis : Basis) → IsBasisOf t basis → IfOk result (λ summary.
+      Ran (IsWhole (FirstOver basis script) summary) false out out_now t.trace.fetches now.trace.fetches)
+  pub cut : (basis : Basis) → IsBasisOf t basis → IsErrOf result Write
+      → Ran (IsCutOff (FirstOver basis script)) true out out_now t.trace.fetches now.trace.fetches
+  pub stopped : (basis : Basis) → IsBasisOf t basis → IfErr result (λ fault. fault ≢ Write
+      → IsUnbegun t now fault out out_now
+      ⊎ Ran (IsStopped (EndedOver basis script fault)) false out out_now t.trace.fetches now.trace.fetches)
+  pub failures : out_now.failures ≡ failures_after result out.failures
+  pub effect : Runs t now result
+
+-- ---- what is written where a script is run on the table of a CSV text
+
+-- to its end
 abbrev pub IsDone : List ℕ → ℕ → ℕ → List ℕ → List ℕ → Summary → List ℕ → Type 0
 IsDone text dims page_rows name script summary bytes =
     (pages : ℕ) × IsWhole (FirstIn text dims page_rows name script) summary bytes pages
 
+-- up to a statement for which memory was refused
 abbrev pub IsBegun : List ℕ → ℕ → ℕ → List ℕ → List ℕ → List ℕ → Type 0
 IsBegun text dims page_rows name script bytes =
-    (pages : ℕ) × IsStopped (FirstIn text dims page_rows name script) bytes pages
+    (pages : ℕ) × IsStopped (EndedIn text dims page_rows name script Memory) bytes pages
 
+-- up to a failed write
 abbrev pub IsBroken : List ℕ → ℕ → ℕ → List ℕ → List ℕ → List ℕ → Type 0
 IsBroken text dims page_rows name script bytes =
     (pages : ℕ) × IsCutOff (FirstIn text dims page_rows name script) bytes pages
-
--- the same where it is run on the table of a tree
-abbrev pub IsDoneOn : TreeView → List ℕ → Summary → List ℕ → Type 0
-IsDoneOn t script summary bytes = (pages : ℕ) × IsWhole (FirstOn t script) summary bytes pages
-
-abbrev pub IsBegunOn : TreeView → List ℕ → List ℕ → Type 0
-IsBegunOn t script bytes = (pages : ℕ) × IsStopped (FirstOn t script) bytes pages
-
-abbrev pub IsBrokenOn : TreeView → List ℕ → List ℕ → Type 0
-IsBrokenOn t script bytes = (pages : ℕ) × IsCutOff (FirstOn t script) bytes pages

@@ -1,5 +1,5 @@
 -- The text of a statement's result: a title line, a line for each row of cells, and a line of counts; or why it is refused.
-use Rattle.std.specs.Prelude.{◌≡◌, ℕ, Bool, true, false, List, [], ◌∷◌, ◌++◌, length, map, codes, count_by, decimal, Ok, Err}
+use Rattle.std.specs.Prelude.{◌≡◌, ℕ, Bool, true, false, List, [], ◌∷◌, ◌++◌, length, map, codes, count_by, decimal}
 use Rattle.std.specs.Fmt.{signed_decimal}
 use Rattle.std.specs.List.{flat_map, join_with_byte, sum_by}
 use Rattle.ub_parser.specs.declared.fault.SqlFault.{SqlFault}
@@ -11,7 +11,6 @@ use Rattle.ub_query.specs.Meaning.{IsMeaning, titles}
 use Rattle.ub_query.specs.Shape.{Asked}
 use Rattle.ub_query.specs.declared.cell.Cell.{Cell}
 use Rattle.ub_query.specs.declared.cell.Cell.TheVariants.{Number, Null}
-use Rattle.ub_script.specs.Script.{Outcome}
 use Rattle.ub_table.specs.Region.{Region}
 use Rattle.ub_table.specs.Table.{Table}
 use Rattle.ub_table.specs.declared.schema.Schema.{Schema}
@@ -82,14 +81,9 @@ pub record IsExplainReply (table : Table) (regions : List Region) (q : Asked) (r
   pub accepted : r.is_refused ≡ false
 
 -- the reply to a query that is explained, or answered
-abbrev pub IsAskedReply : Bool → Table → List Region → Asked → Reply → Type 0
-IsAskedReply true table regions q r = IsExplainReply table regions q r
-IsAskedReply false table regions q r = IsQueryReply table regions q r
-
--- the reply to a statement with this outcome; for a refused one no page is fetched
-abbrev pub IsReply : Table → List Region → Outcome → Reply → Type 0
-IsReply table regions (Ok t) r = IsAskedReply t.is_explained table regions t.asked r
-IsReply table regions (Err fault) r = r ≡ reply (refused_text fault) 0 true
+abbrev pub IsTableReply : Bool → Table → List Region → Asked → Reply → Type 0
+IsTableReply true table regions q r = IsExplainReply table regions q r
+IsTableReply false table regions q r = IsQueryReply table regions q r
 
 -- of several replies the texts, one after the other, the number of pages, and how many of them are refused
 abbrev pub texts_of : List Reply → List ℕ

@@ -1,7 +1,12 @@
-ghost use Rattle.ub_script.specs.Laws.{QueriesFetchOneNumberOfPages, OutcomesHaveOneReply, StatementsHaveOneReplyEach, ScriptsHaveOneEnd};
+ghost use Rattle.ub_script.specs.Laws.{SoundTreesHaveOneTable, QueriesFetchOneNumberOfPages, OutcomesHaveOneReply, StatementsHaveOneReplyEach, ScriptsHaveOneEnd, ScriptsHaveOneSummary, CutTextsAreAFront, StoppedTextsAreAFront};
 
 // Each function here does nothing, and its clause is a law of the definitions in specs/. So the law is proved, and is read
 // beside the code.
+
+/// A sound tree has a table, and no other.
+pub fn sound_trees_have_one_table()
+    ensures { SoundTreesHaveOneTable }
+{}
 
 /// For a query one number of pages is fetched.
 pub fn queries_fetch_one_number_of_pages()
@@ -21,4 +26,21 @@ pub fn statements_have_one_reply_each()
 /// A script that is run to its end writes one text, fetches one number of pages, and has one summary.
 pub fn scripts_have_one_end()
     ensures { ScriptsHaveOneEnd }
+{}
+
+/// How many statements a script has, and how many of them are refused, depends on its bytes and on the schema alone: over two
+/// trees of one schema, sound or not, it is the same where the script is run to its end.
+pub fn scripts_have_one_summary()
+    ensures { ScriptsHaveOneSummary }
+{}
+
+/// What a script writes up to a failed write is the first part of the text that it writes where it is run to its end, and not
+/// all of that.
+pub fn cut_texts_are_a_front()
+    ensures { CutTextsAreAFront }
+{}
+
+/// What a script writes up to a statement that another fault ends is the first part of that text.
+pub fn stopped_texts_are_a_front()
+    ensures { StoppedTextsAreAFront }
 {}

@@ -1,7 +1,9 @@
 ghost use Rattle.std.specs.Prelude.{◌≡◌, OnOk, OnErr};
+ghost use Rattle.std.specs.Io.KnownBytes.{WriteAppends};
+ghost use Rattle.std.specs.Io.{WritesAtMost};
 ghost use Rattle.ub_script.specs.Output.{OutFacts, out_facts, Breaks, HasWritten, Puts};
 
-use std::io::Write;
+use std::io::{self, Write};
 use thiserror::Error;
 
 /// The bytes, or some of them, could not be written.
@@ -51,19 +53,26 @@ impl<W: Write> Out for Over<W> {
     ghost facts = { λ over. out_facts (W.contents over.inner) over.failed };
 
     fn write(&mut self, bytes: &[u8]) -> Result<usize, OutFault> {
-        match self.inner.write(bytes) {
-            Ok(n) => {
-                if n == 0 && !bytes.is_empty() {
-                    self.failed = self.failed.saturating_add(1);
-                }
-                Ok(n)
+        match once(&mut self.inner, bytes) {
+            Ok(0) if !bytes.is_empty() => {
+                self.failed = self.failed.saturating_add(1);
+                Ok(0)
             }
+            Ok(n) => Ok(n),
             Err(_) => {
                 self.failed = self.failed.saturating_add(1);
                 Err(OutFault {})
             }
         }
     }
+}
+
+// Writes once, and tries nothing again, whatever the error.
+fn once<W: Write>(inner: &mut W, bytes: &[u8]) -> io::Result<usize>
+    ensures few { WritesAtMost result bytes.now }
+    ensures taken { WriteAppends (W.contents inner.old) (W.contents inner.new) result bytes.now }
+{
+    inner.write(bytes)
 }
 
 /// Writes all of the bytes; or fails, once, and a front of them was written, fewer than all.

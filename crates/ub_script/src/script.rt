@@ -4,15 +4,16 @@ ghost use Rattle.ub_load.specs.LoadedTable.{records_of};
 ghost use Rattle.ub_load.specs.Refusals.{first_refusal};
 ghost use Rattle.ub_load.specs.declared.fault.LoadFault.{LoadFault};
 ghost use Rattle.ub_parser.specs.Outcome.{told};
+ghost use Rattle.ub_planning.specs.Plan.{plan_of};
 ghost use Rattle.ub_query.specs.Posed.{IsPosed};
 ghost use Rattle.ub_query.specs.Shape.{asked};
-ghost use Rattle.ub_tree.specs.View.{IsSound};
 ghost use Rattle.ub_tree.specs.declared.fault.TreeFault.{TreeFault};
+ghost use Rattle.ub_script.specs.Basis.{IsAskedReply, IsReply, AreSomeOf};
 ghost use Rattle.ub_script.specs.Output.{Takes};
-ghost use Rattle.ub_script.specs.Run.{IsAnswer, IsRange, FirstAt, FirstOn, IsWhole, IsStopped, IsCutOff, Ran, IsDone, IsBegun, IsBroken};
+ghost use Rattle.ub_script.specs.Run.{IsAnswer, IsEnded, IsRange, FirstAt, EndedAt, IsWhole, IsStopped, IsCutOff, Ran, IsRun, IsDone, IsBegun, IsBroken};
 ghost use Rattle.ub_script.specs.Faults.{Runs, failures_after};
-ghost use Rattle.ub_script.specs.Loop.{OfTable, Makes, Starts, IsAnswerAt, IsCutAt};
-ghost use Rattle.ub_script.specs.Text.{IsAskedReply, IsReply, refused_text};
+ghost use Rattle.ub_script.specs.Loop.{OnEach, Makes, Fetches, IsAnswerAt, IsCutAt};
+ghost use Rattle.ub_script.specs.Text.{refused_text};
 ghost use Rattle.ub_script.specs.declared.script.Summary.{Summary};
 
 use crate::fault::RunFault;
@@ -23,7 +24,7 @@ use ub_exec::execute;
 use ub_lexer::{Token, lex, statements};
 use ub_load::{LoadFault, load};
 use ub_parser::{Query, SqlFault, Statement, parse};
-use ub_plan::{explain, plan};
+use ub_plan::{Plan, explain, plan};
 use ub_store::{MemStore, PageStore, StoreFault};
 use ub_tree::{Tree, TreeFault};
 
@@ -81,39 +82,22 @@ pub fn try_text<W: Out>(
     run(alloc, &mut tree, script, out)
 }
 
-/// Runs a script on a tree's table: writes the text of each statement, whole, one after the other, and counts the
-/// statements. For each statement that is answered the regions that its plan visits are read anew.
+/// Runs a script on a tree: writes the text of each statement, whole, one after the other, and counts the statements. For each
+/// query that is answered the regions that its plan visits are read anew. The tree is read and no more.
 ///
-/// `Tree` where the tree refused, and `Memory` where memory is refused: then nothing is written of the statement that
-/// needed it. `Write` where the output fails. `Load` never.
+/// Over any tree, also over one that isn't sound, each text is whole and in form, and where a query is answered each page that
+/// was read for it was taken in. Over a sound tree the texts say what the queries mean on its table.
+///
+/// `Tree` where the tree refused a statement that asks it, on a sound tree only where its store failed in this call, and
+/// `Memory` where memory is refused: then nothing is written of the statement that needed it. `Write` where the output fails:
+/// then a front of a text stands, and nothing is written after it. `Load` never.
 pub fn run<S: PageStore, W: Out>(
     alloc: Global,
     tree: &mut Tree<S>,
     script: &[u8],
     out: &mut W,
 ) -> Result<Summary, RunFault>
-    // The texts are written, and for each statement that is answered the regions are fetched that its plan visits, each once.
-    ensures done { IsSound tree.old → IfOk result (λ summary.
-        Ran (IsWhole (FirstOn tree.old script.now) summary) false
-        (W.facts out.old) (W.facts out.new) tree.old.trace.fetches tree.new.trace.fetches) }
-
-    // The texts of the first statements are written, and of the next one's a front, and nothing after the write that failed.
-    ensures write { IsSound tree.old → IsErrOf result RunFault.Write
-        → Ran (IsCutOff (FirstOn tree.old script.now)) true
-        (W.facts out.old) (W.facts out.new) tree.old.trace.fetches tree.new.trace.fetches }
-
-    // Nothing is written and nothing fetched, or the texts of the first statements and no more. There is another one then,
-    // for which some of its regions were fetched, each once, or none.
-    ensures begun { IsSound tree.old → IfErr result (λ fault. fault ≢ RunFault.Write
-        → ((W.facts out.new ≡ W.facts out.old) × (tree.new.trace.fetches ≡ tree.old.trace.fetches))
-        ⊎ Ran (IsStopped (FirstOn tree.old script.now)) false
-        (W.facts out.old) (W.facts out.new) tree.old.trace.fetches tree.new.trace.fetches) }
-    ensures failures { (W.facts out.new).failures
-        ≡ failures_after result (W.facts out.old).failures }
-
-    // The tree is read and no more. `Tree` only where, on a sound tree, the store failed in this call, and never over a
-    // store that can't fail; `Load` never.
-    ensures effect { Runs tree.old tree.new result }
+    ensures { IsRun tree.old tree.new script.now result (W.facts out.old) (W.facts out.new) }
 {
     let tokens = lex(alloc, script)?;
     let ranges = statements(alloc, &tokens)?;
@@ -131,14 +115,14 @@ fn run_statements<S: PageStore, W: Out>(
 ) -> Result<Summary, RunFault>
     requires spelled { AreSpelled source.now tokens.now }
     requires ranges { All (λ range. IsRange tokens.now range) ranges.now }
-    ensures done { OfTable tree.old (λ table regions. IfOk result (λ summary.
-        Ran (IsWhole (FirstAt table regions source.now tokens.now ranges.now) summary) false
+    ensures done { OnEach tree.old (λ basis. IfOk result (λ summary.
+        Ran (IsWhole (FirstAt basis source.now tokens.now ranges.now) summary) false
         (W.facts out.old) (W.facts out.new) tree.old.trace.fetches tree.new.trace.fetches)) }
-    ensures write { OfTable tree.old (λ table regions. IsErrOf result RunFault.Write
-        → Ran (IsCutOff (FirstAt table regions source.now tokens.now ranges.now)) true
+    ensures write { OnEach tree.old (λ basis. IsErrOf result RunFault.Write
+        → Ran (IsCutOff (FirstAt basis source.now tokens.now ranges.now)) true
         (W.facts out.old) (W.facts out.new) tree.old.trace.fetches tree.new.trace.fetches) }
-    ensures begun { OfTable tree.old (λ table regions. IfErr result (λ fault. fault ≢ RunFault.Write
-        → Ran (IsStopped (FirstAt table regions source.now tokens.now ranges.now)) false
+    ensures begun { OnEach tree.old (λ basis. IfErr result (λ fault. fault ≢ RunFault.Write
+        → Ran (IsStopped (EndedAt basis source.now tokens.now ranges.now fault)) false
         (W.facts out.old) (W.facts out.new) tree.old.trace.fetches tree.new.trace.fetches)) }
     ensures failures { (W.facts out.new).failures
         ≡ failures_after result (W.facts out.old).failures }
@@ -167,17 +151,16 @@ fn run_statement<S: PageStore, W: Out>(
 ) -> Result<bool, RunFault>
     requires spelled { AreSpelled source.now tokens.now }
     requires range { IsRange tokens.now range }
-    ensures done { OfTable tree.old (λ table regions. IfOk result (λ is_refused.
-        Ran (IsAnswerAt table regions source.now tokens.now range is_refused) false
+    ensures done { OnEach tree.old (λ basis. IfOk result (λ is_refused.
+        Ran (IsAnswerAt basis source.now tokens.now range is_refused) false
         (W.facts out.old) (W.facts out.new) tree.old.trace.fetches tree.new.trace.fetches)) }
-    ensures write { OfTable tree.old (λ table regions. IsErrOf result RunFault.Write
-        → Ran (IsCutAt table regions source.now tokens.now range) true
+    ensures write { OnEach tree.old (λ basis. IsErrOf result RunFault.Write
+        → Ran (IsCutAt basis source.now tokens.now range) true
         (W.facts out.old) (W.facts out.new) tree.old.trace.fetches tree.new.trace.fetches) }
     ensures begun { IfErr result (λ fault. fault ≢ RunFault.Write
         → W.facts out.new ≡ W.facts out.old) }
-    ensures stopped { OfTable tree.old (λ table regions. IfErr result
-        (λ fault. fault ≢ RunFault.Write
-        → Starts (IsAnswer table regions source.now (slice_range tokens.now range.0 range.1))
+    ensures stopped { OnEach tree.old (λ basis. IfErr result (λ fault. fault ≢ RunFault.Write
+        → Fetches (IsEnded basis source.now (slice_range tokens.now range.0 range.1) fault)
         tree.old.trace.fetches tree.new.trace.fetches)) }
     ensures failures { (W.facts out.new).failures
         ≡ failures_after result (W.facts out.old).failures }
@@ -205,11 +188,12 @@ fn answer_to<S: PageStore>(
 ) -> Result<Answer, RunFault>
     requires some { 0 < length tokens.now }
     requires spelled { AreSpelled source.now tokens.now }
-    ensures answer { OfTable tree.old (λ table regions. IfOk result (λ a.
-        Makes (IsAnswer table regions source.now tokens.now) a.text.items a.is_refused
+    ensures answer { OnEach tree.old (λ basis. IfOk result (λ a.
+        Makes (IsAnswer basis source.now tokens.now) a.text.items a.is_refused
         tree.old.trace.fetches tree.new.trace.fetches)) }
-    ensures stopped { OfTable tree.old (λ table regions. OnErr result
-        (Starts (IsAnswer table regions source.now tokens.now) tree.old.trace.fetches tree.new.trace.fetches)) }
+    ensures stopped { OnEach tree.old (λ basis. IfErr result (λ fault.
+        Fetches (IsEnded basis source.now tokens.now fault)
+        tree.old.trace.fetches tree.new.trace.fetches)) }
     ensures no_write { ¬ (IsErrOf result RunFault.Write) }
     ensures effect { Runs tree.old tree.new result }
 {
@@ -219,25 +203,35 @@ fn answer_to<S: PageStore>(
     }
 }
 
-// Makes the text of an accepted statement: a query is answered, or explained.
+// Makes the text of an accepted statement: a query is answered, or explained, by its plan.
 fn answer_accepted<S: PageStore>(
     alloc: Global,
     tree: &mut Tree<S>,
     statement: &Statement,
 ) -> Result<Answer, RunFault>
     requires { IsPosed (length tree.old.schema.columns) (told statement.now).asked }
-    ensures answer { OfTable tree.old (λ table regions. IfOk result (λ a.
-        Makes (IsReply table regions (Ok (told statement.now))) a.text.items a.is_refused
+    ensures answer { OnEach tree.old (λ basis. IfOk result (λ a.
+        Makes (IsReply basis (Ok (told statement.now))) a.text.items a.is_refused
         tree.old.trace.fetches tree.new.trace.fetches)) }
-    ensures stopped { OfTable tree.old (λ table regions. OnErr result
-        (Starts (IsReply table regions (Ok (told statement.now))) tree.old.trace.fetches
-        tree.new.trace.fetches)) }
+    ensures stopped { OnEach tree.old (λ basis. OnErr result
+        (Fetches (AreSomeOf (told statement.now).is_explained basis (told statement.now).asked)
+        tree.old.trace.fetches tree.new.trace.fetches)) }
     ensures no_write { ¬ (IsErrOf result RunFault.Write) }
     ensures effect { Runs tree.old tree.new result }
 {
+    let plan = plan(alloc, query_of(statement), tree.schema())?;
     match statement {
-        Statement::Select(query) => answer_query(alloc, tree, query),
-        Statement::Explain(query) => explain_query(alloc, tree, query),
+        Statement::Select(query) => answer_query(alloc, tree, query, &plan),
+        Statement::Explain(_) => explain_query(alloc, tree, &plan),
+    }
+}
+
+// The query that a statement asks, or asks about.
+fn query_of(statement: &Statement) -> &Query
+    ensures { asked result.now ≡ (told statement.now).asked }
+{
+    match statement {
+        Statement::Select(query) | Statement::Explain(query) => query,
     }
 }
 
@@ -246,19 +240,20 @@ fn answer_query<S: PageStore>(
     alloc: Global,
     tree: &mut Tree<S>,
     query: &Query,
+    plan: &Plan,
 ) -> Result<Answer, RunFault>
-    requires { IsPosed (length tree.old.schema.columns) (asked query.now) }
-    ensures answer { OfTable tree.old (λ table regions. IfOk result (λ a.
-        Makes (IsAskedReply false table regions (asked query.now)) a.text.items a.is_refused
+    requires posed { IsPosed (length tree.old.schema.columns) (asked query.now) }
+    requires planned { plan.now ≡ plan_of tree.old.schema (asked query.now) }
+    ensures answer { OnEach tree.old (λ basis. IfOk result (λ a.
+        Makes (IsAskedReply false basis (asked query.now)) a.text.items a.is_refused
         tree.old.trace.fetches tree.new.trace.fetches)) }
-    ensures stopped { OfTable tree.old (λ table regions. OnErr result
-        (Starts (IsAskedReply false table regions (asked query.now)) tree.old.trace.fetches
+    ensures stopped { OnEach tree.old (λ basis. OnErr result
+        (Fetches (AreSomeOf false basis (asked query.now)) tree.old.trace.fetches
         tree.new.trace.fetches)) }
     ensures no_write { ¬ (IsErrOf result RunFault.Write) }
     ensures effect { Runs tree.old tree.new result }
 {
-    let plan = plan(alloc, query, tree.schema())?;
-    let answer = execute(alloc, tree, &plan)?;
+    let answer = execute(alloc, tree, plan)?;
     Ok(Answer {
         text: answer_text(alloc, tree.schema(), query, &answer.rows, answer.fetched)?,
         is_refused: false,
@@ -269,21 +264,20 @@ fn answer_query<S: PageStore>(
 fn explain_query<S: PageStore>(
     alloc: Global,
     tree: &mut Tree<S>,
-    query: &Query,
+    plan: &Plan,
 ) -> Result<Answer, RunFault>
-    requires { IsPosed (length tree.old.schema.columns) (asked query.now) }
-    ensures answer { OfTable tree.old (λ table regions. IfOk result (λ a.
-        Makes (IsAskedReply true table regions (asked query.now)) a.text.items a.is_refused
+    requires { plan.now ≡ plan_of tree.old.schema plan.now.asked }
+    ensures answer { OnEach tree.old (λ basis. IfOk result (λ a.
+        Makes (IsAskedReply true basis plan.now.asked) a.text.items a.is_refused
         tree.old.trace.fetches tree.new.trace.fetches)) }
-    ensures stopped { OfTable tree.old (λ table regions. OnErr result
-        (Starts (IsAskedReply true table regions (asked query.now)) tree.old.trace.fetches
+    ensures stopped { OnEach tree.old (λ basis. OnErr result
+        (Fetches (AreSomeOf true basis plan.now.asked) tree.old.trace.fetches
         tree.new.trace.fetches)) }
     ensures no_write { ¬ (IsErrOf result RunFault.Write) }
     ensures effect { Runs tree.old tree.new result }
 {
-    let plan = plan(alloc, query, tree.schema())?;
     Ok(Answer {
-        text: explain(alloc, &plan, tree)?,
+        text: explain(alloc, plan, tree)?,
         is_refused: false,
     })
 }

@@ -1,13 +1,12 @@
+use Rattle.std.proofs.Common.{refl}
+use Rattle.ub_script.proofs.StartFacts.{on_err, starts_none}
 use Rattle.ub_script.proofs.script.answer_accepted.Goals as goal
 
-pub returns-in-Select-clause-answer : goal.returns-in-Select-clause-answer
-returns-in-Select-clause-answer g c table is = rw c.in-Select.is (c.answer_query.ensures.answer table is)
+pub returns-in_err-plan-clause-stopped : goal.returns-in_err-plan-clause-stopped
+returns-in_err-plan-clause-stopped g c basis is = on_err c.from_residual.result _ (starts_none _ basis _ _ _ refl)
 
-pub returns-in-Explain-clause-answer : goal.returns-in-Explain-clause-answer
-returns-in-Explain-clause-answer g c table is = rw c.in-Explain.is (c.explain_query.ensures.answer table is)
+pub returns-in-Select-clause-answer : goal.returns-in-Select-clause-answer
+returns-in-Select-clause-answer g c basis is = rw c.in-Select.is (c.answer_query.ensures.answer basis is)
 
 pub returns-in-Select-clause-stopped : goal.returns-in-Select-clause-stopped
-returns-in-Select-clause-stopped g c table is = rw c.in-Select.is (c.answer_query.ensures.stopped table is)
-
-pub returns-in-Explain-clause-stopped : goal.returns-in-Explain-clause-stopped
-returns-in-Explain-clause-stopped g c table is = rw c.in-Explain.is (c.explain_query.ensures.stopped table is)
+returns-in-Select-clause-stopped g c basis is = rw c.in-Select.is (c.answer_query.ensures.stopped basis is)

@@ -1,8 +1,9 @@
-use Rattle.std.proofs.Common.{◌∙◌, sym, inr}
+use Rattle.std.proofs.Common.{◌∙◌, sym, ap, Err}
+use Rattle.std.proofs.lemmas.Result.{err_from_is_err_and}
 use Rattle.ub_lexer.specs.Statements.{AreStatements}
 use Rattle.ub_lexer.specs.Tokens.{AreTokens}
-use Rattle.ub_script.proofs.RowsFacts.{table_there}
-use Rattle.ub_script.proofs.RunFacts.{All-ranges, on_tree, whole_as, cut_as, stopped_as, if_ok, if_err, same_statements}
+use Rattle.ub_script.proofs.RunFacts.{All-ranges, run_over, run_unbegun, same_statements}
+use Rattle.ub_script.specs.declared.fault.RunFault.{RunFault}
 use Rattle.ub_script.proofs.script.run.Goals as goal
 
 pub run_statements-requires-clause-ranges : goal.run_statements-requires-clause-ranges
@@ -10,27 +11,18 @@ run_statements-requires-clause-ranges g c =
     let ranges : AreStatements c.deref-2.result.now c.deref-3.result.now = same_statements _ _ _ _ (c.deref-2.ensures.value ∙ sym c.deref.ensures.value) c.deref-3.ensures.value c.in_ok-ranges.ensures.statements in
     All-ranges _ _ ranges
 
-pub returns-clause-done : goal.returns-clause-done
-returns-clause-done g c sound =
+pub returns : goal.returns
+returns g c =
     let tokens : AreTokens c.args.script.now c.deref-2.result.now = rw c.deref-2.ensures.value c.in_ok-tokens.ensures.tokens in
     let ranges : AreStatements c.deref-2.result.now c.deref-3.result.now = same_statements _ _ _ _ (c.deref-2.ensures.value ∙ sym c.deref.ensures.value) c.deref-3.ensures.value c.in_ok-ranges.ensures.statements in
-    let there = table_there c.args.tree.now sound in
-    if_ok c.run_statements.result _ _
-    (λ s h. whole_as _ _ (on_tree c.args.tree.now there.0 c.args.script.now _ _ there.1 tokens ranges) _ _ _ _ s h)
-    (c.run_statements.ensures.done there.0 there.1)
+    run_over _ _ _ _ _ _ _ _ tokens ranges c.run_statements.ensures.done c.run_statements.ensures.write c.run_statements.ensures.begun c.run_statements.ensures.failures c.run_statements.ensures.effect
 
-pub returns-clause-begun : goal.returns-clause-begun
-returns-clause-begun g c sound =
-    let tokens : AreTokens c.args.script.now c.deref-2.result.now = rw c.deref-2.ensures.value c.in_ok-tokens.ensures.tokens in
-    let ranges : AreStatements c.deref-2.result.now c.deref-3.result.now = same_statements _ _ _ _ (c.deref-2.ensures.value ∙ sym c.deref.ensures.value) c.deref-3.ensures.value c.in_ok-ranges.ensures.statements in
-    let there = table_there c.args.tree.now sound in
-    if_err c.run_statements.result _ _
-    (λ e h differs. inr (stopped_as _ _ (on_tree c.args.tree.now there.0 c.args.script.now _ _ there.1 tokens ranges) _ _ _ _ (h differs)))
-    (c.run_statements.ensures.begun there.0 there.1)
+pub returns-in_err-tokens : goal.returns-in_err-tokens
+returns-in_err-tokens g c =
+    let p = err_from_is_err_and c.from_residual.result c.from_residual.ensures.1 in
+    run_unbegun _ _ _ _ (p.1 ∙ ap (λ (e : RunFault). Err e) p.2)
 
-pub returns-clause-write : goal.returns-clause-write
-returns-clause-write g c sound is =
-    let tokens : AreTokens c.args.script.now c.deref-2.result.now = rw c.deref-2.ensures.value c.in_ok-tokens.ensures.tokens in
-    let ranges : AreStatements c.deref-2.result.now c.deref-3.result.now = same_statements _ _ _ _ (c.deref-2.ensures.value ∙ sym c.deref.ensures.value) c.deref-3.ensures.value c.in_ok-ranges.ensures.statements in
-    let there = table_there c.args.tree.now sound in
-    cut_as _ _ (on_tree c.args.tree.now there.0 c.args.script.now _ _ there.1 tokens ranges) _ _ _ _ (c.run_statements.ensures.write there.0 there.1 is)
+pub returns-in_err-ranges : goal.returns-in_err-ranges
+returns-in_err-ranges g c =
+    let p = err_from_is_err_and c.from_residual-in_err-ranges.result c.from_residual-in_err-ranges.ensures.1 in
+    run_unbegun _ _ _ _ (p.1 ∙ ap (λ (e : RunFault). Err e) p.2)

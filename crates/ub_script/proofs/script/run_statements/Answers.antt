@@ -1,5 +1,5 @@
 use Rattle.std.proofs.Common.{◌≡◌, ◌≤◌, ◌+◌, ◌∙◌, Bool, cond, length, arith, refl, rules, sym}
-use Rattle.ub_script.proofs.KeptFacts.{regions_kept, runs_by, table_kept}
+use Rattle.ub_script.proofs.KeptFacts.{basis_kept, runs_by}
 use Rattle.ub_tree.proofs.Laws.{Keeps-none, Keeps-by, Keeps-more}
 use Rattle.ub_script.proofs.RunFacts.{come_none, come_more, come_broken, come_stopped, come_whole, other_err, same_failures}
 use Rattle.ub_script.proofs.script.run_statements.Goals as goal
@@ -7,7 +7,7 @@ use Rattle.ub_script.proofs.script.run_statements.Goals.{then-branch, else-branc
 
 pub loop-range-init : goal.loop-range-init
 loop-range-init g c = record {
-  run = λ table is. come_none table _ _ _ _ _ _;
+  run = λ basis is. come_none basis _ _ _ _ _;
   few = omega arith;
   kept = Keeps-none _;
   failures = refl;
@@ -28,28 +28,28 @@ loop-range-preserved g c =
       | else-branch w ↦ omega (arith, w.refused-is, inv.few)
     ] in
     record {
-      run = λ table is.
-          come_more table _ c.args.source.now c.args.tokens.now c.args.ranges.now c.loop-range.range-index c.loop-range.refused _ _ _ _ _ (0, 0) c.loop-range-test.true
-          (inv.run table is) _ c.in_ok-run_statement.field-0 _ (rw (regions_kept _ _ inv.kept) at (done table (table_kept _ _ table inv.kept is))) next;
+      run = λ basis is.
+          come_more basis c.args.source.now c.args.tokens.now c.args.ranges.now c.loop-range.range-index c.loop-range.refused _ _ _ _ _ (0, 0) c.loop-range-test.true
+          (inv.run basis is) _ c.in_ok-run_statement.field-0 _ (done basis (basis_kept _ _ basis inv.kept is)) next;
       few = few;
       kept = Keeps-more _ _ _ inv.kept (Keeps-by _ _ c.in_ok-run_statement.ensures.effect.same);
       failures = c.in_ok-run_statement.ensures.failures ∙ inv.failures;
     }
 
 pub returns-in_err-run_statement-clause-begun : goal.returns-in_err-run_statement-clause-begun
-returns-in_err-run_statement-clause-begun g c table is =
+returns-in_err-run_statement-clause-begun g c basis is =
     let inv = c.loop-range.invariant in
     other_err _ _ _ c.from_residual.ensures.1
-    (λ differs. come_stopped table _ c.args.source.now c.args.tokens.now c.args.ranges.now c.loop-range.range-index c.loop-range.refused _ _ _ _ _ (0, 0) c.loop-range-test.true
-    (inv.run table is) _ (c.in_err-run_statement.ensures.begun differs)
-    (rw (regions_kept _ _ inv.kept) at (c.in_err-run_statement.ensures.stopped table (table_kept _ _ table inv.kept is) differs)))
+    (λ differs. come_stopped basis c.args.source.now c.args.tokens.now c.args.ranges.now c.loop-range.range-index c.loop-range.refused _ _ _ _ _ (0, 0) c.loop-range-test.true
+    (inv.run basis is) _ _ (c.in_err-run_statement.ensures.begun differs)
+    (c.in_err-run_statement.ensures.stopped basis (basis_kept _ _ basis inv.kept is) differs))
 
 pub returns-in_err-run_statement-clause-write : goal.returns-in_err-run_statement-clause-write
-returns-in_err-run_statement-clause-write g c table is same =
+returns-in_err-run_statement-clause-write g c basis is same =
     let inv = c.loop-range.invariant in
-    let write = c.in_err-run_statement.ensures.write table (table_kept _ _ table inv.kept is) (search rules) in
-    come_broken table _ c.args.source.now c.args.tokens.now c.args.ranges.now c.loop-range.range-index c.loop-range.refused _ _ _ _ _ (0, 0) c.loop-range-test.true
-    (inv.run table is) _ (rw (regions_kept _ _ inv.kept) at write)
+    let write = c.in_err-run_statement.ensures.write basis (basis_kept _ _ basis inv.kept is) (search rules) in
+    come_broken basis c.args.source.now c.args.tokens.now c.args.ranges.now c.loop-range.range-index c.loop-range.refused _ _ _ _ _ (0, 0) c.loop-range-test.true
+    (inv.run basis is) _ write
 
 pub returns-in_err-run_statement-clause-failures : goal.returns-in_err-run_statement-clause-failures
 returns-in_err-run_statement-clause-failures g c =
@@ -58,9 +58,9 @@ returns-in_err-run_statement-clause-failures g c =
     rw (raised, c.loop-range.invariant.failures) (sym same)
 
 pub returns-clause-done : goal.returns-clause-done
-returns-clause-done g c table is =
+returns-clause-done g c basis is =
     let all : c.loop-range.range-index ≡ length c.args.ranges.now = omega (arith, c.loop-range-test.false, c.loop-range.auto.range-index-end) in
-    come_whole table _ c.args.source.now c.args.tokens.now c.args.ranges.now c.loop-range.range-index c.loop-range.refused _ _ _ _ all (c.loop-range.invariant.run table is)
+    come_whole basis c.args.source.now c.args.tokens.now c.args.ranges.now c.loop-range.range-index c.loop-range.refused _ _ _ _ all (c.loop-range.invariant.run basis is)
 
 pub returns-in_err-run_statement-clause-effect : goal.returns-in_err-run_statement-clause-effect
 returns-in_err-run_statement-clause-effect g c = runs_by _ _ _ _ _ c.from_residual.ensures.1 c.loop-range.invariant.kept.traced c.in_err-run_statement.ensures.effect
