@@ -1,5 +1,5 @@
 -- The slots of a page of entries, and which of them a key falls to.
-use Rattle.std.specs.Prelude.{◌≤◌, ◌<◌, ◌+◌, ◌-◌, ◌*◌, ℕ, List}
+use Rattle.std.specs.Prelude.{◌≤◌, ◌<◌, ◌+◌, ◌*◌, ℕ, List}
 use Rattle.ub_page.specs.Entries.{key_on, entry_on}
 use Rattle.ub_page.specs.declared.entries.Entry.{Entry}
 use Rattle.ub_table.specs.Keys.{IsBefore}
