@@ -6,8 +6,9 @@ use Rattle.std.proofs.lemmas.List.Elements.{All-from_recursion}
 use Rattle.std.specs.List.{AllByRecursion}
 use Rattle.std.specs.Result.{IsErrAnd, IsErrOf}
 use Rattle.ub_zaddr.specs.Address.{last_address}
-use Rattle.ub_page.specs.Directory.{Listing, AreAscending, IsEntry, IsListing, directory_page}
-use Rattle.ub_page.specs.declared.directory.Entry.{Entry}
+use Rattle.ub_page.specs.Directory.{Listing, IsListing, directory_page}
+use Rattle.ub_page.specs.Entries.{AreAscending, IsEntry}
+use Rattle.ub_page.specs.declared.entries.Entry.{Entry}
 use Rattle.ub_page.specs.declared.header.Header.{Header}
 use Rattle.ub_region.proofs.Laws.{all_more, all_append}
 use Rattle.ub_store.specs.Facts.{StoreFacts, IsHonest, IsPage, Reads, counted, page_count}

@@ -1,7 +1,7 @@
 -- The regions of a list of entries, by their places.
 use Rattle.std.proofs.Common.{◌≡◌, ◌<◌, ◌≤◌, ◌+◌, ℕ, zero, suc, List, [], ◌∷◌, Option, Some, None, length, drop, get_or, ◌∙◌, sym, ap, refl, arith, slice_get, add-one}
 use Rattle.std.proofs.lemmas.Option.{slice_get_read}
-use Rattle.ub_page.specs.declared.directory.Entry.{Entry}
+use Rattle.ub_page.specs.declared.entries.Entry.{Entry}
 use Rattle.ub_region.specs.Spans.{address_before, span_end}
 use Rattle.ub_table.specs.declared.row.Key.{Key}
 use Rattle.ub_directory.specs.Spans.{first_keys, regions_of}

@@ -8,7 +8,7 @@ use Rattle.std.specs.List.{AllByRecursion, IsDistinct}
 use Rattle.std.specs.Prelude.{IsTrue}
 use Rattle.std.specs.Result.{IsErrAnd}
 use Rattle.ub_page.specs.Directory.{directory_page}
-use Rattle.ub_page.specs.declared.directory.Entry.{Entry}
+use Rattle.ub_page.specs.declared.entries.Entry.{Entry}
 use Rattle.ub_region.proofs.Laws.{all_more, all_both, all_left, all_right}
 use Rattle.ub_store.specs.Facts.{StoreFacts, IsHonest, MayFlush, WritesAt, Syncs, Appends, page_count}
 use Rattle.ub_store.specs.declared.fault.StoreFault.{StoreFault}

@@ -1,8 +1,8 @@
 -- The pages of a table's directory: a chain, each page of which names the next one.
 use Rattle.std.specs.Prelude.{◌≡◌, ◌≤◌, ℕ, List, [], ◌∷◌, Some, length, take, drop, slice_get, ◌<◌, ◌+◌, ◌-◌, ◌/◌, ◌++◌}
 use Rattle.ub_page.specs.Directory.{directory_page}
-use Rattle.ub_page.specs.declared.directory.Entry.{Entry}
-use Rattle.ub_page.specs.declared.directory.TheConstants.{MAX_ENTRIES}
+use Rattle.ub_page.specs.declared.entries.Entry.{Entry}
+use Rattle.ub_page.specs.declared.entries.TheConstants.{MAX_ENTRIES}
 use Rattle.std.specs.Bool.{nat_eq}
 use Rattle.std.specs.List.{AllByRecursion, IsDistinct}
 

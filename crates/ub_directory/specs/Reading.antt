@@ -1,11 +1,12 @@
 -- Reading a directory: which pages tell of one, what is read of them, and why they are refused.
 use Rattle.std.specs.Prelude.{◌≡◌, ◌≤◌, ◌<◌, ◌-◌, ◌^◌, ◌↔◌, ◌⊎◌, ◌++◌, ℕ, min, false, IsTrue, List, [], ◌∷◌, Some, length, take, drop, slice_get, slice_index_or, Result, IfErr}
 use Rattle.std.specs.List.{AllByRecursion}
-use Rattle.ub_page.specs.declared.directory.TheConstants.{MAX_ENTRIES}
+use Rattle.ub_page.specs.declared.entries.TheConstants.{MAX_ENTRIES}
 use Rattle.ub_zaddr.specs.Address.{last_address}
-use Rattle.ub_page.specs.Directory.{Listing, IsEntry, IsListing, directory_page, IsDirectoryFault}
+use Rattle.ub_page.specs.Directory.{Listing, IsListing, directory_page, IsDirectoryFault}
+use Rattle.ub_page.specs.Entries.{IsEntry}
 use Rattle.ub_page.specs.Header.{IsHeader, header_page, IsHeaderFault}
-use Rattle.ub_page.specs.declared.directory.Entry.{Entry}
+use Rattle.ub_page.specs.declared.entries.Entry.{Entry}
 use Rattle.ub_page.specs.declared.header.Header.{Header}
 use Rattle.ub_store.specs.Facts.{StoreFacts, IsHonest, page_count}
 use Rattle.ub_store.specs.View.{PagerView}

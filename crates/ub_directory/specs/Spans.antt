@@ -3,7 +3,7 @@ use Rattle.std.specs.Prelude.{◌≡◌, ◌+◌, ◌≤◌, ◌<◌, ℕ, suc, 
 use Rattle.ub_bigmin.specs.Box.{Corners, HoldsAny}
 use Rattle.ub_directory.specs.View.{SeatView}
 use Rattle.ub_directory.specs.declared.region.Region.{Region}
-use Rattle.ub_page.specs.declared.directory.Entry.{Entry}
+use Rattle.ub_page.specs.declared.entries.Entry.{Entry}
 use Rattle.ub_region.specs.Spans.{span_end}
 use Rattle.ub_region.specs.Those.{FirstBy}
 use Rattle.ub_table.specs.Keys.{IsBefore, origin, are_ascending}

@@ -1,6 +1,6 @@
 -- What contracts see of a directory in memory.
 use Rattle.std.specs.Prelude.{ℕ, List, Option}
-use Rattle.ub_page.specs.declared.directory.Entry.{Entry}
+use Rattle.ub_page.specs.declared.entries.Entry.{Entry}
 use Rattle.ub_table.specs.declared.row.Key.{Key}
 
 -- a directory: where each region begins, in order, and its page; the pages of the store that the directory itself has, in order; the

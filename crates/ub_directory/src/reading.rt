@@ -1,6 +1,7 @@
 ghost use Rattle.std.specs.Prelude.{◌≡◌, ◌<◌, ◌≤◌, ◌-◌, ◌+◌, ◌↔◌, ◌++◌, false, length, IsTrue, IfOk, IfErr, OnOk};
 ghost use Rattle.ub_zaddr.specs.Address.{last_address};
-ghost use Rattle.ub_page.specs.Directory.{AreAscending, IsListing, directory_page};
+ghost use Rattle.ub_page.specs.Directory.{IsListing, directory_page};
+ghost use Rattle.ub_page.specs.Entries.{AreAscending};
 ghost use Rattle.ub_page.specs.Header.{IsHeader, header_page};
 ghost use Rattle.ub_store.specs.Facts.{IsPage};
 ghost use Rattle.ub_directory.specs.Reading.{AreBegun, HasPart, IsPartFault, IsReadUpTo, IsReadWhole, Opens};
@@ -8,7 +9,7 @@ ghost use Rattle.ub_directory.specs.Reading.{AreBegun, HasPart, IsPartFault, IsR
 use crate::fault::DirectoryFault;
 use crate::places::{ORIGIN, Places};
 use std::alloc::Global;
-use ub_page::directory::MAX_ENTRIES;
+use ub_page::entries::MAX_ENTRIES;
 use ub_page::{Directory, Entry, Header, Page, read_directory, read_header};
 use ub_region::is_equal;
 use ub_store::{PageStore, Pager, StoreFault};

@@ -3,7 +3,7 @@ ghost use Rattle.ub_directory.specs.Chain.{levels_for, AreOwn, HasDirectory, IsC
 ghost use Rattle.ub_directory.specs.Writing.{Grows, KeepsBut, IsUntouched, IsSaved, IsSaveFault, put_store, WritesStore};
 ghost use Rattle.ub_store.specs.Facts.{page_count, IsHonest};
 
-use ub_page::directory::MAX_ENTRIES;
+use ub_page::entries::MAX_ENTRIES;
 use ub_page::{Draft, Entry, write_directory};
 use ub_store::{PageStore, Pager, StoreFault};
 

@@ -2,6 +2,7 @@ pub mod BytesFacts
 pub mod ColumnFacts
 pub mod DirectoryFacts
 pub mod DraftFacts
+pub mod EntryFacts
 pub mod HeaderFacts
 pub mod InsertFacts
 pub mod KeysFacts

@@ -11,7 +11,7 @@ use Rattle.std.specs.List.{All, AllByRecursion, flat_map, range_with_len, slice_
 use Rattle.std.proofs.lemmas.List.{length-append, take-append-drop, get_or-drop, length-replicate}
 use Rattle.ub_page.specs.Bytes.{number_bytes, number_at, layout}
 use Rattle.ub_page.specs.Region.{RegionView, column, columns, dim_of, measure_of, head_fields, region_page, places, row_on, region_on, IsRegionKind, HasCounts, HasRows, HasOrder, HasFirst, IsRegionFault}
-use Rattle.ub_page.proofs.DirectoryFacts.{small_address}
+use Rattle.ub_page.proofs.EntryFacts.{small_address}
 use Rattle.ub_page.proofs.BytesFacts.{length-number_bytes, read_at, layout_read, length-layout, AllFit}
 use Rattle.ub_table.specs.Keys.{AreKeysAscending}
 use Rattle.ub_table.specs.Region.{Region, measures_of, HasRest, IsRow, IsRegion, IsNumbered, IsFirst, AreFrom, keys_of}

@@ -57,12 +57,12 @@ unfolding number_bytes number_at
 bytes_back n offset page within small = bytes-big_number n (drop offset page) (omega (arith, length-drop offset page)) (λ k. rw (get_or-drop offset page k 0) (small (offset + k)))
 
 -- the bytes from an offset on, some and then more
-joined : (offset m n next : ℕ) (page xs ys : List ℕ) → next ≡ offset + m → xs ≡ take m (drop offset page) → ys ≡ take n (drop next page) → xs ++ ys ≡ take (m + n) (drop offset page)
+pub joined : (offset m n next : ℕ) (page xs ys : List ℕ) → next ≡ offset + m → xs ≡ take m (drop offset page) → ys ≡ take n (drop next page) → xs ++ ys ≡ take (m + n) (drop offset page)
 joined offset m n next page xs ys at first rest =
     let behind : drop next page ≡ drop m (drop offset page) = ap (λ (k : ℕ). drop k page) (at ∙ omega arith) ∙ sym (drop-drop m offset page) in
     ap (λ (zs : List ℕ). zs ++ ys) first ∙ ap (λ (zs : List ℕ). take m (drop offset page) ++ zs) (rest ∙ ap (take n) behind) ∙ sym (take-add m n (drop offset page))
 
-layout_back : (fields : List (ℕ × ℕ)) (offset : ℕ) (page : List ℕ) → ((k : ℕ) → get_or page k 0 < 256) → offset + layout_len fields ≤ length page → AreAt offset fields page
+pub layout_back : (fields : List (ℕ × ℕ)) (offset : ℕ) (page : List ℕ) → ((k : ℕ) → get_or page k 0 < 256) → offset + layout_len fields ≤ length page → AreAt offset fields page
     → layout fields ≡ take (layout_len fields) (drop offset page)
 layout_back [] offset page small within there = refl
 layout_back (field ∷ fields) offset page small within there =

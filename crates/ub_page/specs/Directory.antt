@@ -1,32 +1,18 @@
 -- The pages of a table's directory, format 1.
-use Rattle.std.specs.Prelude.{◌≡◌, ◌≢◌, ◌≤◌, ◌<◌, ◌+◌, ◌^◌, ◌++◌, ℕ, zero, suc, List, [], ◌∷◌, length}
+use Rattle.std.specs.Prelude.{◌≡◌, ◌≢◌, ◌≤◌, ◌<◌, ◌^◌, ◌++◌, ℕ, List, [], ◌∷◌, length}
 use Rattle.std.specs.List.{flat_map, AllByRecursion}
 use Rattle.ub_zaddr.specs.Address.{last_address}
 use Rattle.ub_page.specs.Bytes.{number_at, layout, padded}
-use Rattle.ub_page.specs.declared.directory.Entry.{Entry}
-use Rattle.ub_page.specs.declared.directory.TheConstants.{MAX_ENTRIES}
-use Rattle.ub_table.specs.Keys.{IsBefore}
+use Rattle.ub_page.specs.Entries.{AreAscending, IsEntry, entry_bytes, entries_on}
+use Rattle.ub_page.specs.declared.entries.Entry.{Entry}
+use Rattle.ub_page.specs.declared.entries.TheConstants.{MAX_ENTRIES}
 use Rattle.ub_table.specs.declared.fault.PageFault.TheVariants.{WrongKind, BadCount, BadRow, BadOrder, BadPadding}
 use Rattle.ub_table.specs.declared.fault.PageFault.{PageFault}
-use Rattle.ub_table.specs.declared.row.TheConstants.{MAX_ROW_NUMBER}
 
 -- what a page of the directory tells: the entries, and the next page of the directory, 0 for none
 pub record Listing : Type 0 where
   pub entries : List Entry
   pub next : ℕ
-
--- each entry's first key is before the next entry's
-abbrev pub AreAscending : List Entry → Type 0
-AreAscending [] = Unit {0}
-AreAscending (a ∷ []) = Unit {0}
-AreAscending (a ∷ b ∷ entries) = IsBefore a.first b.first × AreAscending (b ∷ entries)
-
--- the address is in the space, the number is a row's or 0, and the page is not the first
-pub record IsEntry (last : ℕ) (entry : Entry) : Type 0 where
-  pub z : entry.first.z ≤ last
-  pub number : entry.first.number ≤ MAX_ROW_NUMBER
-  pub some_page : 1 ≤ entry.page
-  pub page : entry.page < 2 ^ 32
 
 -- what a page of the directory can hold, in a space of so many dimensions
 pub record IsListing (dims : ℕ) (listing : Listing) : Type 0 where
@@ -36,13 +22,6 @@ pub record IsListing (dims : ℕ) (listing : Listing) : Type 0 where
   pub ascending : AreAscending listing.entries
   pub next : listing.next < 2 ^ 32
 
--- an entry on 24 bytes
-abbrev pub entry_fields : Entry → List (ℕ × ℕ)
-entry_fields entry = (16, entry.first.z) ∷ (4, entry.first.number) ∷ (4, entry.page) ∷ []
-
-abbrev pub entry_bytes : Entry → List ℕ
-entry_bytes entry = layout (entry_fields entry)
-
 -- 'D', a zero, the count of entries, the next page, and zeros
 abbrev pub head_fields : ℕ → ℕ → List (ℕ × ℕ)
 head_fields count next = (1, 0x44) ∷ (1, 0) ∷ (2, count) ∷ (4, next) ∷ (8, 0) ∷ []
@@ -51,18 +30,6 @@ head_fields count next = (1, 0x44) ∷ (1, 0) ∷ (2, count) ∷ (4, next) ∷ (
 unfoldable pub directory_page : Listing → List ℕ
 directory_page listing =
     padded (layout (head_fields (length listing.entries) listing.next) ++ flat_map entry_bytes listing.entries)
-
--- the entry that stands at an offset of a page
-abbrev pub entry_on : ℕ → List ℕ → Entry
-entry_on offset page = record {
-  first = record { z = number_at 16 offset page; number = number_at 4 (offset + 16) page };
-  page = number_at 4 (offset + 20) page;
-}
-
--- so many entries, one after the other
-abbrev pub entries_on : ℕ → ℕ → List ℕ → List Entry
-entries_on offset zero page = []
-entries_on offset (suc n) page = entry_on offset page ∷ entries_on (offset + 24) n page
 
 -- what the page tells, if it is one of the directory
 abbrev pub listing_on : List ℕ → Listing

@@ -2,6 +2,7 @@ pub mod Bytes
 pub mod Columns
 pub mod Directory
 pub mod Draft
+pub mod Entries
 pub mod Header
 pub mod Held
 pub mod Lanes

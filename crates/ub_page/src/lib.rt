@@ -10,14 +10,16 @@
 mod columns;
 pub mod directory;
 mod draft;
+pub mod entries;
 pub mod header;
 pub mod laws;
 pub mod page;
 pub mod region;
 mod spelling;
 
-pub use directory::{Directory, Entry, read_directory, write_directory};
+pub use directory::{Directory, read_directory, write_directory};
 pub use draft::Draft;
+pub use entries::{Entries, Entry};
 pub use header::{Header, read_header, write_header};
 pub use page::Page;
 pub use region::{RegionPage, write_region};

@@ -7,32 +7,32 @@ use byteorder::{BigEndian, ByteOrder};
 /// One page of a table's file: 4096 bytes.
 pub type Page = [u8; 4096];
 
-// The byte at an offset.
-pub(crate) fn u8_at(page: &Page, offset: usize) -> u8
+/// The byte at an offset.
+pub fn u8_at(page: &Page, offset: usize) -> u8
     requires { offset + 1 ≤ 4096 }
     ensures { result ≡ number_at 1 offset page.now }
 {
     page[offset]
 }
 
-// The number in the two bytes from an offset on.
-pub(crate) fn u16_at(page: &Page, offset: usize) -> u16
+/// The number in the two bytes from an offset on.
+pub fn u16_at(page: &Page, offset: usize) -> u16
     requires { offset + 2 ≤ 4096 }
     ensures { result ≡ number_at 2 offset page.now }
 {
     BigEndian::read_u16(&page[offset..])
 }
 
-// The number in the four bytes from an offset on.
-pub(crate) fn u32_at(page: &Page, offset: usize) -> u32
+/// The number in the four bytes from an offset on.
+pub fn u32_at(page: &Page, offset: usize) -> u32
     requires { offset + 4 ≤ 4096 }
     ensures { result ≡ number_at 4 offset page.now }
 {
     BigEndian::read_u32(&page[offset..])
 }
 
-// The number in the eight bytes from an offset on.
-fn u64_at(page: &Page, offset: usize) -> u64
+/// The number in the eight bytes from an offset on.
+pub fn u64_at(page: &Page, offset: usize) -> u64
     requires { offset + 8 ≤ 4096 }
     ensures { result ≡ number_at 8 offset page.now }
 {
@@ -62,8 +62,8 @@ pub(crate) fn is_same(a: &Page, b: &Page) -> bool
     *a == *b
 }
 
-// Whether all bytes of a page from an offset on are zero.
-pub(crate) fn is_blank_from(page: &Page, offset: usize) -> bool
+/// Whether all bytes of a page from an offset on are zero.
+pub fn is_blank_from(page: &Page, offset: usize) -> bool
     requires { offset ≤ 4096 }
     ensures { IsTrue result ↔ (drop offset page.now ≡ replicate (4096 - offset) 0) }
 {

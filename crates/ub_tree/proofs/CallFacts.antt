@@ -3,7 +3,7 @@ use Rattle.std.proofs.Common.{◌⊎◌, inl, inr, ◌≡◌, ℕ, suc, Bool, Is
 use Rattle.std.specs.Result.{IsErrAnd, IsErrOf}
 use Rattle.std.specs.List.{Contains}
 use Rattle.ub_zaddr.specs.Address.{last_address}
-use Rattle.ub_page.specs.declared.directory.Entry.{Entry}
+use Rattle.ub_page.specs.declared.entries.Entry.{Entry}
 use Rattle.ub_region.specs.Spans.{span_end}
 use Rattle.ub_store.specs.Facts.{StoreFacts, IsHonest, IsPage, Reads, page_count, counted as counted_there}
 use Rattle.ub_store.specs.View.{PagerView, SameTrace}

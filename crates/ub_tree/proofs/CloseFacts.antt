@@ -5,7 +5,7 @@ use Rattle.std.proofs.lemmas.List.Elements.{All-from_recursion, recursion_from_A
 use Rattle.std.proofs.lemmas.Option.{slice_get_within}
 use Rattle.std.specs.List.{AllByRecursion}
 use Rattle.ub_page.specs.Region.{region_page}
-use Rattle.ub_page.specs.declared.directory.Entry.{Entry}
+use Rattle.ub_page.specs.declared.entries.Entry.{Entry}
 use Rattle.ub_region.proofs.Laws.{all_append, all_left}
 use Rattle.ub_region.specs.Regions.{AreRegions, rows_of}
 use Rattle.ub_store.specs.Facts.{StoreFacts, IsHonest, page_count}

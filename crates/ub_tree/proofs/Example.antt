@@ -2,7 +2,7 @@
 use Rattle.std.proofs.Common.{◌≡◌, ℕ, List, [], ◌∷◌, Option, Some, None, refl, replicate}
 use Rattle.std.specs.Prelude.{pos}
 use Rattle.ub_zaddr.specs.Address.{address, last_address}
-use Rattle.ub_page.specs.declared.directory.Entry.{Entry}
+use Rattle.ub_page.specs.declared.entries.Entry.{Entry}
 use Rattle.ub_region.specs.Regions.{insert, remove}
 use Rattle.ub_table.specs.Keys.{origin}
 use Rattle.ub_table.specs.Region.{Region}

@@ -8,10 +8,11 @@ use Rattle.std.proofs.lemmas.Map.Keys.{IsDistinct-head}
 use Rattle.std.proofs.lemmas.Option.{slice_get_within}
 use Rattle.std.specs.List.{AllByRecursion}
 use Rattle.ub_zaddr.specs.Address.{last_address}
-use Rattle.ub_page.specs.Directory.{Listing, AreAscending, IsEntry, IsListing, directory_page}
+use Rattle.ub_page.specs.Directory.{Listing, IsListing, directory_page}
+use Rattle.ub_page.specs.Entries.{AreAscending, IsEntry}
 use Rattle.ub_page.specs.Header.{IsHeader, AreSame, IsHeaderFault, header_page}
 use Rattle.ub_page.specs.Region.{region_page}
-use Rattle.ub_page.specs.declared.directory.Entry.{Entry}
+use Rattle.ub_page.specs.declared.entries.Entry.{Entry}
 use Rattle.ub_page.specs.declared.header.Header.{Header}
 use Rattle.ub_page.specs.Bytes.{number_at}
 use Rattle.ub_region.proofs.Laws.{all_more, all_left, all_right, all_take, all_drop, are_ascending_of}

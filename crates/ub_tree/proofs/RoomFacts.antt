@@ -5,7 +5,7 @@ use Rattle.std.proofs.lemmas.List.{length-drop}
 use Rattle.std.proofs.lemmas.List.Elements.{All-append, All-take, All-drop, All-cons}
 use Rattle.std.specs.List.{AllByRecursion, insert, list_any}
 use Rattle.ub_zaddr.specs.Address.{last_address}
-use Rattle.ub_page.specs.declared.directory.Entry.{Entry}
+use Rattle.ub_page.specs.declared.entries.Entry.{Entry}
 use Rattle.ub_region.proofs.Laws.{IsFilled, two_chain, all_drop, all_left, all_right, before_or_same, upto_before, IsBeforeNext, up_head, up_tail, up_cons, all_keys, all_of_keys, all_insert, length-insert_row}
 use Rattle.ub_region.specs.Regions.{index_holding, rows_of}
 use Rattle.ub_region.specs.Rows.{has_key, insert_row, cut, split}

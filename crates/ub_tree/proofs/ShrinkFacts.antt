@@ -6,7 +6,7 @@ use Rattle.std.proofs.lemmas.List.Elements.{All-append, All-take, All-drop}
 use Rattle.std.specs.List.{AllByRecursion, remove as remove_at_index, IsDistinct}
 use Rattle.std.proofs.lemmas.List.Sorted.{IsPermutation-middle, length_permutation}
 use Rattle.std.proofs.lemmas.Map.Keys.{IsDistinct-IsPermutation, IsDistinct-tail}
-use Rattle.ub_page.specs.declared.directory.Entry.{Entry}
+use Rattle.ub_page.specs.declared.entries.Entry.{Entry}
 use Rattle.ub_region.proofs.Laws.{IsChain, chain_of, nat_eq_flips, all_more, all_from, other_key, remove_keeps, remove_none, remove_rows, remove_table, all_of_keys, has_append, has_none}
 use Rattle.ub_region.specs.Joins.{put_rows, JoinsNext, JoinsBefore}
 use Rattle.ub_region.specs.Regions.{AreRegions, change_from, firsts_of, fits_next, is_small, join_before, join_first, index_holding, remove, remove_first, rows_of, settle}

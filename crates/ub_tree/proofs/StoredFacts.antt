@@ -9,7 +9,7 @@ use Rattle.std.proofs.lemmas.Map.Keys.{IsDistinct-head, IsDistinct-tail, IsDisti
 use Rattle.std.specs.List.{All, AllByRecursion, IsDistinct, insert}
 use Rattle.std.specs.Option.{unwrap_or}
 use Rattle.ub_page.specs.Region.{region_on, region_page}
-use Rattle.ub_page.specs.declared.directory.Entry.{Entry}
+use Rattle.ub_page.specs.declared.entries.Entry.{Entry}
 use Rattle.ub_region.proofs.Laws.{nat_eq_flips, all_more, all_append, all_left, all_right}
 use Rattle.ub_table.specs.Region.{Region}
 use Rattle.ub_table.specs.declared.row.Row.{Row}

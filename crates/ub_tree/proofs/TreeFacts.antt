@@ -7,7 +7,7 @@ use Rattle.ub_zaddr.specs.Address.{last_address}
 use Rattle.ub_page.specs.Region.{region_on, region_page}
 use Rattle.ub_directory.specs.Spans.{IsSeat}
 use Rattle.ub_directory.specs.View.{SeatView}
-use Rattle.ub_page.specs.declared.directory.Entry.{Entry}
+use Rattle.ub_page.specs.declared.entries.Entry.{Entry}
 use Rattle.ub_region.specs.Regions.{AreRegions, AreApart, firsts_of}
 use Rattle.ub_region.specs.Spans.{span_end}
 use Rattle.ub_table.proofs.Laws.{before_of, precedes_of, before_trans}

@@ -9,7 +9,7 @@ use Rattle.std.specs.List.{AllByRecursion, Contains, IsDistinct, insert}
 use Rattle.std.specs.Result.{IsErrAnd}
 use Rattle.ub_page.specs.Region.{region_on, region_page}
 use Rattle.ub_page.specs.Header.{header_page}
-use Rattle.ub_page.specs.declared.directory.Entry.{Entry}
+use Rattle.ub_page.specs.declared.entries.Entry.{Entry}
 use Rattle.ub_region.proofs.Laws.{all_right}
 use Rattle.ub_region.specs.Regions.{AreRegions, rows_of}
 use Rattle.ub_tree.specs.declared.fault.TreeFault.{TreeFault}

@@ -3,7 +3,7 @@ use Rattle.std.specs.Prelude.{◌+◌, ◌≡◌, ◌≤◌, ◌<◌, ◌^◌, �
 use Rattle.std.specs.List.{AllByRecursion}
 use Rattle.ub_table.specs.declared.row.TheConstants.{MAX_ROW_NUMBER}
 use Rattle.ub_zaddr.specs.Address.{last_address}
-use Rattle.ub_page.specs.declared.directory.Entry.{Entry}
+use Rattle.ub_page.specs.declared.entries.Entry.{Entry}
 use Rattle.ub_store.specs.Facts.{StoreFacts}
 use Rattle.ub_store.specs.View.{PagerView}
 use Rattle.ub_table.specs.Keys.{IsBefore}

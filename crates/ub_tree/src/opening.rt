@@ -1,6 +1,6 @@
 ghost use Rattle.std.specs.Prelude.{◌≡◌, ℕ, List, Err, MatchResult, IsErrAnd, IfOk, IfErr};
 ghost use Rattle.ub_directory.specs.Reading.{IsDirectory};
-ghost use Rattle.ub_page.specs.declared.directory.Entry.{Entry};
+ghost use Rattle.ub_page.specs.declared.entries.Entry.{Entry};
 ghost use Rattle.ub_page.specs.declared.header.Header.{Header};
 ghost use Rattle.ub_store.specs.Facts.{IsHonest};
 ghost use Rattle.ub_table.specs.declared.schema.Schema.{Schema};

@@ -3,7 +3,7 @@ use Rattle.std.specs.Prelude.{◌≡◌, ◌⊎◌, ℕ, List, Some, false, leng
 use Rattle.ub_directory.specs.Chain.{HasDirectory}
 use Rattle.ub_directory.specs.Writing.{AreKept, KeepsFirst}
 use Rattle.ub_page.specs.Header.{IsHeader, header_page}
-use Rattle.ub_page.specs.declared.directory.Entry.{Entry}
+use Rattle.ub_page.specs.declared.entries.Entry.{Entry}
 use Rattle.ub_page.specs.declared.header.Header.{Header}
 use Rattle.ub_store.specs.Facts.{StoreFacts}
 use Rattle.ub_table.specs.declared.schema.Schema.{Schema}

@@ -9,7 +9,7 @@ use Rattle.ub_tree.specs.Spans.{ArePlaces, first_keys}
 use Rattle.ub_store.specs.Facts.{IsHonest, IsPage, page_count}
 use Rattle.ub_store.specs.View.{PagerView}
 use Rattle.ub_page.specs.Region.{RegionView, region_page}
-use Rattle.ub_page.specs.declared.directory.Entry.{Entry}
+use Rattle.ub_page.specs.declared.entries.Entry.{Entry}
 use Rattle.ub_table.specs.Keys.{AreKeysAscending, IsBefore}
 use Rattle.ub_table.specs.Region.{Region, IsRegion, keys_of}
 use Rattle.ub_table.specs.declared.row.Key.{Key}

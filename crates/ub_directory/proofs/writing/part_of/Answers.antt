@@ -1,6 +1,6 @@
 use Rattle.std.proofs.Common.{◌∙◌, ap, ℕ, List, take}
 use Rattle.std.proofs.lemmas.List.{take_min}
-use Rattle.ub_page.specs.declared.directory.Entry.{Entry}
+use Rattle.ub_page.specs.declared.entries.Entry.{Entry}
 use Rattle.ub_directory.proofs.writing.part_of.Goals as goal
 
 pub returns-clause-part : goal.returns-clause-part

@@ -1,6 +1,6 @@
 use Rattle.std.proofs.Common.{refl, arith, sym, ◌∙◌, ◌≤◌, ◌-◌, length, drop}
 use Rattle.std.proofs.lemmas.List.{length-drop}
-use Rattle.ub_page.proofs.DirectoryFacts.{short_ascending, ascending_step}
+use Rattle.ub_page.proofs.EntryFacts.{short_ascending, ascending_step}
 use Rattle.ub_page.proofs.directory.are_ascending.Goals as goal
 
 pub returns : goal.returns

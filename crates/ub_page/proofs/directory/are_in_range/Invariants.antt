@@ -1,6 +1,6 @@
 use Rattle.std.proofs.Common.{◌↔◌, drop}
 use Rattle.std.specs.List.{AllByRecursion}
-use Rattle.ub_page.specs.Directory.{IsEntry}
+use Rattle.ub_page.specs.Entries.{IsEntry}
 use Rattle.ub_page.proofs.directory.are_in_range.Given as goal
 
 abbrev pub invariant-loop-entry : goal.invariant-loop-entry

@@ -1,7 +1,6 @@
-use Rattle.ub_page.proofs.DirectoryFacts.{written}
+use Rattle.ub_page.proofs.DirectoryFacts.{spelled}
 use Rattle.ub_page.proofs.directory.write_directory.Goals as goal
+use Rattle.std.proofs.Common.{◌∙◌}
 
 pub returns : goal.returns
-returns c =
-    rw (c.put_entries.ensures, c.put_u64.ensures.bytes, c.put_u32.ensures.bytes, c.put_u16.ensures.bytes, c.put_u8-2.ensures.bytes, c.put_u8.ensures.bytes, c.clear.ensures)
-    (written c.args.entries.now c.args.next)
+returns c = c.write_entries.ensures ∙ spelled c.args.entries.now c.args.next

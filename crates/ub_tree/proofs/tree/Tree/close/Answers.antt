@@ -1,5 +1,5 @@
 use Rattle.std.proofs.Common.{List, ap, rules, subst, sym}
-use Rattle.ub_page.specs.declared.directory.Entry.{Entry}
+use Rattle.ub_page.specs.declared.entries.Entry.{Entry}
 use Rattle.ub_writing.specs.Closing.{IsClosed}
 use Rattle.ub_tree.specs.Tree.{known_pages}
 use Rattle.ub_tree.proofs.TreeFacts.{entries_back}

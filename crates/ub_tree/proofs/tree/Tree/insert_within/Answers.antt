@@ -1,6 +1,6 @@
 use Rattle.std.proofs.Common.{◌≡◌, ◌≢◌, ◌<◌, ◌≤◌, ◌+◌, ◌^◌, ◌∙◌, ℕ, Ok, Err, sym, ap, subst, length, arith, inr, map, refl, true, false, Some, slice_get, List, rules}
 use Rattle.std.specs.List.{list_any}
-use Rattle.ub_page.specs.declared.directory.Entry.{Entry}
+use Rattle.ub_page.specs.declared.entries.Entry.{Entry}
 use Rattle.ub_table.specs.Region.{Region, key_of, keys_of}
 use Rattle.ub_tree.specs.inner.Change.{AreRowsAt, IsOnSeat, IsReadAt}
 use Rattle.ub_tree.specs.Effects.{Changes, IsNumberTaken}

@@ -1,6 +1,6 @@
 use Rattle.std.proofs.Common.{◌∙◌, ◌≡◌, ◌∷◌, ◌<◌, [], true, Some, Err, refl, length, slice_get, ap}
 use Rattle.ub_page.proofs.PageLaws.{region_parts}
-use Rattle.ub_page.specs.declared.directory.Entry.{Entry}
+use Rattle.ub_page.specs.declared.entries.Entry.{Entry}
 use Rattle.ub_store.specs.Facts.{StoreFacts}
 use Rattle.ub_store.specs.declared.fault.StoreFault.{StoreFault}
 use Rattle.ub_tree.specs.declared.fault.TreeFault.TheVariants.{Store}

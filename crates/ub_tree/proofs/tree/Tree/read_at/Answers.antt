@@ -9,7 +9,7 @@ use Rattle.ub_tree.specs.Tree.{tree_view, known_pages}
 use Rattle.ub_tree.specs.View.{TreeView}
 use Rattle.ub_tree.proofs.CallFacts.{tree_entry_known, page_refused_by, store_refused, known_is, refused_there, missing_there, read_there, read_page_by, searched_tree, page_still, seated}
 use Rattle.ub_tree.proofs.TreeFacts.{entries_back, placed_at, rows_read}
-use Rattle.ub_page.specs.declared.directory.Entry.{Entry}
+use Rattle.ub_page.specs.declared.entries.Entry.{Entry}
 use Rattle.ub_tree.specs.Effects.{IsRegionRefused}
 use Rattle.ub_tree.proofs.RoomFacts.{rows_at_index}
 use Rattle.ub_writing.specs.Marks.{is_written}

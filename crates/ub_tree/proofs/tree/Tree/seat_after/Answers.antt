@@ -1,7 +1,7 @@
 use Rattle.std.proofs.Common.{List, Option, subst, sym}
 use Rattle.ub_directory.specs.Spans.{IsSeatAfter}
 use Rattle.ub_directory.specs.View.{SeatView}
-use Rattle.ub_page.specs.declared.directory.Entry.{Entry}
+use Rattle.ub_page.specs.declared.entries.Entry.{Entry}
 use Rattle.ub_tree.proofs.CallFacts.{entries_are, seated, searched_there, search_refused}
 use Rattle.ub_writing.specs.Marks.{is_written}
 use Rattle.ub_tree.proofs.tree.Tree.seat_after.Goals as goal

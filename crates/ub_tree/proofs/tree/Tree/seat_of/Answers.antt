@@ -1,7 +1,7 @@
 use Rattle.std.proofs.Common.{◌≡◌, List, subst, sym}
 use Rattle.ub_directory.specs.Spans.{IsSeat}
 use Rattle.ub_directory.specs.View.{SeatView}
-use Rattle.ub_page.specs.declared.directory.Entry.{Entry}
+use Rattle.ub_page.specs.declared.entries.Entry.{Entry}
 use Rattle.ub_region.specs.Regions.{index_holding}
 use Rattle.ub_tree.proofs.CallFacts.{entries_are, searched_there, search_refused}
 use Rattle.ub_tree.specs.Spans.{first_keys}

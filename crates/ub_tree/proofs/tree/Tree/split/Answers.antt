@@ -3,7 +3,7 @@ use Rattle.std.specs.List.{insert}
 use Rattle.ub_directory.specs.View.{AddingView}
 use Rattle.ub_store.specs.Facts.{StoreFacts}
 use Rattle.ub_store.specs.View.{PagerView}
-use Rattle.ub_page.specs.declared.directory.Entry.{Entry}
+use Rattle.ub_page.specs.declared.entries.Entry.{Entry}
 use Rattle.ub_tree.specs.inner.Change.{placed_with}
 use Rattle.ub_tree.specs.Effects.{Changes}
 use Rattle.ub_tree.specs.Placed.{Placed}

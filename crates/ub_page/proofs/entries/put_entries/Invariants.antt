@@ -1,7 +1,7 @@
 use Rattle.std.proofs.Common.{◌≡◌, ◌+◌, ◌*◌, ◌++◌, length, take}
 use Rattle.std.specs.List.{flat_map}
-use Rattle.ub_page.specs.Directory.{entry_bytes}
-use Rattle.ub_page.proofs.directory.put_entries.Given as goal
+use Rattle.ub_page.specs.Entries.{entry_bytes}
+use Rattle.ub_page.proofs.entries.put_entries.Given as goal
 
 abbrev pub invariant-loop-entry : goal.invariant-loop-entry
 invariant-loop-entry l = record {

@@ -1,0 +1,2 @@
+pub mod IndexFacts
+pub mod IndexLaws

@@ -1,0 +1,72 @@
+// The check of a page of an index where it stands.
+ghost use Rattle.std.specs.Prelude.{◌≡◌, ◌≤◌, ◌↔◌, IsTrue, IsOk, IfOk, IfErr};
+ghost use Rattle.std.specs.List.{AllByRecursion};
+ghost use Rattle.ub_page.specs.Entries.{AreAscending, IsEntry, entries_on};
+ghost use Rattle.ub_index_page.specs.Index.{Node, IsNode, index_page, head_on, node_on, IsBlankBehind, IsIndexFault};
+
+use crate::index::{Head, read_head};
+use crate::slots::{entry_at, first_at};
+use ub_page::Page;
+use ub_page::entries::{MAX_ENTRIES, is_in_range};
+use ub_page::page::{is_blank_from, u32_at, u64_at};
+use ub_table::PageFault;
+
+/// What the first bytes tell of a page of an index, all bytes of which are well, in a space that ends with the address
+/// `last`. It is refused as by `read_index`, and no entry is kept. Takes no memory.
+pub fn check_index(last: u128, page: &Page) -> Result<Head, PageFault>
+    ensures head { IfOk result (λ head. head ≡ head_on page.now) }
+    ensures found { IfOk result
+        (λ _. IsNode last (node_on page.now) × (page.now ≡ index_page (node_on page.now))) }
+    ensures exact { (node : Node) → IsNode last node → page.now ≡ index_page node → IsOk result }
+    ensures refused { IfErr result (IsIndexFault last page.now) }
+{
+    let head = read_head(page)?;
+    if !are_in_range(page, head.count, last) {
+        return Err(PageFault::BadRow);
+    }
+    if !are_ascending(page, head.count) {
+        return Err(PageFault::BadOrder);
+    }
+    if !is_blank_behind(page, head.count) {
+        return Err(PageFault::BadPadding);
+    }
+    Ok(head)
+}
+
+// Whether the first so many entries are in range.
+fn are_in_range(page: &Page, count: usize, last: u128) -> bool
+    requires { count ≤ MAX_ENTRIES }
+    ensures { IsTrue result ↔ AllByRecursion (IsEntry last) (entries_on 16 count page.now) }
+{
+    for slot in 0..count {
+        if !is_in_range(&entry_at(page, slot), last) {
+            return false;
+        }
+    }
+    true
+}
+
+// Whether the first so many entries begin one after the other.
+fn are_ascending(page: &Page, count: usize) -> bool
+    requires some { 1 ≤ count }
+    requires few { count ≤ MAX_ENTRIES }
+    ensures { IsTrue result ↔ AreAscending (entries_on 16 count page.now) }
+{
+    let mut before = first_at(page, 0);
+    for slot in 1..count {
+        let first = first_at(page, slot);
+        if !before.is_before(&first) {
+            return false;
+        }
+        before = first;
+    }
+    true
+}
+
+// Whether the bytes that no field uses are zero.
+fn is_blank_behind(page: &Page, count: usize) -> bool
+    requires { count ≤ MAX_ENTRIES }
+    ensures { IsTrue result ↔ IsBlankBehind count page.now }
+{
+    u32_at(page, 4) == 0 && u64_at(page, 8) == 0 && is_blank_from(page, 16 + 24 * count)
+}
