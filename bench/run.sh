@@ -1,7 +1,7 @@
 #!/usr/bin/env bash
 # Times, from outside: `next_in_box`, in nanoseconds a call for each number of dimensions, beside its body by bits, and without
-# the making of the boxes and addresses; a page read and filtered; the rows put into a tree, and the regions walked, in a second;
-# sweeps beside a scan of the same regions; and the boxes of a condition.
+# the making of the boxes and addresses; a page read and filtered; the rows put into a tree in a second; counting, sweeps and scans
+# beside walks over the same regions; and the boxes of a condition.
 # usage: bench/run.sh [CALLS [ROWS]]     (default 1000000, and 200000 for the sweeps)
 set -euo pipefail
 calls=${1:-1000000}
@@ -44,27 +44,13 @@ for dims in 1 2 3 4; do
     echo "least_value, $dims dimensions: $(($(jumps "$dims" events) / calls)) ns a call ($calls calls)"
 done
 
-# A page of 64 rows with one measure read and filtered by a box: into a region made anew, and into one that is held.
+# A page of 64 rows with one measure read into a region that is held, and filtered by a box.
 pages=200000
 for dims in 1 2 3 4; do
-    echo "a region read and filtered, $dims dimensions: $(($(least out/bench pages "$dims" "$pages") / pages)) ns a page," \
-        "into one that is held $(($(least out/bench pages "$dims" "$pages" held) / pages)) ($pages pages)"
+    echo "a region read and filtered, $dims dimensions: $(($(least out/bench pages "$dims" "$pages") / pages)) ns a page ($pages pages)"
 done
 
-# Rows put into a UB-tree over a store in memory (two dimensions, 64 rows a page), and its regions walked.
-tree() {
-    least out/bench tree "$1" "$2"
-}
-for rows in 10000 100000; do
-    fill=$(tree "$rows" 0)
-    walks=$((1000000 / rows))
-    walked=$(tree "$rows" "$walks")
-    regions=$(out/bench tree "$rows" 0 | cut -d' ' -f1)
-    echo "ub_tree, $rows rows: $((rows * 1000000000 / fill)) rows put in a second," \
-        "$((regions * walks * 1000000000 / (walked - fill + 1))) regions walked a second"
-done
-
-# The same of two and three dimensions, in each order.
+# Rows put into a UB-tree over a store in memory (64 rows a page), of two and three dimensions, in each order.
 filled=300000
 for dims in 2 3; do
     for order in random ascending clustered; do
@@ -73,9 +59,9 @@ for dims in 2 3; do
     done
 done
 
-# A tree of three dimensions in random order; the program times these itself. All rows counted beside a walk that only reads the
-# regions; all rows in the order of a dimension (a sweep) beside those of a measure that orders them alike (a scan); and sweeps of
-# three cubes beside a walk of the same regions.
+# A tree of three dimensions in random order; the program times these itself. All rows counted beside a walk that reads the regions
+# and counts their rows in the box; all rows in the order of a dimension (a sweep) beside those of a measure that orders them alike
+# (a scan); and sweeps of three cubes, each beside a walk of the same regions.
 echo "$swept rows of three dimensions in random order:"
 out/bench count "$swept"
 out/bench orders "$swept"

@@ -1,6 +1,7 @@
 #!/usr/bin/env python3
 """Writes docs/DEFINITIONS.md from the comments of crates/*/specs, crate by crate in the order of crates.txt, and says which
-files of the libraries and of `ubq` the first table of docs/ARCHITECTURE.md doesn't name (status 1 where there are any).
+files of the libraries and of `ubq` the first table of docs/ARCHITECTURE.md doesn't name, and which it names that aren't there
+(status 1 where there are any).
 
     docs/definitions.py            writes the page
     docs/definitions.py --check    says whether the page is what it would write (status 1 where it isn't)
@@ -68,14 +69,28 @@ def page():
     return "\n".join(lines).rstrip("\n") + "\n"
 
 
-def named_in_map():
-    """The pairs of a crate and a word in the same row of the first table of ARCHITECTURE.md."""
+def rows_of_map():
+    """The rows of the first table of ARCHITECTURE.md, each as the words in backquotes of its cells but the first: crates,
+    definitions and code."""
     table = MAP.read_text().split(MAP_HEADING, 1)[-1].split("\n## ", 1)[0]
-    pairs = set()
     for row in re.findall(r"^\|(.*)\|$", table, re.M):
-        cells = [re.findall("`([^`]+)`", cell) for cell in row.split("|")]
-        pairs |= {(crate, word) for crate in cells[1] for cell in cells[2:] for word in cell}
-    return pairs
+        yield [re.findall("`([^`]+)`", cell) for cell in row.split("|")[1:]]
+
+
+def named_in_map():
+    """The pairs of a crate and a word in the same row."""
+    return {(crate, word) for crates, *cells in rows_of_map() for crate in crates for cell in cells for word in cell}
+
+
+def lost_in_map():
+    """The files that a row names and none of its crates has. Definitions may stand in a crate that is named beside them."""
+    for crates, definitions, code in rows_of_map():
+        homes = [TOP / "crates" / crate for crate in [*crates, *definitions]]
+        specs = [word for word in definitions if word[:1].isupper()]
+        paths = [(word, f"specs/{inner}{word}.antt") for word in specs for inner in ("", "inner/")]
+        paths += [(word, f"src/{word}") for word in code if re.fullmatch(r"\w+\.rt", word)]
+        there = {word for word, path in paths for home in homes if (home / path).is_file()}
+        yield from sorted({(crates[0], word) for word, _ in paths if word not in there})
 
 
 def lacking_in_map():
@@ -94,6 +109,9 @@ def main():
     status = write_or_check(PAGE, page(), "definitions.py", sys.argv[1:])
     for path in lacking_in_map():
         print(f"docs/ARCHITECTURE.md doesn't name {path} in a row of its crate (first table)")
+        status = 1
+    for crate, word in lost_in_map():
+        print(f"docs/ARCHITECTURE.md names {word} in a row of {crate}, and it isn't there (first table)")
         status = 1
     return status
 

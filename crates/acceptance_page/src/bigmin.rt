@@ -6,13 +6,16 @@ use ub_bigmin::laws::{next_by_bits, next_by_words, prev_by_bits, prev_by_words};
 use ub_bigmin::{ZBox, greatest_value, least_value, next_in_any};
 use ub_zaddr::{Point, Shape, ZFault, interleave};
 
-// Addresses, and the nearest ones of the box from (2,2) to (6,3) at or above and at or below them.
-const NEIGHBOURS: &[(u128, Option<u128>, Option<u128>)] = &[
-    (19, Some(36), Some(15)),
-    (0, Some(12), None),
-    (46, None, Some(45)),
-    (11, Some(12), None),
-    (12, Some(12), Some(12)),
+// Addresses, whether the box from (2,2) to (6,3) holds them, and the nearest ones of it at or above
+// and at or below them.
+const NEIGHBOURS: &[(u128, bool, Option<u128>, Option<u128>)] = &[
+    (19, false, Some(36), Some(15)),
+    (0, false, Some(12), None),
+    (46, false, None, Some(45)),
+    (11, false, Some(12), None),
+    (12, true, Some(12), Some(12)),
+    (45, true, Some(45), Some(45)),
+    (u128::MAX, false, None, Some(45)),
 ];
 
 // Spans, and the least and the greatest first coordinate that this box has there.
@@ -39,18 +42,16 @@ fn box_between(dims: u32, lo: &[u32], hi: &[u32]) -> Option<ZBox>
 // Whether this box has the corners (2,2) and (6,3), holds what lies between them, and leads to its
 // neighbours.
 fn is_as_told(zbox: &ZBox) -> bool {
-    for (z, next, prev) in NEIGHBOURS {
-        if zbox.next_in_box(*z) != *next || zbox.prev_in_box(*z) != *prev {
+    for (z, is_held, next, prev) in NEIGHBOURS {
+        if zbox.holds(*z) != *is_held
+            || zbox.next_in_box(*z) != *next
+            || zbox.prev_in_box(*z) != *prev
+        {
             return false;
         }
     }
-    zbox.shape().dims() == 2
-        && zbox.lo().values() == [2, 2].as_slice()
-        && zbox.hi().values() == [6, 3].as_slice()
-        && zbox.holds(12)
-        && zbox.holds(45)
-        && !zbox.holds(19)
-        && !zbox.holds(u128::MAX)
+    [zbox.lo().values(), zbox.hi().values()] == [[2, 2].as_slice(), [6, 3].as_slice()]
+        && zbox.shape().dims() == 2
 }
 
 // Whether boxes have these least and greatest first coordinates within these spans.
@@ -78,11 +79,13 @@ fn several_boxes(rt: HostRuntime) {
     let high = box_between(2, &[6, 3], &[6, 3]).expect(&rt, "a box");
     let low = box_between(2, &[2, 2], &[3, 3]).expect(&rt, "a box");
     let boxes = [high, low];
+    let next = [
+        next_in_any(&boxes, 13),
+        next_in_any(&boxes, 16),
+        next_in_any(&boxes, 46),
+    ];
     assert!(rt;
-        have_values(&boxes, &[(15, 45, Some(3), Some(6))])
-            && next_in_any(&boxes, 13) == Some(13)
-            && next_in_any(&boxes, 16) == Some(45)
-            && next_in_any(&boxes, 46).is_none()
+        have_values(&boxes, &[(15, 45, Some(3), Some(6))]) && next == [Some(13), Some(45), None]
     );
 }
 
@@ -90,11 +93,9 @@ fn several_boxes(rt: HostRuntime) {
 #[test]
 fn the_whole_space(rt: HostRuntime) {
     let whole = box_between(4, &[0; 4], &[4294967295; 4]).expect(&rt, "a space");
-    assert!(rt;
-        whole.next_in_box(u128::MAX) == Some(u128::MAX)
-            && whole.prev_in_box(u128::MAX) == Some(u128::MAX)
-            && box_between(4, &[4294967295; 4], &[0; 4]).is_none()
-    );
+    let around = [whole.next_in_box(u128::MAX), whole.prev_in_box(u128::MAX)];
+    let back = box_between(4, &[4294967295; 4], &[0; 4]);
+    assert!(rt; around == [Some(u128::MAX); 2] && back.is_none());
 }
 
 // The coordinates of the boxes that both ways of a jump are compared on: each up to 7, and those at
@@ -143,12 +144,13 @@ fn agreements_in(zbox: &ZBox, values: &[u32], points: usize) -> u64
 
 // In how many boxes with these coordinates, the lower corner one of those from one number to
 // another, and from how many addresses there both ways agree.
-fn agreements(dims: u32, values: &[u32], points: usize, from: usize, to: usize) -> u64
-    requires { 0 < length values.now }
-{
+fn agreements(dims: u32, values: &[u32], points: usize, from: usize, to: usize) -> u64 {
     let Ok(shape) = Shape::new(dims) else {
         return 0;
     };
+    if values.is_empty() {
+        return 0;
+    }
     let mut count = 0u64;
     for low in from..to {
         for high in 0..points {
@@ -166,24 +168,24 @@ fn agreements(dims: u32, values: &[u32], points: usize, from: usize, to: usize) 
     count
 }
 
-// 36 pairs of corners up to 7 in each of two dimensions, and the 65 addresses up to 64; and 10
-// pairs at the ends in each of three, 4 coordinates there, and the address 64.
-#[test]
-fn words_and_bits_agree_in_two_and_three_dimensions(rt: HostRuntime) {
-    let plane = agreements(2, &SMALL, 64, 0, 64);
-    let space = agreements(3, &ENDS, 64, 0, 64);
-    assert!(rt; plane == 84240 && space == 65000);
-}
+// Numbers of dimensions, coordinates, how many points are corners, the first and the last lower
+// corner, and how often both ways agree there: 36 pairs of corners up to 7 in each of two
+// dimensions, and the 65 addresses up to 64; 10 pairs at the ends in each of three, 4 coordinates
+// there, and the address 64; and in four dimensions, where the lower corner has the least of the 4
+// coordinates in the last one, 4 pairs there, and 10 in the others; then 3, 2 and 1 pairs.
+const AGREEMENTS: &[(u32, &[u32], usize, usize, usize, u64)] = &[
+    (2, &SMALL, 64, 0, 64, 84240),
+    (3, &ENDS, 64, 0, 64, 65000),
+    (4, &ENDS, 256, 0, 64, 1028000),
+    (4, &ENDS, 256, 64, 256, 1542000),
+];
 
-// Where the lower corner has the least of the 4 coordinates in the last dimension, 4 pairs there,
-// and 10 in the others.
 #[test]
-fn words_and_bits_agree_from_the_start_of_four_dimensions(rt: HostRuntime) {
-    assert!(rt; agreements(4, &ENDS, 256, 0, 64) == 1028000);
-}
-
-// And 3, 2 and 1 pairs.
-#[test]
-fn words_and_bits_agree_at_the_ends_of_four_dimensions(rt: HostRuntime) {
-    assert!(rt; agreements(4, &ENDS, 256, 64, 256) == 1542000);
+fn words_and_bits_agree(rt: HostRuntime) {
+    for (dims, values, points, from, to, count) in AGREEMENTS {
+        assert!(rt;
+            agreements(*dims, values, *points, *from, *to) == *count,
+            "{dims} {from}"
+        );
+    }
 }

@@ -6,7 +6,7 @@ ghost use Rattle.ub_store.specs.Facts.{memory_facts, IsHonest};
 ghost use Rattle.ub_store.specs.Faulty.{faulty_facts, faulty_view};
 ghost use Rattle.ub_store.specs.View.{IsCached};
 
-use crate::calls::{Answer, Call, answers, byte_of, made_answers};
+use crate::calls::{Answer, Call, answers, byte_of};
 use std::alloc::Global;
 use std::num::NonZeroUsize;
 use std::test::Fail;
@@ -76,9 +76,11 @@ fn fail_once(store: &mut FaultyStore<MemStore>)
     let _ = store.sync();
 }
 
-// Calls of a store in memory and their answers, where the k-th call fails.
-const IN_MEMORY: &[(u64, &[(Call, Answer)])] = &[
+// Calls and their answers, where the k-th call fails: of a store in memory, and of one over such a
+// one (marked true), which passes each call on once.
+const CALLS: &[(bool, u64, &[(Call, Answer)])] = &[
     (
+        false,
         2,
         &[
             (Call::Extend, Ok(0)),
@@ -89,6 +91,7 @@ const IN_MEMORY: &[(u64, &[(Call, Answer)])] = &[
         ],
     ),
     (
+        false,
         0,
         &[
             (Call::Extend, Ok(0)),
@@ -98,11 +101,8 @@ const IN_MEMORY: &[(u64, &[(Call, Answer)])] = &[
             (Call::Sync, Ok(0)),
         ],
     ),
-];
-
-// The same of a store over such a one: each call is passed on once.
-const OVER_MEMORY: &[(u64, &[(Call, Answer)])] = &[
     (
+        true,
         2,
         &[
             (Call::Extend, Ok(0)),
@@ -111,6 +111,7 @@ const OVER_MEMORY: &[(u64, &[(Call, Answer)])] = &[
         ],
     ),
     (
+        true,
         2,
         &[
             (Call::Sync, Ok(0)),
@@ -119,6 +120,7 @@ const OVER_MEMORY: &[(u64, &[(Call, Answer)])] = &[
         ],
     ),
     (
+        true,
         3,
         &[
             (Call::Extend, Ok(0)),
@@ -128,6 +130,7 @@ const OVER_MEMORY: &[(u64, &[(Call, Answer)])] = &[
         ],
     ),
     (
+        true,
         3,
         &[
             (Call::Extend, Ok(0)),
@@ -138,13 +141,19 @@ const OVER_MEMORY: &[(u64, &[(Call, Answer)])] = &[
     ),
 ];
 
+// Whether such a store answers each of the calls so.
+fn are_answered(alloc: Global, is_over: bool, k: u64, calls: &[(Call, Answer)]) -> bool {
+    if is_over {
+        answers(&mut store_over_one_failing_at(alloc, k), calls)
+    } else {
+        answers(&mut store_failing_at(alloc, k), calls)
+    }
+}
+
 #[test]
 fn fails_at_one_call_alone(rt: HostRuntime) {
-    for (k, calls) in IN_MEMORY {
-        assert!(rt; made_answers(Ok(store_failing_at(rt.alloc(), *k)), calls));
-    }
-    for (k, calls) in OVER_MEMORY {
-        assert!(rt; made_answers(Ok(store_over_one_failing_at(rt.alloc(), *k)), calls));
+    for (is_over, k, calls) in CALLS {
+        assert!(rt; are_answered(rt.alloc(), *is_over, *k, calls), "{k}");
     }
     fail_once(&mut store_failing_at(rt.alloc(), 1));
 }
@@ -160,7 +169,8 @@ fn put_and_bring(
     ensures cached { OnOk result (IsCached pager.new n) }
 {
     pager.put(n, page)?;
-    pager.bring(n)
+    pager.bring(n)?;
+    Ok(())
 }
 
 // A pager over three pages more of this store, whose cache holds one page.
@@ -184,86 +194,150 @@ fn three_pages<S: PageStore>(alloc: Global, store: S) -> Result<Pager<S>, StoreF
 type MemPager = Pager<FaultyStore<MemStore>>;
 
 // Such a pager, over a store in memory that fails at its k-th call.
-fn three_in_memory(alloc: Global, k: u64) -> Result<MemPager, StoreFault> {
+fn three_in_memory(alloc: Global, k: u64) -> Result<MemPager, StoreFault>
+    ensures { IfOk result (λ pager. IsHonest pager.store) }
+{
     three_pages(alloc, store_failing_at(alloc, k))
 }
 
-// The byte that a page is full of which is brought.
-fn lent(pager: &mut MemPager, n: u32) -> Answer {
-    pager.bring(n)?;
-    Ok(byte_of(pager.cached(n)))
+// A call of a pager. A page that is put is full of one byte.
+#[derive(Clone, Copy)]
+enum Deed {
+    Bring(u32),
+    Region(u32),
+    Put(u32, u8),
+    Sync,
+    Begin,
+    Noted,
+    Pages,
 }
 
-// Whether a pager of three pages of zeros lends them, and then the page that is put in the place of
-// one.
-fn lends(pager: &mut MemPager) -> bool {
-    matches!(lent(pager, 1), Ok(0))
-        && matches!(lent(pager, 2), Ok(0))
-        && pager.put(1, &[7; 4096]).is_ok()
-        && matches!(lent(pager, 1), Ok(7))
-        && matches!(lent(pager, 3), Err(StoreFault::NoPage))
-        && pager.sync().is_ok()
-        && pager.pages() == 3
-}
-
-#[test]
-fn lends_the_page_last_put(rt: HostRuntime) {
-    let store = store_failing_at(rt.alloc(), 0);
-    let mut pager = three_pages(rt.alloc(), store).expect(&rt, "a pager");
-    let byte = match put_and_bring(&mut pager, 0, &[8; 4096]) {
-        Ok(()) => byte_of(pager.cached(0)),
-        Err(_) => 0,
-    };
-    let is_lent = lends(&mut pager);
-    let is_kept = answers(&mut pager.into_store(), &[(Call::Read(1), Ok(7))]);
-    assert!(rt; byte == 8 && is_lent && is_kept);
-}
-
-// Whether a page that is brought twice is held then and noted once, and the fifth call is the sync,
-// after three extensions and one read.
-fn brings_twice(pager: &mut MemPager) -> bool {
-    if pager.bring(1).is_err() || pager.bring_region(1).is_err() {
-        return false;
+// The numbers of pages as digits behind a 1.
+fn digits(pages: &[u32]) -> u32 {
+    let mut number = 1u32;
+    for page in pages {
+        number = number.wrapping_mul(10).wrapping_add(*page);
     }
-    pager.sync() == Err(StoreFault::Device)
-        && byte_of(pager.cached(1)) == 0
-        && pager.trace() == [1].as_slice()
+    number
 }
 
-// Whether the pages of regions that are brought since the trace began are noted, and no others.
-fn notes_pages(pager: &mut MemPager) -> bool {
-    pager.begin();
-    let is_brought = pager.bring_region(1).is_ok()
-        && pager.bring_region(2).is_ok()
-        && pager.bring(0).is_ok()
-        && pager.bring_region(1).is_ok();
-    let are_noted = pager.trace() == [1, 2, 1].as_slice();
-    pager.begin();
-    is_brought && are_noted && pager.trace().is_empty()
+// What a call answers: how many pages there are, the digits of those that were noted, the byte that
+// the page is full of which is brought, or 0.
+fn done(pager: &mut MemPager, deed: Deed) -> Answer {
+    match deed {
+        Deed::Bring(n) => {
+            pager.bring(n)?;
+            Ok(byte_of(pager.cached(n)))
+        }
+        Deed::Region(n) => {
+            pager.bring_region(n)?;
+            Ok(byte_of(pager.cached(n)))
+        }
+        Deed::Put(n, byte) => {
+            pager.put(n, &[byte; 4096])?;
+            Ok(0)
+        }
+        Deed::Sync => {
+            pager.sync()?;
+            Ok(0)
+        }
+        Deed::Begin => {
+            pager.begin();
+            Ok(0)
+        }
+        Deed::Noted => Ok(digits(pager.trace())),
+        Deed::Pages => Ok(pager.pages()),
+    }
+}
+
+// Whether each of the calls is answered so.
+fn does(pager: &mut MemPager, deeds: &[(Deed, Answer)]) -> bool {
+    for (deed, wanted) in deeds {
+        if done(pager, *deed) != *wanted {
+            return false;
+        }
+    }
+    true
+}
+
+// Calls and their answers, where the k-th call of the store fails, and the byte that page 1 is full
+// of in the end. Three pages were added, and a page of eights was put and brought: five calls.
+//
+// In the first the page that was last put is lent. In the second a page that is brought twice is
+// read once, so that the seventh call is the sync; and the pages of regions that are brought since
+// the trace began are noted, and no others.
+const DEEDS: &[(u64, u8, &[(Deed, Answer)])] = &[
+    (
+        0,
+        7,
+        &[
+            (Deed::Bring(0), Ok(8)),
+            (Deed::Bring(1), Ok(0)),
+            (Deed::Bring(2), Ok(0)),
+            (Deed::Put(1, 7), Ok(0)),
+            (Deed::Bring(1), Ok(7)),
+            (Deed::Bring(3), Err(StoreFault::NoPage)),
+            (Deed::Sync, Ok(0)),
+            (Deed::Pages, Ok(3)),
+        ],
+    ),
+    (
+        7,
+        0,
+        &[
+            (Deed::Bring(1), Ok(0)),
+            (Deed::Region(1), Ok(0)),
+            (Deed::Sync, Err(StoreFault::Device)),
+            (Deed::Bring(1), Ok(0)),
+            (Deed::Noted, Ok(11)),
+            (Deed::Begin, Ok(0)),
+            (Deed::Region(1), Ok(0)),
+            (Deed::Region(2), Ok(0)),
+            (Deed::Bring(0), Ok(8)),
+            (Deed::Region(1), Ok(0)),
+            (Deed::Noted, Ok(1121)),
+            (Deed::Begin, Ok(0)),
+            (Deed::Noted, Ok(1)),
+        ],
+    ),
+];
+
+// Whether a new pager of three pages does this, and leaves page 1 full of this byte.
+fn are_done(alloc: Global, k: u64, left: u8, deeds: &[(Deed, Answer)]) -> bool {
+    let Ok(mut pager) = three_in_memory(alloc, k) else {
+        return false;
+    };
+    let is_put = put_and_bring(&mut pager, 0, &[8; 4096]).is_ok();
+    let is_right = is_put && does(&mut pager, deeds);
+    let calls = [(Call::Read(1), Ok(u32::from(left)))];
+    answers(&mut pager.into_store(), &calls) && is_right
 }
 
 #[test]
-fn notes_region_pages_and_reads_each_once(rt: HostRuntime) {
-    let mut pager = three_in_memory(rt.alloc(), 5).expect(&rt, "a pager");
-    let is_right = brings_twice(&mut pager) && notes_pages(&mut pager);
-    assert!(rt; is_right);
+fn lends_pages_and_notes_those_of_regions(rt: HostRuntime) {
+    for (k, left, deeds) in DEEDS {
+        assert!(rt; are_done(rt.alloc(), *k, *left, deeds), "{k}");
+    }
 }
+
+// What follows where memory was refused for the page 1: it was noted, and is brought in the next
+// call.
+const AGAIN: &[(Deed, Answer)] = &[
+    (Deed::Noted, Ok(11)),
+    (Deed::Region(1), Ok(0)),
+    (Deed::Noted, Ok(111)),
+];
 
 // Whether a region's page is noted that memory is refused for, or isn't; and brought, in this call
 // or in the next.
 fn brings_at_last(pager: &mut MemPager) -> Result<bool, StoreFault> {
-    pager.bring_region(0)?;
+    done(pager, Deed::Region(0))?;
     pager.begin();
-    let brought = pager.bring_region(1);
-    let is_noted = pager.trace() == [1].as_slice();
-    let is_right = match brought {
-        Ok(()) => is_noted,
-        Err(fault) => {
-            pager.bring_region(1)?;
-            fault == StoreFault::Memory && is_noted && pager.trace() == [1, 1].as_slice()
-        }
-    };
-    Ok(is_right && byte_of(pager.cached(1)) == 0)
+    match done(pager, Deed::Region(1)) {
+        Ok(byte) => Ok(byte == 0 && does(pager, &[(Deed::Noted, Ok(11))])),
+        Err(StoreFault::Memory) => Ok(does(pager, AGAIN)),
+        Err(fault) => Err(fault),
+    }
 }
 
 // The same of a new pager.

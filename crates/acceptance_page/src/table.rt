@@ -50,20 +50,26 @@ fn are_held(names: &[Name]) -> bool {
     columns.as_slice() == names && Columns::from_slice(names).as_slice() == names
 }
 
-// Whether these are the names x, y and m, and the first two are held as columns.
-fn are_plane(names: &[Name]) -> bool {
-    let [x, y, m] = names else {
-        return false;
-    };
-    x.bytes() == b"x".as_slice()
-        && y.bytes() == b"y".as_slice()
-        && m.bytes() == b"m".as_slice()
-        && are_held(&names[..2])
-}
-
 // Why there is no table of two columns t, with so many rows on a page.
 fn fault_of(t: Name, page_rows: u32) -> Option<PageFault> {
     Schema::new(t, &[t, t], 2, page_rows).err()
+}
+
+// Whether this is the table t of two dimensions x and y and a measure m, with two rows on a page,
+// and the first two columns are held as such.
+fn is_plane(schema: &Schema) -> bool {
+    let [x, y, m] = schema.columns() else {
+        return false;
+    };
+    let names = [schema.name().bytes(), x.bytes(), y.bytes(), m.bytes()];
+    let letters = [
+        b"t".as_slice(),
+        b"x".as_slice(),
+        b"y".as_slice(),
+        b"m".as_slice(),
+    ];
+    let numbers = [schema.dims(), schema.measures(), schema.page_rows()];
+    names == letters && numbers == [2, 1, 2] && are_held(&[*x, *y])
 }
 
 // The table of the plane; one of two columns of a name is refused for its count of rows before its
@@ -72,14 +78,10 @@ fn fault_of(t: Name, page_rows: u32) -> Option<PageFault> {
 fn takes_columns_and_schemas(rt: HostRuntime) {
     let schema = plane().expect(&rt, "a table");
     let name = *schema.name();
-    let is_right = name.bytes() == b"t".as_slice()
-        && are_plane(schema.columns())
-        && schema.dims() == 2
-        && schema.measures() == 1
-        && schema.page_rows() == 2
-        && fault_of(name, 65) == Some(PageFault::BadCount)
-        && fault_of(name, 64) == Some(PageFault::BadName);
-    assert!(rt; is_right);
+    let faults = [fault_of(name, 65), fault_of(name, 64)];
+    assert!(rt;
+        is_plane(&schema) && faults == [Some(PageFault::BadCount), Some(PageFault::BadName)]
+    );
 }
 
 #[test]
@@ -107,14 +109,14 @@ static ROW: Row = Row {
 
 static VALUES: [i64; 4] = [3, 4, -5, 6];
 
-#[test]
-fn reads_columns(rt: HostRuntime) {
-    let schema = table(b"xymn", 2, 2).expect(&rt, "a table");
-    let mut are_right = schema.columns().len() == VALUES.len();
+// Whether the columns of a table have these values in the row.
+fn are_read(schema: &Schema) -> bool {
     for column in 0..schema.columns().len() {
-        are_right = are_right && VALUES.get(column) == Some(&schema.value_of(&ROW, column));
+        if VALUES.get(column) != Some(&schema.value_of(&ROW, column)) {
+            return false;
+        }
     }
-    assert!(rt; are_right);
+    schema.columns().len() == VALUES.len()
 }
 
 // Numbers, and whether the first column of such a table, a dimension, and its last, a measure, can
@@ -135,15 +137,21 @@ fn fits(schema: &Schema, column: usize, number: i128) -> bool {
     column < schema.columns().len() && schema.fits(column, number)
 }
 
-#[test]
-fn tells_which_numbers_fit(rt: HostRuntime) {
-    let schema = table(b"xymn", 2, 2).expect(&rt, "a table");
+// Whether the first and the last of the four columns of a table can hold these numbers.
+fn are_fitted(schema: &Schema) -> bool {
     for (number, fits_dimension, fits_measure) in NUMBERS {
-        assert!(rt;
-            fits(&schema, 0, *number) == *fits_dimension
-                && schema.coordinate(0, *number).is_some() == *fits_dimension
-                && fits(&schema, 3, *number) == *fits_measure,
-            "{number}"
-        );
+        if fits(schema, 0, *number) != *fits_dimension
+            || schema.coordinate(0, *number).is_some() != *fits_dimension
+            || fits(schema, 3, *number) != *fits_measure
+        {
+            return false;
+        }
     }
+    true
+}
+
+#[test]
+fn reads_columns_and_tells_which_numbers_fit(rt: HostRuntime) {
+    let schema = table(b"xymn", 2, 2).expect(&rt, "a table");
+    assert!(rt; are_read(&schema) && are_fitted(&schema));
 }

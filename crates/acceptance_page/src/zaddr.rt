@@ -1,53 +1,65 @@
 // Addresses of points, and the points of addresses.
 use ub_zaddr::{Point, Shape, ZFault, interleave, last, spread};
 
-// Points of so many dimensions, and their addresses.
-const POINTS: &[(u32, &[u32], u128)] = &[
-    (2, &[1, 0], 2),
-    (2, &[0, 1], 1),
-    (2, &[2, 3], 13),
-    (2, &[3, 5], 27),
-    (3, &[1, 2, 3], 29),
-    (3, &[0, 0, 65536], 281474976710656),
-    (4, &[1, 2, 3, 4], 362),
+// What is asked of a shape.
+#[derive(Clone, Copy)]
+enum Ask {
+    // Its last address.
+    Last,
+    // The address of the point with so many of these coordinates, which leads back to the point.
+    Of([u32; 4], usize),
+    // Whether an address is one of it.
+    At(u128),
+}
+
+// Numbers of dimensions, what is asked, and the address that is answered. The last addresses have
+// all ones; what no shape, no point of a line and no address on it is, is refused.
+const ANSWERS: &[(u32, Ask, Result<u128, ZFault>)] = &[
+    (2, Ask::Of([1, 0, 0, 0], 2), Ok(2)),
+    (2, Ask::Of([0, 1, 0, 0], 2), Ok(1)),
+    (2, Ask::Of([2, 3, 0, 0], 2), Ok(13)),
+    (2, Ask::Of([3, 5, 0, 0], 2), Ok(27)),
+    (3, Ask::Of([1, 2, 3, 0], 3), Ok(29)),
+    (3, Ask::Of([0, 0, 65536, 0], 3), Ok(281474976710656)),
+    (4, Ask::Of([1, 2, 3, 4], 4), Ok(362)),
     (
         4,
-        &[2147483648, 0, 0, 0],
-        170141183460469231731687303715884105728,
+        Ask::Of([2147483648, 0, 0, 0], 4),
+        Ok(170141183460469231731687303715884105728),
     ),
+    (1, Ask::Of([7, 8, 0, 0], 2), Err(ZFault::WrongCount)),
+    (1, Ask::Last, Ok(4294967295)),
+    (4, Ask::Last, Ok(340282366920938463463374607431768211455)),
+    (0, Ask::Last, Err(ZFault::BadDims)),
+    (5, Ask::Last, Err(ZFault::BadDims)),
+    (1, Ask::At(4294967295), Ok(4294967295)),
+    (1, Ask::At(4294967296), Err(ZFault::TooLarge)),
 ];
 
-// Whether the point of these coordinates has this address, and is found by it.
-fn is_at(dims: u32, values: &[u32], z: u128) -> bool {
-    let Ok(shape) = Shape::new(dims) else {
-        return false;
-    };
-    match (Point::new(shape, values), spread(shape, z)) {
-        (Ok(point), Ok(found)) => interleave(shape, &point) == z && found == point,
-        _ => false,
+// What is answered; 0 where the address of a point doesn't lead back to it.
+fn answer(dims: u32, ask: Ask) -> Result<u128, ZFault> {
+    let shape = Shape::new(dims)?;
+    match ask {
+        Ask::Last => Ok(last(shape)),
+        Ask::Of(values, count) => {
+            let point = Point::new(shape, &values[..count.min(4)])?;
+            let z = interleave(shape, &point);
+            if spread(shape, z)? == point {
+                Ok(z)
+            } else {
+                Ok(0)
+            }
+        }
+        Ask::At(z) => {
+            spread(shape, z)?;
+            Ok(z)
+        }
     }
 }
 
 #[test]
 fn points_and_their_addresses(rt: HostRuntime) {
-    for (dims, values, z) in POINTS {
-        assert!(rt; is_at(*dims, values, *z));
+    for (dims, ask, wanted) in ANSWERS {
+        assert!(rt; answer(*dims, *ask) == *wanted, "{dims}");
     }
-}
-
-// The last addresses have all ones; what no shape, no point of a line and no address on it is, is
-// refused.
-#[test]
-fn ends_and_refusals(rt: HostRuntime) {
-    let line = Shape::new(1).expect(&rt, "a line");
-    let space = Shape::new(4).expect(&rt, "a space");
-    assert!(rt;
-        line.dims() == 1
-            && last(line) == 4294967295
-            && last(space) == 340282366920938463463374607431768211455
-            && matches!(Shape::new(0), Err(ZFault::BadDims))
-            && matches!(Shape::new(5), Err(ZFault::BadDims))
-            && matches!(Point::new(line, &[7, 8]), Err(ZFault::WrongCount))
-            && matches!(spread(line, 4294967296), Err(ZFault::TooLarge))
-    );
 }

@@ -12,24 +12,14 @@ pub const COLUMNS: usize = 4;
 
 /// What is asked of the table.
 #[derive(Clone, Copy)]
-pub enum Question {
-    /// How many rows there are.
-    Count,
-    /// Rows in an order.
-    Rows(Selection),
-}
-
-/// The rows of a cube in the order of a column.
-#[derive(Clone, Copy)]
-pub struct Selection {
-    /// The least coordinate of the cube, in each dimension.
+pub struct Question {
+    /// The least coordinate of a cube, in each dimension.
     pub low: u32,
     /// The greatest one.
     pub high: u32,
-    /// The column that orders them: by a dimension it is a sweep, by the measure a scan.
-    pub column: usize,
-    /// How many rows are asked for at most.
-    pub limit: Option<u64>,
+    /// The column that orders the cube's rows: by a dimension it is a sweep, by the measure a scan. With none it is asked how many
+    /// rows the table has.
+    pub column: Option<usize>,
 }
 
 // SELECT COUNT(*) FROM t
@@ -69,37 +59,40 @@ fn inside(alloc: Global, low: u32, high: u32) -> Result<Cond, AllocError>
 }
 
 // SELECT x, y, z FROM t WHERE each lies between low and high ORDER BY a column LIMIT limit
-fn select(alloc: Global, selection: Selection) -> Result<Query, AllocError>
+fn select(
+    alloc: Global,
+    question: Question,
+    column: usize,
+    limit: Option<u64>,
+) -> Result<Query, AllocError>
     ensures { IfOk result (λ q. IsPosed COLUMNS (asked q)) }
 {
     let by_column = SortKey {
-        item: Item::Column(selection.column.min(COLUMNS - 1)),
+        item: Item::Column(column.min(COLUMNS - 1)),
         is_descending: false,
     };
     let items = [Item::Column(0), Item::Column(1), Item::Column(2)];
     Ok(Query {
         items: Items::new(Vec::from_slice(alloc, &items)?),
-        filter: Some(inside(alloc, selection.low, selection.high)?),
+        filter: Some(inside(alloc, question.low, question.high)?),
         group: Items::new(Vec::new(alloc)),
         order: Items::new(Vec::from_slice(alloc, &[by_column])?),
-        limit: selection.limit,
+        limit,
     })
 }
 
-// The query that asks this.
-fn query(alloc: Global, question: Question) -> Result<Query, AllocError>
-    ensures { IfOk result (λ q. IsPosed COLUMNS (asked q)) }
-{
-    match question {
-        Question::Count => count_all(alloc),
-        Question::Rows(selection) => select(alloc, selection),
-    }
-}
-
-/// The plan of what is asked of a tree's table.
-pub fn planned(alloc: Global, tree: &MemTree, question: Question) -> Result<Plan, AllocError>
+/// The plan of what is asked of a tree's table, of so many rows at most where there is a limit.
+pub fn planned(
+    alloc: Global,
+    tree: &MemTree,
+    question: Question,
+    limit: Option<u64>,
+) -> Result<Plan, AllocError>
     ensures { IfOk result (λ p. IsPosed COLUMNS p.asked) }
 {
-    let query = query(alloc, question)?;
+    let query = match question.column {
+        Some(column) => select(alloc, question, column, limit)?,
+        None => count_all(alloc)?,
+    };
     plan(alloc, &query, tree.schema())
 }

@@ -2,7 +2,7 @@ use crate::generator::Generator;
 use crate::table::table;
 use std::alloc::Global;
 use ub_store::MemStore;
-use ub_tree::{Region, Tree, TreeFault};
+use ub_tree::{Tree, TreeFault};
 
 /// A tree over a store in memory.
 pub type MemTree = Tree<MemStore>;
@@ -18,8 +18,6 @@ pub enum Order {
     Clustered,
     /// Each where the next three numbers of the generator say, with a measure that is the first of these once more.
     Made,
-    /// Each where the next two numbers of the generator say.
-    MadeInPlane,
 }
 
 /// What a tree is filled with.
@@ -53,7 +51,6 @@ pub fn fill(tree: &mut MemTree, filling: Filling) -> Result<(), TreeFault> {
         let point = match filling.order {
             Order::Ascending => [row; 3],
             Order::Made => numbers.point(),
-            Order::MadeInPlane => [numbers.coordinate(), numbers.coordinate(), 0],
             Order::Random | Order::Clustered => {
                 if row % 1000 == 0 {
                     centre = numbers.point();
@@ -86,29 +83,4 @@ fn put(tree: &mut MemTree, point: &[u32; 3]) -> Result<u32, TreeFault> {
         return Err(TreeFault::Full);
     }
     tree.insert(&point[..dims], &[i64::from(point[0])][..measures])
-}
-
-/// Reads each region in order, so many times, and counts their rows.
-pub fn walks(tree: &mut MemTree, walks: u64) -> Result<u64, TreeFault> {
-    let mut read = 0u64;
-    for _ in 0..walks {
-        read = read.wrapping_add(walk(tree)?);
-    }
-    Ok(read)
-}
-
-// Reads each region in order, and counts their rows.
-fn walk(tree: &mut MemTree) -> Result<u64, TreeFault> {
-    let mut page = tree.empty_region();
-    let mut after: Option<Region> = None;
-    let mut read = 0u64;
-    tree.begin();
-    for _ in 0..tree.regions() {
-        if let Some(region) = tree.seek(0, after.as_ref())? {
-            tree.read_region(&region, &mut page)?;
-            read = read.wrapping_add(page.len() as u64);
-            after = Some(region);
-        }
-    }
-    Ok(read)
 }

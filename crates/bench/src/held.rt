@@ -4,6 +4,7 @@ use crate::asking::COLUMNS;
 use crate::fill::MemTree;
 use std::alloc::Global;
 use ub_exec::{ExecFault, execute};
+use ub_page::RegionPage;
 use ub_planning::Plan;
 use ub_tetris::{Sweep, SweepFault};
 use ub_tree::{Region, TreeFault};
@@ -75,8 +76,8 @@ pub fn swept(alloc: Global, tree: &mut MemTree, plan: &Plan, most: u64) -> Resul
     rows_swept(&mut sweep, tree, plan, most)
 }
 
-/// Goes from region to region that meets the plan's boxes, reads each, and tells how many rows they have: what a scan has to do
-/// at least.
+/// Reads the regions that meet the plan's boxes in the order of their keys, and counts the rows in the boxes: what a scan has
+/// to do at least.
 pub fn walked(tree: &mut MemTree, plan: &Plan) -> Result<u64, TreeFault> {
     let mut page = tree.empty_region();
     let mut after: Option<Region> = None;
@@ -86,33 +87,21 @@ pub fn walked(tree: &mut MemTree, plan: &Plan) -> Result<u64, TreeFault> {
         let Some(region) = tree.next_meeting(plan.boxes(), after.as_ref())? else {
             break;
         };
-        tree.read_region(&region, &mut page)?;
-        rows = rows.saturating_add(page.len() as u64);
+        rows = rows.saturating_add(rows_inside(tree, plan, &region, &mut page)?);
         after = Some(region);
     }
     Ok(rows)
 }
 
-/// Reads the regions that meet the plan's boxes in the order of their keys, and counts the rows in the boxes.
-pub fn scanned(tree: &mut MemTree, plan: &Plan) -> Result<u64, TreeFault> {
-    let mut after: Option<Region> = None;
-    let mut rows = 0u64;
-    tree.begin();
-    for _ in 0..tree.regions() {
-        let Some(region) = tree.next_meeting(plan.boxes(), after.as_ref())? else {
-            break;
-        };
-        rows = rows.saturating_add(rows_inside(tree, plan, &region)?);
-        after = Some(region);
-    }
-    Ok(rows)
-}
-
-// How many rows of a region lie in the boxes.
-fn rows_inside(tree: &mut MemTree, plan: &Plan, region: &Region) -> Result<u64, TreeFault> {
+// Reads a region into this page, and counts its rows in the boxes.
+fn rows_inside(
+    tree: &mut MemTree,
+    plan: &Plan,
+    region: &Region,
+    page: &mut RegionPage,
+) -> Result<u64, TreeFault> {
     let dims = tree.schema().dims() as usize;
-    let mut page = tree.empty_region();
-    tree.read_region(region, &mut page)?;
+    tree.read_region(region, page)?;
     let mut inside = 0;
     for zbox in plan.boxes() {
         if zbox.lo().values().len() == dims {

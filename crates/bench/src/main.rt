@@ -5,22 +5,18 @@
 // `bits` takes `next_by_bits` instead, `making` makes the boxes and addresses alone, `events` calls `least_value` on one box and
 // spans like the regions of 200,000 rows, `interleave` makes addresses of points, and `spread` points of addresses.
 //
-// `bench tree N W` puts N rows into a UB-tree over a store in memory, walks its regions W times, and prints how many
-// regions there are and how many rows were read.
+// `bench fill N D [ORDER]` puts N rows of D dimensions, 2 or 3, into a UB-tree over a store in memory, in random order, or where ORDER is
+// `ascending` or `clustered` in that, and prints how many regions there are.
 //
-// `bench fill N D [ORDER]` puts N rows of D dimensions, 2 or 3, into such a tree, in random order, or where ORDER is `ascending` or
-// `clustered` in that, and prints how many regions there are.
+// `bench pages D N` reads a page of 64 rows with D dimensions and one measure into one region N times, filters it by a box each time,
+// and prints a checksum of the masks.
 //
-// `bench pages D N [held]` reads a page of 64 rows with D dimensions and one measure N times, filters it by a box each time, and
-// prints a checksum of the masks; with `held` one region takes all of them in.
+// `bench held N` puts N rows of three dimensions in random order into such a tree, and prints for cubes of a hundredth, a tenth and all
+// of the space what a sweep comes to with LIMIT 10 and with none: its rows, its pages, the most rows that it held, and its nanoseconds, the
+// least of some runs; and what a walk over the regions that meet the cube comes to.
 //
-// `bench held N` puts N rows of three dimensions in random order into a tree over a store in memory, and prints for cubes of a hundredth,
-// a tenth and all of the space what a sweep comes to with LIMIT 1, 10, 1000 and none: its rows, its pages, those that meet the
-// cube, the most rows that it held, and its nanoseconds, the least of some runs; and what a scan of the same regions comes to.
-//
-// `bench count N` puts N such rows into a tree, and prints the nanoseconds of SELECT COUNT(*) over all, and of going from region to
-// region and reading each, the least of some runs. `bench orders N` prints those of all rows in the order of a dimension, by a sweep, and
-// in that of a measure that orders them alike, by a scan.
+// `bench count N` prints the same of SELECT COUNT(*) over all such rows, and of a walk over all regions. `bench orders N` prints it of
+// all rows in the order of a dimension, by a sweep, and in that of a measure that orders them alike, by a scan.
 //
 // `bench boxes N` makes the boxes of a condition of 64 comparisons and 4096 cells N times, and prints how many they were.
 #![tactic(auto)]
@@ -44,7 +40,7 @@ use fill::{Filling, Order};
 use generator::Generator;
 use pages::read_and_filter;
 use std::{env, io};
-use telling::{Report, tell};
+use telling::{COUNTING, CUBES, ORDERS, tell};
 use ub_bigmin::ZBox;
 use ub_bigmin::laws::next_by_bits;
 use ub_zaddr::{Point, Shape, last};
@@ -141,8 +137,8 @@ fn tell_boxes(rt: &HostRuntime, times: u64) -> io::Result<()> {
 }
 
 // Prints a checksum of the masks of a page that is read so many times.
-fn tell_pages(rt: &HostRuntime, dims: u64, times: u64, is_held: bool) -> io::Result<()> {
-    match read_and_filter(dims.clamp(1, 4) as u32, times, is_held) {
+fn tell_pages(rt: &HostRuntime, dims: u64, times: u64) -> io::Result<()> {
+    match read_and_filter(dims.clamp(1, 4) as u32, times) {
         Ok(sum) => println!(rt; "{sum}"),
         Err(fault) => println!(rt; "! {fault}"),
     }
@@ -172,29 +168,16 @@ fn run(rt: &HostRuntime, words: &[Option<String>; 4]) -> io::Result<()> {
     let (second, third) = (number(&words[1]), number(&words[2]));
     let rows = second.unwrap_or(1000);
     match text(&words[0]) {
-        "tree" => tell(
-            rt,
-            filling(Order::MadeInPlane, rows, 2),
-            Report::Walks(third.unwrap_or(0)),
-        ),
         "fill" => {
             let order = order_of(text(&words[3]));
-            tell(
-                rt,
-                filling(order, rows.min(1 << 23), third.unwrap_or(2)),
-                Report::Regions,
-            )
+            let filling = filling(order, rows.min(1 << 23), third.unwrap_or(2));
+            tell(rt, filling, &[])
         },
-        "held" => tell(rt, filling(Order::Made, rows, 3), Report::Cubes),
-        "count" => tell(rt, filling(Order::Made, rows, 3), Report::Counting),
-        "orders" => tell(rt, filling(Order::Made, rows, 3), Report::Orders),
+        "held" => tell(rt, filling(Order::Made, rows, 3), &CUBES),
+        "count" => tell(rt, filling(Order::Made, rows, 3), &COUNTING),
+        "orders" => tell(rt, filling(Order::Made, rows, 3), &ORDERS),
         "boxes" => tell_boxes(rt, second.unwrap_or(1)),
-        "pages" => tell_pages(
-            rt,
-            second.unwrap_or(2),
-            third.unwrap_or(1),
-            words[3].is_some(),
-        ),
+        "pages" => tell_pages(rt, second.unwrap_or(2), third.unwrap_or(1)),
         _ => tell_checksums(
             rt,
             number(&words[0]).unwrap_or(1000),

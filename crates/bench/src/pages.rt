@@ -37,28 +37,22 @@ fn rows_of(shape: Shape) -> [Row; 64] {
     rows
 }
 
-// The page's rows in the box, one bit for each: of a region made anew, or of this one, which takes them in.
+// The page's rows in the box, one bit for each: this region takes them in.
 fn filtered(
     schema: &Schema,
     page: &Page,
     zbox: &ZBox,
-    held: &mut RegionPage,
-    is_held: bool,
+    region: &mut RegionPage,
 ) -> Result<u64, PageFault> {
     if zbox.lo().values().len() != schema.dims() as usize {
         return Ok(0);
     }
-    if is_held {
-        held.fill(schema, page)?;
-        Ok(held.mask(zbox))
-    } else {
-        Ok(RegionPage::read(schema, page)?.mask(zbox))
-    }
+    region.fill(schema, page)?;
+    Ok(region.mask(zbox))
 }
 
-/// The checksum of the masks of a page with 64 rows, which is read and filtered by one box so many times, each time into the
-/// same region where that is held.
-pub fn read_and_filter(dims: u32, calls: u64, is_held: bool) -> Result<u64, PageFault>
+/// The checksum of the masks of a page with 64 rows, which is read into one region and filtered by one box so many times.
+pub fn read_and_filter(dims: u32, calls: u64) -> Result<u64, PageFault>
     requires { dims ≤ 4 }
 {
     let schema = table(dims, true)?;
@@ -74,10 +68,10 @@ pub fn read_and_filter(dims: u32, calls: u64, is_held: bool) -> Result<u64, Page
         &rows_of(shape),
         &mut draft,
     );
-    let mut held = RegionPage::empty(shape);
+    let mut region = RegionPage::empty(shape);
     let mut sum = 0u64;
     for _ in 0..calls {
-        sum = sum.rotate_left(1) ^ filtered(&schema, draft.page(), &zbox, &mut held, is_held)?;
+        sum = sum.rotate_left(1) ^ filtered(&schema, draft.page(), &zbox, &mut region)?;
     }
     Ok(sum)
 }

@@ -2,7 +2,7 @@ ghost use Rattle.ub_query.specs.Posed.{IsPosed};
 
 use crate::asking::{COLUMNS, Question, planned};
 use crate::fill::MemTree;
-use crate::held::{Told, executed, scanned, swept, walked};
+use crate::held::{Told, executed, swept, walked};
 use std::time::Instant;
 use ub_planning::Plan;
 use ub_tetris::SweepFault;
@@ -13,14 +13,12 @@ const REPEATS: u32 = 5;
 /// What is done by a plan, and timed.
 #[derive(Clone, Copy)]
 pub enum Work {
-    /// Goes from region to region, and reads each.
+    /// Reads the regions that meet the boxes, and counts the rows in them.
     Walk,
     /// Carries the plan out.
     Execution,
-    /// Reads the regions, and counts the rows in the boxes.
-    Scan,
-    /// Sweeps for so many rows.
-    Sweep(u64),
+    /// Sweeps for so many rows, or for all.
+    Sweep(Option<u64>),
 }
 
 /// What work came to, and how long it took.
@@ -39,7 +37,11 @@ pub fn timed(
     question: Question,
     work: Work,
 ) -> Result<Timing, SweepFault> {
-    let plan = planned(rt.alloc(), tree, question)?;
+    let limit = match work {
+        Work::Sweep(limit) => limit,
+        _ => None,
+    };
+    let plan = planned(rt.alloc(), tree, question, limit)?;
     repeated(rt, tree, &plan, work)
 }
 
@@ -81,8 +83,7 @@ fn done(rt: &HostRuntime, tree: &mut MemTree, plan: &Plan, work: Work) -> Result
     match work {
         Work::Walk => told.rows = walked(tree, plan)?,
         Work::Execution => told.rows = executed(rt.alloc(), tree, plan)?,
-        Work::Scan => told.rows = scanned(tree, plan)?,
-        Work::Sweep(most) => told = swept(rt.alloc(), tree, plan, most)?,
+        Work::Sweep(limit) => told = swept(rt.alloc(), tree, plan, limit.unwrap_or(u64::MAX))?,
     }
     told.pages = tree.trace().len();
     Ok(told)
