@@ -1,8 +1,8 @@
 -- What contracts see of the files over which a transcript's command lines run.
-use Rattle.std.specs.Prelude.{ℕ, true, false}
+use Rattle.std.specs.Prelude.{ℕ, None, true, false}
 use Rattle.ub_files.specs.Files.{FilesFacts, untold}
 
--- nothing is told of what paths hold, and a table file can fail; so many readings, and openings or makings of tables, answered Device
+-- nothing is told of what paths hold nor of which are read, and a table file can fail; so many readings, and openings or makings of tables, answered Device
 abbrev pub bench_facts : ℕ → ℕ → FilesFacts
 bench_facts reads tables = record {
   holds = λ path. untold;
@@ -10,4 +10,5 @@ bench_facts reads tables = record {
   can_fail = true;
   failed_reads = reads;
   failed_tables = tables;
+  readings = None;
 }

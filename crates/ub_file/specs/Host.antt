@@ -1,5 +1,7 @@
 -- What is not known of a file of the system.
-use Rattle.std.specs.Prelude.{ℕ, ◌/◌, Bool, false, true, List, [], replicate}
+use Rattle.std.specs.Prelude.{◌≡◌, ℕ, ◌/◌, Bool, false, true, List, [], replicate}
+use Rattle.std.specs.Fs.{asks_append, asks_truncate}
+use Rattle.std.specs.declared.fs.options.OpenOptions.{OpenOptions}
 use Rattle.ub_store.specs.Facts.{StoreFacts}
 
 -- whether a file gives back what was written to it. That it does is a premise: nothing in the language can show it of a file. What
@@ -21,3 +23,11 @@ host_facts file length reads writes = record {
   failed_reads = reads;
   failed_writes = writes;
 }
+
+-- a file that is opened so is not emptied, and each write goes to its place
+abbrev pub AsksInPlace : OpenOptions → Type 0
+AsksInPlace how = (asks_truncate how ≡ false) × (asks_append how ≡ false)
+
+-- no call has failed yet
+abbrev pub IsUnfailed : StoreFacts → Type 0
+IsUnfailed facts = (facts.failed_reads ≡ 0) × (facts.failed_writes ≡ 0)

@@ -1,9 +1,11 @@
-ghost use Rattle.std.specs.Prelude.{◌≡◌, ◌*◌, ◌⊎◌, IfOk, IfErr, OnOk, OnErr};
+ghost use Rattle.std.specs.Prelude.{◌≡◌, ◌*◌, ◌⊎◌, IfOk, IfErr, OnOk, OnErr, false};
+ghost use Rattle.std.specs.Fs.{asks_create, asks_create_new, metadata_len};
+ghost use Rattle.ub_file.specs.Host.{AsksInPlace, IsUnfailed};
 ghost use Rattle.ub_store.specs.Facts.{page_count, raised};
 
 use crate::medium::{Medium, PAGE_BYTES};
 use crate::store::FileStore;
-use std::fs::{OpenFile, OpenOptions};
+use std::fs::{Metadata, OpenFile, OpenOptions};
 use std::io::{self, Read, Seek, SeekFrom, Write};
 use std::rt::Files;
 use ub_store::{Page, PageStore, StoreFault};
@@ -20,37 +22,44 @@ pub struct HostFile<F> {
     writes: u64,
 }
 
-/// Opens a file for reading and writing, or for reading alone where that is refused: each write is then a failure. Device comes
-/// where there is no such file or the system refuses it.
+/// Opens a file for reading and writing, or for reading alone where that is refused: each write is then a failure. It neither
+/// makes the file nor changes it. Device comes where there is no such file or the system refuses it.
 pub fn open<R: Files>(rt: &R, path: &str) -> Result<HostFile<R::File>, StoreFault>
-    ensures { IfErr result (λ fault. fault ≡ StoreFault.Device) }
+    ensures faults { IfErr result (λ fault. fault ≡ StoreFault.Device) }
+    ensures unfailed { IfOk result (λ file.
+        IsUnfailed (⟦<HostFile<R::File> as Medium>⟧.facts file)) }
 {
-    if let Ok(file) = open_as(rt, OpenOptions::new().read(true).write(true), path) {
+    if let Ok(file) = open_found(rt, OpenOptions::new().read(true).write(true), path) {
         return Ok(file);
     }
-    open_as(rt, OpenOptions::new().read(true), path).map_err(|_| StoreFault::Device)
+    open_found(rt, OpenOptions::new().read(true), path).map_err(|_| StoreFault::Device)
 }
 
-/// Opens a file for reading and writing, or makes one with no bytes where there is none. Device comes where the system refuses
-/// it.
+/// Opens a file for reading and writing, or makes one with no bytes where there is none; one that there is stays as it was. Device
+/// comes where the system refuses it.
 pub fn open_or_make<R: Files>(rt: &R, path: &str) -> Result<HostFile<R::File>, StoreFault>
-    ensures { IfErr result (λ fault. fault ≡ StoreFault.Device) }
+    ensures faults { IfErr result (λ fault. fault ≡ StoreFault.Device) }
+    ensures unfailed { IfOk result (λ file.
+        IsUnfailed (⟦<HostFile<R::File> as Medium>⟧.facts file)) }
 {
     let mut how = OpenOptions::new();
     let how = how.read(true).write(true).create(true);
     open_as(rt, how, path).map_err(|_| StoreFault::Device)
 }
 
-/// The store in a file, which is opened. Device comes where there is no such file or the system refuses it, BadSize where it is
-/// no whole number of pages or has more of them than a store.
+/// The store in a file, which is opened, and of which no call has failed yet. Device comes where there is no such file or the
+/// system refuses it, BadSize where it is no whole number of pages or has more of them than a store. The file stays as it was.
 pub fn open_store<R: Files>(rt: &R, path: &str) -> Result<FileStore<HostFile<R::File>>, StoreFault>
-    ensures { IfErr result (λ fault.
+    ensures faults { IfErr result (λ fault.
         (fault ≡ StoreFault.Device) ⊎ (fault ≡ StoreFault.BadSize)) }
+    ensures unfailed { IfOk result (λ store.
+        IsUnfailed (⟦<FileStore<HostFile<R::File>> as PageStore>⟧.facts store)) }
 {
     FileStore::open(open(rt, path)?).map_err(|refused| refused.fault)
 }
 
-/// A store with no pages in a file, which is emptied, or made where there is none. Device comes where the system refuses it.
+/// A store with no pages in a file, which is emptied, or made where there is none; no call of it has failed yet. Device comes where
+/// the system refuses it.
 pub fn create_store<R: Files>(
     rt: &R,
     path: &str,
@@ -58,23 +67,50 @@ pub fn create_store<R: Files>(
     ensures faults { IfErr result (λ fault. fault ≡ StoreFault.Device) }
     ensures none { IfOk result (λ store.
         page_count (⟦<FileStore<HostFile<R::File>> as PageStore>⟧.facts store) ≡ 0) }
+    ensures unfailed { IfOk result (λ store.
+        IsUnfailed (⟦<FileStore<HostFile<R::File>> as PageStore>⟧.facts store)) }
 {
     FileStore::create(open_or_make(rt, path)?).map_err(|refused| refused.fault)
 }
 
-// Opens a file in this way, and asks for its length. A folder, which can be opened for reading, is no file.
-fn open_as<R: Files>(rt: &R, how: &OpenOptions, path: &str) -> io::Result<HostFile<R::File>> {
+// Opens a file that there is: none is made.
+fn open_found<R: Files>(rt: &R, how: &OpenOptions, path: &str) -> io::Result<HostFile<R::File>>
+    requires found { (asks_create how.now ≡ false) × (asks_create_new how.now ≡ false) }
+    requires kept { AsksInPlace how.now }
+    ensures { IfOk result (λ file. IsUnfailed (⟦<HostFile<R::File> as Medium>⟧.facts file)) }
+{
+    open_as(rt, how, path)
+}
+
+// Opens a file in a way that leaves its bytes where they are, and asks for its length. A folder, which can be opened for reading,
+// is no file.
+fn open_as<R: Files>(rt: &R, how: &OpenOptions, path: &str) -> io::Result<HostFile<R::File>>
+    requires kept { AsksInPlace how.now }
+    ensures { IfOk result (λ file. IsUnfailed (⟦<HostFile<R::File> as Medium>⟧.facts file)) }
+{
     let file = how.open(rt, path)?;
     let metadata = file.metadata()?;
     if metadata.is_dir() {
         return Err(io::Error::from(io::ErrorKind::IsADirectory));
     }
-    Ok(HostFile {
+    Ok(of_file(file, &metadata))
+}
+
+// The medium of a file that was opened: its length is what the system tells, and no call has failed.
+fn of_file<F>(file: F, metadata: &Metadata) -> HostFile<F>
+    ensures { result ≡ record {
+      file = file;
+      length = metadata_len metadata.now;
+      reads = 0;
+      writes = 0;
+    } }
+{
+    HostFile {
         file,
         length: metadata.len(),
         reads: 0,
         writes: 0,
-    })
+    }
 }
 
 // The byte at which a page begins.

@@ -1,7 +1,7 @@
 -- What stands of a copy of pages after each of its steps.
 use Rattle.std.proofs.Common.{◌≡◌, ◌≢◌, ◌≤◌, ◌+◌, ◌++◌, ◌∷◌, [], ◌∙◌, ℕ, zero, suc, List, Some, Result, Ok, Err, add-one, length, take, drop, slice_get, slice_set, inl, inr, ap, arith, refl, subst, sym, IsTrue}
 use Rattle.std.specs.Prelude.{OnOk}
-use Rattle.ub_store.specs.Facts.{StoreFacts, page_count, Appends, Extends, IsHonest, Syncs, WritesAt, counted, zero_page}
+use Rattle.ub_store.specs.Facts.{StoreFacts, page_count, Appends, Extends, IsHonest, MayFlush, Syncs, WritesAt, counted, zero_page}
 use Rattle.ub_store.specs.declared.fault.StoreFault.{StoreFault}
 use Rattle.ub_files.specs.Copying.{Adds, Copies, IsBegun, MayLast}
 
@@ -141,48 +141,56 @@ copy_synced {A} {pages} {n} {old} {a} is b u h =
       last = λ honest. inr (inr (inl (ap (λ ps. slice_get ps 0) (h.done ∙ same) ∙ first_is is honest)));
     }
 
--- and then page 0
-pub last_fails : {A : Type 0} {pages : List (List ℕ)} {old a : StoreFacts} → IsCopying pages (length pages) old a → (b : StoreFacts) (page : List ℕ) (f : StoreFault)
-    → WritesAt {A = A} 0 page a b (Err f) → Copies {A = A} pages old b (Err f)
-last_fails {A} {pages} {old} {a} is b page f h = record {
-  frame = frame_after {A = A} old a b (Err f) is.frame h.frame;
-  synced = tt;
-  copied = tt;
-  begun = λ honest.
-      let tail : drop 1 b.pages ≡ drop 1 pages = same_tail b.pages a.pages (h.others (honest_still old a is.frame honest)) ∙ whole_tail is honest in (
-        inr (inr tail),
-        elim h.flushed [
-          | inl before ↦ elim (is.last honest) [
-            | inl old_last ↦ inl (before ∙ old_last)
-            | inr begun ↦ inr (subst (IsBegun pages) (sym before) begun)
-          ]
-          | inr all ↦ inr (inr (inr (ap (drop 1) all ∙ tail)))
-        ],
-      );
-  device = λ e. can_fail_still old a is.frame (h.device e);
-}
+-- so many as there are, and all but page 0 last
+pub record IsReady (pages : List (List ℕ)) (old now : StoreFacts) : Type 0 where
+  pub copying : IsCopying pages (length pages) old now
+  pub lasts : IsHonest old → drop 1 now.synced ≡ drop 1 pages
 
--- all pages are there
+pub copy_ready : {A : Type 0} {pages : List (List ℕ)} {n : ℕ} {old a : StoreFacts} → IsCopying pages n old a → n ≡ length pages → (b : StoreFacts) (u : A) → Syncs a b (Ok u) → IsReady pages old b
+copy_ready {A} {pages} {n} {old} {a} is ended b u h =
+    let whole : IsCopying pages (length pages) old b = subst (λ k. IsCopying pages k old b) ended (copy_synced is b u h) in
+    record {
+      copying = whole;
+      lasts = λ honest. ap (drop 1) h.done ∙ whole_tail whole honest;
+    }
+
+-- what lasts after a call that may make last what is there
+still_lasts : (pages : List (List ℕ)) (a b : StoreFacts) → drop 1 a.synced ≡ drop 1 pages → drop 1 b.pages ≡ drop 1 pages → MayFlush a b → drop 1 b.synced ≡ drop 1 pages
+still_lasts pages a b lasts tail (inl before) = ap (drop 1) before ∙ lasts
+still_lasts pages a b lasts tail (inr all) = ap (drop 1) all ∙ tail
+
+-- and then page 0
+pub last_fails : {A : Type 0} {pages : List (List ℕ)} {old a : StoreFacts} → IsReady pages old a → (b : StoreFacts) (page : List ℕ) (f : StoreFault)
+    → WritesAt {A = A} 0 page a b (Err f) → Copies {A = A} pages old b (Err f)
+last_fails {A} {pages} {old} {a} ready b page f h =
+    let is = ready.copying in
+    record {
+      frame = frame_after {A = A} old a b (Err f) is.frame h.frame;
+      synced = tt;
+      copied = tt;
+      begun = λ honest.
+          let tail : drop 1 b.pages ≡ drop 1 pages = same_tail b.pages a.pages (h.others (honest_still old a is.frame honest)) ∙ whole_tail is honest in
+          let lasts = still_lasts pages a b (ready.lasts honest) tail h.flushed in
+          (inr (inr (tail, lasts)), inr (inr (inr lasts)));
+      device = λ e. can_fail_still old a is.frame (h.device e);
+    }
+
+-- all pages are there, and all but page 0 last
 pub record IsCopiedAll (pages : List (List ℕ)) (old now : StoreFacts) : Type 0 where
   pub frame : now ≡ record old { pages = now.pages; synced = now.synced }
   pub pages_are : IsHonest old → now.pages ≡ pages
-  pub last : IsHonest old → MayLast pages old now
+  pub lasts : IsHonest old → drop 1 now.synced ≡ drop 1 pages
 
-pub copied_all : {A : Type 0} {pages : List (List ℕ)} {old a : StoreFacts} → IsCopying pages (length pages) old a → (b : StoreFacts) (page : List ℕ) (u : A) → slice_get pages 0 ≡ Some page
+pub copied_all : {A : Type 0} {pages : List (List ℕ)} {old a : StoreFacts} → IsReady pages old a → (b : StoreFacts) (page : List ℕ) (u : A) → slice_get pages 0 ≡ Some page
     → WritesAt 0 page a b (Ok u) → IsCopiedAll pages old b
-copied_all {A} {pages} {old} {a} is b page u at h =
+copied_all {A} {pages} {old} {a} ready b page u at h =
+    let is = ready.copying in
     let are : IsHonest old → b.pages ≡ pages = λ honest. h.written (honest_still old a is.frame honest)
     ∙ rw (is.pages_are honest, take_whole pages) (front_is pages page at) in
     record {
       frame = frame_after old a b (Ok u) is.frame h.frame;
       pages_are = are;
-      last = λ honest. elim h.flushed [
-        | inl before ↦ elim (is.last honest) [
-          | inl old_last ↦ inl (before ∙ old_last)
-          | inr begun ↦ inr (subst (IsBegun pages) (sym before) begun)
-        ]
-        | inr all ↦ inr (inr (inr (ap (drop 1) (all ∙ are honest))))
-      ];
+      lasts = λ honest. still_lasts pages a b (ready.lasts honest) (ap (drop 1) (are honest)) h.flushed;
     }
 
 -- and are made to last, or not
@@ -204,15 +212,8 @@ copy_ends {A} {pages} {old} {a} is b (Err f) h =
       synced = tt;
       copied = tt;
       begun = λ honest.
-          let tail : drop 1 b.pages ≡ drop 1 pages = ap (drop 1) (same ∙ is.pages_are honest) in (
-            inr (inr tail),
-            elim h.flushed [
-              | inl before ↦ elim (is.last honest) [
-                | inl old_last ↦ inl (before ∙ old_last)
-                | inr begun ↦ inr (subst (IsBegun pages) (sym before) begun)
-              ]
-              | inr all ↦ inr (inr (inr (ap (drop 1) all ∙ tail)))
-            ],
-          );
+          let tail : drop 1 b.pages ≡ drop 1 pages = ap (drop 1) (same ∙ is.pages_are honest) in
+          let lasts = still_lasts pages a b (is.lasts honest) tail h.flushed in
+          (inr (inr (tail, lasts)), inr (inr (inr lasts)));
       device = λ e. can_fail_still old a is.frame (h.device e);
     }

@@ -1,2 +1,3 @@
 pub mod CopyFacts
+pub mod FilesFacts
 pub mod MemoryFacts

@@ -1,11 +1,12 @@
 -- Files in memory: where a path's file stands, and what the others hold after it was exchanged.
-use Rattle.std.proofs.Common.{◌≡◌, ◌≢◌, ◌<◌, ℕ, zero, suc, List, [], ◌∷◌, ◌++◌, length, Option, Some, None, true, false, cond, refl, sym, ap, ◌∙◌, arith, inl, inr, set, get_or, string_bytes}
+use Rattle.std.proofs.Common.{◌≡◌, ◌≢◌, ◌<◌, ℕ, zero, suc, List, [], ◌∷◌, ◌++◌, length, Option, Some, None, true, false, cond, refl, sym, ap, ◌∙◌, arith, inl, inr, set, get_or, string_bytes, subst}
 use Rattle.std.proofs.lemmas.Bool.{cases_Bool}
 use Rattle.std.proofs.lemmas.Slice.Eq.{bytes_eq-Decides}
-use Rattle.std.specs.Option.{option_map}
+use Rattle.std.specs.Option.{ok_or, option_map}
+use Rattle.std.specs.Prelude.{MatchOption}
 use Rattle.std.specs.Str.{bytes_eq}
-use Rattle.ub_files.specs.Files.{Held, absent}
-use Rattle.ub_files.specs.Memory.{held_in, place_in, told, IsSetTo}
+use Rattle.ub_files.specs.Files.{Held, absent, bytes, standard_input}
+use Rattle.ub_files.specs.Memory.{held_in, place_in, told, IsReadAt, IsSetTo}
 use Rattle.ub_files.specs.declared.memory.Entry.{Entry}
 use Rattle.ub_files.specs.declared.memory.MemFile.{MemFile}
 use Rattle.ub_files.specs.declared.memory.MemFile.TheVariants.{Text, Table, Lent}
@@ -91,3 +92,28 @@ held_push (f ∷ es) path e h same = elim (cases_Bool (bytes_eq (string_bytes f.
   | inl t ↦ absurd (there f.file (rw t at h))
   | inr n ↦ set_later f es (es ++ e ∷ []) path (told e.file) n (held_push es path e (rw n at h) same)
 ]
+
+-- where a path holds what it did, and all others too, all do
+set_as_before : (path : List ℕ) (old new : List Entry) → IsSetTo path (held_in old path) old new → (other : List ℕ) → held_in new other ≡ held_in old other
+set_as_before path old new is other = elim (cases_Bool (bytes_eq other path)) [
+  | inl t ↦ let same = (bytes_eq-Decides other path).0 t in subst (λ p. held_in new p ≡ held_in old p) (sym same) is.0
+  | inr n ↦ is.1 other (λ same. let t = (bytes_eq-Decides other path).1 same in cc)
+]
+
+-- standard input was used up, or holds no text
+pub used_up_read : {T E : Type 0} (path : List ℕ) (old new : List Entry) (Is : T → Type 0) (taken : Option T) (fault : E) → path ≡ standard_input
+    → MatchOption taken (((text : List ℕ) → held_in old path ≢ bytes text) × IsSetTo path (held_in old path) old new)
+    (λ text. Is text × IsSetTo path (bytes []) old new)
+    → IsReadAt path old new (ok_or taken fault)
+used_up_read path old new Is None fault is h = record {
+  kept = λ ne. absurd (ne is);
+  others = h.1.1;
+  used_up = tt;
+  refused = set_as_before path old new h.1;
+}
+used_up_read path old new Is (Some text) fault is h = record {
+  kept = λ ne. absurd (ne is);
+  others = h.1.1;
+  used_up = λ _. h.1.0;
+  refused = tt;
+}

@@ -4,12 +4,16 @@ use Rattle.ub_store.specs.Facts.{StoreFacts, page_count, Appends, IsHonest, coun
 use Rattle.ub_store.specs.declared.fault.StoreFault.{StoreFault}
 use Rattle.ub_store.specs.declared.fault.StoreFault.TheVariants.{Device}
 
--- what may stand of a copy of these pages that was broken off: there is one page at most, or page 0 is a page of zeros, or all
--- pages but page 0 are there
+-- what these pages may be of a copy that was broken off: there is one at most, or page 0 is a page of zeros, or all but page 0 are there
 abbrev pub IsBegun : List (List ℕ) → List (List ℕ) → Type 0
 IsBegun pages now = (length now ≤ 1) ⊎ ((slice_get now 0 ≡ Some zero_page) ⊎ (drop 1 now ≡ drop 1 pages))
 
--- the pages that last are those of before, or such
+-- what may stand of it: once page 0 isn't a page of zeros, all pages but page 0 are there, and last
+abbrev pub MayStand : List (List ℕ) → StoreFacts → Type 0
+MayStand pages now = (length now.pages ≤ 1) ⊎ ((slice_get now.pages 0 ≡ Some zero_page)
+    ⊎ ((drop 1 now.pages ≡ drop 1 pages) × (drop 1 now.synced ≡ drop 1 pages)))
+
+-- and what may last of it: the pages that did before, or such
 abbrev pub MayLast : List (List ℕ) → StoreFacts → StoreFacts → Type 0
 MayLast pages old new = (new.synced ≡ old.synced) ⊎ IsBegun pages new.synced
 
@@ -18,7 +22,7 @@ pub record Copies {A : Type 0} (pages : List (List ℕ)) (old new : StoreFacts) 
   pub frame : new ≡ record old { pages = new.pages; synced = new.synced; failed_writes = counted result old.failed_writes }
   pub synced : OnOk result (new.synced ≡ new.pages)
   pub copied : OnOk result (IsHonest old → new.pages ≡ pages)
-  pub begun : OnErr result (IsHonest old → IsBegun pages new.pages × MayLast pages old new)
+  pub begun : OnErr result (IsHonest old → MayStand pages new × MayLast pages old new)
   pub device : IsErrOf result Device → IsTrue old.can_fail
 
 -- a call with this result that adds this page to a store: at a fault there is one page more, or none. Page 0 stays, and what

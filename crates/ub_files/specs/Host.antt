@@ -1,5 +1,5 @@
 -- What is not known of the files of the system.
-use Rattle.std.specs.Prelude.{ℕ, Bool, false, true}
+use Rattle.std.specs.Prelude.{ℕ, Bool, None, false, true}
 use Rattle.ub_files.specs.Files.{FilesFacts, untold}
 
 -- whether the files of the system give back what was written to them: a premise, which nothing in the language can show. What stands
@@ -7,7 +7,7 @@ use Rattle.ub_files.specs.Files.{FilesFacts, untold}
 unfoldable pub is_honest_host : Bool
 is_honest_host = false
 
--- the facts of the files of the system, of which so many readings and openings failed: what they hold is not told
+-- the facts of the files of the system, of which so many readings and openings failed: what they hold is not told, nor which paths were read
 abbrev pub host_facts : ℕ → ℕ → FilesFacts
 host_facts reads tables = record {
   holds = λ path. untold;
@@ -15,4 +15,5 @@ host_facts reads tables = record {
   can_fail = true;
   failed_reads = reads;
   failed_tables = tables;
+  readings = None;
 }

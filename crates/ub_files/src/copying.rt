@@ -5,8 +5,8 @@ ghost use Rattle.ub_store.specs.Facts.{page_count};
 use ub_store::{MAX_PAGES, MemStore, Page, PageStore, StoreFault};
 
 /// Copies the pages of a store in memory, of which there is one at least, into a store that has none, and makes them last.
-/// Page 0 is a page of zeros until all others are there and last, so that a copy which is broken off is no table. Device comes
-/// where the second store failed, Memory where it refused memory.
+/// Page 0 is a page of zeros until all others are there and last: a copy that is broken off before is no table, and after it only
+/// page 0 can be missing. Device comes where the second store failed, Memory where it refused memory.
 pub fn copy_pages<S: PageStore>(from: &mut MemStore, to: &mut S) -> Result<(), StoreFault>
     requires some { 1 ≤ length from.old }
     requires none { page_count (S.facts to.old) ≡ 0 }

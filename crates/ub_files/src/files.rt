@@ -5,23 +5,24 @@ use ub_store::{PageStore, StoreFault};
 
 /// Where the files that a command names are: texts are read whole, and table files are lent as stores and put back.
 ///
-/// What a path holds, whether files are honest and can fail, and how often a call failed is for
-/// contracts alone. Files may tell nothing of a path; where they tell of it, a table file whose store
-/// is lent is told to be away. The path `-` is standard input, where it is read.
+/// What a path holds, whether files are honest and can fail, how often a call failed and which paths were read is for contracts
+/// alone. Files may tell nothing of a path, nor of readings; where they tell of a path, a table file whose store is lent is told to
+/// be away. The path `-` is standard input, where it is read.
 pub trait Files {
     type Store: PageStore;
 
     ghost facts: { Self → FilesFacts };
 
-    /// The bytes of a file. Device comes where it can't be opened or read, Memory where memory was refused. What files hold
-    /// stays as it was.
+    /// The bytes of a file. Device comes where it can't be opened or read, Memory where memory was refused. What files hold stays
+    /// as it was, but that standard input is used up: after it was read it has no bytes, and after a refusal any of them may be
+    /// gone. Each call is one reading of the path, whatever comes of it.
     fn read(&mut self, path: &str) -> Result<Vec<u8>, StoreFault>
         ensures text { IfOk result (λ text. IsText ((facts self.old).holds path.now) text.items) }
         ensures faults { IfErr result (λ fault.
             (fault ≡ StoreFault.Device) ⊎ (fault ≡ StoreFault.Memory)) }
-        ensures effect { ReadsFile (facts self.old) (facts self.new) result };
+        ensures effect { ReadsFile path.now (facts self.old) (facts self.new) result };
 
-    /// The store in a table file, to read and write, or to read alone where no more is allowed: a write is then Device. Device
+    /// The store in a table file, of which no call has failed yet, to read and write, or to read alone where no more is allowed: a write is then Device. Device
     /// comes where the file can't be opened, BadSize where it is no whole number of pages or has more of them than a store.
     /// With a refusal the file is as it was.
     fn open(&mut self, path: &str) -> Result<Self::Store, StoreFault>

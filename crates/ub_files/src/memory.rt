@@ -1,12 +1,13 @@
-ghost use Rattle.std.specs.Prelude.{◌≡◌, ◌≢◌, ◌<◌, ◌⊎◌, ◌↔◌, ℕ, List, [], length, IfOk, IfSome, IfErr, OnOk, OnErr, MatchOption, MatchResult, IsOk, IsErrOf, string_bytes};
+ghost use Rattle.std.specs.Prelude.{◌≡◌, ◌≢◌, ◌<◌, ◌⊎◌, ◌↔◌, ℕ, List, [], ◌∷◌, Some, length, IfOk, IfSome, IfErr, OnOk, OnErr, MatchOption, MatchResult, IsOk, IsErrOf, string_bytes};
 ghost use Rattle.std.specs.Str.{bytes_eq};
-ghost use Rattle.ub_files.specs.Files.{absent, bytes, lent_out, pages, IsLent, IsMade, LendsFile, OpensFile, PutsBack, ReadsFile};
-ghost use Rattle.ub_files.specs.Memory.{held_in, memory_facts, place_in, told, IsPut, IsSetTo};
+ghost use Rattle.ub_files.specs.Files.{absent, bytes, lent_out, pages, AreRead, IsLent, IsMade, LendsFile, OpensFile, PutsBack, ReadsFile};
+ghost use Rattle.ub_files.specs.Memory.{held_in, memory_facts, paths_told, place_in, told, IsPut, IsReadAt, IsSetTo};
 
 use crate::files::Files;
 use std::alloc::{AllocError, Global};
 use std::mem;
 use ub_store::{MemStore, PageStore, StoreFault};
+use ub_words::STANDARD_INPUT;
 
 // What stands at a name.
 #[derive(Drop)]
@@ -27,7 +28,8 @@ struct Entry {
 
 /// Files in memory, for a program that has no others, and for tests: texts and table files by their paths. What each path holds is
 /// told, they are honest, and the stores that they lend never fail. A path that holds nothing is Device, and so is a text that is
-/// opened as a table file, or a table file that is read as a text. Standard input is the text at the path `-`.
+/// opened as a table file, or a table file that is read as a text. Standard input is the text at the path `-`, which is used up by
+/// reading. Which paths were read is told for as long as there was memory to keep them.
 ///
 /// A table file whose store is lent is away: until that is put back it can be made anew, and not be opened.
 #[derive(Drop)]
@@ -36,18 +38,20 @@ pub struct MemFiles {
     entries: Vec<Entry>,
     reads: u64,
     tables: u64,
+    readings: Option<Vec<String>>,
 }
 
 impl MemFiles {
     /// No files. It takes no memory.
     pub fn new(alloc: Global) -> MemFiles
-        ensures { ⟦<MemFiles as Files>⟧.facts result ≡ memory_facts [] 0 0 }
+        ensures { ⟦<MemFiles as Files>⟧.facts result ≡ memory_facts [] 0 0 (Some []) }
     {
         MemFiles {
             alloc,
             entries: Vec::new(alloc),
             reads: 0,
             tables: 0,
+            readings: Some(Vec::new(alloc)),
         }
     }
 
@@ -118,6 +122,20 @@ fn text_at<'a>(entries: &'a [Entry], path: &str) -> Option<&'a [u8]>
     }
 }
 
+// A copy of the text at this path. Device comes exactly where it holds none.
+fn copy_text(alloc: Global, entries: &[Entry], path: &str) -> Result<Vec<u8>, StoreFault>
+    ensures text { IfOk result (λ text. held_in entries.now path.now ≡ bytes text.items) }
+    ensures device { IsErrOf result StoreFault.Device
+        ↔ ((text : List ℕ) → held_in entries.now path.now ≢ bytes text) }
+    ensures faults { IfErr result (λ fault.
+        (fault ≡ StoreFault.Device) ⊎ (fault ≡ StoreFault.Memory)) }
+{
+    match text_at(entries, path) {
+        Some(text) => Vec::from_slice(alloc, text).map_err(|_| StoreFault::Memory),
+        None => Err(StoreFault::Device),
+    }
+}
+
 // Exchanges the file at this path for another one, or hands that back where it holds none.
 fn exchange(entries: &mut [Entry], path: &str, file: MemFile) -> Result<MemFile, MemFile>
     ensures { MatchResult result
@@ -173,12 +191,58 @@ fn lend(entries: &mut [Entry], path: &str) -> Option<MemStore>
     }
 }
 
+// Takes the text at this path, if it holds one, and leaves none of its bytes there.
+fn use_up(alloc: Global, entries: &mut [Entry], path: &str) -> Option<Vec<u8>>
+    ensures { MatchOption result
+        (((text : List ℕ) → held_in entries.old path.now ≢ bytes text)
+        × IsSetTo path.now (held_in entries.old path.now) entries.old entries.new)
+        (λ text. (held_in entries.old path.now ≡ bytes text.items)
+        × IsSetTo path.now (bytes []) entries.old entries.new) }
+{
+    match exchange(entries, path, MemFile::Text(Vec::new(alloc))) {
+        Ok(MemFile::Text(text)) => Some(text),
+        Ok(other) => {
+            let _ = exchange(entries, path, other);
+            None
+        }
+        Err(_) => None,
+    }
+}
+
+// The text at this path, which standard input then holds no more. Device comes exactly where it holds none.
+fn read_text(alloc: Global, entries: &mut [Entry], path: &str) -> Result<Vec<u8>, StoreFault>
+    ensures text { IfOk result (λ text. held_in entries.old path.now ≡ bytes text.items) }
+    ensures device { IsErrOf result StoreFault.Device
+        ↔ ((text : List ℕ) → held_in entries.old path.now ≢ bytes text) }
+    ensures faults { IfErr result (λ fault.
+        (fault ≡ StoreFault.Device) ⊎ (fault ≡ StoreFault.Memory)) }
+    ensures effect { IsReadAt path.now entries.old entries.new result }
+{
+    if path == STANDARD_INPUT {
+        use_up(alloc, entries, path).ok_or(StoreFault::Device)
+    } else {
+        copy_text(alloc, entries, path)
+    }
+}
+
+// The paths that were read, and then this one; none are told where memory for it is refused.
+fn noted(alloc: Global, readings: Option<Vec<String>>, path: &str) -> Option<Vec<String>>
+    ensures { AreRead (path.now ∷ []) (paths_told readings) (paths_told result) }
+{
+    let mut paths = readings?;
+    let name = String::from_str(alloc, path).ok()?;
+    paths.push(name).ok()?;
+    Some(paths)
+}
+
 impl Files for MemFiles {
     type Store = MemStore;
 
-    ghost facts = { λ files. memory_facts files.entries.items files.reads files.tables };
+    ghost facts = { λ files. memory_facts files.entries.items files.reads
+        files.tables (paths_told files.readings) };
 
-    /// The text at this path. Device comes exactly where it holds no text.
+    /// The text at this path. Device comes exactly where it holds no text. At a refusal each path holds what it did, standard input
+    /// too.
     fn read(&mut self, path: &str) -> Result<Vec<u8>, StoreFault>
         ensures text { IfOk result (λ text.
             held_in self.old.entries.items path.now ≡ bytes text.items) }
@@ -186,16 +250,17 @@ impl Files for MemFiles {
             ↔ ((text : List ℕ) → held_in self.old.entries.items path.now ≢ bytes text) }
         ensures faults { IfErr result (λ fault.
             (fault ≡ StoreFault.Device) ⊎ (fault ≡ StoreFault.Memory)) }
-        ensures effect { ReadsFile (⟦<MemFiles as Files>⟧.facts self.old)
+        ensures effect { ReadsFile path.now (⟦<MemFiles as Files>⟧.facts self.old)
             (⟦<MemFiles as Files>⟧.facts self.new) result }
+        ensures kept { OnErr result ((other : List ℕ)
+            → held_in self.new.entries.items other ≡ held_in self.old.entries.items other) }
     {
-        match text_at(self.entries.as_slice(), path) {
-            Some(text) => Vec::from_slice(self.alloc, text).map_err(|_| StoreFault::Memory),
-            None => {
-                self.reads = self.reads.saturating_add(1);
-                Err(StoreFault::Device)
-            }
+        self.readings = noted(self.alloc, self.readings.take(), path);
+        let read = read_text(self.alloc, self.entries.as_mut_slice(), path);
+        if let Err(StoreFault::Device) = &read {
+            self.reads = self.reads.saturating_add(1);
         }
+        read
     }
 
     /// The store of the table file at this path. Device comes exactly where it holds none, and no other fault does.
