@@ -160,7 +160,8 @@ fn put_and_bring(
     ensures cached { OnOk result (IsCached pager.new n) }
 {
     pager.put(n, page)?;
-    pager.bring(n)
+    pager.bring(n)?;
+    Ok(())
 }
 
 // A pager over three pages more of this store, whose cache holds one page.
