@@ -1,5 +1,8 @@
-// Headers and directories that are written and read, and pages that are refused.
+// Headers, directories and pages of an index that are written and read, and pages that are refused.
 use crate::samples::{page_of, plane};
+use ub_index_page::{
+    Head, check_index, entry_at, first_at, read_head, read_index, slot_in, write_index,
+};
 use ub_page::{
     Draft, Entry, Header, Page, read_directory, read_header, write_directory, write_header,
 };
@@ -138,5 +141,90 @@ fn directories(rt: HostRuntime) {
             read_directory(&schema, &page).err() == Some(*fault),
             "{place}"
         );
+    }
+}
+
+// The bytes of a page of an index that leads to the same regions.
+const INDEX: &[(usize, u8)] = &[
+    (0, 0x49),
+    (1, 1),
+    (3, 3),
+    (39, 1),
+    (55, 10),
+    (63, 3),
+    (79, 13),
+    (87, 2),
+];
+
+const INDEX_FAULTS: &[(usize, u8, PageFault)] = &[
+    (4095, 1, PageFault::BadPadding),
+    (15, 1, PageFault::BadPadding),
+    (4, 1, PageFault::BadPadding),
+    (55, 13, PageFault::BadOrder),
+    (39, 0, PageFault::BadRow),
+    (1, 17, PageFault::BadCount),
+    (1, 0, PageFault::BadCount),
+    (1, 16, PageFault::BadRow),
+    (3, 171, PageFault::BadCount),
+    (3, 0, PageFault::BadCount),
+    (0, 0x44, PageFault::WrongKind),
+];
+
+// Keys, each with the slot of that page to which it falls.
+const SLOTS: &[(u128, u32, usize)] = &[
+    (0, 0, 0),
+    (9, 5, 0),
+    (10, 0, 1),
+    (12, 1, 1),
+    (13, 0, 2),
+    (99, 0, 2),
+];
+
+// The last address of the plane.
+const LAST: u128 = 0xffff_ffff_ffff_ffff;
+
+// Whether the page is read as that page of an index, and written so over another one.
+fn is_index_page(schema: &Schema, page: &Page) -> bool {
+    let entries = [entry(0, 1), entry(10, 3), entry(13, 2)];
+    let mut draft = Draft::new();
+    write_index(&[entry(7, 7); 4], 7, &mut draft);
+    write_index(&entries, 1, &mut draft);
+    match read_index(schema, page) {
+        Ok(index) => {
+            draft.page() == page && index.entries() == entries.as_slice() && index.level() == 1
+        }
+        Err(_) => false,
+    }
+}
+
+// Whether the page is looked into where it stands.
+fn is_looked_into(page: &Page) -> bool {
+    let head = Ok(Head { level: 1, count: 3 });
+    read_head(page) == head
+        && check_index(LAST, page) == head
+        && entry_at(page, 1) == entry(10, 3)
+        && first_at(page, 2).z == 13
+}
+
+// Whether the page is refused so, read and checked.
+fn is_refused(schema: &Schema, page: &Page, fault: PageFault) -> bool {
+    read_index(schema, page).err() == Some(fault) && check_index(LAST, page) == Err(fault)
+}
+
+#[test]
+fn index_pages(rt: HostRuntime) {
+    let schema = plane().expect(&rt, "a table");
+    let mut page = page_of(INDEX, &[]);
+    assert!(rt; is_index_page(&schema, &page) && is_looked_into(&page));
+    for (z, number, slot) in SLOTS {
+        let key = Key {
+            z: *z,
+            number: *number,
+        };
+        assert!(rt; slot_in(&page, 3, &key) == *slot, "{z}");
+    }
+    for (place, byte, fault) in INDEX_FAULTS {
+        page[*place % 4096] = *byte;
+        assert!(rt; is_refused(&schema, &page, *fault), "{place}");
     }
 }

@@ -5,12 +5,11 @@ use Rattle.std.specs.List.{flat_map, AllByRecursion}
 use Rattle.ub_page.specs.Bytes.{number_at, layout, padded}
 use Rattle.ub_page.specs.Entries.{AreAscending, IsEntry, entry_fields, entry_bytes, page_fields, entries_page, key_on, entry_on, entries_on}
 use Rattle.ub_page.specs.declared.entries.Entry.{Entry}
-use Rattle.ub_page.proofs.EntryFacts.{fields_read, length-entries_on, entries_next, short_ascending}
-use Rattle.ub_page.proofs.SpelledFacts.{layout_back, joined}
+use Rattle.ub_page.proofs.PageLaws.{fields_read, length-entries_on, entries_next, short_ascending, layout_back, joined}
 use Rattle.ub_table.specs.Keys.{IsBefore}
 use Rattle.ub_table.specs.declared.fault.PageFault.TheVariants.{WrongKind, Unclean, BadCount, BadName, BadRow, BadOrder, OutOfRegion, BadPadding}
 use Rattle.ub_table.specs.declared.fault.PageFault.{PageFault}
-use Rattle.ub_index_page.specs.Index.{Node, IsNode, index_page, head_on, node_on, IsIndexKind, HasHead, HasEntries, HasOrder, IsBlankBehind, IsHeadFault, IsIndexFault}
+use Rattle.ub_index_page.specs.Index.{Node, IsNode, index_page, head_on, node_on, IsIndexKind, HasHead, HasNodeEntries, HasNodeOrder, IsBlankBehind, IsHeadFault, IsIndexFault}
 use Rattle.ub_index_page.specs.declared.index.Head.{Head}
 
 -- the page of a level's entries is the spelling of the node
@@ -53,7 +52,7 @@ not_refused node page last small is same BadCount fault =
     let on = (parts node page last small is same).on in
     let level : number_at 1 1 page ≡ node.level = ap (λ (n : Node). n.level) on in
     let count : number_at 2 2 page ≡ length node.entries = sym (length-entries_on 16 (number_at 2 2 page) page) ∙ ap (λ (n : Node). length n.entries) on in
-    fault.1 (rw (level, count) ((is.low, is.high), (is.some, is.few)))
+    fault.1 (rw (level, count) ((is.low, is.high), is.some, is.few))
 not_refused node page last small is same BadRow fault = fault.2 (rw (ap (λ (n : Node). n.entries) (parts node page last small is same).on) is.entries)
 not_refused node page last small is same BadOrder fault = fault.3 (rw (ap (λ (n : Node). n.entries) (parts node page last small is same).on) is.ascending)
 not_refused node page last small is same BadPadding fault = fault.4 node is same
@@ -73,15 +72,15 @@ head_fault last page BadName fault = fault
 head_fault last page OutOfRegion fault = fault
 
 -- a page whose unused bytes aren't zero is written of nothing
-pub padding_fault : (page : List ℕ) (last : ℕ) → last < 256 ^ 16 → IsIndexKind page → HasHead page → HasEntries last page → HasOrder page
+pub padding_fault : (page : List ℕ) (last : ℕ) → last < 256 ^ 16 → IsIndexKind page → HasHead page → HasNodeEntries last page → HasNodeOrder page
     → ((IsBlankBehind (number_at 2 2 page) page) → ⊥) → IsIndexFault last page BadPadding
 padding_fault page last small kind head entries order other = (kind, head, entries, order, λ node is e. other (parts node page last small is e).blank)
 
 -- what stands on a page that is in range and in order is a node
-pub is_node : (page : List ℕ) (last : ℕ) → HasHead page → HasEntries last page → HasOrder page → IsNode last (node_on page)
+pub is_node : (page : List ℕ) (last : ℕ) → HasHead page → HasNodeEntries last page → HasNodeOrder page → IsNode last (node_on page)
 is_node page last head entries order =
     let long = length-entries_on 16 (number_at 2 2 page) page in
-    record { low = head.0.0; high = head.0.1; some = rw long head.1.0; few = rw long head.1.1; entries = entries; ascending = order }
+    record { low = head.0.0; high = head.0.1; some = rw long head.1; few = rw long head.2; entries = entries; ascending = order }
 
 -- entries that stand in some bytes are spelled by them
 entries_back : (offset n : ℕ) (page : List ℕ) → ((k : ℕ) → get_or page k 0 < 256) → offset + 24 * n ≤ length page → flat_map entry_bytes (entries_on offset n page) ≡ take (24 * n) (drop offset page)
@@ -102,7 +101,7 @@ spelled page long small kind head blank =
     let count : ℕ = number_at 2 2 page in
     let level : ℕ = number_at 1 1 page in
     let entries : List Entry = entries_on 16 count page in
-    let few = head.1.1 in
+    let few = head.2 in
     let end : ℕ = 16 + 24 * count in
     let counted : count ≡ length entries = sym (length-entries_on 16 count page) in
     let heads : layout (page_fields 0x49 level (length entries) 0) ≡ take 16 (drop 0 page) =

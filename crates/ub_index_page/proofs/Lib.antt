@@ -1,2 +1,2 @@
 pub mod IndexFacts
-pub mod IndexLaws
+pub mod Laws

@@ -43,18 +43,15 @@ IsIndexKind page = number_at 1 0 page ≡ 0x49
 abbrev pub HasLevel : List ℕ → Type 0
 HasLevel page = (1 ≤ number_at 1 1 page) × (number_at 1 1 page ≤ MAX_LEVEL)
 
--- it tells of 1 to 170 entries
-abbrev pub HasCount : List ℕ → Type 0
-HasCount page = (1 ≤ number_at 2 2 page) × (number_at 2 2 page ≤ MAX_ENTRIES)
-
+-- and of 1 to 170 entries
 abbrev pub HasHead : List ℕ → Type 0
-HasHead page = HasLevel page × HasCount page
+HasHead page = HasLevel page × (1 ≤ number_at 2 2 page) × (number_at 2 2 page ≤ MAX_ENTRIES)
 
-abbrev pub HasEntries : ℕ → List ℕ → Type 0
-HasEntries last page = AllByRecursion (IsEntry last) (node_on page).entries
+abbrev pub HasNodeEntries : ℕ → List ℕ → Type 0
+HasNodeEntries last page = AllByRecursion (IsEntry last) (node_on page).entries
 
-abbrev pub HasOrder : List ℕ → Type 0
-HasOrder page = AreAscending (node_on page).entries
+abbrev pub HasNodeOrder : List ℕ → Type 0
+HasNodeOrder page = AreAscending (node_on page).entries
 
 -- the bytes that no field uses, those of the head and those behind so many entries, are zero
 pub record IsBlankBehind (count : ℕ) (page : List ℕ) : Type 0 where
@@ -72,9 +69,9 @@ IsHeadFault page _ = ⊥
 abbrev pub IsIndexFault : ℕ → List ℕ → PageFault → Type 0
 IsIndexFault last page WrongKind = ¬ (IsIndexKind page)
 IsIndexFault last page BadCount = IsIndexKind page × (¬ (HasHead page))
-IsIndexFault last page BadRow = IsIndexKind page × HasHead page × (¬ (HasEntries last page))
-IsIndexFault last page BadOrder = IsIndexKind page × HasHead page × HasEntries last page × (¬ (HasOrder page))
+IsIndexFault last page BadRow = IsIndexKind page × HasHead page × (¬ (HasNodeEntries last page))
+IsIndexFault last page BadOrder = IsIndexKind page × HasHead page × HasNodeEntries last page × (¬ (HasNodeOrder page))
 IsIndexFault last page BadPadding =
-    IsIndexKind page × HasHead page × HasEntries last page × HasOrder page
+    IsIndexKind page × HasHead page × HasNodeEntries last page × HasNodeOrder page
     × ((node : Node) → IsNode last node → page ≢ index_page node)
 IsIndexFault last page _ = ⊥

@@ -1,4 +1,5 @@
--- What the proofs of crates above use of pages: what the page of a value tells of it, and that a page of a value is not refused.
+-- What the proofs of crates above use of pages: what the page of a value tells of it, that a page of a value is not refused, and how
+-- entries and other fields stand on a page.
 use Rattle.std.proofs.Common.{◌≡◌, ℕ, ◌≤◌, List, false}
 use Rattle.ub_page.proofs.DirectoryFacts as directory
 use Rattle.ub_page.proofs.HeaderFacts as headers
@@ -11,8 +12,10 @@ use Rattle.ub_table.specs.Region.{Region, IsRegion}
 use Rattle.ub_table.specs.declared.fault.PageFault.{PageFault}
 use Rattle.ub_table.specs.declared.schema.Schema.{Schema}
 pub use Rattle.ub_page.proofs.DirectoryFacts.{HasListing}
+pub use Rattle.ub_page.proofs.EntryFacts.{HasFields, small_address, fields_read, length-entries_on, entries_next, short_ascending}
 pub use Rattle.ub_page.proofs.HeaderFacts.{HasParts}
 pub use Rattle.ub_page.proofs.RegionFacts.{HasRegion}
+pub use Rattle.ub_page.proofs.SpelledFacts.{layout_back, joined}
 
 pub listing_parts : (listing : Listing) (page : List ℕ) (d : ℕ) → d ≤ 4 → IsListing d listing → page ≡ directory_page listing → HasListing listing page
 listing_parts = directory.parts

@@ -2,8 +2,8 @@
 // 4096 bytes. A reader takes what a writer spells and refuses all else.
 //
 // What belongs here is how pages are spelled (the definitions stand in specs/). What names, schemas, rows and keys are,
-// how addresses are computed, where pages are kept and how rows are found stands elsewhere. Nothing in this crate takes
-// memory.
+// how addresses are computed, where pages are kept and how rows are found stands elsewhere; so do the pages of an index of
+// several levels (`ub_index_page`), whose entries are those of `entries`. Nothing in this crate takes memory.
 
 #![tactic(auto)]
 

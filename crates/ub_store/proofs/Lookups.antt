@@ -14,6 +14,11 @@ use Rattle.lru.proofs.CallerLemmas.{lookup-put_entries}
 use Rattle.ub_store.specs.Cache.{pages_of, page_at}
 
 module _ {V : Type 0} where
+  -- what is there is something
+  pub some_of : (o : Option V) → is_some o ≡ true → (x : V) × (o ≡ Some x)
+  some_of None h = cc
+  some_of (Some x) h = (x, refl)
+
   entry_is : (k : ℕ) (es : List (ℕ × V)) (e : ℕ × V) → lookup_entry (nat_eq k) es ≡ Some e → (e.0 ≡ k) × (lookup (nat_eq k) es ≡ Some e.1)
   entry_is k [] e h = cc
   entry_is k (f ∷ es) e h = elim (cases_Bool (nat_eq k f.0)) [

@@ -1,4 +1,4 @@
-ghost use Rattle.std.specs.Prelude.{◌≡◌, ◌<◌, ◌≤◌, ◌⊎◌, [], Err, None, IfOk, IfErr, IsOk, OnOk, OnErr, IsErrOf, option_map};
+ghost use Rattle.std.specs.Prelude.{◌≡◌, ◌<◌, ◌≤◌, ◌⊎◌, ◌↔◌, [], false, Ok, Err, None, IfOk, IfErr, OnOk, OnErr, IsErrOf, option_map};
 ghost use Rattle.ub_store.specs.Facts.{page_count, IsPage, Reads, WritesAt, Extends, Syncs};
 ghost use Rattle.ub_store.specs.Cache.{page_at, NoneMoreBut, SameBut};
 ghost use Rattle.ub_store.specs.View.{pager_view, untouched, emptied, Holds, IsCached, IsFull, Notes, SameTrace};
@@ -93,15 +93,17 @@ impl<S: PageStore> Pager<S> {
         }
         self.trace.push_reserved(n);
         self.fetches = self.fetches.saturating_add(1);
-        self.bring(n)
+        self.bring(n)?;
+        Ok(())
     }
 
-    /// Brings the page of this number into the cache. One that is cached is not read again. NoPage comes where there is none,
-    /// Device where the store failed in this call, Memory where memory was refused, for the cache too.
-    pub fn bring(&mut self, n: u32) -> Result<(), StoreFault>
+    /// Brings the page of this number into the cache, and says whether it was read from the store. One that is cached is not read
+    /// again. NoPage comes where there is none, Device where the store failed in this call, Memory where memory was refused, for
+    /// the cache too.
+    pub fn bring(&mut self, n: u32) -> Result<bool, StoreFault>
         ensures trace { SameTrace self.old self.new }
         ensures cached { OnOk result (IsCached self.new n) }
-        ensures hit { IsCached self.old n → IsOk result }
+        ensures hit { IsCached self.old n ↔ (result ≡ Ok false) }
         ensures there { OnOk result (n < page_count self.old.store) }
         ensures missing { IsErrOf result StoreFault.NoPage → page_count self.old.store ≤ n }
         ensures no_size { ¬ (IsErrOf result StoreFault.BadSize) }
@@ -109,7 +111,7 @@ impl<S: PageStore> Pager<S> {
         ensures others { NoneMoreBut n self.old.cached self.new.cached }
     {
         if self.cache.touch(n) {
-            return Ok(());
+            return Ok(false);
         }
         let Ok(mut page) = self.cache.take_spare() else {
             return Err(StoreFault::Memory);
@@ -119,7 +121,7 @@ impl<S: PageStore> Pager<S> {
             return Err(fault);
         }
         match self.cache.hold(n, page) {
-            Ok(()) => Ok(()),
+            Ok(()) => Ok(true),
             Err(_) => Err(StoreFault::Memory),
         }
     }

@@ -1,10 +1,10 @@
-use Rattle.std.proofs.Common.{rules, inr}
+use Rattle.std.proofs.Common.{rules, inr, Bool}
 use Rattle.ub_directory.proofs.ReadFacts.{bring_refused, page_still, pager_read, part_read, part_read_last}
 use Rattle.ub_directory.proofs.reading.read_part.Goals as goal
 
 pub returns-in_err-bring-clause-effect : goal.returns-in_err-bring-clause-effect
 returns-in_err-bring-clause-effect g c =
-    bring_refused {U = Unit {0}} c.args.pager.now c.bring.new.self c.args.listed.now.next c.from_residual.result c.in_err-bring.field-0.0 c.from_residual.ensures.1
+    bring_refused {U = Bool} c.args.pager.now c.bring.new.self c.args.listed.now.next c.from_residual.result c.in_err-bring.field-0.0 c.from_residual.ensures.1
     c.in_err-bring.ensures.effect.same c.in_err-bring.ensures.trace c.in_err-bring.ensures.effect.device c.in_err-bring.ensures.missing c.in_err-bring.ensures.no_size
     (inr (c.args.header.now, c.args.listed.now.chain.items, c.args.listed.now.entries.items, c.requires))
 

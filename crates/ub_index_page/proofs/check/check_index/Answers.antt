@@ -1,7 +1,7 @@
 use Rattle.std.proofs.Common.{◌≡◌, ◌<◌, ◌^◌, true, arith, ap}
 use Rattle.ub_index_page.proofs.IndexFacts.{not_refused, head_fault, padding_fault, is_node, spelled}
 use Rattle.ub_index_page.proofs.check.check_index.Goals as goal
-use Rattle.ub_index_page.specs.Index.{IsIndexFault, IsBlankBehind, HasEntries, HasOrder}
+use Rattle.ub_index_page.specs.Index.{IsIndexFault, IsBlankBehind, HasNodeEntries, HasNodeOrder}
 use Rattle.ub_index_page.specs.declared.index.Head.{Head}
 use Rattle.ub_page.specs.Bytes.{number_at}
 use Rattle.ub_table.specs.declared.fault.PageFault.TheVariants.{BadRow, BadOrder, BadPadding}
@@ -29,7 +29,7 @@ returns-then-not-are_ascending-clause-exact c = λ node is e.
     let small : c.args.last < 256 ^ 16 = omega arith in
     let head = c.in_ok-head.ensures.passed in
     let count = ap (λ (h : Head). h.count) c.in_ok-head.ensures.head in
-    let entries : HasEntries c.args.last c.args.page.now = rw count at (c.are_in_range.ensures.0 c.if-not-are_in_range.false) in
+    let entries : HasNodeEntries c.args.last c.args.page.now = rw count at (c.are_in_range.ensures.0 c.if-not-are_in_range.false) in
     let fault : IsIndexFault c.args.last c.args.page.now BadOrder = (
       head.0,
       head.1,
@@ -44,8 +44,8 @@ returns-then-not-is_blank_behind-clause-refused c =
     let small : c.args.last < 256 ^ 16 = omega arith in
     let head = c.in_ok-head.ensures.passed in
     let count = ap (λ (h : Head). h.count) c.in_ok-head.ensures.head in
-    let entries : HasEntries c.args.last c.args.page.now = rw count at (c.are_in_range.ensures.0 c.if-not-are_in_range.false) in
-    let order : HasOrder c.args.page.now = rw count at (c.are_ascending.ensures.0 c.if-not-are_ascending.false) in
+    let entries : HasNodeEntries c.args.last c.args.page.now = rw count at (c.are_in_range.ensures.0 c.if-not-are_in_range.false) in
+    let order : HasNodeOrder c.args.page.now = rw count at (c.are_ascending.ensures.0 c.if-not-are_ascending.false) in
     padding_fault c.args.page.now c.args.last small head.0 head.1 entries order
     (λ blank. let yes : c.is_blank_behind.result ≡ true = c.is_blank_behind.ensures.1 (rw count blank) in let not_so = c.if-not-is_blank_behind.true in cc)
 
@@ -54,8 +54,8 @@ returns-then-not-is_blank_behind-clause-exact c = λ node is e.
     let small : c.args.last < 256 ^ 16 = omega arith in
     let head = c.in_ok-head.ensures.passed in
     let count = ap (λ (h : Head). h.count) c.in_ok-head.ensures.head in
-    let entries : HasEntries c.args.last c.args.page.now = rw count at (c.are_in_range.ensures.0 c.if-not-are_in_range.false) in
-    let order : HasOrder c.args.page.now = rw count at (c.are_ascending.ensures.0 c.if-not-are_ascending.false) in
+    let entries : HasNodeEntries c.args.last c.args.page.now = rw count at (c.are_in_range.ensures.0 c.if-not-are_in_range.false) in
+    let order : HasNodeOrder c.args.page.now = rw count at (c.are_ascending.ensures.0 c.if-not-are_ascending.false) in
     let fault : IsIndexFault c.args.last c.args.page.now BadPadding = padding_fault c.args.page.now c.args.last small head.0 head.1 entries order
     (λ blank. let yes : c.is_blank_behind.result ≡ true = c.is_blank_behind.ensures.1 (rw count blank) in let not_so = c.if-not-is_blank_behind.true in cc) in
     absurd (not_refused node c.args.page.now c.args.last small is e BadPadding fault)
@@ -64,7 +64,7 @@ pub returns-clause-found : goal.returns-clause-found
 returns-clause-found c =
     let head = c.in_ok-head.ensures.passed in
     let count = ap (λ (h : Head). h.count) c.in_ok-head.ensures.head in
-    let entries : HasEntries c.args.last c.args.page.now = rw count at (c.are_in_range.ensures.0 c.if-not-are_in_range.false) in
-    let order : HasOrder c.args.page.now = rw count at (c.are_ascending.ensures.0 c.if-not-are_ascending.false) in
+    let entries : HasNodeEntries c.args.last c.args.page.now = rw count at (c.are_in_range.ensures.0 c.if-not-are_in_range.false) in
+    let order : HasNodeOrder c.args.page.now = rw count at (c.are_ascending.ensures.0 c.if-not-are_ascending.false) in
     let blank : IsBlankBehind (number_at 2 2 c.args.page.now) c.args.page.now = rw count at (c.is_blank_behind.ensures.0 c.if-not-is_blank_behind.false) in
     (is_node c.args.page.now c.args.last head.1 entries order, spelled c.args.page.now c.told-page c.fits-page head.0 head.1 blank)

@@ -3,7 +3,7 @@ use Rattle.ub_index_page.proofs.IndexFacts.{parts, node_same}
 use Rattle.ub_index_page.proofs.index.read_index.Goals as goal
 use Rattle.ub_index_page.specs.Index.{Node}
 use Rattle.ub_index_page.specs.declared.index.Head.{Head}
-use Rattle.ub_page.proofs.EntryFacts.{small_address, length-entries_on}
+use Rattle.ub_page.proofs.PageLaws.{small_address, length-entries_on}
 use Rattle.ub_table.specs.declared.fault.PageFault.{PageFault}
 use Rattle.ub_zaddr.specs.Address.{last_address}
 

@@ -1,4 +1,5 @@
-use Rattle.std.proofs.Common.{rules}
+use Rattle.std.proofs.Common.{◌∙◌, rules, refl, sym}
+use Rattle.ub_store.proofs.Lookups.{some_of}
 use Rattle.ub_store.proofs.pager.Pager.bring.Goals as goal
 
 pub returns-in_default-clause-hit : goal.returns-in_default-clause-hit
@@ -24,3 +25,6 @@ returns-in-Err-clause-missing g c = search rules
 
 pub invariant_of-self-2 : goal.invariant_of-self-2
 invariant_of-self-2 g c = search rules
+
+pub returns-then-touch-clause-hit : goal.returns-then-touch-clause-hit
+returns-then-touch-clause-hit g c = (λ held. refl, λ same. rw (← c.self.view_is) (some_of _ (sym c.touch.ensures.found ∙ c.if-touch.true)))

@@ -1,4 +1,4 @@
-use Rattle.std.proofs.Common.{◌≡◌, ◌<◌, ◌∙◌, ℕ, List, Some, refl, ap, arith, length, slice_get, subst}
+use Rattle.std.proofs.Common.{◌≡◌, ◌<◌, ◌∙◌, Bool, ℕ, List, Some, refl, ap, arith, length, slice_get, subst}
 use Rattle.std.proofs.lemmas.Option.{slice_get_within}
 use Rattle.ub_page.specs.Region.{RegionView, region_page}
 use Rattle.ub_store.specs.Facts.{IsPage}
@@ -24,7 +24,7 @@ returns-in_err-bring-clause-effect g c =
     let old : TreeView = tree_view t.schema t.directory.entries t.directory.chain t.next t.rows (is_written t.mark) t.is_failed t.pager in
     rw (← c.self.view_is) (record {
       same = searched_tree c.from_residual.result t.schema t.directory.entries t.directory.chain t.next t.rows (is_written t.mark) t.is_failed t.pager c.bring.new.self
-          (read_there c.from_residual.result (Unit {0}) c.in_err-bring.field-0.0 t.pager.store c.bring.new.self.store c.from_residual.ensures.1 c.in_err-bring.ensures.effect.same) c.in_err-bring.ensures.trace;
+          (read_there c.from_residual.result Bool c.in_err-bring.field-0.0 t.pager.store c.bring.new.self.store c.from_residual.ensures.1 c.in_err-bring.ensures.effect.same) c.in_err-bring.ensures.trace;
       faults = store_refused old c.from_residual.result c.in_err-bring.field-0.0 c.from_residual.ensures.1
           c.in_err-bring.ensures.effect.device
           (λ no_page. (
@@ -100,7 +100,7 @@ pub returns-in_err-bring-clause-taken : goal.returns-in_err-bring-clause-taken
 returns-in_err-bring-clause-taken g c =
     let t = c.self.inside in
     rw (← c.self.view_is) (λ honest r on. passing_by c.from_residual.result (tree_fault c.in_err-bring.field-0.0) _ c.from_residual.ensures.1
-    (passing_read (Unit {0}) c.in_err-bring.field-0.0
+    (passing_read Bool c.in_err-bring.field-0.0
     (λ no_page.
     let there = slice_get_within t.pager.store.pages c.args.seat.now.page (region_page t.schema r) (on.page honest) in
     let past = c.in_err-bring.ensures.missing no_page in

@@ -4,7 +4,7 @@ use Rattle.std.proofs.Common.{◌≡◌, ◌<◌, ◌+◌, ◌*◌, ◌^◌, ℕ
 use Rattle.ub_index_page.proofs.IndexFacts as facts
 use Rattle.ub_index_page.specs.Index.{Node, IsNode, IsIndexFault, index_page, node_on}
 use Rattle.ub_index_page.specs.Slots.{entry_in}
-use Rattle.ub_page.proofs.EntryFacts.{length-entries_on}
+use Rattle.ub_page.proofs.PageLaws.{length-entries_on}
 use Rattle.ub_page.specs.Bytes.{number_at}
 use Rattle.ub_page.specs.Entries.{entry_on, entries_on}
 use Rattle.ub_table.specs.declared.fault.PageFault.{PageFault}
