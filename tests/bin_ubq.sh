@@ -3,9 +3,10 @@
 # input; `--prove`, interrupted and begun again; runs with nothing changed, with a source touched or changed; a `load`; a mistake
 # in the program; a proof that fails. It takes as long as proving the program from nothing does and some 20 answers of a minute.
 # With --warm what was proved here is taken along, but for the crate `ub_words`. With --answers the program is not proved:
-# only the unproved answers are tried. The last line says whether all was as it should be; the status is 1 where it was not.
+# only the unproved answers are tried; with --proof only what follows them, as with --warm. The last line says whether all was as
+# it should be; the status is 1 where it was not.
 #
-#   tests/bin_ubq.sh [--warm | --answers]
+#   tests/bin_ubq.sh [--warm | --answers | --proof]
 set -u
 
 root=$(cd "$(dirname "$(readlink -f "${BASH_SOURCE[0]}")")/.." && pwd)
@@ -45,6 +46,16 @@ worked='x,y,m\n2,3,20\n3,0,5\n2,3,1\n-- rows 3, pages 1\n'
 is_unproved() {
     told 'comes from a build that is not proved yet'
 }
+# The most seconds that one answer is waited for.
+longest=600
+# Waits until a file holds a text, or no longer than for an answer.
+stay_for() {
+    local second
+    for ((second = 0; second < longest; second++)); do
+        grep -qs "$1" "$2" && return
+        sleep 1
+    done
+}
 # Whether none of the processes of a session, whose number a file holds, is left.
 is_over() {
     [ -z "$(ps -o pid= -s "$(cat "$1")")" ]
@@ -75,9 +86,9 @@ answers() {
         >"$room/out" 2>"$room/err"
     check "a script from a pipe that is silent for 5 seconds" wrote "$worked"
     if command -v script >/dev/null; then
-        # A terminal: what is typed comes back too, and each line ends with a carriage return.
-        { sleep 2; cat examples/between.sql; sleep 1; printf '\004'; sleep 150; } | timeout 140 script -qec \
-            'bin/ubq try examples/s.csv - --dims 2 2>/dev/null; kill -TERM 0' /dev/null >"$room/typed" 2>/dev/null
+        # A terminal: what is typed comes back too, and each line ends with a carriage return. It stays until the answer is there.
+        { sleep 2; cat examples/between.sql; sleep 1; printf '\004'; stay_for 'pages 1' "$room/typed"; } | timeout "$longest" \
+            script -qec 'bin/ubq try examples/s.csv - --dims 2 2>/dev/null; kill -TERM 0' /dev/null >"$room/typed" 2>/dev/null
         check "a script that is typed at a terminal" \
             grep -q 'rows 3, pages 1' <(tr -d '\r' <"$room/typed")
     else
@@ -198,6 +209,10 @@ proof() {
 
 case ${1:-} in
 --answers) answers ;;
+--proof)
+    take_along
+    proof
+    ;;
 --warm)
     answers
     take_along
