@@ -369,7 +369,8 @@ const OPENED: &[(Call, Answer)] = &[
     (Call::Read(1), Ok(65)),
 ];
 
-// Whether a store is made in a file, and its pages are kept there.
+// Whether a store is made in a file, its pages are kept there, and opening the file again leaves
+// all of its bytes.
 fn keeps_pages(rt: &HostRuntime, path: &str) -> bool {
     is_written(rt, path, b"nothing that is kept")
         && made_answers(create_store(rt, path), MADE)
@@ -377,13 +378,24 @@ fn keeps_pages(rt: &HostRuntime, path: &str) -> bool {
         && holds_two_pages(rt, path)
 }
 
-// Whether there is no store in no file, in a folder, and in one that is no whole number of pages;
-// and an empty one has no page.
-fn refuses_what_is_no_store(rt: &HostRuntime, path: &str) -> bool {
+// A path in a folder that isn't there.
+const NOWHERE: &str = "/tmp/hablozen-no-folder/t.ub";
+
+// Whether no store is opened or made where there is no folder for it, or a folder; and opening
+// makes no file.
+fn refuses_what_is_not_there(rt: &HostRuntime, path: &str) -> bool {
     is_refused(rt, path, StoreFault::Device)
+        && fs::metadata(rt, path).is_err()
+        && is_refused(rt, NOWHERE, StoreFault::Device)
+        && create_store(rt, NOWHERE).err() == Some(StoreFault::Device)
         && is_refused(rt, "/tmp", StoreFault::Device)
         && create_store(rt, "/tmp").err() == Some(StoreFault::Device)
-        && is_written(rt, path, &[65])
+}
+
+// Whether there is no store in a file that is no whole number of pages; and an empty one has no
+// page.
+fn refuses_what_is_no_store(rt: &HostRuntime, path: &str) -> bool {
+    is_written(rt, path, &[65])
         && is_refused(rt, path, StoreFault::BadSize)
         && is_written(rt, path, &[65; 4097])
         && is_refused(rt, path, StoreFault::BadSize)
@@ -417,7 +429,8 @@ fn stores_in_files(rt: HostRuntime) {
     let id = process::id(rt.process());
     let path = format!(in rt.alloc(); "/tmp/hablozen-{id}.ub").expect(&rt, "memory");
     let path = path.as_str();
-    let is_right = refuses_what_is_no_store(&rt, path)
+    let is_right = refuses_what_is_not_there(&rt, path)
+        && refuses_what_is_no_store(&rt, path)
         && keeps_pages(&rt, path)
         && takes_short_reads(&rt, path)
         && fs::remove_file(&rt, path).is_ok();
