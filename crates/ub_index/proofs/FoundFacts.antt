@@ -1,0 +1,155 @@
+-- What a search after a region finds on an index: the first of its regions that has a property.
+use Rattle.std.proofs.Common.{◌≡◌, ◌≤◌, ◌↔◌, inl, inr, ℕ, zero, suc, max, true, List, [], ◌∷◌, Option, Some, None, IfOk, Result, Ok, Err, slice_get, drop, ◌∙◌, sym, ap, subst, refl, arith, nat_le, if◌then◌else◌}
+use Rattle.std.proofs.lemmas.Bool.{cases_Bool, le-leb, lt-leb}
+use Rattle.std.proofs.lemmas.Option.{slice_get_within, slice_get_cases}
+use Rattle.ub_bigmin.specs.Box.{Corners, HoldsAny}
+use Rattle.ub_bigmin.specs.Extremes.{LeastFrom}
+use Rattle.ub_directory.proofs.SeekFacts.{next_meets, no_address, none_of, region_first, seek_first}
+use Rattle.ub_directory.proofs.SpanFacts.{region_is, region_with}
+use Rattle.ub_directory.specs.Spans.{first_keys, regions_of, First, IsLater, Meets}
+use Rattle.ub_directory.specs.declared.region.Region.{Region}
+use Rattle.ub_page.specs.declared.entries.Entry.{Entry}
+use Rattle.ub_region.specs.Regions.{index_holding}
+use Rattle.ub_region.specs.Spans.{span_end}
+use Rattle.ub_store.specs.Facts.{StoreFacts}
+use Rattle.ub_table.proofs.Laws.{ascending_get, before_of, not_before_origin, precedes_of, precedes_trans}
+use Rattle.ub_table.specs.Keys.{IsBefore, precedes, origin, are_ascending}
+use Rattle.ub_table.specs.declared.row.Key.{Key}
+use Rattle.ub_index.specs.Descending.{Reaches}
+use Rattle.ub_index.specs.Searching.{GivesFrom, IsFrom, at_least, end_before, region_of}
+use Rattle.ub_index.specs.View.{IndexView, IsIndexOn, IsSeatAt, entries_in}
+use Rattle.ub_index.specs.declared.fault.IndexFault.{IndexFault}
+use Rattle.ub_index.specs.declared.seat.Seat.{Seat}
+use Rattle.ub_index.proofs.PlaceFacts.{begins, index_below, index_ge, index_of_first, up, within}
+use Rattle.ub_index.proofs.WayFacts.{seat_is}
+
+-- a first key is later than another key exactly from the region behind the one that holds that key
+later_than : (key : Key) (firsts : List Key) (i : ℕ) (first : Key) → are_ascending firsts ≡ true → slice_get firsts 0 ≡ Some origin → slice_get firsts i ≡ Some first
+    → IsBefore key first ↔ (suc (index_holding key firsts) ≤ i)
+later_than key firsts i first ascends begin at = (to i at, from)
+  where
+    to : (j : ℕ) → slice_get firsts j ≡ Some first → IsBefore key first → suc (index_holding key firsts) ≤ j
+    to zero there sooner = let same : origin ≡ first = cc in absurd (not_before_origin key (subst (λ (k : Key). IsBefore key k) (sym same) sooner))
+    to (suc j) there sooner = elim (index_below key firsts j (λ next here. let same : first ≡ next = cc in ap (precedes key) (sym same) ∙ precedes_of key first sooner)) [
+      | inl le ↦ omega arith
+      | inr far ↦ let near = slice_get_within firsts (suc j) first there in absurd (omega arith)
+    ]
+
+    from : suc (index_holding key firsts) ≤ i → IsBefore key first
+    from lt = elim (cases_Bool (precedes key first)) [
+      | inl t ↦ before_of key first t
+      | inr f ↦ let ge = index_ge key firsts i first ascends at f in absurd (omega arith)
+    ]
+
+-- the later of a first key and the least key of an address is held by the later of their regions
+holding_max : (firsts : List Key) (start : ℕ) (from : Key) (z : ℕ) → are_ascending firsts ≡ true → slice_get firsts start ≡ Some from
+    → index_holding (at_least from z) firsts ≡ max start (index_holding (record { z = z; number = 0 }) firsts)
+holding_max firsts start from z ascends at = elim (cases_Bool (precedes (record { z = z; number = 0 }) from)) [
+  | inl t ↦
+      let here : index_holding from firsts ≡ start = index_of_first firsts start from ascends at in
+      let near = slice_get_within firsts start from at in
+      elim (index_below (record { z = z; number = 0 }) firsts start
+      (λ next there. precedes_trans (record { z = z; number = 0 }) from next t (ascending_get firsts ascends start (suc start) (omega arith) from next at there))) [
+        | inl le ↦ rw t (omega arith)
+        | inr far ↦ absurd (omega arith)
+      ]
+  | inr f ↦ let ge = index_ge (record { z = z; number = 0 }) firsts start from ascends at f in rw f (omega arith)
+]
+
+-- the region of a seat among the regions
+seat_region : (last : ℕ) (entries : List Entry) (i : ℕ) (seat : Seat) → IsSeatAt entries i seat → slice_get (regions_of last entries) i ≡ Some (region_of last seat)
+seat_region last entries i seat at =
+    region_is last entries i (record { first = seat.first; page = seat.page }) at.entry
+    ∙ (ap (λ (to : ℕ). Some (region_with to (slice_get (first_keys entries) (suc i)) (record { first = seat.first; page = seat.page }))) (end_is entries (suc i) ∙ ap (end_before last) (sym at.next))
+    ∙ ap (λ (next : Option Key). Some (region_with (end_before last seat.next) next (record { first = seat.first; page = seat.page }))) (sym at.next))
+  where
+    end_is : (es : List Entry) (j : ℕ) → span_end last (first_keys (drop j es)) ≡ end_before last (slice_get (first_keys es) j)
+    end_is [] zero = refl
+    end_is [] (suc j) = refl
+    end_is (e ∷ es) zero = refl
+    end_is (e ∷ es) (suc j) = end_is es j
+
+-- from where the regions later than one are
+record IsStarted (last : ℕ) (entries : List Entry) (after : Option Region) (from : Option Key) : Type 0 where
+  start : ℕ
+  at : from ≡ slice_get (first_keys entries) start
+  later : (i : ℕ) (r : Region) → slice_get (regions_of last entries) i ≡ Some r → IsLater after r ↔ (start ≤ i)
+
+entry_of : (entries : List Entry) (i : ℕ) (key : Key) → slice_get (first_keys entries) i ≡ Some key → (e : Entry) × (slice_get entries i ≡ Some e) × (e.first ≡ key)
+entry_of [] i key at = cc
+entry_of (e ∷ entries) zero key at = (e, refl, cc)
+entry_of (e ∷ entries) (suc i) key at = entry_of entries i key at
+
+module _ (index : IndexView) (store : StoreFacts) (is : IsIndexOn index store) (after : Option Region) where
+  starts : (from : Option Key) → IsFrom index store after from → IsStarted index.last (entries_in index store) after from
+  starts from h = by_after after h
+    where
+      by_after : (o : Option Region) → IsFrom index store o from → IsStarted index.last (entries_in index store) o from
+      by_after None here = record { start = 0; at = here ∙ sym (begins index store is); later = λ i r there. (λ x. omega arith, λ x. tt) }
+      by_after (Some region) (seat, given, next) =
+          let there = seat_is index store region.first seat is (given.way is.honest) in
+          record {
+            start = suc (index_holding region.first (first_keys (entries_in index store)));
+            at = next ∙ there.next;
+            later = λ i r here.
+                later_than region.first (first_keys (entries_in index store)) i r.first (up index store is) (begins index store is) (region_first index.last (entries_in index store) i r here);
+          }
+
+  -- the region that is reached, as one of the list
+  reached : (z start : ℕ) (from : Key) (found : Option Region) → slice_get (first_keys (entries_in index store)) start ≡ Some from → Reaches index store z from found
+      → found ≡ (if nat_le z index.last then slice_get (regions_of index.last (entries_in index store))
+      (max start (index_holding (record { z = z; number = 0 }) (first_keys (entries_in index store)))) else None)
+  reached z start from None at past = rw (lt-leb z index.last past) refl
+  reached z start from (Some region) at (le, seat, given, region_is) =
+      let there = seat_is index store (at_least from z) seat is (given.way is.honest) in
+      let place = holding_max (first_keys (entries_in index store)) start from z (up index store is) at in
+      rw (le-leb z index.last le)
+      (ap (λ (r : Region). Some r) region_is
+      ∙ (sym (seat_region index.last (entries_in index store) (index_holding (at_least from z) (first_keys (entries_in index store))) seat there)
+      ∙ ap (λ (n : ℕ). slice_get (regions_of index.last (entries_in index store)) n) place))
+
+  pub none_found : (P : Region → Type 0) → IsFrom index store after None → First (λ r. IsLater after r × P r) (regions_of index.last (entries_in index store)) None
+  none_found P from =
+      let s = starts None from in
+      none_of index.last (entries_in index store) (up index store is) (λ r. IsLater after r × P r) (λ i r there p.
+      let le = (s.later i r there).0 p.0 in
+      let near = slice_get_within (first_keys (entries_in index store)) i r.first (region_first index.last (entries_in index store) i r there) in
+      elim ((slice_get_cases (first_keys (entries_in index store)) s.start).1) [
+        | inl some ↦ let here = some.2 in let none = s.at in cc
+        | inr past ↦ let far = past.0 in omega arith
+      ])
+
+  pub seek_found : (z : ℕ) (from : Key) (found : Option Region) → IsFrom index store after (Some from) → Reaches index store z from found
+      → First (λ r. IsLater after r × (z ≤ r.to)) (regions_of index.last (entries_in index store)) found
+  seek_found z from found is_from reaches =
+      let s = starts (Some from) is_from in
+      subst (λ (o : Option Region). First (λ r. IsLater after r × (z ≤ r.to)) (regions_of index.last (entries_in index store)) o) (sym (reached z s.start from found (sym s.at) reaches))
+      (seek_first index.last (entries_in index store) (up index store is) (within index store is) after s.start s.later z)
+
+  module _ (boxes : List Corners) (from : Key) (is_from : IsFrom index store after (Some from)) where
+    pub meets_none : LeastFrom (HoldsAny boxes) from.z None → First (λ r. IsLater after r × Meets boxes r) (regions_of index.last (entries_in index store)) None
+    meets_none none =
+        let s = starts (Some from) is_from in
+        let e = entry_of (entries_in index store) s.start from (sym s.at) in
+        no_address index.last (entries_in index store) (up index store is) (within index store is) after s.start s.later boxes e.0 e.1
+        (subst (λ (k : Key). LeastFrom (HoldsAny boxes) k.z None) (sym e.2) none)
+
+    pub meets_found : (z : ℕ) (found : Option Region) → LeastFrom (HoldsAny boxes) from.z (Some z) → Reaches index store z from found
+        → First (λ r. IsLater after r × Meets boxes r) (regions_of index.last (entries_in index store)) found
+    meets_found z found least reaches =
+        let s = starts (Some from) is_from in
+        let e = entry_of (entries_in index store) s.start from (sym s.at) in
+        subst (λ (o : Option Region). First (λ r. IsLater after r × Meets boxes r) (regions_of index.last (entries_in index store)) o) (sym (reached z s.start from found (sym s.at) reaches))
+        (next_meets index.last (entries_in index store) (up index store is) (within index store is) after s.start s.later boxes e.0 e.1 (begins index store is) z
+        (subst (λ (k : Key). LeastFrom (HoldsAny boxes) k.z (Some z)) (sym e.2) least))
+
+-- what is reached is what is given
+pub given_by : (index : IndexView) (store : StoreFacts) (To : Key → Option ℕ → Type 0) (from : Key) (z : ℕ) (found : Option Region) → To from (Some z) → Reaches index store z from found
+    → GivesFrom index store To (Some from) found
+given_by index store To from z None to h = inr (z, to, h)
+given_by index store To from z (Some region) to h = (z, to, h.0, h.1, h.2, h.3)
+
+-- what holds of each answer holds of the one that there is
+pub if_ok : {T : Type 0} (r : Result T IndexFault) (P Q : T → Type 0) → ((x : T) → P x → Q x) → IfOk r P → IfOk r Q
+if_ok (Ok x) P Q f h = f x h
+if_ok (Err e) P Q f h = tt

@@ -1,0 +1,10 @@
+pub mod KeyFacts
+pub mod FitFacts
+pub mod WayFacts
+pub mod SearchFacts
+pub mod PlaceFacts
+pub mod WaysFacts
+pub mod FoundFacts
+pub mod Lists
+pub mod Changes
+pub mod OrderFacts

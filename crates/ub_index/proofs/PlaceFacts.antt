@@ -1,0 +1,222 @@
+-- The entries of an index as those of a table's regions, and the index of the region that holds a key.
+use Rattle.std.proofs.Common.{◌≡◌, ◌≤◌, ◌+◌, ◌⊎◌, inl, inr, ℕ, zero, suc, true, false, List, [], ◌∷◌, Option, Some, None, length, slice_get, ◌∙◌, sym, ap, subst, refl, arith}
+use Rattle.std.proofs.lemmas.Bool.{and_from, and_parts, cases_Bool}
+use Rattle.std.proofs.lemmas.Option.{slice_get_within, slice_get_cases}
+use Rattle.std.specs.List.{All, AllByRecursion, flat_map}
+use Rattle.ub_directory.specs.Spans.{first_keys}
+use Rattle.ub_directory.proofs.IndexFacts.{first_at, length-first_keys}
+use Rattle.ub_page.specs.Entries.{IsEntry}
+use Rattle.ub_page.specs.declared.entries.Entry.{Entry}
+use Rattle.ub_region.specs.Regions.{index_holding}
+use Rattle.ub_store.specs.Facts.{StoreFacts}
+use Rattle.ub_table.proofs.Laws.{ascending_get, before_from, before_of, before_parts, not_before_self, precedes_of, precedes_trans}
+use Rattle.ub_table.specs.Keys.{IsBefore, precedes, origin, are_ascending}
+use Rattle.ub_table.specs.declared.row.Key.{Key}
+use Rattle.ub_index.specs.Index.{entries_of, first_or, AscendTo, EachTo, IsUnder, under, top}
+use Rattle.ub_index.specs.Searching.{Gives, key_before}
+use Rattle.ub_index.specs.View.{IndexView, IsIndexOn, IsSeatAt, IsSeatBefore, entries_in}
+use Rattle.ub_index.specs.declared.seat.Seat.{Seat}
+use Rattle.ub_index.proofs.Lists.{all_join}
+use Rattle.ub_index.proofs.OrderFacts.{under_first}
+use Rattle.ub_index.proofs.WayFacts.{in_order, not_true, seat_is}
+
+ascending : (xs : List Entry) → AscendTo xs None → are_ascending (first_keys xs) ≡ true
+ascending [] up = refl
+ascending (x ∷ []) up = refl
+ascending (x ∷ y ∷ xs) up = and_from _ _ (precedes_of x.first y.first up.0) (ascending (y ∷ xs) up.1)
+
+single : (Q : Entry → Type 0) (pages : List (List ℕ)) (xs : List Entry) → AllByRecursion Q xs → AllByRecursion Q (flat_map (under pages zero) xs)
+single Q pages [] h = tt
+single Q pages (x ∷ xs) h = (h.0, single Q pages xs h.1)
+
+all_through : (U : Entry → List Entry) (P : Entry → Option Key → Type 0) (Q : Entry → Type 0) → ((x : Entry) (end : Option Key) → P x end → AllByRecursion Q (U x))
+    → (xs : List Entry) (end : Option Key) → EachTo P xs end → AllByRecursion Q (flat_map U xs)
+all_through U P Q all [] end each = tt
+all_through U P Q all (x ∷ xs) end each = all_join Q (U x) (flat_map U xs) (all x (first_or xs end) each.0) (all_through U P Q all xs end each.1)
+
+under_entries : (last : ℕ) (pages : List (List ℕ)) (level : ℕ) (entry : Entry) (end : Option Key) → IsUnder last pages (suc level) entry end
+    → AllByRecursion (IsEntry last) (under pages (suc level) entry)
+under_entries last pages zero entry end is = single (IsEntry last) pages (entries_of pages entry.page) is.0.fits.is.is.entries
+under_entries last pages (suc level) entry end is =
+    all_through (under pages (suc level)) (IsUnder last pages (suc level)) (IsEntry last) (under_entries last pages level) (entries_of pages entry.page) end is.1
+
+within_of : (last : ℕ) (xs : List Entry) → AllByRecursion (IsEntry last) xs → All (λ e. e.first.z ≤ last) xs
+within_of last [] h i d lt = absurd (omega arith)
+within_of last (x ∷ xs) h zero d lt = h.0.z
+within_of last (x ∷ xs) h (suc i) d lt = within_of last xs h.1 i d (omega arith)
+
+number_of : (last : ℕ) (xs : List Entry) (i : ℕ) (key : Key) → AllByRecursion (IsEntry last) xs → slice_get (first_keys xs) i ≡ Some key → key.number ≤ 16777215
+number_of last [] i key h at = cc
+number_of last (x ∷ xs) zero key h at = let same : x.first ≡ key = cc in let le = h.0.number in subst (λ (k : Key). k.number ≤ 16777215) same le
+number_of last (x ∷ xs) (suc i) key h at = number_of last xs i key h.1 at
+
+first_is : (xs : List Entry) → first_or xs None ≡ slice_get (first_keys xs) 0
+first_is [] = refl
+first_is (x ∷ xs) = refl
+
+module _ (index : IndexView) (store : StoreFacts) (is : IsIndexOn index store) where
+  each_entry : AllByRecursion (IsEntry index.last) (entries_in index store)
+  each_entry = by_level index.levels is.some is.under_it
+    where
+      by_level : (level : ℕ) → 1 ≤ level → IsUnder index.last store.pages level (top index.root) None → AllByRecursion (IsEntry index.last) (under store.pages level (top index.root))
+      by_level zero some h = absurd (omega arith)
+      by_level (suc level) some h = under_entries index.last store.pages level (top index.root) None h
+
+  pub up : are_ascending (first_keys (entries_in index store)) ≡ true
+  up = ascending (entries_in index store) (in_order index store is)
+
+  pub begins : slice_get (first_keys (entries_in index store)) 0 ≡ Some origin
+  begins = sym (first_is (entries_in index store)) ∙ under_first index.last store.pages index.levels (top index.root) None is.under_it
+
+  pub within : All (λ e. e.first.z ≤ index.last) (entries_in index store)
+  within = within_of index.last (entries_in index store) each_entry
+
+  pub small_number : (i : ℕ) (key : Key) → slice_get (first_keys (entries_in index store)) i ≡ Some key → key.number ≤ 16777215
+  small_number i key at = number_of index.last (entries_in index store) i key each_entry at
+
+-- the index of the region that holds a key is no less than that of a first key that isn't after it
+pub index_ge : (key : Key) (firsts : List Key) (j : ℕ) (first : Key) → are_ascending firsts ≡ true → slice_get firsts j ≡ Some first → precedes key first ≡ false
+    → j ≤ index_holding key firsts
+index_ge key [] j first up at f = cc
+index_ge key (a ∷ firsts) zero first up at f = omega arith
+index_ge key (a ∷ []) (suc j) first up at f = cc
+index_ge key (a ∷ b ∷ firsts) (suc j) first up at f = elim (cases_Bool (precedes key b)) [
+  | inl t ↦ absurd (not_here j at t)
+  | inr before ↦ let more = index_ge key (b ∷ firsts) j first (and_parts _ _ up).1 at f in rw before (omega arith)
+]
+  where
+    not_here : (i : ℕ) → slice_get (b ∷ firsts) i ≡ Some first → precedes key b ≡ true → ⊥
+    not_here zero there t = let same : b ≡ first = cc in let again : precedes key first ≡ true = ap (precedes key) (sym same) ∙ t in cc
+    not_here (suc i) there t =
+        let later = ascending_get (b ∷ firsts) (and_parts _ _ up).1 0 (suc i) (omega arith) b first refl there in
+        let again = precedes_trans key b first t later in cc
+
+-- and less than that of one that is
+pub index_below : (key : Key) (firsts : List Key) (j : ℕ) → ((first : Key) → slice_get firsts (suc j) ≡ Some first → precedes key first ≡ true) → index_holding key firsts ≤ j ⊎ (length firsts ≤ j)
+index_below key [] j h = inr (omega arith)
+index_below key (a ∷ []) j h = inl (omega arith)
+index_below key (a ∷ b ∷ firsts) zero h = inl (rw (h b refl) (omega arith))
+index_below key (a ∷ b ∷ firsts) (suc j) h = elim (cases_Bool (precedes key b)) [
+  | inl t ↦ inl (rw t (omega arith))
+  | inr f ↦ elim (index_below key (b ∷ firsts) j h) [
+    | inl le ↦ inl (rw f (omega arith))
+    | inr far ↦ inr (omega arith)
+  ]
+]
+
+-- a first key stands at the index of the region that holds it, and so does a key up to the next one
+pub index_is : (key : Key) (firsts : List Key) (j : ℕ) (first : Key) → are_ascending firsts ≡ true → slice_get firsts j ≡ Some first → precedes key first ≡ false
+    → ((next : Key) → slice_get firsts (suc j) ≡ Some next → precedes key next ≡ true) → index_holding key firsts ≡ j
+index_is key firsts j first up at from to =
+    let ge = index_ge key firsts j first up at from in
+    let near = slice_get_within firsts j first at in
+    elim (index_below key firsts j to) [
+      | inl le ↦ omega arith
+      | inr far ↦ absurd (omega arith)
+    ]
+
+not_self : (key : Key) → precedes key key ≡ false
+not_self key = elim (cases_Bool (precedes key key)) [
+  | inl t ↦ absurd (not_before_self key (before_of key key t))
+  | inr f ↦ f
+]
+
+pub index_of_first : (firsts : List Key) (j : ℕ) (first : Key) → are_ascending firsts ≡ true → slice_get firsts j ≡ Some first → index_holding first firsts ≡ j
+index_of_first firsts j first up at = index_is first firsts j first up at (not_self first) (λ next there. ascending_get firsts up j (suc j) (omega arith) first next at there)
+
+-- the seats beside one
+module _ (index : IndexView) (store : StoreFacts) (is : IsIndexOn index store) (i : ℕ) (seat : Seat) (at : IsSeatAt (entries_in index store) i seat) where
+  pub after_none : seat.next ≡ None → length (entries_in index store) ≡ i + 1
+  after_none none =
+      let past : slice_get (first_keys (entries_in index store)) (suc i) ≡ None = sym at.next ∙ none in
+      let near = at.within in
+      elim ((slice_get_cases (first_keys (entries_in index store)) (suc i)).1) [
+        | inl some ↦ let there = some.2 in cc
+        | inr far ↦ let le = far.0 in omega (arith, length-first_keys (entries_in index store))
+      ]
+
+  pub after_some : (key : Key) (next : Seat) → seat.next ≡ Some key → Gives index store key next → IsSeatAt (entries_in index store) (i + 1) next
+  after_some key next is_next given =
+      let there : slice_get (first_keys (entries_in index store)) (suc i) ≡ Some key = sym at.next ∙ is_next in
+      let holds = index_of_first (first_keys (entries_in index store)) (suc i) key (up index store is) there in
+      let one : suc i ≡ i + 1 = omega arith in
+      subst (λ (n : ℕ). IsSeatAt (entries_in index store) n next) (holds ∙ one) (seat_is index store key next is (given.way is.honest))
+
+-- the greatest key before one: no key of an entry lies between
+none_before : (z n : ℕ) → key_before z n ≡ None → (z ≡ 0) × (n ≡ 0)
+none_before zero zero h = (refl, refl)
+none_before zero (suc n) h = cc
+none_before (suc z) zero h = cc
+none_before (suc z) (suc n) h = cc
+
+greatest_before : (z n : ℕ) (key : Key) → key_before z n ≡ Some key
+    → IsBefore key (record { z = z; number = n }) × ((first : Key) → first.number ≤ 16777215 → IsBefore first (record { z = z; number = n }) → ¬ (IsBefore key first))
+greatest_before zero zero key h = cc
+greatest_before (suc z) zero key h =
+    let same : record { z = z; number = 4294967295 } ≡ key = cc in
+    subst (λ (k : Key). IsBefore k (record { z = suc z; number = 0 }) × ((first : Key) → first.number ≤ 16777215 → IsBefore first (record { z = suc z; number = 0 }) → ¬ (IsBefore k first))) same
+    (before_from (record { z = z; number = 4294967295 }) (record { z = suc z; number = 0 }) (inl (omega arith)), between)
+  where
+    between : (first : Key) → first.number ≤ 16777215 → IsBefore first (record { z = suc z; number = 0 }) → ¬ (IsBefore (record { z = z; number = 4294967295 }) first)
+    between first le up down = elim (before_parts first (record { z = suc z; number = 0 }) up) [
+      | inl lt ↦ elim (before_parts (record { z = z; number = 4294967295 }) first down) [
+        | inl gt ↦ omega arith
+        | inr both ↦ let far = both.1 in omega arith
+      ]
+      | inr both ↦ let none = both.1 in omega arith
+    ]
+greatest_before z (suc n) key h =
+    let same : record { z = z; number = n } ≡ key = cc in
+    subst (λ (k : Key). IsBefore k (record { z = z; number = suc n }) × ((first : Key) → first.number ≤ 16777215 → IsBefore first (record { z = z; number = suc n }) → ¬ (IsBefore k first))) same
+    (before_from (record { z = z; number = n }) (record { z = z; number = suc n }) (inr (refl, omega arith)), between)
+  where
+    between : (first : Key) → first.number ≤ 16777215 → IsBefore first (record { z = z; number = suc n }) → ¬ (IsBefore (record { z = z; number = n }) first)
+    between first le up down = elim (before_parts first (record { z = z; number = suc n }) up) [
+      | inl lt ↦ elim (before_parts (record { z = z; number = n }) first down) [
+        | inl gt ↦ omega arith
+        | inr both ↦ let e = both.0 in omega arith
+      ]
+      | inr same ↦ elim (before_parts (record { z = z; number = n }) first down) [
+        | inl gt ↦ let e = same.0 in omega arith
+        | inr both ↦ let a = same.1 in let b = both.1 in omega arith
+      ]
+    ]
+
+seat_first : (entries : List Entry) (i : ℕ) (seat : Seat) → IsSeatAt entries i seat → slice_get (first_keys entries) i ≡ Some seat.first
+seat_first entries i seat at = first_at entries i (record { first = seat.first; page = seat.page }) at.entry
+
+module _ (index : IndexView) (store : StoreFacts) (is : IsIndexOn index store) where
+  pub none_is_before : (i : ℕ) (seat : Seat) → IsSeatAt (entries_in index store) i seat → key_before seat.first.z seat.first.number ≡ None → i ≡ 0
+  none_is_before zero seat at none = refl
+  none_is_before (suc j) seat at none =
+      let least = none_before seat.first.z seat.first.number none in
+      let later = ascending_get (first_keys (entries_in index store)) (up index store is) 0 (suc j) (omega arith) origin seat.first (begins index store is)
+      (seat_first (entries_in index store) (suc j) seat at) in
+      elim (before_parts origin seat.first (before_of origin seat.first later)) [
+        | inl lt ↦ let e = least.0 in absurd (omega arith)
+        | inr both ↦ let e = least.1 in let f = both.1 in absurd (omega arith)
+      ]
+
+  pub some_is_before : (i : ℕ) (seat : Seat) → IsSeatAt (entries_in index store) i seat → (key : Key) (before : Seat) → key_before seat.first.z seat.first.number ≡ Some key
+      → Gives index store key before → IsSeatBefore (entries_in index store) i (Some before)
+  some_is_before zero seat at key before is_before given =
+      let same : seat.first ≡ origin = (let a = seat_first (entries_in index store) zero seat at in let b = begins index store is in cc) in
+      let none : key_before seat.first.z seat.first.number ≡ None = ap (λ (k : Key). key_before k.z k.number) same in
+      cc
+  some_is_before (suc j) seat at key before is_before given =
+      let firsts = first_keys (entries_in index store) in
+      let here : slice_get (first_keys (entries_in index store)) (suc j) ≡ Some seat.first = seat_first (entries_in index store) (suc j) seat at in
+      let greatest = greatest_before seat.first.z seat.first.number key is_before in
+      let near = at.within in
+      elim ((slice_get_cases (first_keys (entries_in index store)) j).1) [
+        | inl some ↦
+            let f = some.0 in
+            let there : slice_get (first_keys (entries_in index store)) j ≡ Some some.0 = some.2 in
+            let lower = ascending_get (first_keys (entries_in index store)) (up index store is) j (suc j) (omega arith) some.0 seat.first there here in
+            let no_more = greatest.1 some.0 (small_number index store is j some.0 there) (before_of some.0 seat.first lower) in
+            let at_j : index_holding key (first_keys (entries_in index store)) ≡ j =
+            index_is key (first_keys (entries_in index store)) j some.0 (up index store is) there (not_true key some.0 no_more)
+            (λ next there'. let same : seat.first ≡ next = cc in ap (precedes key) (sym same) ∙ precedes_of key seat.first greatest.0) in
+            (j, omega arith, subst (λ (n : ℕ). IsSeatAt (entries_in index store) n before) at_j (seat_is index store key before is (given.way is.honest)))
+        | inr past ↦ let far = past.0 in absurd (omega (arith, length-first_keys (entries_in index store)))
+      ]

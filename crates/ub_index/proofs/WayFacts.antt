@@ -1,0 +1,210 @@
+-- The way down to a key: its steps, and where it ends on pages on which an index stands.
+use Rattle.std.proofs.Common.{◌≡◌, ◌≤◌, ◌<◌, ◌-◌, ◌^◌, ◌++◌, inl, inr, ℕ, zero, suc, false, List, [], ◌∷◌, Option, Some, None, IfSome, length, slice_get, ◌∙◌, sym, ap, subst, refl, arith, append_assoc}
+use Rattle.std.proofs.lemmas.Bool.{cases_Bool}
+use Rattle.std.proofs.lemmas.Grind.{flat_map-append}
+use Rattle.std.proofs.lemmas.Option.{slice_get_within}
+use Rattle.ub_index_page.proofs.IndexLaws.{node_not_refused}
+use Rattle.ub_index_page.specs.Index.{IsIndexFault, node_on}
+use Rattle.std.specs.List.{flat_map}
+use Rattle.ub_directory.specs.Spans.{first_keys, IsSeat}
+use Rattle.ub_page.specs.declared.entries.Entry.{Entry}
+use Rattle.ub_region.specs.Regions.{index_holding}
+use Rattle.ub_store.specs.Facts.{StoreFacts}
+use Rattle.ub_table.proofs.Laws.{before_of, before_trans, not_before_origin, precedes_of}
+use Rattle.ub_table.specs.Keys.{IsBefore, precedes}
+use Rattle.ub_table.specs.declared.fault.PageFault.{PageFault}
+use Rattle.ub_table.specs.declared.fault.PageFault.TheVariants.{BadCount, OutOfRegion}
+use Rattle.ub_table.specs.declared.row.Key.{Key}
+use Rattle.ub_index.specs.Descending.{StepsTo}
+use Rattle.ub_index.specs.Fitting.{FallsTo, IsMisfit, IsRefused}
+use Rattle.ub_index.specs.Index.{entries_of, page_of, first_or, AscendTo, EachTo, Fits, IsNamed, IsUnder, under, top}
+use Rattle.ub_index.specs.View.{IndexView, IsIndexOn, IsSeatAt, Leads, entries_in}
+use Rattle.ub_index.specs.Way.{LeadsTo, StopsAt}
+use Rattle.ub_index.specs.declared.seat.Seat.{Seat}
+use Rattle.ub_index.proofs.Lists.{each_right, first_append}
+use Rattle.ub_index.proofs.OrderFacts.{first_more, under_ascends, under_first}
+
+module _ (store now : StoreFacts) (same : now ≡ store) (last : ℕ) (key : Key) where
+  -- what lies below a step lies on the way from above it
+  pub leads_on : (level : ℕ) (entry below found : Entry) (end next after : Option Key) → 0 < level → StepsTo last now key level entry end below next
+      → LeadsTo last store.pages key (level - 1) below next found after → LeadsTo last store.pages key level entry end found after
+  leads_on zero entry below found end next after some step h = absurd (omega arith)
+  leads_on (suc level) entry below found end next after some step h =
+      let one : suc level - 1 ≡ level = omega arith in
+      let h' = subst (λ (s : StoreFacts). StepsTo last s key (suc level) entry end below next) same step in
+      (h'.named, below, next, h'.falls, subst (λ (n : ℕ). LeadsTo last store.pages key n below next found after) one h)
+
+  pub stops_on : (level : ℕ) (entry below : Entry) (end next : Option Key) (n : ℕ) (fault : Option PageFault) → 0 < level → StepsTo last now key level entry end below next
+      → StopsAt last store.pages key (level - 1) below next n fault → StopsAt last store.pages key level entry end n fault
+  stops_on zero entry below end next n fault some step h = absurd (omega arith)
+  stops_on (suc level) entry below end next n fault some step h =
+      let one : suc level - 1 ≡ level = omega arith in
+      let h' = subst (λ (s : StoreFacts). StepsTo last s key (suc level) entry end below next) same step in
+      inr (h'.named, below, next, h'.falls, subst (λ (m : ℕ). StopsAt last store.pages key m below next n fault) one h)
+
+  pub stops_here : (level : ℕ) (entry : Entry) (end : Option Key) (fault : Option PageFault) → 0 < level → IsRefused last now.pages level entry end fault
+      → StopsAt last store.pages key level entry end entry.page fault
+  stops_here zero entry end fault some h = absurd (omega arith)
+  stops_here (suc level) entry end fault some h = inl (refl, subst (λ (s : StoreFacts). IsRefused last s.pages (suc level) entry end fault) same h)
+
+pub ends_here : (last : ℕ) (pages : List (List ℕ)) (key : Key) (level : ℕ) (entry : Entry) (end : Option Key) → level ≤ 0 → LeadsTo last pages key level entry end entry end
+ends_here last pages key zero entry end h = (refl, refl)
+ends_here last pages key (suc level) entry end h = absurd (omega arith)
+
+-- in a list of entries this one holds the key, and the next one begins there
+record IsPlace (key : Key) (entries : List Entry) (end : Option Key) (found : Entry) (next : Option Key) : Type 0 where
+  before : List Entry
+  after : List Entry
+  parts : entries ≡ before ++ (found ∷ after)
+  next_is : next ≡ first_or after end
+  from : ¬ (IsBefore key found.first)
+  to : IfSome next (IsBefore key)
+
+rest_begins : (last : ℕ) (pages : List (List ℕ)) (level : ℕ) (rest : List Entry) (end : Option Key) → EachTo (IsUnder last pages level) rest end
+    → first_or rest end ≡ first_or (flat_map (under pages level) rest) end
+rest_begins last pages level [] end each = refl
+rest_begins last pages level (x ∷ xs) end each =
+    sym (first_more (under pages level x) (flat_map (under pages level) xs) end x.first (under_first last pages level x (first_or xs end) each.0))
+
+falls_from : (key : Key) (entries : List Entry) (first : Key) (end next : Option Key) (below : Entry) → first_or entries None ≡ Some first → ¬ (IsBefore key first)
+    → FallsTo key entries end below next → ¬ (IsBefore key below.first)
+falls_from key entries first end next below begins from h = elim h.from [
+  | inl none ↦
+      let parts : entries ≡ below ∷ h.after = h.parts ∙ ap (λ (xs : List Entry). xs ++ (below ∷ h.after)) none in
+      let same : Some below.first ≡ Some first = subst (λ (xs : List Entry). first_or xs None ≡ Some first) parts begins in
+      let is : first ≡ below.first = cc in
+      subst (λ (k : Key). ¬ (IsBefore key k)) is from
+  | inr later ↦ later
+]
+
+pub falls_to : (key : Key) (after : List Entry) (end : Option Key) → IfSome end (IsBefore key) → IfSome (first_or after None) (IsBefore key) → IfSome (first_or after end) (IsBefore key)
+falls_to key [] end to h = to
+falls_to key (x ∷ xs) end to h = h
+
+-- what the way down leads to holds the key
+pub holds_below : (key : Key) (entries : List Entry) (first : Key) (end next : Option Key) (below : Entry) → FallsTo key entries end below next → IfSome end (IsBefore key)
+    → IfSome next (IsBefore key)
+holds_below key entries first end next below h to = subst (λ (o : Option Key). IfSome o (IsBefore key)) (sym h.next_is) (falls_to key h.after end to h.to)
+
+regroup : (b p q r : List Entry) (x : Entry) → b ++ ((p ++ (x ∷ q)) ++ r) ≡ (b ++ p) ++ (x ∷ (q ++ r))
+regroup b p q r x = ap (λ (xs : List Entry). b ++ xs) (append_assoc p (x ∷ q) r) ∙ sym (append_assoc b p (x ∷ (q ++ r)))
+
+place : (last : ℕ) (pages : List (List ℕ)) (key : Key) (level : ℕ) (entry : Entry) (end : Option Key) (found : Entry) (next : Option Key) → ¬ (IsBefore key entry.first)
+    → IfSome end (IsBefore key) → IsUnder last pages level entry end → LeadsTo last pages key level entry end found next → IsPlace key (under pages level entry) end found next
+place last pages key zero entry end found next from to is h = record {
+  before = [];
+  after = [];
+  parts = ap (λ (e : Entry). e ∷ []) (sym h.0);
+  next_is = h.1;
+  from = subst (λ (e : Entry). ¬ (IsBefore key e.first)) (sym h.0) from;
+  to = subst (λ (o : Option Key). IfSome o (IsBefore key)) (sym h.1) to;
+}
+place last pages key (suc level) entry end found next from to is (named, below, beyond, falls, leads) =
+    let each : EachTo (IsUnder last pages level) (below ∷ falls.after) end =
+    each_right (IsUnder last pages level) falls.before (below ∷ falls.after) end
+    (subst (λ (xs : List Entry). EachTo (IsUnder last pages level) xs end) falls.parts is.1) in
+    let under_it : IsUnder last pages level below beyond = subst (λ (o : Option Key). IsUnder last pages level below o) (sym falls.next_is) each.0 in
+    let in_it : IsPlace key (under pages level below) beyond found next =
+    place last pages key level below beyond found next
+    (falls_from key (entries_of pages entry.page) entry.first end beyond below named.fits.begins from falls)
+    (holds_below key (entries_of pages entry.page) entry.first end beyond below falls to) under_it leads in
+    let u = flat_map (under pages level) falls.before in
+    let v = flat_map (under pages level) falls.after in
+    record {
+      before = flat_map (under pages level) falls.before ++ in_it.before;
+      after = in_it.after ++ flat_map (under pages level) falls.after;
+      parts = ap (λ (xs : List Entry). flat_map (under pages level) xs) falls.parts
+          ∙ (flat_map-append (under pages level) falls.before (below ∷ falls.after)
+          ∙ (ap (λ (xs : List Entry). flat_map (under pages level) falls.before ++ (xs ++ flat_map (under pages level) falls.after)) in_it.parts
+          ∙ regroup (flat_map (under pages level) falls.before) in_it.before in_it.after (flat_map (under pages level) falls.after) found));
+      next_is = in_it.next_is
+          ∙ (ap (λ (o : Option Key). first_or in_it.after o) (falls.next_is ∙ rest_begins last pages level falls.after end each.1)
+          ∙ sym (first_append in_it.after (flat_map (under pages level) falls.after) end));
+      from = in_it.from;
+      to = in_it.to;
+    }
+
+-- of entries in order one is before a later one
+pub before_found : (b : Entry) (before : List Entry) (found : Entry) (after : List Entry) → AscendTo (b ∷ (before ++ (found ∷ after))) None → IsBefore b.first found.first
+before_found b [] found after up = up.0
+before_found b (x ∷ before) found after up = before_trans b.first x.first found.first up.0 (before_found x before found after up.1)
+
+pub not_true : (key first : Key) → ¬ (IsBefore key first) → precedes key first ≡ false
+not_true key first h = elim (cases_Bool (precedes key first)) [
+  | inl t ↦ absurd (h (before_of key first t))
+  | inr f ↦ f
+]
+
+holding : (key : Key) (before : List Entry) (found : Entry) (after : List Entry) → AscendTo (before ++ (found ∷ after)) None → ¬ (IsBefore key found.first)
+    → IfSome (first_or after None) (IsBefore key) → index_holding key (first_keys (before ++ (found ∷ after))) ≡ length before
+holding key [] found [] up from to = refl
+holding key [] found (x ∷ after) up from to = rw (precedes_of key x.first to) refl
+holding key (b ∷ []) found after up from to =
+    rw (not_true key found.first from) (ap (λ (n : ℕ). suc n) (holding key [] found after up.1 from to))
+holding key (b ∷ x ∷ before) found after up from to =
+    let later : ¬ (IsBefore key x.first) = λ yes. from (before_trans key x.first found.first yes (before_found x before found after up.1)) in
+    rw (not_true key x.first later) (ap (λ (n : ℕ). suc n) (holding key (x ∷ before) found after up.1 from to))
+
+seat_in : (before : List Entry) (found : Entry) (after : List Entry) (next : Option Key) → next ≡ first_or after None
+    → IsSeat (before ++ (found ∷ after)) (record { index = length before; first = found.first; page = found.page; next = next })
+seat_in before found after next is = record { within = within before; entry = entry before; next = is ∙ beyond before }
+  where
+    within : (b : List Entry) → length b < length (b ++ (found ∷ after))
+    within [] = omega arith
+    within (x ∷ b) = let more = within b in omega arith
+
+    entry : (b : List Entry) → slice_get (b ++ (found ∷ after)) (length b) ≡ Some found
+    entry [] = refl
+    entry (x ∷ b) = entry b
+
+    last_one : (after : List Entry) → first_or after None ≡ slice_get (first_keys after) 0
+    last_one [] = refl
+    last_one (x ∷ xs) = refl
+
+    beyond : (b : List Entry) → first_or after None ≡ slice_get (first_keys (b ++ (found ∷ after))) (suc (length b))
+    beyond [] = last_one after
+    beyond (x ∷ b) = beyond b
+
+-- the entries of an index are in order
+pub in_order : (index : IndexView) (store : StoreFacts) → IsIndexOn index store → AscendTo (entries_in index store) None
+in_order index store is = under_ascends index.last store.pages index.levels (top index.root) None tt is.under_it
+
+-- on an index the way to a key ends at the region that holds it
+pub seat_is : (index : IndexView) (store : StoreFacts) (key : Key) (seat : Seat) → IsIndexOn index store → Leads index store key seat
+    → IsSeatAt (entries_in index store) (index_holding key (first_keys (entries_in index store))) seat
+seat_is index store key seat is leads =
+    let found : Entry = record { first = seat.first; page = seat.page } in
+    let there = place index.last store.pages key index.levels (top index.root) None (record { first = seat.first; page = seat.page }) seat.next (not_before_origin key) tt is.under_it leads in
+    let up : AscendTo (there.before ++ (record { first = seat.first; page = seat.page } ∷ there.after)) None =
+    subst (λ (xs : List Entry). AscendTo xs None) there.parts (in_order index store is) in
+    let to : IfSome (first_or there.after None) (IsBefore key) = subst (λ (o : Option Key). IfSome o (IsBefore key)) there.next_is there.to in
+    let index_is : index_holding key (first_keys (entries_in index store)) ≡ length there.before =
+    ap (λ (xs : List Entry). index_holding key (first_keys xs)) there.parts
+    ∙ holding key there.before (record { first = seat.first; page = seat.page }) there.after up there.from to in
+    subst (λ (n : ℕ). IsSeatAt (entries_in index store) n seat) (sym index_is)
+    (subst (λ (xs : List Entry). IsSeatAt xs (length there.before) seat) (sym there.parts)
+    (seat_in there.before (record { first = seat.first; page = seat.page }) there.after seat.next there.next_is))
+
+-- and it never stops
+misfit_or_fault : (last : ℕ) (page : List ℕ) (level : ℕ) (entry : Entry) (end : Option Key) (fault : PageFault) → Fits last page level entry end
+    → IsMisfit last page level entry end fault → IsIndexFault last page fault
+misfit_or_fault last page level entry end BadCount fits (inl h) = h
+misfit_or_fault last page level entry end BadCount fits (inr h) = absurd (h.1 fits.level_is)
+misfit_or_fault last page level entry end OutOfRegion fits h = absurd (h.2 fits)
+misfit_or_fault last page level entry end fault fits h = h
+
+module _ (last : ℕ) (small : last < 2 ^ 128) (pages : List (List ℕ)) (key : Key) where
+  named_not_refused : (level : ℕ) (entry : Entry) (end : Option Key) (fault : Option PageFault) → IsNamed last pages level entry end → ¬ (IsRefused last pages level entry end fault)
+  named_not_refused level entry end None h far = let near = slice_get_within pages entry.page (page_of pages entry.page) h.there in omega arith
+  named_not_refused level entry end (Some fault) h refused =
+      node_not_refused (node_on (page_of pages entry.page)) (page_of pages entry.page) last small h.fits.is.is h.fits.is.spelled fault
+      (misfit_or_fault last (page_of pages entry.page) level entry end fault h.fits refused.1)
+
+  pub never_stops : (level : ℕ) (entry : Entry) (end : Option Key) (n : ℕ) (fault : Option PageFault) → IsUnder last pages level entry end → ¬ (StopsAt last pages key level entry end n fault)
+  never_stops zero entry end n fault is h = h
+  never_stops (suc level) entry end n fault is (inl here) = named_not_refused (suc level) entry end fault is.0 here.1
+  never_stops (suc level) entry end n fault is (inr (named, below, beyond, falls, stops)) =
+      let each : EachTo (IsUnder last pages level) (below ∷ falls.after) end =
+      each_right (IsUnder last pages level) falls.before (below ∷ falls.after) end
+      (subst (λ (xs : List Entry). EachTo (IsUnder last pages level) xs end) falls.parts is.1) in
+      never_stops level below beyond n fault (subst (λ (o : Option Key). IsUnder last pages level below o) (sym falls.next_is) each.0) stops

@@ -1,0 +1,102 @@
+-- What a search in an index answers, and what it leaves, over any store and any pages.
+use Rattle.std.specs.Prelude.{◌≡◌, ◌≤◌, ◌<◌, ◌⊎◌, if◌then◌else◌, ℕ, zero, suc, IsTrue, Option, Some, None, Result, Err, IfErr}
+use Rattle.ub_directory.specs.declared.region.Region.{Region}
+use Rattle.ub_index.specs.View.{IndexView, Leads, Stops}
+use Rattle.ub_index.specs.Way.{Holds}
+use Rattle.ub_index.specs.declared.fault.IndexFault.{IndexFault}
+use Rattle.ub_index.specs.declared.fault.IndexFault.TheVariants.{Page, Store}
+use Rattle.ub_index.specs.declared.seat.Seat.{Seat}
+use Rattle.ub_region.specs.Spans.{address_before}
+use Rattle.ub_store.specs.Facts.{StoreFacts, IsHonest, page_count, raised}
+use Rattle.ub_store.specs.View.{PagerView}
+use Rattle.ub_store.specs.declared.fault.StoreFault.TheVariants as store
+use Rattle.ub_table.specs.Keys.{precedes, origin}
+use Rattle.ub_table.specs.declared.row.Key.{Key}
+
+-- the seat that is given for a key: it holds the key, and over an honest store the way leads to it
+pub record Gives (index : IndexView) (store : StoreFacts) (key : Key) (seat : Seat) : Type 0 where
+  pub holds : Holds key seat.first seat.next
+  pub way : IsHonest store → Leads index store key seat
+
+-- the same for a key that there may be; none for none
+abbrev pub GivesAny : IndexView → StoreFacts → Option Key → Option Seat → Type 0
+GivesAny index store None given = given ≡ None
+GivesAny index store (Some key) None = ⊥
+GivesAny index store (Some key) (Some seat) = Gives index store key seat
+
+-- the greatest key before this one, if there is any
+abbrev pub key_before : ℕ → ℕ → Option Key
+key_before z (suc n) = Some (record { z = z; number = n })
+key_before (suc z) zero = Some (record { z = z; number = 4294967295 })
+key_before zero zero = None
+
+-- where the first region later than another one begins, if there is one; the first of all where none is given
+abbrev pub IsFrom : IndexView → StoreFacts → Option Region → Option Key → Type 0
+IsFrom index store None from = from ≡ Some origin
+IsFrom index store (Some region) from = (seat : Seat) × Gives index store region.first seat × (from ≡ seat.next)
+
+-- the least key of an address, or this one if it is later
+abbrev pub at_least : Key → ℕ → Key
+at_least from z = if precedes (record { z = z; number = 0 }) from then from else record { z = z; number = 0 }
+
+-- the greatest address that a key before this one can have, or else the last of all
+abbrev pub end_before : ℕ → Option Key → ℕ
+end_before last None = last
+end_before last (Some next) = address_before next.z next.number
+
+-- the region of a seat
+abbrev pub region_of : ℕ → Seat → Region
+region_of last seat = record {
+  first = seat.first;
+  next = seat.next;
+  from = seat.first.z;
+  to = end_before last seat.next;
+  page = seat.page;
+}
+
+-- the region that is given where the search goes on from a key: that which holds the key, or the least key of the address that `To`
+-- tells for it, if this is later; none where there is no such address in the space
+abbrev pub GivesFrom : IndexView → StoreFacts → (Key → Option ℕ → Type 0) → Option Key → Option Region → Type 0
+GivesFrom index store To None found = found ≡ None
+GivesFrom index store To (Some from) None = To from None ⊎ ((z : ℕ) × To from (Some z) × (index.last < z))
+GivesFrom index store To (Some from) (Some region) =
+    (z : ℕ) × To from (Some z) × (z ≤ index.last) × (seat : Seat) × Gives index store (at_least from z) seat × (region ≡ region_of index.last seat)
+
+-- the first key of a region, if one is given
+abbrev pub IsFirstOf : Option Region → Key → Type 0
+IsFirstOf after key = (region : Region) × (after ≡ Some region) × (key ≡ region.first)
+
+-- the region that is given after another one, if one is given
+abbrev pub GivesAfter : IndexView → StoreFacts → (Key → Option ℕ → Type 0) → Option Region → Option Region → Type 0
+GivesAfter index store To after found = (from : Option Key) × IsFrom index store after from × GivesFrom index store To from found
+
+-- the keys to which a search after a region goes down: that region's, and then the one from which it goes on
+abbrev pub IsSought : IndexView → StoreFacts → (Key → Option ℕ → Type 0) → Option Region → Key → Type 0
+IsSought index store To after key =
+    IsFirstOf after key
+    ⊎ ((from : Key) × (z : ℕ) × IsFrom index store after (Some from) × To from (Some z) × (z ≤ index.last) × (key ≡ at_least from z))
+
+-- why a search is refused that goes down to these keys alone: memory was refused; the store failed in this call, which it then can;
+-- it has no page of a number that was asked for, or a page is refused, and over an honest store the way to one of these keys stops there
+abbrev pub IsSearchFault : IndexView → StoreFacts → (Key → Type 0) → IndexFault → Type 0
+IsSearchFault index old Sought (Store store.Memory) = Unit {0}
+IsSearchFault index old Sought (Store store.Device) = IsTrue old.can_fail
+IsSearchFault index old Sought (Store store.NoPage) =
+    (n : ℕ) × (page_count old ≤ n) × (IsHonest old → (key : Key) × Sought key × Stops index old key n None)
+IsSearchFault index old Sought (Store store.BadSize) = ⊥
+IsSearchFault index old Sought (Page n fault) = IsHonest old → (key : Key) × Sought key × Stops index old key n (Some fault)
+
+-- a count of failures after a call with this result: the device's fault raises it by one
+abbrev pub counted : {A : Type 0} → Result A IndexFault → ℕ → ℕ
+counted (Err (Store store.Device)) n = raised n 1
+counted _ n = n
+
+-- a store after a call with this result that only reads
+abbrev pub read_store : {A : Type 0} → Result A IndexFault → StoreFacts → StoreFacts
+read_store result old = record old { failed_reads = counted result old.failed_reads }
+
+-- a call with this result that goes down to these keys: with the device's fault the store has one failed read more, and else nothing
+-- has changed but the pages that the pager holds
+pub record Searches {A : Type 0} (Sought : Key → Type 0) (index : IndexView) (old new : PagerView) (result : Result A IndexFault) : Type 0 where
+  pub same : new ≡ record old { store = read_store result old.store; cached = new.cached }
+  pub faults : IfErr result (IsSearchFault index old.store Sought)

@@ -1,0 +1,25 @@
+use thiserror::Error;
+use ub_store::StoreFault;
+use ub_table::PageFault;
+
+/// Why an index refused what it was asked.
+#[derive(Clone, Copy, PartialEq, Eq, Debug, Error)]
+pub enum IndexFault {
+    /// This page is refused, by its reader or because it doesn't fit the pages that name it.
+    #[error("{fault} page {page}")]
+    Page { page: u32, fault: PageFault },
+    /// The store refused, or memory was refused.
+    #[error("{0}")]
+    Store(StoreFault),
+}
+
+impl From<StoreFault> for IndexFault {
+    ghost use Rattle.std.specs.Prelude.{◌≡◌};
+    ghost use Rattle.ub_index.specs.declared.fault.IndexFault.TheVariants.{Store};
+
+    ghost from_gives = { λ fault e. e ≡ Store fault };
+
+    fn from(fault: StoreFault) -> IndexFault {
+        IndexFault::Store(fault)
+    }
+}

@@ -1,0 +1,283 @@
+ghost use Rattle.std.specs.Prelude.{◌≡◌, ◌≤◌, ◌<◌, ℕ, None, Some, IfOk, IfErr, IfSome, option_copied};
+ghost use Rattle.ub_bigmin.specs.Box.{HoldsAny};
+ghost use Rattle.ub_bigmin.specs.Extremes.{LeastFrom};
+ghost use Rattle.ub_directory.specs.Spans.{first_keys, regions_of, Meets, IsLater, First};
+ghost use Rattle.ub_index.specs.Descending.{IsBoundary, Reaches};
+ghost use Rattle.ub_index.specs.Searching.{Gives, GivesAny, GivesAfter, IsFirstOf, IsFrom, IsSought, Searches, at_least, end_before, key_before, region_of};
+ghost use Rattle.ub_index.specs.View.{IsIndexOn, IsSeatAt, IsSeatAfter, IsSeatBefore, entries_in, index_view};
+ghost use Rattle.ub_index_page.specs.declared.index.TheConstants.{MAX_LEVEL};
+ghost use Rattle.ub_region.specs.Regions.{index_holding};
+ghost use Rattle.ub_table.specs.Keys.{IsBefore};
+
+use crate::descent::{Place, step_down};
+use crate::fault::IndexFault;
+use crate::seat::Seat;
+use std::marker::Model;
+use ub_bigmin::{ZBox, next_in_any};
+use ub_directory::{ORIGIN, Region};
+use ub_page::Entry;
+use ub_store::{PageStore, Pager};
+use ub_table::{Key, PageFault};
+
+/// An index of several levels over the pages of a store: where its root stands, and how many levels it has. No page of it is kept here.
+#[derive(Drop)]
+pub struct Index {
+    root: u32,
+    levels: u32,
+    last: u128,
+}
+
+impl Model for Index {
+    ghost use Rattle.std.specs.Prelude.{◌≤◌};
+    ghost use Rattle.ub_index.specs.View.{IndexView, index_view};
+    ghost use Rattle.ub_index_page.specs.declared.index.TheConstants.{MAX_LEVEL};
+
+    ghost Value = { IndexView };
+
+    ghost view = { λ i. index_view i.root i.levels i.last };
+
+    ghost invariant = { λ i. (1 ≤ i.levels) × (i.levels ≤ MAX_LEVEL) };
+}
+
+impl Index {
+    /// The index whose root stands on this page and is of this level, 1 to 16, in a space with this last address. Nothing is read.
+    pub fn new(root: u32, levels: u32, last: u128) -> Index
+        requires low { 1 ≤ levels }
+        requires high { levels ≤ MAX_LEVEL }
+        ensures { result ≡ record { root = root; levels = levels; last = last } }
+    {
+        Index { root, levels, last }
+    }
+
+    /// The seat of the region that holds a key: the last one that does not begin after it.
+    ///
+    /// Page comes where a page on the way down is refused: by its reader; as BadCount where it isn't of the level due; as OutOfRegion
+    /// where it doesn't begin with the key by which the page above names it, or doesn't end before that of the next one. Store with
+    /// NoPage comes where a page is named that the store doesn't have, with Device where the store failed in this call, with Memory
+    /// where memory was refused. The first refusal on the way is told. Index and store are then as they were.
+    pub fn seat_of<S: PageStore>(&self, pager: &mut Pager<S>, key: &Key) -> Result<Seat, IndexFault>
+        ensures given { IfOk result (Gives self.now pager.old.store key.now) }
+        ensures seat { IsIndexOn self.now pager.old.store → IfOk result
+            (IsSeatAt (entries_in self.now pager.old.store)
+            (index_holding key.now (first_keys (entries_in self.now pager.old.store)))) }
+        ensures effect { Searches (λ k. k ≡ key.now) self.now pager.old pager.new result }
+    {
+        descend(pager, self.root, self.levels, self.last, key)
+    }
+
+    /// The seat of the region after that of a seat, if there is one. Refused as `seat_of` is, on the way to that region's first key.
+    pub fn after<S: PageStore>(
+        &self,
+        pager: &mut Pager<S>,
+        seat: &Seat,
+    ) -> Result<Option<Seat>, IndexFault>
+        ensures given { IfOk result (GivesAny self.now pager.old.store seat.now.next) }
+        ensures after { (i : ℕ) → IsIndexOn self.now pager.old.store
+            → IsSeatAt (entries_in self.now pager.old.store) i seat.now
+            → IfOk result (IsSeatAfter (entries_in self.now pager.old.store) i) }
+        ensures effect { Searches (λ k. seat.now.next ≡ Some k) self.now pager.old pager.new result }
+    {
+        match &seat.next {
+            Some(next) => Ok(Some(self.seat_of(pager, next)?)),
+            None => Ok(None),
+        }
+    }
+
+    /// The seat of the region before that of a seat, if there is one. Refused as `seat_of` is, on the way to the greatest key before
+    /// the seat's first one.
+    pub fn before<S: PageStore>(
+        &self,
+        pager: &mut Pager<S>,
+        seat: &Seat,
+    ) -> Result<Option<Seat>, IndexFault>
+        ensures given { IfOk result (GivesAny self.now pager.old.store
+            (key_before seat.now.first.z seat.now.first.number)) }
+        ensures before { (i : ℕ) → IsIndexOn self.now pager.old.store
+            → IsSeatAt (entries_in self.now pager.old.store) i seat.now
+            → IfOk result (IsSeatBefore (entries_in self.now pager.old.store) i) }
+        ensures effect { Searches (λ k. key_before seat.now.first.z seat.now.first.number ≡ Some k)
+            self.now pager.old pager.new result }
+    {
+        match before_key(&seat.first) {
+            Some(key) => Ok(Some(self.seat_of(pager, &key)?)),
+            None => Ok(None),
+        }
+    }
+
+    /// The first region later than `after`, if one is given, whose span ends at z or later. `None` exactly where there is none.
+    ///
+    /// Refused as `seat_of` is, on the way to the first key of `after`, or then on the way to the place from which the search goes on.
+    /// A store that isn't honest can give one page in two ways: Page comes with the root and OutOfRegion where what is found so would
+    /// not begin later than `after`.
+    pub fn seek<S: PageStore>(
+        &self,
+        pager: &mut Pager<S>,
+        z: u128,
+        after: Option<&Region>,
+    ) -> Result<Option<Region>, IndexFault>
+        ensures given { IfOk result (GivesAfter self.now pager.old.store (λ _ to. to ≡ Some z)
+            (option_copied after.entry)) }
+        ensures later { IfOk result (λ found. IfSome found (IsLater (option_copied after.entry))) }
+        ensures found { IsIndexOn self.now pager.old.store → IfOk result (First
+            (λ r. IsLater (option_copied after.entry) r × (z ≤ r.to))
+            (regions_of self.now.last (entries_in self.now pager.old.store))) }
+        ensures effect { Searches (IsSought self.now pager.old.store (λ _ to. to ≡ Some z)
+            (option_copied after.entry)) self.now pager.old pager.new result }
+    {
+        let Some(from) = self.start(pager, after)? else {
+            return Ok(None);
+        };
+        self.reach(pager, z, &from)
+    }
+
+    /// The first region later than `after`, if one is given, that meets one of the boxes. `None` exactly where there is none. Refused
+    /// as `seek` is.
+    pub fn next_meeting<S: PageStore>(
+        &self,
+        pager: &mut Pager<S>,
+        boxes: &[ZBox],
+        after: Option<&Region>,
+    ) -> Result<Option<Region>, IndexFault>
+        ensures given { IfOk result (GivesAfter self.now pager.old.store
+            (λ from. LeastFrom (HoldsAny boxes.now) from.z) (option_copied after.entry)) }
+        ensures later { IfOk result (λ found. IfSome found (IsLater (option_copied after.entry))) }
+        ensures found { IsIndexOn self.now pager.old.store → IfOk result (First
+            (λ r. IsLater (option_copied after.entry) r × Meets boxes.now r)
+            (regions_of self.now.last (entries_in self.now pager.old.store))) }
+        ensures effect { Searches (IsSought self.now pager.old.store
+            (λ from. LeastFrom (HoldsAny boxes.now) from.z) (option_copied after.entry))
+            self.now pager.old pager.new result }
+    {
+        let Some(from) = self.start(pager, after)? else {
+            return Ok(None);
+        };
+        match next_in_any(boxes, from.z) {
+            Some(z) => self.reach(pager, z, &from),
+            None => Ok(None),
+        }
+    }
+
+    // Where the first region later than `after` begins, if there is one; the first of all, where none is given.
+    fn start<S: PageStore>(
+        &self,
+        pager: &mut Pager<S>,
+        after: Option<&Region>,
+    ) -> Result<Option<Key>, IndexFault>
+        ensures from { IfOk result (IsFrom self.now pager.old.store (option_copied after.entry)) }
+        ensures effect { Searches (λ k. IsFirstOf (option_copied after.entry) k) self.now pager.old
+            pager.new result }
+    {
+        match after {
+            Some(region) => Ok(self.seat_of(pager, &region.first)?.next),
+            None => Ok(Some(ORIGIN)),
+        }
+    }
+
+    // The region that holds the least key of the address z, or the key `from` if this is later.
+    fn reach<S: PageStore>(
+        &self,
+        pager: &mut Pager<S>,
+        z: u128,
+        from: &Key,
+    ) -> Result<Option<Region>, IndexFault>
+        requires { IsBoundary self.now pager.old.store from.now }
+        ensures given { IfOk result (Reaches self.now pager.old.store z from.now) }
+        ensures later { IfOk result (λ found. IfSome found (λ r. ¬ (IsBefore r.first from.now))) }
+        ensures effect { Searches (λ k. (z ≤ self.now.last) × (k ≡ at_least from.now z)) self.now
+            pager.old pager.new result }
+    {
+        if self.last < z {
+            return Ok(None);
+        }
+        let seat = self.seat_of(pager, &later_of(from, z))?;
+        if seat.first.is_before(from) {
+            return Err(IndexFault::Page {
+                page: self.root,
+                fault: PageFault::OutOfRegion,
+            });
+        }
+        Ok(Some(region_at(self.last, &seat)))
+    }
+}
+
+// The seat to which the way down from a root of this level leads.
+fn descend<S: PageStore>(
+    pager: &mut Pager<S>,
+    root: u32,
+    levels: u32,
+    last: u128,
+    key: &Key,
+) -> Result<Seat, IndexFault>
+    ensures given { IfOk result (Gives (index_view root levels last) pager.old.store key.now) }
+    ensures effect { Searches (λ k. k ≡ key.now) (index_view root levels last) pager.old pager.new
+        result }
+{
+    let mut place = Place {
+        entry: Entry {
+            first: ORIGIN,
+            page: root,
+        },
+        next: None,
+    };
+    let mut level = levels;
+    while level > 0 {
+        place = step_down(pager, last, level, &place, key)?;
+        level -= 1;
+    }
+    Ok(Seat {
+        first: place.entry.first,
+        page: place.entry.page,
+        next: place.next,
+    })
+}
+
+// The least key of the address z, or the key `from` if this is later.
+fn later_of(from: &Key, z: u128) -> Key
+    ensures { result ≡ at_least from.now z }
+{
+    let least = Key { z, number: 0 };
+    if least.is_before(from) { *from } else { least }
+}
+
+// The greatest key before this one, if there is any.
+fn before_key(key: &Key) -> Option<Key>
+    ensures { result ≡ key_before key.now.z key.now.number }
+{
+    if key.number > 0 {
+        Some(Key {
+            z: key.z,
+            number: key.number - 1,
+        })
+    } else if key.z > 0 {
+        Some(Key {
+            z: key.z - 1,
+            number: u32::MAX,
+        })
+    } else {
+        None
+    }
+}
+
+// The region of a seat, in a space with this last address.
+fn region_at(last: u128, seat: &Seat) -> Region
+    ensures { result ≡ region_of last seat.now }
+{
+    Region {
+        first: seat.first,
+        next: seat.next,
+        from: seat.first.z,
+        to: end_at(last, &seat.next),
+        page: seat.page,
+    }
+}
+
+// The greatest address that a key before this one can have, or else the last of all.
+fn end_at(last: u128, next: &Option<Key>) -> u128
+    ensures { result ≡ end_before last next.now }
+{
+    match next {
+        Some(next) if next.number == 0 => next.z.saturating_sub(1),
+        Some(next) => next.z,
+        None => last,
+    }
+}

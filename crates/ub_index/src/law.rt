@@ -1,0 +1,26 @@
+ghost use Rattle.ub_index.specs.Laws.{ChangeReplaces, ChangeKeepsOrder, OthersStay, WaysNeverStop, WholeAscends};
+
+/// What an entry leads to is in order.
+pub fn whole_ascends()
+    ensures { WholeAscends }
+{}
+
+/// On an index no search is refused for what a page tells, nor for one that isn't there.
+pub fn ways_never_stop()
+    ensures { WaysNeverStop }
+{}
+
+/// What an entry leads to stays where its pages stay.
+pub fn others_stay()
+    ensures { OthersStay }
+{}
+
+/// Where a region's entry became others, they stand in its place in the whole list.
+pub fn change_replaces()
+    ensures { ChangeReplaces }
+{}
+
+/// And what an upper entry became is an index again.
+pub fn change_keeps_order()
+    ensures { ChangeKeepsOrder }
+{}
