@@ -4,7 +4,6 @@ use Rattle.ub_load.specs.Loading.{IsToldOf}
 use Rattle.ub_load.specs.declared.fault.LoadFault.{LoadFault}
 use Rattle.ub_load.specs.declared.fault.LoadFault.TheVariants as load
 use Rattle.ub_load.proofs.Laws.{told_sure, told_tree}
-use Rattle.ub_store.specs.declared.fault.StoreFault.TheVariants as store
 use Rattle.ub_tree.specs.declared.fault.TreeFault.{TreeFault}
 use Rattle.ub_tree.specs.declared.fault.TreeFault.TheVariants as tree
 use Rattle.ub_script.specs.Faults.{fault_of_load}
@@ -33,17 +32,17 @@ module _ {T : Type 0} (r : Result T RunFault) (given : RunFault) (f : LoadFault)
   the_reason : (fault : LoadFault) → f ≡ fault → (fault ≡ load.Csv) ⊎ IsToldOf first F B fault
   the_reason fault same = subst (λ (g : LoadFault). (g ≡ load.Csv) ⊎ IsToldOf first F B g) same told
 
-  -- it is the first thing wrong, unless `csv` refused a record or there is no room
-  pub first_wrong : (fault : LoadFault) → r ≡ Err (Load fault) → fault ≢ load.Csv → fault ≢ load.Tree (tree.Store store.BadSize) → first ≡ Some fault
-  first_wrong fault same other room =
+  -- it is the first thing wrong, unless `csv` refused a record
+  pub first_wrong : (fault : LoadFault) → r ≡ Err (Load fault) → fault ≢ load.Csv → first ≡ Some fault
+  first_wrong fault same other =
       let parts = the_fault fault same in
       elim (the_reason fault parts.0) [
         | inl csv ↦ absurd (other csv)
-        | inr wrong ↦ told_sure reliable honest fault wrong parts.1 room
+        | inr wrong ↦ told_sure reliable honest fault wrong parts.1
       ]
 
-  -- of the tree's it is one of these
-  pub tree_wrong : (fault : TreeFault) → r ≡ Err (Load (load.Tree fault)) → (fault ≡ tree.Full) ⊎ (fault ≡ tree.Store store.BadSize)
+  -- of the tree's it is this one
+  pub tree_wrong : (fault : TreeFault) → r ≡ Err (Load (load.Tree fault)) → fault ≡ tree.Full
   tree_wrong fault same =
       elim (the_reason (load.Tree fault) (the_fault (load.Tree fault) same).0) [
         | inl csv ↦ cc

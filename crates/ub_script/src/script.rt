@@ -25,7 +25,7 @@ use ub_lexer::{Token, lex, statements};
 use ub_load::{LoadFault, load};
 use ub_parser::{Query, SqlFault, Statement, parse};
 use ub_plan::{Plan, explain, plan};
-use ub_store::{MemStore, PageStore, StoreFault};
+use ub_store::{MemStore, PageStore};
 use ub_tree::{Tree, TreeFault};
 
 /// How many statements a script has, and how many of them were refused.
@@ -58,11 +58,9 @@ pub fn try_text<W: Out>(
         Takes (IsDone text.now dims page_rows name.now script.now summary) false
         (W.facts out.old) (W.facts out.new)) }
 
-    // Nothing is written, and the fault is the first thing that is wrong with the text, unless `csv` refused a record or
-    // there is no room for another page.
+    // Nothing is written, and the fault is the first thing that is wrong with the text, unless `csv` refused a record.
     ensures load { (fault : LoadFault) → result ≡ Err (RunFault.Load fault)
         → (W.facts out.new ≡ W.facts out.old) × (fault ≢ LoadFault.Csv
-        → fault ≢ LoadFault.Tree (TreeFault.Store StoreFault.BadSize)
         → first_refusal dims name.now (records_of text.now) ≡ Some fault) }
 
     // A front of the texts of the first statements is written, and nothing after the write that failed.
@@ -75,7 +73,7 @@ pub fn try_text<W: Out>(
         ⊎ Takes (IsBegun text.now dims page_rows name.now script.now) false
         (W.facts out.old) (W.facts out.new) }
     ensures of_tree { (fault : TreeFault) → result ≡ Err (RunFault.Load (LoadFault.Tree fault))
-        → (fault ≡ TreeFault.Full) ⊎ (fault ≡ TreeFault.Store StoreFault.BadSize) }
+        → fault ≡ TreeFault.Full }
     ensures tree { (fault : TreeFault) → ¬ (result ≡ Err (RunFault.Tree fault)) }
 {
     let mut tree = load(alloc, text, dims, page_rows, name, MemStore::new(alloc))?;

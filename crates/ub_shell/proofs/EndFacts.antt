@@ -4,14 +4,13 @@ use Rattle.ub_load.specs.LoadedTable.{records_of}
 use Rattle.ub_load.specs.Refusals.{first_refusal}
 use Rattle.ub_load.specs.declared.fault.LoadFault.{LoadFault}
 use Rattle.ub_load.specs.declared.fault.LoadFault.TheVariants as load
-use Rattle.ub_store.specs.declared.fault.StoreFault.TheVariants as store
 use Rattle.ub_tree.specs.declared.fault.TreeFault.{TreeFault}
 use Rattle.ub_tree.specs.declared.fault.TreeFault.TheVariants as tree
 use Rattle.ub_script.proofs.Laws.{Puts-more, front_after}
 use Rattle.ub_script.specs.Output.{OutFacts, Puts, Takes}
 use Rattle.ub_script.specs.Run.{IsBegun, IsBroken, IsDone}
 use Rattle.ub_script.specs.declared.script.Summary.{Summary}
-use Rattle.ub_shell.specs.Ending.{AreBrokenTexts, Ends, HasTried, IsTrialText, Tells, TellsIfMemory, Trial}
+use Rattle.ub_shell.specs.Ending.{AreBrokenTexts, Ends, HasTried, IsTrialText, Tells, Trial}
 use Rattle.ub_shell.specs.Status.{load_fault_status, load_fault_text, summary_status}
 use Rattle.ub_shell.specs.declared.status.Status.{Status}
 use Rattle.ub_shell.specs.declared.status.Status.TheVariants.{Done, Refused, CommandLine, Data, Device}
@@ -24,11 +23,6 @@ pub told_ends : (whole : List ℕ → Status → Type 0) (broken : List ℕ → 
     → whole bytes wanted → Tells old new bytes wanted status → Ends whole broken old new status
 told_ends whole broken old new bytes wanted status is (inl told) = inl (bytes, rw told.0 is, told.1)
 told_ends whole broken old new bytes wanted status is (inr (failed, (front, cut, taken))) = inr (failed, (front, inr (wanted, bytes, is, cut), taken))
-
-pub told_or_memory_ends : (whole : List ℕ → Status → Type 0) (broken : List ℕ → Type 0) (old new : OutFacts) (bytes : List ℕ) (wanted status : Status)
-    → whole bytes wanted → whole (codes "! Memory\n") ended.Memory → TellsIfMemory old new bytes wanted status → Ends whole broken old new status
-told_or_memory_ends whole broken old new bytes wanted status is memory (inl told) = told_ends whole broken old new bytes wanted status is told
-told_or_memory_ends whole broken old new bytes wanted status is memory (inr told) = told_ends whole broken old new _ _ status memory told
 
 -- what is whole for one thing is so for another
 pub ends_as : (whole more : List ℕ → Status → Type 0) (broken others : List ℕ → Type 0) (old new : OutFacts) (status : Status)
@@ -79,8 +73,8 @@ memory_ends t old mid new status (inr (texts, begun, taken)) told =
     (told_after old mid new texts _ _ status taken told)
 
 -- the line of a table that was refused, which is never for the store to have failed
-refused_line : (t : Trial) (fault : LoadFault) → (fault ≢ load.Csv → fault ≢ load.Tree (tree.Store store.BadSize) → first_refusal t.dims t.name (records_of t.text) ≡ Some fault)
-    → ((of_tree : TreeFault) → fault ≡ load.Tree of_tree → (of_tree ≡ tree.Full) ⊎ (of_tree ≡ tree.Store store.BadSize))
+refused_line : (t : Trial) (fault : LoadFault) → (fault ≢ load.Csv → first_refusal t.dims t.name (records_of t.text) ≡ Some fault)
+    → ((of_tree : TreeFault) → fault ≡ load.Tree of_tree → of_tree ≡ tree.Full)
     → IsTrialText t (load_fault_text fault) (load_fault_status fault)
 refused_line t load.Memory first full = record { texts = []; first = inl refl; line = refl }
 refused_line t load.NoHeader first full = record { fault = load.NoHeader; first = first; line = refl }
@@ -89,15 +83,13 @@ refused_line t load.ColumnCount first full = record { fault = load.ColumnCount; 
 refused_line t (load.BadNumber row column) first full = record { fault = load.BadNumber row column; first = first; line = refl }
 refused_line t (load.OutOfRange row column) first full = record { fault = load.OutOfRange row column; first = first; line = refl }
 refused_line t load.Csv first full = record { fault = load.Csv; first = first; line = refl }
-refused_line t (load.Tree of_tree) first full = elim (full of_tree refl) [
-  | inl same ↦ rw same (record { fault = load.Tree tree.Full; first = rw same at first; line = refl })
-  | inr same ↦ rw same (record { fault = load.Tree (tree.Store store.BadSize); first = rw same at first; line = refl })
-]
+refused_line t (load.Tree of_tree) first full =
+    let same = full of_tree refl in
+    rw same (record { fault = load.Tree tree.Full; first = rw same at first; line = refl })
 
 pub refused_ends : (t : Trial) (old mid new : OutFacts) (fault : LoadFault) (status : Status)
-    → ((mid ≡ old) × (fault ≢ load.Csv → fault ≢ load.Tree (tree.Store store.BadSize) → first_refusal t.dims t.name (records_of t.text) ≡ Some fault))
-    → ((of_tree : TreeFault) → fault ≡ load.Tree of_tree → (of_tree ≡ tree.Full) ⊎ (of_tree ≡ tree.Store store.BadSize))
-    → TellsIfMemory mid new (load_fault_text fault) (load_fault_status fault) status → HasTried t old new status
-refused_ends t old mid new fault status why full (inl told) =
+    → ((mid ≡ old) × (fault ≢ load.Csv → first_refusal t.dims t.name (records_of t.text) ≡ Some fault))
+    → ((of_tree : TreeFault) → fault ≡ load.Tree of_tree → of_tree ≡ tree.Full)
+    → Tells mid new (load_fault_text fault) (load_fault_status fault) status → HasTried t old new status
+refused_ends t old mid new fault status why full told =
     told_ends (IsTrialText t) (AreBrokenTexts t) old new _ _ status (refused_line t fault why.1 full) (told_since old mid new _ _ status why.0 told)
-refused_ends t old mid new fault status why full (inr told) = memory_ends t old mid new status (inl why.0) told

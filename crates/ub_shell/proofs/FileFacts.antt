@@ -1,20 +1,22 @@
 -- What the commands that read and write files leave of them, step by step.
-use Rattle.std.proofs.Common.{◌≡◌, ◌≢◌, ◌⊎◌, ◌∙◌, ℕ, List, Result, Ok, Err, inl, inr, ap, true, false, refl, subst, sym}
-use Rattle.std.proofs.lemmas.Bool.{false≢true}
-use Rattle.std.specs.Prelude.{IfErr, IfOk, IsErrOf, IsOk}
-use Rattle.ub_script.specs.Faults.{IsGiven, failures_after}
-use Rattle.ub_script.specs.Output.{OutFacts, Takes}
-use Rattle.ub_script.specs.Run.{FirstOn, IsBegunOn, IsBrokenOn, IsCutOff, IsDoneOn, IsStopped, IsWhole, Ran}
-use Rattle.ub_script.specs.declared.fault.RunFault.{RunFault}
-use Rattle.ub_script.specs.declared.fault.RunFault.TheVariants.{Memory, Write, Load, Tree}
-use Rattle.ub_script.specs.declared.script.Summary.{Summary}
-use Rattle.ub_store.specs.Facts.{StoreFacts, IsHonest}
+use Rattle.std.proofs.lemmas.Bool.{cases_Bool}
+use Rattle.std.specs.Prelude.{IsErrOf, IsTrue}
+use Rattle.std.proofs.Common.{◌≡◌, ◌≤◌, ◌+◌, ◌⊎◌, ◌∙◌, ℕ, List, arith, Result, Ok, Err, inl, inr, ap, false, refl, subst, sym}
+use Rattle.ub_script.specs.Faults.{counted}
+use Rattle.ub_script.specs.Output.{OutFacts}
+use Rattle.ub_store.specs.Facts.{StoreFacts, IsHonest, memory_facts}
 use Rattle.ub_store.specs.declared.fault.StoreFault.{StoreFault}
-use Rattle.ub_store.specs.declared.fault.StoreFault.TheVariants.{Device as store_device}
+use Rattle.ub_store.specs.declared.fault.StoreFault.TheVariants as store
 use Rattle.ub_tree.specs.Stored.{AreSoundPages}
-use Rattle.ub_tree.specs.View.{TreeView, IsSound}
+use Rattle.ub_tree.specs.Effects.{written_store}
+use Rattle.ub_tree.specs.Opened.{IsOpened}
+use Rattle.ub_load.specs.LoadedTree.{IsLoadedTree}
+use Rattle.ub_load.specs.Loading.{IsAtWork}
+use Rattle.ub_tree.specs.Closing.{IsCloseFault}
+use Rattle.ub_tree.specs.View.{TreeView, region_count}
 use Rattle.ub_tree.specs.declared.fault.TreeFault.{TreeFault}
 use Rattle.ub_tree.specs.declared.fault.TreeFault.TheVariants as tree
+use Rattle.std.proofs.Math.Nat.{div-le_self}
 use Rattle.ub_words.specs.Asked.{AreLines, IsAskedBy}
 use Rattle.ub_words.specs.CommandLine.{AsksHelp, AsksNothing}
 use Rattle.ub_words.specs.declared.given.LoadWords.{LoadWords}
@@ -23,19 +25,36 @@ use Rattle.ub_words.specs.declared.given.RunWords.{RunWords}
 use Rattle.ub_words.specs.declared.given.TryWords.{TryWords}
 use Rattle.ub_words.specs.declared.words.Asked.{Asked}
 use Rattle.ub_words.specs.declared.words.Asked.TheVariants as asked
-use Rattle.ub_shell.specs.Commands.{AsksStore, HasRunTree, IsAskedOf, IsCopied, IsFileOf, IsTable, IsUnopened, LoadsFile, RunsFile, TellsRan, TriesFiles, WritesFile}
+use Rattle.ub_shell.specs.Commands.{AsksStore, HasRead, HasRunTree, IsAskedOf, IsCopied, IsFileOf, IsTable, IsUnopened, IsUnread, LoadsFile, RunsFile, TriesFiles, WritesFile}
 use Rattle.ub_files.specs.Copying.{Copies}
-use Rattle.ub_shell.specs.Ending.{HasTried, Tells, trial}
-use Rattle.ub_files.specs.Files.{FilesFacts, IsLent, IsText, LendsFile, OpensFile, PutsBack, Returns}
+use Rattle.ub_shell.specs.Ending.{Tells}
+use Rattle.ub_files.specs.Files.{FilesFacts, IsLent, IsText, IsTorn, LendsFile, OpensFile, PutsBack, ReadsFile, Returns}
 use Rattle.ub_next.specs.Next.{IsNextAnswer, answer_text}
 use Rattle.ub_shell.specs.Ran.{HasEnded}
-use Rattle.ub_shell.specs.Status.{answer_status}
+use Rattle.ub_shell.specs.Status.{answer_status, store_fault_status, store_fault_text}
 use Rattle.ub_next.specs.declared.next.Neighbours.{Neighbours}
 use Rattle.ub_next.specs.declared.next.NextFault.{NextFault}
 use Rattle.ub_shell.specs.declared.status.Status.{Status}
 use Rattle.ub_shell.specs.declared.status.Status.TheVariants.{Done, CommandLine}
 
 -- ---- files
+
+-- a file was read, or not
+pub has_read : {A : Type 0} (path text : List ℕ) (old new : FilesFacts) (a : A) → IsText (old.holds path) text → ReadsFile path old new (Ok a) → HasRead path text old new
+has_read path text old new a is h = record {
+  text_is = is;
+  reads = record { same = h.same; readings = h.readings; kept = h.kept; others = h.others; used_up = h.used_up };
+}
+
+pub not_read : {A : Type 0} (path : List ℕ) (old new : FilesFacts) (fault : StoreFault) (out out_now : OutFacts) (status : Status)
+    → (fault ≡ store.Device) ⊎ (fault ≡ store.Memory) → ReadsFile {A = A} path old new (Err fault) → Tells out out_now (store_fault_text fault) (store_fault_status fault) status
+    → IsUnread path old new out out_now status
+not_read path old new fault out out_now status is h told = record {
+  fault = fault;
+  is = is;
+  reads = record { same = h.same; readings = h.readings; kept = h.kept; others = h.others; used_up = tt };
+  tells = told;
+}
 
 -- a store that was lent is put back
 pub put_after : {A : Type 0} (path : List ℕ) (old lent new : FilesFacts) (a : A) (store : StoreFacts) → LendsFile path old lent (Ok a)
@@ -75,94 +94,81 @@ pub file_kept : (table text name : List ℕ) (dims page_rows rows regions : ℕ)
     → IsTable text name dims page_rows rows regions pages → WritesFile table pages old new (Ok u) → IsFileOf table text name dims page_rows rows regions old new
 file_kept table text name dims page_rows rows regions pages old new u is = elim [
   | inl w ↦ file_written table text name dims page_rows rows regions pages old new (Ok u) w is w.copies.synced w.copies.copied
-  | inr unmade ↦ never_both u store_device (Ok u) (IsFileOf table text name dims page_rows rows regions old new) refl unmade.0
+  | inr unmade ↦ never_both u store.Device (Ok u) (IsFileOf table text name dims page_rows rows regions old new) refl unmade.0
 ]
 
--- ---- a script on a CSV text
+-- ---- a table in memory
 
-pub both_read : (source script name : List ℕ) (dims page_rows : ℕ) (old mid new : FilesFacts) (out out_now : OutFacts) (status : Status) (text words : List ℕ)
-    → mid ≡ old → new ≡ mid → IsText (old.holds source) text → IsText (mid.holds script) words
-    → HasTried (trial text dims page_rows name words) out out_now status → TriesFiles source script name dims page_rows old new out out_now status
-both_read source script name dims page_rows old mid new out out_now status text words first second is also h = inl (record {
-  text = text;
-  asked = words;
-  text_is = is;
-  asked_is = subst (λ (f : FilesFacts). IsText (f.holds script) words) first also;
-  files = second ∙ first;
-  tried = h;
-})
+-- it has room for its directory, so that only memory can be wanting where it is closed
+pub unclosed_fault : {text name : List ℕ} {dims page_rows : ℕ} (held : List (List ℕ)) (t : TreeView) → IsLoadedTree text dims page_rows name t → IsAtWork (memory_facts held) t
+    → (fault : TreeFault) → IsCloseFault t fault → fault ≡ tree.Memory
+unclosed_fault held t loaded work tree.Memory h = refl
+unclosed_fault held t loaded work tree.Failed h = let works = work.working in cc
+unclosed_fault held t loaded work (tree.Store store.Device) h = let never = ap (λ (s : StoreFacts). s.can_fail) work.store_is in cc
+unclosed_fault held t loaded work (tree.Store store.NoPage) h = absurd (h loaded.sound)
+unclosed_fault held t loaded work (tree.Store store.BadSize) h =
+    let last : t.next ≤ 16777216 = loaded.sound.last_next in
+    let few = loaded.few in
+    let pages = work.pages in
+    let levels = div-le_self (region_count t + 169) 170 in
+    absurd (omega arith)
+unclosed_fault held t loaded work (tree.Store store.Memory) h = absurd h
+unclosed_fault held t loaded work tree.Full h = absurd h
+unclosed_fault held t loaded work (tree.Page page fault) h = absurd h
 
 -- ---- a script on a table file
 
--- the number of pages fetched is not told of here
-done_on : (t : TreeView) (script : List ℕ) (s : Summary) (out mid : OutFacts) (before after : ℕ)
-    → Ran (IsWhole (FirstOn t script) s) false out mid before after → Takes (IsDoneOn t script s) false out mid
-done_on t script s out mid before after (bytes, pages, is, taken, fetched) = (bytes, (pages, is), taken)
-
-broken_on : (t : TreeView) (script : List ℕ) (out mid : OutFacts) (before after : ℕ)
-    → Ran (IsCutOff (FirstOn t script)) true out mid before after → Takes (IsBrokenOn t script) true out mid
-broken_on t script out mid before after (bytes, pages, is, taken, fetched) = (bytes, (pages, is), taken)
-
-begun_on : (t : TreeView) (script : List ℕ) (out mid : OutFacts) (before after : ℕ)
-    → ((mid ≡ out) × (after ≡ before)) ⊎ Ran (IsStopped (FirstOn t script)) false out mid before after → (mid ≡ out) ⊎ Takes (IsBegunOn t script) false out mid
-begun_on t script out mid before after (inl kept) = inl kept.0
-begun_on t script out mid before after (inr (bytes, pages, is, taken, fetched)) = inr (bytes, (pages, is), taken)
-
--- what is told of a run that left a mark on the output is what the command has written
-pub run_ended : (t : TreeView) (script : List ℕ) (out mid out_now : OutFacts) (before after : ℕ) (status : Status) (r : Result Summary RunFault) (closed : Result (Unit {0}) TreeFault)
-    → (IsSound t → IfOk r (λ summary. Ran (IsWhole (FirstOn t script) summary) false out mid before after))
-    → (IsSound t → IsErrOf r Write → Ran (IsCutOff (FirstOn t script)) true out mid before after)
-    → (IsSound t → IfErr r (λ f. f ≢ Write → ((mid ≡ out) × (after ≡ before)) ⊎ Ran (IsStopped (FirstOn t script)) false out mid before after))
-    → mid.failures ≡ failures_after r out.failures → IfErr r (IsGiven t) → IsOk closed
-    → TellsRan r closed mid out_now status → HasRunTree t script out out_now status
-run_ended t script out mid out_now before after status (Ok summary) (Ok u) done write begun counted given ok told = inl (record {
-  summary = summary;
-  ended = told.0;
-  failures = rw told.1 counted;
-  ran = λ sound. rw told.1 (done_on t script summary out mid before after (done sound));
-})
-run_ended t script out mid out_now before after status (Ok summary) (Err fault) done write begun counted given ok told = absurd (false≢true ok)
-run_ended t script out mid out_now before after status (Err Memory) closed done write begun counted given ok told = inr (inr (record {
-  fault = tree.Memory;
-  mid = mid;
-  is = tt;
-  failures = counted;
-  begun = λ sound. begun_on t script out mid before after (begun sound (λ e. cc));
-  tells = inl told;
-}))
-run_ended t script out mid out_now before after status (Err Write) closed done write begun counted given ok told = inr (inl (record {
-  ended = told.0;
-  failures = rw told.1 counted;
-  ran = λ sound. rw told.1 (broken_on t script out mid before after (write sound refl));
-}))
-run_ended t script out mid out_now before after status (Err (Load fault)) closed done write begun counted given ok told = absurd given
-run_ended t script out mid out_now before after status (Err (Tree fault)) closed done write begun counted given ok told = inr (inr (record {
+-- a table file was not opened
+pub not_opened : {A : Type 0} (table : List ℕ) (old new : FilesFacts) (fault : StoreFault) (out out_now : OutFacts) (status : Status)
+    → (fault ≡ store.Device) ⊎ (fault ≡ store.BadSize) → (IsErrOf {T = A} (Err fault) store.BadSize → IsTorn (old.holds table)) → OpensFile {A = A} table old new (Err fault)
+    → Tells out out_now (store_fault_text fault) (store_fault_status fault) status → IsUnopened table old new out out_now status
+not_opened {A} table old new fault out out_now status faults torn opens told = record {
   fault = fault;
-  mid = mid;
-  is = given.0;
-  failures = counted;
-  begun = λ sound. begun_on t script out mid before after (begun sound (λ e. cc));
+  is = elim faults [
+    | inl device ↦ inl device
+    | inr size ↦ inr (size, torn (ap (λ (f : StoreFault). Err f) size))
+  ];
+  files = record { lends = record { same = opens.lends.same; others = opens.lends.others; away = tt }; kept = opens.kept };
   tells = told;
-}))
+}
 
--- the store of a table file was asked, which was opened after the script was read
-pub file_asked : {A : Type 0} (table script : List ℕ) (old mid lent new : FilesFacts) (out out_now : OutFacts) (status : Status) (words : List ℕ) (a : A) (store : StoreFacts)
-    → mid ≡ old → IsText (old.holds script) words → IsLent mid table store → OpensFile table mid lent (Ok a)
-    → AsksStore (λ left. PutsBack table lent new left) words store out out_now status → RunsFile table script old new out out_now status
-file_asked {A} table script old mid lent new out out_now status words a store same is from opens asks = inl (record {
-  asked = words;
-  asked_is = is;
-  ran = subst (λ (f : FilesFacts). IsAskedOf table words f new out out_now status ⊎ IsUnopened table f new out out_now status) same (inl (record {
-    store = store;
-    lent = from;
-    asks = record {
-      left = asks.left;
-      back = put_after table mid lent new a asks.left opens.lends asks.back;
-      pages = asks.pages;
-      asked = asks.asked;
-    };
-  }));
-})
+-- what is left of the store of a tree that was opened, asked and closed
+pub store_left : {script : List ℕ} {left : StoreFacts} {out out_now : OutFacts} {status : Status} (store : StoreFacts) (t : TreeView) → IsOpened store t
+    → (ran : HasRunTree t script left out out_now status) → left ≡ record store { failed_reads = counted ran.result store.failed_reads }
+store_left store t opened ran =
+    let same = ran.ran.effect.same in
+    let changed = ap (λ (v : TreeView). v.is_changed) same ∙ opened.unchanged in
+    let failed = ap (λ (v : TreeView). v.is_failed) same ∙ opened.working in
+    (ran.closes.unchanged changed failed).1 ∙ ap (λ (v : TreeView). v.store) same
+    ∙ ap (λ (s : StoreFacts). record s { failed_reads = counted ran.result s.failed_reads }) opened.store_is
+
+-- what is left of the store of a tree that was closed
+store_kept : {A : Type 0} (a : A) (old new : StoreFacts) → new ≡ old → new ≡ written_store {A = A} (Ok a) old new
+store_kept a old new same = rw same refl
+
+pub store_closed : {A : Type 0} (a : A) (t : TreeView) (left : StoreFacts) → (IsTrue t.is_changed → left ≡ record t.store { pages = left.pages; synced = left.synced })
+    → (t.is_changed ≡ false → t.is_failed ≡ false → left ≡ t.store) → (IsTrue t.is_failed → ⊥) → left ≡ written_store {A = A} (Ok a) t.store left
+store_closed a t left saved unchanged working = elim (cases_Bool t.is_changed) [
+  | inl changed ↦ saved changed
+  | inr same ↦ elim (cases_Bool t.is_failed) [
+    | inl failed ↦ absurd (working failed)
+    | inr works ↦ store_kept a t.store left (unchanged same works)
+  ]
+]
+
+-- the store of a table file was asked that was opened
+pub file_asked : {A : Type 0} (table words : List ℕ) (mid lent new : FilesFacts) (out out_now : OutFacts) (status : Status) (a : A) (store : StoreFacts)
+    → IsLent mid table store → OpensFile table mid lent (Ok a)
+    → AsksStore (λ left. PutsBack table lent new left) words store out out_now status → IsAskedOf table words mid new out out_now status
+file_asked {A} table words mid lent new out out_now status a store from opens asks = record {
+  store = store;
+  lent = from;
+  asks = record {
+    left = asks.left;
+    back = put_after table mid lent new a asks.left opens.lends asks.back;
+    asked = asks.asked;
+  };
+}
 
 -- ---- what the words ask for
 

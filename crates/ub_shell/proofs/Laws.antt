@@ -1,8 +1,18 @@
 -- The laws of how a command ends, as specs/Laws.antt states them.
-use Rattle.std.proofs.Common.{ℕ, List, inl, inr}
+use Rattle.std.proofs.Common.{◌≡◌, ◌≢◌, ◌⊎◌, ◌∙◌, ℕ, List, inl, inr, ap, arith, refl, subst, sym}
+use Rattle.std.proofs.lemmas.Bool.{cases_Bool}
+use Rattle.std.proofs.lemmas.Slice.Eq.{bytes_eq-Decides}
+use Rattle.std.specs.Str.{bytes_eq}
+use Rattle.std.specs.Prelude.{Result}
+use Rattle.ub_store.specs.Facts.{StoreFacts}
+use Rattle.ub_store.specs.declared.fault.StoreFault.{StoreFault}
+use Rattle.ub_files.specs.Files.{FilesFacts, Held, IsPutBack, IsStored, ReadsFile, absent, bytes, lent_out, pages, standard_input, torn, untold}
 use Rattle.ub_words.proofs.Laws.{no_help_taken}
 use Rattle.ub_words.specs.CommandLine.{AsksHelpAlone, AsksNext}
-use Rattle.ub_shell.specs.Laws.{OnlyHelpIsWritten, WrongWordsAreTold}
+use Rattle.ub_shell.specs.Commands.{IsRunOn, IsUntold}
+use Rattle.ub_shell.specs.Laws.{AskingLeavesTheTable, IsHeldStill, OnlyHelpIsWritten, WrongWordsAreTold}
+use Rattle.ub_shell.specs.declared.status.Status.{Status}
+use Rattle.ub_script.specs.Output.{OutFacts}
 
 no_next : (words : List (List ℕ)) (lo hi z : List ℕ) → AsksHelpAlone words → AsksNext words lo hi z → ⊥
 no_next words lo hi z alone (inl by_clap) = no_help_taken words by_clap.1.0 alone
@@ -25,3 +35,57 @@ wrong_words_are_told words old new out out_now status nothing no_help (inr (inr 
 wrong_words_are_told words old new out out_now status nothing no_help (inr (inr (inr (inr (inl help))))) = absurd (no_help help.asks)
 wrong_words_are_told words old new out out_now status nothing no_help (inr (inr (inr (inr (inr (inl wrong)))))) = inl wrong
 wrong_words_are_told words old new out out_now status nothing no_help (inr (inr (inr (inr (inr (inr memory)))))) = inr memory
+
+-- ---- a table file that was only asked
+
+still : (held : Held) → IsHeldStill held held
+still untold = tt
+still absent = refl
+still (bytes text) = refl
+still (pages all) = refl
+still torn = refl
+still lent_out = refl
+
+still_same : (a b : Held) → b ≡ a → IsHeldStill a b
+still_same a b same = subst (λ (held : Held). IsHeldStill a held) (sym same) (still a)
+
+-- reading a text leaves another file
+left_by_reading : {A : Type 0} (path table : List ℕ) (old new : FilesFacts) (r : Result A StoreFault) → table ≢ standard_input → ReadsFile path old new r → new.holds table ≡ old.holds table
+left_by_reading path table old new r other h = elim (cases_Bool (bytes_eq table path)) [
+  | inl same ↦
+      let is : table ≡ path = (bytes_eq-Decides table path).0 same in
+      ap (λ holds. holds table) (h.kept (λ input. other (is ∙ input)))
+  | inr apart ↦ h.others table (λ is. let same = (bytes_eq-Decides table path).1 is in cc)
+]
+
+-- what is put back with the pages that it had, and no write of which has failed
+put_back_same : (before after : Held) (from left : StoreFacts) → IsStored before from → IsPutBack after left → left.pages ≡ from.pages → left.failed_writes ≡ 0 → IsHeldStill before after
+put_back_same untold after from left stored back same well = tt
+put_back_same (pages all) untold from left stored back same well = tt
+put_back_same (pages all) (pages now) from left stored back same well = ap pages (sym back ∙ same ∙ stored)
+put_back_same (pages all) torn from left stored back same well = absurd (let failed = back.1 in omega arith)
+put_back_same (pages all) absent from left stored back same well = absurd back
+put_back_same (pages all) (bytes text) from left stored back same well = absurd back
+put_back_same (pages all) lent_out from left stored back same well = absurd back
+put_back_same absent after from left stored back same well = absurd stored
+put_back_same (bytes text) after from left stored back same well = absurd stored
+put_back_same torn after from left stored back same well = absurd stored
+put_back_same lent_out after from left stored back same well = absurd stored
+
+-- the store that is left of a table that was asked
+asked_left : {script : List ℕ} {out out_now : OutFacts} {status : Status} (from left : StoreFacts) → IsRunOn from script left out out_now status ⊎ IsUntold from left out out_now status
+    → (left.pages ≡ from.pages) × (left.failed_writes ≡ from.failed_writes)
+asked_left from left (inl run) = (ap (λ (s : StoreFacts). s.pages) run.left_is, ap (λ (s : StoreFacts). s.failed_writes) run.left_is)
+asked_left from left (inr told) = (ap (λ (s : StoreFacts). s.pages) told.left_is, ap (λ (s : StoreFacts). s.failed_writes) told.left_is)
+
+pub asking_leaves_the_table : AskingLeavesTheTable
+asking_leaves_the_table table script old new out out_now status other (inr unread) =
+    still_same (old.holds table) (new.holds table) (left_by_reading script table old new _ other unread.reads)
+asking_leaves_the_table table script old new out out_now status other (inl run) =
+    let mid : run.mid.holds table ≡ old.holds table = left_by_reading script table old run.mid _ other run.read.reads in
+    subst (λ (held : Held). IsHeldStill held (new.holds table)) mid (elim run.ran [
+      | inl asked ↦
+          let same = asked_left asked.store asked.asks.left asked.asks.asked in
+          put_back_same (run.mid.holds table) (new.holds table) asked.store asked.asks.left asked.lent.stored asked.asks.back.held same.0 (same.1 ∙ asked.lent.lent.unfailed)
+      | inr unopened ↦ still_same (run.mid.holds table) (new.holds table) unopened.files.kept
+    ])

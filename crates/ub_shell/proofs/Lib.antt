@@ -1,4 +1,3 @@
 pub mod EndFacts
-pub mod LineFacts
 pub mod FileFacts
 pub mod Laws

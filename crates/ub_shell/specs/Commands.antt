@@ -1,13 +1,14 @@
 -- What the commands that read and write files leave of them, and what they tell.
-use Rattle.std.specs.Prelude.{◌≡◌, ◌≢◌, ◌⊎◌, ◌++◌, ℕ, List, [], Result, Ok, Err, codes, decimal, true, false, IfErr, OnOk, IsOk}
+use Rattle.std.specs.Prelude.{◌≡◌, ◌≢◌, ◌⊎◌, ◌++◌, ℕ, List, [], Result, Ok, Err, codes, decimal, map, false, IfErr, IsTrue, OnErr, OnOk, IsOk}
 use Rattle.ub_load.specs.LoadedTree.{IsLoadedTree}
 use Rattle.ub_load.specs.Loading.{IsLoadFault}
 use Rattle.ub_load.specs.Refusals.{fault_of_tree}
 use Rattle.ub_load.specs.declared.fault.LoadFault.{LoadFault}
 use Rattle.ub_load.specs.declared.fault.LoadFault.TheVariants.{Tree}
 use Rattle.ub_load.specs.declared.fault.LoadFault.TheVariants as load
-use Rattle.ub_script.specs.Output.{OutFacts, Takes}
-use Rattle.ub_script.specs.Run.{IsBegunOn, IsBrokenOn, IsDoneOn}
+use Rattle.ub_script.specs.Output.{OutFacts}
+use Rattle.ub_script.specs.Faults.{counted}
+use Rattle.ub_script.specs.Run.{IsRun}
 use Rattle.ub_script.specs.declared.fault.RunFault.{RunFault}
 use Rattle.ub_script.specs.declared.fault.RunFault.TheVariants as ran
 use Rattle.ub_script.specs.declared.script.Summary.{Summary}
@@ -16,53 +17,80 @@ use Rattle.ub_store.specs.declared.fault.StoreFault.{StoreFault}
 use Rattle.ub_store.specs.declared.fault.StoreFault.TheVariants as store
 use Rattle.ub_table.specs.declared.schema.Schema.{Schema}
 use Rattle.ub_tree.specs.Closing.{IsCloseFault}
-use Rattle.ub_tree.specs.Effects.{IsReadFault}
+use Rattle.ub_tree.specs.Effects.{read_store, written_store}
 use Rattle.ub_tree.specs.Faults.{tree_fault}
 use Rattle.ub_tree.specs.Opened.{IsOpened, IsOpenFault, IsPassing}
-use Rattle.ub_tree.specs.Placed.{Placed}
+use Rattle.ub_tree.specs.Placed.{Placed, entry_of}
 use Rattle.ub_tree.specs.Stored.{AreSoundPages}
 use Rattle.ub_tree.specs.View.{TreeView, IsSound, region_count}
 use Rattle.ub_tree.specs.declared.fault.TreeFault.{TreeFault}
-use Rattle.ub_tree.specs.declared.fault.TreeFault.TheVariants.{Store}
+use Rattle.ub_tree.specs.declared.fault.TreeFault.TheVariants.{Failed, Store}
+use Rattle.ub_writing.specs.Closing as writing
 use Rattle.ub_files.specs.Copying.{Copies}
-use Rattle.ub_shell.specs.Ending.{HasTried, Tells, TellsIfMemory, trial}
+use Rattle.ub_shell.specs.Ending.{HasTried, Tells, trial}
 use Rattle.ub_files.specs.Files.{FilesFacts, HoldsBut, IsLent, IsMade, IsText, IsTorn, LendsFile, OpensFile, PutsBack, ReadsFile, Returns}
 use Rattle.ub_shell.specs.Status.{load_fault_status, load_fault_text, store_fault_status, store_fault_text, summary_status, tree_fault_status, tree_fault_text}
 use Rattle.ub_shell.specs.declared.status.Status.{Status}
 use Rattle.ub_shell.specs.declared.status.Status.TheVariants.{Done, CommandLine, Device, Memory}
 
--- a file was not read, and that was told; the files hold what they did
-pub record IsUnread (old new : FilesFacts) (out out_now : OutFacts) (status : Status) : Type 0 where
+-- ---- reading a file
+
+-- the file at this path was read, once, and this is its text
+pub record HasRead (path text : List ℕ) (old new : FilesFacts) : Type 0 where
+  pub text_is : IsText (old.holds path) text
+  pub reads : ReadsFile {A = List ℕ} path old new (Ok text)
+
+-- it was not, and that was told
+pub record IsUnread (path : List ℕ) (old new : FilesFacts) (out out_now : OutFacts) (status : Status) : Type 0 where
   pub fault : StoreFault
   pub is : (fault ≡ store.Device) ⊎ (fault ≡ store.Memory)
-  pub files : ReadsFile {A = OutFacts} old new (Err fault)
+  pub reads : ReadsFile {A = List ℕ} path old new (Err fault)
   pub tells : Tells out out_now (store_fault_text fault) (store_fault_status fault) status
 
 -- ---- a script on a CSV text
 
--- both files were read and stay as they were, and the script that one holds was run on the table of the text that the other holds
+-- both files were read, the first path's before the other, and the script that the second one holds was run on the table of the text that
+-- the first one holds
 pub record IsTrialOf (source script name : List ℕ) (dims page_rows : ℕ) (old new : FilesFacts) (out out_now : OutFacts) (status : Status) : Type 0 where
   pub text : List ℕ
   pub asked : List ℕ
-  pub text_is : IsText (old.holds source) text
-  pub asked_is : IsText (old.holds script) asked
-  pub files : new ≡ old
+  pub mid : FilesFacts
+  pub source_read : HasRead source text old mid
+  pub script_read : HasRead script asked mid new
   pub tried : HasTried (trial text dims page_rows name asked) out out_now status
 
--- that was done, or told that a file was not read
+-- the first file was read, and the second was not
+pub record IsHalfRead (source script : List ℕ) (old new : FilesFacts) (out out_now : OutFacts) (status : Status) : Type 0 where
+  pub text : List ℕ
+  pub mid : FilesFacts
+  pub source_read : HasRead source text old mid
+  pub script_unread : IsUnread script mid new out out_now status
+
+-- that was done, or told that the first file was not read, or the second
 abbrev pub TriesFiles : List ℕ → List ℕ → List ℕ → ℕ → ℕ → FilesFacts → FilesFacts → OutFacts → OutFacts → Status → Type 0
 TriesFiles source script name dims page_rows old new out out_now status =
-    IsTrialOf source script name dims page_rows old new out out_now status ⊎ IsUnread old new out out_now status
+    IsTrialOf source script name dims page_rows old new out out_now status
+    ⊎ (IsUnread source old new out out_now status ⊎ IsHalfRead source script old new out out_now status)
 
 -- ---- closing a table file
 
--- the store of a tree was closed and put back at this path: a sound tree's as a closed table, and one that was not changed as it was
+-- a tree was closed, and its store is left so: that of a sound tree is a closed table, all of which lasts where it was changed; one
+-- that was not changed is as it was, and so is that of a tree that has failed; and where the closing of a sound tree is refused, the
+-- first page is as it was, unless the whole directory stands
+pub record Closes {A : Type 0} (t : TreeView) (left : StoreFacts) (result : Result A TreeFault) : Type 0 where
+  pub store_is : left ≡ written_store result t.store left
+  pub closed : IsSound t → OnOk result (IsHonest left × AreSoundPages left.pages t.schema t.placed t.next)
+  pub synced : IsTrue t.is_changed → OnOk result (left.synced ≡ left.pages)
+  pub unchanged : t.is_changed ≡ false → t.is_failed ≡ false → IsOk result × (left ≡ t.store)
+  pub failed : IsTrue t.is_failed → (result ≡ Err Failed) × (left ≡ t.store)
+  pub unclosed : IsSound t → OnErr result (writing.IsUnclosed (map (λ p. p.page) t.placed) (map entry_of t.placed) t.store left)
+  pub refused : IfErr result (IsCloseFault t)
+
+-- and its store was put back at this path
 pub record ClosesFile {A : Type 0} (path : List ℕ) (old new : FilesFacts) (t : TreeView) (result : Result A TreeFault) : Type 0 where
-  pub store : StoreFacts
-  pub back : PutsBack path old new store
-  pub closed : IsSound t → OnOk result (IsHonest store × AreSoundPages store.pages t.schema t.placed t.next)
-  pub unchanged : t.is_changed ≡ false → t.is_failed ≡ false → IsOk result × (store ≡ t.store)
-  pub refused : IfErr result (IsCloseFault t store)
+  pub left : StoreFacts
+  pub back : PutsBack path old new left
+  pub closes : Closes t left result
 
 -- ---- a table file of a CSV text
 
@@ -108,15 +136,19 @@ pub record IsFileOf (table text name : List ℕ) (dims page_rows rows regions : 
 abbrev pub IsUnloaded : List ℕ → List ℕ → ℕ → LoadFault → Type 0
 IsUnloaded text name dims fault = IsLoadFault dims name text (memory_facts []) fault
 
--- the table that was loaded isn't closed there: memory was refused, or it would have more pages than a store
+-- the table that was loaded isn't closed there: memory was refused
 pub record IsUnclosed (text name : List ℕ) (dims page_rows : ℕ) (fault : LoadFault) : Type 0 where
   pub tree : TreeView
   pub loaded : IsLoadedTree text dims page_rows name tree
-  pub refused : (fault ≡ load.Memory) ⊎ (fault ≡ Tree (Store store.BadSize))
+  pub refused : fault ≡ load.Memory
 
--- the table file can't be made
-abbrev pub IsUnmade : LoadFault → Type 0
-IsUnmade fault = fault ≡ Tree (Store store.Device)
+-- the table of the text stands in memory, and the table file can't be made
+pub record IsUnmade (text name : List ℕ) (dims page_rows : ℕ) (fault : LoadFault) : Type 0 where
+  pub rows : ℕ
+  pub regions : ℕ
+  pub pages : List (List ℕ)
+  pub table_is : IsTable text name dims page_rows rows regions pages
+  pub fault_is : fault ≡ Tree (Store store.Device)
 
 -- the table's pages aren't copied into the table file that was made
 pub record IsUnwritten (table text name : List ℕ) (dims page_rows : ℕ) (old new : FilesFacts) (fault : LoadFault) : Type 0 where
@@ -138,7 +170,7 @@ pub record Uses (table : List ℕ) (old new : FilesFacts) : Type 0 where
 -- what they did
 pub record IsUnkept (table text name : List ℕ) (dims page_rows : ℕ) (old new : FilesFacts) (fault : LoadFault) : Type 0 where
   pub why : ((IsUnloaded text name dims fault ⊎ IsUnclosed text name dims page_rows fault) × (new ≡ old))
-      ⊎ ((IsUnmade fault × (new.failed_tables ≡ raised old.failed_tables 1))
+      ⊎ ((IsUnmade text name dims page_rows fault × (new.failed_tables ≡ raised old.failed_tables 1))
       ⊎ (IsUnwritten table text name dims page_rows old new fault × (new.failed_tables ≡ old.failed_tables)))
   pub uses : Uses table old new
 
@@ -146,15 +178,16 @@ pub record IsUnkept (table text name : List ℕ) (dims page_rows : ℕ) (old new
 abbrev pub KeepsText : List ℕ → List ℕ → List ℕ → ℕ → ℕ → FilesFacts → FilesFacts → OutFacts → OutFacts → Status → Type 0
 KeepsText table text name dims page_rows old new out out_now status =
     ((rows regions : ℕ) × IsFileOf table text name dims page_rows rows regions old new
-    × TellsIfMemory out out_now (loaded_line rows regions) Done status)
+    × Tells out out_now (loaded_line rows regions) Done status)
     ⊎ ((fault : LoadFault) × IsUnkept table text name dims page_rows old new fault
-    × TellsIfMemory out out_now (load_fault_text fault) (load_fault_status fault) status)
+    × Tells out out_now (load_fault_text fault) (load_fault_status fault) status)
 
 -- the text of a file was read, and kept in the table file; or it was told why not
 pub record IsLoadOf (source table name : List ℕ) (dims page_rows : ℕ) (old new : FilesFacts) (out out_now : OutFacts) (status : Status) : Type 0 where
   pub text : List ℕ
-  pub text_is : IsText (old.holds source) text
-  pub ended : KeepsText table text name dims page_rows old new out out_now status
+  pub mid : FilesFacts
+  pub read : HasRead source text old mid
+  pub ended : KeepsText table text name dims page_rows mid new out out_now status
 
 -- both paths are one text, and that was told; the files hold what they did
 pub record IsSameFile (source table : List ℕ) (old new : FilesFacts) (out out_now : OutFacts) (status : Status) : Type 0 where
@@ -166,41 +199,14 @@ pub record IsSameFile (source table : List ℕ) (old new : FilesFacts) (out out_
 abbrev pub LoadsFile : List ℕ → List ℕ → List ℕ → ℕ → ℕ → FilesFacts → FilesFacts → OutFacts → OutFacts → Status → Type 0
 LoadsFile source table name dims page_rows old new out out_now status =
     IsSameFile source table old new out out_now status
-    ⊎ ((source ≢ table) × (IsLoadOf source table name dims page_rows old new out out_now status ⊎ IsUnread old new out out_now status))
+    ⊎ ((source ≢ table) × (IsLoadOf source table name dims page_rows old new out out_now status ⊎ IsUnread source old new out out_now status))
 
 -- ---- a script on a table file
-
--- the script was run to its end, and the status says whether a statement of it was refused
-pub record HasRunWhole (t : TreeView) (script : List ℕ) (out out_now : OutFacts) (status : Status) : Type 0 where
-  pub summary : Summary
-  pub ended : status ≡ summary_status summary
-  pub failures : out_now.failures ≡ out.failures
-  pub ran : IsSound t → Takes (IsDoneOn t script summary) false out out_now
-
--- a write failed, after which nothing was written
-pub record HasRunBroken (t : TreeView) (script : List ℕ) (out out_now : OutFacts) (status : Status) : Type 0 where
-  pub ended : status ≡ Device
-  pub failures : out_now.failures ≡ raised out.failures 1
-  pub ran : IsSound t → Takes (IsBrokenOn t script) true out out_now
-
--- the tree refused or memory was; that was told after the texts of the first statements, or with nothing before it
-pub record HasRunRefused (t : TreeView) (script : List ℕ) (out out_now : OutFacts) (status : Status) : Type 0 where
-  pub fault : TreeFault
-  pub mid : OutFacts
-  pub is : IsReadFault t fault
-  pub failures : mid.failures ≡ out.failures
-  pub begun : IsSound t → (mid ≡ out) ⊎ Takes (IsBegunOn t script) false out mid
-  pub tells : TellsIfMemory mid out_now (tree_fault_text fault) (tree_fault_status fault) status
-
--- what a script on a tree has written, and how it has ended
-abbrev pub HasRunTree : TreeView → List ℕ → OutFacts → OutFacts → Status → Type 0
-HasRunTree t script out out_now status =
-    HasRunWhole t script out out_now status ⊎ (HasRunBroken t script out out_now status ⊎ HasRunRefused t script out out_now status)
 
 -- what is told after a run to the end, by how the closing has ended
 abbrev pub TellsClosed : Summary → Result (Unit {0}) TreeFault → OutFacts → OutFacts → Status → Type 0
 TellsClosed summary (Ok done) out out_now status = (status ≡ summary_status summary) × (out_now ≡ out)
-TellsClosed summary (Err fault) out out_now status = TellsIfMemory out out_now (tree_fault_text fault) (tree_fault_status fault) status
+TellsClosed summary (Err fault) out out_now status = Tells out out_now (tree_fault_text fault) (tree_fault_status fault) status
 
 -- what is told after a run, by how it and the closing have ended: nothing after a write that failed
 abbrev pub TellsRan : Result Summary RunFault → Result (Unit {0}) TreeFault → OutFacts → OutFacts → Status → Type 0
@@ -208,9 +214,19 @@ TellsRan (Ok summary) closed out out_now status = TellsClosed summary closed out
 TellsRan (Err ran.Memory) closed out out_now status = Tells out out_now (codes "! Memory\n") Memory status
 TellsRan (Err ran.Write) closed out out_now status = (status ≡ Device) × (out_now ≡ out)
 TellsRan (Err (ran.Load fault)) closed out out_now status =
-    TellsIfMemory out out_now (load_fault_text fault) (load_fault_status fault) status
+    Tells out out_now (load_fault_text fault) (load_fault_status fault) status
 TellsRan (Err (ran.Tree fault)) closed out out_now status =
-    TellsIfMemory out out_now (tree_fault_text fault) (tree_fault_status fault) status
+    Tells out out_now (tree_fault_text fault) (tree_fault_status fault) status
+
+-- a script was run on a tree, which was then closed, with this store left of it; and it was told how both have ended
+pub record HasRunTree (t : TreeView) (script : List ℕ) (left : StoreFacts) (out out_now : OutFacts) (status : Status) : Type 0 where
+  pub now : TreeView
+  pub result : Result Summary RunFault
+  pub closing : Result (Unit {0}) TreeFault
+  pub mid : OutFacts
+  pub ran : IsRun t now script result out mid
+  pub closes : Closes now left closing
+  pub tells : TellsRan result closing mid out_now status
 
 -- the tree of these pages: where they are a closed table it is sound, with that table's regions
 pub record IsTreeOf (store : StoreFacts) (t : TreeView) : Type 0 where
@@ -218,26 +234,28 @@ pub record IsTreeOf (store : StoreFacts) (t : TreeView) : Type 0 where
   pub sound : (schema : Schema) (placed : List Placed) (next : ℕ) → IsHonest store → AreSoundPages store.pages schema placed next
       → IsSound t × (t.schema ≡ schema) × (t.placed ≡ placed) × (t.next ≡ next)
 
--- a script was run on the tree in a store
-pub record IsRunOn (store : StoreFacts) (script : List ℕ) (out out_now : OutFacts) (status : Status) : Type 0 where
+-- a script was run on the tree in a store, of which this is left: where a read of it failed, which is told, it counts that, and all
+-- else is as it was
+pub record IsRunOn (store : StoreFacts) (script : List ℕ) (left : StoreFacts) (out out_now : OutFacts) (status : Status) : Type 0 where
   pub tree : TreeView
   pub tree_is : IsTreeOf store tree
-  pub ran : HasRunTree tree script out out_now status
+  pub ran : HasRunTree tree script left out out_now status
+  pub left_is : left ≡ record store { failed_reads = counted ran.result store.failed_reads }
 
--- no tree was opened in a store, and that was told
-pub record IsUntold (store : StoreFacts) (out out_now : OutFacts) (status : Status) : Type 0 where
+-- no tree was opened in a store, of which this is left, and that was told
+pub record IsUntold (store left : StoreFacts) (out out_now : OutFacts) (status : Status) : Type 0 where
   pub fault : TreeFault
   pub is : IsOpenFault store fault
   pub passing : (schema : Schema) (placed : List Placed) (next : ℕ) → IsHonest store → AreSoundPages store.pages schema placed next
       → IsPassing fault
-  pub tells : TellsIfMemory out out_now (tree_fault_text fault) (tree_fault_status fault) status
+  pub left_is : left ≡ read_store {A = StoreFacts} (Err fault) store
+  pub tells : Tells out out_now (tree_fault_text fault) (tree_fault_status fault) status
 
--- a script was asked of the table in a store, and the store was put back with the pages that it had
+-- a script was asked of the table in a store, and what is left of the store was put back
 pub record AsksStore (Back : StoreFacts → Type 0) (script : List ℕ) (store : StoreFacts) (out out_now : OutFacts) (status : Status) : Type 0 where
   pub left : StoreFacts
   pub back : Back left
-  pub pages : left.pages ≡ store.pages
-  pub asked : IsRunOn store script out out_now status ⊎ IsUntold store out out_now status
+  pub asked : IsRunOn store script left out out_now status ⊎ IsUntold store left out out_now status
 
 -- the table file wasn't opened, and that was told; the files hold what they did
 pub record IsUnopened (table : List ℕ) (old new : FilesFacts) (out out_now : OutFacts) (status : Status) : Type 0 where
@@ -252,12 +270,13 @@ pub record IsAskedOf (table script : List ℕ) (old new : FilesFacts) (out out_n
   pub lent : IsLent old table store
   pub asks : AsksStore (λ left. Returns table old new left) script store out out_now status
 
--- the script of a file was read, and the table file asked; or it was told that this one wasn't opened
+-- the script of a file was read, and then the table file asked; or it was told that this one wasn't opened
 pub record IsRunOf (table script : List ℕ) (old new : FilesFacts) (out out_now : OutFacts) (status : Status) : Type 0 where
   pub asked : List ℕ
-  pub asked_is : IsText (old.holds script) asked
-  pub ran : IsAskedOf table asked old new out out_now status ⊎ IsUnopened table old new out out_now status
+  pub mid : FilesFacts
+  pub read : HasRead script asked old mid
+  pub ran : IsAskedOf table asked mid new out out_now status ⊎ IsUnopened table mid new out out_now status
 
 -- the script that the second path holds was run on the table file of the first one; or it was told what kept it from that
 abbrev pub RunsFile : List ℕ → List ℕ → FilesFacts → FilesFacts → OutFacts → OutFacts → Status → Type 0
-RunsFile table script old new out out_now status = IsRunOf table script old new out out_now status ⊎ IsUnread old new out out_now status
+RunsFile table script old new out out_now status = IsRunOf table script old new out out_now status ⊎ IsUnread script old new out out_now status

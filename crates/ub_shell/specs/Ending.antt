@@ -3,9 +3,7 @@ use Rattle.std.specs.Prelude.{◌≡◌, ◌≢◌, ◌⊎◌, ℕ, true, false,
 use Rattle.ub_load.specs.LoadedTable.{records_of}
 use Rattle.ub_load.specs.Refusals.{first_refusal}
 use Rattle.ub_load.specs.declared.fault.LoadFault.{LoadFault}
-use Rattle.ub_load.specs.declared.fault.LoadFault.TheVariants.{Csv, Tree}
-use Rattle.ub_store.specs.declared.fault.StoreFault.TheVariants.{BadSize}
-use Rattle.ub_tree.specs.declared.fault.TreeFault.TheVariants.{Store}
+use Rattle.ub_load.specs.declared.fault.LoadFault.TheVariants.{Csv}
 use Rattle.ub_script.specs.Output.{OutFacts, Breaks, IsFrontOf, Puts, Takes}
 use Rattle.ub_script.specs.Run.{IsBegun, IsBroken, IsDone}
 use Rattle.ub_script.specs.declared.script.Summary.{Summary}
@@ -21,11 +19,6 @@ use Rattle.ub_shell.specs.declared.status.Status.TheVariants.{Done, Refused, Com
 -- the bytes were written and the status is the one wanted; or a write failed, and a front of them was written
 abbrev pub Tells : OutFacts → OutFacts → List ℕ → Status → Status → Type 0
 Tells old new bytes wanted status = ((status ≡ wanted) × Puts bytes old new) ⊎ ((status ≡ Device) × Breaks bytes old new)
-
--- the same, or it was told that memory was refused
-abbrev pub TellsIfMemory : OutFacts → OutFacts → List ℕ → Status → Status → Type 0
-TellsIfMemory old new bytes wanted status =
-    Tells old new bytes wanted status ⊎ Tells old new (codes "! Memory\n") Memory status
 
 -- a front of bytes that are whole with some status
 abbrev pub IsCut : (List ℕ → Status → Type 0) → List ℕ → Type 0
@@ -66,11 +59,10 @@ pub record IsRunText (t : Trial) (bytes : List ℕ) (status : Status) : Type 0 w
   pub run : IsDone t.text t.dims t.page_rows t.name t.script summary bytes
   pub ended : status ≡ summary_status summary
 
--- the line of the first thing that is wrong with the CSV text, unless `csv` refused a record or there is no room for
--- another page
+-- the line of the first thing that is wrong with the CSV text, unless `csv` refused a record
 pub record IsRefusedLine (t : Trial) (bytes : List ℕ) : Type 0 where
   pub fault : LoadFault
-  pub first : fault ≢ Csv → fault ≢ Tree (Store BadSize) → first_refusal t.dims t.name (records_of t.text) ≡ Some fault
+  pub first : fault ≢ Csv → first_refusal t.dims t.name (records_of t.text) ≡ Some fault
   pub line : bytes ≡ load_fault_text fault
 
 -- nothing, or the texts of the first statements, and then the line that says that memory was refused

@@ -1,4 +1,4 @@
-ghost use Rattle.ub_shell.specs.Laws.{OnlyHelpIsWritten, WrongWordsAreTold};
+ghost use Rattle.ub_shell.specs.Laws.{AskingLeavesTheTable, OnlyHelpIsWritten, WrongWordsAreTold};
 
 // Each function here does nothing, and its clause is a law of the definitions in specs/.
 
@@ -10,4 +10,9 @@ pub fn only_help_is_written()
 /// Where the words ask for nothing, only that is told: no file is read and nothing is looked for.
 pub fn wrong_words_are_told()
     ensures { WrongWordsAreTold }
+{}
+
+/// A table file that a script was run on is as it was, page for page, whatever it is and however the run has ended.
+pub fn asking_leaves_the_table()
+    ensures { AskingLeavesTheTable }
 {}

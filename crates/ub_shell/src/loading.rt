@@ -1,11 +1,9 @@
 ghost use Rattle.std.specs.Prelude.{◌≡◌, ◌≤◌, ◌↔◌, ◌⊎◌, length, IsTrue, IfOk, IfErr};
-ghost use Rattle.std.specs.String.{string_bytes};
 ghost use Rattle.ub_shell.specs.Commands.{loaded_line, IsFileOf, IsTable, IsUnclosed, IsUnkept, IsUnloaded, KeepsText, LoadsFile, WritesFile};
-ghost use Rattle.ub_shell.specs.Ending.{TellsIfMemory};
-ghost use Rattle.ub_shell.specs.declared.status.Status.{Status};
 
-use crate::status::{Status, tell, tell_load_fault, tell_memory, tell_store_fault};
-use std::alloc::{AllocError, Global};
+use crate::line::{Line, twice_numbered_line};
+use crate::status::{Status, tell, tell_line, tell_load_fault, tell_store_fault};
+use std::alloc::Global;
 use ub_files::{Files, copy_pages};
 use ub_load::{LoadFault, load};
 use ub_script::Out;
@@ -27,10 +25,11 @@ struct Loaded {
     counts: Counts,
 }
 
-/// Reads a CSV file, loads the text's table into memory, makes the table file anew with its pages, and tells how many rows and
-/// regions it has. The table file is not touched before the table stands in memory: not where both paths are equal, nor where the
-/// CSV file can't be read or holds no table. After a fault of the table file it holds no table that can be opened, unless it is
-/// the old one, or the new one with its first page or its last sync failed.
+/// Reads a CSV file, once, loads the text's table into memory, makes the table file anew with its pages, and tells how many rows
+/// and regions it has. The table file is not touched before the table stands in memory: not where both paths are equal (also where
+/// both are `-`, though the first is standard input and the second a file), nor where the CSV file can't be read or holds no table.
+/// After a fault of the table file it holds no table that can be opened, unless it is the old one, or the new one with its first
+/// page or its last sync failed. Where the table file was made nothing is told but that, or nothing where the write fails.
 pub fn load_file<F: Files, W: Out>(
     alloc: Global,
     files: &mut F,
@@ -78,8 +77,8 @@ fn keep_text<F: Files, W: Out>(
         (W.facts out.old) (W.facts out.new) result }
 {
     match load_text(alloc, files, text, asked) {
-        Ok(counts) => tell_counts(alloc, counts, out),
-        Err(fault) => tell_load_fault(alloc, fault, out),
+        Ok(counts) => tell_line(&counts_line(counts), Status::Done, out),
+        Err(fault) => tell_load_fault(fault, out),
     }
 }
 
@@ -153,20 +152,9 @@ fn write_pages<F: Files>(files: &mut F, path: &str, pages: &mut MemStore) -> Res
     copied
 }
 
-// Writes the line for a table that was loaded.
-fn tell_counts<W: Out>(alloc: Global, counts: Counts, out: &mut W) -> Status
-    ensures { TellsIfMemory (W.facts out.old) (W.facts out.new)
-        (loaded_line counts.rows counts.regions) Status.Done result }
+// The line for a table that was loaded.
+fn counts_line(counts: Counts) -> Line
+    ensures { result.bytes ≡ loaded_line counts.rows counts.regions }
 {
-    match counts_line(alloc, counts) {
-        Ok(line) => tell(out, line.as_bytes(), Status::Done),
-        Err(_) => tell_memory(out),
-    }
-}
-
-fn counts_line(alloc: Global, counts: Counts) -> Result<String, AllocError>
-    ensures { IfOk result (λ line. string_bytes line ≡ loaded_line counts.rows counts.regions) }
-{
-    let Counts { rows, regions } = counts;
-    format!(in alloc; "-- rows {rows}, regions {regions}\n")
+    twice_numbered_line("-- rows ", counts.rows, ", regions ", counts.regions)
 }

@@ -1,5 +1,4 @@
 ghost use Rattle.ub_shell.specs.Commands.{AsksStore, HasRunTree, RunsFile, TellsClosed, TellsRan};
-ghost use Rattle.std.specs.Prelude.{◌≡◌, false};
 ghost use Rattle.ub_files.specs.Files.{PutsBack};
 ghost use Rattle.ub_store.specs.Facts.{StoreFacts};
 
@@ -13,8 +12,8 @@ use ub_script::{Out, RunFault, Summary, run};
 use ub_tree::{Tree, TreeFault};
 use ub_words::RunWords;
 
-/// Reads a script, opens the table file, runs the script on its table and closes it, also after a fault. The script's text is
-/// written as `run` writes it; a fault is told on a last line. A table file that was only asked is left as it was.
+/// Reads a script, once, opens the table file, runs the script on its table and closes it, also after a fault. The script's text
+/// is written as `run` writes it; a fault is told on a last line. A table file that was only asked is left as it was, page for page.
 pub fn run_file<F: Files, W: Out>(
     alloc: Global,
     files: &mut F,
@@ -51,7 +50,7 @@ fn run_store<F: Files, W: Out>(
         Ok(tree) => run_tree(alloc, files, path, tree, script, out),
         Err(refused) => {
             files.put_back(path, refused.store);
-            tell_tree_fault(alloc, refused.fault, out)
+            tell_tree_fault(refused.fault, out)
         }
     }
 }
@@ -65,21 +64,17 @@ fn run_tree<F: Files, W: Out>(
     script: &[u8],
     out: &mut W,
 ) -> Status
-    requires unchanged { tree.is_changed ≡ false }
-    requires working { tree.is_failed ≡ false }
-    ensures ran { HasRunTree tree script.now (W.facts out.old) (W.facts out.new) result }
-    ensures back { (left : StoreFacts)
+    ensures { (left : StoreFacts)
         × PutsBack path.now (F.facts files.old) (F.facts files.new) left
-        × (left.pages ≡ tree.store.pages) }
+        × HasRunTree tree script.now left (W.facts out.old) (W.facts out.new) result }
 {
     let ran = run(alloc, &mut tree, script, out);
     let closed = close_table(files, path, tree);
-    tell_ran(alloc, ran, closed, out)
+    tell_ran(ran, closed, out)
 }
 
 // Tells how a run has ended, and then the closing.
 fn tell_ran<W: Out>(
-    alloc: Global,
     ran: Result<Summary, RunFault>,
     closed: Result<(), TreeFault>,
     out: &mut W,
@@ -87,25 +82,20 @@ fn tell_ran<W: Out>(
     ensures { TellsRan ran closed (W.facts out.old) (W.facts out.new) result }
 {
     match ran {
-        Ok(summary) => tell_closed(alloc, summary, closed, out),
+        Ok(summary) => tell_closed(summary, closed, out),
         Err(RunFault::Memory) => tell_memory(out),
         Err(RunFault::Write) => Status::Device,
-        Err(RunFault::Load(fault)) => tell_load_fault(alloc, fault, out),
-        Err(RunFault::Tree(fault)) => tell_tree_fault(alloc, fault, out),
+        Err(RunFault::Load(fault)) => tell_load_fault(fault, out),
+        Err(RunFault::Tree(fault)) => tell_tree_fault(fault, out),
     }
 }
 
 // Tells how a closing has ended after a run to the end.
-fn tell_closed<W: Out>(
-    alloc: Global,
-    summary: Summary,
-    closed: Result<(), TreeFault>,
-    out: &mut W,
-) -> Status
+fn tell_closed<W: Out>(summary: Summary, closed: Result<(), TreeFault>, out: &mut W) -> Status
     ensures { TellsClosed summary closed (W.facts out.old) (W.facts out.new) result }
 {
     match closed {
         Ok(()) => summary_status(summary),
-        Err(fault) => tell_tree_fault(alloc, fault, out),
+        Err(fault) => tell_tree_fault(fault, out),
     }
 }

@@ -1,9 +1,8 @@
-ghost use Rattle.std.specs.Prelude.{◌≡◌, IfOk, MatchResult, codes};
-ghost use Rattle.std.specs.String.{string_bytes};
+ghost use Rattle.std.specs.Prelude.{◌≡◌, ◌≤◌, ◌++◌, length, codes};
+ghost use Rattle.ub_shell.specs.Ending.{Tells};
 ghost use Rattle.ub_shell.specs.Status.{status_code, summary_status, load_fault_status, load_fault_text, page_fault_word, store_fault_status, store_fault_text, tree_fault_status, tree_fault_text};
-ghost use Rattle.ub_shell.specs.Ending.{Tells, TellsIfMemory};
 
-use std::alloc::{AllocError, Global};
+use crate::line::{Line, line, numbered_line, twice_numbered_line};
 use ub_load::LoadFault;
 use ub_script::{Out, Summary, put_all};
 use ub_store::StoreFault;
@@ -88,68 +87,66 @@ pub fn load_fault_status(fault: LoadFault) -> Status
     }
 }
 
-// The word for what is wrong with a page.
-fn page_fault_word(fault: PageFault) -> &'static str
-    ensures { result.now ≡ page_fault_word fault }
+// The line for what is wrong with a page, up to its number.
+fn page_fault_front(fault: PageFault) -> &'static str
+    ensures front { result.now ≡ codes "! " ++ page_fault_word fault ++ codes " page " }
+    ensures short { length result.now ≤ 32 }
 {
     match fault {
-        PageFault::WrongKind => "WrongKind",
-        PageFault::Unclean => "Unclean",
-        PageFault::BadCount => "BadCount",
-        PageFault::BadName => "BadName",
-        PageFault::BadRow => "BadRow",
-        PageFault::BadOrder => "BadOrder",
-        PageFault::OutOfRegion => "OutOfRegion",
-        PageFault::BadPadding => "BadPadding",
+        PageFault::WrongKind => "! WrongKind page ",
+        PageFault::Unclean => "! Unclean page ",
+        PageFault::BadCount => "! BadCount page ",
+        PageFault::BadName => "! BadName page ",
+        PageFault::BadRow => "! BadRow page ",
+        PageFault::BadOrder => "! BadOrder page ",
+        PageFault::OutOfRegion => "! OutOfRegion page ",
+        PageFault::BadPadding => "! BadPadding page ",
     }
 }
 
 // The line for what a store refused.
-fn store_fault_line(fault: StoreFault) -> &'static str
-    ensures { result.now ≡ store_fault_text fault }
+fn store_fault_line(fault: StoreFault) -> Line
+    ensures { result.bytes ≡ store_fault_text fault }
 {
     match fault {
-        StoreFault::NoPage => "! NoPage\n",
-        StoreFault::BadSize => "! BadSize\n",
-        StoreFault::Device => "! Device\n",
-        StoreFault::Memory => "! Memory\n",
+        StoreFault::NoPage => line("! NoPage\n"),
+        StoreFault::BadSize => line("! BadSize\n"),
+        StoreFault::Device => line("! Device\n"),
+        StoreFault::Memory => line("! Memory\n"),
     }
 }
 
-/// The line for what a tree refused.
-pub fn tree_fault_line(alloc: Global, fault: TreeFault) -> Result<String, AllocError>
-    ensures { IfOk result (λ line. string_bytes line ≡ tree_fault_text fault) }
+// The line for what a tree refused.
+fn tree_fault_line(fault: TreeFault) -> Line
+    ensures { result.bytes ≡ tree_fault_text fault }
 {
     match fault {
-        TreeFault::Page { page, fault } => {
-            let word = page_fault_word(fault);
-            format!(in alloc; "! {word} page {page}\n")
-        }
-        TreeFault::Full => String::from_str(alloc, "! Full\n"),
-        TreeFault::Store(fault) => String::from_str(alloc, store_fault_line(fault)),
-        TreeFault::Failed => String::from_str(alloc, "! Device\n"),
-        TreeFault::Memory => String::from_str(alloc, "! Memory\n"),
+        TreeFault::Page { page, fault } => numbered_line(page_fault_front(fault), page),
+        TreeFault::Full => line("! Full\n"),
+        TreeFault::Store(fault) => store_fault_line(fault),
+        TreeFault::Failed => line("! Device\n"),
+        TreeFault::Memory => line("! Memory\n"),
     }
 }
 
-/// The line for a table that was refused.
-pub fn load_fault_line(alloc: Global, fault: LoadFault) -> Result<String, AllocError>
-    ensures { IfOk result (λ line. string_bytes line ≡ load_fault_text fault) }
+// The line for a table that was refused.
+fn load_fault_line(fault: LoadFault) -> Line
+    ensures { result.bytes ≡ load_fault_text fault }
 {
     match fault {
-        LoadFault::BadName(0) => String::from_str(alloc, "! BadName table\n"),
-        LoadFault::BadName(column) => format!(in alloc; "! BadName column {column}\n"),
+        LoadFault::BadName(0) => line("! BadName table\n"),
+        LoadFault::BadName(column) => numbered_line("! BadName column ", column),
         LoadFault::BadNumber { row, column } => {
-            format!(in alloc; "! BadNumber row {row} column {column}\n")
+            twice_numbered_line("! BadNumber row ", row, " column ", column)
         }
         LoadFault::OutOfRange { row, column } => {
-            format!(in alloc; "! OutOfRange row {row} column {column}\n")
+            twice_numbered_line("! OutOfRange row ", row, " column ", column)
         }
-        LoadFault::NoHeader => String::from_str(alloc, "! NoHeader\n"),
-        LoadFault::ColumnCount => String::from_str(alloc, "! ColumnCount\n"),
-        LoadFault::Csv => String::from_str(alloc, "! Csv\n"),
-        LoadFault::Tree(fault) => tree_fault_line(alloc, fault),
-        LoadFault::Memory => String::from_str(alloc, "! Memory\n"),
+        LoadFault::NoHeader => line("! NoHeader\n"),
+        LoadFault::ColumnCount => line("! ColumnCount\n"),
+        LoadFault::Csv => line("! Csv\n"),
+        LoadFault::Tree(fault) => tree_fault_line(fault),
+        LoadFault::Memory => line("! Memory\n"),
     }
 }
 
@@ -170,42 +167,33 @@ pub fn tell_memory<W: Out>(out: &mut W) -> Status
     tell(out, b"! Memory\n", Status::Memory)
 }
 
+/// Writes a line, and ends with the status, or with `Device` where the write fails.
+pub fn tell_line<W: Out>(line: &Line, status: Status, out: &mut W) -> Status
+    ensures { Tells (W.facts out.old) (W.facts out.new) line.now.bytes status result }
+{
+    tell(out, line.as_str().as_bytes(), status)
+}
+
 /// Writes the line for what a store refused.
 pub fn tell_store_fault<W: Out>(fault: StoreFault, out: &mut W) -> Status
     ensures { Tells (W.facts out.old) (W.facts out.new)
         (store_fault_text fault) (store_fault_status fault) result }
 {
-    tell(
-        out,
-        store_fault_line(fault).as_bytes(),
-        store_fault_status(fault),
-    )
-}
-
-/// Writes a line and ends with the status, or tells that the memory for the line was refused.
-pub fn tell_line<W: Out>(line: Result<String, AllocError>, status: Status, out: &mut W) -> Status
-    ensures { MatchResult line
-        (λ text. Tells (W.facts out.old) (W.facts out.new) (string_bytes text) status result)
-        (λ _. Tells (W.facts out.old) (W.facts out.new) (codes "! Memory\n") Status.Memory result) }
-{
-    match line {
-        Ok(line) => tell(out, line.as_bytes(), status),
-        Err(_) => tell_memory(out),
-    }
+    tell_line(&store_fault_line(fault), store_fault_status(fault), out)
 }
 
 /// Writes the line for a table that was refused.
-pub fn tell_load_fault<W: Out>(alloc: Global, fault: LoadFault, out: &mut W) -> Status
-    ensures { TellsIfMemory (W.facts out.old) (W.facts out.new)
+pub fn tell_load_fault<W: Out>(fault: LoadFault, out: &mut W) -> Status
+    ensures { Tells (W.facts out.old) (W.facts out.new)
         (load_fault_text fault) (load_fault_status fault) result }
 {
-    tell_line(load_fault_line(alloc, fault), load_fault_status(fault), out)
+    tell_line(&load_fault_line(fault), load_fault_status(fault), out)
 }
 
 /// Writes the line for what a tree refused.
-pub fn tell_tree_fault<W: Out>(alloc: Global, fault: TreeFault, out: &mut W) -> Status
-    ensures { TellsIfMemory (W.facts out.old) (W.facts out.new)
+pub fn tell_tree_fault<W: Out>(fault: TreeFault, out: &mut W) -> Status
+    ensures { Tells (W.facts out.old) (W.facts out.new)
         (tree_fault_text fault) (tree_fault_status fault) result }
 {
-    tell_line(tree_fault_line(alloc, fault), tree_fault_status(fault), out)
+    tell_line(&tree_fault_line(fault), tree_fault_status(fault), out)
 }

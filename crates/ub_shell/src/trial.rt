@@ -10,8 +10,8 @@ use ub_files::Files;
 use ub_script::{Out, RunFault, try_text};
 use ub_words::TryWords;
 
-/// Reads a CSV file and then a script, and runs the script on the table of the text, as `tell_try` does. A file that can't be
-/// read is told, and nothing else is done.
+/// Reads a CSV file and then a script, each once, and runs the script on the table of the text, as `tell_try` does. A file that
+/// can't be read is told, and nothing else is done.
 pub fn try_files<F: Files, W: Out>(
     alloc: Global,
     files: &mut F,
@@ -68,7 +68,7 @@ pub fn tell_try<W: Out>(
         Ok(summary) => summary_status(summary),
         Err(RunFault::Memory) => tell_memory(out),
         Err(RunFault::Write) => Status::Device,
-        Err(RunFault::Load(fault)) => tell_load_fault(alloc, fault, out),
-        Err(RunFault::Tree(fault)) => tell_tree_fault(alloc, fault, out),
+        Err(RunFault::Load(fault)) => tell_load_fault(fault, out),
+        Err(RunFault::Tree(fault)) => tell_tree_fault(fault, out),
     }
 }

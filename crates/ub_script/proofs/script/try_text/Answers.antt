@@ -1,8 +1,9 @@
-use Rattle.std.proofs.Common.{refl}
+use Rattle.std.proofs.Common.{ap, refl}
 use Rattle.std.proofs.lemmas.Result.{err_from_is_err_and}
 use Rattle.ub_load.specs.LoadedTable.{records_of}
 use Rattle.ub_load.specs.Refusals.{first_refusal}
 use Rattle.ub_script.proofs.LoadedFacts.{first_wrong, tree_wrong}
+use Rattle.ub_store.specs.Facts.{StoreFacts}
 use Rattle.ub_tree.proofs.Laws.{sound_fault}
 use Rattle.ub_script.proofs.RowsFacts.{loaded_broken, loaded_done, loaded_is, loaded_stopped, loaded_table}
 use Rattle.ub_script.proofs.RunFacts.{if_ok}
@@ -29,7 +30,7 @@ returns-clause-tree g c fault is =
     let why = rw is at c.run.ensures.effect.faults in
     let device = sound_fault _ fault loaded.sound why.0 why.1 in
     let fails = rw device at why.0 in
-    let never = c.in_ok-tree.ensures.working.can_fail in
+    let never = ap (λ (facts : StoreFacts). facts.can_fail) c.in_ok-tree.ensures.working.store_is in
     cc
 
 pub returns-in_err-tree-clause-load : goal.returns-in_err-tree-clause-load

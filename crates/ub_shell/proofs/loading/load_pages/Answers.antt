@@ -1,4 +1,6 @@
-use Rattle.std.proofs.Common.{refl}
+use Rattle.std.proofs.Common.{◌∙◌, ap, inr, refl}
+use Rattle.ub_load.specs.Refusals.{fault_of_tree}
+use Rattle.ub_shell.proofs.FileFacts.{unclosed_fault}
 use Rattle.ub_shell.proofs.loading.load_pages.Goals as goal
 
 pub returns-in-Ok-clause-loaded : goal.returns-in-Ok-clause-loaded
@@ -11,3 +13,13 @@ returns-in-Ok-clause-loaded c =
       rows_are = c.rows.ensures;
       regions_are = c.regions.ensures.count;
     }
+
+pub returns-in-Err-clause-refused : goal.returns-in-Err-clause-refused
+returns-in-Err-clause-refused c =
+    let loaded = rw c.as_bytes.ensures.value at (c.in_ok-tree.ensures.loaded refl) in
+    let refused = unclosed_fault c.new.result c.in_ok-tree.tree loaded c.in_ok-tree.ensures.working c.in-Err.refused.fault c.in-Err.ensures.refused in
+    inr (record {
+      tree = c.in_ok-tree.tree;
+      loaded = loaded;
+      refused = c.from.ensures ∙ ap fault_of_tree refused;
+    })

@@ -1,19 +1,19 @@
-use Rattle.std.proofs.Common.{◌∙◌, ap, inl, inr}
-use Rattle.ub_store.specs.Facts.{StoreFacts}
+use Rattle.std.proofs.Common.{inl, inr}
+use Rattle.ub_shell.proofs.FileFacts.{store_left}
 use Rattle.ub_shell.proofs.running.run_store.Goals as goal
 
 pub returns-in-Ok : goal.returns-in-Ok
 returns-in-Ok g c =
-    let back = c.run_tree.ensures.back in
+    let ran = c.run_tree.ensures in
     let opened = c.in-Ok.ensures.opened in
     record {
-      left = back.0;
-      back = back.1;
-      pages = back.2 ∙ ap (λ (s : StoreFacts). s.pages) opened.store_is;
+      left = ran.0;
+      back = ran.1;
       asked = inl (record {
         tree = c.in-Ok.tree;
         tree_is = record { opened = opened; sound = c.in-Ok.ensures.sound };
-        ran = c.run_tree.ensures.ran;
+        ran = ran.2;
+        left_is = store_left (g.F.Store.PageStore.facts c.args.store) c.in-Ok.tree opened ran.2;
       });
     }
 
@@ -21,11 +21,11 @@ pub returns-in-Err : goal.returns-in-Err
 returns-in-Err g c = record {
   left = g.F.Store.PageStore.facts c.in-Err.refused.store;
   back = c.put_back.ensures;
-  pages = ap (λ (s : StoreFacts). s.pages) c.in-Err.ensures.kept;
   asked = inr (record {
     fault = c.in-Err.refused.fault;
     is = c.in-Err.ensures.refused;
     passing = c.in-Err.ensures.sound;
+    left_is = c.in-Err.ensures.kept;
     tells = c.tell_tree_fault.ensures;
   });
 }

@@ -1,5 +1,0 @@
-use Rattle.ub_shell.proofs.LineFacts.{line_told}
-use Rattle.ub_shell.proofs.status.tell_tree_fault.Goals as goal
-
-pub returns : goal.returns
-returns g c = line_told _ _ c.tree_fault_line.result _ _ _ c.tree_fault_line.ensures (rw c.tree_fault_status.ensures at c.tell_line.ensures)
