@@ -78,7 +78,7 @@ SECTIONS = [
     (
         "Commands",
         "What the words of a command line ask for; what files hold; what is written of each fault; how a command ends.",
-        "ub_words ub_shell",
+        "ub_words ub_files ub_next ub_shell",
     ),
 ]
 
@@ -105,10 +105,10 @@ words of other libraries at the end; those of Rattle's std (lists, numbers, `cod
 
 All that the program does but for what touches the process: `crates/ubq/src/main.rt` hands it the
 words, the files and standard output, and ends with its status. `F` is any source of files that
-keeps the contract of the trait `Files` (`crates/ub_shell/src/files.rt`) and lends stores that keep
+keeps the contract of the trait `Files` (`crates/ub_files/src/files.rt`) and lends stores that keep
 that of `PageStore` (`crates/ub_store/src/store.rt`); `F.facts` is what contracts see of it. `W` is
 any writer of std, and `W.contents` the bytes in it, where that is told. For the system's files
-`main` hands in `HostFiles`, and `host_facts` in `crates/ub_shell/specs/Host.antt` says what is seen
+`main` hands in `HostFiles`, and `host_facts` in `crates/ub_files/specs/Host.antt` says what is seen
 of those: not what a path holds, and that they give back what was written to them is a premise.
 
 ```

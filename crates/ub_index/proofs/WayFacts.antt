@@ -3,7 +3,7 @@ use Rattle.std.proofs.Common.{◌≡◌, ◌≤◌, ◌<◌, ◌-◌, ◌^◌, �
 use Rattle.std.proofs.lemmas.Bool.{cases_Bool}
 use Rattle.std.proofs.lemmas.Grind.{flat_map-append}
 use Rattle.std.proofs.lemmas.Option.{slice_get_within}
-use Rattle.ub_index_page.proofs.IndexLaws.{node_not_refused}
+use Rattle.ub_index_page.proofs.Laws.{node_not_refused}
 use Rattle.ub_index_page.specs.Index.{IsIndexFault, node_on}
 use Rattle.std.specs.List.{flat_map}
 use Rattle.ub_directory.specs.Spans.{first_keys, IsSeat}
