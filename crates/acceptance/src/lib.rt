@@ -1,5 +1,6 @@
 // Tests across crates that no transcript can show (those that one can stand in the crate `transcripts`): the words of faults as they
-// are displayed, loads into stores that fail and trees over them, the help of each command, and the nearest addresses of many boxes.
+// are displayed, loads into stores that fail and trees over them, outputs that fail, the help of each command, and the nearest
+// addresses of many boxes.
 #![tactic(auto)]
 
 #[cfg(test)]
@@ -10,5 +11,7 @@ mod failing;
 mod faults;
 #[cfg(test)]
 mod loads;
+#[cfg(test)]
+mod outputs;
 #[cfg(test)]
 mod words;
