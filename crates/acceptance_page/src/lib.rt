@@ -10,6 +10,8 @@ mod calls;
 #[cfg(test)]
 mod file;
 #[cfg(test)]
+mod index;
+#[cfg(test)]
 mod page;
 #[cfg(test)]
 mod page_masks;
