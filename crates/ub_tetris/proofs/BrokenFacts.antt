@@ -40,7 +40,7 @@ placed_of t span there = among (last_address t.schema.dims) t.placed span there
       | inr later ↦ let (q, here, page, first) = among last placed span later in (q, contains_later p placed q here, page, first)
     ]
 
-all_right : {E : Type 0} (P : E → Type 0) (xs ys : List E) → All P (xs ++ ys) → All P ys
+pub all_right : {E : Type 0} (P : E → Type 0) (xs ys : List E) → All P (xs ++ ys) → All P ys
 all_right P xs ys all = all_of P ys (λ x there. All-contains P (xs ++ ys) x all (Contains-append_right xs ys x there))
 
 first_of : {E : Type 0} (xs ys : List E) (x : E) → xs ≡ x ∷ ys → Contains xs x
