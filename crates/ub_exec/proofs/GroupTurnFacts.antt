@@ -8,12 +8,12 @@ use Rattle.ub_exec.proofs.FirstFacts.{swept_first}
 use Rattle.ub_exec.proofs.GivenFacts.{all_selected, at}
 use Rattle.ub_exec.proofs.GroupSweptFacts.{HasGrouped, HasGrouped-none, HasGrouped-more, HasReached, IsNextValue, is_short, lines_full, value_behind}
 use Rattle.ub_exec.proofs.GroupVisitFacts.{AreUpTo, ended_meant, ended_visits, filled_meant, filled_visits, front_visits, group_lines}
-use Rattle.ub_exec.proofs.LedFacts.{IsLedBy, no_sweep, none_before_first}
+use Rattle.ub_exec.proofs.LedFacts.{IsLedBy, led_by, no_sweep, none_before_first}
 use Rattle.ub_exec.proofs.MeantFacts.{empty_where}
 use Rattle.ub_exec.proofs.NotedFacts.{all_joined}
 use Rattle.ub_exec.proofs.ReachedFacts.{not_along_chain}
-use Rattle.ub_exec.proofs.SweptFacts.{visits_fetched}
-use Rattle.ub_exec.specs.Answers.{IsAnswer, begun}
+use Rattle.ub_exec.proofs.SweptFacts.{swept_kind, visits_fetched}
+use Rattle.ub_exec.specs.Answers.{IsAnswer, IsReady, IsSwept, begun}
 use Rattle.ub_exec.specs.Sweeping.{IsFilled}
 use Rattle.ub_exec.specs.Visits.{HasFetched, HasFetchedFirst, fetches_then}
 use Rattle.ub_planning.proofs.Laws.{regions_have_a_table}
@@ -22,7 +22,7 @@ use Rattle.ub_planning.specs.Visits.{AreArranged, AreEvents, AreGroupVisits, Are
 use Rattle.ub_planning.specs.Visits as spec
 use Rattle.ub_planning.specs.declared.planned.Kind.{Kind}
 use Rattle.ub_planning.specs.declared.planned.Kind.TheVariants.{Sweep}
-use Rattle.ub_query.proofs.Laws.{all_at, all_from_contains, all_weaker, contains_from_filter, contains_here}
+use Rattle.ub_query.proofs.Laws.{all_at, all_from_contains, all_weaker, contains_from_filter, contains_here, groups_follow_the_lead}
 use Rattle.ub_query.specs.Groups.{AreGroups, is_selected}
 use Rattle.ub_query.specs.Laws.{GroupsFollowTheLead}
 use Rattle.ub_query.specs.Lead.{AreGroupsInOrder}
@@ -37,7 +37,7 @@ use Rattle.ub_table.specs.Table.{IsInOrder}
 use Rattle.ub_table.specs.declared.row.Row.{Row}
 use Rattle.ub_table.specs.declared.schema.Schema.{Schema}
 use Rattle.ub_tetris.specs.Machine.{IsRowAlong}
-use Rattle.ub_tetris.specs.Sweep.{SweepView, IsSweeping, HasBegun, HasBroken, HasEnded, HasGivenValue}
+use Rattle.ub_tetris.specs.Sweep.{SweepView, IsSweeping, HasBegun, HasBroken, HasEnded, HasGivenValue, HasSteppedValue}
 use Rattle.ub_tree.proofs.Laws.{Keeps}
 use Rattle.ub_tree.specs.Placed.{Placed, regions_in}
 use Rattle.ub_tree.specs.View.{TreeView, IsSound, regions}
@@ -164,7 +164,7 @@ module _ (plan : PlanView) (start : TreeView) (dim : ℕ) (is_descending : Bool)
   events : AreEvents start.schema plan.covering.boxes dim is_descending (regions start) (swept.fetched ++ swept.unread)
   events = events_at plan start t dim is_descending s swept.given swept.rest swept.fetched swept.unread kept kind swept.sweeping
 
-  pub HasSweptGroups-more : (new : TreeView) (new_s : SweepView) (rows : List Row) → Keeps start new → IfSome plan.asked.limit (λ n. length cells < n)
+  HasSweptGroups-more : (new : TreeView) (new_s : SweepView) (rows : List Row) → Keeps start new → IfSome plan.asked.limit (λ n. length cells < n)
       → HasGivenValue plan new new_s swept.given swept.rest swept.fetched swept.unread rows → (last : List Group) → AreGroupsInOrder start.schema plan.asked rows last
       → (more all : List (List Cell)) → more ≡ group_lines start.schema plan.asked (limited plan.asked.limit last) → all ≡ limited plan.asked.limit (cells ++ more)
       → HasSweptGroups plan start new dim is_descending new_s all
@@ -194,7 +194,7 @@ module _ (plan : PlanView) (start : TreeView) (dim : ℕ) (is_descending : Bool)
       omega (arith, below, last)))
 
   -- what the query means on these rows alone was put in
-  pub HasSweptGroups-next : (new : TreeView) (new_s : SweepView) (rows : List Row) → Keeps start new → IfSome plan.asked.limit (λ n. length cells < n)
+  HasSweptGroups-next : (new : TreeView) (new_s : SweepView) (rows : List Row) → Keeps start new → IfSome plan.asked.limit (λ n. length cells < n)
       → HasGivenValue plan new new_s swept.given swept.rest swept.fetched swept.unread rows → (now : Schema) (asked : Asked) (slice : List Row) → now ≡ new.schema → asked ≡ plan.asked → slice ≡ rows → (more all : List (List Cell))
       → (IsInOrder slice → All (λ row. row.number ≤ 16777215) slice → IsMeaning (record { schema = now; rows = slice }) (record asked { filter = None }) more)
       → all ≡ limited asked.limit (cells ++ more) → HasSweptGroups plan start new dim is_descending new_s all
@@ -210,7 +210,7 @@ module _ (plan : PlanView) (start : TreeView) (dim : ℕ) (is_descending : Bool)
   some_asked zero limit = (no_sweep plan.kind dim is_descending kind (empty_where start.schema plan planned limit))
   some_asked (suc n) limit = omega arith
 
-  pub groups_filled : IsFilled plan.asked.limit (length cells) → t.trace.fetches ≡ fetches_then start.trace.fetches (length t.trace.pages) → HasFetched plan (begun start) t × IsAnswer start plan.asked cells
+  groups_filled : IsFilled plan.asked.limit (length cells) → t.trace.fetches ≡ fetches_then start.trace.fetches (length t.trace.pages) → HasFetched plan (begun start) t × IsAnswer start plan.asked cells
   groups_filled full fetches = by_limit plan.asked.limit refl full
     where
       by_limit : (limit : Option ℕ) → plan.asked.limit ≡ limit → IsFilled limit (length cells) → HasFetched plan (begun start) t × IsAnswer start plan.asked cells
@@ -233,7 +233,7 @@ module _ (plan : PlanView) (start : TreeView) (dim : ℕ) (is_descending : Bool)
     few = is_short start.schema plan dim is_descending (regions start) swept.given swept.rest swept.fetched swept.unread cells swept.grouped led short
 
     -- no row is left
-    pub groups_ended : (new : TreeView) (new_s : SweepView) → Keeps start new → new.trace.fetches ≡ fetches_then start.trace.fetches (length new.trace.pages)
+    groups_ended : (new : TreeView) (new_s : SweepView) → Keeps start new → new.trace.fetches ≡ fetches_then start.trace.fetches (length new.trace.pages)
         → HasEnded plan new new_s swept.given swept.rest swept.fetched swept.unread → HasFetched plan (begun start) new × IsAnswer start plan.asked cells
     groups_ended new new_s kept_then fetches ends =
         let (table, are) = regions_have_a_table start.schema start.next (regions start) sound.regions_are in
@@ -256,7 +256,7 @@ module _ (plan : PlanView) (start : TreeView) (dim : ℕ) (is_descending : Bool)
         (later, group_visits plan dim is_descending start.schema (regions start) (map (λ event. event.span) (front ++ later)) kind led.some visits)
 
     -- it is broken off after the rows of a value were given
-    pub groups_after : (new : TreeView) (new_s : SweepView) (rows : List Row) → Keeps start new → new.trace.fetches ≡ fetches_then start.trace.fetches (length new.trace.pages)
+    groups_after : (new : TreeView) (new_s : SweepView) (rows : List Row) → Keeps start new → new.trace.fetches ≡ fetches_then start.trace.fetches (length new.trace.pages)
         → HasGivenValue plan new new_s swept.given swept.rest swept.fetched swept.unread rows → (count : ℕ) × HasFetchedFirst plan (begun start) new count
     groups_after new new_s rows kept_then fetches gives =
         let front = swept.fetched ++ gives.read in
@@ -292,7 +292,7 @@ module _ (plan : PlanView) (start : TreeView) (dim : ℕ) (is_descending : Bool)
           (all_at (λ row. AreUpTo is_descending swept.fetched (at dim row)) swept.rest row swept.grouped.behind there)
           (all_at (λ row. AreUpTo is_descending broken.read (at dim row)) swept.rest row (read_behind swept.rest refl) there))
 
-      pub groups_before : new.placed ≡ t.placed → new.trace.fetches ≡ fetches_then start.trace.fetches (length new.trace.pages) → (count : ℕ) × HasFetchedFirst plan (begun start) new count
+      groups_before : new.placed ≡ t.placed → new.trace.fetches ≡ fetches_then start.trace.fetches (length new.trace.pages) → (count : ℕ) × HasFetchedFirst plan (begun start) new count
       groups_before placed fetches =
           let front = swept.fetched ++ broken.read in
           let whole : swept.fetched ++ swept.unread ≡ front ++ broken.left =
@@ -300,6 +300,64 @@ module _ (plan : PlanView) (start : TreeView) (dim : ℕ) (is_descending : Bool)
           let (later, visits) = first_visits front broken.left
           (subst (λ (those : List Event). AreEvents start.schema plan.covering.boxes dim is_descending (regions start) those) whole events) all_behind in
           swept_first plan start new front later (placed ∙ kept.regions.placed) broken.noted fetches visits
+
+-- ---- the loop
+
+-- over a sound tree it has swept so many groups
+abbrev pub HaveSwept : PlanView → TreeView → TreeView → SweepView → List (List Cell) → Type 0
+HaveSwept plan start t s cells =
+    IsReady start plan → (dim : ℕ) (is_descending : Bool) → plan.kind ≡ Sweep dim is_descending → plan.asked.group ≢ [] → HasSweptGroups plan start t dim is_descending s cells
+
+-- what asking for the next value says of such a tree
+abbrev pub Steps : PlanView → TreeView → SweepView → TreeView → SweepView → Option (List Row) → Type 0
+Steps plan t s new new_s found =
+    (given rest : List Row) (fetched unread : List Event) → IsSweeping plan t s given rest fetched unread → plan.asked.group ≢ [] → HasSteppedValue plan new new_s given rest fetched unread found
+
+module _ (plan : PlanView) (start t : TreeView) (columns : ℕ) (posed : IsPosed columns plan.asked) (s : SweepView) (cells : List (List Cell)) (kept : Keeps start t) (come : HaveSwept plan start t s cells) where
+  -- the rows of one more value were given, and their groups put in
+  pub HaveSwept-more : (new : TreeView) (new_s : SweepView) (rows : List Row) → Keeps start new → IfSome plan.asked.limit (λ n. length cells < n) → Steps plan t s new new_s (Some rows)
+      → (now : Schema) (asked : Asked) (slice : List Row) → now ≡ new.schema → asked ≡ plan.asked → slice ≡ rows → (more all : List (List Cell))
+      → (IsInOrder slice → All (λ row. row.number ≤ 16777215) slice → IsMeaning (record { schema = now; rows = slice }) (record asked { filter = None }) more)
+      → all ≡ limited asked.limit (cells ++ more) → HaveSwept plan start new new_s all
+  HaveSwept-more new new_s rows kept_then short steps now asked slice same_schema same_query same_rows more all means is ready dim is_descending way some =
+      let swept = come ready dim is_descending way some in
+      HasSweptGroups-next plan start dim is_descending ready.sound ready.planned way (led_by start.schema plan columns dim is_descending posed ready.planned way some) groups_follow_the_lead
+      t s cells kept swept new new_s rows kept_then short (steps swept.given swept.rest swept.fetched swept.unread swept.sweeping some) now asked slice same_schema same_query same_rows more all means is
+
+  module _ (ready : IsReady start plan) (kind : IsSwept plan.kind) (some : plan.asked.group ≢ []) where
+    -- the limit is filled
+    pub filled_groups : IsFilled plan.asked.limit (length cells) → t.trace.fetches ≡ fetches_then start.trace.fetches (length t.trace.pages)
+        → HasFetched plan (begun start) t × IsAnswer start plan.asked cells
+    filled_groups full fetches =
+        let (dim, is_descending, way) = swept_kind plan.kind kind in
+        groups_filled plan start dim is_descending ready.sound ready.planned way (led_by start.schema plan columns dim is_descending posed ready.planned way some) groups_follow_the_lead
+        t s cells kept (come ready dim is_descending way some) full fetches
+
+    module _ (short : IfSome plan.asked.limit (λ n. length cells < n)) (new : TreeView) (new_s : SweepView) (fetches : new.trace.fetches ≡ fetches_then start.trace.fetches (length new.trace.pages)) where
+      -- no row is left
+      pub ended_groups : Keeps start new → Steps plan t s new new_s None → HasFetched plan (begun start) new × IsAnswer start plan.asked cells
+      ended_groups kept_then steps =
+          let (dim, is_descending, way) = swept_kind plan.kind kind in
+          let swept = come ready dim is_descending way some in
+          groups_ended plan start dim is_descending ready.sound ready.planned way (led_by start.schema plan columns dim is_descending posed ready.planned way some) groups_follow_the_lead
+          t s cells kept swept short new new_s kept_then fetches (steps swept.given swept.rest swept.fetched swept.unread swept.sweeping some)
+
+      -- it is broken off after the rows of a value were given
+      pub broken_after_rows : (rows : List Row) → Keeps start new → Steps plan t s new new_s (Some rows) → (count : ℕ) × HasFetchedFirst plan (begun start) new count
+      broken_after_rows rows kept_then steps =
+          let (dim, is_descending, way) = swept_kind plan.kind kind in
+          let swept = come ready dim is_descending way some in
+          groups_after plan start dim is_descending ready.sound ready.planned way (led_by start.schema plan columns dim is_descending posed ready.planned way some) groups_follow_the_lead
+          t s cells kept swept short new new_s rows kept_then fetches (steps swept.given swept.rest swept.fetched swept.unread swept.sweeping some)
+
+      -- or before
+      pub broken_before_rows : new.placed ≡ t.placed → ((given rest : List Row) (fetched unread : List Event) → IsSweeping plan t s given rest fetched unread → HasBroken new s rest fetched unread)
+          → (count : ℕ) × HasFetchedFirst plan (begun start) new count
+      broken_before_rows placed breaks =
+          let (dim, is_descending, way) = swept_kind plan.kind kind in
+          let swept = come ready dim is_descending way some in
+          groups_before plan start dim is_descending ready.sound ready.planned way (led_by start.schema plan columns dim is_descending posed ready.planned way some) groups_follow_the_lead
+          t s cells kept swept short new (breaks swept.given swept.rest swept.fetched swept.unread swept.sweeping) placed fetches
 
 -- ---- the shape of what stands in the answer
 

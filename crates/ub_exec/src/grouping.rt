@@ -95,8 +95,8 @@ fn next_value<S: PageStore>(
     requires works { IsAtWork tree.old sweep.old }
     ensures next { (given rest : List RowView) (fetched unread : List Event)
         → IsSweeping plan.now tree.old sweep.old given rest fetched unread
-        → plan.now.asked.group ≢ []
-        → IfOk result (λ found. HasSteppedValue plan.now tree.new sweep.new given rest fetched unread
+        → plan.now.asked.group ≢ [] → IfOk result
+        (λ found. HasSteppedValue plan.now tree.new sweep.new given rest fetched unread
         (option_map (λ rows. rows.items) found)) }
     ensures broken { (given rest : List RowView) (fetched unread : List Event)
         → IsSweeping plan.now tree.old sweep.old given rest fetched unread

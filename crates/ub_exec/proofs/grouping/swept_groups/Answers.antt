@@ -2,11 +2,9 @@ use Rattle.std.proofs.Common.{◌≡◌, List, Ok, Err, length, ap, subst, sym}
 use Rattle.ub_exec.proofs.BreakFacts.{ready_begun}
 use Rattle.ub_exec.proofs.ComeFacts.{HasComeOn-none, HasComeOn-more, swept_all}
 use Rattle.ub_exec.proofs.FirstFacts.{none_fetched, on_err}
-use Rattle.ub_exec.proofs.GroupTurnFacts.{HasSweptGroups, HasSweptGroups-none, HasSweptGroups-next, groups_after, groups_before, groups_ended, groups_filled, one_width, shaped_joined}
-use Rattle.ub_exec.proofs.LedFacts.{led_by}
+use Rattle.ub_exec.proofs.GroupTurnFacts.{HasSweptGroups, HasSweptGroups-none, HaveSwept-more, broken_after_rows, broken_before_rows, ended_groups, filled_groups, one_width, shaped_joined}
 use Rattle.ub_exec.proofs.NotedFacts.{notes_err, notes_none, notes_ok, notes_then, traced_begun}
-use Rattle.ub_exec.proofs.SweptFacts.{begun_fetches, filled_is, left_is, noted_more, shaped_none, swept_kind, unfilled}
-use Rattle.ub_query.proofs.Laws.{groups_follow_the_lead}
+use Rattle.ub_exec.proofs.SweptFacts.{begun_fetches, filled_is, left_is, noted_more, shaped_none, unfilled}
 use Rattle.ub_query.specs.Shape.{asked}
 use Rattle.ub_query.specs.declared.cell.Cell.{Cell}
 use Rattle.ub_tree.proofs.Laws.{Keeps-by, Keeps-more, begun_traced, reads_by, unchanged_trace}
@@ -40,8 +38,7 @@ loop-query-preserved g c =
     let query = asked c.query-query.result.now in
     let plan = c.args.plan.now in
     let same : query ≡ plan.asked = c.query-query.ensures in
-    let after = Keeps-by t new c.in_ok-rows.ensures.effect.same in
-    let kept = Keeps-more _ _ _ inv.kept after in
+    let kept = Keeps-more _ _ _ inv.kept (Keeps-by t new c.in_ok-rows.ensures.effect.same) in
     let traced = traced_begun start t inv.kept.traced in
     record {
       kept = kept;
@@ -50,15 +47,9 @@ loop-query-preserved g c =
       notes = notes_then {A = Unit {0}} tt (Ok tt) (begun start) t new traced inv.notes (notes_ok _ tt t new c.in_ok-rows.ensures.notes);
       fetches = noted_more (Ok _) start t new inv.fetches c.in_ok-rows.ensures.notes;
       shaped = shaped_joined plan.asked query c.loop-query.groups c.in_ok-more.more c.extend.new.self same inv.shaped c.in_ok-more.ensures.shaped c.in_ok-extend.ensures;
-      come = λ ready dim is_descending is some.
-          let swept = inv.come ready dim is_descending is some in
-          let led = led_by start.schema plan (length start.schema.columns) dim is_descending c.requires ready.planned is some in
-          let gives = rw c.in-Some.is at (c.in_ok-rows.ensures.next swept.given swept.rest swept.fetched swept.unread swept.sweeping some) in
-          HasSweptGroups-next plan start dim is_descending ready.sound ready.planned is led groups_follow_the_lead t c.loop-query.sweep c.loop-query.groups inv.kept swept
-          new c.next_value.new.sweep c.in-Some.rows.items kept
-          (left_is query plan.asked c.len.result c.loop-query.groups same c.len.ensures (c.is_filled.ensures.left c.loop-query-test.true)) gives
-          c.schema.result.now query c.as_slice.result.now c.schema.ensures same c.as_slice.ensures.value c.in_ok-more.more c.extend.new.self
-          c.in_ok-more.ensures.meaning c.in_ok-extend.ensures;
+      come = HaveSwept-more plan start t (length start.schema.columns) c.requires c.loop-query.sweep c.loop-query.groups inv.kept inv.come new c.next_value.new.sweep c.in-Some.rows.items kept
+          (left_is query plan.asked c.len.result c.loop-query.groups same c.len.ensures (c.is_filled.ensures.left c.loop-query-test.true)) (rw c.in-Some.is at c.in_ok-rows.ensures.next)
+          c.schema.result.now query c.as_slice.result.now c.schema.ensures same c.as_slice.ensures.value c.in_ok-more.more c.extend.new.self c.in_ok-more.ensures.meaning c.in_ok-extend.ensures;
     }
 
 pub extend-requires : goal.extend-requires
@@ -78,9 +69,7 @@ returns-clause-rows g c ready kind some =
     let inv = c.loop-query.invariant in
     let plan = c.args.plan.now in
     let start = c.args.tree.now in
-    let (dim, is_descending, is) = swept_kind plan.kind kind in
-    let led = led_by start.schema plan (length start.schema.columns) dim is_descending c.requires ready.planned is some in
-    (groups_filled plan start dim is_descending ready.sound ready.planned is led groups_follow_the_lead c.loop-query.tree c.loop-query.sweep c.loop-query.groups inv.kept (inv.come ready dim is_descending is some)
+    (filled_groups plan start c.loop-query.tree (length start.schema.columns) c.requires c.loop-query.sweep c.loop-query.groups inv.kept inv.come ready kind some
     (filled_is (asked c.query-query.result.now) plan.asked c.len.result c.loop-query.groups c.query-query.ensures c.len.ensures (c.is_filled.ensures.filled c.loop-query-test.false)) inv.fetches).1
 
 pub returns-clause-pages : goal.returns-clause-pages
@@ -88,9 +77,7 @@ returns-clause-pages g c ready kind some =
     let inv = c.loop-query.invariant in
     let plan = c.args.plan.now in
     let start = c.args.tree.now in
-    let (dim, is_descending, is) = swept_kind plan.kind kind in
-    let led = led_by start.schema plan (length start.schema.columns) dim is_descending c.requires ready.planned is some in
-    (groups_filled plan start dim is_descending ready.sound ready.planned is led groups_follow_the_lead c.loop-query.tree c.loop-query.sweep c.loop-query.groups inv.kept (inv.come ready dim is_descending is some)
+    (filled_groups plan start c.loop-query.tree (length start.schema.columns) c.requires c.loop-query.sweep c.loop-query.groups inv.kept inv.come ready kind some
     (filled_is (asked c.query-query.result.now) plan.asked c.len.result c.loop-query.groups c.query-query.ensures c.len.ensures (c.is_filled.ensures.filled c.loop-query-test.false)) inv.fetches).0
 
 pub returns-in_default-clause-rows : goal.returns-in_default-clause-rows
@@ -100,13 +87,10 @@ returns-in_default-clause-rows g c ready kind some =
     let start = c.args.tree.now in
     let t = c.loop-query.tree in
     let new = c.next_value.new.tree in
-    let (dim, is_descending, is) = swept_kind plan.kind kind in
-    let swept = inv.come ready dim is_descending is some in
-    let led = led_by start.schema plan (length start.schema.columns) dim is_descending c.requires ready.planned is some in
-    (groups_ended plan start dim is_descending ready.sound ready.planned is led groups_follow_the_lead t c.loop-query.sweep c.loop-query.groups inv.kept swept
+    (ended_groups plan start t (length start.schema.columns) c.requires c.loop-query.sweep c.loop-query.groups inv.kept inv.come ready kind some
     (left_is (asked c.query-query.result.now) plan.asked c.len.result c.loop-query.groups c.query-query.ensures c.len.ensures (c.is_filled.ensures.left c.loop-query-test.true))
-    new c.next_value.new.sweep (Keeps-more _ _ _ inv.kept (Keeps-by t new c.in_ok-rows.ensures.effect.same)) (noted_more (Ok _) start t new inv.fetches c.in_ok-rows.ensures.notes)
-    (rw c.in_default.is at (c.in_ok-rows.ensures.next swept.given swept.rest swept.fetched swept.unread swept.sweeping some))).1
+    new c.next_value.new.sweep (noted_more (Ok _) start t new inv.fetches c.in_ok-rows.ensures.notes)
+    (Keeps-more _ _ _ inv.kept (Keeps-by t new c.in_ok-rows.ensures.effect.same)) (rw c.in_default.is at c.in_ok-rows.ensures.next)).1
 
 pub returns-in_default-clause-pages : goal.returns-in_default-clause-pages
 returns-in_default-clause-pages g c ready kind some =
@@ -115,13 +99,10 @@ returns-in_default-clause-pages g c ready kind some =
     let start = c.args.tree.now in
     let t = c.loop-query.tree in
     let new = c.next_value.new.tree in
-    let (dim, is_descending, is) = swept_kind plan.kind kind in
-    let swept = inv.come ready dim is_descending is some in
-    let led = led_by start.schema plan (length start.schema.columns) dim is_descending c.requires ready.planned is some in
-    (groups_ended plan start dim is_descending ready.sound ready.planned is led groups_follow_the_lead t c.loop-query.sweep c.loop-query.groups inv.kept swept
+    (ended_groups plan start t (length start.schema.columns) c.requires c.loop-query.sweep c.loop-query.groups inv.kept inv.come ready kind some
     (left_is (asked c.query-query.result.now) plan.asked c.len.result c.loop-query.groups c.query-query.ensures c.len.ensures (c.is_filled.ensures.left c.loop-query-test.true))
-    new c.next_value.new.sweep (Keeps-more _ _ _ inv.kept (Keeps-by t new c.in_ok-rows.ensures.effect.same)) (noted_more (Ok _) start t new inv.fetches c.in_ok-rows.ensures.notes)
-    (rw c.in_default.is at (c.in_ok-rows.ensures.next swept.given swept.rest swept.fetched swept.unread swept.sweeping some))).0
+    new c.next_value.new.sweep (noted_more (Ok _) start t new inv.fetches c.in_ok-rows.ensures.notes)
+    (Keeps-more _ _ _ inv.kept (Keeps-by t new c.in_ok-rows.ensures.effect.same)) (rw c.in_default.is at c.in_ok-rows.ensures.next)).0
 
 pub returns-in_err-sweep-clause-broken : goal.returns-in_err-sweep-clause-broken
 returns-in_err-sweep-clause-broken g c ready kind some =
@@ -134,14 +115,11 @@ returns-in_err-rows-clause-broken g c ready kind some =
     let start = c.args.tree.now in
     let t = c.loop-query.tree in
     let new = c.next_value.new.tree in
-    let (dim, is_descending, is) = swept_kind plan.kind kind in
-    let swept = inv.come ready dim is_descending is some in
-    let led = led_by start.schema plan (length start.schema.columns) dim is_descending c.requires ready.planned is some in
     on_err c.from_residual-in_err-rows.result _
-    (groups_before plan start dim is_descending ready.sound ready.planned is led groups_follow_the_lead t c.loop-query.sweep c.loop-query.groups inv.kept swept
+    (broken_before_rows plan start t (length start.schema.columns) c.requires c.loop-query.sweep c.loop-query.groups inv.kept inv.come ready kind some
     (left_is (asked c.query-query.result.now) plan.asked c.len.result c.loop-query.groups c.query-query.ensures c.len.ensures (c.is_filled.ensures.left c.loop-query-test.true))
-    new (c.in_err-rows.ensures.broken swept.given swept.rest swept.fetched swept.unread swept.sweeping)
-    (ap (λ (t : TreeView). t.placed) c.in_err-rows.ensures.effect.same) (noted_more (Err _) start t new inv.fetches c.in_err-rows.ensures.notes))
+    new c.next_value.new.sweep (noted_more (Err _) start t new inv.fetches c.in_err-rows.ensures.notes)
+    (ap (λ (t : TreeView). t.placed) c.in_err-rows.ensures.effect.same) c.in_err-rows.ensures.broken)
 
 pub returns-in_err-more-clause-broken : goal.returns-in_err-more-clause-broken
 returns-in_err-more-clause-broken g c ready kind some =
@@ -150,14 +128,11 @@ returns-in_err-more-clause-broken g c ready kind some =
     let start = c.args.tree.now in
     let t = c.loop-query.tree in
     let new = c.next_value.new.tree in
-    let (dim, is_descending, is) = swept_kind plan.kind kind in
-    let swept = inv.come ready dim is_descending is some in
-    let led = led_by start.schema plan (length start.schema.columns) dim is_descending c.requires ready.planned is some in
     on_err c.from_residual-in_err-more.result _
-    (groups_after plan start dim is_descending ready.sound ready.planned is led groups_follow_the_lead t c.loop-query.sweep c.loop-query.groups inv.kept swept
+    (broken_after_rows plan start t (length start.schema.columns) c.requires c.loop-query.sweep c.loop-query.groups inv.kept inv.come ready kind some
     (left_is (asked c.query-query.result.now) plan.asked c.len.result c.loop-query.groups c.query-query.ensures c.len.ensures (c.is_filled.ensures.left c.loop-query-test.true))
-    new c.next_value.new.sweep c.in-Some.rows.items (Keeps-more _ _ _ inv.kept (Keeps-by t new c.in_ok-rows.ensures.effect.same)) (noted_more (Ok _) start t new inv.fetches c.in_ok-rows.ensures.notes)
-    (rw c.in-Some.is at (c.in_ok-rows.ensures.next swept.given swept.rest swept.fetched swept.unread swept.sweeping some)))
+    new c.next_value.new.sweep (noted_more (Ok _) start t new inv.fetches c.in_ok-rows.ensures.notes)
+    c.in-Some.rows.items (Keeps-more _ _ _ inv.kept (Keeps-by t new c.in_ok-rows.ensures.effect.same)) (rw c.in-Some.is at c.in_ok-rows.ensures.next))
 
 pub returns-in_err-extend-clause-broken : goal.returns-in_err-extend-clause-broken
 returns-in_err-extend-clause-broken g c ready kind some =
@@ -166,14 +141,11 @@ returns-in_err-extend-clause-broken g c ready kind some =
     let start = c.args.tree.now in
     let t = c.loop-query.tree in
     let new = c.next_value.new.tree in
-    let (dim, is_descending, is) = swept_kind plan.kind kind in
-    let swept = inv.come ready dim is_descending is some in
-    let led = led_by start.schema plan (length start.schema.columns) dim is_descending c.requires ready.planned is some in
     on_err c.from_residual-in_err-extend.result _
-    (groups_after plan start dim is_descending ready.sound ready.planned is led groups_follow_the_lead t c.loop-query.sweep c.loop-query.groups inv.kept swept
+    (broken_after_rows plan start t (length start.schema.columns) c.requires c.loop-query.sweep c.loop-query.groups inv.kept inv.come ready kind some
     (left_is (asked c.query-query.result.now) plan.asked c.len.result c.loop-query.groups c.query-query.ensures c.len.ensures (c.is_filled.ensures.left c.loop-query-test.true))
-    new c.next_value.new.sweep c.in-Some.rows.items (Keeps-more _ _ _ inv.kept (Keeps-by t new c.in_ok-rows.ensures.effect.same)) (noted_more (Ok _) start t new inv.fetches c.in_ok-rows.ensures.notes)
-    (rw c.in-Some.is at (c.in_ok-rows.ensures.next swept.given swept.rest swept.fetched swept.unread swept.sweeping some)))
+    new c.next_value.new.sweep (noted_more (Ok _) start t new inv.fetches c.in_ok-rows.ensures.notes)
+    c.in-Some.rows.items (Keeps-more _ _ _ inv.kept (Keeps-by t new c.in_ok-rows.ensures.effect.same)) (rw c.in-Some.is at c.in_ok-rows.ensures.next))
 
 pub returns-in_err-rows-clause-effect : goal.returns-in_err-rows-clause-effect
 returns-in_err-rows-clause-effect g c =
