@@ -14,7 +14,7 @@ use std::marker::Model;
 use ub_query::{Query, RowSink, SortKey};
 use ub_table::{Row, Schema};
 
-/// The rows that a sweep holds, of which the first in the order asked is found at once.
+/// The rows that a sweep holds, of which the first that is to be given is found at once.
 #[derive(Drop)]
 pub struct HeldRows {
     alloc: Global,
@@ -68,7 +68,7 @@ impl HeldRows {
         Ok(())
     }
 
-    /// The first of those held in the order asked, if there is one.
+    /// The first of those held by their keys, if there is one.
     pub fn first(&self) -> Option<&Row>
         ensures { IsFirstOf self.now (option_copied result) }
     {
@@ -76,7 +76,7 @@ impl HeldRows {
         Some(&first.held.row)
     }
 
-    /// Takes the first of those held in the order asked, if there is one.
+    /// Takes the first of those held by their keys, if there is one.
     pub fn take_first(&mut self) -> Option<Row>
         ensures { TakesFirst self.old self.new result }
     {
@@ -87,7 +87,7 @@ impl HeldRows {
         Some(row)
     }
 
-    /// This row and all that are held of its coordinate in the dimension, taken from the first on, by the order asked. Where
+    /// This row, and after it those held of its coordinate in the dimension, each taken as the first while it has that. Where
     /// memory is refused some of them may be gone.
     pub fn take_value(&mut self, first: Row, dim: usize) -> Result<Vec<Row>, AllocError>
         ensures { IfOk result (λ rows. TakesValue dim first self.old self.new rows.items) }
@@ -101,7 +101,7 @@ impl HeldRows {
         Ok(rows)
     }
 
-    // Takes the first of those held in the order asked, if there is one and it has this coordinate in the dimension.
+    // Takes the first of those held by their keys, if there is one and it has this coordinate in the dimension.
     fn take_first_at(&mut self, dim: usize, value: u32) -> Option<Row>
         ensures { TakesFirstAt dim value self.old self.new result }
     {

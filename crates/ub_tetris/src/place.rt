@@ -8,7 +8,7 @@ use std::alloc::{AllocError, Global};
 use ub_query::{Item, SortKey};
 use ub_table::{Row, Schema};
 
-/// A row that is held, and the values by which it stands in the order asked, one for each key.
+/// A row that is held, and the values by which it is given before others or after them, one for each key.
 #[derive(Drop)]
 pub struct Held {
     /// For each key the row's value, turned round where the key is descending.

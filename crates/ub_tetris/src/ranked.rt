@@ -6,7 +6,7 @@ use crate::place::Held;
 /// A row that is held in memory of its own, beside the first of its values: so what a heap moves
 /// is small, and few of its comparisons go to the row.
 ///
-/// The greatest of some is the first in the order asked: the one of the least values, and where
+/// The greatest of some is the first to be given: the one of the least values, and where
 /// these are equal, of the least row number.
 #[derive(Drop)]
 pub struct Ranked {

@@ -83,7 +83,7 @@ impl Sweep {
         }
     }
 
-    /// The next row in the order asked, or of a query with GROUP BY by its lead; `None` after the last, however often it is asked.
+    /// The next row in the order asked, or by the lead of the groups; `None` after the last, however often it is asked.
     ///
     /// No region is fetched that can only hold rows after this one, nor twice, also where it answers a fault. Where it answers
     /// no fault each that was fetched was taken in, and where it answers `None` no region is left. It comes to an end over any
