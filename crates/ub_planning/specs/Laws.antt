@@ -9,6 +9,7 @@ use Rattle.ub_planning.specs.Plan.{plan_of, takes}
 use Rattle.ub_planning.specs.Visits.{Span, Event, AreMeeting, AreEvents, AreVisits, fetched_rows, selected_rows}
 use Rattle.ub_planning.specs.declared.planned.Kind.TheVariants.{Empty, Sweep}
 use Rattle.ub_query.specs.Groups.{is_selected, selected}
+use Rattle.ub_query.specs.Lead.{group_lead}
 use Rattle.ub_query.specs.Meaning.{IsMeaning}
 use Rattle.ub_query.specs.Posed.{IsGroupQuery}
 use Rattle.ub_query.specs.Shape.{Asked}
@@ -25,12 +26,14 @@ abbrev pub PlansAreEmpty : Type 0
 PlansAreEmpty = (schema : Schema) (q : Asked)
     → ((plan_of schema q).kind ≡ Empty) ↔ ((boxes_of schema q.filter ≡ []) ⊎ (q.limit ≡ Some 0))
 
--- a plan that isn't empty sweeps a dimension just where the query is one of rows whose first order key is that dimension
+-- a plan that isn't empty sweeps a dimension just where the query is one of rows whose first order key is that dimension, or has a
+-- GROUP BY whose lead it is
 abbrev pub SweepsAreLed : Type 0
 SweepsAreLed = (schema : Schema) (q : Asked) (dim : ℕ) (is_descending : Bool) → (plan_of schema q).kind ≢ Empty
     → ((plan_of schema q).kind ≡ Sweep dim is_descending)
-    ↔ ((¬ IsGroupQuery q) × (dim < schema.dims)
-    × (slice_get q.order 0 ≡ Some (record { item = Column dim; is_descending = is_descending })))
+    ↔ ((dim < schema.dims)
+    × (((¬ IsGroupQuery q) × (slice_get q.order 0 ≡ Some (record { item = Column dim; is_descending = is_descending })))
+    ⊎ (group_lead q.group q.order ≡ Some (record { item = Column dim; is_descending = is_descending }))))
 
 -- the regions of a table have its rows, in ascending order of number
 abbrev pub RegionsHaveATable : Type 0

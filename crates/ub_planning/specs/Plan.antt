@@ -7,7 +7,7 @@ use Rattle.ub_boxes.specs.Laws.{point_of}
 use Rattle.ub_planning.specs.declared.planned.Kind.{Kind}
 use Rattle.ub_planning.specs.declared.planned.Kind.TheVariants.{Empty, Scan, Sweep}
 use Rattle.ub_query.specs.Groups.{is_selected}
-use Rattle.ub_query.specs.Posed.{has_groups}
+use Rattle.ub_query.specs.Lead.{is_one_entry, swept_order}
 use Rattle.ub_query.specs.Shape.{Shape, Asked}
 use Rattle.ub_query.specs.declared.query.Item.{Item}
 use Rattle.ub_query.specs.declared.query.Item.TheVariants.{Column, Count, Aggregate}
@@ -38,11 +38,12 @@ along dims None = Scan
 along dims (Some key) = along_item dims key.item key.is_descending
 
 -- how regions are read for a query, by the first of these rules that holds: not at all where the cover has no box or the limit
--- is 0; by a sweep for a query of rows whose first order key is a dimension; by a scan
+-- is 0; by a scan where the result is one entry; by a sweep where the first key of the order in which it gives rows is a dimension
+-- (of a query of rows its first order key, of one with GROUP BY its lead); by a scan
 abbrev pub planned_kind : Schema → Asked → Kind
 planned_kind schema q =
     if length (boxes_of schema q.filter) == 0 || is_zero q.limit then Empty
-    else (if has_groups q then Scan else along schema.dims (slice_get q.order 0))
+    else (if is_one_entry q then Scan else along schema.dims (slice_get (swept_order q.group q.order) 0))
 
 -- an empty plan has no boxes; whether the cover was exact or wide is kept
 abbrev pub kept_by : Kind → Covering → Covering

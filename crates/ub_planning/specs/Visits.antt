@@ -8,10 +8,12 @@ use Rattle.ub_bigmin.specs.Extremes.{Least, Greatest}
 use Rattle.ub_planning.specs.Plan.{PlanView}
 use Rattle.ub_planning.specs.declared.planned.Kind.{Kind}
 use Rattle.ub_planning.specs.declared.planned.Kind.TheVariants.{Empty, Scan, Sweep}
-use Rattle.ub_query.specs.Groups.{is_selected}
+use Rattle.ub_query.specs.Cells.{Group}
+use Rattle.ub_query.specs.Groups.{is_selected, selected}
+use Rattle.ub_query.specs.Lead.{AreGroupsInOrder, swept_order}
 use Rattle.ub_query.specs.Meaning.{limited}
 use Rattle.ub_query.specs.Order.{IsArrangement, IsRowBefore}
-use Rattle.ub_region.specs.Regions.{firsts_of, rows_of}
+use Rattle.ub_region.specs.Regions.{AreTableRows, firsts_of, rows_of}
 use Rattle.ub_region.specs.Those.{AreThose}
 use Rattle.ub_region.specs.Spans.{span_end}
 use Rattle.ub_table.specs.Keys.{IsBefore}
@@ -85,9 +87,9 @@ pub record AreEvents (schema : Schema) (boxes : List Corners) (dim : ℕ) (is_de
 abbrev pub selected_rows : Schema → PlanView → List Region → List Row
 selected_rows schema plan regions = filter (is_selected schema plan.asked.filter) (rows_of regions)
 
--- these rows, in the order asked
+-- these rows, in the order in which a sweep gives them
 abbrev pub AreArranged : Schema → PlanView → List Row → List Row → Type 0
-AreArranged schema plan rows arranged = IsArrangement (IsRowBefore schema plan.asked.order) rows arranged
+AreArranged schema plan rows arranged = IsArrangement (IsRowBefore schema (swept_order plan.asked.group plan.asked.order)) rows arranged
 
 -- whether there are as many as the limit asks for
 abbrev pub is_filled : Option ℕ → ℕ → Bool
@@ -117,7 +119,7 @@ reached is_descending limit given events =
 abbrev pub coordinates : ℕ → List Row → List ℕ
 coordinates dim rows = map (λ row. slice_index row.dims dim) rows
 
--- the visits of a sweep: the regions that it comes to, where it gives the rows that the query asks for
+-- the visits of a sweep of rows: the regions that it comes to, where it gives the rows that the query asks for
 pub record AreSweepVisits (schema : Schema) (plan : PlanView) (dim : ℕ) (is_descending : Bool) (regions : List Region) (visits : List Span) : Type 0 where
   pub events : List Event
   pub events_are : AreEvents schema plan.covering.boxes dim is_descending regions events
@@ -126,12 +128,33 @@ pub record AreSweepVisits (schema : Schema) (plan : PlanView) (dim : ℕ) (is_de
   pub visits_are : visits ≡ map (λ event. event.span)
       (reached is_descending plan.asked.limit (coordinates dim (limited plan.asked.limit arranged)) events)
 
+-- the coordinate in a dimension that the rows of a group share, where it is the lead
+abbrev pub lead_value : ℕ → Group → ℕ
+lead_value dim group = last_of (coordinates dim group.rows)
+
+-- the visits of a sweep of groups: the regions that it comes to, where it gives the groups that the query asks for
+pub record AreGroupVisits (schema : Schema) (plan : PlanView) (dim : ℕ) (is_descending : Bool) (regions : List Region) (visits : List Span) : Type 0 where
+  pub events : List Event
+  pub events_are : AreEvents schema plan.covering.boxes dim is_descending regions events
+  pub rows : List Row
+  pub rows_are : AreTableRows regions rows
+  pub arranged : List Group
+  pub arranged_are : AreGroupsInOrder schema plan.asked (selected (record { schema = schema; rows = rows }) plan.asked.filter) arranged
+  pub visits_are : visits ≡ map (λ event. event.span)
+      (reached is_descending plan.asked.limit (map (lead_value dim) (limited plan.asked.limit arranged)) events)
+
+-- the visits of a sweep, by the columns of GROUP BY: of rows where there is none, else of groups
+abbrev pub AreSweptVisits : List ℕ → Schema → PlanView → ℕ → Bool → List Region → List Span → Type 0
+AreSweptVisits [] schema plan dim is_descending regions visits = AreSweepVisits schema plan dim is_descending regions visits
+AreSweptVisits (column ∷ group) schema plan dim is_descending regions visits = AreGroupVisits schema plan dim is_descending regions visits
+
 -- the visits of a plan: none of an empty one; of a scan the regions that meet its boxes, in the order of their first keys; of
 -- a sweep those that it comes to, in the order in which it comes to them; each once
 abbrev pub AreVisitsBy : Kind → Schema → PlanView → List Region → List Span → Type 0
 AreVisitsBy Empty schema plan regions visits = visits ≡ []
 AreVisitsBy Scan schema plan regions visits = AreMeeting schema plan.covering.boxes regions visits
-AreVisitsBy (Sweep dim is_descending) schema plan regions visits = AreSweepVisits schema plan dim is_descending regions visits
+AreVisitsBy (Sweep dim is_descending) schema plan regions visits =
+    AreSweptVisits plan.asked.group schema plan dim is_descending regions visits
 
 abbrev pub AreVisits : Schema → PlanView → List Region → List Span → Type 0
 AreVisits schema plan regions visits = AreVisitsBy plan.kind schema plan regions visits

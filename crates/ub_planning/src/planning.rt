@@ -30,10 +30,13 @@ fn planned_kind(schema: &Schema, query: &Query, boxes: &[ZBox]) -> Kind
     if boxes.is_empty() || query.limit == Some(0) {
         return Kind::Empty;
     }
-    if query.has_groups() {
+    if query.is_one_entry() {
         return Kind::Scan;
     }
-    along(schema, query.order.as_slice().first())
+    match query.group_lead() {
+        Some(lead) => along(schema, Some(&lead)),
+        None => along(schema, query.order.as_slice().first()),
+    }
 }
 
 // A sweep along the dimension that an order key names, if there is a key and it names one; else a scan.

@@ -1,16 +1,18 @@
 -- The laws of the definitions. Each is what the function of its name in `law` ensures, and is proved in proofs/Laws.antt.
-use Rattle.std.specs.Prelude.{◌≡◌, ◌↔◌, ℕ, ◌≤◌, ℤ, ◌≤ℤ◌, List, [], map, Option, IsTrue}
-use Rattle.std.specs.List.{All, Contains}
+use Rattle.std.specs.Prelude.{◌≡◌, ◌↔◌, ◌++◌, ℕ, ◌≤◌, ℤ, ◌≤ℤ◌, Bool, false, not, List, [], map, Option, Some, IsTrue}
+use Rattle.std.specs.List.{All, Contains, filter}
 use Rattle.ub_query.specs.Cells.{Group, row_cell, least_of, greatest_of}
 use Rattle.ub_query.specs.Groups.{AreGroups, selected}
+use Rattle.ub_query.specs.Lead.{AreGroupsInOrder, group_lead}
 use Rattle.ub_query.specs.Meaning.{IsMeaning, limited}
-use Rattle.ub_query.specs.Order.{IsArrangement, IsRowBefore, IsGroupBefore}
+use Rattle.ub_query.specs.Order.{IsAhead, IsArrangement, IsRowBefore, IsGroupBefore}
 use Rattle.ub_query.specs.Posed.{IsPosedCondition, IsGroupQuery, has_groups, height}
 use Rattle.ub_query.specs.Shape.{Shape, Asked, both, compares, between}
 use Rattle.ub_query.specs.Truth.{truth}
 use Rattle.ub_query.specs.declared.cell.Cell.{Cell}
 use Rattle.ub_query.specs.declared.cell.Cell.TheVariants.{Number}
 use Rattle.ub_query.specs.declared.condition.Operator.TheVariants.{AtMost, AtLeast}
+use Rattle.ub_query.specs.declared.query.Item.TheVariants.{Column}
 use Rattle.ub_query.specs.declared.query.SortKey.{SortKey}
 use Rattle.ub_table.specs.Table.{Table, IsInOrder}
 use Rattle.ub_table.specs.declared.row.Row.{Row}
@@ -72,6 +74,18 @@ GroupsHaveOneArrangement =
     → AreGroups schema columns rows groups → AreGroups schema columns rows others
     → IsArrangement (IsGroupBefore schema columns keys) groups first → IsArrangement (IsGroupBefore schema columns keys) others second
     → first ≡ second
+
+-- where some of the rows stand before the others along the lead, the groups in the order asked are those of these rows, and then
+-- those of the others
+abbrev pub GroupsFollowTheLead : Type 0
+GroupsFollowTheLead =
+    (schema : Schema) (q : Asked) (column : ℕ) (is_descending : Bool) (is_first : Row → Bool) (rows : List Row) (front back : List Group)
+    → group_lead q.group q.order ≡ Some (record { item = Column column; is_descending = is_descending }) → Contains q.group column
+    → All (λ a. IsTrue (is_first a) → All (λ b. is_first b ≡ false
+    → IsAhead is_descending (row_cell schema a (Column column)) (row_cell schema b (Column column))) rows) rows
+    → AreGroupsInOrder schema q (filter is_first rows) front
+    → AreGroupsInOrder schema q (filter (λ row. not (is_first row)) rows) back
+    → AreGroupsInOrder schema q rows (front ++ back)
 
 -- a query of rows that asks no order means the selected rows as they stand, the first of them where it has a limit
 abbrev pub PlainQueriesMean : Type 0

@@ -2,6 +2,7 @@ pub mod Cells
 pub mod Examples
 pub mod Groups
 pub mod Laws
+pub mod Lead
 pub mod Meaning
 pub mod Order
 pub mod Posed

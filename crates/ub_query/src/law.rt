@@ -1,4 +1,4 @@
-ghost use Rattle.ub_query.specs.Laws.{PosedIsLow, BetweenIsTwo, GroupQueriesAreTold, MinIsLeast, MaxIsGreatest, RowsHaveAnArrangement, RowsHaveOneArrangement, SelectedAreInOrder, RowsInOrderAreArranged, RowsFallIntoGroups, GroupsHaveAnArrangement, GroupsHaveOneArrangement, PlainQueriesMean, QueriesHaveAMeaning, QueriesHaveOneMeaning};
+ghost use Rattle.ub_query.specs.Laws.{PosedIsLow, BetweenIsTwo, GroupQueriesAreTold, MinIsLeast, MaxIsGreatest, RowsHaveAnArrangement, RowsHaveOneArrangement, SelectedAreInOrder, RowsInOrderAreArranged, RowsFallIntoGroups, GroupsHaveAnArrangement, GroupsHaveOneArrangement, GroupsFollowTheLead, PlainQueriesMean, QueriesHaveAMeaning, QueriesHaveOneMeaning};
 
 // Each function here does nothing, and its clause is a law of the definitions in specs/. So the law is proved, and is read
 // beside the code.
@@ -61,6 +61,11 @@ pub fn groups_have_an_arrangement()
 /// Groups are arranged in one way only.
 pub fn groups_have_one_arrangement()
     ensures { GroupsHaveOneArrangement }
+{}
+
+/// Where some rows stand before the others along the lead, so do their groups in the order asked.
+pub fn groups_follow_the_lead()
+    ensures { GroupsFollowTheLead }
 {}
 
 /// A query of rows that asks no order means the selected rows as they stand.

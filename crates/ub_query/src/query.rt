@@ -1,6 +1,7 @@
 ghost use Rattle.std.specs.Prelude.{◌≡◌, ◌↔◌, IfOk, IsTrue};
 ghost use Rattle.std.specs.List.{list_any};
 ghost use Rattle.std.specs.Option.{option_map};
+ghost use Rattle.ub_query.specs.Lead as lead;
 ghost use Rattle.ub_query.specs.Posed as spec;
 ghost use Rattle.ub_query.specs.Shape.{asked, shape};
 ghost use Rattle.ub_query.specs.contracts.query.ItemPartialEq.TheImpl as derived;
@@ -44,6 +45,28 @@ impl Query {
         ensures groups { IsTrue result ↔ spec.IsGroupQuery (asked self.now) }
     {
         !self.group.as_slice().is_empty() || has_aggregate(self.items.as_slice())
+    }
+
+    /// Whether the result is one entry of all selected rows: it has an aggregate among its items, and no GROUP BY. Takes no memory.
+    pub fn is_one_entry(&self) -> bool
+        ensures { result ≡ lead.is_one_entry (asked self.now) }
+    {
+        self.group.as_slice().is_empty() && has_aggregate(self.items.as_slice())
+    }
+
+    /// The lead of a query with GROUP BY, along which its groups can be swept: its first order key, else its first group column
+    /// ascending. None without GROUP BY. Takes no memory.
+    pub fn group_lead(&self) -> Option<SortKey>
+        ensures { result ≡ lead.group_lead (asked self.now).group (asked self.now).order }
+    {
+        let column = *self.group.as_slice().first()?;
+        match self.order.as_slice().first() {
+            Some(key) => Some(*key),
+            None => Some(SortKey {
+                item: Item::Column(column),
+                is_descending: false,
+            }),
+        }
     }
 }
 

@@ -1,15 +1,17 @@
 -- What contracts see of a sweep, and how it stands to its plan and to the tree over which it goes.
-use Rattle.std.specs.Prelude.{◌≡◌, ◌≢◌, ◌+◌, ◌*◌, ◌++◌, ◌∷◌, [], ℕ, Bool, false, List, Option, Some, None, length, map, Contains}
+use Rattle.std.specs.Prelude.{◌≡◌, ◌≢◌, ◌+◌, ◌*◌, ◌++◌, ◌∷◌, [], ℕ, Bool, false, List, Option, Some, None, length, map, slice_index, Contains}
 use Rattle.std.specs.List.{All, AllByRecursion}
 use Rattle.ub_planning.specs.Plan.{PlanView, plan_of}
-use Rattle.ub_planning.specs.Visits.{Event}
+use Rattle.ub_planning.specs.Visits.{Event, IsAlong}
 use Rattle.ub_planning.specs.declared.planned.Kind.{Kind}
 use Rattle.ub_planning.specs.declared.planned.Kind.TheVariants.{Sweep}
+use Rattle.ub_query.specs.Lead.{swept_order}
+use Rattle.ub_table.specs.Table.{IsInOrder}
 use Rattle.ub_table.specs.declared.row.Row.{Row}
 use Rattle.ub_table.specs.declared.schema.Schema.{Schema}
 use Rattle.ub_table.specs.declared.schema.TheConstants.{MAX_ROWS}
 use Rattle.ub_tetris.specs.Held.{HeldRow, AreHeldBy, rows_held}
-use Rattle.ub_tetris.specs.Machine.{IsUnderWay, IsRowAlong, regions_at}
+use Rattle.ub_tetris.specs.Machine.{IsUnderWay, IsRowAlong, IsRowPast, regions_at}
 use Rattle.ub_tree.specs.Placed.{Placed, regions_in}
 use Rattle.ub_tree.specs.View.{TreeView, IsSound, regions, spans_of}
 use Rattle.ub_tree.specs.Spans.{Region as TreeRegion}
@@ -72,7 +74,7 @@ pub record IsSweeping (plan : PlanView) (t : TreeView) (s : SweepView) (given re
   pub working : s.is_failed ≡ false
   pub swept : IsSwept t plan s.dim s.is_descending
   pub under_way : IsUnderWay t.schema plan s.dim s.is_descending (regions t) (rows_held s.held) given rest fetched unread
-  pub values : AreHeldBy t.schema plan.asked.order s.held
+  pub values : AreHeldBy t.schema (swept_order plan.asked.group plan.asked.order) s.held
   pub noted : AreNoted t fetched
   pub awaited : AreAwaited t s.awaited unread
 
@@ -96,6 +98,27 @@ pub record HasEnded (plan : PlanView) (t : TreeView) (s : SweepView) (given rest
 abbrev pub HasStepped : PlanView → TreeView → SweepView → List Row → List Row → List Event → List Event → Option Row → Type 0
 HasStepped plan t s given rest fetched unread None = HasEnded plan t s given rest fetched unread
 HasStepped plan t s given rest fetched unread (Some row) = HasGiven plan t s given rest fetched unread row
+
+-- the rows of the next value were given: all that are left of that value in the sweep's dimension, by row number, and no others;
+-- the regions fetched are now just the ones whose event values aren't past it
+pub record HasGivenValue (plan : PlanView) (t : TreeView) (s : SweepView) (given rest : List Row) (fetched unread : List Event) (rows : List Row) : Type 0 where
+  pub value : ℕ
+  pub more : List Row
+  pub read : List Event
+  pub left : List Event
+  pub some : rows ≢ []
+  pub next : rest ≡ rows ++ more
+  pub of_value : All (λ row. slice_index row.dims s.dim ≡ value) rows
+  pub past : All (λ row. IsRowPast s.dim s.is_descending value row) more
+  pub by_number : IsInOrder rows
+  pub parts : unread ≡ read ++ left
+  pub reached : All (λ event. ¬ (IsAlong s.is_descending value event.value)) (fetched ++ read)
+  pub sweeping : IsSweeping plan t s (given ++ rows) more (fetched ++ read) left
+
+-- what asking for the rows of the next value does
+abbrev pub HasSteppedValue : PlanView → TreeView → SweepView → List Row → List Row → List Event → List Event → Option (List Row) → Type 0
+HasSteppedValue plan t s given rest fetched unread None = HasEnded plan t s given rest fetched unread
+HasSteppedValue plan t s given rest fetched unread (Some rows) = HasGivenValue plan t s given rest fetched unread rows
 
 -- asking for the next row was ended by a fault: of the regions not yet fetched the first ones were fetched, each once and in
 -- order, none of them past the next row where there is one; their pages stand in the trace

@@ -1,6 +1,7 @@
 ghost use Rattle.std.specs.Prelude.{◌≡◌, ◌∷◌, ◌≤ℤ◌, [], List, ℕ, ℤ, pos, neg_ℤ, length, map, IfOk, OnOk, OnErr, IsTrue, option_copied};
 ghost use Rattle.std.specs.List.{All};
 ghost use Rattle.std.specs.List.Sorted.{IsPermutation};
+ghost use Rattle.ub_query.specs.Lead.{swept_order};
 ghost use Rattle.ub_query.specs.Posed.{IsItemOver};
 ghost use Rattle.ub_tetris.specs.Held as spec;
 ghost use Rattle.ub_tetris.specs.inner.Kept.{HoldsAlso, IsFirstOf, TakesFirst};
@@ -87,12 +88,16 @@ impl HeldRows {
     }
 }
 
-/// The sink of a sweep: its rows are held, in the order of the query's keys, until they are given.
+/// The sink of a sweep: its rows are held until they are given, in the order asked, or by the lead of the groups.
 impl RowSink for HeldRows {
-    ghost HasTaken = { λ schema q before taken now. HoldsAlso schema q.order taken before now };
+    ghost HasTaken = { λ schema q before taken now. HoldsAlso schema (swept_order q.group q.order)
+        taken before now };
 
     fn push(&mut self, schema: &Schema, query: &Query, row: &Row) -> Result<(), AllocError> {
-        self.hold(schema, query.order.as_slice(), row)
+        match query.group_lead() {
+            Some(lead) => self.hold(schema, &[lead], row),
+            None => self.hold(schema, query.order.as_slice(), row),
+        }
     }
 }
 

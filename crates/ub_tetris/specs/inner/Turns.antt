@@ -5,6 +5,7 @@ use Rattle.ub_filter.specs.Choice.{is_chosen}
 use Rattle.ub_planning.specs.Plan.{PlanView}
 use Rattle.ub_planning.specs.Visits.{is_past}
 use Rattle.ub_filter.specs.declared.choice.Choice.{Choice}
+use Rattle.ub_query.specs.Lead.{swept_order}
 use Rattle.ub_table.specs.declared.row.Row.{Row}
 use Rattle.ub_tetris.specs.Sweep.{AwaitedRegion, SweepView}
 use Rattle.ub_tetris.specs.declared.course.Course.{Course}
@@ -62,4 +63,4 @@ pub record HasFetchedNext (plan : PlanView) (t new : TreeView) (s new_s : State)
   pub choice : Choice
   pub rows : IsSound t → Contains (spans_of t) next.region → (p : Placed) × Contains t.placed p × (p.page ≡ next.region.page)
       × (p.region.first ≡ next.region.first)
-      × HoldsAlso t.schema plan.asked.order (filter (is_chosen choice t.schema plan) p.region.rows) s.held new_s.held
+      × HoldsAlso t.schema (swept_order plan.asked.group plan.asked.order) (filter (is_chosen choice t.schema plan) p.region.rows) s.held new_s.held
