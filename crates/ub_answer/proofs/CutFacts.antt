@@ -1,8 +1,9 @@
 -- Pieces of one length, put together and cut again.
-use Rattle.std.proofs.Common.{◌≡◌, ◌<◌, ◌≤◌, ◌+◌, ◌*◌, ℕ, zero, suc, List, [], ◌∷◌, ◌++◌, length, map, take, drop, Some, slice_get, slice_index_or, append-nil, append_assoc, add-one, refl, sym, ap, subst, arith, ◌∙◌}
+use Rattle.std.proofs.Common.{◌≡◌, ◌<◌, ◌≤◌, ◌+◌, ◌*◌, min, ⊎_elim, ℕ, zero, suc, List, [], ◌∷◌, ◌++◌, length, map, take, drop, Some, slice_get, slice_index_or, append-nil, append_assoc, add-one, refl, sym, ap, subst, arith, ◌∙◌}
+use Rattle.std.proofs.lemmas.Bool.{cases_lt}
 use Rattle.std.proofs.Math.Nat.{mul-le-mul_left, mul-le-mul_right}
 use Rattle.std.proofs.Math.Seq.{take-append_seam, drop-append_seam}
-use Rattle.std.proofs.lemmas.List.{length-append, length-drop, length-map, length-take-le, take-append-le, drop-append-le, drop-drop}
+use Rattle.std.proofs.lemmas.List.{length-append, length-drop, length-map, length-take-le, take-append-le, drop-append-le, drop-drop, drop-take, take-take}
 use Rattle.std.specs.List.{AllByRecursion, flat_map}
 use Rattle.ub_answer.specs.inner.Cut.{cut}
 
@@ -127,3 +128,74 @@ more-long count width old new is more = let next : (count + 1) * width ≡ count
 
 pub row-long : {A B : Type 0} (f : A → B) (xs : List B) (items : List A) (ys : List B) → ys ≡ xs ++ map f items → length ys ≡ length xs + length items
 row-long f xs items ys is = ap length is ∙ length-append xs (map f items) ∙ ap (λ (n : ℕ). length xs + n) (length-map items f)
+
+-- ---- pieces of two wholes, and the first of some pieces
+
+cut-append : {E : Type 0} (count more width : ℕ) (xs ys : List E) → length xs ≡ count * width → cut (count + more) width (xs ++ ys) ≡ cut count width xs ++ cut more width ys
+unfolding cut
+cut-append zero more width [] ys long = let none : zero + more ≡ more = omega arith in ap (λ (n : ℕ). cut n width ys) none
+cut-append zero more width (x ∷ xs) ys long = absurd (omega arith)
+cut-append (suc count) more width xs ys long =
+    let next : suc count * width ≡ width + count * width = omega arith in
+    let within : width ≤ length xs = omega arith in
+    let rest : length (drop width xs) ≡ count * width = omega (arith, length-drop width xs) in
+    let later : cut (count + more) width (drop width xs ++ ys) ≡ cut count width (drop width xs) ++ cut more width ys = cut-append count more width (drop width xs) ys rest in
+    let whole : cut (suc (count + more)) width (xs ++ ys) ≡ take width xs ∷ (cut count width (drop width xs) ++ cut more width ys) =
+    ap (λ (piece : List _). piece ∷ cut (count + more) width (drop width (xs ++ ys))) (take-append-le width xs ys within)
+    ∙ ap (λ (zs : List _). take width xs ∷ cut (count + more) width zs) (drop-append-le width xs ys within) ∙ ap (λ (pieces : List (List _)). take width xs ∷ pieces) later in
+    let same : suc count + more ≡ suc (count + more) = omega arith in
+    subst (λ (n : ℕ). cut n width (xs ++ ys) ≡ cut (suc count) width xs ++ cut more width ys) (sym same) whole
+
+sums : (count more width a b c : ℕ) → a ≡ count * width → b ≡ more * width → c ≡ a + b → c ≡ (count + more) * width
+sums count more width a b c p q r = let both : (count + more) * width ≡ count * width + more * width = omega arith in omega arith
+
+-- two wholes whose pieces have one length, where of no pieces it may be any
+pub both-pieces : {E : Type 0} (count width more other wide : ℕ) (xs ys : List E) → length xs ≡ count * width → length ys ≡ more * other
+    → AllByRecursion (λ zs. length zs ≡ wide) (cut count width xs) → AllByRecursion (λ zs. length zs ≡ wide) (cut more other ys)
+    → (all : ℕ) → (count ≡ 0 → all ≡ other) → (1 ≤ count → all ≡ width)
+    → (length (xs ++ ys) ≡ (count + more) * all) × (cut (count + more) all (xs ++ ys) ≡ cut count width xs ++ cut more other ys)
+unfolding cut
+both-pieces zero width more other wide [] ys long more_long each more_each all none some =
+    let is = none refl in
+    subst (λ (n : ℕ). (length ys ≡ n * all) × (cut n all ys ≡ cut more other ys)) (let same : more ≡ zero + more = omega arith in same)
+    (subst (λ (w : ℕ). (length ys ≡ more * w) × (cut more w ys ≡ cut more other ys)) (sym is) (more_long, refl))
+both-pieces zero width more other wide (x ∷ xs) ys long more_long each more_each all none some = absurd (omega arith)
+both-pieces (suc count) width more other wide xs ys long more_long each more_each all none some =
+    let mine : width ≡ wide = one-width (suc count) width wide xs long each (omega arith) in
+    let is : all ≡ width = some (omega arith) in
+    let theirs = as-wide more other wide ys more_long more_each in
+    let same : length ys ≡ more * width = subst (λ (w : ℕ). length ys ≡ more * w) (sym mine) theirs.0 in
+    let pieces : cut more width ys ≡ cut more other ys = sym (theirs.1 ∙ ap (λ (w : ℕ). cut more w ys) (sym mine)) in
+    let long_both : length (xs ++ ys) ≡ (suc count + more) * width = sums (suc count) more width (length xs) (length ys) (length (xs ++ ys)) long same (length-append xs ys) in
+    subst (λ (w : ℕ). (length (xs ++ ys) ≡ (suc count + more) * w) × (cut (suc count + more) w (xs ++ ys) ≡ cut (suc count) width xs ++ cut more other ys)) (sym is)
+    (long_both, cut-append (suc count) more width xs ys long ∙ ap (λ (zs : List (List _)). cut (suc count) width xs ++ zs) pieces)
+
+-- the first pieces of a whole
+cut-front : {E : Type 0} (m count width : ℕ) (xs : List E) → m ≤ count → length xs ≡ count * width → cut m width (take (m * width) xs) ≡ take m (cut count width xs)
+unfolding cut
+cut-front zero count width xs below long = refl
+cut-front (suc m) zero width xs below long = absurd (omega arith)
+cut-front (suc m) (suc count) width xs below long =
+    let next : suc count * width ≡ width + count * width = omega arith in
+    let part : suc m * width ≡ width + m * width = omega arith in
+    let rest : length (drop width xs) ≡ count * width = omega (arith, length-drop width xs) in
+    let first : take width (take (suc m * width) xs) ≡ take width xs = take-take width (suc m * width) xs (omega arith) in
+    let after : drop width (take (suc m * width) xs) ≡ take (m * width) (drop width xs) =
+    ap (λ (n : ℕ). drop width (take n xs)) part ∙ drop-take width (m * width) xs in
+    ap (λ (piece : List _). piece ∷ cut m width (drop width (take (suc m * width) xs))) first
+    ∙ ap (λ (zs : List _). take width xs ∷ cut m width zs) after
+    ∙ ap (λ (pieces : List (List _)). take width xs ∷ pieces) (cut-front m count width (drop width xs) (omega arith) rest)
+
+-- so many of the pieces as there may be
+pub cut-limited : {E : Type 0} (m n count width : ℕ) (xs : List E) → m ≡ min count n → length xs ≡ count * width
+    → (length (take (m * width) xs) ≡ m * width) × (cut m width (take (m * width) xs) ≡ take n (cut count width xs))
+cut-limited m n count width xs is long =
+    let below : m ≤ count = omega arith in
+    let part : m * width ≤ count * width = mul-le-mul_right width below in
+    let front = cut-front m count width xs below long in (
+      length-take-le (m * width) xs (omega arith),
+      ⊎_elim (λ (less : n < count). let same : m ≡ n = omega arith in front ∙ ap (λ (k : ℕ). take k (cut count width xs)) same)
+          (λ (all : count ≤ n). front ∙ take-all m (cut count width xs) (let same = length-cut count width xs in omega arith)
+          ∙ sym (take-all n (cut count width xs) (let same = length-cut count width xs in omega arith)))
+          (cases_lt n count),
+    )

@@ -1,6 +1,6 @@
 -- The groups that are held, from one row to the next, and what they mean in the end.
-use Rattle.std.proofs.Common.{◌≡◌, ◌≢◌, ◌<◌, ◌≤◌, ◌+◌, ◌==◌, inl, inr, ℕ, zero, suc, ℤ, Bool, true, false, ◌&&◌, cond, List, [], ◌∷◌, ◌++◌, length, map, take, filter, Option, Some, None, MatchOption, IsPermutation, Contains, slice_index_or, slice_get, append-nil, refl, sym, ap, subst, arith, ◌∙◌}
-use Rattle.std.proofs.lemmas.Bool.{cases_Bool, true≢false, eqb-true, eq-eqb}
+use Rattle.std.proofs.Common.{◌≡◌, ◌≢◌, ◌<◌, ◌≤◌, ◌+◌, inl, inr, ℕ, zero, suc, ℤ, Bool, true, false, ◌&&◌, cond, List, [], ◌∷◌, ◌++◌, length, map, take, filter, Option, Some, None, MatchOption, IsPermutation, Contains, slice_index_or, slice_get, append-nil, refl, sym, ap, subst, arith, ◌∙◌}
+use Rattle.std.proofs.lemmas.Bool.{cases_Bool, true≢false}
 use Rattle.std.proofs.lemmas.Cmp.{eq_by_cmp_equiv, int_eq_equiv, lists_equiv, on_equiv, on_total}
 use Rattle.std.proofs.lemmas.List.{length-append, length-map, get_or_default}
 use Rattle.std.proofs.lemmas.List.Elements.{filter-append, recursion_from_All}
@@ -28,40 +28,23 @@ use Rattle.ub_answer.specs.inner.Cut.{cut}
 use Rattle.ub_answer.specs.inner.Groups.{values_cmp, values_eq, cells_at, IsGroupAt, HoldsGroups, AddsRow, Entry, entry_of, entry_cmp, cell_from}
 use Rattle.ub_answer.specs.inner.Tally.{AreOfNone, of_none, with_row, IsNarrow, IsShown, AreShown}
 use Rattle.ub_answer.specs.declared.groups.Values.{Values}
-use Rattle.ub_query.proofs.Laws.{Rising, Rising-map, Rising-mapped, Rising-both, adjacent-from_Rising, contains_cases, contains_none, all_permutation, all_from_contains, all_weaker, are_same-true, are_same-itself, contains_map, contains_filter, contains_from_filter, grouping_from, groups_have_an_arrangement, groups_have_one_arrangement, whole_groups, cells-alike, IsWhole}
-use Rattle.ub_query.specs.Cells.{Group, group_cell, value_among}
+use Rattle.ub_query.proofs.Laws.{Rising, Rising-map, Rising-mapped, Rising-both, adjacent-from_Rising, contains_none, all_permutation, all_from_contains, all_weaker, are_same-true, are_same-itself, contains_map, contains_filter, contains_from_filter, grouping_from, groups_have_an_arrangement, groups_have_one_arrangement, whole_groups, cells-alike, among-own, IsWhole}
+use Rattle.ub_query.specs.Cells.{Group, group_cell}
 use Rattle.ub_query.specs.Groups.{selected, values_of, are_same, rows_with, IsGrouping, AreGroups}
 use Rattle.ub_query.specs.Meaning.{IsGroupMeaning, limited}
 use Rattle.ub_query.specs.Order.{IsArrangement, IsGroupBefore, IsBeforeBy, AreBelow}
 use Rattle.ub_query.specs.Posed.{IsGrouped}
 use Rattle.ub_query.specs.Shape.{Asked}
 use Rattle.ub_query.specs.declared.cell.Cell.{Cell}
-use Rattle.ub_query.specs.declared.cell.Cell.TheVariants.{Number}
 use Rattle.ub_query.specs.declared.query.Item.{Item}
 use Rattle.ub_query.specs.declared.query.Item.TheVariants.{Column, Count, Aggregate}
 use Rattle.ub_query.specs.declared.query.SortKey.{SortKey}
-use Rattle.ub_table.specs.Table.{Table, column_value}
+use Rattle.ub_table.specs.Table.{Table}
 use Rattle.ub_table.specs.declared.row.Row.{Row}
 use Rattle.ub_table.specs.declared.schema.Schema.{Schema}
 use denote.Ref.{Bor}
 
 -- ---- a row of a group has its values
-
-among-own : (schema : Schema) (row : Row) (columns : List ℕ) (column : ℕ) → Contains columns column
-    → value_among columns (map (column_value schema row) columns) column ≡ Number (column_value schema row column)
-among-own schema row [] column here = absurd (contains_none column here)
-among-own schema row (c ∷ columns) column here = elim (cases_Bool (c == column)) [
-  | inl same ↦
-      ap (λ (b : Bool). cond b (Number (column_value schema row c)) (value_among columns (map (column_value schema row) columns) column)) same
-      ∙ ap (λ (n : ℕ). Number (column_value schema row n)) (eqb-true c column same)
-  | inr apart ↦
-      let there : Contains columns column = elim (contains_cases c columns column here) [
-        | inl e ↦ absurd (true≢false (sym (eq-eqb c column e) ∙ apart))
-        | inr more ↦ more
-      ] in
-      ap (λ (b : Bool). cond b (Number (column_value schema row c)) (value_among columns (map (column_value schema row) columns) column)) apart
-      ∙ among-own schema row columns column there
-]
 
 of_own_group : (schema : Schema) (row : Row) (columns : List ℕ) (item : Item) → IsGrouped columns item → IsOfGroup schema columns (values_of schema columns row) row item
 of_own_group schema row columns (Column column) here = among-own schema row columns column here

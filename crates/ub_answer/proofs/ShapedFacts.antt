@@ -1,10 +1,10 @@
 -- The shape of an answer: how long its rows are, and how many there are.
-use Rattle.std.proofs.Common.{◌≡◌, ◌≤◌, ◌∙◌, ℕ, zero, suc, List, [], ◌∷◌, Option, Some, None, IfSome, Result, Ok, Err, IfOk, length, map, sym, ap, subst, refl, arith}
-use Rattle.std.proofs.lemmas.List.{length-map}
+use Rattle.std.proofs.Common.{◌≡◌, ◌≤◌, ◌+◌, ◌*◌, ◌++◌, ◌∙◌, ℕ, zero, suc, List, [], ◌∷◌, Option, Some, None, IfSome, Result, Ok, Err, IfOk, length, map, sym, ap, subst, refl, arith}
+use Rattle.std.proofs.lemmas.List.{length-append, length-map}
 use Rattle.std.specs.List.{AllByRecursion}
-use Rattle.ub_answer.proofs.CutFacts.{length-cut}
+use Rattle.ub_answer.proofs.CutFacts.{as-wide, both-pieces, few-pieces, length-cut}
 use Rattle.ub_answer.specs.Held.{lines}
-use Rattle.ub_answer.specs.Shaped.{IsShaped}
+use Rattle.ub_answer.specs.Shaped.{HaveOneWidth, IsShaped}
 use Rattle.ub_answer.specs.inner.Cut.{cut}
 use Rattle.ub_query.specs.Cells.{row_cell}
 use Rattle.ub_query.specs.Shape.{Asked}
@@ -55,3 +55,23 @@ shaped_totals q items count width whole cells items_are width_is one none is wid
   wide = subst (λ (w : ℕ). AllByRecursion (λ cells. length cells ≡ w) cells) (width_is ∙ ap length items_are) wide;
   few = subst (λ (n : ℕ). IfSome q.limit (λ most. n ≤ most)) (sym (ap length is ∙ length-cut count width whole)) (few_one q.limit count one none);
 }
+
+-- ---- rows put after others
+
+-- the cells of both, one after the other, are the rows of both
+pub rows-of_both : (count width more other : ℕ) (xs ys whole : List Cell) (first second : List (List Cell)) → length xs ≡ count * width → length ys ≡ more * other
+    → cut count width xs ≡ first → cut more other ys ≡ second → HaveOneWidth first second → whole ≡ xs ++ ys
+    → (all : ℕ) → (count ≡ 0 → all ≡ other) → (1 ≤ count → all ≡ width)
+    → (count + more ≤ length whole) × (length whole ≡ (count + more) * all) × (cut (count + more) all whole ≡ first ++ second)
+rows-of_both count width more other xs ys whole first second long more_long is more_is wide is_whole all none some =
+    let mine = subst (λ (rows : List (List Cell)). AllByRecursion (λ cells. length cells ≡ wide.width) rows) (sym is) wide.first_wide in
+    let theirs = subst (λ (rows : List (List Cell)). AllByRecursion (λ cells. length cells ≡ wide.width) rows) (sym more_is) wide.second_wide in
+    let few = few-pieces count wide.width (length xs) (as-wide count width wide.width xs long mine).0 wide.some in
+    let few_more = few-pieces more wide.width (length ys) (as-wide more other wide.width ys more_long theirs).0 wide.some in
+    let both = both-pieces count width more other wide.width xs ys long more_long mine theirs all none some in
+    let length_is = ap length is_whole in (
+      omega (arith, length-append xs ys),
+      length_is ∙ both.0,
+      ap (cut (count + more) all) is_whole ∙ both.1 ∙ ap (λ (rows : List (List Cell)). rows ++ cut more other ys) is
+          ∙ ap (λ (rows : List (List Cell)). first ++ rows) more_is,
+    )

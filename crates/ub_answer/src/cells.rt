@@ -29,8 +29,10 @@ impl Model for Cells {
 impl Cells {
     ghost use Rattle.std.specs.Prelude.{◌≡◌, ◌==◌, ◌≤◌, ◌<◌, ◌*◌, ◌++◌, ◌∷◌, [], Some, length, map, slice_get, is_ok, if◌then◌else◌};
     ghost use Rattle.std.specs.List.{All, AllByRecursion};
+    ghost use Rattle.ub_answer.specs.Shaped.{HaveOneWidth};
     ghost use Rattle.ub_answer.specs.inner.Cut.{cut};
     ghost use Rattle.ub_query.specs.Cells as sql;
+    ghost use Rattle.ub_query.specs.Meaning.{limited};
     ghost use Rattle.ub_query.specs.Posed.{IsItemOver};
 
     /// So many rows of so many cells each, which stand one after the other.
@@ -80,6 +82,30 @@ impl Cells {
         }
     }
 
+    /// Puts the rows of other cells after those that there are, and keeps as many of all as the limit says. Where memory is
+    /// refused the rows stay as they were.
+    pub fn extend(&mut self, more: &Cells, limit: Option<u64>) -> Result<(), AllocError>
+        requires wide { HaveOneWidth self.old more.now }
+        ensures { self.new ≡ (if is_ok result
+            then limited limit (self.old ++ more.now) else self.old) }
+    {
+        self.cells.extend_from_slice(more.cells.as_slice())?;
+        self.width = width_of(self.count, self.width, more.width);
+        self.count += more.count;
+        self.keep_first(limit);
+        Ok(())
+    }
+
+    // Lets all rows but the first n go where LIMIT n stands.
+    fn keep_first(&mut self, limit: Option<u64>)
+        ensures { self.new ≡ limited limit self.old }
+    {
+        if let Some(most) = limit {
+            self.count = self.count.min(most as usize);
+            self.cells.truncate(self.count * self.width);
+        }
+    }
+
     /// How many rows there are.
     pub fn len(&self) -> usize
         ensures { result ≡ length self.now }
@@ -102,6 +128,14 @@ impl Cells {
         let cells = self.cells.as_slice();
         piece(cells, index * self.width, self.width)
     }
+}
+
+// The width of so many rows, or where there are none that of others.
+fn width_of(count: usize, width: usize, other: usize) -> usize
+    ensures none { count ≡ 0 → result ≡ other }
+    ensures some { 1 ≤ count → result ≡ width }
+{
+    if count == 0 { other } else { width }
 }
 
 // So many cells from one on.

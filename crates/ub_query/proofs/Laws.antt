@@ -1,20 +1,21 @@
 -- The laws of the definitions, as specs/Laws.antt states them.
-use Rattle.std.proofs.Common.{◌≡◌, ◌≢◌, ◌↔◌, ℕ, ◌+◌, ◌<◌, ◌≤◌, ◌==◌, true, false, not, ◌||◌, IsTrue, length, ℤ, pos, neg_ℤ, ◌≤ℤ◌, List, [], ◌∷◌, map, fold, ◌⊎◌, inl, inr, ⊎_elim, Contains, refl, sym, ◌∙◌, ap, subst, arith}
+use Rattle.std.proofs.Common.{◌≡◌, ◌≢◌, ◌↔◌, ℕ, ◌+◌, ◌<◌, ◌≤◌, ◌==◌, Bool, true, false, not, ◌||◌, IsTrue, length, ℤ, pos, neg_ℤ, ◌≤ℤ◌, List, [], ◌∷◌, ◌++◌, map, fold, ◌⊎◌, inl, inr, ⊎_elim, Contains, refl, sym, ◌∙◌, ap, subst, arith}
 use Rattle.std.specs.Int.{int_min, int_max}
-use Rattle.std.specs.List.{AllByRecursion, list_any}
+use Rattle.std.specs.List.{All, AllByRecursion, list_any}
 use Rattle.std.proofs.lemmas.Bool.{cases_Bool, eqb-true, true≢false}
 use Rattle.std.proofs.lemmas.Int.{ints, fold-int_min_bounds, fold-int_min_reached, fold-int_max_bounds, fold-int_max_reached}
-use Rattle.std.proofs.lemmas.List.Elements.{All-cons}
+use Rattle.std.proofs.lemmas.List.Elements.{All-cons, All-contains}
 use Rattle.std.proofs.lemmas.List.Kept.{AllPairs-from_increasing}
 use Rattle.std.proofs.lemmas.List.Sorted.{IsPermutation-refl}
 use Rattle.ub_query.proofs.Arranging.{one_arrangement}
 use Rattle.ub_query.proofs.GroupFacts.{some_groups, same_groups}
-use Rattle.ub_query.proofs.OrderFacts.{lists-never, lists-chain, lists-sides}
+use Rattle.ub_query.proofs.LeadFacts.{groups_follow, groups-chain}
+use Rattle.ub_query.proofs.OrderFacts.{lists-never, lists-sides}
 use Rattle.ub_query.specs.Cells.{Group, row_cell, group_cell}
 use Rattle.ub_query.specs.Groups.{selected, is_selected}
-use Rattle.ub_query.specs.Laws.{PosedIsLow, BetweenIsTwo, GroupQueriesAreTold, MinIsLeast, MaxIsGreatest, RowsHaveAnArrangement, RowsHaveOneArrangement, SelectedAreInOrder, RowsInOrderAreArranged, RowsFallIntoGroups, GroupsHaveAnArrangement, GroupsHaveOneArrangement, PlainQueriesMean, QueriesHaveAMeaning, QueriesHaveOneMeaning}
+use Rattle.ub_query.specs.Laws.{PosedIsLow, BetweenIsTwo, GroupQueriesAreTold, MinIsLeast, MaxIsGreatest, RowsHaveAnArrangement, RowsHaveOneArrangement, SelectedAreInOrder, RowsInOrderAreArranged, RowsFallIntoGroups, GroupsHaveAnArrangement, GroupsHaveOneArrangement, GroupsFollowTheLead, PlainQueriesMean, QueriesHaveAMeaning, QueriesHaveOneMeaning}
 use Rattle.ub_query.specs.Meaning.{IsRowMeaning, IsGroupMeaning, limited}
-use Rattle.ub_query.specs.Order.{IsArrangement, IsRowBefore, IsGroupBefore, AreBelow}
+use Rattle.ub_query.specs.Order.{IsAhead, IsArrangement, IsRowBefore, IsGroupBefore, AreBelow}
 use Rattle.ub_query.specs.Posed.{greatest_number, IsLiteral, comparisons, nesting, height, IsGroupQuery, IsAggregate, is_aggregate, has_groups}
 use Rattle.ub_query.specs.Shape.{Shape, both, either, neither, compares, between, Asked}
 use Rattle.ub_query.specs.declared.cell.Cell.{Cell}
@@ -26,6 +27,7 @@ use Rattle.ub_table.specs.declared.row.Row.{Row}
 use Rattle.ub_table.specs.declared.schema.Schema.{Schema}
 pub use Rattle.ub_query.proofs.Arranging.{Rising, Rising-both, Rising-filter, Rising-from_adjacent, Rising-from_pairs, Rising-map, Rising-mapped, Rising-one, adjacent-from_Rising, all_at, all_from_contains, all_permutation, all_weaker, an_arrangement, contains_cases, contains_here, contains_later, contains_none}
 pub use Rattle.ub_query.proofs.GroupFacts.{IsWhole, are_same-itself, are_same-true, cells-alike, contains_filter, contains_from_filter, contains_from_map, contains_map, grouping_from, whole_groups}
+pub use Rattle.ub_query.proofs.LeadFacts.{among-own}
 pub use Rattle.ub_query.proofs.OrderFacts.{AreAlike, before-chain, before-never, before-sides}
 
 -- each AND and each OR on the way to a comparison has a comparison more on its other side
@@ -163,9 +165,6 @@ rows_fall_into_groups schema columns rows = some_groups schema columns rows
 groups-never : (g : Group) → ¬ AreBelow g.values g.values
 groups-never g h = lists-never g.values h
 
-groups-chain : (a b c : Group) → AreBelow a.values b.values → AreBelow b.values c.values → AreBelow a.values c.values
-groups-chain a b c g h = lists-chain a.values b.values c.values g h
-
 groups-sides : (schema : Schema) (columns : List ℕ) (keys : List SortKey) (a b : Group) → IsWhole columns a → IsWhole columns b → a.values ≢ b.values
     → IsGroupBefore schema columns keys a b ⊎ IsGroupBefore schema columns keys b a
 groups-sides schema columns keys a b p q differ =
@@ -198,6 +197,26 @@ groups_have_one_arrangement schema columns keys rows groups others first second 
     (before-never (group_cell schema columns) (λ a b. AreBelow a.values b.values) groups-never keys)
     (before-chain (group_cell schema columns) (λ a b. AreBelow a.values b.values) groups-chain keys)
     groups others first second (same_groups schema columns rows groups others p q) (same_groups schema columns rows others groups q p) a b
+
+-- where this row is first, it stands before each of the others in this column
+abbrev AheadOf : Schema → ℕ → Bool → (Row → Bool) → Row → Row → Type 0
+AheadOf schema column is_descending is_first a b = is_first b ≡ false → IsAhead is_descending (row_cell schema a (Column column)) (row_cell schema b (Column column))
+
+abbrev AreLed : Schema → ℕ → Bool → (Row → Bool) → List Row → Type 0
+AreLed schema column is_descending is_first rows = All (λ a. IsTrue (is_first a) → All (AheadOf schema column is_descending is_first a) rows) rows
+
+led_by : (schema : Schema) (column : ℕ) (is_descending : Bool) (is_first : Row → Bool) (rows : List Row) → AreLed schema column is_descending is_first rows
+    → (a b : Row) → Contains rows a → Contains rows b → is_first a ≡ true → is_first b ≡ false
+    → IsAhead is_descending (row_cell schema a (Column column)) (row_cell schema b (Column column))
+led_by schema column is_descending is_first rows led a b in_a in_b first later =
+    All-contains (AheadOf schema column is_descending is_first a) rows b
+    (All-contains (λ a. IsTrue (is_first a) → All (AheadOf schema column is_descending is_first a) rows) rows a led in_a first) in_b later
+
+pub groups_follow_the_lead : GroupsFollowTheLead
+groups_follow_the_lead schema q column is_descending is_first rows front back lead here led a b =
+    let both = groups_follow schema q.group q.order column is_descending is_first rows a.groups b.groups front back lead here
+    (led_by schema column is_descending is_first rows led) a.grouped b.grouped a.ordered b.ordered in
+    record { groups = a.groups ++ b.groups; grouped = both.0; ordered = both.1 }
 
 -- ---- meaning
 

@@ -51,7 +51,7 @@ cell-sides (Number a) Null alike = absurd alike
 cell-sides Null (Number b) alike = absurd alike
 cell-sides Null Null alike = inr (inl refl)
 
-ahead-never : (t : Bool) (a : Cell) → ¬ IsAhead t a a
+pub ahead-never : (t : Bool) (a : Cell) → ¬ IsAhead t a a
 ahead-never false a h = cell-never a h
 ahead-never true a h = cell-never a h
 
