@@ -1,5 +1,6 @@
 -- Which plan a query has: the rule, read from what the plan is and from what the query asks.
-use Rattle.std.proofs.Common.{◌≡◌, ◌≢◌, ◌<◌, ◌↔◌, ◌==◌, ◌||◌, nat_lt, ℕ, List, [], length, Bool, true, false, cond, Option, Some, None, slice_get, ◌⊎◌, inl, inr, ⊎_elim, refl, sym, ap, ◌∙◌, subst}
+use Rattle.std.proofs.Common.{◌≡◌, ◌≢◌, ◌<◌, ◌↔◌, ◌==◌, ◌||◌, ◌&&◌, nat_lt, ℕ, List, [], ◌∷◌, length, Bool, true, false, not, cond, Option, Some, None, slice_get, ◌⊎◌, inl, inr, ⊎_elim, refl, sym, ap, ◌∙◌, subst, arith}
+use Rattle.std.specs.List.{list_any}
 use Rattle.std.proofs.lemmas.Bool.{cases_Bool, cond_both, eqb-true, lt-ltb, ltb-true, or_right, true≢false}
 use Rattle.std.proofs.lemmas.List.{nil_from_length}
 use Rattle.ub_bigmin.specs.Box.{Corners}
@@ -9,7 +10,8 @@ use Rattle.ub_planning.specs.Plan.{along, along_item, is_zero, planned_kind, rea
 use Rattle.ub_planning.specs.declared.planned.Kind.{Kind}
 use Rattle.ub_planning.specs.declared.planned.Kind.TheVariants.{Empty, Scan, Sweep}
 use Rattle.ub_query.proofs.Laws.{group_queries_are_told}
-use Rattle.ub_query.specs.Posed.{IsGroupQuery, has_groups}
+use Rattle.ub_query.specs.Lead.{group_lead, is_one_entry, swept_order}
+use Rattle.ub_query.specs.Posed.{IsGroupQuery, has_groups, is_aggregate}
 use Rattle.ub_query.specs.Shape.{Asked}
 use Rattle.ub_query.specs.declared.query.Item.{Item}
 use Rattle.ub_query.specs.declared.query.Item.TheVariants.{Column, Count, Aggregate}
@@ -20,7 +22,7 @@ use Rattle.ub_table.specs.declared.schema.Schema.{Schema}
 
 -- how the regions are read where there is something to read
 abbrev read_kind : Schema → Asked → Kind
-read_kind schema q = cond (has_groups q) Scan (along schema.dims (slice_get q.order 0))
+read_kind schema q = cond (is_one_entry q) Scan (along schema.dims (slice_get (swept_order q.group q.order) 0))
 
 item_reads : (dims : ℕ) (item : Item) (is_descending : Bool) → reads (along_item dims item is_descending) ≡ true
 item_reads dims (Column column) is_descending =
@@ -34,8 +36,9 @@ along_reads dims (Some key) = item_reads dims key.item key.is_descending
 
 read_reads : (schema : Schema) (q : Asked) → reads (read_kind schema q) ≡ true
 read_reads schema q =
-    cond_both (has_groups q) Scan (along schema.dims (slice_get q.order 0)) (λ (kind : Kind). reads kind ≡ true) (λ e. refl)
-    (λ e. along_reads schema.dims (slice_get q.order 0))
+    let first = slice_get (swept_order q.group q.order) 0 in
+    cond_both (is_one_entry q) Scan (along schema.dims first) (λ (kind : Kind). reads kind ≡ true) (λ e. refl)
+    (λ e. along_reads schema.dims first)
 
 -- ---- where there is not
 
@@ -104,8 +107,8 @@ along_sweeps dims (Some key) dim is_descending is =
     (parts.2, ap (λ (k : SortKey). Some k) (same_key key dim is_descending parts.0 parts.1))
 
 read_sweeps : (schema : Schema) (q : Asked) (dim : ℕ) (is_descending : Bool) → read_kind schema q ≡ Sweep dim is_descending
-    → (has_groups q ≡ false) × (along schema.dims (slice_get q.order 0) ≡ Sweep dim is_descending)
-read_sweeps schema q dim is_descending is = elim (cases_Bool (has_groups q)) [
+    → (is_one_entry q ≡ false) × (along schema.dims (slice_get (swept_order q.group q.order) 0) ≡ Sweep dim is_descending)
+read_sweeps schema q dim is_descending is = elim (cases_Bool (is_one_entry q)) [
   | inl t ↦ let same : Scan ≡ Sweep dim is_descending = rw t at is in absurd cc
   | inr f ↦ (f, rw f at is)
 ]
@@ -125,16 +128,63 @@ is_read schema q some =
     (λ (f : Nothing schema q false). kind_by schema q false f)
     (cases_Bool (length (boxes_of schema q.filter) == 0 || is_zero q.limit))
 
+-- ---- what leads: of rows the first order key, of groups their lead
+
+some_columns : (column : ℕ) (group : List ℕ) → (length (column ∷ group) == 0) ≡ false
+some_columns column group = elim (cases_Bool (length (column ∷ group) == 0)) [
+  | inl t ↦ let none = eqb-true (length (column ∷ group)) 0 t in absurd (omega arith)
+  | inr f ↦ f
+]
+
+-- this key leads a query with these columns of GROUP BY, these order keys and these items
+abbrev Leads : List ℕ → List SortKey → List Item → SortKey → Type 0
+Leads group order items key =
+    (((not (length group == 0) || list_any is_aggregate items) ≡ false) × (slice_get order 0 ≡ Some key)) ⊎ (group_lead group order ≡ Some key)
+
+-- it stands first in the order in which a sweep gives rows, and the result isn't one entry
+abbrev StandsFirst : List ℕ → List SortKey → List Item → SortKey → Type 0
+StandsFirst group order items key =
+    (((length group == 0) && list_any is_aggregate items) ≡ false) × (slice_get (swept_order group order) 0 ≡ Some key)
+
+first_leads : (group : List ℕ) (order : List SortKey) (items : List Item) (key : SortKey) → StandsFirst group order items key → Leads group order items key
+first_leads [] order items key h = inl h
+first_leads (column ∷ group) order items key h = inr h.1
+
+leads_first : (group : List ℕ) (order : List SortKey) (items : List Item) (key : SortKey) → Leads group order items key → StandsFirst group order items key
+leads_first [] order items key (inl h) = h
+leads_first [] order items key (inr h) = absurd cc
+leads_first (column ∷ group) order items key (inl h) =
+    absurd (true≢false (sym (ap (λ (b : Bool). not b || list_any is_aggregate items) (some_columns column group)) ∙ h.0))
+leads_first (column ∷ group) order items key (inr h) = (ap (λ (b : Bool). b && list_any is_aggregate items) (some_columns column group), h)
+
+-- the order key that is a dimension
+abbrev dimension_key : ℕ → Bool → SortKey
+dimension_key dim is_descending = record { item = Column dim; is_descending = is_descending }
+
+-- the key leads as the law says it
+abbrev IsLedBy : Asked → SortKey → Type 0
+IsLedBy q key = ((¬ IsGroupQuery q) × (slice_get q.order 0 ≡ Some key)) ⊎ (group_lead q.group q.order ≡ Some key)
+
+led_as : (q : Asked) (key : SortKey) → Leads q.group q.order q.items key → IsLedBy q key
+led_as q key (inl h) = inl ((plain q).0 h.0, h.1)
+led_as q key (inr h) = inr h
+
+led_from : (q : Asked) (key : SortKey) → IsLedBy q key → Leads q.group q.order q.items key
+led_from q key (inl h) = inl ((plain q).1 h.0, h.1)
+led_from q key (inr h) = inr h
+
 pub sweeps_are_led : SweepsAreLed
 sweeps_are_led schema q dim is_descending some =
-    let read = is_read schema q some in (
+    let read = is_read schema q some in
+    let first = slice_get (swept_order q.group q.order) 0 in (
       λ is.
           let parts = read_sweeps schema q dim is_descending (sym read ∙ is) in
-          let led = along_sweeps schema.dims (slice_get q.order 0) dim is_descending parts.1 in
-          ((plain q).0 parts.0, led.0, led.1),
+          let led = along_sweeps schema.dims first dim is_descending parts.1 in
+          (led.0, led_as q (dimension_key dim is_descending) (first_leads q.group q.order q.items (dimension_key dim is_descending) (parts.0, led.1))),
       λ h.
+          let stands = leads_first q.group q.order q.items (dimension_key dim is_descending) (led_from q (dimension_key dim is_descending) h.1) in
           read
-          ∙ ap (λ (b : Bool). cond b Scan (along schema.dims (slice_get q.order 0))) ((plain q).1 h.0)
-          ∙ ap (λ (key : Option SortKey). along schema.dims key) h.2
-          ∙ ap (λ (b : Bool). cond b (Sweep dim is_descending) Scan) (lt-ltb dim schema.dims h.1),
+          ∙ ap (λ (b : Bool). cond b Scan (along schema.dims first)) stands.0
+          ∙ ap (λ (key : Option SortKey). along schema.dims key) stands.1
+          ∙ ap (λ (b : Bool). cond b (Sweep dim is_descending) Scan) (lt-ltb dim schema.dims h.0),
     )

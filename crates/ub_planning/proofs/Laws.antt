@@ -14,7 +14,7 @@ pub use Rattle.ub_planning.proofs.FoundFacts.{meeting_of}
 pub use Rattle.ub_planning.proofs.InsideFacts.{from_in_some, in_some}
 pub use Rattle.ub_planning.proofs.KindFacts.{plans_are_empty, sweeps_are_led}
 pub use Rattle.ub_planning.proofs.SpanFacts.{of_some_span, of_span, rows_are_points}
-pub use Rattle.ub_planning.proofs.SweepFacts.{arranged_of}
+pub use Rattle.ub_planning.proofs.SweepFacts.{arranged_of, groups_in_one_order, groups_in_order}
 pub use Rattle.ub_planning.proofs.TableFacts.{regions_have_a_table, regions_have_one_table}
 pub use Rattle.ub_planning.proofs.TakeFacts.{row_is_taken, row_is_told}
 pub use Rattle.ub_planning.proofs.ThoseFacts.{Rising-those, filter_none, parts_back, those_one}

@@ -8,7 +8,7 @@ pub mod VisitFacts
 pub mod FoundFacts
 pub mod ValueFacts
 pub mod EventFacts
+pub mod TableFacts
 pub mod SweepFacts
 pub mod KindFacts
-pub mod TableFacts
 pub mod Laws

@@ -1,5 +1,5 @@
 -- The regions of a table have one table.
-use Rattle.std.proofs.Common.{◌<◌, List}
+use Rattle.std.proofs.Common.{◌<◌}
 use Rattle.std.proofs.lemmas.List.Sorted.{Contains-permutation, IsPermutation-sym}
 use Rattle.ub_planning.proofs.MeaningFacts.{same_rows}
 use Rattle.ub_planning.proofs.VisitFacts.{rows_differ}

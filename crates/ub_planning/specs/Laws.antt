@@ -26,8 +26,8 @@ abbrev pub PlansAreEmpty : Type 0
 PlansAreEmpty = (schema : Schema) (q : Asked)
     → ((plan_of schema q).kind ≡ Empty) ↔ ((boxes_of schema q.filter ≡ []) ⊎ (q.limit ≡ Some 0))
 
--- a plan that isn't empty sweeps a dimension just where the query is one of rows whose first order key is that dimension, or has a
--- GROUP BY whose lead it is
+-- a plan that isn't empty sweeps a dimension just where the query is one of rows whose first order key is that dimension, or has
+-- a GROUP BY whose lead it is
 abbrev pub SweepsAreLed : Type 0
 SweepsAreLed = (schema : Schema) (q : Asked) (dim : ℕ) (is_descending : Bool) → (plan_of schema q).kind ≢ Empty
     → ((plan_of schema q).kind ≡ Sweep dim is_descending)

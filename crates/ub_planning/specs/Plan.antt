@@ -38,8 +38,8 @@ along dims None = Scan
 along dims (Some key) = along_item dims key.item key.is_descending
 
 -- how regions are read for a query, by the first of these rules that holds: not at all where the cover has no box or the limit
--- is 0; by a scan where the result is one entry; by a sweep where the first key of the order in which it gives rows is a dimension
--- (of a query of rows its first order key, of one with GROUP BY its lead); by a scan
+-- is 0; by a scan where the result is one entry; by a sweep where the first key of the order in which it gives rows (of a query
+-- of rows its first order key, of one with GROUP BY its lead) is a dimension; by a scan
 abbrev pub planned_kind : Schema → Asked → Kind
 planned_kind schema q =
     if length (boxes_of schema q.filter) == 0 || is_zero q.limit then Empty

@@ -89,7 +89,8 @@ selected_rows schema plan regions = filter (is_selected schema plan.asked.filter
 
 -- these rows, in the order in which a sweep gives them
 abbrev pub AreArranged : Schema → PlanView → List Row → List Row → Type 0
-AreArranged schema plan rows arranged = IsArrangement (IsRowBefore schema (swept_order plan.asked.group plan.asked.order)) rows arranged
+AreArranged schema plan rows arranged =
+    IsArrangement (IsRowBefore schema (swept_order plan.asked.group plan.asked.order)) rows arranged
 
 -- whether there are as many as the limit asks for
 abbrev pub is_filled : Option ℕ → ℕ → Bool
@@ -107,8 +108,8 @@ last_of [] = 0
 last_of (value ∷ []) = value
 last_of (value ∷ other ∷ values) = last_of (other ∷ values)
 
--- the regions that a sweep comes to that gives rows with these coordinates: all of them, or where the limit is filled those
--- that aren't past the last row
+-- the regions that a sweep comes to that gives rows, or groups, with these coordinates: all of them, or where the limit is
+-- filled those that aren't past the last one
 abbrev pub reached : Bool → Option ℕ → List ℕ → List Event → List Event
 reached is_descending limit given events =
     if is_filled limit (length given)
@@ -139,14 +140,16 @@ pub record AreGroupVisits (schema : Schema) (plan : PlanView) (dim : ℕ) (is_de
   pub rows : List Row
   pub rows_are : AreTableRows regions rows
   pub arranged : List Group
-  pub arranged_are : AreGroupsInOrder schema plan.asked (selected (record { schema = schema; rows = rows }) plan.asked.filter) arranged
+  pub arranged_are : AreGroupsInOrder schema plan.asked
+      (selected (record { schema = schema; rows = rows }) plan.asked.filter) arranged
   pub visits_are : visits ≡ map (λ event. event.span)
       (reached is_descending plan.asked.limit (map (lead_value dim) (limited plan.asked.limit arranged)) events)
 
 -- the visits of a sweep, by the columns of GROUP BY: of rows where there is none, else of groups
 abbrev pub AreSweptVisits : List ℕ → Schema → PlanView → ℕ → Bool → List Region → List Span → Type 0
 AreSweptVisits [] schema plan dim is_descending regions visits = AreSweepVisits schema plan dim is_descending regions visits
-AreSweptVisits (column ∷ group) schema plan dim is_descending regions visits = AreGroupVisits schema plan dim is_descending regions visits
+AreSweptVisits (column ∷ group) schema plan dim is_descending regions visits =
+    AreGroupVisits schema plan dim is_descending regions visits
 
 -- the visits of a plan: none of an empty one; of a scan the regions that meet its boxes, in the order of their first keys; of
 -- a sweep those that it comes to, in the order in which it comes to them; each once

@@ -8,7 +8,8 @@ pub fn plans_are_empty()
     ensures { PlansAreEmpty }
 {}
 
-/// A plan that isn't empty sweeps a dimension just where the query is one of rows whose first order key is that dimension.
+/// A plan that isn't empty sweeps a dimension just where the query is one of rows whose first order key is that dimension, or
+/// has a GROUP BY whose lead it is.
 pub fn sweeps_are_led()
     ensures { SweepsAreLed }
 {}
