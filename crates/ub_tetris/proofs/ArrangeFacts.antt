@@ -3,7 +3,7 @@ use Rattle.std.proofs.Common.{◌≡◌, ◌≤◌, ◌+◌, ℕ, List, [], ◌�
 use Rattle.std.proofs.lemmas.Bool.{cases_lt}
 use Rattle.std.proofs.lemmas.List.Elements.{All-from_recursion, Contains-append_left, Contains-append_right, Contains-append_cases, filter-append}
 use Rattle.std.proofs.lemmas.List.Sums.{sum_by-cons, sum_by-append}
-use Rattle.std.specs.List.{All, flat_map, sum_by}
+use Rattle.std.specs.List.{All, AllByRecursion, flat_map, sum_by}
 use Rattle.ub_region.specs.Those.{AreThose}
 use Rattle.ub_query.proofs.Laws.{Rising, all_at, contains_here, contains_later, contains_cases, contains_none, all_from_contains}
 
@@ -38,6 +38,14 @@ rising_apart R (z ∷ xs) ys x y up left right = elim (contains_cases z xs x lef
 pub rising_right : {E : Type 0} (R : E → E → Type 0) (xs ys : List E) → Rising R (xs ++ ys) → Rising R ys
 rising_right R [] ys up = up
 rising_right R (x ∷ xs) ys up = rising_right R xs ys up.1
+
+all_left : {E : Type 0} (P : E → Type 0) (xs ys : List E) → AllByRecursion P (xs ++ ys) → AllByRecursion P xs
+all_left P [] ys all = tt
+all_left P (x ∷ xs) ys all = (all.0, all_left P xs ys all.1)
+
+pub rising_left : {E : Type 0} (R : E → E → Type 0) (xs ys : List E) → Rising R (xs ++ ys) → Rising R xs
+rising_left R [] ys up = tt
+rising_left R (x ∷ xs) ys up = (all_left (λ y. R x y) xs ys up.0, rising_left R xs ys up.1)
 
 pub rising_two : {E : Type 0} (R : E → E → Type 0) (xs : List E) (x y : E) → Rising R xs → Contains xs x → Contains xs y → (x ≡ y) ⊎ (R x y ⊎ R y x)
 rising_two R [] x y up left right = absurd (contains_none x left)

@@ -40,7 +40,7 @@ placed_of t span there = among (last_address t.schema.dims) t.placed span there
       | inr later ↦ let (q, here, page, first) = among last placed span later in (q, contains_later p placed q here, page, first)
     ]
 
-all_right : {E : Type 0} (P : E → Type 0) (xs ys : List E) → All P (xs ++ ys) → All P ys
+pub all_right : {E : Type 0} (P : E → Type 0) (xs ys : List E) → All P (xs ++ ys) → All P ys
 all_right P xs ys all = all_of P ys (λ x there. All-contains P (xs ++ ys) x all (Contains-append_right xs ys x there))
 
 first_of : {E : Type 0} (xs ys : List E) (x : E) → xs ≡ x ∷ ys → Contains xs x
@@ -172,10 +172,10 @@ none_awaited s left None (None, is_first, due) takes none = past s.queue.items s
 pub same_view : (s : State) (is_failed : Bool) (view : SweepView) → view_by s is_failed ≡ view → is_failed ≡ false → view ≡ view_of s
 same_view s is_failed view is working = sym is ∙ ap (λ (b : Bool). view_by s b) working
 
-pub rests_seen : (result : Result (Option Row) SweepFault) (s new_s : State) (view : SweepView) (has_failed : Bool) (old new : TreeView) → view ≡ view_of s → has_failed ≡ is_err result
+pub rests_seen : {A : Type 0} (result : Result (Option A) SweepFault) (s new_s : State) (view : SweepView) (has_failed : Bool) (old new : TreeView) → view ≡ view_of s → has_failed ≡ is_err result
     → Rests (view_of s) (view_of new_s) old new result → Rests view (view_by new_s has_failed) old new result
 rests_seen result s new_s view has_failed old new same is rests = record {
   none = rests.none;
-  sweep_is = ap (λ (b : Bool). view_by new_s b) (is ∙ ap (λ (r : Result (Option Row) SweepFault). is_err r) rests.none) ∙ rests.sweep_is ∙ sym same;
+  sweep_is = ap (λ (b : Bool). view_by new_s b) (is ∙ ap (λ (r : Result (Option _) SweepFault). is_err r) rests.none) ∙ rests.sweep_is ∙ sym same;
   tree_is = rests.tree_is;
 }

@@ -217,3 +217,39 @@ pub swept_by : {T U : Type 0} (r : Result T SweepFault) (e : SweepFault) (a b : 
 swept_by (Ok x) e a b t n is swept = absurd is
 swept_by (Err f) e a b t n is swept =
     rw is (record { noted = swept.noted; same = swept.same; trace_is = swept.trace_is; fetches_are = swept.fetches_are; come = swept.come; left = swept.left; taken = tt; refused = swept.refused; faults = swept.faults; regions = swept.regions })
+
+-- the sweep gave more of what it held: it awaits the same regions
+module _ {T : Type 0} (x : T) (s mid new_s : SweepView) (t n : TreeView) (same : mid.awaited ≡ new_s.awaited) (swept : Sweeps s mid t n (Ok x)) where
+  still_its : AreItsRegions t s → AreItsRegions n new_s
+  still_its all = subst (λ (those : List AwaitedRegion). AllByRecursion (λ a. IsRegionOf n a.region) those) same (swept.regions all)
+
+  pub swept_with : {U : Type 0} (y : U) → Sweeps s new_s t n (Ok y)
+  swept_with y = record {
+    noted = swept.noted;
+    same = swept.same;
+    trace_is = swept.trace_is;
+    fetches_are = swept.fetches_are;
+    come = swept.come;
+    left = swept.left ∙ ap (λ (those : List AwaitedRegion). swept.come ++ those) same;
+    taken = swept.taken;
+    refused = tt;
+    faults = λ all. tt;
+    regions = still_its;
+  }
+
+  -- or memory was refused for it
+  pub swept_short : {U : Type 0} (r : Result U SweepFault) → IsErrAnd r (λ f. f ≡ sweep.Memory) → Sweeps s new_s t n r
+  swept_short (Ok y) is = absurd is
+  swept_short (Err f) is =
+      rw is (record {
+        noted = swept.noted;
+        same = swept.same;
+        trace_is = swept.trace_is;
+        fetches_are = swept.fetches_are;
+        come = swept.come;
+        left = swept.left ∙ ap (λ (those : List AwaitedRegion). swept.come ++ those) same;
+        taken = tt;
+        refused = tt;
+        faults = λ all. tt;
+        regions = still_its;
+      })

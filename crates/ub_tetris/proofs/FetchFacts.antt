@@ -11,6 +11,7 @@ use Rattle.ub_query.specs.declared.query.SortKey.{SortKey}
 use Rattle.ub_table.specs.Region.{IsRegion, Region}
 use Rattle.ub_table.specs.declared.row.Row.{Row}
 use Rattle.ub_table.specs.declared.schema.Schema.{Schema}
+use Rattle.ub_tetris.proofs.AlongFacts.{keys_of}
 use Rattle.ub_tetris.specs.declared.event.Awaited.{Awaited}
 use Rattle.ub_tetris.specs.declared.state.State.{State}
 use Rattle.ub_tetris.specs.Held.{HeldRow, held_row}
@@ -47,7 +48,7 @@ due_within s (first, first_is, due) = within s.queue.items s.fetched first due
 
 pub has_fetched : (plan : PlanView) (choice : Choice) (t new : TreeView) (s new_s : State) (x : Awaited) (region : Region) (schema : Schema) → slice_get s.queue.items s.fetched ≡ Some x
     → HasNoted x.region.page t new → (IsSound t → Contains (spans_of t) x.region → StandsAt t.placed x.region.page region) → region.first ≡ x.region.first
-    → schema ≡ t.schema → HoldsAlso schema plan.asked.order (filter (is_chosen choice schema plan) region.rows) s.held new_s.held → HasFetchedNext plan t new s new_s
+    → schema ≡ t.schema → HoldsAlso schema (keys_of plan.asked) (filter (is_chosen choice schema plan) region.rows) s.held new_s.held → HasFetchedNext plan t new s new_s
 has_fetched plan choice t new s new_s x region schema at noted stands first of_tree holds = record {
   next = x;
   at = at;
@@ -59,8 +60,8 @@ has_fetched plan choice t new s new_s x region schema at noted stands first of_t
         in_tree,
         page,
         ap (λ (r : Region). r.first) is ∙ first,
-        subst (λ (r : Region). HoldsAlso t.schema plan.asked.order (filter (is_chosen choice t.schema plan) r.rows) s.held new_s.held) (sym is)
-            (subst (λ (x : Schema). HoldsAlso x plan.asked.order (filter (is_chosen choice x plan) region.rows) s.held new_s.held) of_tree holds),
+        subst (λ (r : Region). HoldsAlso t.schema (keys_of plan.asked) (filter (is_chosen choice t.schema plan) r.rows) s.held new_s.held) (sym is)
+            (subst (λ (x : Schema). HoldsAlso x (keys_of plan.asked) (filter (is_chosen choice x plan) region.rows) s.held new_s.held) of_tree holds),
       );
 }
 

@@ -1,12 +1,17 @@
 -- The rows held: what a push and a pop of the heap make of them.
-use Rattle.std.proofs.Common.{◌≡◌, ◌<◌, ℕ, ℤ, zero, suc, List, [], ◌∷◌, ◌++◌, true, false, Some, Result, Ok, Err, OnOk, Contains, length, map, slice_index_or, refl, sym, ap, subst, ◌∙◌, arith, append_assoc}
+use Rattle.std.proofs.Common.{◌≡◌, ◌<◌, ℕ, ℤ, zero, suc, List, [], ◌∷◌, ◌++◌, true, false, Option, Some, None, Result, Ok, Err, OnOk, Contains, length, map, slice_index_or, refl, sym, ap, subst, ◌∙◌, arith, append_assoc}
 use Rattle.std.proofs.lemmas.List.{append-nil, map-append}
 use Rattle.std.proofs.lemmas.List.Sorted.{IsPermutation-append_comm, IsPermutation-cons, IsPermutation-map, IsPermutation-refl, IsPermutation-trans}
+use Rattle.std.proofs.lemmas.List.Elements.{All-contains, All-cons, All-nil}
 use Rattle.std.specs.BinaryHeap.{IsUpperBound}
+use Rattle.std.specs.List.{All}
 use Rattle.std.specs.List.Sorted.{IsPermutation}
 use Rattle.std.specs.Ordering.{is_lt}
 use Rattle.std.specs.declared.cmp.Ordering.{Ordering}
 use Rattle.std.specs.declared.cmp.Ordering.TheVariants.{Less}
+use Rattle.ub_query.proofs.Laws.{contains_here}
+use Rattle.ub_query.specs.Lead.{group_lead, lead_by, swept_order}
+use Rattle.ub_query.specs.Posed.{IsItemOver}
 use Rattle.ub_query.specs.declared.query.SortKey.{SortKey}
 use Rattle.ub_table.specs.declared.row.Row.{Row}
 use Rattle.ub_table.specs.declared.schema.Schema.{Schema}
@@ -70,3 +75,32 @@ HoldsAlso-more (Ok x) schema keys by rows row old mid new same so_far put =
     subst (λ (held : List HeldRow). IsPermutation held new) (sym split)
     (IsPermutation-trans (before ++ h ∷ []) (h ∷ before) new (IsPermutation-append_comm before (h ∷ []))
     (IsPermutation-trans (h ∷ before) (h ∷ mid) new (IsPermutation-cons h before mid so_far) put_there))
+
+-- ---- the keys by which rows are held
+
+-- those of groups are their lead
+pub lead_held : (group : List ℕ) (order : List SortKey) (found : Option SortKey) (lead : SortKey) → found ≡ group_lead group order → found ≡ Some lead → lead ∷ [] ≡ swept_order group order
+lead_held [] order found lead is some = let bad : None ≡ Some lead = sym is ∙ some in absurd cc
+lead_held (column ∷ group) order found lead is some = let same : Some lead ≡ group_lead (column ∷ group) order = sym some ∙ is in cc
+
+-- those of rows are the order asked
+pub order_held : (group : List ℕ) (order by : List SortKey) (found : Option SortKey) → found ≡ group_lead group order → found ≡ None → by ≡ order → by ≡ swept_order group order
+order_held [] order by found is none same = same
+order_held (column ∷ group) order by found is none same = let bad : None ≡ group_lead (column ∷ group) order = sym none ∙ is in absurd cc
+
+-- the lead is a column of the table, or none, as each key of the query is
+pub lead_over : (columns : ℕ) (group : List ℕ) (order : List SortKey) (found : Option SortKey) (lead : SortKey) → All (λ column. column < columns) group
+    → All (λ key. IsItemOver columns key.item) order → found ≡ group_lead group order → found ≡ Some lead → All (λ key. IsItemOver columns key.item) (lead ∷ [])
+lead_over columns [] order found lead groups keys is some = let bad : None ≡ Some lead = sym is ∙ some in absurd cc
+lead_over columns (column ∷ group) [] found lead groups keys is some =
+    let same : group_lead (column ∷ group) [] ≡ Some lead = sym is ∙ some in
+    let first : lead_by column [] ≡ lead = cc in
+    All-cons (λ key. IsItemOver columns key.item) lead []
+    (subst (λ (key : SortKey). IsItemOver columns key.item) first (All-contains (λ column. column < columns) (column ∷ group) column groups (contains_here column group)))
+    (All-nil (λ (key : SortKey). IsItemOver columns key.item))
+lead_over columns (column ∷ group) (key ∷ order) found lead groups keys is some =
+    let same : group_lead (column ∷ group) (key ∷ order) ≡ Some lead = sym is ∙ some in
+    let first : key ≡ lead = cc in
+    All-cons (λ key. IsItemOver columns key.item) lead []
+    (subst (λ (key : SortKey). IsItemOver columns key.item) first (All-contains (λ key. IsItemOver columns key.item) (key ∷ order) key keys (contains_here key order)))
+    (All-nil (λ (key : SortKey). IsItemOver columns key.item))

@@ -17,4 +17,5 @@ pub mod SortedFacts
 pub mod SpanFacts
 pub mod StepFacts
 pub mod StepsFacts
+pub mod ValueFacts
 pub mod Laws

@@ -1,6 +1,6 @@
 -- What the steps of a sweep do, as lists alone: it begins, fetches a region, gives a row, and ends.
 use Rattle.std.specs.Prelude.{IfSome}
-use Rattle.std.proofs.Common.{◌≡◌, ◌≤◌, ◌<◌, ◌==◌, ℕ, zero, suc, List, [], ◌∷◌, ◌++◌, Bool, true, false, cond, not, if◌then◌else◌, Option, Some, None, length, map, filter, take, slice_index, Contains, IsPermutation, inl, inr, refl, sym, ap, ◌∙◌, append_assoc, subst, arith}
+use Rattle.std.proofs.Common.{◌≡◌, ◌≤◌, ◌<◌, ◌==◌, ◌⊎◌, ℕ, zero, suc, List, [], ◌∷◌, ◌++◌, Bool, true, false, cond, not, if◌then◌else◌, Option, Some, None, length, map, filter, take, slice_index, Contains, IsPermutation, inl, inr, refl, sym, ap, ◌∙◌, append_assoc, subst, arith}
 use Rattle.std.proofs.lemmas.Bool.{cases_Bool, eq-eqb, eqb-true, lt-ltb, ltb-true, true≢false}
 use Rattle.std.proofs.lemmas.Grind.{flat_map-append}
 use Rattle.std.proofs.lemmas.List.{append-nil, length-map, map-append, take_all}
@@ -8,20 +8,22 @@ use Rattle.std.proofs.lemmas.List.Elements.{All-contains, All-nil, All-tail, Con
 use Rattle.std.proofs.lemmas.List.Sorted.{Contains-permutation, IsPermutation-append_left, IsPermutation-append_right, IsPermutation-pop_more, IsPermutation-refl, IsPermutation-sym, IsPermutation-trans, sum_by-IsPermutation}
 use Rattle.std.proofs.lemmas.List.Sums.{sum_by-append}
 use Rattle.std.proofs.Math.Seq.{take-append_seam}
-use Rattle.std.specs.List.{All, AllByRecursion, sum_by}
+use Rattle.std.specs.List.{All, AllAdjacentBelow, AllByRecursion, sum_by}
 use Rattle.ub_planning.proofs.Laws.{filter_none, arranged_of, Differ}
 use Rattle.ub_planning.specs.Plan.{PlanView}
 use Rattle.ub_planning.specs.Visits.{AreArranged, AreEvents, AreSweepVisits, Event, IsAlong, coordinates, is_filled, is_past, last_of, reached, selected_rows}
 use Rattle.ub_query.proofs.Laws.{Rising, Rising-from_adjacent, all_at, all_weaker, contains_cases, contains_here, contains_later, contains_none, contains_filter, contains_from_filter}
 use Rattle.ub_query.specs.Cells.{row_cell}
 use Rattle.ub_query.specs.Groups.{is_selected, selected}
+use Rattle.ub_query.specs.Lead.{swept_order}
 use Rattle.ub_query.specs.Meaning.{IsMeaning, limited}
 use Rattle.ub_query.specs.Order.{IsRowBefore}
+use Rattle.ub_query.specs.declared.query.SortKey.{SortKey}
 use Rattle.ub_region.specs.Regions.{AreTableRows, rows_of}
 use Rattle.ub_table.specs.Region.{Region}
 use Rattle.ub_table.specs.declared.row.Row.{Row}
 use Rattle.ub_table.specs.declared.schema.Schema.{Schema}
-use Rattle.ub_tetris.proofs.AlongFacts.{IsUpTo, along_before, along_never, along_up_to, led_asks, led_is_plain, led_plan, up_to_chain, values_rise}
+use Rattle.ub_tetris.proofs.AlongFacts.{IsUpTo, along_before, along_never, along_up_to, led_asks, led_plan, plan_is_plain, keys_of, up_to_chain, values_rise}
 use Rattle.ub_tetris.proofs.ArrangeFacts.{all_of, least_first, rising_apart, rising_right, rising_two, some_weight, weight_there}
 use Rattle.ub_tetris.proofs.NumberFacts.{asked-chain, asked-never, selected_differ, selected_of_table}
 use Rattle.ub_tetris.proofs.ReachFacts.{event_rows, fetched_weigh, from_fetched, in_fetched, row_in_event, row_is_past}
@@ -177,7 +179,7 @@ rest_selected : (schema : Schema) (plan : PlanView) (dim : ℕ) (is_descending :
 rest_selected schema plan dim is_descending regions held given rest fetched unread row under there =
     Contains-permutation (given ++ rest) (selected_rows schema plan regions) row (IsPermutation-sym (selected_rows schema plan regions) (given ++ rest) under.rows.same) (Contains-append_right given rest row there)
 
-held_in_rest : (schema : Schema) (plan : PlanView) (dim : ℕ) (is_descending : Bool) (next : ℕ) (regions : List Region) (held given rest : List Row) (fetched unread : List Event) (row : Row)
+pub held_in_rest : (schema : Schema) (plan : PlanView) (dim : ℕ) (is_descending : Bool) (next : ℕ) (regions : List Region) (held given rest : List Row) (fetched unread : List Event) (row : Row)
     → IsSweepOver schema plan dim is_descending next regions → IsUnderWay schema plan dim is_descending regions held given rest fetched unread → Contains held row → Contains rest row
 held_in_rest schema plan dim is_descending next regions held given rest fetched unread row over under here =
     let most = held_weigh schema plan dim is_descending regions held given rest fetched unread (one_if row.number) under in
@@ -195,14 +197,14 @@ pub rest_past : (schema : Schema) (plan : PlanView) (dim : ℕ) (is_descending :
     → IsSweepOver schema plan dim is_descending next regions → IsUnderWay schema plan dim is_descending regions held given rest fetched unread
     → Contains rest row → All (λ event. ¬ IsRowAlong dim is_descending row event.value) fetched
 rest_past schema plan dim is_descending next regions held given rest fetched unread row over under there =
-    let asked_up : Rising (IsRowBefore schema plan.asked.order) (given ++ rest) = Rising-from_adjacent (IsRowBefore schema plan.asked.order) (asked-chain schema plan.asked.order) (given ++ rest) under.rows.ordered in
+    let asked_up : Rising (IsRowBefore schema (keys_of plan.asked)) (given ++ rest) = Rising-from_adjacent (IsRowBefore schema (keys_of plan.asked)) (asked-chain schema (keys_of plan.asked)) (given ++ rest) under.rows.ordered in
     let up : Rising (λ a b. IsUpTo is_descending a.value b.value) (fetched ++ unread) = values_rise is_descending (fetched ++ unread) under.events.ordered in
     let (other, is_other, has, t) = row_in_event schema plan dim is_descending next regions (fetched ++ unread) row over under.events
     (rest_selected schema plan dim is_descending regions held given rest fetched unread row under there) in
     all_of (λ event. ¬ (IsRowAlong dim is_descending row event.value)) fetched
     (λ event is_event along. elim (Contains-append_cases fetched unread other is_other) [
       | inl was ↦ elim (Contains-append_cases given held row (Contains-permutation (selected_rows schema plan (regions_at fetched)) (given ++ held) row under.held_are (in_fetched schema plan fetched other row was has t))) [
-        | inl gone ↦ asked-never schema plan.asked.order row (rising_apart (IsRowBefore schema plan.asked.order) given rest row row asked_up gone there)
+        | inl gone ↦ asked-never schema (keys_of plan.asked) row (rising_apart (IsRowBefore schema (keys_of plan.asked)) given rest row row asked_up gone there)
         | inr kept ↦ All-contains (λ row. ¬ (IsRowAlong dim is_descending row event.value)) held row
             (All-contains (λ event. All (λ row. ¬ (IsRowAlong dim is_descending row event.value)) held) fetched event under.held_past is_event) kept along
       ]
@@ -213,33 +215,61 @@ rest_past schema plan dim is_descending next regions held given rest fetched unr
           (rising_apart (λ a b. IsUpTo is_descending a.value b.value) fetched unread event other up is_event will) past along
     ])
 
+-- a row still to be given is held, or stands in a region that isn't fetched yet, and then not before its event value
+pub held_or_unread : (schema : Schema) (plan : PlanView) (dim : ℕ) (is_descending : Bool) (next : ℕ) (regions : List Region) (held given rest : List Row) (fetched unread : List Event) (row : Row)
+    → IsSweepOver schema plan dim is_descending next regions → IsUnderWay schema plan dim is_descending regions held given rest fetched unread → Contains rest row
+    → Contains held row ⊎ ((event : Event) × Contains unread event × IsUpTo is_descending event.value (slice_index row.dims dim))
+held_or_unread schema plan dim is_descending next regions held given rest fetched unread row over under there =
+    let order : List SortKey = keys_of plan.asked in
+    let up : Rising (IsRowBefore schema order) (given ++ rest) = Rising-from_adjacent (IsRowBefore schema order) (asked-chain schema order) (given ++ rest) under.rows.ordered in
+    let (event, is_event, has, t) = row_in_event schema plan dim is_descending next regions (fetched ++ unread) row over under.events
+    (rest_selected schema plan dim is_descending regions held given rest fetched unread row under there) in
+    elim (Contains-append_cases fetched unread event is_event) [
+      | inl was ↦ elim (Contains-append_cases given held row (Contains-permutation (selected_rows schema plan (regions_at fetched)) (given ++ held) row under.held_are (in_fetched schema plan fetched event row was has t))) [
+        | inl gone ↦ absurd (asked-never schema order row (rising_apart (IsRowBefore schema order) given rest row row up gone there))
+        | inr kept ↦ inl kept
+      ]
+      | inr will ↦ inr (event, will, row_is_past schema plan dim is_descending next regions (fetched ++ unread) event row over under.events is_event has t)
+    ]
+
+-- none of them lies before a row that was given
+pub given_up_to : (schema : Schema) (plan : PlanView) (dim : ℕ) (is_descending : Bool) (next : ℕ) (regions : List Region) (held given rest : List Row) (fetched unread : List Event) (last row : Row)
+    → IsSweepOver schema plan dim is_descending next regions → IsUnderWay schema plan dim is_descending regions held given rest fetched unread
+    → Contains given last → Contains rest row → IsUpTo is_descending (slice_index last.dims dim) (slice_index row.dims dim)
+given_up_to schema plan dim is_descending next regions held given rest fetched unread last row over under gone there along =
+    let order : List SortKey = keys_of plan.asked in
+    let up : Rising (IsRowBefore schema order) (given ++ rest) = Rising-from_adjacent (IsRowBefore schema order) (asked-chain schema order) (given ++ rest) under.rows.ordered in
+    let first : IsRowBefore schema order last row = rising_apart (IsRowBefore schema order) given rest last row up gone there in
+    let back : IsRowBefore schema order row last = along_before schema plan.asked dim is_descending row last (led_plan schema plan dim is_descending over.planned over.kind) along in
+    asked-never schema order last (asked-chain schema order last row last first back)
+
 -- no row still to be given is before a held one that no held row is before and that lies before all unread event values
 none_before : (schema : Schema) (plan : PlanView) (dim : ℕ) (is_descending : Bool) (next : ℕ) (regions : List Region) (held held_then given rest : List Row) (fetched unread : List Event) (row : Row)
     → IsSweepOver schema plan dim is_descending next regions
     → IsUnderWay schema plan dim is_descending regions held given rest fetched unread
     → IsPermutation held (row ∷ held_then)
-    → All (λ other. ¬ (IsRowBefore schema plan.asked.order other row)) held_then
+    → All (λ other. ¬ (IsRowBefore schema (keys_of plan.asked) other row)) held_then
     → ((event : Event) → Contains unread event → IsRowAlong dim is_descending row event.value)
-    → Rising (IsRowBefore schema plan.asked.order) (given ++ rest)
-    → (other : Row) → Contains rest other → ¬ (IsRowBefore schema plan.asked.order other row)
+    → Rising (IsRowBefore schema (keys_of plan.asked)) (given ++ rest)
+    → (other : Row) → Contains rest other → ¬ (IsRowBefore schema (keys_of plan.asked) other row)
 none_before schema plan dim is_descending next regions held held_then given rest fetched unread row over under same least before up other there bad =
     let (event, is_event, has, t) = row_in_event schema plan dim is_descending next regions (fetched ++ unread) other over under.events
     (rest_selected schema plan dim is_descending regions held given rest fetched unread other under there) in
     elim (Contains-append_cases fetched unread event is_event) [
       | inl was ↦ elim (Contains-append_cases given held other (Contains-permutation (selected_rows schema plan (regions_at fetched)) (given ++ held) other under.held_are (in_fetched schema plan fetched event other was has t))) [
-        | inl gone ↦ asked-never schema plan.asked.order other (rising_apart (IsRowBefore schema plan.asked.order) given rest other other up gone there)
+        | inl gone ↦ asked-never schema (keys_of plan.asked) other (rising_apart (IsRowBefore schema (keys_of plan.asked)) given rest other other up gone there)
         | inr kept ↦ elim (contains_cases row held_then other (Contains-permutation held (row ∷ held_then) other same kept)) [
-          | inl is ↦ asked-never schema plan.asked.order row (subst (λ (r : Row). IsRowBefore schema plan.asked.order r row) (sym is) bad)
-          | inr late ↦ All-contains (λ other. ¬ (IsRowBefore schema plan.asked.order other row)) held_then other least late bad
+          | inl is ↦ asked-never schema (keys_of plan.asked) row (subst (λ (r : Row). IsRowBefore schema (keys_of plan.asked) r row) (sym is) bad)
+          | inr late ↦ All-contains (λ other. ¬ (IsRowBefore schema (keys_of plan.asked) other row)) held_then other least late bad
         ]
       ]
       | inr will ↦
           let past : IsUpTo is_descending event.value (slice_index other.dims dim) =
           row_is_past schema plan dim is_descending next regions (fetched ++ unread) event other over under.events is_event has t in
-          let first : IsRowBefore schema plan.asked.order row other =
+          let first : IsRowBefore schema (keys_of plan.asked) row other =
           along_before schema plan.asked dim is_descending row other (led_plan schema plan dim is_descending over.planned over.kind)
           (along_up_to is_descending (slice_index row.dims dim) event.value (slice_index other.dims dim) (before event will) past) in
-          asked-never schema plan.asked.order row (asked-chain schema plan.asked.order row other row first bad)
+          asked-never schema (keys_of plan.asked) row (asked-chain schema (keys_of plan.asked) row other row first bad)
     ]
 
 -- it gives a held row that no held row is before, where it lies before the next event value
@@ -247,16 +277,16 @@ pub gives : (schema : Schema) (plan : PlanView) (dim : ℕ) (is_descending : Boo
     → IsSweepOver schema plan dim is_descending next regions
     → IsUnderWay schema plan dim is_descending regions held given rest fetched unread
     → IsPermutation held (row ∷ held_then)
-    → All (λ other. ¬ IsRowBefore schema plan.asked.order other row) held_then
+    → All (λ other. ¬ IsRowBefore schema (keys_of plan.asked) other row) held_then
     → IsBeforeNext dim is_descending row unread
     → Gives schema plan dim is_descending regions held_then given rest fetched unread row
 gives schema plan dim is_descending next regions held held_then given rest fetched unread row over under same least before =
     let here : Contains held row = Contains-permutation (row ∷ held_then) held row (IsPermutation-sym held (row ∷ held_then) same) (contains_here row held_then) in
-    let asked_up : Rising (IsRowBefore schema plan.asked.order) (given ++ rest) = Rising-from_adjacent (IsRowBefore schema plan.asked.order) (asked-chain schema plan.asked.order) (given ++ rest) under.rows.ordered in
+    let asked_up : Rising (IsRowBefore schema (keys_of plan.asked)) (given ++ rest) = Rising-from_adjacent (IsRowBefore schema (keys_of plan.asked)) (asked-chain schema (keys_of plan.asked)) (given ++ rest) under.rows.ordered in
     let up : Rising (λ a b. IsUpTo is_descending a.value b.value) unread =
     rising_right (λ a b. IsUpTo is_descending a.value b.value) fetched unread (values_rise is_descending (fetched ++ unread) under.events.ordered) in
     let before_each = before_all dim is_descending row unread before up in
-    let (more, first) = least_first (IsRowBefore schema plan.asked.order) rest row (rising_right (IsRowBefore schema plan.asked.order) given rest asked_up)
+    let (more, first) = least_first (IsRowBefore schema (keys_of plan.asked)) rest row (rising_right (IsRowBefore schema (keys_of plan.asked)) given rest asked_up)
     (held_in_rest schema plan dim is_descending next regions held given rest fetched unread row over under here)
     (λ other there. none_before schema plan dim is_descending next regions held held_then given rest fetched unread row over under same least before_each asked_up other there) in
     let whole : (given ++ row ∷ []) ++ more ≡ given ++ rest = append_assoc given (row ∷ []) more ∙ ap (λ (rows : List Row). given ++ rows) (sym first) in
@@ -295,13 +325,13 @@ pub ends : (schema : Schema) (plan : PlanView) (dim : ℕ) (is_descending : Bool
 ends schema plan dim is_descending next regions given rest fetched over under =
     no_elements rest
     (λ row there.
-    let up : Rising (IsRowBefore schema plan.asked.order) (given ++ rest) = Rising-from_adjacent (IsRowBefore schema plan.asked.order) (asked-chain schema plan.asked.order) (given ++ rest) under.rows.ordered in
+    let up : Rising (IsRowBefore schema (keys_of plan.asked)) (given ++ rest) = Rising-from_adjacent (IsRowBefore schema (keys_of plan.asked)) (asked-chain schema (keys_of plan.asked)) (given ++ rest) under.rows.ordered in
     let (event, is_event, has, t) = row_in_event schema plan dim is_descending next regions (fetched ++ []) row over under.events
     (rest_selected schema plan dim is_descending regions [] given rest fetched [] row under there) in
     let was : Contains fetched event = subst (λ (events : List Event). Contains events event) (append-nil fetched) is_event in
     let gone : Contains given row = subst (λ (rows : List Row). Contains rows row) (append-nil given)
     (Contains-permutation (selected_rows schema plan (regions_at fetched)) (given ++ []) row under.held_are (in_fetched schema plan fetched event row was has t)) in
-    asked-never schema plan.asked.order row (rising_apart (IsRowBefore schema plan.asked.order) given rest row row up gone there))
+    asked-never schema (keys_of plan.asked) row (rising_apart (IsRowBefore schema (keys_of plan.asked)) given rest row row up gone there))
 
 -- where all rows were given, none is held
 pub none_held : (schema : Schema) (plan : PlanView) (dim : ℕ) (is_descending : Bool) (next : ℕ) (regions : List Region) (held given : List Row) (fetched unread : List Event)
@@ -473,7 +503,7 @@ front_visits : (schema : Schema) (plan : PlanView) (dim : ℕ) (is_descending : 
     → All (λ event. ¬ IsRowAlong dim is_descending row event.value) front
     → (later : List Event) × AreSweepVisits schema plan dim is_descending regions (map (λ event. event.span) (front ++ later))
 front_visits schema plan dim is_descending next regions front left given row more over events rows short past =
-    let order = plan.asked.order in
+    let order : List SortKey = keys_of plan.asked in
     let at : Row → ℕ = λ other. slice_index other.dims dim in
     let up : Rising (IsRowBefore schema order) (row ∷ more) =
     rising_right (IsRowBefore schema order) given (row ∷ more) (Rising-from_adjacent (IsRowBefore schema order) (asked-chain schema order) (given ++ row ∷ more) rows.ordered) in
@@ -540,20 +570,26 @@ broken_before schema plan dim is_descending next regions held given rest fetched
           | inr now ↦ All-contains (λ event. ¬ (IsRowAlong dim is_descending row event.value)) read event (past row more is) now
         ]))
 
+-- without GROUP BY the order in which rows are given is the order asked
+rows_ordered : (schema : Schema) (group : List ℕ) (order : List SortKey) (rows : List Row) → group ≡ []
+    → AllAdjacentBelow (IsRowBefore schema (swept_order group order)) rows (length rows) → AllAdjacentBelow (IsRowBefore schema order) rows (length rows)
+rows_ordered schema [] order rows none ordered = ordered
+rows_ordered schema (column ∷ group) order rows none ordered = absurd cc
+
 given_mean : (schema : Schema) (plan : PlanView) (dim : ℕ) (is_descending : Bool) (next : ℕ) (regions : List Region) (rows held given rest : List Row) (fetched unread : List Event)
-    → IsSweepOver schema plan dim is_descending next regions → AreTableRows regions rows
+    → IsSweepOver schema plan dim is_descending next regions → plan.asked.group ≡ [] → AreTableRows regions rows
     → IsUnderWay schema plan dim is_descending regions held given rest fetched unread
     → limited plan.asked.limit (given ++ rest) ≡ given
     → IsMeaning (record { schema = schema; rows = rows }) plan.asked (map (λ row. map (row_cell schema row) plan.asked.items) given)
-given_mean schema plan dim is_descending next regions rows held given rest fetched unread over table under limited_are = inr (
-  led_is_plain schema plan.asked dim is_descending (led_plan schema plan dim is_descending over.planned over.kind),
+given_mean schema plan dim is_descending next regions rows held given rest fetched unread over none table under limited_are = inr (
+  plan_is_plain schema plan dim is_descending over.planned over.kind none,
   record {
     arranged = given ++ rest;
     ordered = record {
       same = IsPermutation-trans (selected (record { schema = schema; rows = rows }) plan.asked.filter) (selected_rows schema plan regions) (given ++ rest)
           (selected_of_table schema plan next regions rows under.events.meeting over.planned (led_asks schema plan dim is_descending over.planned over.kind) over.are table under.events.meeting_are)
           under.rows.same;
-      ordered = under.rows.ordered;
+      ordered = rows_ordered schema plan.asked.group plan.asked.order (given ++ rest) none under.rows.ordered;
     };
     cells = ap (λ (rows : List Row). map (λ (row : Row). map (row_cell schema row) plan.asked.items) rows) (sym limited_are);
   },
@@ -561,17 +597,17 @@ given_mean schema plan dim is_descending next regions rows held given rest fetch
 
 -- what was given is then what the query means on the table
 pub stops_with_the_meaning : (schema : Schema) (plan : PlanView) (dim : ℕ) (is_descending : Bool) (next : ℕ) (regions : List Region) (rows held given rest : List Row) (fetched unread : List Event)
-    → IsSweepOver schema plan dim is_descending next regions → AreTableRows regions rows
+    → IsSweepOver schema plan dim is_descending next regions → plan.asked.group ≡ [] → AreTableRows regions rows
     → IsUnderWay schema plan dim is_descending regions held given rest fetched unread
     → plan.asked.limit ≡ Some (length given)
     → IsMeaning (record { schema = schema; rows = rows }) plan.asked (map (λ row. map (row_cell schema row) plan.asked.items) given)
-stops_with_the_meaning schema plan dim is_descending next regions rows held given rest fetched unread over table under filled =
-    given_mean schema plan dim is_descending next regions rows held given rest fetched unread over table under (limited_filled plan.asked.limit given rest filled)
+stops_with_the_meaning schema plan dim is_descending next regions rows held given rest fetched unread over none table under filled =
+    given_mean schema plan dim is_descending next regions rows held given rest fetched unread over none table under (limited_filled plan.asked.limit given rest filled)
 
 pub runs_out_with_the_meaning : (schema : Schema) (plan : PlanView) (dim : ℕ) (is_descending : Bool) (next : ℕ) (regions : List Region) (rows held given : List Row) (fetched unread : List Event)
-    → IsSweepOver schema plan dim is_descending next regions → AreTableRows regions rows
+    → IsSweepOver schema plan dim is_descending next regions → plan.asked.group ≡ [] → AreTableRows regions rows
     → IsUnderWay schema plan dim is_descending regions held given [] fetched unread
     → IfSome plan.asked.limit (λ n. length given < n)
     → IsMeaning (record { schema = schema; rows = rows }) plan.asked (map (λ row. map (row_cell schema row) plan.asked.items) given)
-runs_out_with_the_meaning schema plan dim is_descending next regions rows held given fetched unread over table under short =
-    given_mean schema plan dim is_descending next regions rows held given [] fetched unread over table under (limited_short plan.asked.limit given short)
+runs_out_with_the_meaning schema plan dim is_descending next regions rows held given fetched unread over none table under short =
+    given_mean schema plan dim is_descending next regions rows held given [] fetched unread over none table under (limited_short plan.asked.limit given short)

@@ -22,7 +22,7 @@ use Rattle.ub_table.specs.Region.{Region}
 use Rattle.ub_table.specs.declared.row.Key.{Key}
 use Rattle.ub_table.specs.declared.row.Row.{Row}
 use Rattle.ub_table.specs.declared.schema.Schema.{Schema}
-use Rattle.ub_tetris.proofs.AlongFacts.{IsUpTo, along_before, along_up_to, led_asks, led_plan, up_to_along}
+use Rattle.ub_tetris.proofs.AlongFacts.{IsUpTo, along_before, along_up_to, led_asks, led_plan, keys_of, up_to_along}
 use Rattle.ub_tetris.proofs.ArrangeFacts.{all_of, rising_two}
 use Rattle.ub_tetris.proofs.MachineFacts.{IsBeforeNext, IsSweepOver, ends, fetches, gives, is_past_of, past_is}
 use Rattle.ub_tetris.proofs.OrderFacts.{held_before}
@@ -139,15 +139,15 @@ module _ (plan : PlanView) (t : TreeView) (s : SweepView) (held_then : List Held
   fetched_next : (event : Event) (left : List Event) → IsSweeping plan t s given rest fetched (event ∷ left) → IsAwaited t a event → AreAwaited t more left
       → All (λ row. ¬ (IsRowAlong s.dim s.is_descending row a.value)) (rows_held s.held)
       → trace.pages ≡ t.trace.pages ++ a.region.page ∷ [] → Contains t.placed p → p.page ≡ a.region.page → p.region.first ≡ a.region.first
-      → HoldsAlso t.schema plan.asked.order (filter (is_selected t.schema plan.asked.filter) p.region.rows) s.held held_then
+      → HoldsAlso t.schema (keys_of plan.asked) (filter (is_selected t.schema plan.asked.filter) p.region.rows) s.held held_then
       → IsSweeping plan after (record s { held = held_then; awaited = more }) given rest (fetched ++ event ∷ []) left
   fetched_next event left of is_awaited are_awaited past noted there page first holds =
       let chosen : List Row = filter (is_selected t.schema plan.asked.filter) p.region.rows in
       let same : p.region ≡ event.span.region = event_region plan t s given rest fetched left event a p of is_awaited there first in
-      let rows : rows_held (s.held ++ map (held_row t.schema plan.asked.order) chosen) ≡ rows_held s.held ++ chosen =
-      map-append (λ (h : HeldRow). h.row) s.held (map (held_row t.schema plan.asked.order) chosen) ∙ ap (λ (rows : List Row). rows_held s.held ++ rows) (rows_of_held t.schema plan.asked.order chosen) in
+      let rows : rows_held (s.held ++ map (held_row t.schema (keys_of plan.asked)) chosen) ≡ rows_held s.held ++ chosen =
+      map-append (λ (h : HeldRow). h.row) s.held (map (held_row t.schema (keys_of plan.asked)) chosen) ∙ ap (λ (rows : List Row). rows_held s.held ++ rows) (rows_of_held t.schema (keys_of plan.asked) chosen) in
       let holds_rows : IsPermutation (rows_held s.held ++ chosen) (rows_held held_then) =
-      subst (λ (rows : List Row). IsPermutation rows (rows_held held_then)) rows (IsPermutation-map (λ (h : HeldRow). h.row) (s.held ++ map (held_row t.schema plan.asked.order) chosen) held_then holds) in
+      subst (λ (rows : List Row). IsPermutation rows (rows_held held_then)) rows (IsPermutation-map (λ (h : HeldRow). h.row) (s.held ++ map (held_row t.schema (keys_of plan.asked)) chosen) held_then holds) in
       record {
         working = of.working;
         swept = record { sound = (Keeps-by t after refl).sound of.swept.sound; planned = of.swept.planned; kind = of.swept.kind };
@@ -155,8 +155,8 @@ module _ (plan : PlanView) (t : TreeView) (s : SweepView) (held_then : List Held
             (sweep_over plan t s given rest fetched (event ∷ left) of) of.under_way
             (subst (λ (v : ℕ). All (λ row. ¬ (IsRowAlong s.dim s.is_descending row v)) (rows_held s.held)) is_awaited.value past)
             (subst (λ (region : Region). IsPermutation (rows_held s.held ++ filter (is_selected t.schema plan.asked.filter) region.rows) (rows_held held_then)) same holds_rows);
-        values = all_permutation (λ (h : HeldRow). h.values ≡ values_by t.schema plan.asked.order h.row) (s.held ++ map (held_row t.schema plan.asked.order) chosen) held_then holds
-            (held_by_more t.schema plan.asked.order s.held chosen of.values);
+        values = all_permutation (λ (h : HeldRow). h.values ≡ values_by t.schema (keys_of plan.asked) h.row) (s.held ++ map (held_row t.schema (keys_of plan.asked)) chosen) held_then holds
+            (held_by_more t.schema (keys_of plan.asked) s.held chosen of.values);
         noted = noted_more t after fetched event p of.noted refl there same (noted ∙ ap (λ (number : ℕ). t.trace.pages ++ number ∷ []) (sym page));
         awaited = awaited_after t trace more left are_awaited;
       }
@@ -164,12 +164,12 @@ module _ (plan : PlanView) (t : TreeView) (s : SweepView) (held_then : List Held
 -- ---- the state of a sweep
 
 -- the row that is the first of those held, by a search and by its removal
-entry_past : (plan : PlanView) (t : TreeView) (s : SweepView) (given rest : List Row) (fetched unread : List Event) (h f : HeldRow) → IsSweeping plan t s given rest fetched unread
+pub entry_past : (plan : PlanView) (t : TreeView) (s : SweepView) (given rest : List Row) (fetched unread : List Event) (h f : HeldRow) → IsSweeping plan t s given rest fetched unread
     → Contains s.held h → Contains s.held f → ¬ (IsHeldBefore h f) → IsUpTo s.is_descending (slice_index f.row.dims s.dim) (slice_index h.row.dims s.dim)
 entry_past plan t s given rest fetched unread h f of here there none along =
-    none (held_before t.schema plan.asked.order h f
-    (all_at (λ (h : HeldRow). h.values ≡ values_by t.schema plan.asked.order h.row) s.held h of.values here)
-    (all_at (λ (h : HeldRow). h.values ≡ values_by t.schema plan.asked.order h.row) s.held f of.values there)
+    none (held_before t.schema (keys_of plan.asked) h f
+    (all_at (λ (h : HeldRow). h.values ≡ values_by t.schema (keys_of plan.asked) h.row) s.held h of.values here)
+    (all_at (λ (h : HeldRow). h.values ≡ values_by t.schema (keys_of plan.asked) h.row) s.held f of.values there)
     (along_before t.schema plan.asked s.dim s.is_descending h.row f.row (led_plan t.schema plan s.dim s.is_descending of.swept.planned of.swept.kind) along))
 
 -- where the next region is due, no held row lies before its value
@@ -246,7 +246,7 @@ fetch_step plan t new s new_s given rest fetched unread of (first, is_first, due
     let (event, left, parts, is_awaited, are_awaited) = waiting t a more unread (subst (λ (awaited : List AwaitedRegion). AreAwaited t awaited unread) queued of.awaited) in
     let (p, there, page, begins, holds) = has.rows of.swept.sound is_awaited.there in
     let past = due_past plan t s given rest fetched unread first has.next of is_first (due ∙ ap (λ (o : Option Awaited). is_due_by s.course o first) has.at) in
-    let selected = subst (λ (rows : List Row). HoldsAlso t.schema plan.asked.order rows s.held new_s.held) (chosen_of plan t (view_of s) given rest fetched unread has.choice p of there) holds in
+    let selected = subst (λ (rows : List Row). HoldsAlso t.schema (keys_of plan.asked) rows s.held new_s.held) (chosen_of plan t (view_of s) given rest fetched unread has.choice p of there) holds in
     let next = fetched_next plan t (view_of s) new_s.held given rest fetched a more new.trace p event left
     (subst (λ (events : List Event). IsSweeping plan t (view_of s) given rest fetched events) parts of) is_awaited are_awaited past has.noted.pages_are there page begins selected in (
       event,
@@ -275,27 +275,38 @@ all_at_rest keys schema g left values least =
     (held_before schema keys h g (all_at (λ (h : HeldRow). h.values ≡ values_by schema keys h.row) left h values.1 here) values.0
     (subst (λ (r : Row). IsRowBefore schema keys r g.row) (sym same) before)))
 
--- the first of those held was taken, where it lies before the value of the next region
-taken : (plan : PlanView) (t : TreeView) (s : SweepView) (left : List HeldRow) (given rest : List Row) (fetched unread : List Event) (row : Row) → IsSweeping plan t s given rest fetched unread
-    → TakesFirst s.held left (Some row) → IsBeforeNext s.dim s.is_descending row unread → HasGiven plan t (record s { held = left }) given rest fetched unread row
-taken plan t s left given rest fetched unread row of (g, same, is_row, least) before =
-    let order : List SortKey = plan.asked.order in
+-- the first of those held was taken, where it lies before the value of the next region: it is the next row
+pub taken_next : (plan : PlanView) (t : TreeView) (s : SweepView) (left : List HeldRow) (given rest : List Row) (fetched unread : List Event) (row : Row) → IsSweeping plan t s given rest fetched unread
+    → TakesFirst s.held left (Some row) → IsBeforeNext s.dim s.is_descending row unread
+    → (more : List Row) × (rest ≡ row ∷ more) × All (λ event. ¬ (IsRowAlong s.dim s.is_descending row event.value)) fetched
+    × IsSweeping plan t (record s { held = left }) (given ++ row ∷ []) more fetched unread
+taken_next plan t s left given rest fetched unread row of (g, same, is_row, least) before =
+    let order : List SortKey = keys_of plan.asked in
     let values : AreHeldBy t.schema order (g ∷ left) = all_permutation (λ (h : HeldRow). h.values ≡ values_by t.schema order h.row) s.held (g ∷ left) same of.values in
     let rows : IsPermutation (rows_held s.held) (row ∷ rows_held left) =
     subst (λ (r : Row). IsPermutation (rows_held s.held) (r ∷ rows_held left)) is_row (IsPermutation-map (λ (h : HeldRow). h.row) s.held (g ∷ left) same) in
     let given_row = gives t.schema plan s.dim s.is_descending t.next (regions t) (rows_held s.held) (rows_held left) given rest fetched unread row
     (sweep_over plan t s given rest fetched unread of) of.under_way rows
-    (subst (λ (r : Row). All (λ other. ¬ (IsRowBefore t.schema order other r)) (rows_held left)) is_row (all_at_rest order t.schema g left values least)) before in
+    (subst (λ (r : Row). All (λ other. ¬ (IsRowBefore t.schema order other r)) (rows_held left)) is_row (all_at_rest order t.schema g left values least)) before in (
+      given_row.more,
+      given_row.next,
+      given_row.reached,
+      record { working = of.working; swept = of.swept; under_way = given_row.under_way; values = values.1; noted = of.noted; awaited = of.awaited },
+    )
+
+taken : (plan : PlanView) (t : TreeView) (s : SweepView) (left : List HeldRow) (given rest : List Row) (fetched unread : List Event) (row : Row) → IsSweeping plan t s given rest fetched unread
+    → TakesFirst s.held left (Some row) → IsBeforeNext s.dim s.is_descending row unread → HasGiven plan t (record s { held = left }) given rest fetched unread row
+taken plan t s left given rest fetched unread row of takes before =
+    let (more, next, reached, sweeping) = taken_next plan t s left given rest fetched unread row of takes before in
     let none : fetched ++ [] ≡ fetched = append-nil fetched in
     record {
-      more = given_row.more;
+      more = more;
       read = [];
       left = unread;
-      next = given_row.next;
+      next = next;
       parts = refl;
-      reached = subst (λ (events : List Event). All (λ event. ¬ (IsRowAlong s.dim s.is_descending row event.value)) events) (sym none) given_row.reached;
-      sweeping = subst (λ (events : List Event). IsSweeping plan t (record s { held = left }) (given ++ row ∷ []) given_row.more events unread) (sym none)
-          (record { working = of.working; swept = of.swept; under_way = given_row.under_way; values = values.1; noted = of.noted; awaited = of.awaited });
+      reached = subst (λ (events : List Event). All (λ event. ¬ (IsRowAlong s.dim s.is_descending row event.value)) events) (sym none) reached;
+      sweeping = subst (λ (events : List Event). IsSweeping plan t (record s { held = left }) (given ++ row ∷ []) more events unread) (sym none) sweeping;
     }
 
 none_left : (t : TreeView) (unread : List Event) → AreAwaited t [] unread → unread ≡ []

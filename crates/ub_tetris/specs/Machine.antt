@@ -21,8 +21,8 @@ abbrev pub IsRowPast : ℕ → Bool → ℕ → Row → Type 0
 IsRowPast dim is_descending value row = IsAlong is_descending value (slice_index row.dims dim)
 
 -- a sweep under way: it comes to the regions in order, those fetched first; the rows given and those still to be given are the
--- selected rows in the order in which it gives them; those given and those held are the selected rows of the fetched regions. No held row lies
--- before the event value of a fetched region, and each row given lies before that of each region not yet fetched.
+-- selected rows in the order in which it gives them; those given and those held are the selected rows of the fetched regions. No
+-- held row lies before the event value of a fetched region, and each row given lies before that of each region not yet fetched.
 pub record IsUnderWay (schema : Schema) (plan : PlanView) (dim : ℕ) (is_descending : Bool) (regions : List Region) (held given rest : List Row) (fetched unread : List Event) : Type 0 where
   pub events : AreEvents schema plan.covering.boxes dim is_descending regions (fetched ++ unread)
   pub rows : AreArranged schema plan (selected_rows schema plan regions) (given ++ rest)

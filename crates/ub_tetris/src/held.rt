@@ -1,10 +1,10 @@
-ghost use Rattle.std.specs.Prelude.{◌≡◌, ◌∷◌, ◌≤ℤ◌, [], List, ℕ, ℤ, pos, neg_ℤ, length, map, IfOk, OnOk, OnErr, IsTrue, option_copied};
+ghost use Rattle.std.specs.Prelude.{◌≡◌, ◌∷◌, ◌≤ℤ◌, [], List, ℕ, ℤ, pos, neg_ℤ, length, map, IfOk, OnOk, OnErr, IsTrue, option_copied, slice_index};
 ghost use Rattle.std.specs.List.{All};
 ghost use Rattle.std.specs.List.Sorted.{IsPermutation};
 ghost use Rattle.ub_query.specs.Lead.{swept_order};
 ghost use Rattle.ub_query.specs.Posed.{IsItemOver};
 ghost use Rattle.ub_tetris.specs.Held as spec;
-ghost use Rattle.ub_tetris.specs.inner.Kept.{HoldsAlso, IsFirstOf, TakesFirst};
+ghost use Rattle.ub_tetris.specs.inner.Kept.{HoldsAlso, IsFirstOf, TakesFirst, TakesFirstAt, TakesValue};
 
 use crate::place::Held;
 use crate::ranked::Ranked;
@@ -86,6 +86,31 @@ impl HeldRows {
         let _ = self.spare.push(held);
         Some(row)
     }
+
+    /// This row and all that are held of its coordinate in the dimension, taken from the first on, by the order asked. Where
+    /// memory is refused some of them may be gone.
+    pub fn take_value(&mut self, first: Row, dim: usize) -> Result<Vec<Row>, AllocError>
+        ensures { IfOk result (λ rows. TakesValue dim first self.old self.new rows.items) }
+    {
+        let value = coordinate(&first, dim);
+        let mut rows = Vec::new(self.alloc);
+        rows.push(first)?;
+        while let Some(row) = self.take_first_at(dim, value) {
+            rows.push(row)?;
+        }
+        Ok(rows)
+    }
+
+    // Takes the first of those held in the order asked, if there is one and it has this coordinate in the dimension.
+    fn take_first_at(&mut self, dim: usize, value: u32) -> Option<Row>
+        ensures { TakesFirstAt dim value self.old self.new result }
+    {
+        let at = coordinate(self.first()?, dim);
+        if at != value {
+            return None;
+        }
+        self.take_first()
+    }
 }
 
 /// The sink of a sweep: its rows are held until they are given, in the order asked, or by the lead of the groups.
@@ -99,6 +124,13 @@ impl RowSink for HeldRows {
             None => self.hold(schema, query.order.as_slice(), row),
         }
     }
+}
+
+/// The coordinate of a row in a dimension; 0 in one that no row has.
+pub fn coordinate(row: &Row, dim: usize) -> u32
+    ensures { result ≡ slice_index row.now.dims dim }
+{
+    row.dims.get(dim).copied().unwrap_or(0)
 }
 
 // Memory for one row more: some that is spare, or more.

@@ -1,15 +1,16 @@
-ghost use Rattle.std.specs.Prelude.{◌≡◌, ◌<◌, ◌≤◌, [], Ok, None, length, List, IfOk, IfSome, OnErr, OnOk, slice_index};
+ghost use Rattle.std.specs.Prelude.{◌≡◌, ◌≢◌, ◌<◌, ◌≤◌, [], Ok, None, length, List, IfOk, IfSome, OnErr, OnOk};
+ghost use Rattle.std.specs.Option.{option_map};
 ghost use Rattle.ub_planning.specs.Visits.{Event};
 ghost use Rattle.ub_query.specs.Posed.{IsPosed};
 ghost use Rattle.ub_table.specs.declared.row.Row.{Row as RowView};
 ghost use Rattle.ub_tetris.specs.Effects.{Rests, Sweeps};
-ghost use Rattle.ub_tetris.specs.Sweep.{IsSweeping, HasBroken, HasStepped, rows_left};
+ghost use Rattle.ub_tetris.specs.Sweep.{IsSweeping, HasBroken, HasStepped, HasSteppedValue, rows_left};
 ghost use Rattle.ub_tetris.specs.inner.Turns.{HasAskedNext, HasFetchedNext, IsDue, IsOnward, view_of};
 
 use crate::course::Course;
 use crate::event::{Awaited, is_past};
 use crate::fault::SweepFault;
-use crate::held::HeldRows;
+use crate::held::{HeldRows, coordinate};
 use std::alloc::Global;
 use ub_filter::{Choice, push_chosen};
 use ub_page::RegionPage;
@@ -82,6 +83,36 @@ impl State {
         Ok(self.held.take_first())
     }
 
+    /// Fetches regions until none can hold a row of the next value or of one before it, and takes the rows of that value.
+    pub fn step_value<S: PageStore>(
+        &mut self,
+        tree: &mut Tree<S>,
+        plan: &Plan,
+    ) -> Result<Option<Vec<Row>>, SweepFault>
+        requires { IsPosed (length tree.old.schema.columns) plan.now.asked }
+        ensures next { (given rest : List RowView) (fetched unread : List Event)
+            → IsSweeping plan.now tree.old (view_of self.old) given rest fetched unread
+            → plan.now.asked.group ≢ [] → IfOk result
+            (λ found. HasSteppedValue plan.now tree.new (view_of self.new) given rest fetched unread
+            (option_map (λ rows. rows.items) found)) }
+        ensures broken { (given rest : List RowView) (fetched unread : List Event)
+            → IsSweeping plan.now tree.old (view_of self.old) given rest fetched unread
+            → OnErr result (HasBroken tree.new (view_of self.old) rest fetched unread) }
+        ensures rests { (given : List RowView) (fetched : List Event)
+            → IsSweeping plan.now tree.old (view_of self.old) given [] fetched []
+            → Rests (view_of self.old) (view_of self.new) tree.old tree.new result }
+        ensures ended { result ≡ Ok None → (view_of self.new).awaited ≡ [] }
+        ensures fewer { IfOk result (λ found. IfSome found
+            (λ rows. rows_left (view_of self.new) < rows_left (view_of self.old))) }
+        ensures effect { Sweeps (view_of self.old) (view_of self.new) tree.old tree.new result }
+    {
+        let Some(first) = self.step(tree, plan)? else {
+            return Ok(None);
+        };
+        let rows = self.held.take_value(first, self.course.dim)?;
+        Ok(Some(rows))
+    }
+
     // Whether the next region can hold a row that isn't after the first of those held.
     fn is_due(&self) -> bool
         ensures { IsDue self.now result }
@@ -114,11 +145,4 @@ impl State {
         push_chosen(&mut self.held, tree.schema(), plan, choice, &self.page)?;
         Ok(())
     }
-}
-
-// The coordinate of a row in a dimension; 0 in one that no row has.
-fn coordinate(row: &Row, dim: usize) -> u32
-    ensures { result ≡ slice_index row.now.dims dim }
-{
-    row.dims.get(dim).copied().unwrap_or(0)
 }

@@ -31,13 +31,14 @@ impl Model for Sweep {
 }
 
 impl Sweep {
-    ghost use Rattle.std.specs.Prelude.{◌≡◌, ◌<◌, ℕ, Bool, List, [], Ok, Err, None, IsTrue, length, IfOk, IfSome, OnErr};
+    ghost use Rattle.std.specs.Prelude.{◌≡◌, ◌≢◌, ◌<◌, ℕ, Bool, List, [], Ok, Err, None, IsTrue, length, IfOk, IfSome, OnErr};
+    ghost use Rattle.std.specs.Option.{option_map};
     ghost use Rattle.ub_planning.specs.Visits.{Event};
     ghost use Rattle.ub_query.specs.Posed.{IsPosed};
     ghost use Rattle.ub_table.specs.declared.row.Row.{Row as RowView};
     ghost use Rattle.ub_tetris.specs.Effects.{Begins, FailsOnce, Rests, Sweeps};
     ghost use Rattle.ub_tetris.specs.inner.Turns.{begun_view};
-    ghost use Rattle.ub_tetris.specs.Sweep.{HasBegun, HasBroken, HasStepped, IsNoSweep, IsStarted, IsSweepOf, IsSweeping, IsSwept, rows_left};
+    ghost use Rattle.ub_tetris.specs.Sweep.{HasBegun, HasBroken, HasStepped, HasSteppedValue, IsNoSweep, IsStarted, IsSweepOf, IsSweeping, IsSwept, rows_left};
     ghost use Rattle.ub_tetris.specs.Awaited.{AreMetAlong};
 
     /// Begins a sweep by a plan. The trace begins anew; no region is fetched. Of a plan that is no sweep it comes to no region;
@@ -82,7 +83,7 @@ impl Sweep {
         }
     }
 
-    /// The next row in the order asked; `None` after the last, however often it is asked.
+    /// The next row in the order asked, or of a query with GROUP BY by its lead; `None` after the last, however often it is asked.
     ///
     /// No region is fetched that can only hold rows after this one, nor twice, also where it answers a fault. Where it answers
     /// no fault each that was fetched was taken in, and where it answers `None` no region is left. It comes to an end over any
@@ -115,6 +116,43 @@ impl Sweep {
         let found = self.state.step(tree, plan);
         self.is_failed = found.is_err();
         found
+    }
+
+    /// All selected rows of the next value of the sweep's dimension that a selected row has, by row number; `None` after the
+    /// last, however often it is asked. Of a query with GROUP BY these are whole groups.
+    ///
+    /// No region is fetched that can only hold rows past that value, nor twice, also where it answers a fault. Where it answers
+    /// no fault each that was fetched was taken in, and where it answers `None` no region is left. It comes to an end over any
+    /// tree, as `next` does, and has its faults.
+    pub fn next_value<S: PageStore>(
+        &mut self,
+        tree: &mut Tree<S>,
+        plan: &Plan,
+    ) -> Result<Option<Vec<Row>>, SweepFault>
+        requires { IsPosed (length tree.old.schema.columns) plan.now.asked }
+        ensures next { (given rest : List RowView) (fetched unread : List Event)
+            → IsSweeping plan.now tree.old self.old given rest fetched unread
+            → plan.now.asked.group ≢ [] → IfOk result
+            (λ found. HasSteppedValue plan.now tree.new self.new given rest fetched unread
+            (option_map (λ rows. rows.items) found)) }
+        ensures broken { (given rest : List RowView) (fetched unread : List Event)
+            → IsSweeping plan.now tree.old self.old given rest fetched unread
+            → OnErr result (HasBroken tree.new self.old rest fetched unread) }
+        ensures rests { (given : List RowView) (fetched : List Event)
+            → IsSweeping plan.now tree.old self.old given [] fetched []
+            → Rests self.old self.new tree.old tree.new result }
+        ensures ended { result ≡ Ok None → self.new.awaited ≡ [] }
+        ensures fewer { IfOk result
+            (λ found. IfSome found (λ rows. rows_left self.new < rows_left self.old)) }
+        ensures once { FailsOnce self.old self.new tree.old tree.new result }
+        ensures effect { Sweeps self.old self.new tree.old tree.new result }
+    {
+        if self.is_failed {
+            return Err(SweepFault::Failed);
+        }
+        let rows = self.state.step_value(tree, plan);
+        self.is_failed = rows.is_err();
+        rows
     }
 
     /// How many rows are held: they were fetched, and are still to be given.

@@ -1,5 +1,5 @@
 -- The rows held as a heap stores them, and which of them is the first.
-use Rattle.std.specs.Prelude.{◌≡◌, ◌++◌, [], ◌∷◌, ℕ, ℤ, List, Option, Some, None, map, Contains}
+use Rattle.std.specs.Prelude.{◌≡◌, ◌≢◌, ◌++◌, [], ◌∷◌, ℕ, ℤ, List, Option, Some, None, map, slice_index, Contains}
 use Rattle.std.specs.Cmp.{IsTotalOrder, back_total, int_cmp_total, nat_cmp_total, on_total, then_total}
 use Rattle.std.specs.Cmp.Lexicographic.{lists_total, slice_cmp}
 use Rattle.std.specs.List.{AllByRecursion}
@@ -54,6 +54,37 @@ IsFirstOf held (Some row) = (first : HeldRow) × Contains held first × (first.r
 abbrev pub TakesFirst : List HeldRow → List HeldRow → Option Row → Type 0
 TakesFirst held left None = (held ≡ []) × (left ≡ [])
 TakesFirst held left (Some row) = (first : HeldRow) × IsPermutation held (first ∷ left) × (first.row ≡ row) × IsFirstAmong first left
+
+-- the row, if there is one, hasn't this coordinate in the dimension
+abbrev pub IsElsewhere : ℕ → ℕ → Option Row → Type 0
+IsElsewhere dim value None = Unit {0}
+IsElsewhere dim value (Some row) = slice_index row.dims dim ≢ value
+
+-- the first of those held, if there is one, hasn't
+abbrev pub IsFirstElsewhere : ℕ → ℕ → List HeldRow → Type 0
+IsFirstElsewhere dim value held = (first : Option Row) × IsFirstOf held first × IsElsewhere dim value first
+
+-- one that is the first of those held has
+abbrev pub IsFirstAt : ℕ → ℕ → List HeldRow → Type 0
+IsFirstAt dim value held = (first : Row) × IsFirstOf held (Some first) × (slice_index first.dims dim ≡ value)
+
+-- the first was taken out of those held where it has this coordinate; else none was
+abbrev pub TakesFirstAt : ℕ → ℕ → List HeldRow → List HeldRow → Option Row → Type 0
+TakesFirstAt dim value held left None = (left ≡ held) × IsFirstElsewhere dim value held
+TakesFirstAt dim value held left (Some row) = IsFirstAt dim value held × TakesFirst held left (Some row)
+
+-- these rows were taken, one after the other, while the first of those held had this coordinate
+abbrev pub AreTakenAt : ℕ → ℕ → List HeldRow → List HeldRow → List Row → Type 0
+AreTakenAt dim value held left [] = left ≡ held
+AreTakenAt dim value held left (row ∷ rows) =
+    (mid : List HeldRow) × TakesFirstAt dim value held mid (Some row) × AreTakenAt dim value mid left rows
+
+-- these are this row and all rows of its coordinate, which were taken out of those held from the first on
+pub record TakesValue (dim : ℕ) (first : Row) (held left : List HeldRow) (rows : List Row) : Type 0 where
+  pub others : List Row
+  pub rows_are : rows ≡ first ∷ others
+  pub taken : AreTakenAt dim (slice_index first.dims dim) held left others
+  pub whole : IsFirstElsewhere dim (slice_index first.dims dim) left
 
 -- some rows are held by these keys beside those that were
 abbrev pub HoldsAlso : Schema → List SortKey → List Row → List HeldRow → List HeldRow → Type 0

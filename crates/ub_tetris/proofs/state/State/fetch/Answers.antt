@@ -1,4 +1,5 @@
 use Rattle.std.proofs.Common.{◌∙◌, [], ap, inr, refl}
+use Rattle.ub_tetris.proofs.AlongFacts.{keys_of}
 use Rattle.ub_tetris.proofs.EffectFacts.{either_noted, memory_swept, read_swept, tree_swept}
 use Rattle.ub_tetris.proofs.FetchFacts.{has_fetched, held_few, left_few, next_at, next_awaited}
 use Rattle.ub_tetris.proofs.HeldFacts.{HoldsAlso-none}
@@ -50,12 +51,12 @@ pub returns-clause-rows : goal.returns-clause-rows
 returns-clause-rows g c =
     has_fetched c.args.plan.now c.of-choice.result c.args.tree.now c.read_region.new.self c.args.self.now _ c.index.result.now c.read_region.new.page.region c.schema-2.result.now
     (next_at c.args.self.now.queue.items c.args.self.now.fetched c.index.result.now c.requires.some c.index.ensures) c.in_ok-read_region.ensures.effect.listed c.in_ok-read_region.ensures.stands
-    c.in_ok-read_region.ensures.first (c.schema-2.ensures ∙ ap (λ (t : TreeView). t.schema) c.in_ok-read_region.ensures.effect.same) (c.in_ok-push_chosen.ensures c.args.self.now.held [] (HoldsAlso-none c.schema-2.result.now c.args.plan.now.asked.order c.args.self.now.held))
+    c.in_ok-read_region.ensures.first (c.schema-2.ensures ∙ ap (λ (t : TreeView). t.schema) c.in_ok-read_region.ensures.effect.same) (c.in_ok-push_chosen.ensures c.args.self.now.held [] (HoldsAlso-none c.schema-2.result.now (keys_of c.args.plan.now.asked) c.args.self.now.held))
 
 pub returns-clause-few : goal.returns-clause-few
 returns-clause-few g c =
     left_few c.args.self.now.held _ c.args.self.now.queue.items c.args.self.now.fetched _ c.index.result.now refl
     (next_at c.args.self.now.queue.items c.args.self.now.fetched c.index.result.now c.requires.some c.index.ensures)
-    (held_few (is_chosen c.of-choice.result c.schema-2.result.now c.args.plan.now) c.schema-2.result.now c.args.tree.now.schema c.args.plan.now.asked.order c.read_region.new.page.region
+    (held_few (is_chosen c.of-choice.result c.schema-2.result.now c.args.plan.now) c.schema-2.result.now c.args.tree.now.schema (keys_of c.args.plan.now.asked) c.read_region.new.page.region
     c.args.self.now.held _ c.in_ok-read_region.ensures.taken.0
-    (c.in_ok-push_chosen.ensures c.args.self.now.held [] (HoldsAlso-none c.schema-2.result.now c.args.plan.now.asked.order c.args.self.now.held)))
+    (c.in_ok-push_chosen.ensures c.args.self.now.held [] (HoldsAlso-none c.schema-2.result.now (keys_of c.args.plan.now.asked) c.args.self.now.held)))
