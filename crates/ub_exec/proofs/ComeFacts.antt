@@ -1,4 +1,4 @@
--- A sweep over any tree, asked for row after row until it has none: it has come to all regions that it awaited.
+-- A sweep over any tree, asked for more until it has none: it has come to all regions that it awaited.
 use Rattle.std.proofs.Common.{◌≡◌, ◌<◌, ◌∙◌, ◌++◌, ℕ, Bool, List, [], Option, Some, None, Ok, IfSome, map, refl, sym, ap, subst, append_assoc}
 use Rattle.std.proofs.lemmas.List.{append-nil, map-append}
 use Rattle.std.specs.List.{AllByRecursion}
@@ -7,7 +7,6 @@ use Rattle.ub_exec.specs.Answers.{begun}
 use Rattle.ub_exec.specs.Reading.{HasSweptAll, IsIn}
 use Rattle.ub_exec.specs.Sweeping.{ComesOn}
 use Rattle.ub_planning.specs.Plan.{PlanView}
-use Rattle.ub_table.specs.declared.row.Row.{Row}
 use Rattle.ub_tetris.specs.Awaited.{AreMetAlong}
 use Rattle.ub_tetris.specs.Effects.{Sweeps}
 use Rattle.ub_tetris.specs.Sweep.{AwaitedRegion, IsSweepOf, SweepView, rows_left}
@@ -15,8 +14,8 @@ use Rattle.ub_tree.proofs.Laws.{IsTraced}
 use Rattle.ub_tree.specs.View.{TreeView}
 
 -- what one call says
-pub comes_on : (found : Option Row) (s new_s : SweepView) (old new : TreeView) → Sweeps s new_s old new (Ok found) → (found ≡ None → new_s.awaited ≡ [])
-    → IfSome found (λ row. rows_left new_s < rows_left s) → ComesOn s new_s old new found
+pub comes_on : {A : Type 0} (found : Option A) (s new_s : SweepView) (old new : TreeView) → Sweeps s new_s old new (Ok found) → (found ≡ None → new_s.awaited ≡ [])
+    → IfSome found (λ given. rows_left new_s < rows_left s) → ComesOn s new_s old new found
 comes_on found s new_s old new sweeps ended fewer = record {
   come = sweeps.come;
   left = sweeps.left;
@@ -61,9 +60,9 @@ noted start now new some more first second =
     ∙ ap (λ (pages : List ℕ). start.trace.pages ++ pages) (sym (map-append (λ (a : AwaitedRegion). a.region.page) some more))
 
 module _ (p : PlanView) (start now : TreeView) (s : SweepView) (traced : IsTraced start now) (so_far : HasComeOn p start now s) (new : TreeView) (new_s : SweepView) where
-  -- it gave a row
-  pub HasComeOn-more : (row : Row) → ComesOn s new_s now new (Some row) → HasComeOn p start new new_s
-  HasComeOn-more row comes = record {
+  -- it gave a row, or those of a value
+  pub HasComeOn-more : {A : Type 0} (given : A) → ComesOn s new_s now new (Some given) → HasComeOn p start new new_s
+  HasComeOn-more given comes = record {
     first = so_far.first;
     met = so_far.met;
     come = so_far.come ++ comes.come;
@@ -73,7 +72,7 @@ module _ (p : PlanView) (start now : TreeView) (s : SweepView) (traced : IsTrace
   }
 
   -- it has none left
-  pub swept_all : ComesOn s new_s now new None → (dim : ℕ) (is_descending : Bool) → IsSweepOf start.schema p dim is_descending → HasSweptAll p.covering.boxes dim is_descending start new
+  pub swept_all : {A : Type 0} → ComesOn {A = A} s new_s now new None → (dim : ℕ) (is_descending : Bool) → IsSweepOf start.schema p dim is_descending → HasSweptAll p.covering.boxes dim is_descending start new
   swept_all comes dim is_descending of =
       let whole : so_far.first ≡ so_far.come ++ comes.come = so_far.parts
       ∙ ap (λ (those : List AwaitedRegion). so_far.come ++ those) (comes.left ∙ ap (λ (those : List AwaitedRegion). comes.come ++ those) (comes.ended refl) ∙ append-nil comes.come) in

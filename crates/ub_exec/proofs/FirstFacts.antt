@@ -1,5 +1,5 @@
 -- Carrying out that was ended by a fault has fetched the first of the visits.
-use Rattle.std.proofs.Common.{◌≡◌, ◌∙◌, ◌⊎◌, inl, inr, ℕ, zero, suc, Bool, List, [], ◌∷◌, ◌++◌, Option, Some, Result, Ok, Err, Contains, length, map, take, refl, sym, ap, subst, arith}
+use Rattle.std.proofs.Common.{◌≡◌, ◌∙◌, ◌⊎◌, inl, inr, ℕ, zero, suc, List, [], ◌∷◌, ◌++◌, Option, Some, Result, Ok, Err, Contains, length, map, take, refl, sym, ap, subst, arith}
 use Rattle.std.proofs.lemmas.List.{append-nil, length-append, length-map}
 use Rattle.std.specs.List.{AllByRecursion}
 use Rattle.std.specs.Prelude.{OnErr}
@@ -15,8 +15,6 @@ use Rattle.ub_planning.specs.Plan.{PlanView}
 use Rattle.ub_planning.specs.Visits as plan
 use Rattle.ub_planning.specs.Visits.{AreSweepVisits, AreVisits, AreVisitsBy, Event}
 use Rattle.ub_region.specs.Those.{AreThose}
-use Rattle.ub_planning.specs.declared.planned.Kind.{Kind}
-use Rattle.ub_planning.specs.declared.planned.Kind.TheVariants.{Sweep}
 use Rattle.ub_table.specs.Region.{Region}
 use Rattle.ub_table.specs.declared.row.Row.{Row}
 use Rattle.ub_tetris.proofs.Laws.{placed_of}
@@ -168,14 +166,14 @@ walked_first p t new ready apart walk =
 -- ---- a sweep
 
 -- regions that were fetched are the first of a sweep's visits
-pub swept_first : (p : PlanView) (start t : TreeView) (dim : ℕ) (is_descending : Bool) (front later : List Event) → p.kind ≡ Sweep dim is_descending
-    → t.placed ≡ start.placed → AreNoted t front → t.trace.fetches ≡ fetches_then start.trace.fetches (length t.trace.pages)
-    → AreSweepVisits start.schema p dim is_descending (regions start) (map (λ event. event.span) (front ++ later)) → (count : ℕ) × HasFetchedFirst p (begun start) t count
-swept_first p start t dim is_descending front later kind placed noted fetches visits = (
+pub swept_first : (p : PlanView) (start t : TreeView) (front later : List Event) → t.placed ≡ start.placed → AreNoted t front
+    → t.trace.fetches ≡ fetches_then start.trace.fetches (length t.trace.pages) → AreVisits start.schema p (regions start) (map (λ event. event.span) (front ++ later))
+    → (count : ℕ) × HasFetchedFirst p (begun start) t count
+swept_first p start t front later placed noted fetches visits = (
   length front,
   record {
     visits = map (λ event. event.span) (front ++ later);
-    visits_are = subst (λ (kind : Kind). AreVisitsBy kind start.schema p (regions start) (map (λ event. event.span) (front ++ later))) (sym kind) visits;
+    visits_are = visits;
     few = omega (arith, length-append front later, length-map (front ++ later) (λ (event : Event). event.span));
     visited = noted.placed;
     there = subst (λ (all : List Placed). AllByRecursion (Contains all) noted.placed) placed noted.there;

@@ -7,3 +7,9 @@ pub mod WalkFacts
 pub mod VisitFacts
 pub mod MeantFacts
 pub mod SweptFacts
+pub mod ReachedFacts
+pub mod LedFacts
+pub mod GivenFacts
+pub mod GroupVisitFacts
+pub mod GroupSweptFacts
+pub mod GroupTurnFacts

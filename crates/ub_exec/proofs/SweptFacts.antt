@@ -12,7 +12,8 @@ use Rattle.ub_exec.specs.Reading.{NotesPages}
 use Rattle.ub_exec.specs.Sweeping.{IsFilled}
 use Rattle.ub_exec.specs.Visits.{HasFetched, fetches_then}
 use Rattle.ub_planning.specs.Plan.{PlanView}
-use Rattle.ub_planning.specs.Visits.{Event, AreSweepVisits, AreVisitsBy}
+use Rattle.ub_planning.specs.Visits.{Event, AreSweepVisits, AreSweptVisits, AreVisits, AreVisitsBy}
+use Rattle.ub_planning.specs.Visits as spec
 use Rattle.ub_planning.specs.declared.planned.Kind.{Kind}
 use Rattle.ub_planning.specs.declared.planned.Kind.TheVariants.{Empty, Scan, Sweep}
 use Rattle.ub_query.specs.Cells.{row_cell}
@@ -26,7 +27,7 @@ use Rattle.ub_table.specs.declared.schema.Schema.{Schema}
 use Rattle.ub_tetris.proofs.Laws.{IsSweepOver, stops, runs_out, stops_with_the_meaning, runs_out_with_the_meaning}
 use Rattle.ub_tetris.specs.Held.{rows_held}
 use Rattle.ub_tetris.specs.Machine.{IsUnderWay, IsRowAlong, regions_at}
-use Rattle.ub_tetris.specs.Sweep.{SweepView, IsSweeping, HasBegun, HasGiven, HasEnded}
+use Rattle.ub_tetris.specs.Sweep.{SweepView, AreNoted, IsSweeping, HasBegun, HasGiven, HasEnded}
 use Rattle.ub_tree.specs.Placed.{Placed, regions_in}
 use Rattle.ub_tree.specs.View.{TreeView, regions}
 use Rattle.ub_tree.specs.declared.read_fault.ReadFault.{ReadFault}
@@ -109,18 +110,27 @@ HasSwept-more plan t new s new_s rows more row swept gives same is =
 
 -- ---- when it stops
 
+-- the visits of a sweep of rows are the plan's
+pub row_visits : (plan : PlanView) (dim : ℕ) (is_descending : Bool) (schema : Schema) (regions : List Region) (visits : List spec.Span) → plan.kind ≡ Sweep dim is_descending → plan.asked.group ≡ []
+    → AreSweepVisits schema plan dim is_descending regions visits → AreVisits schema plan regions visits
+row_visits plan dim is_descending schema regions visits kind plain are =
+    subst (λ (kind : Kind). AreVisitsBy kind schema plan regions visits) (sym kind)
+    (subst (λ (group : List ℕ). AreSweptVisits group schema plan dim is_descending regions visits) (sym plain) are)
+
+-- visits on the tree as it was at the start
+pub visits_at : (plan : PlanView) (start t : TreeView) (events : List Event) → Keeps start t → AreVisits t.schema plan (regions t) (map (λ event. event.span) events)
+    → AreVisits start.schema plan (regions start) (map (λ event. event.span) events)
+visits_at plan start t events kept visits =
+    subst (λ (placed : List Placed). AreVisits start.schema plan (regions_in placed) (map (λ event. event.span) events)) kept.regions.placed
+    (subst (λ (schema : Schema). AreVisits schema plan (regions t) (map (λ event. event.span) events)) kept.regions.schema visits)
+
 -- the pages that were fetched are those of the visits
-pub visits_fetched : (plan : PlanView) (start t : TreeView) (s : SweepView) (given rest : List Row) (fetched unread : List Event) → Keeps start t → IsSweeping plan t s given rest fetched unread
-    → t.trace.fetches ≡ fetches_then start.trace.fetches (length t.trace.pages)
-    → AreSweepVisits t.schema plan s.dim s.is_descending (regions t) (map (λ event. event.span) fetched) → HasFetched plan (begun start) t
-visits_fetched plan start t s given rest fetched unread kept sweeping fetches visits =
-    let noted = sweeping.noted in
-    let by_kind : AreVisitsBy plan.kind t.schema plan (regions t) (map (λ event. event.span) fetched) =
-    subst (λ (kind : Kind). AreVisitsBy kind t.schema plan (regions t) (map (λ event. event.span) fetched)) (sym sweeping.swept.kind) visits in
+pub visits_fetched : (plan : PlanView) (start t : TreeView) (fetched : List Event) → Keeps start t → AreNoted t fetched
+    → t.trace.fetches ≡ fetches_then start.trace.fetches (length t.trace.pages) → AreVisits start.schema plan (regions start) (map (λ event. event.span) fetched) → HasFetched plan (begun start) t
+visits_fetched plan start t fetched kept noted fetches visits =
     record {
       visits = map (λ event. event.span) fetched;
-      visits_are = subst (λ (placed : List Placed). AreVisitsBy plan.kind start.schema plan (regions_in placed) (map (λ event. event.span) fetched)) kept.regions.placed
-          (subst (λ (schema : Schema). AreVisitsBy plan.kind schema plan (regions t) (map (λ event. event.span) fetched)) kept.regions.schema by_kind);
+      visits_are = visits;
       visited = noted.placed;
       there = subst (λ (placed : List Placed). AllByRecursion (Contains placed) noted.placed) kept.regions.placed noted.there;
       regions_are = noted.regions_are ∙ spans_at fetched;
@@ -151,7 +161,7 @@ filled : (limit : Option ℕ) (count : ℕ) → IsFilled limit count → IfSome 
 filled None count full few = absurd full
 filled (Some most) count full few = let is : most ≡ count = omega arith in ap (λ (m : ℕ). Some m) is
 
-module _ (plan : PlanView) (start t : TreeView) (s : SweepView) (rows : List (List Cell)) (kept : Keeps start t) (fetches : t.trace.fetches ≡ fetches_then start.trace.fetches (length t.trace.pages))
+module _ (plan : PlanView) (start t : TreeView) (s : SweepView) (rows : List (List Cell)) (plain : plan.asked.group ≡ []) (kept : Keeps start t) (fetches : t.trace.fetches ≡ fetches_then start.trace.fetches (length t.trace.pages))
     (swept : HasSwept plan t s rows) (kind : IsSwept plan.kind) (full : IsFilled plan.asked.limit (length rows)) (few : IfSome plan.asked.limit (λ most. length rows ≤ most)) where
   -- the limit is filled
   is_filled : plan.asked.limit ≡ Some (length swept.given)
@@ -167,16 +177,18 @@ module _ (plan : PlanView) (start t : TreeView) (s : SweepView) (rows : List (Li
   pub filled_fetched : HasFetched plan (begun start) t
   filled_fetched =
       let (front, row, is) = some_last swept.given has_some in
-      visits_fetched plan start t s swept.given swept.rest swept.fetched swept.unread kept swept.sweeping fetches
+      visits_fetched plan start t swept.fetched kept swept.sweeping.noted fetches
+      (visits_at plan start t swept.fetched kept
+      (row_visits plan s.dim s.is_descending t.schema (regions t) (map (λ event. event.span) swept.fetched) swept.sweeping.swept.kind plain
       (stops t.schema plan s.dim s.is_descending (regions t) (rows_held s.held) front swept.rest swept.fetched swept.unread row
       (subst (λ (given : List Row). IsUnderWay t.schema plan s.dim s.is_descending (regions t) (rows_held s.held) given swept.rest swept.fetched swept.unread) is swept.sweeping.under_way)
-      (is_filled ∙ ap (λ (given : List Row). Some (length given)) is) (swept.reached front row is))
+      (is_filled ∙ ap (λ (given : List Row). Some (length given)) is) (swept.reached front row is))))
 
   pub filled_answered : IsAnswer start plan.asked rows
   filled_answered =
       answer_of plan start t rows _ kept swept.cells
       (λ table are. stops_with_the_meaning t.schema plan s.dim s.is_descending t.next (regions t) table (rows_held s.held) swept.given swept.rest swept.fetched swept.unread
-      (over plan t s swept.given swept.rest swept.fetched swept.unread swept.sweeping) are swept.sweeping.under_way is_filled)
+      (over plan t s swept.given swept.rest swept.fetched swept.unread swept.sweeping) plain are swept.sweeping.under_way is_filled)
 
 -- the limit isn't filled by the rows that stand in the answer, nor by those that were given
 pub short : (plan : PlanView) (t : TreeView) (s : SweepView) (rows : List (List Cell)) (swept : HasSwept plan t s rows) → IfSome plan.asked.limit (λ most. length rows < most)
@@ -184,7 +196,7 @@ pub short : (plan : PlanView) (t : TreeView) (s : SweepView) (rows : List (List 
 short plan t s rows swept left = subst (λ (n : ℕ). IfSome plan.asked.limit (λ most. n < most)) (given_long plan t s rows swept) left
 
 -- it answered that no row is left
-module _ (plan : PlanView) (start mid t : TreeView) (s new_s : SweepView) (rows : List (List Cell)) (kept : Keeps start t) (fetches : t.trace.fetches ≡ fetches_then start.trace.fetches (length t.trace.pages))
+module _ (plan : PlanView) (start mid t : TreeView) (s new_s : SweepView) (rows : List (List Cell)) (plain : plan.asked.group ≡ []) (kept : Keeps start t) (fetches : t.trace.fetches ≡ fetches_then start.trace.fetches (length t.trace.pages))
     (swept : HasSwept plan mid s rows) (same : t.schema ≡ mid.schema) (left : IfSome plan.asked.limit (λ most. length rows < most))
     (ends : HasEnded plan t new_s swept.given swept.rest swept.fetched swept.unread) where
   is_short : IfSome plan.asked.limit (λ n. length swept.given < n)
@@ -192,14 +204,16 @@ module _ (plan : PlanView) (start mid t : TreeView) (s new_s : SweepView) (rows 
 
   pub ended_fetched : HasFetched plan (begun start) t
   ended_fetched =
-      visits_fetched plan start t new_s swept.given [] (swept.fetched ++ swept.unread) [] kept ends.sweeping fetches
-      (runs_out t.schema plan new_s.dim new_s.is_descending (regions t) (rows_held new_s.held) swept.given (swept.fetched ++ swept.unread) ends.sweeping.under_way is_short)
+      visits_fetched plan start t (swept.fetched ++ swept.unread) kept ends.sweeping.noted fetches
+      (visits_at plan start t (swept.fetched ++ swept.unread) kept
+      (row_visits plan new_s.dim new_s.is_descending t.schema (regions t) (map (λ event. event.span) (swept.fetched ++ swept.unread)) ends.sweeping.swept.kind plain
+      (runs_out t.schema plan new_s.dim new_s.is_descending (regions t) (rows_held new_s.held) swept.given (swept.fetched ++ swept.unread) ends.sweeping.under_way is_short)))
 
   pub ended_answered : IsAnswer start plan.asked rows
   ended_answered =
       answer_of plan start t rows _ kept (swept.cells ∙ ap (λ (schema : Schema). lines schema plan.asked.items swept.given) (sym same))
       (λ table are. runs_out_with_the_meaning t.schema plan new_s.dim new_s.is_descending t.next (regions t) table (rows_held new_s.held) swept.given (swept.fetched ++ swept.unread) []
-      (over plan t new_s swept.given [] (swept.fetched ++ swept.unread) [] ends.sweeping) are ends.sweeping.under_way is_short)
+      (over plan t new_s swept.given [] (swept.fetched ++ swept.unread) [] ends.sweeping) plain are ends.sweeping.under_way is_short)
 
 -- ---- what the loop keeps of the tree and the answer
 

@@ -1,11 +1,13 @@
-ghost use Rattle.std.specs.Prelude.{◌≡◌, ◌↔◌, ℕ, Some, Err, length, IsTrue, IfOk, OnErr, OnOk};
+ghost use Rattle.std.specs.Prelude.{◌≡◌, ◌≢◌, ◌↔◌, ℕ, true, false, [], Some, None, Err, length, IsTrue, IfOk, OnErr, OnOk};
 ghost use Rattle.ub_answer.specs.Shaped.{IsShaped};
 ghost use Rattle.ub_exec.specs.Answers.{IsReady, IsAnswer, IsSwept, begun};
-ghost use Rattle.ub_exec.specs.Reading.{CarriesOut};
+ghost use Rattle.ub_exec.specs.Reading.{CarriesOut, HasSweptAll, NotesPages};
 ghost use Rattle.ub_exec.specs.Visits.{HasFetched, HasFetchedFirst};
 ghost use Rattle.ub_query.specs.Posed.{IsPosed};
+ghost use Rattle.ub_tetris.specs.Sweep.{IsSweepOf};
 ghost use Rattle.ub_tree.specs.Reading.{ReadsTree};
 
+use crate::grouping::swept_groups;
 use crate::sweeping::swept_rows;
 use crate::walking::walk;
 use std::alloc::Global;
@@ -81,8 +83,40 @@ fn result_rows<S: PageStore>(
     }
     match plan.kind() {
         Kind::Empty | Kind::Scan => scanned_rows(alloc, tree, plan),
-        Kind::Sweep { .. } => swept_rows(alloc, tree, plan),
+        Kind::Sweep { .. } => swept(alloc, tree, plan),
     }
+}
+
+// The rows of the result by a sweep. The trace begins anew.
+fn swept<S: PageStore>(alloc: Global, tree: &mut Tree<S>, plan: &Plan) -> Result<Cells, ReadFault>
+    requires { IsPosed (length tree.old.schema.columns) plan.now.asked }
+    ensures rows { IsReady tree.old plan.now → IsSwept plan.now.kind
+        → IfOk result (λ cells. IsAnswer tree.old plan.now.asked cells) }
+    ensures shaped { IfOk result (IsShaped plan.now.asked) }
+    ensures pages { IsReady tree.old plan.now → IsSwept plan.now.kind
+        → OnOk result (HasFetched plan.now (begun tree.old) tree.new) }
+    ensures broken { IsReady tree.old plan.now → IsSwept plan.now.kind → OnErr result ((count : ℕ)
+        × HasFetchedFirst plan.now (begun tree.old) tree.new count) }
+    ensures all { (dim : ℕ) (is_descending : _)
+        → IsSweepOf tree.old.schema plan.now dim is_descending
+        → plan.now.asked.limit ≡ None → OnOk result
+        (HasSweptAll plan.now.covering.boxes dim is_descending (begun tree.old) tree.new) }
+    ensures notes { NotesPages (begun tree.old) tree.new result }
+    ensures effect { ReadsTree tree.old tree.new result }
+{
+    if is_grouped(plan.query()) {
+        swept_groups(alloc, tree, plan)
+    } else {
+        swept_rows(alloc, tree, plan)
+    }
+}
+
+// Whether a query has a GROUP BY.
+fn is_grouped(query: &Query) -> bool
+    ensures grouped { result ≡ true → query.now.group ≢ [] }
+    ensures plain { result ≡ false → query.now.group ≡ [] }
+{
+    !query.group.as_slice().is_empty()
 }
 
 // The rows of the result by a scan. LIMIT 0 asks for no row, and no region is fetched for it.

@@ -1,4 +1,4 @@
-ghost use Rattle.std.specs.Prelude.{◌≡◌, ◌<◌, ◌++◌, ℕ, true, false, List, None, length, IfOk, IfSome, OnErr, OnOk};
+ghost use Rattle.std.specs.Prelude.{◌≡◌, ◌<◌, ◌++◌, ℕ, true, false, List, [], None, length, IfOk, IfSome, OnErr, OnOk};
 ghost use Rattle.ub_answer.specs.Shaped.{IsShaped};
 ghost use Rattle.ub_exec.specs.Answers.{IsReady, IsAnswer, IsSwept, begun};
 ghost use Rattle.ub_exec.specs.Reading.{HasSweptAll, NotesPages};
@@ -21,21 +21,22 @@ use ub_table::Row;
 use ub_tetris::Sweep;
 use ub_tree::{ReadFault, Tree};
 
-/// The rows of the result by a sweep, each put in as the sweep gives it. Once the limit is filled no more is asked of the
-/// sweep, so that no region is fetched for a row that isn't asked for. The trace begins anew.
+/// The rows of the result by a sweep of rows, each put in as the sweep gives it. Once the limit is filled no more is asked of
+/// the sweep, so that no region is fetched for a row that isn't asked for. The trace begins anew.
 pub(crate) fn swept_rows<S: PageStore>(
     alloc: Global,
     tree: &mut Tree<S>,
     plan: &Plan,
 ) -> Result<Cells, ReadFault>
     requires { IsPosed (length tree.old.schema.columns) plan.now.asked }
-    ensures rows { IsReady tree.old plan.now → IsSwept plan.now.kind
+    ensures rows { IsReady tree.old plan.now → IsSwept plan.now.kind → plan.now.asked.group ≡ []
         → IfOk result (λ cells. IsAnswer tree.old plan.now.asked cells) }
     ensures shaped { IfOk result (IsShaped plan.now.asked) }
-    ensures pages { IsReady tree.old plan.now → IsSwept plan.now.kind
+    ensures pages { IsReady tree.old plan.now → IsSwept plan.now.kind → plan.now.asked.group ≡ []
         → OnOk result (HasFetched plan.now (begun tree.old) tree.new) }
-    ensures broken { IsReady tree.old plan.now → IsSwept plan.now.kind → OnErr result ((count : ℕ)
-        × HasFetchedFirst plan.now (begun tree.old) tree.new count) }
+    ensures broken { IsReady tree.old plan.now → IsSwept plan.now.kind → plan.now.asked.group ≡ []
+        → OnErr result
+        ((count : ℕ) × HasFetchedFirst plan.now (begun tree.old) tree.new count) }
     ensures all { (dim : ℕ) (is_descending : _)
         → sweep.IsSweepOf tree.old.schema plan.now dim is_descending
         → plan.now.asked.limit ≡ None → OnOk result
@@ -55,9 +56,9 @@ pub(crate) fn swept_rows<S: PageStore>(
     Ok(rows)
 }
 
-// Whether so many rows are as many as the limit says. No count of the tree is asked how often a sweep is asked for a row: in a
-// file whose first page is damaged it may be wrong.
-fn is_filled(limit: Option<u64>, rows: usize) -> bool
+/// Whether so many rows, or groups, are as many as the limit says. No count of the tree is asked how often a sweep is asked for
+/// more: in a file whose first page is damaged it may be wrong.
+pub(crate) fn is_filled(limit: Option<u64>, rows: usize) -> bool
     ensures filled { result ≡ true → IsFilled limit rows }
     ensures left { result ≡ false → IfSome limit (λ most. rows < most) }
 {
@@ -67,8 +68,8 @@ fn is_filled(limit: Option<u64>, rows: usize) -> bool
     }
 }
 
-// A sweep by the plan, which has given no row.
-fn begin_sweep<S: PageStore>(
+/// A sweep by the plan, which has given no row.
+pub(crate) fn begin_sweep<S: PageStore>(
     alloc: Global,
     tree: &mut Tree<S>,
     plan: &Plan,

@@ -51,19 +51,19 @@ returns-in-Empty g c = record {
 
 pub returns-in-Sweep : goal.returns-in-Sweep
 returns-in-Sweep g c =
-    let swept = swept_of c.kind.result c.args.plan.now.kind _ _ c.kind.ensures c.in-Sweep.is in
+    let sweeps = swept_of c.kind.result c.args.plan.now.kind _ _ c.kind.ensures c.in-Sweep.is in
     record {
-      rows = λ ready. subst (λ (t : TreeView). IfOk c.swept_rows.result (λ cells. IsAnswer t c.args.plan.now.asked cells)) c.begin.ensures
-          (c.swept_rows.ensures.rows (then c.args.tree.now c.begin.new.self c.args.plan.now c.begin.ensures ready) swept);
-      shaped = c.swept_rows.ensures.shaped;
-      pages = λ ready. subst (λ (t : TreeView). OnOk c.swept_rows.result (HasFetched c.args.plan.now (begun t) c.swept_rows.new.tree)) c.begin.ensures
-          (c.swept_rows.ensures.pages (then c.args.tree.now c.begin.new.self c.args.plan.now c.begin.ensures ready) swept);
-      broken = λ ready. subst (λ (t : TreeView). OnErr c.swept_rows.result ((count : ℕ) × HasFetchedFirst c.args.plan.now (begun t) c.swept_rows.new.tree count)) c.begin.ensures
-          (c.swept_rows.ensures.broken (then c.args.tree.now c.begin.new.self c.args.plan.now c.begin.ensures ready) swept);
+      rows = λ ready. subst (λ (t : TreeView). IfOk c.swept.result (λ cells. IsAnswer t c.args.plan.now.asked cells)) c.begin.ensures
+          (c.swept.ensures.rows (then c.args.tree.now c.begin.new.self c.args.plan.now c.begin.ensures ready) sweeps);
+      shaped = c.swept.ensures.shaped;
+      pages = λ ready. subst (λ (t : TreeView). OnOk c.swept.result (HasFetched c.args.plan.now (begun t) c.swept.new.tree)) c.begin.ensures
+          (c.swept.ensures.pages (then c.args.tree.now c.begin.new.self c.args.plan.now c.begin.ensures ready) sweeps);
+      broken = λ ready. subst (λ (t : TreeView). OnErr c.swept.result ((count : ℕ) × HasFetchedFirst c.args.plan.now (begun t) c.swept.new.tree count)) c.begin.ensures
+          (c.swept.ensures.broken (then c.args.tree.now c.begin.new.self c.args.plan.now c.begin.ensures ready) sweeps);
       failed = works c.has_failed.result c.args.tree.now c.begin.new.self c.begin.ensures c.has_failed.ensures c.if-has_failed.false;
-      reads = subst (λ (t : TreeView). CarriesOut c.args.plan.now (begun t) c.swept_rows.new.tree c.swept_rows.result) c.begin.ensures
-          (carries_swept c.swept_rows.result c.args.plan.now (begun c.begin.new.self) c.swept_rows.new.tree swept c.swept_rows.ensures.notes c.swept_rows.ensures.all);
-      effect = reads_then c.swept_rows.result c.args.tree.now c.begin.new.self c.swept_rows.new.tree (begun_traced c.args.tree.now c.begin.new.self c.begin.ensures) c.swept_rows.ensures.effect;
+      reads = subst (λ (t : TreeView). CarriesOut c.args.plan.now (begun t) c.swept.new.tree c.swept.result) c.begin.ensures
+          (carries_swept c.swept.result c.args.plan.now (begun c.begin.new.self) c.swept.new.tree sweeps c.swept.ensures.notes c.swept.ensures.all);
+      effect = reads_then c.swept.result c.args.tree.now c.begin.new.self c.swept.new.tree (begun_traced c.args.tree.now c.begin.new.self c.begin.ensures) c.swept.ensures.effect;
     }
 
 pub returns-then-has_failed-clause-failed : goal.returns-then-has_failed-clause-failed

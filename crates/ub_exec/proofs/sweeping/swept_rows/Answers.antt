@@ -36,21 +36,21 @@ returns-in_err-row-clause-effect g c =
     reads_by _ _ c.args.tree.now c.loop-query.tree c.next_row.new.tree c.from_residual-in_err-row.ensures.1 c.loop-query.invariant.kept.traced c.in_err-row.ensures.effect
 
 pub returns-in_default-clause-rows : goal.returns-in_default-clause-rows
-returns-in_default-clause-rows g c ready kind =
+returns-in_default-clause-rows g c ready kind plain =
     let inv = c.loop-query.invariant in
     let swept = inv.come ready kind in
     let after = Keeps-by c.loop-query.tree c.next_row.new.tree c.in_ok-row.ensures.effect.same in
-    ended_answered c.args.plan.now c.args.tree.now c.loop-query.tree c.next_row.new.tree c.loop-query.sweep c.next_row.new.sweep c.loop-query.rows
+    ended_answered c.args.plan.now c.args.tree.now c.loop-query.tree c.next_row.new.tree c.loop-query.sweep c.next_row.new.sweep c.loop-query.rows plain
     (Keeps-more _ _ _ inv.kept after) (noted_more (Ok _) c.args.tree.now c.loop-query.tree c.next_row.new.tree inv.fetches c.in_ok-row.ensures.notes)
     swept after.regions.schema (left_is (asked c.query-query.result.now) c.args.plan.now.asked c.len.result c.loop-query.rows c.query-query.ensures c.len.ensures (c.is_filled.ensures.left c.loop-query-test.true))
     (rw c.in_default.is at (c.in_ok-row.ensures.next swept.given swept.rest swept.fetched swept.unread swept.sweeping))
 
 pub returns-in_default-clause-pages : goal.returns-in_default-clause-pages
-returns-in_default-clause-pages g c ready kind =
+returns-in_default-clause-pages g c ready kind plain =
     let inv = c.loop-query.invariant in
     let swept = inv.come ready kind in
     let after = Keeps-by c.loop-query.tree c.next_row.new.tree c.in_ok-row.ensures.effect.same in
-    ended_fetched c.args.plan.now c.args.tree.now c.loop-query.tree c.next_row.new.tree c.loop-query.sweep c.next_row.new.sweep c.loop-query.rows
+    ended_fetched c.args.plan.now c.args.tree.now c.loop-query.tree c.next_row.new.tree c.loop-query.sweep c.next_row.new.sweep c.loop-query.rows plain
     (Keeps-more _ _ _ inv.kept after) (noted_more (Ok _) c.args.tree.now c.loop-query.tree c.next_row.new.tree inv.fetches c.in_ok-row.ensures.notes)
     swept after.regions.schema (left_is (asked c.query-query.result.now) c.args.plan.now.asked c.len.result c.loop-query.rows c.query-query.ensures c.len.ensures (c.is_filled.ensures.left c.loop-query-test.true))
     (rw c.in_default.is at (c.in_ok-row.ensures.next swept.given swept.rest swept.fetched swept.unread swept.sweeping))
@@ -90,40 +90,40 @@ loop-query-preserved g c =
     }
 
 pub returns-clause-rows : goal.returns-clause-rows
-returns-clause-rows g c ready kind =
+returns-clause-rows g c ready kind plain =
     let inv = c.loop-query.invariant in
-    filled_answered c.args.plan.now c.args.tree.now c.loop-query.tree c.loop-query.sweep c.loop-query.rows inv.kept inv.fetches (inv.come ready kind) kind (filled_is (asked c.query-query.result.now) c.args.plan.now.asked c.len.result c.loop-query.rows c.query-query.ensures c.len.ensures (c.is_filled.ensures.filled c.loop-query-test.false)) inv.few
+    filled_answered c.args.plan.now c.args.tree.now c.loop-query.tree c.loop-query.sweep c.loop-query.rows plain inv.kept inv.fetches (inv.come ready kind) kind (filled_is (asked c.query-query.result.now) c.args.plan.now.asked c.len.result c.loop-query.rows c.query-query.ensures c.len.ensures (c.is_filled.ensures.filled c.loop-query-test.false)) inv.few
 
 pub returns-clause-shaped : goal.returns-clause-shaped
 returns-clause-shaped g c = record { wide = c.loop-query.invariant.wide; few = c.loop-query.invariant.few }
 
 pub returns-clause-pages : goal.returns-clause-pages
-returns-clause-pages g c ready kind =
+returns-clause-pages g c ready kind plain =
     let inv = c.loop-query.invariant in
-    filled_fetched c.args.plan.now c.args.tree.now c.loop-query.tree c.loop-query.sweep c.loop-query.rows inv.kept inv.fetches (inv.come ready kind) kind (filled_is (asked c.query-query.result.now) c.args.plan.now.asked c.len.result c.loop-query.rows c.query-query.ensures c.len.ensures (c.is_filled.ensures.filled c.loop-query-test.false)) inv.few
+    filled_fetched c.args.plan.now c.args.tree.now c.loop-query.tree c.loop-query.sweep c.loop-query.rows plain inv.kept inv.fetches (inv.come ready kind) kind (filled_is (asked c.query-query.result.now) c.args.plan.now.asked c.len.result c.loop-query.rows c.query-query.ensures c.len.ensures (c.is_filled.ensures.filled c.loop-query-test.false)) inv.few
 
 pub returns-in_err-sweep-clause-broken : goal.returns-in_err-sweep-clause-broken
-returns-in_err-sweep-clause-broken g c ready kind =
+returns-in_err-sweep-clause-broken g c ready kind plain =
     on_err c.from_residual.result _ (none_fetched c.args.plan.now (begun c.args.tree.now) c.begin_sweep.new.tree (ready_begun c.args.tree.now c.args.plan.now ready) c.in_err-sweep.ensures.broken)
 
 pub returns-in_err-row-clause-broken : goal.returns-in_err-row-clause-broken
-returns-in_err-row-clause-broken g c ready kind =
+returns-in_err-row-clause-broken g c ready kind plain =
     let inv = c.loop-query.invariant in
     let swept = inv.come ready kind in
     on_err c.from_residual-in_err-row.result _
-    (swept_before c.args.plan.now c.args.tree.now c.loop-query.tree c.next_row.new.tree c.loop-query.sweep c.loop-query.rows inv.kept swept
+    (swept_before c.args.plan.now c.args.tree.now c.loop-query.tree c.next_row.new.tree c.loop-query.sweep c.loop-query.rows plain inv.kept swept
     (ap (λ (t : TreeView). t.placed) c.in_err-row.ensures.effect.same)
     (noted_more (Err _) c.args.tree.now c.loop-query.tree c.next_row.new.tree inv.fetches c.in_err-row.ensures.notes)
     (left_is (asked c.query-query.result.now) c.args.plan.now.asked c.len.result c.loop-query.rows c.query-query.ensures c.len.ensures (c.is_filled.ensures.left c.loop-query-test.true))
     (c.in_err-row.ensures.broken swept.given swept.rest swept.fetched swept.unread swept.sweeping))
 
 pub returns-in_err-push_row-clause-broken : goal.returns-in_err-push_row-clause-broken
-returns-in_err-push_row-clause-broken g c ready kind =
+returns-in_err-push_row-clause-broken g c ready kind plain =
     let inv = c.loop-query.invariant in
     let swept = inv.come ready kind in
     let after = Keeps-by c.loop-query.tree c.next_row.new.tree c.in_ok-row.ensures.effect.same in
     on_err c.from_residual-in_err-push_row.result _
-    (swept_after c.args.plan.now c.args.tree.now c.loop-query.tree c.next_row.new.tree c.loop-query.sweep c.next_row.new.sweep c.loop-query.rows swept (Keeps-more _ _ _ inv.kept after)
+    (swept_after c.args.plan.now c.args.tree.now c.loop-query.tree c.next_row.new.tree c.loop-query.sweep c.next_row.new.sweep c.loop-query.rows plain swept (Keeps-more _ _ _ inv.kept after)
     (noted_more (Ok _) c.args.tree.now c.loop-query.tree c.next_row.new.tree inv.fetches c.in_ok-row.ensures.notes)
     (left_is (asked c.query-query.result.now) c.args.plan.now.asked c.len.result c.loop-query.rows c.query-query.ensures c.len.ensures (c.is_filled.ensures.left c.loop-query-test.true)) c.in-Some.row
     (rw c.in-Some.is at (c.in_ok-row.ensures.next swept.given swept.rest swept.fetched swept.unread swept.sweeping)))

@@ -1,0 +1,25 @@
+use Rattle.std.proofs.Common.{Ok, Option, ap}
+use Rattle.ub_exec.proofs.ComeFacts.{comes_on}
+use Rattle.ub_exec.proofs.KeptFacts.{sweeps_reads}
+use Rattle.ub_exec.proofs.NotedFacts.{broken_notes, sweeps_notes}
+use Rattle.ub_exec.proofs.grouping.next_value.Goals as goal
+
+pub returns-in_err-next_value-clause-effect : goal.returns-in_err-next_value-clause-effect
+returns-in_err-next_value-clause-effect g c =
+    sweeps_reads c.from_residual.result _ c.args.sweep.now c.next_value.new.self c.args.tree.now c.next_value.new.tree c.from_residual.ensures.1 c.requires.works.0 c.requires.works.1 c.in_err-next_value.ensures.effect
+
+pub returns-in_err-next_value-clause-notes : goal.returns-in_err-next_value-clause-notes
+returns-in_err-next_value-clause-notes g c =
+    broken_notes c.from_residual.result _ _ c.args.sweep.now c.next_value.new.self c.args.tree.now c.next_value.new.tree c.from_residual.ensures.1 c.in_err-next_value.ensures.effect
+
+pub returns-clause-notes : goal.returns-clause-notes
+returns-clause-notes g c =
+    sweeps_notes _ _ c.args.sweep.now c.next_value.new.self c.args.tree.now c.next_value.new.tree c.requires.works.1 c.in_ok-next_value.ensures.effect
+
+pub returns-clause-works : goal.returns-clause-works
+returns-clause-works g c = (c.in_ok-next_value.ensures.once.works, c.in_ok-next_value.ensures.effect.regions c.requires.works.1)
+
+pub returns-clause-comes : goal.returns-clause-comes
+returns-clause-comes g c =
+    comes_on _ c.args.sweep.now c.next_value.new.self c.args.tree.now c.next_value.new.tree c.in_ok-next_value.ensures.effect (λ none. c.in_ok-next_value.ensures.ended (ap (λ (found : Option _). Ok found) none))
+    c.in_ok-next_value.ensures.fewer

@@ -1,0 +1,223 @@
+use Rattle.std.proofs.Common.{◌≡◌, List, Ok, Err, length, ap, subst, sym}
+use Rattle.ub_exec.proofs.BreakFacts.{ready_begun}
+use Rattle.ub_exec.proofs.ComeFacts.{HasComeOn-none, HasComeOn-more, swept_all}
+use Rattle.ub_exec.proofs.FirstFacts.{none_fetched, on_err}
+use Rattle.ub_exec.proofs.GroupTurnFacts.{HasSweptGroups, HasSweptGroups-none, HasSweptGroups-next, groups_after, groups_before, groups_ended, groups_filled, one_width, shaped_joined}
+use Rattle.ub_exec.proofs.LedFacts.{led_by}
+use Rattle.ub_exec.proofs.NotedFacts.{notes_err, notes_none, notes_ok, notes_then, traced_begun}
+use Rattle.ub_exec.proofs.SweptFacts.{begun_fetches, filled_is, left_is, noted_more, shaped_none, swept_kind, unfilled}
+use Rattle.ub_query.proofs.Laws.{groups_follow_the_lead}
+use Rattle.ub_query.specs.Shape.{asked}
+use Rattle.ub_query.specs.declared.cell.Cell.{Cell}
+use Rattle.ub_tree.proofs.Laws.{Keeps-by, Keeps-more, begun_traced, reads_by, unchanged_trace}
+use Rattle.ub_tree.specs.View.{TreeView}
+use Rattle.ub_exec.specs.Answers.{begun}
+use Rattle.ub_exec.proofs.grouping.swept_groups.Goals as goal
+
+pub loop-query-init : goal.loop-query-init
+loop-query-init g c = record {
+  kept = Keeps-by c.args.tree.now c.begin_sweep.new.tree (begun_traced c.args.tree.now c.begin_sweep.new.tree c.in_ok-sweep.ensures.trace);
+  works = (c.in_ok-sweep.ensures.started.working, c.in_ok-sweep.ensures.started.regions);
+  come_on = HasComeOn-none c.args.plan.now c.args.tree.now c.begin_sweep.new.tree c.in_ok-sweep.sweep c.in_ok-sweep.ensures.trace c.in_ok-sweep.ensures.met;
+  notes = notes_none (Ok tt) (begun c.args.tree.now) c.begin_sweep.new.tree (unchanged_trace (begun c.args.tree.now) c.begin_sweep.new.tree c.in_ok-sweep.ensures.trace);
+  fetches = begun_fetches c.args.tree.now c.begin_sweep.new.tree c.in_ok-sweep.ensures.trace;
+  shaped = shaped_none c.args.plan.now.asked c.none-groups.result c.none-groups.ensures;
+  come = λ ready dim is_descending is some.
+      subst (λ (cells : List (List Cell)). HasSweptGroups c.args.plan.now c.args.tree.now c.begin_sweep.new.tree dim is_descending c.in_ok-sweep.sweep cells) (sym c.none-groups.ensures)
+      (HasSweptGroups-none c.args.plan.now c.args.tree.now c.begin_sweep.new.tree dim is_descending c.in_ok-sweep.sweep some
+      (c.in_ok-sweep.ensures.begun dim is_descending (record { sound = ready.sound; planned = ready.planned; kind = is })));
+}
+
+pub loop-query-smaller : goal.loop-query-smaller
+loop-query-smaller g c = let comes = rw c.in-Some.is at c.in_ok-rows.ensures.comes in comes.fewer
+
+pub loop-query-preserved : goal.loop-query-preserved
+loop-query-preserved g c =
+    let inv = c.loop-query.invariant in
+    let start = c.args.tree.now in
+    let t = c.loop-query.tree in
+    let new = c.next_value.new.tree in
+    let query = asked c.query-query.result.now in
+    let plan = c.args.plan.now in
+    let same : query ≡ plan.asked = c.query-query.ensures in
+    let after = Keeps-by t new c.in_ok-rows.ensures.effect.same in
+    let kept = Keeps-more _ _ _ inv.kept after in
+    let traced = traced_begun start t inv.kept.traced in
+    record {
+      kept = kept;
+      works = c.in_ok-rows.ensures.works;
+      come_on = HasComeOn-more plan (begun start) t c.loop-query.sweep traced inv.come_on new c.next_value.new.sweep c.in-Some.rows (rw c.in-Some.is at c.in_ok-rows.ensures.comes);
+      notes = notes_then {A = Unit {0}} tt (Ok tt) (begun start) t new traced inv.notes (notes_ok _ tt t new c.in_ok-rows.ensures.notes);
+      fetches = noted_more (Ok _) start t new inv.fetches c.in_ok-rows.ensures.notes;
+      shaped = shaped_joined plan.asked query c.loop-query.groups c.in_ok-more.more c.extend.new.self same inv.shaped c.in_ok-more.ensures.shaped c.in_ok-extend.ensures;
+      come = λ ready dim is_descending is some.
+          let swept = inv.come ready dim is_descending is some in
+          let led = led_by start.schema plan (length start.schema.columns) dim is_descending c.requires ready.planned is some in
+          let gives = rw c.in-Some.is at (c.in_ok-rows.ensures.next swept.given swept.rest swept.fetched swept.unread swept.sweeping some) in
+          HasSweptGroups-next plan start dim is_descending ready.sound ready.planned is led groups_follow_the_lead t c.loop-query.sweep c.loop-query.groups inv.kept swept
+          new c.next_value.new.sweep c.in-Some.rows.items kept
+          (left_is query plan.asked c.len.result c.loop-query.groups same c.len.ensures (c.is_filled.ensures.left c.loop-query-test.true)) gives
+          c.schema.result.now query c.as_slice.result.now c.schema.ensures same c.as_slice.ensures.value c.in_ok-more.more c.extend.new.self
+          c.in_ok-more.ensures.meaning c.in_ok-extend.ensures;
+    }
+
+pub extend-requires : goal.extend-requires
+extend-requires g c = record {
+  wide = one_width (length c.args.tree.now.schema.columns) c.args.plan.now.asked (asked c.query-query.result.now) c.loop-query.groups c.in_ok-more.more c.requires c.query-query.ensures
+      c.loop-query.invariant.shaped c.in_ok-more.ensures.shaped;
+}
+
+pub returns-clause-shaped : goal.returns-clause-shaped
+returns-clause-shaped g c = c.loop-query.invariant.shaped
+
+pub returns-in_default-clause-shaped : goal.returns-in_default-clause-shaped
+returns-in_default-clause-shaped g c = c.loop-query.invariant.shaped
+
+pub returns-clause-rows : goal.returns-clause-rows
+returns-clause-rows g c ready kind some =
+    let inv = c.loop-query.invariant in
+    let plan = c.args.plan.now in
+    let start = c.args.tree.now in
+    let (dim, is_descending, is) = swept_kind plan.kind kind in
+    let led = led_by start.schema plan (length start.schema.columns) dim is_descending c.requires ready.planned is some in
+    (groups_filled plan start dim is_descending ready.sound ready.planned is led groups_follow_the_lead c.loop-query.tree c.loop-query.sweep c.loop-query.groups inv.kept (inv.come ready dim is_descending is some)
+    (filled_is (asked c.query-query.result.now) plan.asked c.len.result c.loop-query.groups c.query-query.ensures c.len.ensures (c.is_filled.ensures.filled c.loop-query-test.false)) inv.fetches).1
+
+pub returns-clause-pages : goal.returns-clause-pages
+returns-clause-pages g c ready kind some =
+    let inv = c.loop-query.invariant in
+    let plan = c.args.plan.now in
+    let start = c.args.tree.now in
+    let (dim, is_descending, is) = swept_kind plan.kind kind in
+    let led = led_by start.schema plan (length start.schema.columns) dim is_descending c.requires ready.planned is some in
+    (groups_filled plan start dim is_descending ready.sound ready.planned is led groups_follow_the_lead c.loop-query.tree c.loop-query.sweep c.loop-query.groups inv.kept (inv.come ready dim is_descending is some)
+    (filled_is (asked c.query-query.result.now) plan.asked c.len.result c.loop-query.groups c.query-query.ensures c.len.ensures (c.is_filled.ensures.filled c.loop-query-test.false)) inv.fetches).0
+
+pub returns-in_default-clause-rows : goal.returns-in_default-clause-rows
+returns-in_default-clause-rows g c ready kind some =
+    let inv = c.loop-query.invariant in
+    let plan = c.args.plan.now in
+    let start = c.args.tree.now in
+    let t = c.loop-query.tree in
+    let new = c.next_value.new.tree in
+    let (dim, is_descending, is) = swept_kind plan.kind kind in
+    let swept = inv.come ready dim is_descending is some in
+    let led = led_by start.schema plan (length start.schema.columns) dim is_descending c.requires ready.planned is some in
+    (groups_ended plan start dim is_descending ready.sound ready.planned is led groups_follow_the_lead t c.loop-query.sweep c.loop-query.groups inv.kept swept
+    (left_is (asked c.query-query.result.now) plan.asked c.len.result c.loop-query.groups c.query-query.ensures c.len.ensures (c.is_filled.ensures.left c.loop-query-test.true))
+    new c.next_value.new.sweep (Keeps-more _ _ _ inv.kept (Keeps-by t new c.in_ok-rows.ensures.effect.same)) (noted_more (Ok _) start t new inv.fetches c.in_ok-rows.ensures.notes)
+    (rw c.in_default.is at (c.in_ok-rows.ensures.next swept.given swept.rest swept.fetched swept.unread swept.sweeping some))).1
+
+pub returns-in_default-clause-pages : goal.returns-in_default-clause-pages
+returns-in_default-clause-pages g c ready kind some =
+    let inv = c.loop-query.invariant in
+    let plan = c.args.plan.now in
+    let start = c.args.tree.now in
+    let t = c.loop-query.tree in
+    let new = c.next_value.new.tree in
+    let (dim, is_descending, is) = swept_kind plan.kind kind in
+    let swept = inv.come ready dim is_descending is some in
+    let led = led_by start.schema plan (length start.schema.columns) dim is_descending c.requires ready.planned is some in
+    (groups_ended plan start dim is_descending ready.sound ready.planned is led groups_follow_the_lead t c.loop-query.sweep c.loop-query.groups inv.kept swept
+    (left_is (asked c.query-query.result.now) plan.asked c.len.result c.loop-query.groups c.query-query.ensures c.len.ensures (c.is_filled.ensures.left c.loop-query-test.true))
+    new c.next_value.new.sweep (Keeps-more _ _ _ inv.kept (Keeps-by t new c.in_ok-rows.ensures.effect.same)) (noted_more (Ok _) start t new inv.fetches c.in_ok-rows.ensures.notes)
+    (rw c.in_default.is at (c.in_ok-rows.ensures.next swept.given swept.rest swept.fetched swept.unread swept.sweeping some))).0
+
+pub returns-in_err-sweep-clause-broken : goal.returns-in_err-sweep-clause-broken
+returns-in_err-sweep-clause-broken g c ready kind some =
+    on_err c.from_residual.result _ (none_fetched c.args.plan.now (begun c.args.tree.now) c.begin_sweep.new.tree (ready_begun c.args.tree.now c.args.plan.now ready) c.in_err-sweep.ensures.broken)
+
+pub returns-in_err-rows-clause-broken : goal.returns-in_err-rows-clause-broken
+returns-in_err-rows-clause-broken g c ready kind some =
+    let inv = c.loop-query.invariant in
+    let plan = c.args.plan.now in
+    let start = c.args.tree.now in
+    let t = c.loop-query.tree in
+    let new = c.next_value.new.tree in
+    let (dim, is_descending, is) = swept_kind plan.kind kind in
+    let swept = inv.come ready dim is_descending is some in
+    let led = led_by start.schema plan (length start.schema.columns) dim is_descending c.requires ready.planned is some in
+    on_err c.from_residual-in_err-rows.result _
+    (groups_before plan start dim is_descending ready.sound ready.planned is led groups_follow_the_lead t c.loop-query.sweep c.loop-query.groups inv.kept swept
+    (left_is (asked c.query-query.result.now) plan.asked c.len.result c.loop-query.groups c.query-query.ensures c.len.ensures (c.is_filled.ensures.left c.loop-query-test.true))
+    new (c.in_err-rows.ensures.broken swept.given swept.rest swept.fetched swept.unread swept.sweeping)
+    (ap (λ (t : TreeView). t.placed) c.in_err-rows.ensures.effect.same) (noted_more (Err _) start t new inv.fetches c.in_err-rows.ensures.notes))
+
+pub returns-in_err-more-clause-broken : goal.returns-in_err-more-clause-broken
+returns-in_err-more-clause-broken g c ready kind some =
+    let inv = c.loop-query.invariant in
+    let plan = c.args.plan.now in
+    let start = c.args.tree.now in
+    let t = c.loop-query.tree in
+    let new = c.next_value.new.tree in
+    let (dim, is_descending, is) = swept_kind plan.kind kind in
+    let swept = inv.come ready dim is_descending is some in
+    let led = led_by start.schema plan (length start.schema.columns) dim is_descending c.requires ready.planned is some in
+    on_err c.from_residual-in_err-more.result _
+    (groups_after plan start dim is_descending ready.sound ready.planned is led groups_follow_the_lead t c.loop-query.sweep c.loop-query.groups inv.kept swept
+    (left_is (asked c.query-query.result.now) plan.asked c.len.result c.loop-query.groups c.query-query.ensures c.len.ensures (c.is_filled.ensures.left c.loop-query-test.true))
+    new c.next_value.new.sweep c.in-Some.rows.items (Keeps-more _ _ _ inv.kept (Keeps-by t new c.in_ok-rows.ensures.effect.same)) (noted_more (Ok _) start t new inv.fetches c.in_ok-rows.ensures.notes)
+    (rw c.in-Some.is at (c.in_ok-rows.ensures.next swept.given swept.rest swept.fetched swept.unread swept.sweeping some)))
+
+pub returns-in_err-extend-clause-broken : goal.returns-in_err-extend-clause-broken
+returns-in_err-extend-clause-broken g c ready kind some =
+    let inv = c.loop-query.invariant in
+    let plan = c.args.plan.now in
+    let start = c.args.tree.now in
+    let t = c.loop-query.tree in
+    let new = c.next_value.new.tree in
+    let (dim, is_descending, is) = swept_kind plan.kind kind in
+    let swept = inv.come ready dim is_descending is some in
+    let led = led_by start.schema plan (length start.schema.columns) dim is_descending c.requires ready.planned is some in
+    on_err c.from_residual-in_err-extend.result _
+    (groups_after plan start dim is_descending ready.sound ready.planned is led groups_follow_the_lead t c.loop-query.sweep c.loop-query.groups inv.kept swept
+    (left_is (asked c.query-query.result.now) plan.asked c.len.result c.loop-query.groups c.query-query.ensures c.len.ensures (c.is_filled.ensures.left c.loop-query-test.true))
+    new c.next_value.new.sweep c.in-Some.rows.items (Keeps-more _ _ _ inv.kept (Keeps-by t new c.in_ok-rows.ensures.effect.same)) (noted_more (Ok _) start t new inv.fetches c.in_ok-rows.ensures.notes)
+    (rw c.in-Some.is at (c.in_ok-rows.ensures.next swept.given swept.rest swept.fetched swept.unread swept.sweeping some)))
+
+pub returns-in_err-rows-clause-effect : goal.returns-in_err-rows-clause-effect
+returns-in_err-rows-clause-effect g c =
+    reads_by _ _ c.args.tree.now c.loop-query.tree c.next_value.new.tree c.from_residual-in_err-rows.ensures.1 c.loop-query.invariant.kept.traced c.in_err-rows.ensures.effect
+
+pub returns-in_err-sweep-clause-notes : goal.returns-in_err-sweep-clause-notes
+returns-in_err-sweep-clause-notes g c = notes_none c.from_residual.result (begun c.args.tree.now) c.begin_sweep.new.tree c.in_err-sweep.ensures.broken
+
+pub returns-in_err-rows-clause-notes : goal.returns-in_err-rows-clause-notes
+returns-in_err-rows-clause-notes g c =
+    let inv = c.loop-query.invariant in
+    notes_err c.from_residual-in_err-rows.result _ (Err _) (begun c.args.tree.now) c.next_value.new.tree c.from_residual-in_err-rows.ensures.1
+    (notes_then {A = Unit {0}} tt (Err _) (begun c.args.tree.now) c.loop-query.tree c.next_value.new.tree (traced_begun c.args.tree.now c.loop-query.tree inv.kept.traced) inv.notes c.in_err-rows.ensures.notes)
+
+pub returns-in_default-clause-notes : goal.returns-in_default-clause-notes
+returns-in_default-clause-notes g c =
+    let inv = c.loop-query.invariant in
+    notes_then {A = Unit {0}} tt (Ok _) (begun c.args.tree.now) c.loop-query.tree c.next_value.new.tree (traced_begun c.args.tree.now c.loop-query.tree inv.kept.traced) inv.notes
+    (notes_ok _ _ c.loop-query.tree c.next_value.new.tree c.in_ok-rows.ensures.notes)
+
+pub returns-in_err-more-clause-notes : goal.returns-in_err-more-clause-notes
+returns-in_err-more-clause-notes g c =
+    let inv = c.loop-query.invariant in
+    notes_err {B = Unit {0}} c.from_residual-in_err-more.result _ (Ok tt) (begun c.args.tree.now) c.next_value.new.tree c.from_residual-in_err-more.ensures.1
+    (notes_then {A = Unit {0}} tt (Ok tt) (begun c.args.tree.now) c.loop-query.tree c.next_value.new.tree (traced_begun c.args.tree.now c.loop-query.tree inv.kept.traced) inv.notes
+    (notes_ok _ tt c.loop-query.tree c.next_value.new.tree c.in_ok-rows.ensures.notes))
+
+pub returns-in_err-extend-clause-notes : goal.returns-in_err-extend-clause-notes
+returns-in_err-extend-clause-notes g c =
+    let inv = c.loop-query.invariant in
+    notes_err {B = Unit {0}} c.from_residual-in_err-extend.result _ (Ok tt) (begun c.args.tree.now) c.next_value.new.tree c.from_residual-in_err-extend.ensures.1
+    (notes_then {A = Unit {0}} tt (Ok tt) (begun c.args.tree.now) c.loop-query.tree c.next_value.new.tree (traced_begun c.args.tree.now c.loop-query.tree inv.kept.traced) inv.notes
+    (notes_ok _ tt c.loop-query.tree c.next_value.new.tree c.in_ok-rows.ensures.notes))
+
+pub returns-clause-notes : goal.returns-clause-notes
+returns-clause-notes g c = notes_ok tt _ (begun c.args.tree.now) c.loop-query.tree c.loop-query.invariant.notes
+
+pub returns-in_default-clause-all : goal.returns-in_default-clause-all
+returns-in_default-clause-all g c dim is_descending of none =
+    let inv = c.loop-query.invariant in
+    swept_all c.args.plan.now (begun c.args.tree.now) c.loop-query.tree c.loop-query.sweep (traced_begun c.args.tree.now c.loop-query.tree inv.kept.traced) inv.come_on
+    c.next_value.new.tree c.next_value.new.sweep (rw c.in_default.is at c.in_ok-rows.ensures.comes) dim is_descending of
+
+pub returns-clause-all : goal.returns-clause-all
+returns-clause-all g c dim is_descending of none =
+    unfilled c.args.plan.now.asked.limit (length c.loop-query.groups) none
+    (filled_is (asked c.query-query.result.now) c.args.plan.now.asked c.len.result c.loop-query.groups c.query-query.ensures c.len.ensures (c.is_filled.ensures.filled c.loop-query-test.false))

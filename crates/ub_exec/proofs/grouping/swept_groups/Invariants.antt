@@ -1,0 +1,27 @@
+use Rattle.std.proofs.Common.{◌≡◌, ◌≢◌, ℕ, Bool, [], Ok, length}
+use Rattle.ub_answer.specs.Shaped.{IsShaped}
+use Rattle.ub_exec.proofs.ComeFacts.{HasComeOn}
+use Rattle.ub_exec.proofs.GroupTurnFacts.{HasSweptGroups}
+use Rattle.ub_exec.specs.Answers.{IsReady, begun}
+use Rattle.ub_exec.specs.Reading.{NotesPages}
+use Rattle.ub_exec.specs.Sweeping.{IsAtWork}
+use Rattle.ub_exec.specs.Visits.{fetches_then}
+use Rattle.ub_planning.specs.declared.planned.Kind.TheVariants.{Sweep}
+use Rattle.ub_tetris.specs.Sweep.{rows_left}
+use Rattle.ub_tree.proofs.Laws.{Keeps}
+use Rattle.ub_exec.proofs.grouping.swept_groups.Given as goal
+
+abbrev pub invariant-loop-query : goal.invariant-loop-query
+invariant-loop-query g l = record {
+  kept : Keeps l.fn.tree l.tree;
+  works : IsAtWork l.tree l.sweep;
+  come_on : HasComeOn l.plan (begun l.fn.tree) l.tree l.sweep;
+  notes : NotesPages {A = Unit {0}} (begun l.fn.tree) l.tree (Ok tt);
+  fetches : l.tree.trace.fetches ≡ fetches_then l.fn.tree.trace.fetches (length l.tree.trace.pages);
+  shaped : IsShaped l.plan.asked l.groups;
+  come : IsReady l.fn.tree l.plan → (dim : ℕ) (is_descending : Bool) → l.plan.kind ≡ Sweep dim is_descending → l.plan.asked.group ≢ []
+      → HasSweptGroups l.plan l.fn.tree l.tree dim is_descending l.sweep l.groups;
+}
+
+abbrev pub decreases-loop-query : goal.decreases-loop-query
+decreases-loop-query g l = rows_left l.sweep
