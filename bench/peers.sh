@@ -114,3 +114,7 @@ compare "two dimensions, a tenth of each" 50 "SUM(amount)" "- - 500000 604857 50
 compare "all rows" 5 "COUNT(*), SUM(amount)" "- - - - - -" ""
 compare "groups of all rows" 5 "kind, SUM(amount)" "- - - - - -" "GROUP BY kind"
 compare "ORDER BY z, LIMIT 10, a box of a tenth" 50 "x, y, z" "200000 686000 200000 686000 200000 686000" "ORDER BY z LIMIT 10"
+for column in x y z; do
+    compare "GROUP BY $column, LIMIT 20, a box of a fifth" 50 "$column, COUNT(*), SUM(amount)" \
+        "200000 813000 200000 813000 200000 813000" "GROUP BY $column LIMIT 20"
+done

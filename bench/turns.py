@@ -1,11 +1,12 @@
 #!/usr/bin/env python3
 """Times one or more programs `ubq` by turns, in one run: loading the table of bench/table.sh, opening it, and queries on its file.
 
-usage: bench/turns.py PROGRAM [PROGRAM..] [--rows N] [--rounds N]      (default 200000 rows, 7 rounds)
+usage: bench/turns.py PROGRAM [PROGRAM..] [--rows N] [--xs N] [--rounds N] [--only WORD]      (default 200000 rows, 7 rounds)
 
 Each time is the least of the rounds, in each of which every program has its turn, since what else the machine does only adds. A query's
 time is that of a script which has it many times, less that of an empty script. The answers of all programs must be the same.
-Prints a table in Markdown, with a column for each program in the order given.
+With --xs the first dimension has that many values, and the queries that ask for a range of it find no row. With --only just the
+queries whose names have the word are asked. Prints a table in Markdown, with a column for each program in the order given.
 """
 
 import argparse
@@ -19,6 +20,7 @@ from pathlib import Path
 TOP = Path(__file__).resolve().parent.parent
 
 ALL = "x >= 0"
+FIFTH = "x BETWEEN 200000 AND 813000 AND y BETWEEN 200000 AND 813000 AND z BETWEEN 200000 AND 813000"
 TENTH = "x BETWEEN 200000 AND 686000 AND y BETWEEN 200000 AND 686000 AND z BETWEEN 200000 AND 686000"
 HUNDREDTH = "x BETWEEN 200000 AND 425000 AND y BETWEEN 200000 AND 425000 AND z BETWEEN 200000 AND 425000"
 SMALL = "x BETWEEN 500000 AND 550000 AND y BETWEEN 500000 AND 550000 AND z BETWEEN 500000 AND 550000"
@@ -34,6 +36,8 @@ QUERIES = [
     ("COUNT(*) over all", 20, "SELECT COUNT(*) FROM t;"),
     ("SUM, MIN, MAX over all", 20, "SELECT SUM(amount), MIN(amount), MAX(amount) FROM t;"),
     ("GROUP BY of 100 groups", 20, "SELECT kind, COUNT(*), SUM(amount) FROM t GROUP BY kind;"),
+    ("GROUP BY a dimension, all groups", 4, "SELECT x, COUNT(*), SUM(amount) FROM t GROUP BY x;"),
+    ("GROUP BY a dimension, LIMIT 20, in a fifth", 100, f"SELECT x, COUNT(*), SUM(amount) FROM t WHERE {FIFTH} GROUP BY x LIMIT 20;"),
     ("COUNT(*) with a comparison of a measure", 20, "SELECT COUNT(*) FROM t WHERE amount < 50000;"),
     ("ORDER BY a dimension, all rows (a sweep)", 4, f"SELECT * FROM t WHERE {ALL} ORDER BY x;"),
     ("ORDER BY a measure, all rows (a scan)", 4, f"SELECT * FROM t WHERE {ALL} ORDER BY amount;"),
@@ -79,14 +83,16 @@ def main():
     parser = argparse.ArgumentParser(description="times programs ubq by turns")
     parser.add_argument("programs", nargs="+")
     parser.add_argument("--rows", type=int, default=200000)
+    parser.add_argument("--xs", type=int, default=1048576)
     parser.add_argument("--rounds", type=int, default=7)
+    parser.add_argument("--only", default="")
     given = parser.parse_args()
     programs = [str(Path(p).resolve()) for p in given.programs]
     with tempfile.TemporaryDirectory() as folder:
         work = Path(folder)
         data = work / "data.csv"
         with open(data, "wb") as file:
-            subprocess.run(["bash", str(TOP / "bench" / "table.sh"), str(given.rows)], stdout=file, check=True)
+            subprocess.run(["bash", str(TOP / "bench" / "table.sh"), str(given.rows), str(given.xs)], stdout=file, check=True)
         empty = work / "empty.sql"
         empty.write_text("")
         print("| What | " + " | ".join(given.programs) + " |")
@@ -105,6 +111,8 @@ def main():
         opened = least_by_turns([words + [str(empty)] for words in runs], given.rounds, "empty")
         row("`run` with an empty script", opened)
         for name, times, text in QUERIES:
+            if given.only not in name:
+                continue
             script = work / "script.sql"
             script.write_text((text + "\n") * times)
             whole = least_by_turns([words + [str(script)] for words in runs], given.rounds, name)

@@ -77,9 +77,15 @@ def met(box, start, end, dim, down):
     return best
 
 
+def event_values(rows, dims, size, boxes, dim, down):
+    """The event value of each region that meets one of the boxes."""
+    for start, end, _ in spans(inserted(rows, dims, size), dims):
+        values = [value for box in boxes if (value := met(box, start, end, dim, down)) is not None]
+        if values:
+            yield max(values) if down else min(values)
+
+
 def model(rows, dims, size, box, dim, down, second, limit):
-    regions = list(spans(inserted(rows, dims, size), dims))
-    values = [met(box, start, end, dim, down) for start, end, _ in regions]
     inside = [
         (row, number) for number, row in enumerate(rows, 1) if all(lo <= v <= hi for v, (lo, hi) in zip(row, box))
     ]
@@ -94,15 +100,100 @@ def model(rows, dims, size, box, dim, down, second, limit):
 
     inside.sort(key=order)
     given = inside if limit is None else inside[:limit]
-    met_values = [value for value in values if value is not None]
+    met_values = list(event_values(rows, dims, size, [box], dim, down))
+    return [row for row, _ in given], pages_read(met_values, down, limit, [row[dim] for row, _ in given])
+
+
+def pages_read(met_values, down, limit, given):
+    """How many regions a sweep reads that gives entries with these values in its dimension."""
     if limit == 0:
-        pages = 0
-    elif limit is not None and len(given) == limit:
-        last = given[-1][0][dim]
-        pages = sum(value >= last if down else value <= last for value in met_values)
+        return 0
+    if limit is not None and len(given) == limit:
+        return sum(value >= given[-1] if down else value <= given[-1] for value in met_values)
+    return len(met_values)
+
+
+AGGREGATES = {"SUM": sum, "MIN": min, "MAX": max}
+
+
+def cell(item, group, values, rows):
+    """What a group shows of an item: a column by which is grouped, None for COUNT(*), or an aggregate of a column."""
+    if isinstance(item, int):
+        return values[group.index(item)]
+    if item is None:
+        return len(rows)
+    keyword, column = item
+    return AGGREGATES[keyword](row[column] for row in rows)
+
+
+def model_of_groups(rows, dims, size, boxes, least, items, group, keys, limit):
+    """The lines and pages of a query with GROUP BY, over the boxes and the rows whose measure is at least this."""
+    chosen = [row for row in rows if row[dims] >= least and any(all(lo <= v <= hi for v, (lo, hi) in zip(row, box)) for box in boxes)]
+    found = {}
+    for row in chosen:
+        found.setdefault(tuple(row[column] for column in group), []).append(row)
+
+    def order(entry):
+        values, members = entry
+        shown = [cell(item, group, values, members) for item, _ in keys]
+        return ([-value if down else value for value, (_, down) in zip(shown, keys)], values)
+
+    arranged = sorted(found.items(), key=order)
+    given = arranged if limit is None else arranged[:limit]
+    dim, down = keys[0] if keys else (group[0], False)
+    if isinstance(dim, int) and dim < dims:
+        met_values = list(event_values(rows, dims, size, boxes, dim, down))
+        pages = pages_read(met_values, down, limit, [values[group.index(dim)] for values, _ in given])
     else:
-        pages = len(met_values)
-    return [row for row, _ in given], pages
+        pages = 0 if limit == 0 else len(list(event_values(rows, dims, size, boxes, 0, False)))
+    return [[cell(item, group, values, members) for item in items] for values, members in given], pages
+
+
+def spelled(item, names):
+    if isinstance(item, int):
+        return names[item]
+    return "COUNT(*)" if item is None else f"{item[0]}({names[item[1]]})"
+
+
+def random_box(rng, dims):
+    box = []
+    for _ in range(dims):
+        lo, hi = sorted((rng.randrange(9), rng.randrange(9)))
+        box.append((lo, hi) if rng.random() < 0.6 else (0, GREATEST))
+    return tuple(box)
+
+
+def condition(box, names):
+    return " AND ".join(f"{name} BETWEEN {lo} AND {hi}" for name, (lo, hi) in zip(names, box))
+
+
+def example_of_groups(rng):
+    dims = rng.randint(1, 3)
+    names = "xyz"[:dims] + "m"
+    rows = [tuple(rng.randrange(8) for _ in range(dims)) + (rng.randrange(4),) for _ in range(rng.randint(0, 14))]
+    size = rng.randint(2, 4)
+    boxes = [random_box(rng, dims) for _ in range(rng.choice([1, 1, 2]))]
+    least = rng.choice([0, 0, 2])
+    group = [rng.randrange(dims + 1) for _ in range(rng.randint(1, 3))]
+    items = [rng.choice([rng.choice(group), None, (rng.choice(list(AGGREGATES)), rng.randrange(dims + 1))]) for _ in range(rng.randint(1, 4))]
+    if rng.random() < 0.7:
+        items.insert(0, group[0])
+    keys = [(rng.choice(items), rng.random() < 0.5) for _ in range(rng.choice([0, 0, 1, 1, 2]))]
+    limit = rng.choice([None, 0, 1, 2, 3, 5, 20])
+    where = " OR ".join(f"({condition(box, names)})" for box in boxes)
+    if least:
+        where = f"({where}) AND m >= {least}"
+    statement = f"SELECT {', '.join(spelled(item, names) for item in items)} FROM t WHERE {where}"
+    statement += f" GROUP BY {', '.join(names[column] for column in group)}"
+    if keys:
+        statement += " ORDER BY " + ", ".join(spelled(item, names) + (" DESC" if down else "") for item, down in keys)
+    if limit is not None:
+        statement += f" LIMIT {limit}"
+    given, pages = model_of_groups(rows, dims, size, boxes, least, items, group, keys, limit)
+    lines = [",".join(spelled(item, names) for item in items)] + [",".join(map(str, shown)) for shown in given]
+    lines.append(f"-- rows {len(given)}, pages {pages}")
+    data = "\n".join([",".join(names)] + [",".join(map(str, row)) for row in rows]) + "\n"
+    return dims, size, data, statement + ";", "\n".join(lines) + "\n"
 
 
 def example(rng):
@@ -110,10 +201,7 @@ def example(rng):
     names = "xyz"[:dims] + "m"
     rows = [tuple(rng.randrange(8) for _ in range(dims)) + (rng.randrange(4),) for _ in range(rng.randint(0, 14))]
     size = rng.randint(2, 4)
-    box = []
-    for _ in range(dims):
-        lo, hi = sorted((rng.randrange(9), rng.randrange(9)))
-        box.append((lo, hi) if rng.random() < 0.6 else (0, GREATEST))
+    box = random_box(rng, dims)
     dim, down = rng.randrange(dims), rng.random() < 0.5
     second = (rng.randrange(dims + 1), rng.random() < 0.5) if rng.random() < 0.5 else None
     limit = rng.choice([None, 0, 1, 2, 3, 5, 20])
@@ -123,7 +211,7 @@ def example(rng):
         statement += f", {names[second[0]]}" + (" DESC" if second[1] else "")
     if limit is not None:
         statement += f" LIMIT {limit}"
-    given, pages = model(rows, dims, size, tuple(box), dim, down, second, limit)
+    given, pages = model(rows, dims, size, box, dim, down, second, limit)
     lines = [",".join(names)] + [",".join(map(str, row)) for row in given] + [f"-- rows {len(given)}, pages {pages}"]
     data = "\n".join([",".join(names)] + [",".join(map(str, row)) for row in rows]) + "\n"
     return dims, size, data, statement + ";", "\n".join(lines) + "\n"
@@ -138,7 +226,7 @@ def main():
     with tempfile.TemporaryDirectory() as work:
         data, script = os.path.join(work, "data.csv"), os.path.join(work, "script.sql")
         for _ in range(count):
-            dims, size, text, statement, want = example(rng)
+            dims, size, text, statement, want = rng.choice([example, example_of_groups])(rng)
             with open(data, "w") as file:
                 file.write(text)
             with open(script, "w") as file:

@@ -3,7 +3,7 @@ use Rattle.std.proofs.Common.{◌≡◌, ◌≢◌, ◌≤◌, ◌+◌, ◌++◌
 use Rattle.std.specs.Prelude.{OnOk}
 use Rattle.ub_store.specs.Facts.{StoreFacts, page_count, Appends, Extends, IsHonest, MayFlush, Syncs, WritesAt, counted, zero_page}
 use Rattle.ub_store.specs.declared.fault.StoreFault.{StoreFault}
-use Rattle.ub_files.specs.Copying.{Adds, Copies, IsBegun, MayLast}
+use Rattle.ub_files.specs.Copying.{Adds, Copies, IsPartWay, MayLast}
 
 -- ---- lists
 
@@ -119,7 +119,7 @@ copy_more {A} {pages} {n} {old} {a} is b page u at h = record {
       elim kept.1 [
         | inl same ↦ elim (is.last honest) [
           | inl before ↦ inl (same ∙ before)
-          | inr begun ↦ inr (subst (IsBegun pages) (sym same) begun)
+          | inr begun ↦ inr (subst (IsPartWay pages) (sym same) begun)
         ]
         | inr begins ↦ inr (inr (inl (begins ∙ first_is is honest)))
       ];

@@ -6,7 +6,7 @@ use Rattle.std.specs.Option.{ok_or, option_map}
 use Rattle.std.specs.Prelude.{MatchOption}
 use Rattle.std.specs.Str.{bytes_eq}
 use Rattle.ub_files.specs.Files.{Held, absent, bytes, standard_input}
-use Rattle.ub_files.specs.Memory.{held_in, place_in, told, IsReadAt, IsSetTo}
+use Rattle.ub_files.specs.Memory.{held_in, place_in, told, IsReadIn, IsSetTo}
 use Rattle.ub_files.specs.declared.memory.Entry.{Entry}
 use Rattle.ub_files.specs.declared.memory.MemFile.{MemFile}
 use Rattle.ub_files.specs.declared.memory.MemFile.TheVariants.{Text, Table, Lent}
@@ -104,7 +104,7 @@ set_as_before path old new is other = elim (cases_Bool (bytes_eq other path)) [
 pub used_up_read : {T E : Type 0} (path : List ℕ) (old new : List Entry) (Is : T → Type 0) (taken : Option T) (fault : E) → path ≡ standard_input
     → MatchOption taken (((text : List ℕ) → held_in old path ≢ bytes text) × IsSetTo path (held_in old path) old new)
     (λ text. Is text × IsSetTo path (bytes []) old new)
-    → IsReadAt path old new (ok_or taken fault)
+    → IsReadIn path old new (ok_or taken fault)
 used_up_read path old new Is None fault is h = record {
   kept = λ ne. absurd (ne is);
   others = h.1.1;

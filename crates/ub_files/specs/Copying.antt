@@ -5,8 +5,8 @@ use Rattle.ub_store.specs.declared.fault.StoreFault.{StoreFault}
 use Rattle.ub_store.specs.declared.fault.StoreFault.TheVariants.{Device}
 
 -- what these pages may be of a copy that was broken off: there is one at most, or page 0 is a page of zeros, or all but page 0 are there
-abbrev pub IsBegun : List (List ℕ) → List (List ℕ) → Type 0
-IsBegun pages now = (length now ≤ 1) ⊎ ((slice_get now 0 ≡ Some zero_page) ⊎ (drop 1 now ≡ drop 1 pages))
+abbrev pub IsPartWay : List (List ℕ) → List (List ℕ) → Type 0
+IsPartWay pages now = (length now ≤ 1) ⊎ ((slice_get now 0 ≡ Some zero_page) ⊎ (drop 1 now ≡ drop 1 pages))
 
 -- what may stand of it: once page 0 isn't a page of zeros, all pages but page 0 are there, and last
 abbrev pub MayStand : List (List ℕ) → StoreFacts → Type 0
@@ -15,7 +15,7 @@ MayStand pages now = (length now.pages ≤ 1) ⊎ ((slice_get now.pages 0 ≡ So
 
 -- and what may last of it: the pages that did before, or such
 abbrev pub MayLast : List (List ℕ) → StoreFacts → StoreFacts → Type 0
-MayLast pages old new = (new.synced ≡ old.synced) ⊎ IsBegun pages new.synced
+MayLast pages old new = (new.synced ≡ old.synced) ⊎ IsPartWay pages new.synced
 
 -- a call with this result that copies these pages into a store that has none: at Ok they stand there and last
 pub record Copies {A : Type 0} (pages : List (List ℕ)) (old new : StoreFacts) (result : Result A StoreFault) : Type 0 where

@@ -8,8 +8,8 @@ unfoldable pub is_honest_host : Bool
 is_honest_host = false
 
 -- the facts of the files of the system, of which so many readings and openings failed: what they hold is not told, nor which paths were read
-abbrev pub host_facts : ℕ → ℕ → FilesFacts
-host_facts reads tables = record {
+abbrev pub facts_of_host : ℕ → ℕ → FilesFacts
+facts_of_host reads tables = record {
   holds = λ path. untold;
   honest = is_honest_host;
   can_fail = true;

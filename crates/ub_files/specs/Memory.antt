@@ -28,7 +28,7 @@ abbrev pub IsSetTo : List ℕ → Held → List Entry → List Entry → Type 0
 IsSetTo path held old new = (held_in new path ≡ held) × ((other : List ℕ) → other ≢ path → held_in new other ≡ held_in old other)
 
 -- a text was read at this path with this result: only standard input is used up by it, and by nothing that was refused
-pub record IsReadAt {A E : Type 0} (path : List ℕ) (old new : List Entry) (result : Result A E) : Type 0 where
+pub record IsReadIn {A E : Type 0} (path : List ℕ) (old new : List Entry) (result : Result A E) : Type 0 where
   pub kept : path ≢ standard_input → new ≡ old
   pub others : (other : List ℕ) → other ≢ path → held_in new other ≡ held_in old other
   pub used_up : OnOk result (path ≡ standard_input → held_in new path ≡ bytes [])
@@ -40,8 +40,8 @@ paths_told paths = option_map (λ v. map string_bytes v.items) paths
 
 -- the facts of these files, of which so many readings, and openings or makings of tables, answered Device, and of which these paths were
 -- read: they are honest, and a table that they lend doesn't fail
-abbrev pub memory_facts : List Entry → ℕ → ℕ → Option (List (List ℕ)) → FilesFacts
-memory_facts entries reads tables readings = record {
+abbrev pub facts_in_memory : List Entry → ℕ → ℕ → Option (List (List ℕ)) → FilesFacts
+facts_in_memory entries reads tables readings = record {
   holds = held_in entries;
   honest = true;
   can_fail = false;

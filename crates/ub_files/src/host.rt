@@ -1,5 +1,5 @@
 ghost use Rattle.std.specs.Prelude.{◌≡◌, ◌⊎◌, IfErr};
-ghost use Rattle.ub_files.specs.Host.{host_facts};
+ghost use Rattle.ub_files.specs.Host.{facts_of_host};
 
 use crate::files::Files;
 use std::{fs, io, rt};
@@ -20,7 +20,7 @@ pub struct HostFiles<'r, R> {
 impl<'r, R: rt::Files + AllocGlobal> HostFiles<'r, R> {
     /// The files that this runtime reaches; none has failed yet.
     pub fn new(rt: &'r R) -> HostFiles<'r, R>
-        ensures { ⟦<HostFiles<'r, R> as Files>⟧.facts result ≡ host_facts 0 0 }
+        ensures { ⟦<HostFiles<'r, R> as Files>⟧.facts result ≡ facts_of_host 0 0 }
     {
         HostFiles {
             rt,
@@ -47,7 +47,7 @@ fn read_file<R: rt::Files + AllocGlobal>(rt: &R, path: &str) -> Result<Vec<u8>, 
 impl<R: rt::Files + AllocGlobal> Files for HostFiles<'_, R> {
     type Store = FileStore<HostFile<R::File>>;
 
-    ghost facts = { λ files. host_facts files.reads files.tables };
+    ghost facts = { λ files. facts_of_host files.reads files.tables };
 
     fn read(&mut self, path: &str) -> Result<Vec<u8>, StoreFault> {
         let path = if path == STANDARD_INPUT {

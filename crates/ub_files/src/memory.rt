@@ -1,7 +1,7 @@
 ghost use Rattle.std.specs.Prelude.{◌≡◌, ◌≢◌, ◌<◌, ◌⊎◌, ◌↔◌, ℕ, List, [], ◌∷◌, Some, length, IfOk, IfSome, IfErr, OnOk, OnErr, MatchOption, MatchResult, IsOk, IsErrOf, string_bytes};
 ghost use Rattle.std.specs.Str.{bytes_eq};
 ghost use Rattle.ub_files.specs.Files.{absent, bytes, lent_out, pages, AreRead, IsLent, IsMade, LendsFile, OpensFile, PutsBack, ReadsFile};
-ghost use Rattle.ub_files.specs.Memory.{held_in, memory_facts, paths_told, place_in, told, IsPut, IsReadAt, IsSetTo};
+ghost use Rattle.ub_files.specs.Memory.{held_in, facts_in_memory, paths_told, place_in, told, IsPut, IsReadIn, IsSetTo};
 
 use crate::files::Files;
 use std::alloc::{AllocError, Global};
@@ -44,7 +44,7 @@ pub struct MemFiles {
 impl MemFiles {
     /// No files. It takes no memory.
     pub fn new(alloc: Global) -> MemFiles
-        ensures { ⟦<MemFiles as Files>⟧.facts result ≡ memory_facts [] 0 0 (Some []) }
+        ensures { ⟦<MemFiles as Files>⟧.facts result ≡ facts_in_memory [] 0 0 (Some []) }
     {
         MemFiles {
             alloc,
@@ -216,7 +216,7 @@ fn read_text(alloc: Global, entries: &mut [Entry], path: &str) -> Result<Vec<u8>
         ↔ ((text : List ℕ) → held_in entries.old path.now ≢ bytes text) }
     ensures faults { IfErr result (λ fault.
         (fault ≡ StoreFault.Device) ⊎ (fault ≡ StoreFault.Memory)) }
-    ensures effect { IsReadAt path.now entries.old entries.new result }
+    ensures effect { IsReadIn path.now entries.old entries.new result }
 {
     if path == STANDARD_INPUT {
         use_up(alloc, entries, path).ok_or(StoreFault::Device)
@@ -238,7 +238,7 @@ fn noted(alloc: Global, readings: Option<Vec<String>>, path: &str) -> Option<Vec
 impl Files for MemFiles {
     type Store = MemStore;
 
-    ghost facts = { λ files. memory_facts files.entries.items files.reads
+    ghost facts = { λ files. facts_in_memory files.entries.items files.reads
         files.tables (paths_told files.readings) };
 
     /// The text at this path. Device comes exactly where it holds no text. At a refusal each path holds what it did, standard input
