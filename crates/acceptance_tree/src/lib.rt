@@ -16,3 +16,5 @@ mod samples;
 mod sweep;
 #[cfg(test)]
 mod trial;
+#[cfg(test)]
+mod values;
