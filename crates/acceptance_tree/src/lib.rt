@@ -18,3 +18,5 @@ mod samples;
 mod sweep;
 #[cfg(test)]
 mod trial;
+#[cfg(test)]
+mod values;
