@@ -7,8 +7,6 @@ mod calls;
 #[cfg(test)]
 mod changes;
 #[cfg(test)]
-mod group_sweep;
-#[cfg(test)]
 mod openings;
 #[cfg(test)]
 mod plans;
