@@ -1,4 +1,4 @@
-ghost use Rattle.std.specs.Prelude.{◌≡◌, ◌≢◌, ◌<◌, ◌≤◌, ◌⊎◌, true, false, Some, length, Ok, Err, All, IfOk, IfErr, IsErrOf, OnErr, slice_range};
+ghost use Rattle.std.specs.Prelude.{◌≡◌, ◌≢◌, ◌<◌, ◌⊎◌, true, false, Some, length, Ok, Err, All, IfOk, IfErr, IsErrOf, OnErr, slice_range};
 ghost use Rattle.ub_lexer.specs.Tokens.{AreSpelled};
 ghost use Rattle.ub_load.specs.LoadedTable.{records_of};
 ghost use Rattle.ub_load.specs.Refusals.{first_refusal};
@@ -7,6 +7,7 @@ ghost use Rattle.ub_parser.specs.Outcome.{told};
 ghost use Rattle.ub_planning.specs.Plan.{plan_of};
 ghost use Rattle.ub_query.specs.Posed.{IsPosed};
 ghost use Rattle.ub_query.specs.Shape.{asked};
+ghost use Rattle.ub_table.specs.Schema.{AreTableNumbers};
 ghost use Rattle.ub_tree.specs.declared.fault.TreeFault.{TreeFault};
 ghost use Rattle.ub_script.specs.Basis.{IsAskedReply, IsReply, AreSomeOf};
 ghost use Rattle.ub_script.specs.Output.{Takes};
@@ -50,10 +51,7 @@ pub fn try_text<W: Out>(
     script: &[u8],
     out: &mut W,
 ) -> Result<Summary, RunFault>
-    requires some_dims { 1 ≤ dims }
-    requires few_dims { dims ≤ 4 }
-    requires some_rows { 2 ≤ page_rows }
-    requires few_rows { page_rows ≤ 64 }
+    requires numbers { AreTableNumbers dims page_rows }
     ensures done { IfOk result (λ summary.
         Takes (IsDone text.now dims page_rows name.now script.now summary) false
         (W.facts out.old) (W.facts out.new)) }

@@ -1,5 +1,6 @@
 ghost use Rattle.std.specs.Prelude.{◌≡◌, ◌≤◌, ◌↔◌, ◌⊎◌, length, IsTrue, IfOk, IfErr};
 ghost use Rattle.ub_shell.specs.Commands.{loaded_line, IsFileOf, IsTable, IsUnclosed, IsUnkept, IsUnloaded, KeepsText, LoadsFile, WritesFile};
+ghost use Rattle.ub_table.specs.Schema.{AreTableNumbers};
 
 use crate::line::{Line, twice_numbered_line};
 use crate::status::{Status, tell, tell_line, tell_load_fault, tell_store_fault};
@@ -36,10 +37,7 @@ pub fn load_file<F: Files, W: Out>(
     asked: LoadWords<'_>,
     out: &mut W,
 ) -> Status
-    requires some_dims { 1 ≤ asked.source.dims }
-    requires few_dims { asked.source.dims ≤ 4 }
-    requires some_rows { 2 ≤ asked.source.page_rows }
-    requires few_rows { asked.source.page_rows ≤ 64 }
+    requires numbers { AreTableNumbers asked.source.dims asked.source.page_rows }
     ensures { LoadsFile asked.entry.source.path.now asked.entry.table.now
         asked.entry.source.name.now asked.entry.source.dims asked.entry.source.page_rows
         (F.facts files.old) (F.facts files.new) (W.facts out.old) (W.facts out.new) result }
@@ -68,10 +66,7 @@ fn keep_text<F: Files, W: Out>(
     asked: LoadWords<'_>,
     out: &mut W,
 ) -> Status
-    requires some_dims { 1 ≤ asked.source.dims }
-    requires few_dims { asked.source.dims ≤ 4 }
-    requires some_rows { 2 ≤ asked.source.page_rows }
-    requires few_rows { asked.source.page_rows ≤ 64 }
+    requires numbers { AreTableNumbers asked.source.dims asked.source.page_rows }
     ensures { KeepsText asked.entry.table.now text.now asked.entry.source.name.now
         asked.entry.source.dims asked.entry.source.page_rows (F.facts files.old) (F.facts files.new)
         (W.facts out.old) (W.facts out.new) result }
@@ -89,10 +84,7 @@ fn load_text<F: Files>(
     text: &[u8],
     asked: LoadWords<'_>,
 ) -> Result<Counts, LoadFault>
-    requires some_dims { 1 ≤ asked.source.dims }
-    requires few_dims { asked.source.dims ≤ 4 }
-    requires some_rows { 2 ≤ asked.source.page_rows }
-    requires few_rows { asked.source.page_rows ≤ 64 }
+    requires numbers { AreTableNumbers asked.source.dims asked.source.page_rows }
     ensures kept { IfOk result (λ counts. IsFileOf asked.entry.table.now text.now
         asked.entry.source.name.now asked.entry.source.dims asked.entry.source.page_rows
         counts.rows counts.regions (F.facts files.old) (F.facts files.new)) }
@@ -109,10 +101,7 @@ fn load_text<F: Files>(
 
 // Loads the text's table into memory, and closes it there.
 fn load_pages(alloc: Global, text: &[u8], asked: LoadWords<'_>) -> Result<Loaded, LoadFault>
-    requires some_dims { 1 ≤ asked.source.dims }
-    requires few_dims { asked.source.dims ≤ 4 }
-    requires some_rows { 2 ≤ asked.source.page_rows }
-    requires few_rows { asked.source.page_rows ≤ 64 }
+    requires numbers { AreTableNumbers asked.source.dims asked.source.page_rows }
     ensures loaded { IfOk result (λ l. IsTable text.now asked.entry.source.name.now
         asked.entry.source.dims asked.entry.source.page_rows
         l.counts.rows l.counts.regions l.store) }

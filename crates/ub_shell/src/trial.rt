@@ -1,6 +1,6 @@
-ghost use Rattle.std.specs.Prelude.{◌≤◌};
 ghost use Rattle.ub_shell.specs.Commands.{TriesFiles};
 ghost use Rattle.ub_shell.specs.Ending.{trial, HasTried};
+ghost use Rattle.ub_table.specs.Schema.{AreTableNumbers};
 
 use crate::status::{
     Status, summary_status, tell_load_fault, tell_memory, tell_store_fault, tell_tree_fault,
@@ -18,10 +18,7 @@ pub fn try_files<F: Files, W: Out>(
     asked: TryWords<'_>,
     out: &mut W,
 ) -> Status
-    requires some_dims { 1 ≤ asked.source.dims }
-    requires few_dims { asked.source.dims ≤ 4 }
-    requires some_rows { 2 ≤ asked.source.page_rows }
-    requires few_rows { asked.source.page_rows ≤ 64 }
+    requires numbers { AreTableNumbers asked.source.dims asked.source.page_rows }
     ensures { TriesFiles asked.entry.source.path.now asked.entry.script.now
         asked.entry.source.name.now asked.entry.source.dims asked.entry.source.page_rows
         (F.facts files.old) (F.facts files.new) (W.facts out.old) (W.facts out.new) result }
@@ -57,10 +54,7 @@ pub fn tell_try<W: Out>(
     script: &[u8],
     out: &mut W,
 ) -> Status
-    requires some_dims { 1 ≤ dims }
-    requires few_dims { dims ≤ 4 }
-    requires some_rows { 2 ≤ page_rows }
-    requires few_rows { page_rows ≤ 64 }
+    requires numbers { AreTableNumbers dims page_rows }
     ensures { HasTried (trial text.now dims page_rows name.now script.now)
         (W.facts out.old) (W.facts out.new) result }
 {
