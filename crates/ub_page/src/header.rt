@@ -48,8 +48,10 @@ pub(crate) struct Numbers {
     pub levels: u32,
 }
 
-/// Writes the page of a header, clean or not, over what was written before. Takes no memory.
+/// Writes the page of a header, clean or not, over what was written before. Each of its numbers is in its range, so that the
+/// reader takes the page once it is clean. Takes no memory.
 pub fn write_header(header: &Header, draft: &mut Draft)
+    requires { IsHeader header.now }
     ensures { padded draft.new ≡ header_page header.now }
 {
     draft.clear();

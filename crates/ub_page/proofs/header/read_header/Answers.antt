@@ -31,3 +31,8 @@ returns-clause-exact c = λ h is clean e.
     let read = c.in_ok-header.ensures in
     let on = parts h c.args.page.now is e in
     (refl, same c.in_ok-header.header h (read.numbers.0 ∙ on.numbers) (read.names.0 ∙ on.name) (read.names.1 ∙ on.columns) (read.clean.1 ∙ sym clean))
+
+pub write_header-requires : goal.write_header-requires
+write_header-requires c =
+    let read = c.in_ok-header.ensures in
+    is_header c.in_ok-header.header c.args.page.now read.numbers.0 read.numbers.1 read.small.0 read.small.1 read.names.0 read.names.1 read.clean.2
