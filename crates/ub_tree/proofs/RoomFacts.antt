@@ -6,10 +6,7 @@ use Rattle.std.proofs.lemmas.List.Elements.{All-append, All-take, All-drop, All-
 use Rattle.std.specs.List.{AllByRecursion, insert, list_any}
 use Rattle.ub_zaddr.specs.Address.{last_address}
 use Rattle.ub_page.specs.declared.entries.Entry.{Entry}
-use Rattle.ub_region.proofs.ChainFacts.{keys_append}
-use Rattle.ub_region.proofs.KeyLists.{up_append}
-use Rattle.ub_region.proofs.Laws.{IsFilled, two_chain, all_append, all_drop, all_left, all_more, all_right, before_or_same, upto_before, IsBeforeNext, up_head, up_tail, up_cons, all_keys, all_of_keys, all_insert, length-insert_row, length-remove_row}
-use Rattle.ub_region.proofs.RowFacts.{all_remove, up_remove}
+use Rattle.ub_region.proofs.Laws.{IsFilled, two_chain, all_append, all_drop, all_left, all_more, all_right, before_or_same, upto_before, IsBeforeNext, up_append, up_head, up_tail, up_cons, up_remove, keys_append, all_keys, all_of_keys, all_insert, all_remove, length-insert_row, length-remove_row}
 use Rattle.ub_region.specs.Regions.{index_holding, rows_of, two_regions}
 use Rattle.ub_region.specs.Rows.{has_key, insert_row, remove_row, cut, split}
 use Rattle.ub_store.specs.Facts.{IsHonest}

@@ -8,7 +8,7 @@
 // and a sync. So the header that lasts names a directory that lasts.
 
 ghost use Rattle.std.specs.Prelude.{ℕ, List, ◌≡◌, ◌⊎◌, ◌+◌, ◌^◌, ◌<◌, ◌≤◌, [], ◌∷◌, length, slice_get, Some, IfErr, OnOk, OnErr, IsErrOf};
-ghost use Rattle.ub_page.specs.Header.{IsHeader, header_page};
+ghost use Rattle.ub_page.specs.Header.{AreInRange, IsHeader, header_page, numbers_of};
 ghost use Rattle.ub_page.specs.Region.{region_on, region_page};
 ghost use Rattle.ub_store.specs.Facts.{page_count, IsHonest, WritesAt};
 ghost use Rattle.ub_store.specs.View.{SameTrace};
@@ -21,7 +21,7 @@ ghost use Rattle.ub_writing.specs.Marks.{IsMarkOf, Marks};
 ghost use Rattle.ub_writing.specs.Puts.{Puts, PutsTwo};
 ghost use Rattle.ub_writing.specs.declared.mark.Mark.TheVariants.{Written};
 
-use crate::header::{first_header, tell_name, tell_names};
+use crate::header::first_header;
 use crate::mark::Mark;
 use ub_directory::{Directory, ORIGIN, levels_of};
 use ub_page::{Draft, Header, Page, write_header, write_region};
@@ -143,8 +143,6 @@ pub fn write_table<S: PageStore>(
     ensures refused { IfErr result (IsSaveFault (levels_for (length directory.entries)) directory.chain
         pager.old.store) }
 {
-    tell_names(schema.columns());
-    tell_name(schema.name());
     let regions = directory.count();
     let root = directory.write(pager)?;
     let header = Header {
@@ -162,7 +160,8 @@ pub fn write_table<S: PageStore>(
 
 // Writes the header, once what was written before lasts.
 fn write_clean<S: PageStore>(pager: &mut Pager<S>, header: &Header) -> Result<(), StoreFault>
-    requires { IsHeader header.now }
+    requires { AreInRange (numbers_of header.now) }
+    ensures header { IsHeader header.now }
     ensures written { IsHonest pager.old.store
         → OnOk result (slice_get pager.new.store.pages 0 ≡ Some (header_page header.now)) }
     ensures synced { OnOk result (pager.new.store.synced ≡ pager.new.store.pages) }
@@ -178,7 +177,8 @@ fn write_clean<S: PageStore>(pager: &mut Pager<S>, header: &Header) -> Result<()
 
 // Puts the page of a header in the first place.
 fn put_header<S: PageStore>(pager: &mut Pager<S>, header: &Header) -> Result<(), StoreFault>
-    requires { IsHeader header.now }
+    requires { AreInRange (numbers_of header.now) }
+    ensures header { IsHeader header.now }
     ensures trace { SameTrace pager.old pager.new }
     ensures there { OnOk result (0 < page_count pager.old.store) }
     ensures missing { IsErrOf result StoreFault.NoPage → page_count pager.old.store ≤ 0 }
