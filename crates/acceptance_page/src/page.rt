@@ -3,9 +3,7 @@ use crate::samples::{page_of, plane};
 use ub_index_page::{
     Head, check_index, entry_at, first_at, read_head, read_index, slot_in, write_index,
 };
-use ub_page::{
-    Draft, Entry, Header, Page, read_directory, read_header, write_directory, write_header,
-};
+use ub_page::{Draft, Entry, Page, read_directory, read_header, write_directory, write_header};
 use ub_table::{Key, PageFault, Schema};
 
 // The bytes of a header of a table of five rows in three regions: the table's numbers, and the
@@ -43,29 +41,26 @@ const HEADER_FAULTS: &[(usize, u8, PageFault)] = &[
     (4, 2, PageFault::WrongKind),
 ];
 
-// Whether this header is written so over another page.
-fn is_header(header: &Header, page: &Page) -> bool {
-    let mut draft = Draft::new();
-    write_directory(&[entry(0, 1)], 2, &mut draft);
-    write_header(header, &mut draft);
-    draft.page() == page
+// Writes the directory that a page tells of.
+fn rewrite(schema: &Schema, page: &Page, draft: &mut Draft) -> bool {
+    match read_directory(schema, page) {
+        Ok(directory) => {
+            write_directory(directory.entries(), directory.next(), draft);
+            true
+        }
+        Err(_) => false,
+    }
 }
 
-// Whether the page is read as that header, and written so.
+// Whether the page is read as that header, and written so over another page.
 fn is_header_page(page: &Page) -> bool {
-    let (Ok(schema), Ok(read)) = (plane(), read_header(page)) else {
+    let Ok(read) = read_header(page) else {
         return false;
     };
-    let header = Header {
-        schema,
-        next: 6,
-        rows: 5,
-        regions: 3,
-        root: 4,
-        levels: 1,
-        unclean: false,
-    };
-    is_header(&header, page)
+    let mut draft = Draft::new();
+    rewrite(&read.schema, &page_of(DIRECTORY, &[]), &mut draft);
+    write_header(&read, &mut draft);
+    draft.page() == page
         && read.schema.name().bytes() == b"t".as_slice()
         && read.schema.dims() == 2
         && read.schema.measures() == 1
@@ -114,18 +109,38 @@ const DIRECTORY_FAULTS: &[(usize, u8, PageFault)] = &[
     (0, 0, PageFault::WrongKind),
 ];
 
+// And of a longer one, which names page 7 as the next.
+const LONGER: &[(usize, u8)] = &[
+    (0, 0x44),
+    (3, 4),
+    (7, 7),
+    (39, 1),
+    (55, 10),
+    (63, 3),
+    (79, 13),
+    (87, 2),
+    (103, 14),
+    (111, 9),
+];
+
+// Whether the page is written so over the longer one.
+fn is_written(schema: &Schema, page: &Page) -> bool {
+    let longer = page_of(LONGER, &[]);
+    let mut draft = Draft::new();
+    rewrite(schema, &longer, &mut draft)
+        && draft.page() == &longer
+        && rewrite(schema, page, &mut draft)
+        && draft.page() == page
+}
+
 // Whether the page is read as that directory, and written so over another one.
 fn is_directory_page(schema: &Schema, page: &Page) -> bool {
     let entries = [entry(0, 1), entry(10, 3), entry(13, 2)];
-    let mut draft = Draft::new();
-    write_directory(&[entry(7, 7); 4], 7, &mut draft);
-    write_directory(&entries, 0, &mut draft);
     match read_directory(schema, page) {
-        Ok(directory) => {
-            draft.page() == page
+        Ok(directory) =>
+            is_written(schema, page)
                 && directory.entries() == entries.as_slice()
-                && directory.next() == 0
-        }
+                && directory.next() == 0,
         Err(_) => false,
     }
 }

@@ -1,9 +1,9 @@
 // Masks of regions of every length and every number of dimensions, row by row beside membership.
 ghost use Rattle.std.specs.Prelude.{◌≡◌, ◌≤◌};
 
-use crate::samples::{row, table};
+use crate::samples::{region_page, row, table};
 use ub_bigmin::ZBox;
-use ub_page::{Draft, RegionPage, write_region};
+use ub_page::RegionPage;
 use ub_table::{Key, Row, Schema};
 use ub_zaddr::{Point, Shape};
 
@@ -64,8 +64,7 @@ fn corners(number: usize) -> ([u32; 4], [u32; 4]) {
     (lo, hi)
 }
 
-// The mask for these corners of the region that is written of these rows, if as many are read
-// again.
+// The mask for these corners of the region whose page has these rows, if as many are read.
 fn mask(schema: &Schema, rows: &[Row], lo: &[u32; 4], hi: &[u32; 4]) -> Option<u64> {
     let shape = schema.shape();
     let dims = schema.dims() as usize;
@@ -76,10 +75,9 @@ fn mask(schema: &Schema, rows: &[Row], lo: &[u32; 4], hi: &[u32; 4]) -> Option<u
         return None;
     };
     let zbox = ZBox::new(shape, &lo, &hi)?;
-    let rows = &rows[..rows.len().min(64)];
-    let mut draft = Draft::new();
-    write_region(schema, Key { z: 0, number: 0 }, rows, &mut draft);
-    match RegionPage::read(schema, draft.page()) {
+    let measures = schema.measures() as usize;
+    let page = region_page(dims, measures, Key { z: 0, number: 0 }, rows);
+    match RegionPage::read(schema, &page) {
         Ok(region) if region.len() == rows.len() => Some(region.mask(&zbox)),
         _ => None,
     }

@@ -1,6 +1,6 @@
 // Regions that are written and read, and pages that are refused.
-use crate::samples::{page_of, plane, row, table};
-use ub_page::{Draft, Page, RegionPage, write_region};
+use crate::samples::{page_of, plane, region_page, row, table};
+use ub_page::{Draft, Page, RegionPage};
 use ub_table::{Key, PageFault, Row, Schema};
 
 // The bytes of a page of two rows from the address 0 on.
@@ -75,12 +75,30 @@ fn is_read(schema: &Schema, page: &Page, first: Key, rows: &[Row]) -> bool {
     }
 }
 
-// Whether these rows from an address on are written so over more rows.
-fn is_written(schema: &Schema, page: &Page, first: Key, rows: &[Row; 2]) -> bool {
+// Writes the region that a page tells of.
+fn rewrite(schema: &Schema, page: &Page, draft: &mut Draft) -> bool {
+    match RegionPage::read(schema, page) {
+        Ok(region) => {
+            region.write(schema, draft);
+            true
+        }
+        Err(_) => false,
+    }
+}
+
+// Whether the region of a page is written so, over one of three rows.
+fn is_written(schema: &Schema, page: &Page) -> bool {
+    let rows = [row(1, 0, 0, 1), row(2, 0, 0, 2), row(3, 0, 0, -1)];
+    let longer = region_page(2, 1, Key { z: 0, number: 0 }, &rows);
     let mut draft = Draft::new();
-    write_region(schema, first, &[rows[1]; 3], &mut draft);
-    write_region(schema, first, rows, &mut draft);
-    draft.page() == page
+    match table(b"xym", 2, 4) {
+        Ok(larger) =>
+            rewrite(&larger, &longer, &mut draft)
+                && draft.page() == &longer
+                && rewrite(schema, page, &mut draft)
+                && draft.page() == page,
+        Err(_) => false,
+    }
 }
 
 // Whether a page of these bytes is written and read as these rows from an address on, and a region
@@ -94,7 +112,7 @@ fn is_kept(
 ) -> bool {
     let page = page_of(bytes, &[]);
     let first = Key { z, number: 0 };
-    is_written(schema, &page, first, rows)
+    is_written(schema, &page)
         && is_read(schema, &page, first, rows)
         && region.fill(schema, &page).is_ok()
         && is_region(region, first, rows)
@@ -172,7 +190,6 @@ fn holds_full_pages(rt: HostRuntime) {
         z: 0,
         number: 16_777_215,
     };
-    let mut draft = Draft::new();
-    write_region(&schema, first, &rows, &mut draft);
-    assert!(rt; is_read(&schema, draft.page(), first, &rows));
+    let page = region_page(4, 4, first, &rows);
+    assert!(rt; is_read(&schema, &page, first, &rows) && is_written(&schema, &page));
 }

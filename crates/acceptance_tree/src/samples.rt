@@ -1,6 +1,6 @@
 // Pages written by hand, as data, and stores of them.
 use std::alloc::Global;
-use ub_page::{Draft, Entry, Header, Page, write_directory, write_header, write_region};
+use ub_page::{Entry, Page};
 use ub_store::{FaultyStore, MemStore, PageStore, StoreFault};
 use ub_table::{Key, Name, PageFault, Row, Schema};
 
@@ -105,40 +105,79 @@ pub(crate) fn plane_of(page_rows: u32) -> Result<Schema, PageFault> {
     Schema::new(Name::new(b"t")?, &columns, 2, page_rows)
 }
 
-// The bytes of a page.
+// The numbers of a header of the plane that are the same in each, and its names t, x, y and m: each with its offset and its width.
+static PLANE: &[(usize, u32, u128)] = &[
+    (0, 4, 0x5542_5452),
+    (4, 1, 1),
+    (6, 1, 2),
+    (7, 1, 1),
+    (24, 4, 2),
+    (32, 2, 0x0174),
+    (65, 2, 0x0178),
+    (98, 2, 0x0179),
+    (131, 2, 0x016d),
+];
+
+// The bytes of a page: by hand, since a writer writes no page that its reader refuses.
 pub(crate) fn page_of(schema: &Schema, sheet: &Sheet) -> Page {
-    let mut draft = Draft::new();
+    let mut page = [0; 4096];
     match sheet {
         Sheet::Header(next, rows, regions, unclean) => {
-            let header = Header {
-                schema: schema.copy(),
-                next: *next,
-                rows: *rows,
-                regions: *regions,
-                root: 2,
-                levels: regions.saturating_add(169) / 170,
-                unclean: *unclean,
-            };
-            write_header(&header, &mut draft);
+            let counts = [*next, *rows, *regions];
+            spell_header(&mut page, schema.page_rows(), counts, *unclean);
         }
-        Sheet::Region(z, rows) => {
-            let first = Key { z: *z, number: 0 };
-            write_region(schema, first, &rows[..rows.len().min(2)], &mut draft);
-        }
-        Sheet::Equal(z, y, number, count) => {
-            write_equal(schema, *z, *y, *number, *count, &mut draft);
-        }
-        Sheet::Directory(entries) => {
-            write_directory(&entries[..entries.len().min(170)], 0, &mut draft);
-        }
-        Sheet::Part(from, count, next) => write_part(*from, *count, *next, &mut draft),
+        Sheet::Region(z, rows) => spell_region(&mut page, *z, rows),
+        Sheet::Equal(z, y, number, count) => spell_equal(&mut page, *z, *y, *number, *count),
+        Sheet::Directory(entries) => spell_directory(&mut page, entries, 0),
+        Sheet::Part(from, count, next) => spell_part(&mut page, *from, *count, *next),
         Sheet::Blank => {}
     }
-    *draft.page()
+    page
 }
 
-// Writes a region from an address on, of so many rows at the point (0, y) that are numbered from one on.
-fn write_equal(schema: &Schema, z: u128, y: u32, from: u32, count: usize, draft: &mut Draft) {
+// Puts a number into a page, on so many bytes from an offset on, the highest byte first.
+fn poke(page: &mut [u8], at: usize, width: u32, number: u128) {
+    let mut rest = number;
+    for i in 0..width {
+        let place = at.wrapping_add((width - 1 - i) as usize);
+        if place < page.len() {
+            page[place] = (rest % 256) as u8;
+        }
+        rest /= 256;
+    }
+}
+
+// Spells a header of the plane with so many rows on a page: the number that is next, how many rows there are, and how many regions.
+fn spell_header(page: &mut [u8], page_rows: u32, counts: [u32; 3], unclean: bool) {
+    let levels = counts[2].saturating_add(169) / 170;
+    for (at, width, number) in PLANE {
+        poke(page, *at, *width, *number);
+    }
+    poke(page, 5, 1, u128::from(unclean));
+    poke(page, 8, 1, u128::from(page_rows));
+    for i in 0..3usize {
+        poke(page, 12 + 4 * i, 4, u128::from(counts[i]));
+    }
+    poke(page, 28, 4, u128::from(levels));
+}
+
+// Spells a region of the plane from an address on, of these rows.
+fn spell_region(page: &mut [u8], z: u128, rows: &[Row]) {
+    let count = rows.len().min(64);
+    poke(page, 0, 4, 0x5202_0100 + count as u128);
+    poke(page, 4, 16, z);
+    for i in 0..count {
+        let row = &rows[i];
+        poke(page, 24 + 4 * i, 4, u128::from(row.number));
+        poke(page, 24 + 4 * (count + i), 4, u128::from(row.dims[0]));
+        poke(page, 24 + 4 * (2 * count + i), 4, u128::from(row.dims[1]));
+        let measure = u128::from(row.measures[0].unsigned_abs());
+        poke(page, 24 + 12 * count + 8 * i, 8, measure);
+    }
+}
+
+// Spells a region from an address on, of so many rows at the point (0, y) that are numbered from one on.
+fn spell_equal(page: &mut [u8], z: u128, y: u32, from: u32, count: usize) {
     let row = Row {
         number: from,
         dims: [0, y, 0, 0],
@@ -150,12 +189,24 @@ fn write_equal(schema: &Schema, z: u128, y: u32, from: u32, count: usize, draft:
         row.number = number;
         number = number.wrapping_add(1);
     }
-    let first = Key { z, number: 0 };
-    write_region(schema, first, &rows[..count.min(4)], draft);
+    spell_region(page, z, &rows[..count.min(4)]);
 }
 
-// Writes the directory of so many regions that begin with the addresses from one on.
-fn write_part(from: u128, count: usize, next: u32, draft: &mut Draft) {
+// Spells a page of the directory, of these regions, and the next page of it.
+fn spell_directory(page: &mut [u8], entries: &[Entry], next: u32) {
+    let count = entries.len().min(170);
+    poke(page, 0, 4, 0x4400_0000 + count as u128);
+    poke(page, 4, 4, u128::from(next));
+    for i in 0..count {
+        let entry = &entries[i];
+        poke(page, 16 + 24 * i, 16, entry.first.z);
+        poke(page, 32 + 24 * i, 4, u128::from(entry.first.number));
+        poke(page, 36 + 24 * i, 4, u128::from(entry.page));
+    }
+}
+
+// The same of so many regions that begin with the addresses from one on, all on page 1.
+fn spell_part(page: &mut [u8], from: u128, count: usize, next: u32) {
     let first = Key { z: from, number: 0 };
     let mut entries = [Entry { first, page: 1 }; 170];
     let mut z = from;
@@ -163,7 +214,7 @@ fn write_part(from: u128, count: usize, next: u32, draft: &mut Draft) {
         entry.first.z = z;
         z = z.wrapping_add(1);
     }
-    write_directory(&entries[..count.min(170)], next, draft);
+    spell_directory(page, &entries[..count.min(170)], next);
 }
 
 // A store of these pages, that fails at its k-th call.

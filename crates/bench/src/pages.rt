@@ -4,8 +4,8 @@ use crate::events::box_between;
 use crate::generator::Generator;
 use crate::table::table;
 use ub_bigmin::ZBox;
-use ub_page::{Draft, Page, RegionPage, write_region};
-use ub_table::{Key, PageFault, Row, Schema};
+use ub_page::{Page, RegionPage};
+use ub_table::{PageFault, Row, Schema};
 use ub_zaddr::{Shape, last, spread};
 
 /// How many rows stand on the page.
@@ -37,6 +37,36 @@ fn rows_of(shape: Shape) -> [Row; 64] {
     rows
 }
 
+// Puts a number into a page, on so many bytes from an offset on, the highest byte first.
+fn poke(page: &mut [u8], at: usize, width: u32, number: u128) {
+    let mut rest = number;
+    for i in 0..width {
+        let place = at.wrapping_add((width - 1 - i) as usize);
+        if place < page.len() {
+            page[place] = (rest % 256) as u8;
+        }
+        rest /= 256;
+    }
+}
+
+// The page of these rows of so many dimensions and a measure, by hand: the numbers, each dimension, and the measure, which is
+// nowhere below zero.
+fn page_of(dims: usize, rows: &[Row; 64]) -> Page {
+    let dims = dims.min(4);
+    let mut page = [0; 4096];
+    poke(&mut page, 0, 4, 0x5200_0140 + ((dims as u128) << 16));
+    for i in 0..64usize {
+        let row = &rows[i];
+        poke(&mut page, 24 + 4 * i, 4, u128::from(row.number));
+        for dim in 0..dims {
+            poke(&mut page, 280 + 256 * dim + 4 * i, 4, u128::from(row.dims[dim]));
+        }
+        let measure = u128::from(row.measures[0].unsigned_abs());
+        poke(&mut page, 280 + 256 * dims + 8 * i, 8, measure);
+    }
+    page
+}
+
 // The page's rows in the box, one bit for each: this region takes them in.
 fn filtered(
     schema: &Schema,
@@ -61,17 +91,11 @@ pub fn read_and_filter(dims: u32, calls: u64) -> Result<u64, PageFault>
     let Some(zbox) = box_between(shape, &[1 << 30; 4], &[3 << 30; 4]) else {
         return Ok(0);
     };
-    let mut draft = Draft::new();
-    write_region(
-        &schema,
-        Key { z: 0, number: 0 },
-        &rows_of(shape),
-        &mut draft,
-    );
+    let page = page_of(dims as usize, &rows_of(shape));
     let mut region = RegionPage::empty(shape);
     let mut sum = 0u64;
     for _ in 0..calls {
-        sum = sum.rotate_left(1) ^ filtered(&schema, draft.page(), &zbox, &mut region)?;
+        sum = sum.rotate_left(1) ^ filtered(&schema, &page, &zbox, &mut region)?;
     }
     Ok(sum)
 }

@@ -1,12 +1,16 @@
 -- Entries that stay in order.
-use Rattle.std.proofs.Common.{◌≡◌, ◌<◌, ◌≤◌, ◌+◌, ◌-◌, ℕ, zero, suc, List, [], ◌∷◌, Bool, true, ◌&&◌, Some, length, take, drop, get_or, ◌∙◌, ap, refl, arith, slice_get}
+use Rattle.std.proofs.Common.{◌≡◌, ◌<◌, ◌≤◌, ◌+◌, ◌-◌, ◌^◌, ℕ, zero, suc, List, [], ◌∷◌, Bool, true, ◌&&◌, Some, length, take, drop, get_or, ◌∙◌, ap, refl, arith, slice_get}
 use Rattle.std.proofs.lemmas.Bool.{and_parts, and_from}
-use Rattle.std.proofs.lemmas.List.Elements.{All-append, All-take, All-drop}
-use Rattle.std.specs.List.{remove}
+use Rattle.std.proofs.lemmas.List.Elements.{All-append, All-cons, All-take, All-drop, recursion_from_All}
+use Rattle.std.specs.List.{All, insert, remove}
+use Rattle.ub_page.specs.Directory.{IsListing}
+use Rattle.ub_page.specs.Entries.{AreAscending, IsEntry}
 use Rattle.ub_page.specs.declared.entries.Entry.{Entry}
-use Rattle.ub_table.proofs.Laws.{precedes_trans}
+use Rattle.ub_region.proofs.Laws.{all_more}
+use Rattle.ub_table.proofs.Laws.{before_of, precedes_trans}
 use Rattle.ub_table.specs.Keys.{origin, precedes, are_ascending}
 use Rattle.ub_directory.specs.Spans.{first_keys, ArePlaces}
+use Rattle.ub_zaddr.specs.Address.{last_address}
 
 -- from one entry on, the first is before the second, and the others are in order
 order_at : (entries : List Entry) (i : ℕ) (d : Entry) → suc i < length entries
@@ -59,3 +63,57 @@ places_remove last entries i some h = (
   All-append (λ (e : Entry). e.first.z ≤ last) (take i entries) (drop (suc i) entries) (All-take (λ (e : Entry). e.first.z ≤ last) i entries h.1) (All-drop (λ (e : Entry). e.first.z ≤ last) (suc i) entries h.1),
   ascending_remove entries i h.2,
 )
+
+-- what holds of each entry holds of them with one more, and with one less
+module _ (P : Entry → Type 0) where
+  pub each_insert : (entries : List Entry) (i : ℕ) (x : Entry) → P x → All P entries → All P (insert entries i x)
+  each_insert entries i x p h = All-append P (take i entries) (x ∷ drop i entries) (All-take P i entries h) (All-cons P x (drop i entries) p (All-drop P i entries h))
+
+  pub each_remove : (entries : List Entry) (i : ℕ) → All P entries → All P (remove entries i)
+  each_remove entries i h = All-append P (take i entries) (drop (suc i) entries) (All-take P i entries h) (All-drop P (suc i) entries h)
+
+-- each entry in range begins in the space
+pub within_of : (last : ℕ) (entries : List Entry) → All (IsEntry last) entries → All (λ (e : Entry). e.first.z ≤ last) entries
+within_of last entries each = λ i d lt. (each i d lt).z
+
+-- entries in order, the first of them and those after the first
+ascending_of : (entries : List Entry) → are_ascending (first_keys entries) ≡ true → AreAscending entries
+ascending_of [] up = tt
+ascending_of (x ∷ []) up = tt
+ascending_of (x ∷ y ∷ entries) up = let parts = and_parts _ _ up in (before_of x.first y.first parts.0, ascending_of (y ∷ entries) parts.1)
+
+up_first : (n : ℕ) (entries : List Entry) → are_ascending (first_keys entries) ≡ true → are_ascending (first_keys (take n entries)) ≡ true
+up_first zero [] up = refl
+up_first zero (x ∷ entries) up = refl
+up_first (suc n) [] up = refl
+up_first (suc n) (x ∷ []) up = by_rest n
+  where
+    by_rest : (n : ℕ) → are_ascending (first_keys (x ∷ take n [])) ≡ true
+    by_rest zero = refl
+    by_rest (suc n) = refl
+up_first (suc zero) (x ∷ y ∷ entries) up = refl
+up_first (suc (suc n)) (x ∷ y ∷ entries) up = let parts = and_parts _ _ up in and_from _ _ parts.0 (up_first (suc n) (y ∷ entries) parts.1)
+
+up_later : (n : ℕ) (entries : List Entry) → are_ascending (first_keys entries) ≡ true → are_ascending (first_keys (drop n entries)) ≡ true
+up_later zero [] up = refl
+up_later zero (x ∷ entries) up = up
+up_later (suc n) [] up = refl
+up_later (suc n) (x ∷ []) up = by_rest n
+  where
+    by_rest : (n : ℕ) → are_ascending (first_keys (drop n [])) ≡ true
+    by_rest zero = refl
+    by_rest (suc n) = refl
+up_later (suc n) (x ∷ y ∷ entries) up = up_later n (y ∷ entries) (and_parts _ _ up).1
+
+-- a part of a directory is one page's
+pub part_listing : (last : ℕ) (entries part : List Entry) (at next : ℕ) → last ≤ last_address 4 → are_ascending (first_keys entries) ≡ true → All (IsEntry last) entries
+    → part ≡ take 170 (drop at entries) → 1 ≤ length part → length part ≤ 170 → next < 2 ^ 32 → IsListing 4 (record { entries = part; next = next })
+part_listing last entries part at next wide up each is some few small =
+    let all = recursion_from_All (IsEntry last) (take 170 (drop at entries)) (All-take (IsEntry last) 170 (drop at entries) (All-drop (IsEntry last) at entries each)) in
+    record {
+      some = some;
+      few = few;
+      entries = all_more (IsEntry last) (IsEntry (last_address 4)) (λ e h. record { z = (let z = h.z in omega arith); number = h.number; some_page = h.some_page; page = h.page }) part (rw is all);
+      ascending = ascending_of part (rw is (up_first 170 (drop at entries) (up_later at entries up)));
+      next = small;
+    }

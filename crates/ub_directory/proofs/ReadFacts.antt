@@ -235,6 +235,7 @@ module _ (old : StoreFacts) (header : Header) (chain : List ℕ) (entries : List
       let places = places_of (last_address header.schema.dims) (entries ++ part.entries) (omega arith) begun each_is in
       let pages = length-append chain (n ∷ []) in
       record {
+        each = All-from_recursion (IsEntry (last_address header.schema.dims)) (entries ++ part.entries) each_is;
         places = places;
         regions_are = omega arith;
         root_is = h.root_is;

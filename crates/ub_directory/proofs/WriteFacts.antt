@@ -12,7 +12,7 @@ use Rattle.ub_page.specs.declared.entries.Entry.{Entry}
 use Rattle.ub_region.proofs.Laws.{all_more, all_both, all_left, all_right}
 use Rattle.ub_store.specs.Facts.{StoreFacts, IsHonest, MayFlush, WritesAt, Syncs, Appends, page_count}
 use Rattle.ub_store.specs.declared.fault.StoreFault.{StoreFault}
-use Rattle.ub_directory.specs.Chain.{levels_for, AreOwn, IsChain}
+use Rattle.ub_directory.specs.Chain.{levels_for, AreOwn, HasRoot, IsChain}
 use Rattle.ub_directory.specs.Writing.{Grows, SameBut, KeepsBut, KeepsFirst, IsSaveFault, IsUntouched, IsOther, AreKept, put_store}
 use Rattle.ub_store.specs.declared.fault.StoreFault.TheVariants as store
 
@@ -72,6 +72,20 @@ own_push count chain numbers h =
       within = subst (AllByRecursion (λ m. m < count + 1)) moved
           (all_with (λ m. m < count + 1) count (0 ∷ chain) numbers (omega arith) (all_more (λ m. m < count) (λ m. m < count + 1) (λ m lt. omega arith) ((0 ∷ chain) ++ numbers) h.within));
     }
+
+-- a chain that begins after the first page does so when it is cut or grows
+pub root_cut : (n : ℕ) (chain : List ℕ) → HasRoot chain → 1 ≤ n → HasRoot (take n chain)
+root_cut zero chain h some = absurd (omega arith)
+root_cut (suc n) [] h some = let none = h.1 in cc
+root_cut (suc n) (m ∷ chain) h some = h
+
+pub root_push : (chain : List ℕ) (n : ℕ) → HasRoot chain → HasRoot (chain ++ n ∷ [])
+root_push [] n h = let none = h.1 in cc
+root_push (m ∷ chain) n h = h
+
+pub root_is : (chain : List ℕ) (d : ℕ) → HasRoot chain → 1 ≤ slice_index_or chain 0 d
+root_is [] d h = let none = h.1 in cc
+root_is (m ∷ chain) d h = let same : m ≡ h.0 = (let at = h.1 in cc) in let some = h.2 in omega arith
 
 pub own_chain : (count : ℕ) (chain numbers : List ℕ) → AreOwn count chain numbers → IsDistinct nat_eq chain
 unfolding IsDistinct

@@ -10,6 +10,10 @@ use Rattle.std.specs.List.{AllByRecursion, IsDistinct}
 abbrev pub levels_for : ℕ → ℕ
 levels_for regions = (regions + (MAX_ENTRIES - 1)) / MAX_ENTRIES
 
+-- a directory begins on a page that is not the first
+abbrev pub HasRoot : List ℕ → Type 0
+HasRoot chain = (root : ℕ) × (slice_get chain 0 ≡ Some root) × (1 ≤ root)
+
 -- the pages of this chain spell the entries, 170 on each but the last, each naming the next page
 abbrev pub IsChain : List (List ℕ) → List ℕ → List Entry → Type 0
 IsChain pages [] entries = ⊥

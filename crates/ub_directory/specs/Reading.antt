@@ -1,5 +1,5 @@
 -- Reading a directory: which pages tell of one, what is read of them, and why they are refused.
-use Rattle.std.specs.Prelude.{◌≡◌, ◌≤◌, ◌<◌, ◌-◌, ◌^◌, ◌↔◌, ◌⊎◌, ◌++◌, ℕ, min, false, IsTrue, List, [], ◌∷◌, Some, length, take, drop, slice_get, slice_index_or, Result, IfErr}
+use Rattle.std.specs.Prelude.{◌≡◌, ◌≤◌, ◌<◌, ◌-◌, ◌^◌, ◌↔◌, ◌⊎◌, ◌++◌, ℕ, min, false, All, IsTrue, List, [], ◌∷◌, Some, length, take, drop, slice_get, slice_index_or, Result, IfErr}
 use Rattle.std.specs.List.{AllByRecursion}
 use Rattle.ub_page.specs.declared.entries.TheConstants.{MAX_ENTRIES}
 use Rattle.ub_zaddr.specs.Address.{last_address}
@@ -121,6 +121,7 @@ pub record Opens {A : Type 0} (old new : PagerView) (result : Result A Directory
 
 -- a directory that was read whole
 pub record IsReadWhole (store : StoreFacts) (header : Header) (chain : List ℕ) (entries : List Entry) : Type 0 where
+  pub each : All (IsEntry (last_address header.schema.dims)) entries
   pub places : ArePlaces (last_address header.schema.dims) entries
   pub regions_are : header.regions ≡ length entries
   pub root_is : slice_get chain 0 ≡ Some header.root

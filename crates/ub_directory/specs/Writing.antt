@@ -1,11 +1,27 @@
 -- Writing a directory: what becomes of the pages of a store.
-use Rattle.std.specs.Prelude.{◌≡◌, ◌≢◌, ◌≤◌, ◌<◌, ◌+◌, ◌-◌, ◌⊎◌, ℕ, List, ◌∷◌, IsTrue, length, slice_get, Result, IsErrOf}
+use Rattle.std.specs.Prelude.{◌≡◌, ◌≢◌, ◌≤◌, ◌<◌, ◌+◌, ◌-◌, ◌^◌, ◌⊎◌, ℕ, List, ◌∷◌, All, IsTrue, length, slice_get, Result, IsErrOf}
 use Rattle.std.specs.List.{AllByRecursion}
 use Rattle.ub_store.specs.Facts.{StoreFacts, IsHonest, page_count, counted as store_counted}
 use Rattle.ub_store.specs.declared.fault.StoreFault.{StoreFault}
 use Rattle.ub_store.specs.declared.fault.StoreFault.TheVariants as store
-use Rattle.ub_directory.specs.Chain.{AreOwn, levels_for}
+use Rattle.ub_directory.specs.Chain.{AreOwn, HasRoot, levels_for}
+use Rattle.ub_directory.specs.Spans.{first_keys}
+use Rattle.ub_page.specs.Entries.{IsEntry}
+use Rattle.ub_page.specs.declared.entries.Entry.{Entry}
+use Rattle.ub_table.specs.Keys.{are_ascending}
+use Rattle.ub_zaddr.specs.Address.{last_address}
 use Rattle.ub_store.specs.Facts.{counted as store_counted}
+
+-- what a directory is that is written on a chain of pages: its regions can be counted, are in order, and each has its numbers in
+-- range; it begins on a page that is not the first
+pub record IsWritable (chain : List ℕ) (entries : List Entry) : Type 0 where
+  pub some : 1 ≤ length entries
+  pub few : length entries < 2 ^ 32
+  pub root : HasRoot chain
+  pub last : ℕ
+  pub wide : last ≤ last_address 4
+  pub ascending : IsTrue (are_ascending (first_keys entries))
+  pub each : All (IsEntry last) entries
 
 -- a store after such a call of its own
 abbrev pub put_store : {A : Type 0} → Result A StoreFault → StoreFacts → StoreFacts → StoreFacts

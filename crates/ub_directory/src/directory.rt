@@ -1,6 +1,7 @@
 ghost use Rattle.std.specs.Prelude.{◌≡◌, ℕ, List, ◌+◌, ◌<◌, ◌≤◌, ◌^◌, [], ◌∷◌, Some, IfOk, IfErr, OnOk, length, option_copied, slice_get};
 ghost use Rattle.std.specs.List.{insert, remove};
 ghost use Rattle.ub_zaddr.specs.Address.{last_address};
+ghost use Rattle.ub_page.specs.Entries.{IsEntry};
 ghost use Rattle.ub_page.specs.Header.{IsHeader};
 ghost use Rattle.ub_region.specs.Regions.{index_holding};
 ghost use Rattle.ub_store.specs.Facts.{page_count, IsHonest};
@@ -36,6 +37,7 @@ pub struct Directory {
 
 impl Model for Directory {
     ghost use Rattle.std.specs.Prelude.{◌-◌, vec_len, vec_capacity};
+    ghost use Rattle.ub_directory.specs.Chain.{HasRoot};
     ghost use Rattle.ub_directory.specs.View.{DirectoryView};
 
     ghost Value = { DirectoryView };
@@ -46,12 +48,15 @@ impl Model for Directory {
       last = d.places.last;
       room = vec_capacity d.places.entries - vec_len d.places.entries;
     } };
+
+    ghost invariant = { λ d. HasRoot d.chain.items };
 }
 
 impl Directory {
     /// The directory of a table with no rows, in a space with this last address: one region, which begins with the least key of
-    /// all, on this page. The directory itself has the page `root`. Nothing is written.
+    /// all, on this page. The directory itself has the page `root`. Neither is the first page. Nothing is written.
     pub fn create(alloc: Global, last: u128, page: u32, root: u32) -> Result<Directory, AllocError>
+        requires { (1 ≤ page) × (1 ≤ root) }
         ensures { IfOk result (λ d. d ≡ record {
           entries = record { first = origin; page = page } ∷ [];
           chain = root ∷ [];
@@ -104,7 +109,7 @@ impl Directory {
         ensures written { (numbers : List ℕ) → IsHonest pager.old.store
             → AreOwn (page_count pager.old.store) self.chain numbers
             → IfOk result (λ root. HasDirectory numbers self.entries root pager.new.store.pages) }
-        ensures small { IfOk result (λ root. root < 2 ^ 32) }
+        ensures root { IfOk result (λ root. (1 ≤ root) × (root < 2 ^ 32)) }
         ensures kept { (numbers : List ℕ) → IsHonest pager.old.store
             → AreOwn (page_count pager.old.store) self.chain numbers
             → IsUntouched numbers pager.old.store pager.new.store }
@@ -225,6 +230,7 @@ impl Directory {
           first = adding.first;
           page = page;
         })) }
+        requires entry { IsEntry self.old.last (record { first = adding.first; page = page }) }
         ensures same { self.new ≡ record self.old {
           entries = insert self.old.entries adding.index (record {
             first = adding.first;

@@ -1,6 +1,7 @@
 ghost use Rattle.std.specs.Prelude.{◌≡◌, ℕ, ◌+◌, ◌-◌, ◌<◌, ◌≤◌, ◌↔◌, max, Some, None, IsTrue, All, Bool, if◌then◌else◌, nat_le, nat_lt, length, option_copied, slice_get, vec_len, vec_capacity, IsSome, IfSome, OnOk};
 ghost use Rattle.std.specs.List.{insert, remove};
 ghost use Rattle.ub_bigmin.specs.Box.{Corners};
+ghost use Rattle.ub_page.specs.Entries.{IsEntry};
 ghost use Rattle.ub_region.specs.Regions.{index_holding};
 ghost use Rattle.ub_region.specs.Spans.{address_before};
 ghost use Rattle.ub_table.specs.Keys.{IsBefore, origin, are_ascending};
@@ -10,6 +11,7 @@ use crate::region::Region;
 use std::alloc::AllocError;
 use ub_bigmin::{ZBox, next_in_any};
 use ub_page::Entry;
+use ub_page::entries::is_in_range;
 use ub_table::Key;
 
 /// Where the first region of all begins.
@@ -25,13 +27,16 @@ pub struct Places {
     ghost begins: { slice_get (first_keys entries.items) 0 ≡ Some origin },
     ghost within: { All (λ entry. entry.first.z ≤ last) entries.items },
     ghost ascending: { IsTrue (are_ascending (first_keys entries.items)) },
+    ghost each: { All (IsEntry last) entries.items },
 }
 
 impl Places {
     /// The regions of these entries, in a space with this last address. `None` unless the first one begins with the least
-    /// key of all, each begins after the one before it, and none begins after the last address.
+    /// key of all, each begins after the one before it, and each is in its ranges: none begins after the last address, nor
+    /// with a number that no row has, nor stands on the first page.
     pub fn new(entries: Vec<Entry>, last: u128) -> Option<Places>
-        ensures some { IsSome result ↔ ArePlaces last entries.items }
+        ensures some { IsSome result
+            ↔ (ArePlaces last entries.items × All (IsEntry last) entries.items) }
         ensures parts { IfSome result (λ p. (p.entries ≡ entries) × (p.last ≡ last)) }
     {
         if begins(&entries) && are_within(&entries, last) && are_in_order(&entries) {
@@ -56,6 +61,7 @@ impl Places {
         requires room { vec_len self.old.entries < vec_capacity self.old.entries }
         requires index { index ≤ length self.old.entries.items }
         requires places { ArePlaces self.old.last (insert self.old.entries.items index entry) }
+        requires entry { IsEntry self.old.last entry }
         ensures last { self.new.last ≡ self.old.last }
         ensures entries { self.new.entries.items ≡ insert self.old.entries.items index entry }
     {
@@ -187,11 +193,11 @@ fn begins(entries: &[Entry]) -> bool
     }
 }
 
-// Whether no region begins after this address.
+// Whether each entry is in its ranges, in a space with this last address.
 fn are_within(entries: &[Entry], last: u128) -> bool
-    ensures { IsTrue result ↔ All (λ entry. entry.first.z ≤ last) entries.now }
+    ensures { IsTrue result ↔ All (IsEntry last) entries.now }
 {
-    entries.iter().all(|entry| entry.first.z <= last)
+    entries.iter().all(|entry| is_in_range(entry, last))
 }
 
 // Whether each region begins after the one before it.

@@ -1,6 +1,6 @@
 ghost use Rattle.std.specs.Prelude.{ℕ, List, ◌≡◌, ◌⊎◌, ◌+◌, ◌-◌, ◌*◌, ◌^◌, ◌<◌, ◌≤◌, length, take, drop, IfOk, IfErr, OnOk, IsErrOf};
-ghost use Rattle.ub_directory.specs.Chain.{levels_for, AreOwn, HasDirectory, IsChain};
-ghost use Rattle.ub_directory.specs.Writing.{Grows, KeepsBut, IsUntouched, IsSaved, IsSaveFault, put_store, WritesStore};
+ghost use Rattle.ub_directory.specs.Chain.{levels_for, AreOwn, HasDirectory, HasRoot, IsChain};
+ghost use Rattle.ub_directory.specs.Writing.{Grows, IsWritable, KeepsBut, IsUntouched, IsSaved, IsSaveFault, put_store, WritesStore};
 ghost use Rattle.ub_store.specs.Facts.{page_count, IsHonest};
 
 use ub_page::entries::MAX_ENTRIES;
@@ -24,12 +24,11 @@ pub fn write_places<S: PageStore>(
     mut chain: Vec<u32>,
     entries: &[Entry],
 ) -> Result<u32, StoreFault>
-    requires some { 1 ≤ length entries.now }
-    requires few { length entries.now < 2 ^ 32 }
+    requires { IsWritable chain.items entries.now }
     ensures written { (numbers : List ℕ) → IsHonest pager.old.store
         → AreOwn (page_count pager.old.store) chain.items numbers
         → IfOk result (λ root. HasDirectory numbers entries.now root pager.new.store.pages) }
-    ensures small { IfOk result (λ root. root < 2 ^ 32) }
+    ensures root { IfOk result (λ root. (1 ≤ root) × (root < 2 ^ 32)) }
     ensures kept { (numbers : List ℕ) → IsHonest pager.old.store
         → AreOwn (page_count pager.old.store) chain.items numbers
         → IsUntouched numbers pager.old.store pager.new.store }
@@ -54,6 +53,7 @@ fn grow_chain<S: PageStore>(
     ensures own { (numbers : List ℕ) → AreOwn (page_count pager.old.store) chain.old.items numbers
         → OnOk result (AreOwn (page_count pager.new.store) chain.new.items numbers) }
     ensures levels { OnOk result (length chain.new.items ≡ levels) }
+    ensures root { HasRoot chain.old.items → 1 ≤ levels → OnOk result (HasRoot chain.new.items) }
     ensures pages { OnOk result (page_count pager.new.store ≡ page_count pager.old.store +
         (levels - length chain.old.items)) }
     ensures grows { Grows pager.old.store pager.new.store }
@@ -76,8 +76,7 @@ fn write_chain<S: PageStore>(
     chain: &[u32],
     entries: &[Entry],
 ) -> Result<(), StoreFault>
-    requires some { 1 ≤ length entries.now }
-    requires few { length entries.now < 2 ^ 32 }
+    requires whole { IsWritable chain.now entries.now }
     requires levels { length chain.now ≡ levels_for (length entries.now) }
     ensures chain { (numbers : List ℕ) → IsHonest pager.old.store
         → AreOwn (page_count pager.old.store) chain.now numbers

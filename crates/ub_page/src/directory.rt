@@ -1,4 +1,4 @@
-ghost use Rattle.std.specs.Prelude.{◌≡◌, ◌+◌, ◌*◌, ◌<◌, ◌≤◌, ◌↔◌, [], ◌∷◌, ◌++◌, Ok, length, IsTrue, IfOk, IfErr};
+ghost use Rattle.std.specs.Prelude.{ℕ, ◌≡◌, ◌+◌, ◌*◌, ◌<◌, ◌≤◌, ◌↔◌, [], ◌∷◌, ◌++◌, Ok, length, IsTrue, IfOk, IfErr};
 ghost use Rattle.std.specs.List.{AllByRecursion};
 ghost use Rattle.ub_zaddr.specs.Address.{last_address};
 ghost use Rattle.ub_page.specs.Bytes.{number_at, padded};
@@ -49,10 +49,11 @@ impl Directory {
     }
 }
 
-/// Writes the page of these entries, at most 170, with the next page of the directory, 0 for none, over what was written
-/// before. Takes no memory.
+/// Writes the page of these entries, with the next page of the directory, 0 for none, over what was written before. There are
+/// 1 to 170 of them, in the order of their first keys and each in its ranges, so that the reader takes the page in a space
+/// that has the addresses. Takes no memory.
 pub fn write_directory(entries: &[Entry], next: u32, draft: &mut Draft)
-    requires { length entries.now ≤ MAX_ENTRIES }
+    requires { (dims : ℕ) × IsListing dims (record { entries = entries.now; next = next }) }
     ensures { padded draft.new ≡ directory_page (record { entries = entries.now; next = next }) }
 {
     write_entries(KIND, 0, next, entries, draft);

@@ -1,7 +1,8 @@
 ghost use Rattle.std.specs.Prelude.{◌≡◌, ◌≢◌, ◌+◌, ◌-◌, ◌*◌, ◌≤◌, ◌<◌, ◌^◌, ◌↔◌, ◌++◌, false, if◌then◌else◌, length, replicate, IsTrue, IsOk, IfOk, IfErr};
-ghost use Rattle.std.specs.List.{flat_map};
+ghost use Rattle.std.specs.List.{AllByRecursion, flat_map};
 ghost use Rattle.ub_page.specs.Bytes.{number_bytes, padded};
 ghost use Rattle.ub_page.specs.Header.{numbers_of, names_of, numbers_on, columns_on, name_bytes, name_on, names_on, header_page, AreInRange, IsHeader, AreSame, IsHeaderKind, IsHeaderFault, IsNameOn, AreNamesOn, HasNames};
+ghost use Rattle.ub_table.specs.Name.{IsName};
 ghost use Rattle.ub_table.specs.Schema.{AreCounts};
 
 use crate::draft::Draft;
@@ -48,9 +49,12 @@ pub(crate) struct Numbers {
     pub levels: u32,
 }
 
-/// Writes the page of a header, clean or not, over what was written before. Takes no memory.
+/// Writes the page of a header, clean or not, over what was written before. Each of its numbers is in its range, so that a
+/// page can hold the header, and the reader takes the page where it is clean. Takes no memory.
 pub fn write_header(header: &Header, draft: &mut Draft)
-    ensures { padded draft.new ≡ header_page header.now }
+    requires { AreInRange (numbers_of header.now) }
+    ensures page { padded draft.new ≡ header_page header.now }
+    ensures header { IsHeader header.now }
 {
     draft.clear();
     draft.put_u32(KIND);
@@ -80,6 +84,7 @@ fn put_names(draft: &mut Draft, names: &[Name])
     requires { length draft.old + 33 * length names.now ≤ 4096 }
     ensures bytes { draft.new ≡ draft.old ++ flat_map (λ name. name_bytes name) names.now }
     ensures len { length draft.new ≡ length draft.old + 33 * length names.now }
+    ensures names { AllByRecursion IsName names.now }
 {
     for name in names {
         put_name(draft, name);
@@ -90,6 +95,7 @@ fn put_name(draft: &mut Draft, name: &Name)
     requires { length draft.old + 33 ≤ 4096 }
     ensures bytes { draft.new ≡ draft.old ++ name_bytes name.now }
     ensures len { length draft.new ≡ length draft.old + 33 }
+    ensures name { IsName name.now }
 {
     let block = block_of(name);
     draft.put_u8(name.bytes().len() as u8);

@@ -277,8 +277,9 @@ impl RegionPage {
         region
     }
 
-    /// Writes the page of the region over what was written before. Takes no memory.
+    /// Writes the page of the region, which is one of the schema's, over what was written before. Takes no memory.
     pub fn write(&self, schema: &Schema, draft: &mut Draft)
+        requires { IsRegion schema.now self.now.region }
         ensures { padded draft.new ≡ region_page schema.now self.now.region }
     {
         let count = self.len;
@@ -290,15 +291,15 @@ impl RegionPage {
     }
 }
 
-/// Writes the page of a region over what was written before: its first key and its rows, at most 64. Of each row the page
-/// holds the number, and what the schema's columns hold. Takes no memory.
+/// Writes the page of a region over what was written before: its first key and its rows. They are a region of the schema's:
+/// no more rows than its pages hold, in the order of their keys, none before the first key, and every number in its range;
+/// so the reader takes the page. Of each row it holds the number, and what the schema's columns hold. Takes no memory.
 pub fn write_region(schema: &Schema, first: Key, rows: &[Row], draft: &mut Draft)
-    requires { length rows.now ≤ MAX_ROWS }
+    requires { IsRegion schema.now (record { first = first; rows = rows.now }) }
     ensures page { padded draft.new
         ≡ region_page schema.now (record { first = first; rows = rows.now }) }
-    // what a page can hold stands on it
-    ensures reads_back { IsRegion schema.now (record { first = first; rows = rows.now })
-        → region_on schema.now (padded draft.new) ≡ record { first = first; rows = rows.now } }
+    ensures reads_back { region_on schema.now (padded draft.new)
+        ≡ record { first = first; rows = rows.now } }
 {
     RegionPage::of(schema.shape(), first, rows).write(schema, draft);
 }

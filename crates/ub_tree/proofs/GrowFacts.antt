@@ -11,10 +11,11 @@ use Rattle.std.specs.List.{All, AllByRecursion}
 use Rattle.std.specs.List.Sorted.{IsPermutation}
 use Rattle.ub_zaddr.specs.Address.{last_address}
 use Rattle.ub_page.specs.declared.entries.Entry.{Entry}
+use Rattle.ub_directory.specs.View.{SeatView}
 use Rattle.ub_store.specs.Facts.{IsHonest}
 use Rattle.ub_store.specs.View.{PagerView}
 use Rattle.ub_tree.specs.Change.{IsInserted, Suits, numbered, row_of}
-use Rattle.ub_tree.specs.inner.Change.{AreRowsAt, HasRoom, IsStored, IsSplitAt, placed_with, regions_with, split_of}
+use Rattle.ub_tree.specs.inner.Change.{AreRowsAt, CanStand, IsSeatIn, IsStored, IsSplitAt, placed_with, regions_with, split_of}
 use Rattle.ub_tree.specs.Spans.{ArePlaces, first_keys}
 use Rattle.ub_tree.specs.Tree.{known_pages, tree_view}
 use Rattle.ub_tree.specs.Placed.{placed_of, Placed, entry_of, regions_in}
@@ -22,7 +23,7 @@ use Rattle.ub_writing.specs.Marks.{HasMark}
 use Rattle.ub_tree.specs.View.{TreeView, IsSound, regions}
 use Rattle.ub_tree.specs.declared.fault.TreeFault.{TreeFault}
 use Rattle.ub_tree.proofs.TreeFacts.{firsts_back, length-placed}
-use Rattle.ub_tree.proofs.RoomFacts.{room_for}
+use Rattle.ub_tree.proofs.RoomFacts.{filled_each, filled_with, room_for}
 use Rattle.ub_tree.proofs.WriteFacts.{stored_of}
 use Rattle.std.proofs.lemmas.Grind.{get_or_default_zero}
 use Rattle.ub_region.proofs.Laws.{insert_keeps, all_left, all_right, insert_table}
@@ -94,11 +95,6 @@ placed_region : (placed : List Placed) (index : ℕ) (p : Placed) → slice_get 
 placed_region [] index p at = cc
 placed_region (q ∷ placed) zero p at = let same : q ≡ p = cc in ap (λ (x : Placed). Some x.region) same
 placed_region (q ∷ placed) (suc index) p at = placed_region placed index p at
-
-entry_at : (placed : List Placed) (index : ℕ) (p : Placed) → slice_get placed index ≡ Some p → slice_get (map entry_of placed) index ≡ Some (entry_of p)
-entry_at [] index p at = cc
-entry_at (q ∷ placed) zero p at = let same : q ≡ p = cc in ap (λ (x : Placed). Some (entry_of x)) same
-entry_at (q ∷ placed) (suc index) p at = entry_at placed index p at
 
 pub firsts_placed : (placed : List Placed) → first_keys (map entry_of placed) ≡ firsts_of (regions_in placed)
 firsts_placed [] = refl
@@ -234,14 +230,17 @@ ready schema entries chain next count changed failed pager shape index key row r
   rows_are = λ now p there. is_rows ∙ ap (λ (d : ℕ). insert_row d row read) is_shape ∙ ap (insert_row schema.dims row) (is_read now p there);
 }
 
--- a new row's region leaves room for its other half
-pub room_ready : (b : TreeView) (row : Row) (index : ℕ) (read rows : List Row) → IsReady b row index rows → ArePlaces (last_address b.schema.dims) (map entry_of b.placed)
-    → AreRowsAt b.schema (map entry_of b.placed) index read → has_key b.schema.dims (key_of b.schema.dims row) read ≡ false → rows ≡ insert_row b.schema.dims row read → b.schema.page_rows < length rows
-    → HasRoom index (split b.schema.dims b.schema.page_rows rows).first b
-room_ready b row index read rows h places are none made over = λ page.
-    let some = some_at b.placed index h.within in
-    room_for b.schema (map entry_of b.placed) index (entry_of some.0) row read rows are places (entry_at b.placed index some.0 some.1) h.good
-    (h.is ∙ ap (index_holding (key_of b.schema.dims row)) (sym (firsts_placed b.placed))) none made over page
+-- a new row, of which the region that holds its key has none yet, can stand there
+pub stand_ready : (b : TreeView) (seat : SeatView) (row : Row) (read rows : List Row) → IsReady b row seat.index rows → ArePlaces (last_address b.schema.dims) (map entry_of b.placed)
+    → AreRowsAt b.schema (map entry_of b.placed) seat.index read → has_key b.schema.dims (key_of b.schema.dims row) read ≡ false → IsSeatIn b seat → CanStand b seat (insert_row b.schema.dims row read)
+stand_ready b seat row read all h places are none stands =
+    let entries = map entry_of b.placed in
+    let e : Entry = record { first = seat.first; page = seat.page } in
+    let is : seat.index ≡ index_holding (key_of b.schema.dims row) (first_keys entries) = h.is ∙ ap (index_holding (key_of b.schema.dims row)) (sym (firsts_placed b.placed)) in
+    record {
+      each = filled_each b.schema seat.first (insert_row b.schema.dims row read) (filled_with b.schema entries seat.index e row read are places stands.entry h.good is none);
+      room = λ over page. room_for b.schema entries seat.index e row read are places stands.entry h.good is none over page;
+    }
 
 -- what an insertion makes of a sound tree
 pub grown : (a b after d : TreeView) (row : Row) (index : ℕ) (rows : List Row) → b ≡ a → IsReady b row index rows → a.next ≢ 16777216

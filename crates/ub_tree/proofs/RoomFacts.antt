@@ -1,31 +1,32 @@
 -- Where a region can stand among the others, and what a new row leaves room for.
-use Rattle.std.proofs.Common.{◌≡◌, ◌<◌, ◌≤◌, ◌+◌, ◌-◌, ◌/◌, inl, inr, ℕ, zero, suc, true, false, List, [], ◌∷◌, ◌++◌, Option, Some, None, IfSome, length, take, drop, ◌∙◌, sym, ap, subst, refl, arith, slice_get, add-one}
-use Rattle.std.proofs.lemmas.Bool.{cases_Bool, and_parts, and_from, eq-eqb}
+use Rattle.std.proofs.Common.{◌≡◌, ◌<◌, ◌≤◌, ◌+◌, ◌-◌, ◌/◌, inl, inr, ℕ, zero, suc, Bool, true, false, List, [], ◌∷◌, ◌++◌, Option, Some, None, IfSome, length, map, nat_le, take, drop, ◌∙◌, sym, ap, subst, refl, arith, slice_get, add-one, length-append}
+use Rattle.std.proofs.lemmas.Bool.{cases_Bool, and_parts, and_from, eq-eqb, le-leb, lt-leb, leb-true, leb-false}
 use Rattle.std.proofs.lemmas.List.{length-drop}
 use Rattle.std.proofs.lemmas.List.Elements.{All-append, All-take, All-drop, All-cons}
 use Rattle.std.specs.List.{AllByRecursion, insert, list_any}
 use Rattle.ub_zaddr.specs.Address.{last_address}
 use Rattle.ub_page.specs.declared.entries.Entry.{Entry}
-use Rattle.ub_region.proofs.Laws.{IsFilled, two_chain, all_drop, all_left, all_right, before_or_same, upto_before, IsBeforeNext, up_head, up_tail, up_cons, all_keys, all_of_keys, all_insert, length-insert_row}
-use Rattle.ub_region.specs.Regions.{index_holding, rows_of}
-use Rattle.ub_region.specs.Rows.{has_key, insert_row, cut, split}
+use Rattle.ub_region.proofs.Laws.{IsFilled, two_chain, all_append, all_drop, all_left, all_more, all_right, before_or_same, upto_before, IsBeforeNext, up_append, up_head, up_tail, up_cons, up_remove, keys_append, all_keys, all_of_keys, all_insert, all_remove, length-insert_row, length-remove_row}
+use Rattle.ub_region.specs.Regions.{index_holding, rows_of, two_regions}
+use Rattle.ub_region.specs.Rows.{has_key, insert_row, remove_row, cut, split}
 use Rattle.ub_store.specs.Facts.{IsHonest}
-use Rattle.ub_table.proofs.Laws.{before_of, precedes_of, not_before_origin}
+use Rattle.ub_store.specs.View.{PagerView}
+use Rattle.ub_table.proofs.Laws.{ascending_get, before_of, before_trans, precedes_of, not_before_origin}
 use Rattle.ub_table.specs.Keys.{IsBefore, AreKeysAscending, origin, precedes, is_same, is_before_next, are_ascending}
 use Rattle.ub_table.specs.Region.{Region, IsRegion, IsRow, AreFrom, key_of, keys_of, measures_of}
 use Rattle.ub_table.specs.declared.row.Key.{Key}
 use Rattle.ub_table.specs.declared.row.Row.{Row}
 use Rattle.ub_table.specs.declared.schema.Schema.{Schema}
 use Rattle.ub_directory.specs.View.{SeatView}
-use Rattle.ub_tree.specs.inner.Change.{AreRowsAt, IsOnSeat, IsSeatIn}
+use Rattle.ub_tree.specs.inner.Change.{AreRowsAt, CanStand, IsOnSeat, IsSeatIn, split_of}
 use Rattle.ub_tree.specs.Effects.{IsNumberTaken}
-use Rattle.ub_tree.specs.Placed.{Placed}
+use Rattle.ub_tree.specs.Placed.{Placed, entry_of}
 use Rattle.ub_tree.specs.Spans.{first_keys, ArePlaces}
-use Rattle.ub_tree.specs.Tree.{IsHeldBy}
+use Rattle.ub_tree.specs.Tree.{IsHeldBy, known_pages, tree_view}
 use Rattle.ub_tree.specs.View.{TreeView, IsSound, regions}
 use Rattle.ub_directory.proofs.Laws.{first_at, same_key}
 use Rattle.ub_tree.proofs.CallFacts.{seat_told, taken_on}
-use Rattle.ub_tree.proofs.TreeFacts.{contained_at, region_get}
+use Rattle.ub_tree.proofs.TreeFacts.{contained_at, entries_back, if_some, region_get}
 
 abbrev inserted_at : List Entry → ℕ → Entry → List Entry
 inserted_at es index x = take (suc index) es ++ x ∷ drop (suc index) es
@@ -156,42 +157,142 @@ if_some_both : {X : Type 0} (P Q R : X → Type 0) (o : Option X) → ((x : X) �
 if_some_both P Q R None f h k = tt
 if_some_both P Q R (Some x) f h k = f x h k
 
--- the rows of the region that holds a new row's key leave room for the other half
-pub room_for : (schema : Schema) (entries : List Entry) (index : ℕ) (e : Entry) (row : Row) (rows new : List Row) → AreRowsAt schema entries index rows → ArePlaces (last_address schema.dims) entries
+-- rows in order that are a region's, perhaps with a row too many, are a region, or make two
+pub filled_each : (schema : Schema) (first : Key) (rows : List Row) → IsFilled schema (record { first = first; rows = rows }) → AllByRecursion (IsRegion schema) (split_of schema first rows)
+filled_each schema first rows filled = elim (cases_Bool (nat_le (length rows) schema.page_rows)) [
+  | inl t ↦
+      let few = leb-true (length rows) schema.page_rows t in
+      rw t (record { few = few; first = filled.first; rows = filled.rows; ascending = filled.ascending; within = filled.within }, tt)
+  | inr f ↦
+      let many = leb-false (length rows) schema.page_rows f in
+      let most = filled.most in
+      let some = schema.counts.some_rows in
+      rw f (halves ((schema.page_rows + 2) / 2) (omega arith) (omega arith) (omega arith) (omega arith))
+]
+  where
+    halves : (n : ℕ) → 1 ≤ n → n < length rows → n ≤ schema.page_rows → length rows ≤ schema.page_rows + n → AllByRecursion (IsRegion schema) (two_regions first (cut schema.dims n rows))
+    halves zero one lt left right = absurd (omega arith)
+    halves (suc n) one lt left right =
+        let same : suc n - 1 ≡ n = omega arith in
+        let two = two_chain schema (record { first = first; rows = rows }) filled n lt left right [] tt tt in
+        rw same (two.0, (two.2.0, tt))
+
+-- a row whose key none has, put in among the rows of the region that holds its key
+pub filled_with : (schema : Schema) (entries : List Entry) (index : ℕ) (e : Entry) (row : Row) (rows : List Row) → AreRowsAt schema entries index rows → ArePlaces (last_address schema.dims) entries
     → slice_get entries index ≡ Some e → IsRow schema.dims (measures_of schema) row → index ≡ index_holding (key_of schema.dims row) (first_keys entries) → has_key schema.dims (key_of schema.dims row) rows ≡ false
-    → new ≡ insert_row schema.dims row rows → schema.page_rows < length new
-    → (page : ℕ) → ArePlaces (last_address schema.dims) (insert entries (index + 1) (record { first = (split schema.dims schema.page_rows new).first; page = page }))
-room_for schema entries index e row rows new are places at good is none made over page =
+    → IsFilled schema (record { first = e.first; rows = insert_row schema.dims row rows })
+filled_with schema entries index e row rows are places at good is none =
     let here = are e at in
     let dims = schema.dims in
     let key : Key = key_of dims row in
     let few = here.0.few in
     let long = length-insert_row dims row rows in
-    let over_here : schema.page_rows < length (insert_row dims row rows) = subst (λ (rs : List Row). schema.page_rows < length rs) made over in
-    let some = schema.counts.some_rows in
     let head : IfSome (slice_get (first_keys entries) 0) (λ f. ¬ (IsBefore key f)) = rw places.0 (not_before_origin key) in
     let upto : ¬ (IsBefore key e.first) = first_upto key (first_keys entries) index e.first head (sym is) (first_at entries index e at) in
-    let whole : Region = record { first = e.first; rows = insert_row dims row rows } in
-    let filled : IsFilled schema whole = record {
+    record {
       most = omega arith;
       first = here.0.first;
       rows = all_insert dims row (IsRow dims (measures_of schema)) rows here.0.rows good;
       ascending = up_new dims row rows here.0.ascending none;
       within = all_keys dims (λ k. ¬ (IsBefore k e.first)) (insert_row dims row rows)
           (all_insert dims row (λ other. ¬ (IsBefore (key_of dims other) e.first)) rows (all_of_keys dims (λ k. ¬ (IsBefore k e.first)) rows here.0.within) upto);
-    } in
+    }
+
+-- they leave room for the other half
+pub room_for : (schema : Schema) (entries : List Entry) (index : ℕ) (e : Entry) (row : Row) (rows : List Row) → AreRowsAt schema entries index rows → ArePlaces (last_address schema.dims) entries
+    → slice_get entries index ≡ Some e → IsRow schema.dims (measures_of schema) row → index ≡ index_holding (key_of schema.dims row) (first_keys entries) → has_key schema.dims (key_of schema.dims row) rows ≡ false
+    → schema.page_rows < length (insert_row schema.dims row rows)
+    → (page : ℕ) → ArePlaces (last_address schema.dims) (insert entries (index + 1) (record { first = (split schema.dims schema.page_rows (insert_row schema.dims row rows)).first; page = page }))
+room_for schema entries index e row rows are places at good is none over page =
+    let here = are e at in
+    let dims = schema.dims in
+    let key : Key = key_of dims row in
+    let few = here.0.few in
+    let long = length-insert_row dims row rows in
+    let some = schema.counts.some_rows in
+    let whole : Region = record { first = e.first; rows = insert_row dims row rows } in
+    let filled = filled_with schema entries index e row rows are places at good is none in
     let sep = between schema whole ((schema.page_rows + 2) / 2) filled (omega arith) (omega arith) (omega arith) (omega arith) in
     let below : IfSome (slice_get (first_keys entries) (suc index)) (λ next. AllByRecursion (λ k. IsBefore k next) (keys_of dims (insert_row dims row rows))) =
     if_some_both (λ next. AllByRecursion (λ k. IsBefore k next) (keys_of dims rows)) (λ next. IsBefore key next) (λ next. AllByRecursion (λ k. IsBefore k next) (keys_of dims (insert_row dims row rows)))
     (slice_get (first_keys entries) (suc index))
     (λ next all before. all_keys dims (λ k. IsBefore k next) (insert_row dims row rows) (all_insert dims row (λ other. IsBefore (key_of dims other) next) rows (all_of_keys dims (λ k. IsBefore k next) rows all) before))
     here.1 (next_after key (first_keys entries) index (sym is)) in
-    rw made (room_of (last_address dims) entries index e (record { first = (split dims schema.page_rows (insert_row dims row rows)).first; page = page }) places at (
+    room_of (last_address dims) entries index e (record { first = (split dims schema.page_rows (insert_row dims row rows)).first; page = page }) places at (
       sep.range,
       precedes_of e.first _ sep.after,
       before_at _ (first_keys entries) (suc index) (if_some_more (λ next. AllByRecursion (λ k. IsBefore k next) (keys_of dims (insert_row dims row rows))) (λ next. IsBefore _ next)
           (slice_get (first_keys entries) (suc index)) sep.before below),
-    ))
+    )
+
+-- rows that can stand in place of a region's are one, where a page holds them, and else two
+pub one_stands : (t : TreeView) (seat : SeatView) (rows : List Row) → CanStand t seat rows → length rows ≤ t.schema.page_rows → IsRegion t.schema (record { first = seat.first; rows = rows })
+one_stands t seat rows can few = let fits = le-leb (length rows) t.schema.page_rows few in let one = rw fits at can.each in one.0
+
+pub two_stand : (t : TreeView) (seat : SeatView) (rows : List Row) → CanStand t seat rows → t.schema.page_rows < length rows
+    → IsRegion t.schema (record { first = seat.first; rows = (split t.schema.dims t.schema.page_rows rows).left })
+    × IsRegion t.schema (record { first = (split t.schema.dims t.schema.page_rows rows).first; rows = (split t.schema.dims t.schema.page_rows rows).right })
+two_stand t seat rows can over = let many = lt-leb (length rows) t.schema.page_rows over in let two = rw many at can.each in (two.0, two.1.0)
+
+-- the rows of a seat's region, as they were read, are one's
+pub region_at : (t : TreeView) (seat : SeatView) (rows : List Row) → IsSeatIn t seat → AreRowsAt t.schema (map entry_of t.placed) seat.index rows → IsRegion t.schema (record { first = seat.first; rows = rows })
+region_at t seat rows stands are = (are (record { first = seat.first; page = seat.page }) stands.entry).0
+
+-- and so they are with one of them taken out
+pub rows_without : (schema : Schema) (entries : List Entry) (index : ℕ) (key : Key) (rows : List Row) → AreRowsAt schema entries index rows → AreRowsAt schema entries index (remove_row schema.dims key rows)
+rows_without schema entries index key rows are = λ e at.
+    let here = are e at in
+    let dims = schema.dims in
+    let few = here.0.few in
+    let less = length-remove_row dims key rows in (
+      record {
+        few = omega arith;
+        first = here.0.first;
+        rows = all_remove dims key (IsRow dims (measures_of schema)) rows here.0.rows;
+        ascending = up_remove dims key rows here.0.ascending;
+        within = all_keys dims (λ k. ¬ (IsBefore k e.first)) (remove_row dims key rows)
+            (all_remove dims key (λ other. ¬ (IsBefore (key_of dims other) e.first)) rows (all_of_keys dims (λ k. ¬ (IsBefore k e.first)) rows here.0.within));
+      },
+      if_some_more (λ next. AllByRecursion (λ k. IsBefore k next) (keys_of dims rows)) (λ next. AllByRecursion (λ k. IsBefore k next) (keys_of dims (remove_row dims key rows)))
+          (slice_get (first_keys entries) (suc index))
+          (λ next all. all_keys dims (λ k. IsBefore k next) (remove_row dims key rows) (all_remove dims key (λ other. IsBefore (key_of dims other) next) rows (all_of_keys dims (λ k. IsBefore k next) rows all)))
+          here.1,
+    )
+
+-- two neighbouring regions make one, where a page holds the rows of both
+joined_region : (schema : Schema) (first second : Key) (rows more : List Row) → IsRegion schema (record { first = first; rows = rows }) → IsRegion schema (record { first = second; rows = more })
+    → IsBefore first second → AllByRecursion (λ key. IsBefore key second) (keys_of schema.dims rows) → length rows + length more ≤ schema.page_rows → IsRegion schema (record { first = first; rows = rows ++ more })
+joined_region schema first second rows more left right before below fit =
+    let dims = schema.dims in
+    let later = all_more (λ key. ¬ (IsBefore key second)) (λ key. ¬ (IsBefore key first)) (λ key from back. from (before_trans key first second back before)) (keys_of dims more) right.within in
+    record {
+      few = omega (arith, length-append rows more);
+      first = left.first;
+      rows = all_append (IsRow dims (measures_of schema)) rows more left.rows right.rows;
+      ascending = rw (keys_append dims rows more) (up_append second (keys_of dims rows) (keys_of dims more) left.ascending right.ascending below right.within);
+      within = rw (keys_append dims rows more) (all_append (λ key. ¬ (IsBefore key first)) (keys_of dims rows) (keys_of dims more) left.within later);
+    }
+
+pub next_region : (t : TreeView) (seat next : SeatView) (rows more : List Row) → ArePlaces (last_address t.schema.dims) (map entry_of t.placed) → IsSeatIn t seat → IsSeatIn t next → next.index ≡ seat.index + 1
+    → AreRowsAt t.schema (map entry_of t.placed) seat.index rows → AreRowsAt t.schema (map entry_of t.placed) next.index more → length rows + length more ≤ t.schema.page_rows
+    → IsRegion t.schema (record { first = seat.first; rows = rows ++ more })
+next_region t seat next rows more places stands after one are are_more fit =
+    let entries = map entry_of t.placed in
+    let e : Entry = record { first = seat.first; page = seat.page } in
+    let f : Entry = record { first = next.first; page = next.page } in
+    let up : next.index ≡ suc seat.index = omega arith in
+    let there : slice_get (first_keys entries) (suc seat.index) ≡ Some next.first = ap (slice_get (first_keys entries)) (sym up) ∙ first_at entries next.index f after.entry in
+    let here = first_at entries seat.index e stands.entry in
+    let before : IsBefore seat.first next.first = before_of seat.first next.first (ascending_get (first_keys entries) places.2 seat.index (suc seat.index) (omega arith) seat.first next.first here there) in
+    joined_region t.schema seat.first next.first rows more (are e stands.entry).0 (are_more f after.entry).0 before
+    (if_some (λ k. AllByRecursion (λ key. IsBefore key k) (keys_of t.schema.dims rows)) (slice_get (first_keys entries) (suc seat.index)) next.first there (are e stands.entry).1) fit
+
+-- the places of a tree's directory, as its view has them
+pub viewed_places : (schema : Schema) (entries : List Entry) (chain : List ℕ) (next rows : ℕ) (changed failed : Bool) (pager : PagerView) (last : ℕ) (v : TreeView)
+    → tree_view schema entries chain next rows changed failed pager ≡ v → last ≡ last_address schema.dims → ArePlaces last entries → ArePlaces (last_address v.schema.dims) (map entry_of v.placed)
+viewed_places schema entries chain next rows changed failed pager last v is last_is places =
+    subst (λ (u : TreeView). ArePlaces (last_address u.schema.dims) (map entry_of u.placed)) is
+    (rw (← last_is, entries_back schema (known_pages pager.store) entries) places)
 
 -- the rows of a page that was read
 pub rows_at_index : (schema : Schema) (entries : List Entry) (index : ℕ) (e : Entry) (next : Option Key) (region : Region) (rows : List Row) → slice_get entries index ≡ Some e

@@ -1,7 +1,7 @@
 ghost use Rattle.std.specs.Int.{w64};
 ghost use Rattle.std.specs.Prelude.{FitsSigned, map, ◌≡◌, ◌≢◌, ◌+◌, ◌-◌, ◌↔◌, pos, replicate, ◌<◌, ◌≤◌, ◌⊎◌, ◌∷◌, ◌++◌, [], true, false, IsTrue, Some, Ok, Err, length, slice_get, IfOk, IfErr, IfSome, IsNone, IsSome, MatchResult, OnOk, List, option_copied};
 ghost use Rattle.std.specs.List.{AllByRecursion, insert, list_any};
-ghost use Rattle.ub_region.specs.Rows.{insert_row, split};
+ghost use Rattle.ub_region.specs.Rows.{insert_row};
 ghost use Rattle.ub_store.specs.Facts as facts;
 ghost use Rattle.ub_store.specs.Facts.{page_count, zero_page, Appends, MayFlush};
 ghost use Rattle.ub_store.specs.View.{SameTrace};
@@ -9,7 +9,7 @@ ghost use Rattle.ub_table.specs.Keys.{AreKeysAscending, is_same};
 ghost use Rattle.ub_table.specs.Region.{Region, IsRegion, key_of, keys_of, measures_of};
 ghost use Rattle.ub_tree.specs.Change as spec;
 ghost use Rattle.ub_tree.specs.Change.{IsInserted, Suits, numbered};
-ghost use Rattle.ub_tree.specs.inner.Change.{AreRowsAt, IsStored, IsSeatIn, IsSeatThere, IsElsewhereSame, IsOnSeat, IsReadAt, placed_with, IsSplitAt, HasRoom, IsExtensionFault, IsStoreFault, PutsRows, StoresAt, StoresRows, Writes};
+ghost use Rattle.ub_tree.specs.inner.Change.{AreRowsAt, IsStored, IsSeatIn, IsSeatThere, IsElsewhereSame, IsOnSeat, IsReadAt, placed_with, IsSplitAt, CanStand, HasRoom, IsExtensionFault, IsStoreFault, PutsRows, StoresAt, StoresRows, Writes};
 ghost use Rattle.ub_tree.specs.Effects.{Searches, Changes};
 ghost use Rattle.ub_tree.specs.Holding.{AnswersKey, AnswersRow, CountsOut, index_for};
 ghost use Rattle.ub_tree.specs.Opened.{IsPassing};
@@ -109,7 +109,8 @@ impl<S: PageStore> Tree<S> {
         drafts: &mut Drafts,
     ) -> Result<(), TreeFault>
         requires seat { IsSeatThere self.old seat.now }
-        requires few { length rows.now ≤ 64 }
+        requires region { IsRegion self.old.schema
+            (record { first = seat.now.first; rows = rows.now }) }
         ensures same { OnOk result (IsElsewhereSame self.old self.new) }
         ensures written { IsStored self.old → (p : Placed)
             → slice_get self.old.placed seat.now.index ≡ Some p
@@ -172,7 +173,10 @@ impl<S: PageStore> Tree<S> {
     ) -> Result<(), TreeFault>
         requires seat { IsSeatThere self.old seat.now }
         requires room { HasRoom seat.now.index halves.now.first self.old }
-        requires few { (length halves.now.left.now ≤ 64) × (length halves.now.right.now ≤ 64) }
+        requires left { IsRegion self.old.schema
+            (record { first = seat.now.first; rows = halves.now.left.now }) }
+        requires right { IsRegion self.old.schema
+            (record { first = halves.now.first; rows = halves.now.right.now }) }
         ensures same { OnOk result (StoresAt seat.now.index self.old.schema.page_rows
             self.old self.new) }
         ensures written { IsStored self.old → (p : Placed)
@@ -227,10 +231,8 @@ impl<S: PageStore> Tree<S> {
         requires seat { IsSeatThere self.old seat.now }
         requires key { key.now ≡ key_of self.old.schema.dims row.now }
         requires read { IsReadAt self.old seat.now room.old.region }
-        requires room { self.old.schema.page_rows
-            < length (insert_row self.old.schema.dims row.now room.old.region.region.rows)
-            → HasRoom seat.now.index (split self.old.schema.dims self.old.schema.page_rows
-            (insert_row self.old.schema.dims row.now room.old.region.region.rows)).first self.old }
+        requires rows { CanStand self.old seat.now
+            (insert_row self.old.schema.dims row.now room.old.region.region.rows) }
         ensures same { OnOk result (StoresAt seat.now.index
             (length room.old.region.region.rows) self.old self.new) }
         ensures written { StoresRows seat.now.index
@@ -262,9 +264,8 @@ impl<S: PageStore> Tree<S> {
         requires seat { IsSeatThere self.old seat.now }
         requires full { length room.old.region.region.rows ≡ self.old.schema.page_rows }
         requires within { index ≤ length room.old.region.region.rows }
-        requires room { HasRoom seat.now.index (split self.old.schema.dims
-            self.old.schema.page_rows
-            (insert room.old.region.region.rows index row.now)).first self.old }
+        requires rows { CanStand self.old seat.now
+            (insert room.old.region.region.rows index row.now) }
         ensures same { OnOk result (StoresAt seat.now.index self.old.schema.page_rows
             self.old self.new) }
         ensures written { StoresRows seat.now.index

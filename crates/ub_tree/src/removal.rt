@@ -1,13 +1,14 @@
-ghost use Rattle.std.specs.Prelude.{◌≡◌, ◌+◌, ◌-◌, ◌<◌, ◌≤◌, false, true, IsTrue, Err, Some, length, slice_get, is_some, IfOk, IfErr, IfSome, OnOk, IsErrOf};
+ghost use Rattle.std.specs.Prelude.{◌≡◌, ◌+◌, ◌-◌, ◌<◌, ◌≤◌, false, true, IsTrue, Err, Some, length, slice_get, is_some, map, IfOk, IfErr, IfSome, MatchOption, OnOk, IsErrOf};
 ghost use Rattle.std.specs.List.{remove, AllByRecursion};
 ghost use Rattle.ub_region.specs.Joins.{JoinsNext, JoinsBefore, put_rows};
 ghost use Rattle.ub_region.specs.Regions.{settle};
 ghost use Rattle.ub_store.specs.Facts as facts;
 ghost use Rattle.ub_table.specs.Region.{Region, IsRegion};
-ghost use Rattle.ub_tree.specs.inner.Change.{IsStored, IsSeatIn, IsSeatThere, JoinsAt, TakesAt};
+ghost use Rattle.ub_tree.specs.inner.Change.{AreRowsAt, IsStored, IsSeatIn, IsSeatThere, JoinsAt, TakesAt};
 ghost use Rattle.ub_tree.specs.Effects.{Searches, Changes};
 ghost use Rattle.ub_tree.specs.Holding.{AnswersRemoval, index_for};
 ghost use Rattle.ub_tree.specs.Others.{ShrinksAt};
+ghost use Rattle.ub_tree.specs.Placed.{entry_of};
 ghost use Rattle.ub_tree.specs.Removal.{IsRemoved, IsRemovalFault};
 ghost use Rattle.ub_tree.specs.View.{IsSound, regions};
 
@@ -41,7 +42,8 @@ impl<S: PageStore> Tree<S> {
     ) -> Result<(), TreeFault>
         requires seat { IsSeatThere self.old seat.now }
         requires next { IsSeatIn self.old next.now × (next.now.index ≡ seat.now.index + 1) }
-        requires few { length rows.now ≤ 64 }
+        requires region { IsRegion self.old.schema
+            (record { first = seat.now.first; rows = rows.now }) }
         ensures same { OnOk result (JoinsAt seat.now.index self.old self.new) }
         ensures written { IsStored self.old
             → AllByRecursion (IsRegion self.old.schema)
@@ -61,8 +63,11 @@ impl<S: PageStore> Tree<S> {
     // together with these, and then gives its seat.
     fn join_next(&mut self, seat: &Seat, room: &mut Room) -> Result<Option<Seat>, TreeFault>
         requires seat { IsSeatIn self.old seat.now }
-        requires few { length room.old.rows ≤ self.old.schema.page_rows }
-        ensures few { length room.new.rows ≤ self.old.schema.page_rows }
+        requires rows { AreRowsAt self.old.schema (map entry_of self.old.placed) seat.now.index
+            room.old.rows }
+        ensures rows { IfOk result (λ found. MatchOption found (room.new.rows ≡ room.old.rows)
+            (λ _. IsRegion self.old.schema
+            (record { first = seat.now.first; rows = room.new.rows }))) }
         ensures next { IfOk result (λ found. IfSome found (λ next.
             IsSeatIn self.old next × (next.index ≡ seat.now.index + 1))) }
         ensures joined { facts.IsHonest self.old.store
@@ -86,8 +91,11 @@ impl<S: PageStore> Tree<S> {
     // holds them together, and then gives its seat.
     fn join_before(&mut self, seat: &Seat, room: &mut Room) -> Result<Option<Seat>, TreeFault>
         requires seat { IsSeatIn self.old seat.now }
-        requires few { length room.old.rows ≤ self.old.schema.page_rows }
-        ensures few { length room.new.rows ≤ self.old.schema.page_rows }
+        requires rows { AreRowsAt self.old.schema (map entry_of self.old.placed) seat.now.index
+            room.old.rows }
+        ensures rows { IfOk result (λ found. MatchOption found (room.new.rows ≡ room.old.rows)
+            (λ before. IsRegion self.old.schema
+            (record { first = before.first; rows = room.new.rows }))) }
         ensures before { IfOk result (λ found. IfSome found (λ before.
             IsSeatThere self.old before × (seat.now.index ≡ before.index + 1))) }
         ensures joined { facts.IsHonest self.old.store
@@ -111,7 +119,8 @@ impl<S: PageStore> Tree<S> {
     // those of the next region, or else of the one before, where a page holds both.
     fn settle(&mut self, seat: &Seat, room: &mut Room) -> Result<(), TreeFault>
         requires seat { IsSeatThere self.old seat.now }
-        requires few { length room.old.rows ≤ self.old.schema.page_rows }
+        requires rows { AreRowsAt self.old.schema (map entry_of self.old.placed) seat.now.index
+            room.old.rows }
         ensures same { OnOk result (TakesAt seat.now.index self.old self.new) }
         ensures written { IsStored self.old
             → AllByRecursion (IsRegion self.old.schema)

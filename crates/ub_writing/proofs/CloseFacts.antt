@@ -1,13 +1,13 @@
 -- What closing a table writes, and the header that marks it as changed.
-use Rattle.std.proofs.Common.{Result, Ok, Err, OnErr, ◌⊎◌, ◌≡◌, ◌<◌, ◌≤◌, ◌+◌, ◌-◌, ◌^◌, inl, inr, ℕ, zero, suc, Bool, true, false, if◌then◌else◌, List, [], ◌∷◌, ◌++◌, Some, length, ◌∙◌, sym, subst, refl, arith, slice_get}
+use Rattle.std.proofs.Common.{Result, Ok, Err, OnErr, ◌⊎◌, ◌≡◌, ◌<◌, ◌≤◌, ◌+◌, ◌-◌, inl, inr, ℕ, Bool, true, false, if◌then◌else◌, List, [], ◌∷◌, Some, length, ◌∙◌, sym, subst, refl, arith, slice_get}
 use Rattle.std.specs.List.{AllByRecursion}
-use Rattle.ub_page.specs.Header.{IsHeader, header_page}
+use Rattle.ub_page.specs.Header.{AreInRange, IsHeader, header_page, numbers_of}
 use Rattle.ub_page.specs.declared.entries.Entry.{Entry}
 use Rattle.ub_page.specs.declared.header.Header.{Header}
 use Rattle.ub_region.proofs.Laws.{all_more, all_left, all_right}
 use Rattle.ub_store.specs.Facts.{StoreFacts, IsHonest, page_count}
-use Rattle.ub_table.specs.Name.{IsName}
 use Rattle.ub_table.specs.Schema.{AreCounts}
+use Rattle.ub_table.specs.declared.schema.Schema.{Schema}
 use Rattle.ub_directory.specs.Chain.{levels_for, AreOwn, HasDirectory}
 use Rattle.ub_directory.specs.Writing.{SameBut, KeepsBut, IsUntouched, IsOther, AreKept}
 use Rattle.ub_directory.proofs.Laws.{chain_kept, not_first, kept_after}
@@ -60,35 +60,25 @@ unclosed_of numbers entries root a b d kept h synced k honest = record {
 pub unclosed_before : (numbers : List ℕ) (entries : List Entry) (a d : StoreFacts) → IsUntouched numbers a d → IsUnclosed numbers entries a d
 unclosed_before numbers entries a d h = record { kept = h.kept.1; header = inl (h.kept.0, h.first) }
 
-root_some : (chain numbers : List ℕ) (root : ℕ) → AllByRecursion (λ m. IsOther m (0 ∷ [])) (chain ++ numbers) → slice_get chain 0 ≡ Some root → 1 ≤ root
-root_some [] numbers root other at = cc
-root_some (x ∷ chain) numbers zero other at = let same : x ≡ 0 = cc in absurd (other.0.0 (sym same))
-root_some (x ∷ chain) numbers (suc root) other at = omega arith
-
 flag_small : (b : Bool) → (if b then 1 else 0) ≤ 1
 flag_small true = omega arith
 flag_small false = omega arith
 
-pub header_in_range : (h : Header) → h.rows < h.next → h.next ≤ 16777216 → 1 ≤ h.regions → h.regions < 2 ^ 32 → 1 ≤ h.root → h.root < 2 ^ 32
-    → h.levels ≡ levels_for h.regions → IsName h.schema.name → AllByRecursion IsName h.schema.columns → IsHeader h
-header_in_range h fewer last some few some_root root levels name columns =
-    let counts = h.schema.counts in
+pub numbers_in_range : (schema : Schema) (unclean : Bool) (next rows regions root levels : ℕ) → rows < next → next ≤ 16777216 → 1 ≤ regions → 1 ≤ root → levels ≡ levels_for regions
+    → AreInRange (numbers_of (record { schema = schema; next = next; rows = rows; regions = regions; root = root; levels = levels; unclean = unclean }))
+numbers_in_range schema unclean next rows regions root levels fewer last some some_root are =
+    let counts = schema.counts in
     let covers = counts.covers_dims in
     record {
-      numbers = record {
-        state = flag_small h.unclean;
-        counts = subst (λ (n : ℕ). AreCounts n h.schema.dims h.schema.page_rows)
-            (let e : length h.schema.columns ≡ h.schema.dims + (length h.schema.columns - h.schema.dims) = omega arith in e) counts;
-        some_next = omega arith;
-        last_next = last;
-        rows = fewer;
-        regions = some;
-        root = some_root;
-        levels = levels;
-      };
-      regions = few;
-      root = root;
-      names = (name, columns);
+      state = flag_small unclean;
+      counts = subst (λ (n : ℕ). AreCounts n schema.dims schema.page_rows)
+          (let e : length schema.columns ≡ schema.dims + (length schema.columns - schema.dims) = omega arith in e) counts;
+      some_next = omega arith;
+      last_next = last;
+      rows = fewer;
+      regions = some;
+      root = some_root;
+      levels = are;
     }
 
 -- a header that a page can hold, but unclean
@@ -114,12 +104,11 @@ unclean_of h is = record {
 }
 
 pub closed_of : (numbers : List ℕ) (entries : List Entry) (a b d : StoreFacts) (h : Header) → AreKept (0 ∷ numbers) a b → HasDirectory numbers entries h.root b.pages → KeepsBut (0 ∷ []) b d → IsHonest b
-    → slice_get d.pages 0 ≡ Some (header_page h) → h.unclean ≡ false → h.regions ≡ length entries → 1 ≤ length entries → length entries < 2 ^ 32 → h.rows < h.next → h.next ≤ 16777216 → h.root < 2 ^ 32
-    → h.levels ≡ levels_for h.regions → IsName h.schema.name → AllByRecursion IsName h.schema.columns → IsClosed h.schema h.next h.rows numbers entries a d
-closed_of numbers entries a b d h kept directory k honest spelled clean regions some few fewer last root levels name columns = record {
+    → slice_get d.pages 0 ≡ Some (header_page h) → h.unclean ≡ false → h.regions ≡ length entries → IsHeader h → IsClosed h.schema h.next h.rows numbers entries a d
+closed_of numbers entries a b d h kept directory k honest spelled clean regions is = record {
   header = h;
   spelled = spelled;
-  in_range = header_in_range h fewer last (omega arith) (omega arith) (root_some directory.chain numbers h.root (not_first (page_count b) directory.chain numbers directory.own) directory.root_is) root levels name columns;
+  in_range = is;
   clean = clean;
   schema_is = refl;
   next_is = refl;

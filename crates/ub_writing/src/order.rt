@@ -8,7 +8,7 @@
 // and a sync. So the header that lasts names a directory that lasts.
 
 ghost use Rattle.std.specs.Prelude.{ℕ, List, ◌≡◌, ◌⊎◌, ◌+◌, ◌^◌, ◌<◌, ◌≤◌, [], ◌∷◌, length, slice_get, Some, IfErr, OnOk, OnErr, IsErrOf};
-ghost use Rattle.ub_page.specs.Header.{header_page};
+ghost use Rattle.ub_page.specs.Header.{AreInRange, IsHeader, header_page, numbers_of};
 ghost use Rattle.ub_page.specs.Region.{region_on, region_page};
 ghost use Rattle.ub_store.specs.Facts.{page_count, IsHonest, WritesAt};
 ghost use Rattle.ub_store.specs.View.{SameTrace};
@@ -16,11 +16,12 @@ ghost use Rattle.ub_directory.specs.Chain.{levels_for, AreOwn};
 ghost use Rattle.ub_directory.specs.Writing.{KeepsBut, IsSaved, IsSaveFault, WritesStore, put_store};
 ghost use Rattle.ub_writing.specs.Closing.{IsClosed, IsUnclosed};
 ghost use Rattle.ub_writing.specs.Creation.{IsLaidOut, IsLayoutFault, IsUncreated, empty_region};
-ghost use Rattle.ub_writing.specs.Marks.{Marks};
+ghost use Rattle.ub_table.specs.declared.schema.Schema.{Schema};
+ghost use Rattle.ub_writing.specs.Marks.{IsMarkOf, Marks};
 ghost use Rattle.ub_writing.specs.Puts.{Puts, PutsTwo};
 ghost use Rattle.ub_writing.specs.declared.mark.Mark.TheVariants.{Written};
 
-use crate::header::{first_header, tell_name, tell_names};
+use crate::header::first_header;
 use crate::mark::Mark;
 use ub_directory::{Directory, ORIGIN, levels_of};
 use ub_page::{Draft, Header, Page, write_header, write_region};
@@ -62,7 +63,7 @@ fn write_empty<'a>(schema: &Schema, draft: &'a mut Draft) -> &'a Page
     draft.page()
 }
 
-/// Puts two pages in their places, and before them the mark, where it is due.
+/// Puts two pages in their places, and before them the mark, where it is due: one of some table.
 ///
 /// Device comes where the store failed in this call, and NoPage where it has no such page.
 pub fn write_pages<S: PageStore>(
@@ -71,6 +72,7 @@ pub fn write_pages<S: PageStore>(
     first: (u32, &Page),
     second: (u32, &Page),
 ) -> Result<(), StoreFault>
+    requires { (schema : Schema) × IsMarkOf schema mark.old }
     ensures put { OnOk result (PutsTwo first.entry.0 first.entry.1.now second.entry.0
         second.entry.1.now pager.old.store pager.new.store) }
     ensures marks { Marks (first.entry.0 ∷ second.entry.0 ∷ []) mark.old mark.new pager.old.store
@@ -88,7 +90,7 @@ pub fn write_pages<S: PageStore>(
     write_page(pager, mark, second.0, second.1)
 }
 
-/// Puts a page in the place of that of this number, and before it the mark, where it is due.
+/// Puts a page in the place of that of this number, and before it the mark, where it is due: one of some table.
 ///
 /// Device comes where the store failed in this call, and NoPage where it has no such page.
 pub fn write_page<S: PageStore>(
@@ -97,6 +99,7 @@ pub fn write_page<S: PageStore>(
     n: u32,
     page: &Page,
 ) -> Result<(), StoreFault>
+    requires { (schema : Schema) × IsMarkOf schema mark.old }
     ensures put { OnOk result (Puts n page.now pager.old.store pager.new.store) }
     ensures marks { Marks (n ∷ []) mark.old mark.new pager.old.store pager.new.store }
     ensures marked { OnOk result (mark.new ≡ Written) }
@@ -140,8 +143,6 @@ pub fn write_table<S: PageStore>(
     ensures refused { IfErr result (IsSaveFault (levels_for (length directory.entries)) directory.chain
         pager.old.store) }
 {
-    tell_names(schema.columns());
-    tell_name(schema.name());
     let regions = directory.count();
     let root = directory.write(pager)?;
     let header = Header {
@@ -159,6 +160,8 @@ pub fn write_table<S: PageStore>(
 
 // Writes the header, once what was written before lasts.
 fn write_clean<S: PageStore>(pager: &mut Pager<S>, header: &Header) -> Result<(), StoreFault>
+    requires { AreInRange (numbers_of header.now) }
+    ensures header { IsHeader header.now }
     ensures written { IsHonest pager.old.store
         → OnOk result (slice_get pager.new.store.pages 0 ≡ Some (header_page header.now)) }
     ensures synced { OnOk result (pager.new.store.synced ≡ pager.new.store.pages) }
@@ -174,6 +177,8 @@ fn write_clean<S: PageStore>(pager: &mut Pager<S>, header: &Header) -> Result<()
 
 // Puts the page of a header in the first place.
 fn put_header<S: PageStore>(pager: &mut Pager<S>, header: &Header) -> Result<(), StoreFault>
+    requires { AreInRange (numbers_of header.now) }
+    ensures header { IsHeader header.now }
     ensures trace { SameTrace pager.old pager.new }
     ensures there { OnOk result (0 < page_count pager.old.store) }
     ensures missing { IsErrOf result StoreFault.NoPage → page_count pager.old.store ≤ 0 }

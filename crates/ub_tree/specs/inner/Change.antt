@@ -3,7 +3,7 @@ use Rattle.std.specs.Prelude.{IfSome, ◌≡◌, ◌+◌, ◌<◌, ◌≤◌, �
 use Rattle.std.specs.Bool.{nat_eq}
 use Rattle.std.specs.List.{AllByRecursion, IsDistinct, insert as insert_at}
 use Rattle.ub_region.specs.Regions.{split_region}
-use Rattle.ub_region.specs.Rows.{Halves}
+use Rattle.ub_region.specs.Rows.{Halves, split}
 use Rattle.ub_zaddr.specs.Address.{last_address}
 use Rattle.ub_tree.specs.Spans.{ArePlaces, first_keys}
 use Rattle.ub_store.specs.Facts.{IsHonest, IsPage, page_count}
@@ -141,6 +141,11 @@ IsSplitAt index p halves old new =
 -- what becomes of a region that begins with this key, of these rows
 abbrev pub split_of : Schema → Key → List Row → List Region
 split_of schema first rows = split_region schema.dims schema.page_rows (record { first = first; rows = rows })
+
+-- rows that can stand in place of those of the region of a seat: they make a region, or two, and the second has room there
+pub record CanStand (t : TreeView) (seat : SeatView) (rows : List Row) : Type 0 where
+  pub each : AllByRecursion (IsRegion t.schema) (split_of t.schema seat.first rows)
+  pub room : t.schema.page_rows < length rows → HasRoom seat.index (split t.schema.dims t.schema.page_rows rows).first t
 
 -- in place of the region at an index these
 abbrev pub regions_with : ℕ → List Region → List Region → List Region

@@ -4,7 +4,7 @@ use Rattle.std.proofs.lemmas.Result.{err_from_is_err_and}
 use Rattle.ub_store.specs.declared.fault.StoreFault.{StoreFault}
 use Rattle.ub_store.specs.Facts.{StoreFacts, zero_page, page_count}
 use Rattle.std.specs.Result.{is_ok}
-use Rattle.ub_directory.proofs.WriteFacts.{own_cut, own_push, add_fault, grows_same, grows_by, grows_may, then_done, then_put}
+use Rattle.ub_directory.proofs.WriteFacts.{own_cut, own_push, root_cut, root_push, add_fault, grows_same, grows_by, grows_may, then_done, then_put}
 use Rattle.ub_directory.proofs.writing.grow_chain.Goals as goal
 
 pub loop-pager-init : goal.loop-pager-init
@@ -13,6 +13,7 @@ loop-pager-init g c =
     rw items (record {
       within = omega (arith, length-take c.args.levels c.args.chain.now.items);
       own = λ numbers own. own_cut (page_count c.args.pager.now.store) c.args.levels c.args.chain.now.items numbers own;
+      root = λ root some. root_cut c.args.levels c.args.chain.now.items root some;
       least = omega (arith, length-take c.args.levels c.args.chain.now.items);
       pages = omega (arith, length-take c.args.levels c.args.chain.now.items);
       same = refl;
@@ -39,6 +40,7 @@ loop-pager-preserved g c =
     record {
       within = (let more = c.loop-pager-test.true in omega arith);
       own = λ numbers own. rw (items, c.in_ok-n.ensures.number, added.0) (own_push (page_count b) c.loop-pager.chain.items numbers (inv.own numbers own));
+      root = λ root some. rw items (root_push c.loop-pager.chain.items c.in_ok-n.n (inv.root root some));
       least = (let least = inv.least in omega arith);
       pages = (let more = c.loop-pager-test.true in let least = inv.least in let pages = inv.pages in let count = added.0 in omega arith);
       same = then_done a b d inv.same c.in_ok-n.ensures.effect.frame;

@@ -1,6 +1,6 @@
-use Rattle.std.proofs.Common.{◌≡◌, ◌∙◌, ap, true, Ok, Result}
+use Rattle.std.proofs.Common.{◌≡◌, ◌<◌, ◌^◌, ◌∙◌, ap, arith, true, Ok, Result}
 use Rattle.ub_page.specs.Directory.{Listing, directory_page}
-use Rattle.ub_page.proofs.DirectoryFacts.{parts, not_refused, padding_fault}
+use Rattle.ub_page.proofs.DirectoryFacts.{is_listing, parts, not_refused, padding_fault}
 use Rattle.ub_page.proofs.directory.read_directory.Goals as goal
 use Rattle.ub_table.specs.declared.fault.PageFault.{PageFault}
 
@@ -30,3 +30,12 @@ returns-clause-exact c = λ listing is e.
     let same : c.in_ok-directory.directory ≡ listing = c.in_ok-directory.ensures.listing.0 ∙ on.on in
     let answer : Listing → Result Listing PageFault = λ d. Ok d in
     ap answer same
+
+pub write_directory-requires : goal.write_directory-requires
+write_directory-requires c =
+    let read = c.in_ok-directory.ensures in
+    let small : c.next.result < 2 ^ 32 = (let fits = c.next.type_inv in omega arith) in (
+      c.args.schema.now.dims,
+      rw (c.entries.ensures.entries, c.next.ensures)
+          (is_listing c.in_ok-directory.directory c.args.page.now c.args.schema.now.dims read.listing.0 read.listing.2 read.entries.0 read.entries.1 (rw c.next.ensures at small)),
+    )

@@ -4,3 +4,6 @@ use Rattle.std.proofs.Common.{◌∙◌}
 
 pub returns : goal.returns
 returns c = c.write_entries.ensures ∙ spelled c.args.entries.now c.args.next
+
+pub write_entries-requires : goal.write_entries-requires
+write_entries-requires c = c.requires.1.few

@@ -9,13 +9,13 @@ pub returns-then-not-is_same-clause-refused : goal.returns-then-not-is_same-clau
 returns-then-not-is_same-clause-refused c =
     let read = c.in_ok-header.ensures in
     padding_fault c.in_ok-header.header c.args.page.now read.numbers.0 read.numbers.1 read.names.0 read.names.1 read.clean.0 read.clean.1 read.clean.2
-    (λ e. let yes : c.is_same.result ≡ true = c.is_same.ensures.1 (c.page.ensures ∙ c.write_header.ensures ∙ e) in let no = c.if-not-is_same.true in cc)
+    (λ e. let yes : c.is_same.result ≡ true = c.is_same.ensures.1 (c.page.ensures ∙ c.write_header.ensures.page ∙ e) in let no = c.if-not-is_same.true in cc)
 
 pub returns-then-not-is_same-clause-exact : goal.returns-then-not-is_same-clause-exact
 returns-then-not-is_same-clause-exact c = λ h is clean e.
     let read = c.in_ok-header.ensures in
     let fault = padding_fault c.in_ok-header.header c.args.page.now read.numbers.0 read.numbers.1 read.names.0 read.names.1 read.clean.0 read.clean.1 read.clean.2
-    (λ e. let yes : c.is_same.result ≡ true = c.is_same.ensures.1 (c.page.ensures ∙ c.write_header.ensures ∙ e) in let no = c.if-not-is_same.true in cc) in
+    (λ e. let yes : c.is_same.result ≡ true = c.is_same.ensures.1 (c.page.ensures ∙ c.write_header.ensures.page ∙ e) in let no = c.if-not-is_same.true in cc) in
     absurd (fault.4 h is e)
 
 pub returns-clause-found : goal.returns-clause-found
@@ -23,7 +23,7 @@ returns-clause-found c =
     let read = c.in_ok-header.ensures in (
       is_header c.in_ok-header.header c.args.page.now read.numbers.0 read.numbers.1 read.small.0 read.small.1 read.names.0 read.names.1 read.clean.2,
       read.clean.1,
-      sym (sym (c.page.ensures ∙ c.write_header.ensures) ∙ c.is_same.ensures.0 c.if-not-is_same.false),
+      sym (sym (c.page.ensures ∙ c.write_header.ensures.page) ∙ c.is_same.ensures.0 c.if-not-is_same.false),
     )
 
 pub returns-clause-exact : goal.returns-clause-exact
@@ -31,3 +31,6 @@ returns-clause-exact c = λ h is clean e.
     let read = c.in_ok-header.ensures in
     let on = parts h c.args.page.now is e in
     (refl, same c.in_ok-header.header h (read.numbers.0 ∙ on.numbers) (read.names.0 ∙ on.name) (read.names.1 ∙ on.columns) (read.clean.1 ∙ sym clean))
+
+pub write_header-requires : goal.write_header-requires
+write_header-requires c = let read = c.in_ok-header.ensures in rw read.numbers.0 read.numbers.1

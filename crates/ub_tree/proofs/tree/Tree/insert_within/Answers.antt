@@ -11,7 +11,7 @@ use Rattle.ub_tree.proofs.HoldingFacts.{key_is_there, key_isnt_there, next_key, 
 use Rattle.ub_tree.specs.Tree.{known_pages, tree_view}
 use Rattle.ub_tree.proofs.CallFacts.{entries_are, same_seat, same_there, seated}
 use Rattle.ub_tree.proofs.TreeFacts.{entries_back, length-placed, seat_placed}
-use Rattle.ub_tree.proofs.GrowFacts.{IsReady, ready, room_ready, grown}
+use Rattle.ub_tree.proofs.GrowFacts.{IsReady, ready, stand_ready, grown}
 use Rattle.ub_tree.proofs.WriteFacts.{counted_anew, left_by, searched_by, then_changed, unchanged}
 use Rattle.ub_tree.specs.View.{TreeView}
 use Rattle.ub_region.specs.Regions.{index_holding}
@@ -110,8 +110,8 @@ returns-clause-inserted g c =
     c.in_ok-store_with.ensures.effect.marked.marked
     (ap (λ (v : TreeView). record v { next = v.next + 1; rows = v.rows + 1 }) c.self-2.view_is) sound)
 
-pub store_with-requires-clause-room : goal.store_with-requires-clause-room
-store_with-requires-clause-room g c = λ over.
+pub store_with-requires-clause-rows : goal.store_with-requires-clause-rows
+store_with-requires-clause-rows g c =
     let t = c.self.inside in
     let a = c.args.self.now in
     let b = c.read_at.new.self in
@@ -139,7 +139,7 @@ store_with-requires-clause-room g c = λ over.
     let keys : c.keys.result.now ≡ keys_of b.schema.dims rows = c.keys.ensures.keys ∙ ap (λ (d : ℕ). keys_of d rows) of_room in
     let none : has_key b.schema.dims c.key-key.result rows ≡ false =
     sym (any_key b.schema.dims c.key-key.result rows) ∙ ap (λ (ks : List Key). list_any (is_same c.key-key.result) ks) (sym keys) ∙ sym c.has_key.ensures ∙ c.if-has_key.false in
-    room_ready b row c.in_ok-seat.seat.index rows (insert_row b.schema.dims row rows) is_ready places are (rw (c.key-key.ensures, dims) at none) refl over
+    stand_ready b c.in_ok-seat.seat row rows (insert_row b.schema.dims row rows) is_ready places are (rw (c.key-key.ensures, dims) at none) (same_seat a b c.in_ok-seat.seat same c.in_ok-seat.ensures.seat)
 
 pub returns-then-has_key-clause-effect : goal.returns-then-has_key-clause-effect
 returns-then-has_key-clause-effect g c =

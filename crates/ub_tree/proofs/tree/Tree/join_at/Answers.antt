@@ -61,3 +61,7 @@ returns-clause-same g c =
     joined_at c.args.seat.now.index c.args.self.now c.prepare_drop.new.self c.rewrite.new.self c.forget.new.self c.in_ok-dropping.dropping.index c.in_ok-dropping.ensures.effect.same
     (ap (λ (d : DroppingView). d.index) c.in_ok-dropping.ensures.dropping ∙ c.requires.next.1)
     c.in_ok-rewrite.ensures.same c.in_ok-rewrite.ensures.effect.entries c.in_ok-rewrite.ensures.effect.kept c.forget.ensures.same
+
+pub rewrite-requires-clause-region : goal.rewrite-requires-clause-region
+rewrite-requires-clause-region g c =
+    subst (λ (v : TreeView). IsRegion v.schema (record { first = c.args.seat.now.first; rows = c.args.rows.now })) (sym c.in_ok-dropping.ensures.effect.same) c.requires.region

@@ -73,3 +73,6 @@ returns-in-Err-clause-faults g c =
     let t = c.self.inside in
     let page : c.page.result < length t.pager.store.pages = rw c.page.ensures (rw (← c.self.view_is) at c.requires.1) in
     ap (λ (f : StoreFault). Store f) (only_device {U = Unit {0}} c.in-Err.fault c.in-Err.ensures.faults (λ no_page. past_page (length t.pager.store.pages) c.page.result page (c.in-Err.ensures.missing no_page)))
+
+pub write_page-requires : goal.write_page-requires
+write_page-requires g c = (c.self.inside.schema, c.self.invariant.mark_is)

@@ -1,11 +1,12 @@
-use Rattle.std.proofs.Common.{◌≡◌, ◌<◌, ◌-◌, ◌^◌, ◌∙◌, ap, sym, subst, length, arith, true, false, refl, inl, inr, Ok, Err, Bool, ℕ, Some, slice_get}
-use Rattle.ub_region.proofs.Laws.{length-remove_row}
+use Rattle.std.proofs.Common.{◌≡◌, ◌<◌, ◌-◌, ◌^◌, ◌∙◌, ap, sym, subst, length, arith, true, false, refl, inl, inr, map, Ok, Err, Bool, ℕ, Some, slice_get}
 use Rattle.ub_region.specs.Rows.{has_key, remove_row}
 use Rattle.ub_table.specs.declared.fault.PageFault.TheVariants.{BadCount}
 use Rattle.ub_tree.specs.declared.fault.TreeFault.TheVariants.{Page}
 use Rattle.ub_tree.specs.Effects.{Changes}
 use Rattle.ub_store.specs.Facts.{IsHonest}
-use Rattle.ub_tree.specs.Placed.{Placed}
+use Rattle.ub_tree.proofs.RoomFacts.{rows_without}
+use Rattle.ub_tree.specs.inner.Change.{AreRowsAt}
+use Rattle.ub_tree.specs.Placed.{Placed, entry_of}
 use Rattle.ub_tree.specs.Tree.{known_pages, tree_view}
 use Rattle.ub_tree.specs.View.{TreeView}
 use Rattle.ub_tree.proofs.ShrinkFacts.{holder, none_removed, some_counted, shrunk}
@@ -78,12 +79,12 @@ returns-clause-effect g c =
     counted_anew {T = Unit {0}} {U = Bool} tt _ c.args.self.now mid d mid.placed (mid.rows - 1) mid.next (ap (λ (v : TreeView). record v { rows = v.rows - 1 }) c.self-2.view_is)
     (then_changed {T = Unit {0}} _ c.args.self.now c.rows_at.new.self mid (c.in_ok-rows_at.ensures.effect.same ∙ c.in_ok-seat.ensures.effect.same) c.in_ok-settle.ensures.effect)
 
-pub settle-requires-clause-few : goal.settle-requires-clause-few
-settle-requires-clause-few g c =
-    let less = length-remove_row c.shape.result c.args.key.now c.rows_at.new.rows in
-    let same = ap (λ (v : TreeView). v.schema.page_rows) c.in_ok-rows_at.ensures.effect.same in
-    let few = c.in_ok-rows_at.ensures.few in
-    rw c.remove.ensures.rows (omega arith)
+pub settle-requires-clause-rows : goal.settle-requires-clause-rows
+settle-requires-clause-rows g c =
+    let b = c.rows_at.new.self in
+    let dims : c.shape.result ≡ b.schema.dims = c.shape.ensures ∙ ap (λ (v : TreeView). v.schema.dims) c.self.view_is in
+    let are = subst (λ (v : TreeView). AreRowsAt v.schema (map entry_of v.placed) c.in_ok-seat.seat.index c.rows_at.new.rows) (sym c.in_ok-rows_at.ensures.effect.same) c.in_ok-rows_at.ensures.at in
+    rw (c.remove.ensures.rows, dims) (rows_without b.schema (map entry_of b.placed) c.in_ok-seat.seat.index c.args.key.now c.rows_at.new.rows are)
 
 pub returns-clause-removed : goal.returns-clause-removed
 returns-clause-removed g c =

@@ -1,10 +1,13 @@
-use Rattle.std.proofs.Common.{◌≡◌, ◌-◌, ◌/◌, ◌∙◌, ℕ, inl, inr, refl, ap, sym, subst, arith, length, nat_lt, true, false, OnOk}
+use Rattle.std.proofs.Common.{◌≡◌, ◌-◌, ◌/◌, ◌∙◌, ℕ, inl, inr, refl, ap, sym, subst, arith, length, map, nat_lt, true, false, IfErr, OnOk}
 use Rattle.std.specs.List.{AllByRecursion}
 use Rattle.ub_region.specs.Joins.{put_rows}
 use Rattle.ub_table.specs.Region.{IsRegion}
-use Rattle.ub_tree.specs.inner.Change.{IsStored}
+use Rattle.ub_tree.specs.inner.Change.{AreRowsAt, IsStored}
+use Rattle.ub_tree.specs.Placed.{entry_of}
+use Rattle.ub_tree.specs.Removal.{IsRemovalFault}
 use Rattle.ub_tree.specs.View.{TreeView, regions}
 use Rattle.ub_tree.proofs.ChangedFacts.{taken_alone, taken_joined}
+use Rattle.ub_tree.proofs.RoomFacts.{region_at}
 use Rattle.ub_tree.proofs.ShrinkFacts.{settled_large, settled_alone, settled_before}
 use Rattle.ub_tree.proofs.TreeFacts.{seat_within}
 use Rattle.ub_tree.proofs.WriteFacts.{changed_by, searched_by, then_changed}
@@ -77,3 +80,41 @@ pub returns-clause-same : goal.returns-clause-same
 returns-clause-same g c =
     taken_alone c.rewrite-2.result c.args.self.now c.join_before.new.self c.rewrite-2.new.self (c.in_ok-before.ensures.effect.same ∙ c.in_ok-next.ensures.effect.same) c.args.seat.now.index
     c.rewrite-2.ensures.same c.rewrite-2.ensures.effect
+
+pub rewrite-requires-clause-region : goal.rewrite-requires-clause-region
+rewrite-requires-clause-region g c = rw c.as_slice.ensures.rows (region_at c.args.self.now c.args.seat.now c.args.room.now.rows c.requires.seat.0 c.requires.rows)
+
+pub join_at-requires-clause-region : goal.join_at-requires-clause-region
+join_at-requires-clause-region g c =
+    let good = rw c.in-Some.is at c.in_ok-next.ensures.rows in
+    rw c.as_slice-in-Some.ensures.rows
+    (subst (λ (v : TreeView). IsRegion v.schema (record { first = c.args.seat.now.first; rows = c.join_next.new.room.rows })) (sym c.in_ok-next.ensures.effect.same) good)
+
+pub join_before-requires-clause-rows : goal.join_before-requires-clause-rows
+join_before-requires-clause-rows g c =
+    let index = c.args.seat.now.index in
+    let still = rw c.in_default.is at c.in_ok-next.ensures.rows in
+    rw still (subst (λ (v : TreeView). AreRowsAt v.schema (map entry_of v.placed) index c.args.room.now.rows) (sym c.in_ok-next.ensures.effect.same) c.requires.rows)
+
+pub join_at-requires-in-Some-2-clause-region : goal.join_at-requires-in-Some-2-clause-region
+join_at-requires-in-Some-2-clause-region g c =
+    let good = rw c.in-Some-2.is at c.in_ok-before.ensures.rows in
+    rw c.as_slice-in-Some-2.ensures.rows
+    (subst (λ (v : TreeView). IsRegion v.schema (record { first = c.in-Some-2.before.first; rows = c.join_before.new.room.rows })) (sym c.in_ok-before.ensures.effect.same) good)
+
+pub rewrite-requires-2-clause-region : goal.rewrite-requires-2-clause-region
+rewrite-requires-2-clause-region g c =
+    let same = c.in_ok-before.ensures.effect.same ∙ c.in_ok-next.ensures.effect.same in
+    let still = rw c.in_default.is at c.in_ok-next.ensures.rows in
+    let stays = rw c.in_default-2.is at c.in_ok-before.ensures.rows in
+    let good = region_at c.args.self.now c.args.seat.now c.args.room.now.rows c.requires.seat.0 c.requires.rows in
+    rw (c.as_slice-2.ensures.rows, stays, still)
+    (subst (λ (v : TreeView). IsRegion v.schema (record { first = c.args.seat.now.first; rows = c.args.room.now.rows })) (sym same) good)
+
+pub returns-in-Some-clause-faults : goal.returns-in-Some-clause-faults
+returns-in-Some-clause-faults g c =
+    subst (λ (v : TreeView). IfErr c.join_at.result (IsRemovalFault v)) c.in_ok-next.ensures.effect.same c.join_at.ensures.faults
+
+pub returns-in-Some-2-clause-faults : goal.returns-in-Some-2-clause-faults
+returns-in-Some-2-clause-faults g c =
+    subst (λ (v : TreeView). IfErr c.join_at-in-Some-2.result (IsRemovalFault v)) (c.in_ok-before.ensures.effect.same ∙ c.in_ok-next.ensures.effect.same) c.join_at-in-Some-2.ensures.faults

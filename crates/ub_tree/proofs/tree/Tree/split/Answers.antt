@@ -1,9 +1,10 @@
-use Rattle.std.proofs.Common.{◌≡◌, ◌<◌, ◌+◌, ◌∙◌, ◌∷◌, [], List, true, Some, Err, ap, subst, refl, arith, length, slice_get, rules}
+use Rattle.std.proofs.Common.{◌≡◌, ◌<◌, ◌+◌, ◌∙◌, ◌∷◌, [], List, true, Some, Err, ap, subst, sym, refl, arith, length, slice_get, rules}
 use Rattle.std.specs.List.{insert}
 use Rattle.ub_directory.specs.View.{AddingView}
 use Rattle.ub_store.specs.Facts.{StoreFacts}
 use Rattle.ub_store.specs.View.{PagerView}
 use Rattle.ub_page.specs.declared.entries.Entry.{Entry}
+use Rattle.ub_table.specs.Region.{IsFirst, IsRegion}
 use Rattle.ub_tree.specs.inner.Change.{placed_with}
 use Rattle.ub_tree.specs.Effects.{Changes}
 use Rattle.ub_tree.specs.Placed.{Placed}
@@ -51,8 +52,8 @@ returns-in-Ok-clause-written g c =
     let grown = ready_stored t.schema t.directory.entries t.directory.chain t.next t.rows (is_written t.mark) t.is_failed t.pager c.prepare_add.new.pager c.add_page.new.pager AddingView c.in_ok-adding.adding c.in_ok-adding.ensures.effect c.in_ok-number.ensures.added c.in_ok-number.ensures.flushed c.in_ok-number.ensures.left c.in_ok-number.ensures.trace stored in
     let fresh = ready_fresh t.schema t.directory.entries t.directory.chain t.next t.rows (is_written t.mark) t.is_failed t.pager c.prepare_add.new.pager c.add_page.new.pager AddingView c.in_ok-adding.adding c.in_ok-adding.ensures.effect c.in_ok-number.ensures.added c.in_ok-number.ensures.flushed c.in_ok-number.ensures.left c.in_ok-number.ensures.trace number c.in_ok-number.ensures.number stored in
     let both = halved t.schema t.directory.entries t.directory.chain t.next t.rows (is_written t.mark) t.is_failed c.add_page.new.pager c.write_pages.new.pager c.args.seat.now.index e x halves.left.now halves.right.now
-    c.page-3.result.now c.page.result.now at (c.page-3.ensures ∙ c.write_region.ensures.page) (rw c.page-3.ensures c.write_region.ensures.reads_back)
-    (c.page.ensures ∙ c.write_region-2.ensures.page) (rw c.page.ensures c.write_region-2.ensures.reads_back)
+    c.page-3.result.now c.page.result.now at (c.page-3.ensures ∙ c.write_region.ensures.page) (λ _. rw c.page-3.ensures c.write_region.ensures.reads_back)
+    (c.page.ensures ∙ c.write_region-2.ensures.page) (λ _. rw c.page.ensures c.write_region-2.ensures.reads_back)
     c.in-Ok.ensures.put (ap (λ (s : StoreFacts). s.honest) c.in-Ok.ensures.effect.same) p grown.0 fresh (ap (λ (ps : List Placed). slice_get ps c.args.seat.now.index) grown.1 ∙ there) good_left good_right in
     (both.0, (number, both.1 ∙ ap (λ (ps : List Placed). placed_with c.args.seat.now.index (record { page = p.page; region = record { first = p.region.first; rows = halves.left.now } } ∷ record { page = number; region = record { first = halves.first; rows = halves.right.now } } ∷ []) ps) grown.1)))
 
@@ -141,4 +142,29 @@ returns-in-Ok-clause-same g c =
       full = λ full. entries_grow t.schema t.directory.entries t.directory.chain t.next t.rows (is_written t.mark) true t.is_failed t.is_failed t.pager c.write_pages.new.pager c.args.seat.now.index c.args.halves.now.first number
           (c.in_ok-number.ensures.number ∙ same) (omega arith);
       spare = λ spare. absurd (omega arith);
+    })
+
+pub write_region-requires : goal.write_region-requires
+write_region-requires g c =
+    rw c.first.ensures (subst (λ (v : TreeView). IsRegion v.schema (record { first = c.args.seat.now.first; rows = c.args.halves.now.left.now })) (sym c.self.view_is) c.requires.left)
+
+pub write_region-requires-2 : goal.write_region-requires-2
+write_region-requires-2 g c =
+    subst (λ (v : TreeView). IsRegion v.schema (record { first = c.args.halves.now.first; rows = c.args.halves.now.right.now })) (sym c.self.view_is) c.requires.right
+
+pub write_pages-requires : goal.write_pages-requires
+write_pages-requires g c = (c.self.inside.schema, c.self.invariant.mark_is)
+
+pub commit_add-requires-clause-entry : goal.commit_add-requires-clause-entry
+commit_add-requires-clause-entry g c =
+    let t = c.self.inside in
+    let first = subst (λ (v : TreeView). IsFirst v.schema.dims c.args.halves.now.first) (sym c.self.view_is) c.requires.right.first in
+    let there = subst (λ (v : TreeView). c.args.seat.now.page < length v.store.pages) (sym c.self.view_is) c.requires.seat.1 in
+    let count = ap (λ (p : PagerView). length p.store.pages) c.in_ok-adding.ensures.effect.same in
+    let number = c.in_ok-number.ensures.number in
+    rw (c.in_ok-adding.ensures.adding, c.in_ok-adding.ensures.same) (record {
+      z = rw c.self.invariant.last_is first.0;
+      number = first.1;
+      some_page = omega arith;
+      page = search rules;
     })

@@ -4,26 +4,42 @@ use Rattle.std.specs.List.{insert}
 use Rattle.ub_page.specs.Bytes.{padded}
 use Rattle.ub_page.specs.Region.{RegionView, region_page}
 use Rattle.ub_region.proofs.Laws.{length-insert_row}
-use Rattle.ub_region.specs.Rows.{insert_row, split}
-use Rattle.ub_table.specs.Region.{keys_of}
+use Rattle.ub_region.specs.Rows.{insert_row}
+use Rattle.ub_table.specs.Region.{IsRegion, keys_of}
 use Rattle.ub_table.specs.declared.row.Key.{Key}
 use Rattle.ub_table.specs.declared.row.Row.{Row}
 use Rattle.ub_tree.proofs.GrowFacts.{one_region, one_stored}
-use Rattle.ub_tree.specs.inner.Change.{HasRoom}
+use Rattle.ub_tree.proofs.RoomFacts.{one_stands}
+use Rattle.ub_tree.specs.inner.Change.{CanStand}
 use Rattle.ub_tree.specs.View.{TreeView}
 use Rattle.ub_tree.proofs.tree.Tree.store_with.Goals as goal
 
-pub split_with-requires-clause-room : goal.split_with-requires-clause-room
-split_with-requires-clause-room g c =
+pub split_with-requires-clause-rows : goal.split_with-requires-clause-rows
+split_with-requires-clause-rows g c =
     let b = c.args.self.now in
     let row = c.args.row.now in
     let rows = c.args.room.now.region.region.rows in
     let keys = c.keys.ensures.keys ∙ ap (λ (d : ℕ). keys_of d rows) c.requires.read.dims in
     let made : insert_row b.schema.dims row rows ≡ insert rows c.index_in-index.result row = c.index_in-index.ensures.index b.schema.dims row rows keys c.requires.key in
+    subst (λ (rs : List Row). CanStand b c.args.seat.now rs) made c.requires.rows
+
+pub write-requires : goal.write-requires
+write-requires g c =
+    let b = c.args.self.now in
+    let row = c.args.row.now in
+    let rows = c.args.room.now.region.region.rows in
+    let new = insert_row b.schema.dims row rows in
+    let keys = c.keys.ensures.keys ∙ ap (λ (d : ℕ). keys_of d rows) c.requires.read.dims in
+    let made : new ≡ insert rows c.index_in-index.result row = c.index_in-index.ensures.index b.schema.dims row rows keys c.requires.key in
     let same : c.page_rows.result ≡ b.schema.page_rows = c.page_rows.ensures.page_rows ∙ ap (λ (v : TreeView). v.schema.page_rows) c.self.view_is in
-    let full : length rows ≡ b.schema.page_rows = sym c.len.ensures.len ∙ c.if-len-page_rows.true ∙ same in
-    let room = c.requires.room (let more = length-insert_row b.schema.dims row rows in omega arith) in
-    subst (λ (rs : List Row). HasRoom c.args.seat.now.index (split b.schema.dims b.schema.page_rows rs).first b) made room
+    let few = c.requires.read.few in
+    let less : length rows < b.schema.page_rows = (let long = c.len.ensures.len in let other = c.if-len-page_rows.false in omega arith) in
+    let region : c.insert_at.new.self.region ≡ record { first = c.args.seat.now.first; rows = new } =
+    ap (λ (v : RegionView). v.region) c.insert_at.ensures
+    ∙ ap (λ (k : Key). record { first = k; rows = insert rows c.index_in-index.result row }) c.requires.read.first
+    ∙ ap (λ (rs : List Row). record { first = c.args.seat.now.first; rows = rs }) (sym made) in
+    let good = one_stands b c.args.seat.now new c.requires.rows (let more = length-insert_row b.schema.dims row rows in omega arith) in
+    rw region (subst (λ (v : TreeView). IsRegion v.schema (record { first = c.args.seat.now.first; rows = new })) (sym c.self.view_is) good)
 
 pub returns-clause-written : goal.returns-clause-written
 returns-clause-written g c = λ stored p there all.
