@@ -7,7 +7,7 @@ use ub_table::PageFault;
 use ub_tree::TreeFault;
 
 // Faults, and how they are displayed.
-static SHOWN: [(LoadFault, &str); 23] = [
+static SHOWN: [(LoadFault, &str); 24] = [
     (LoadFault::NoHeader, "NoHeader"),
     (LoadFault::BadName(0), "BadName table"),
     (LoadFault::BadName(3), "BadName column 3"),
@@ -47,6 +47,13 @@ static SHOWN: [(LoadFault, &str); 23] = [
             fault: PageFault::WrongKind,
         }),
         "WrongKind page 7",
+    ),
+    (
+        LoadFault::Tree(TreeFault::Page {
+            page: 7,
+            fault: PageFault::OldFormat,
+        }),
+        "OldFormat page 7",
     ),
     (
         LoadFault::Tree(TreeFault::Page {

@@ -7,7 +7,7 @@ use Rattle.ub_page.specs.Entries.{AreAscending, IsEntry, entry_fields, entry_byt
 use Rattle.ub_page.specs.declared.entries.Entry.{Entry}
 use Rattle.ub_page.proofs.PageLaws.{fields_read, length-entries_on, entries_next, short_ascending, layout_back, joined}
 use Rattle.ub_table.specs.Keys.{IsBefore}
-use Rattle.ub_table.specs.declared.fault.PageFault.TheVariants.{WrongKind, Unclean, BadCount, BadName, BadRow, BadOrder, OutOfRegion, BadPadding}
+use Rattle.ub_table.specs.declared.fault.PageFault.TheVariants.{WrongKind, OldFormat, Unclean, BadCount, BadName, BadRow, BadOrder, OutOfRegion, BadPadding}
 use Rattle.ub_table.specs.declared.fault.PageFault.{PageFault}
 use Rattle.ub_index_page.specs.Index.{Node, IsNode, index_page, head_on, node_on, IsIndexKind, HasHead, HasNodeEntries, HasNodeOrder, IsBlankBehind, IsHeadFault, IsIndexFault}
 use Rattle.ub_index_page.specs.declared.index.Head.{Head}
@@ -56,6 +56,7 @@ not_refused node page last small is same BadCount fault =
 not_refused node page last small is same BadRow fault = fault.2 (rw (ap (λ (n : Node). n.entries) (parts node page last small is same).on) is.entries)
 not_refused node page last small is same BadOrder fault = fault.3 (rw (ap (λ (n : Node). n.entries) (parts node page last small is same).on) is.ascending)
 not_refused node page last small is same BadPadding fault = fault.4 node is same
+not_refused node page last small is same OldFormat fault = fault
 not_refused node page last small is same Unclean fault = fault
 not_refused node page last small is same BadName fault = fault
 not_refused node page last small is same OutOfRegion fault = fault
@@ -67,6 +68,7 @@ head_fault last page BadCount fault = fault
 head_fault last page BadRow fault = absurd fault
 head_fault last page BadOrder fault = absurd fault
 head_fault last page BadPadding fault = absurd fault
+head_fault last page OldFormat fault = fault
 head_fault last page Unclean fault = fault
 head_fault last page BadName fault = fault
 head_fault last page OutOfRegion fault = fault

@@ -6,7 +6,7 @@ use Rattle.ub_page.specs.Directory.{Listing, IsListing, directory_page, listing_
 use Rattle.ub_page.specs.Entries.{AreAscending, entries_page}
 use Rattle.ub_page.specs.declared.entries.Entry.{Entry}
 use Rattle.ub_page.proofs.EntryFacts.{small_address, fields_read, length-entries_on}
-use Rattle.ub_table.specs.declared.fault.PageFault.TheVariants.{WrongKind, Unclean, BadCount, BadName, BadRow, BadOrder, OutOfRegion, BadPadding}
+use Rattle.ub_table.specs.declared.fault.PageFault.TheVariants.{WrongKind, OldFormat, Unclean, BadCount, BadName, BadRow, BadOrder, OutOfRegion, BadPadding}
 use Rattle.ub_table.specs.declared.fault.PageFault.{PageFault}
 
 pub record HasListing (listing : Listing) (page : List ℕ) : Type 0 where
@@ -36,6 +36,7 @@ not_refused listing page d few is same BadRow fault =
 not_refused listing page d few is same BadOrder fault =
     fault.3 (rw (ap (λ (l : Listing). l.entries) (parts listing page d few is same).on) is.ascending)
 not_refused listing page d few is same BadPadding fault = fault.4 listing is same
+not_refused listing page d few is same OldFormat fault = fault
 not_refused listing page d few is same Unclean fault = fault
 not_refused listing page d few is same BadName fault = fault
 not_refused listing page d few is same OutOfRegion fault = fault

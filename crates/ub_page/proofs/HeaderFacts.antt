@@ -12,7 +12,7 @@ use Rattle.ub_page.proofs.DraftFacts.{of_front}
 use Rattle.ub_table.proofs.Laws.{name_block, length-name}
 use Rattle.ub_table.specs.Block.{IsNameBlock}
 use Rattle.ub_table.specs.Name.{IsName}
-use Rattle.ub_table.specs.declared.fault.PageFault.TheVariants.{WrongKind, Unclean, BadCount, BadName, BadRow, BadOrder, OutOfRegion, BadPadding}
+use Rattle.ub_table.specs.declared.fault.PageFault.TheVariants.{WrongKind, OldFormat, Unclean, BadCount, BadName, BadRow, BadOrder, OutOfRegion, BadPadding}
 use Rattle.ub_table.specs.declared.fault.PageFault.{PageFault}
 use Rattle.ub_table.specs.declared.schema.Schema.{Schema}
 
@@ -220,6 +220,7 @@ not_refused h page is clean same Unclean fault =
 not_refused h page is clean same BadCount fault = fault.2 (rw (parts h page is same).numbers is.numbers)
 not_refused h page is clean same BadName fault = fault.3 (parts h page is same).names
 not_refused h page is clean same BadPadding fault = fault.4 h is same
+not_refused h page is clean same OldFormat fault = fault
 not_refused h page is clean same BadRow fault = fault
 not_refused h page is clean same BadOrder fault = fault
 not_refused h page is clean same OutOfRegion fault = fault

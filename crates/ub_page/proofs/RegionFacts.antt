@@ -15,7 +15,7 @@ use Rattle.ub_page.proofs.EntryFacts.{small_address}
 use Rattle.ub_page.proofs.BytesFacts.{length-number_bytes, read_at, layout_read, length-layout, AllFit}
 use Rattle.ub_table.specs.Keys.{AreKeysAscending}
 use Rattle.ub_table.specs.Region.{Region, measures_of, HasRest, IsRow, IsRegion, IsNumbered, IsFirst, AreFrom, keys_of}
-use Rattle.ub_table.specs.declared.fault.PageFault.TheVariants.{WrongKind, Unclean, BadCount, BadName, BadRow, BadOrder, OutOfRegion, BadPadding}
+use Rattle.ub_table.specs.declared.fault.PageFault.TheVariants.{WrongKind, OldFormat, Unclean, BadCount, BadName, BadRow, BadOrder, OutOfRegion, BadPadding}
 use Rattle.ub_table.specs.declared.fault.PageFault.{PageFault}
 use Rattle.ub_table.specs.declared.row.Row.{Row}
 use Rattle.ub_table.specs.declared.schema.Schema.{Schema}
@@ -271,6 +271,7 @@ not_refused schema region page is same BadOrder fault =
 not_refused schema region page is same OutOfRegion fault =
     fault.4 (subst (λ (r : Region). AreFrom r.first (keys_of schema.dims r.rows)) (sym (parts schema region page is same).on) is.within)
 not_refused schema region page is same BadPadding fault = fault.5 region is same
+not_refused schema region page is same OldFormat fault = fault
 not_refused schema region page is same Unclean fault = fault
 not_refused schema region page is same BadName fault = fault
 

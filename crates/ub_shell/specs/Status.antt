@@ -60,6 +60,7 @@ place_text row column = codes " row " ++ (decimal row ++ (codes " column " ++ (d
 
 abbrev pub page_fault_word : PageFault → List ℕ
 page_fault_word page.WrongKind = codes "WrongKind"
+page_fault_word page.OldFormat = codes "OldFormat"
 page_fault_word page.Unclean = codes "Unclean"
 page_fault_word page.BadCount = codes "BadCount"
 page_fault_word page.BadName = codes "BadName"

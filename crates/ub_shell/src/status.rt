@@ -94,6 +94,7 @@ fn page_fault_front(fault: PageFault) -> &'static str
 {
     match fault {
         PageFault::WrongKind => "! WrongKind page ",
+        PageFault::OldFormat => "! OldFormat page ",
         PageFault::Unclean => "! Unclean page ",
         PageFault::BadCount => "! BadCount page ",
         PageFault::BadName => "! BadName page ",

@@ -6,6 +6,9 @@ pub enum PageFault {
     /// The page is of another kind, or of a version that is not known.
     #[error("WrongKind")]
     WrongKind,
+    /// The page is a header of an older format. No reader answers it yet.
+    #[error("OldFormat")]
+    OldFormat,
     /// The table was not closed after its last change.
     #[error("Unclean")]
     Unclean,

@@ -22,7 +22,7 @@ use Rattle.ub_store.specs.View.{PagerView, pager_view, untouched}
 use Rattle.ub_table.proofs.Laws.{before_of, same_schema}
 use Rattle.ub_table.specs.Keys.{origin, are_ascending}
 use Rattle.ub_table.specs.Region.{IsRegion}
-use Rattle.ub_table.specs.declared.fault.PageFault.TheVariants.{WrongKind, Unclean, BadCount, BadName, BadRow, BadOrder, OutOfRegion, BadPadding}
+use Rattle.ub_table.specs.declared.fault.PageFault.TheVariants.{WrongKind, OldFormat, Unclean, BadCount, BadName, BadRow, BadOrder, OutOfRegion, BadPadding}
 use Rattle.ub_table.specs.declared.fault.PageFault.{PageFault}
 use Rattle.ub_table.specs.declared.row.Key.{Key}
 use Rattle.ub_table.specs.declared.schema.Schema.{Schema}
@@ -272,6 +272,7 @@ module _ (dims : ℕ) (few : dims ≤ 4) (pages : List (List ℕ)) where
     where
       by_fault : (fault : PageFault) → IsMisfit left entries f.listing fault → ⊥
       by_fault WrongKind m = m
+      by_fault OldFormat m = m
       by_fault Unclean m = m
       by_fault BadCount m = m f.part
       by_fault BadName m = m
@@ -363,6 +364,7 @@ module _ (old : StoreFacts) (honest : IsHonest old) (schema : Schema) (mark : Ha
   mark_fault BadCount h = absurd (h.1 mark_state)
   mark_fault BadName h = absurd (h.1 mark_state)
   mark_fault BadPadding h = absurd (h.1 mark_state)
+  mark_fault OldFormat h = absurd h
   mark_fault BadRow h = absurd h
   mark_fault BadOrder h = absurd h
   mark_fault OutOfRegion h = absurd h
