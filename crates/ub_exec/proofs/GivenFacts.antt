@@ -6,7 +6,7 @@ use Rattle.std.proofs.lemmas.List.Elements.{All-contains, All-from_recursion, Co
 use Rattle.std.proofs.lemmas.List.Sorted.{Contains-permutation, IsPermutation-refl, IsPermutation-sym}
 use Rattle.std.specs.List.{All, AllByRecursion}
 use Rattle.ub_exec.proofs.LedFacts.{IsLedBy, ahead}
-use Rattle.ub_exec.proofs.ReachedFacts.{along_chain, along_never, last_among, not_past, past_not}
+use Rattle.ub_planning.proofs.Laws.{along_chain, along_never, last_among, not_past, past_not}
 use Rattle.ub_planning.specs.Visits.{IsAlong, coordinates, is_past, last_of, lead_value}
 use Rattle.ub_query.proofs.Laws.{IsWhole, Rising, Rising-filter, Rising-one, all_at, all_from_contains, contains_filter, contains_from_filter, contains_here, groups_have_an_arrangement, numbers-chain, numbers-never, rows-rising, rows_fall_into_groups, selected_are_in_order, whole_groups}
 use Rattle.ub_query.specs.Cells.{Group, row_cell}

@@ -1,13 +1,13 @@
 -- What a sweep of groups has given and fetched, value by value, as lists alone.
 use Rattle.std.proofs.Common.{◌≡◌, ◌≢◌, ◌<◌, ◌≤◌, ◌∙◌, ℕ, zero, suc, Bool, List, [], ◌∷◌, ◌++◌, Option, Some, None, IfSome, Contains, IsPermutation, filter, length, map, take, inl, inr, refl, sym, ap, subst, arith}
 use Rattle.std.proofs.lemmas.Bool.{cases_lt}
-use Rattle.std.proofs.lemmas.List.{length-map, length-take-le, map-append, take-map, take-take}
+use Rattle.std.proofs.lemmas.List.{length-map, length-take, length-take-le, map-append, take-map, take-take}
 use Rattle.std.proofs.lemmas.List.Elements.{Contains-append_cases}
 use Rattle.std.specs.List.{AllByRecursion}
 use Rattle.ub_exec.proofs.GivenFacts.{AreGivenGroups, AreGivenGroups-none, AreGivenGroups-more, at, groups_led}
-use Rattle.ub_exec.proofs.GroupVisitFacts.{AreUpTo, StopsAt, group_lines}
+use Rattle.ub_exec.proofs.GroupVisitFacts.{group_lines}
 use Rattle.ub_exec.proofs.LedFacts.{IsLedBy}
-use Rattle.ub_exec.proofs.ReachedFacts.{along_chain, last_within, taken_few}
+use Rattle.ub_planning.proofs.Laws.{AreUpTo, StopsAt, along_chain, last_within}
 use Rattle.ub_planning.specs.Plan.{PlanView}
 use Rattle.ub_planning.specs.Visits.{Event, IsAlong, last_of, lead_value}
 use Rattle.ub_query.proofs.Laws.{all_at, all_from_contains, all_weaker}
@@ -99,7 +99,7 @@ pub lines_full : (schema : Schema) (q : Asked) (groups : List Group) (cells : Li
     → n ≤ length cells → n ≤ length groups
 lines_full schema q groups cells n is limit many =
     let long = ap length is ∙ length-map (limited q.limit groups) (λ group. map (group_cell schema q.group group) q.items) ∙ ap (λ (o : Option ℕ). length (limited o groups)) limit in
-    let few = taken_few n groups in
+    let few = length-take n groups in
     omega (arith, many, long, few)
 
 lines_short : (schema : Schema) (q : Asked) (limit : Option ℕ) (groups : List Group) (cells : List (List Cell)) → cells ≡ group_lines schema q (limited limit groups)

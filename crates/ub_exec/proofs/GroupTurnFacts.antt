@@ -7,16 +7,15 @@ use Rattle.ub_answer.specs.Shaped.{HaveOneWidth, IsShaped}
 use Rattle.ub_exec.proofs.FirstFacts.{swept_first}
 use Rattle.ub_exec.proofs.GivenFacts.{all_selected, at}
 use Rattle.ub_exec.proofs.GroupSweptFacts.{HasGrouped, HasGrouped-none, HasGrouped-more, HasReached, IsNextValue, is_short, lines_full, value_behind}
-use Rattle.ub_exec.proofs.GroupVisitFacts.{AreUpTo, ended_meant, ended_visits, filled_meant, filled_visits, front_visits, group_lines}
+use Rattle.ub_exec.proofs.GroupVisitFacts.{ended_meant, ended_visits, filled_meant, filled_visits, front_visits, group_lines}
 use Rattle.ub_exec.proofs.LedFacts.{IsLedBy, led_by, no_sweep, none_before_first}
 use Rattle.ub_exec.proofs.MeantFacts.{empty_where}
 use Rattle.ub_exec.proofs.NotedFacts.{all_joined}
-use Rattle.ub_exec.proofs.ReachedFacts.{not_along_chain}
 use Rattle.ub_exec.proofs.SweptFacts.{swept_kind, visits_fetched}
 use Rattle.ub_exec.specs.Answers.{IsAnswer, IsReady, IsSwept, begun}
 use Rattle.ub_exec.specs.Sweeping.{IsFilled}
 use Rattle.ub_exec.specs.Visits.{HasFetched, HasFetchedFirst, fetches_then}
-use Rattle.ub_planning.proofs.Laws.{regions_have_a_table}
+use Rattle.ub_planning.proofs.Laws.{AreUpTo, regions_have_a_table, up_to_chain}
 use Rattle.ub_planning.specs.Plan.{PlanView, plan_of}
 use Rattle.ub_planning.specs.Visits.{AreArranged, AreEvents, AreGroupVisits, AreSweptVisits, AreVisits, AreVisitsBy, Event, IsAlong, selected_rows}
 use Rattle.ub_planning.specs.Visits as spec
@@ -283,7 +282,7 @@ module _ (plan : PlanView) (start : TreeView) (dim : ℕ) (is_descending : Bool)
             front,
             all_weaker (λ row. ¬ (IsAlong is_descending (at dim row) (at dim first))) (λ row. AreUpTo is_descending broken.read (at dim row))
                 (λ row not. all_weaker (λ event. ¬ (IsAlong is_descending (at dim first) event.value)) (λ event. ¬ (IsAlong is_descending (at dim row) event.value))
-                (λ event past. not_along_chain is_descending (at dim first) (at dim row) event.value not past) broken.read front) more late,
+                (λ event past. up_to_chain is_descending event.value (at dim first) (at dim row) past not) broken.read front) more late,
           )
 
       all_behind : AllByRecursion (λ row. AreUpTo is_descending (swept.fetched ++ broken.read) (at dim row)) swept.rest

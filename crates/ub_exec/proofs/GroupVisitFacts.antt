@@ -1,12 +1,12 @@
 -- The regions that a sweep of groups has fetched are its visits, or the first of them, and its groups are the answer.
-use Rattle.std.proofs.Common.{◌≡◌, ◌≢◌, ◌<◌, ◌≤◌, ◌∙◌, ℕ, Bool, true, List, [], ◌∷◌, ◌++◌, Option, Some, IfSome, IsPermutation, filter, length, map, take, inl, sym, ap, subst}
+use Rattle.std.proofs.Common.{◌≡◌, ◌≢◌, ◌<◌, ◌≤◌, ◌∙◌, ℕ, Bool, List, [], ◌∷◌, ◌++◌, Option, Some, IfSome, IsPermutation, filter, length, map, take, inl, sym, ap, subst}
 use Rattle.std.proofs.lemmas.List.{append-nil, take-append-le}
 use Rattle.std.specs.List.{AllByRecursion}
 use Rattle.ub_exec.proofs.GivenFacts.{AreGivenGroups, at, back_led, chosen, whole}
 use Rattle.ub_exec.proofs.LedFacts.{IsLedBy}
-use Rattle.ub_exec.proofs.ReachedFacts.{full, last_limited, reached_filled, reached_front, reached_short, short_fill}
+use Rattle.ub_planning.proofs.Laws.{AreUpTo, StopsAt, reached_filled, reached_front, reached_short}
 use Rattle.ub_planning.specs.Plan.{PlanView}
-use Rattle.ub_planning.specs.Visits.{AreEvents, AreGroupVisits, Event, IsAlong, is_filled, last_of, lead_value, reached}
+use Rattle.ub_planning.specs.Visits.{AreEvents, AreGroupVisits, Event, lead_value, reached}
 use Rattle.ub_query.specs.Cells.{Group, group_cell}
 use Rattle.ub_query.specs.Groups.{is_selected}
 use Rattle.ub_query.specs.Laws.{GroupsFollowTheLead}
@@ -22,14 +22,6 @@ use Rattle.ub_table.specs.declared.schema.Schema.{Schema}
 -- the cells of some groups
 abbrev pub group_lines : Schema → Asked → List Group → List (List Cell)
 group_lines schema q groups = map (λ group. map (group_cell schema q.group group) q.items) groups
-
--- no event value is past this one
-abbrev pub AreUpTo : Bool → List Event → ℕ → Type 0
-AreUpTo down events value = AllByRecursion (λ event. ¬ (IsAlong down value event.value)) events
-
--- the regions fetched are those that aren't past the last of some values
-abbrev pub StopsAt : Bool → List ℕ → List Event → List Event → Type 0
-StopsAt down values fetched unread = AreUpTo down fetched (last_of values) × AllByRecursion (λ event. IsAlong down (last_of values) event.value) unread
 
 -- the groups in order of all selected rows are what the query means
 meant : (schema : Schema) (q : Asked) (table : List Row) (arranged : List Group) (cells : List (List Cell)) → q.group ≢ [] → AreGroupsInOrder schema q (chosen schema q table) arranged
@@ -66,13 +58,7 @@ module _ (schema : Schema) (plan : PlanView) (dim : ℕ) (is_descending : Bool) 
         → StopsAt is_descending (map (lead_value dim) (take n groups)) fetched unread → AreGroupVisits schema plan dim is_descending regions (map (λ event. event.span) fetched)
     filled_visits fetched unread events stops =
         let (back, all_are, back_are) = whole schema plan.asked dim is_descending regions given rest groups same so_far follow led table are in
-        let values : map (lead_value dim) (limited plan.asked.limit (groups ++ back)) ≡ map (lead_value dim) (take n groups) =
-        ap (map (lead_value dim)) (first_are back ∙ ap (λ (o : Option ℕ). limited o groups) limit) in
-        visits_by (fetched ++ unread) fetched back events all_are
-        (ap (λ (vs : List ℕ). reached is_descending plan.asked.limit vs (fetched ++ unread)) values
-        ∙ reached_filled is_descending plan.asked.limit (map (lead_value dim) (take n groups)) fetched unread
-        (subst (λ (gs : List Group). is_filled plan.asked.limit (length (map (lead_value dim) gs)) ≡ true) (ap (λ (o : Option ℕ). limited o groups) limit)
-        (full (lead_value dim) plan.asked.limit n groups limit many)) stops.0 stops.1)
+        visits_by (fetched ++ unread) fetched back events all_are (reached_filled (lead_value dim) is_descending plan.asked.limit n groups back fetched unread limit many stops)
 
     pub filled_meant : (cells : List (List Cell)) → cells ≡ group_lines schema plan.asked (limited plan.asked.limit groups) → IsMeaning (record { schema = schema; rows = table }) plan.asked cells
     filled_meant cells is =
@@ -103,7 +89,7 @@ module _ (schema : Schema) (plan : PlanView) (dim : ℕ) (is_descending : Bool) 
       arranged = groups;
       arranged_are = all_groups;
       visits_are = ap (λ (events : List Event). map (λ (event : Event). event.span) events)
-          (sym (reached_short is_descending plan.asked.limit (map (lead_value dim) (limited plan.asked.limit groups)) fetched (short_fill (lead_value dim) plan.asked.limit groups short)));
+          (sym (reached_short (lead_value dim) is_descending plan.asked.limit groups fetched short));
     }
 
     pub ended_meant : (cells : List (List Cell)) → cells ≡ group_lines schema plan.asked (limited plan.asked.limit groups) → IsMeaning (record { schema = schema; rows = table }) plan.asked cells
@@ -117,8 +103,6 @@ module _ (schema : Schema) (plan : PlanView) (dim : ℕ) (is_descending : Bool) 
       → (later : List Event) × AreGroupVisits schema plan dim is_descending regions (map (λ event. event.span) (front ++ later))
   front_visits front left events short past =
       let (back, all_are, back_are) = whole schema plan.asked dim is_descending regions given rest groups same so_far follow led table are in
-      let values = map (lead_value dim) (limited plan.asked.limit (groups ++ back)) in
-      let (later, is) = reached_front is_descending plan.asked.limit values front left
-      (λ filled. last_limited (lead_value dim) (AreUpTo is_descending front) plan.asked.limit groups back short filled
-      (back_led schema plan.asked dim is_descending regions given rest groups same so_far (AreUpTo is_descending front) led.some table are back back_are past)) in
+      let (later, is) = reached_front (lead_value dim) is_descending plan.asked.limit groups back front left short
+      (back_led schema plan.asked dim is_descending regions given rest groups same so_far (AreUpTo is_descending front) led.some table are back back_are past) in
       (later, visits_by (front ++ left) (front ++ later) back events all_are is)

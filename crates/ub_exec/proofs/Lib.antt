@@ -7,7 +7,6 @@ pub mod WalkFacts
 pub mod VisitFacts
 pub mod MeantFacts
 pub mod SweptFacts
-pub mod ReachedFacts
 pub mod LedFacts
 pub mod GivenFacts
 pub mod GroupVisitFacts

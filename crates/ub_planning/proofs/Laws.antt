@@ -13,6 +13,7 @@ use Rattle.ub_region.proofs.Laws.{chain_of}
 pub use Rattle.ub_planning.proofs.FoundFacts.{meeting_of}
 pub use Rattle.ub_planning.proofs.InsideFacts.{from_in_some, in_some}
 pub use Rattle.ub_planning.proofs.KindFacts.{plans_are_empty, sweeps_are_led}
+pub use Rattle.ub_planning.proofs.ReachedFacts.{AreUpTo, IsUpTo, StopsAt, along_chain, along_never, along_up_to, is_past_of, last_among, last_within, not_past, past_is, past_not, reached_filled, reached_front, reached_short, up_to_along, up_to_apart, up_to_both, up_to_chain}
 pub use Rattle.ub_planning.proofs.SpanFacts.{of_some_span, of_span, rows_are_points}
 pub use Rattle.ub_planning.proofs.SweepFacts.{arranged_of, groups_in_one_order, groups_in_order}
 pub use Rattle.ub_planning.proofs.TableFacts.{regions_have_a_table, regions_have_one_table}

@@ -11,4 +11,5 @@ pub mod EventFacts
 pub mod TableFacts
 pub mod SweepFacts
 pub mod KindFacts
+pub mod ReachedFacts
 pub mod Laws

@@ -1,10 +1,11 @@
 -- Coordinates along a sweep, event values, and the order in which a sweep gives rows: its first key is the sweep's dimension.
 use Rattle.std.proofs.Common.{◌≡◌, ◌≢◌, ◌<◌, ◌+◌, ◌⊎◌, ℕ, List, [], ◌∷◌, Bool, true, false, nat_lt, Some, length, get_or, slice_get, slice_index, inl, inr, refl, sym, ap, ◌∙◌, subst, arith}
-use Rattle.std.proofs.lemmas.Bool.{cases_lt, lt-ltb}
+use Rattle.std.proofs.lemmas.Bool.{lt-ltb}
 use Rattle.std.proofs.lemmas.Int.{ints}
 use Rattle.std.specs.List.{AllAdjacentBelow}
 use Rattle.ub_boxes.specs.Boxes.{Covering, boxes_of, cover_of}
 use Rattle.ub_planning.proofs.Laws.{plans_are_empty, sweeps_are_led}
+pub use Rattle.ub_planning.proofs.Laws.{IsUpTo, along_chain, along_never, along_up_to, up_to_along, up_to_apart, up_to_both, up_to_chain}
 use Rattle.ub_planning.specs.Plan.{PlanView, kept_by, planned_kind, plan_of}
 use Rattle.ub_planning.specs.Visits.{Event, IsAlong, IsEventBefore}
 use Rattle.ub_planning.specs.declared.planned.Kind.{Kind}
@@ -21,82 +22,6 @@ use Rattle.ub_query.specs.declared.query.SortKey.{SortKey}
 use Rattle.ub_table.specs.declared.row.Row.{Row}
 use Rattle.ub_table.specs.declared.schema.Schema.{Schema}
 use Rattle.ub_tetris.proofs.NumberFacts.{asked-never}
-
--- ---- coordinates along a sweep
-
-pub along_chain : (down : Bool) (a b c : ℕ) → IsAlong down a b → IsAlong down b c → IsAlong down a c
-along_chain false a b c g h = omega arith
-along_chain true a b c g h = omega arith
-
-pub along_never : (down : Bool) (a : ℕ) → ¬ (IsAlong down a a)
-along_never false a h = omega arith
-along_never true a h = omega arith
-
--- not past one another
-abbrev pub IsUpTo : Bool → ℕ → ℕ → Type 0
-IsUpTo down a b = ¬ (IsAlong down b a)
-
-pub up_to_chain : (down : Bool) (a b c : ℕ) → IsUpTo down a b → IsUpTo down b c → IsUpTo down a c
-up_to_chain false a b c g h k = elim (cases_lt b a) [
-  | inl lt ↦ g lt
-  | inr le ↦ h (omega arith)
-]
-up_to_chain true a b c g h k = elim (cases_lt a b) [
-  | inl lt ↦ g lt
-  | inr le ↦ h (omega arith)
-]
-
-pub along_up_to : (down : Bool) (a b c : ℕ) → IsAlong down a b → IsUpTo down b c → IsAlong down a c
-along_up_to false a b c g h = elim (cases_lt a c) [
-  | inl lt ↦ lt
-  | inr le ↦ absurd (h (omega arith))
-]
-along_up_to true a b c g h = elim (cases_lt c a) [
-  | inl lt ↦ lt
-  | inr le ↦ absurd (h (omega arith))
-]
-
-pub up_to_along : (down : Bool) (a b c : ℕ) → IsUpTo down a b → IsAlong down b c → IsAlong down a c
-up_to_along false a b c g h = elim (cases_lt a c) [
-  | inl lt ↦ lt
-  | inr le ↦ absurd (g (omega arith))
-]
-up_to_along true a b c g h = elim (cases_lt c a) [
-  | inl lt ↦ lt
-  | inr le ↦ absurd (g (omega arith))
-]
-
-pub up_to_both : (down : Bool) (a b : ℕ) → IsUpTo down a b → IsUpTo down b a → a ≡ b
-up_to_both false a b g h = elim (cases_lt a b) [
-  | inl lt ↦ absurd (h lt)
-  | inr le ↦ elim (cases_lt b a) [
-    | inl back ↦ absurd (g back)
-    | inr same ↦ omega arith
-  ]
-]
-up_to_both true a b g h = elim (cases_lt a b) [
-  | inl lt ↦ absurd (g lt)
-  | inr le ↦ elim (cases_lt b a) [
-    | inl back ↦ absurd (h back)
-    | inr same ↦ omega arith
-  ]
-]
-
-pub up_to_apart : (down : Bool) (a b : ℕ) → IsUpTo down a b → b ≢ a → IsAlong down a b
-up_to_apart false a b g apart = elim (cases_lt a b) [
-  | inl lt ↦ lt
-  | inr le ↦ elim (cases_lt b a) [
-    | inl back ↦ absurd (g back)
-    | inr same ↦ absurd (apart (omega arith))
-  ]
-]
-up_to_apart true a b g apart = elim (cases_lt b a) [
-  | inl lt ↦ lt
-  | inr le ↦ elim (cases_lt a b) [
-    | inl back ↦ absurd (g back)
-    | inr same ↦ absurd (apart (omega arith))
-  ]
-]
 
 -- ---- event values
 

@@ -1,18 +1,18 @@
 -- What the steps of a sweep do, as lists alone: it begins, fetches a region, gives a row, and ends.
 use Rattle.std.specs.Prelude.{IfSome}
-use Rattle.std.proofs.Common.{◌≡◌, ◌≤◌, ◌<◌, ◌==◌, ◌⊎◌, ℕ, zero, suc, List, [], ◌∷◌, ◌++◌, Bool, true, false, cond, not, if◌then◌else◌, Option, Some, None, length, map, filter, take, slice_index, Contains, IsPermutation, inl, inr, refl, sym, ap, ◌∙◌, append_assoc, subst, arith}
-use Rattle.std.proofs.lemmas.Bool.{cases_Bool, eq-eqb, eqb-true, lt-ltb, ltb-true, true≢false}
+use Rattle.std.proofs.Common.{◌≡◌, ◌≤◌, ◌<◌, ◌==◌, ◌⊎◌, ℕ, List, [], ◌∷◌, ◌++◌, Bool, cond, Option, Some, None, length, map, filter, take, slice_index, Contains, IsPermutation, inl, inr, refl, sym, ap, ◌∙◌, append_assoc, subst, arith}
+use Rattle.std.proofs.lemmas.Bool.{cases_Bool, eq-eqb, eqb-true}
 use Rattle.std.proofs.lemmas.Grind.{flat_map-append}
-use Rattle.std.proofs.lemmas.List.{append-nil, length-map, map-append, take_all}
-use Rattle.std.proofs.lemmas.List.Elements.{All-contains, All-nil, All-tail, Contains-append_cases, Contains-append_left, Contains-append_right, filter-append}
+use Rattle.std.proofs.lemmas.List.{append-nil, map-append, take_all}
+use Rattle.std.proofs.lemmas.List.Elements.{recursion_from_All, All-contains, All-nil, All-tail, Contains-append_cases, Contains-append_left, Contains-append_right, filter-append}
 use Rattle.std.proofs.lemmas.List.Sorted.{Contains-permutation, IsPermutation-append_left, IsPermutation-append_right, IsPermutation-pop_more, IsPermutation-refl, IsPermutation-sym, IsPermutation-trans, sum_by-IsPermutation}
 use Rattle.std.proofs.lemmas.List.Sums.{sum_by-append}
 use Rattle.std.proofs.Math.Seq.{take-append_seam}
 use Rattle.std.specs.List.{All, AllAdjacentBelow, AllByRecursion, sum_by}
-use Rattle.ub_planning.proofs.Laws.{filter_none, arranged_of, Differ}
+use Rattle.ub_planning.proofs.Laws.{AreUpTo, Differ, StopsAt, arranged_of, reached_filled, reached_front, reached_short}
 use Rattle.ub_planning.specs.Plan.{PlanView}
-use Rattle.ub_planning.specs.Visits.{AreArranged, AreEvents, AreSweepVisits, Event, IsAlong, coordinates, is_filled, is_past, last_of, reached, selected_rows}
-use Rattle.ub_query.proofs.Laws.{Rising, Rising-from_adjacent, all_at, all_weaker, contains_cases, contains_here, contains_later, contains_none, contains_filter, contains_from_filter}
+use Rattle.ub_planning.specs.Visits.{AreArranged, AreEvents, AreSweepVisits, Event, IsAlong, coordinates, last_of, reached, selected_rows}
+use Rattle.ub_query.proofs.Laws.{Rising, Rising-from_adjacent, all_from_contains, all_at, all_weaker, contains_cases, contains_here, contains_later, contains_none, contains_filter, contains_from_filter}
 use Rattle.ub_query.specs.Cells.{row_cell}
 use Rattle.ub_query.specs.Groups.{is_selected, selected}
 use Rattle.ub_query.specs.Lead.{swept_order}
@@ -23,7 +23,7 @@ use Rattle.ub_region.specs.Regions.{AreTableRows, rows_of}
 use Rattle.ub_table.specs.Region.{Region}
 use Rattle.ub_table.specs.declared.row.Row.{Row}
 use Rattle.ub_table.specs.declared.schema.Schema.{Schema}
-use Rattle.ub_tetris.proofs.AlongFacts.{IsUpTo, along_before, along_never, along_up_to, led_asks, led_plan, plan_is_plain, keys_of, up_to_chain, values_rise}
+use Rattle.ub_tetris.proofs.AlongFacts.{IsUpTo, along_before, along_up_to, led_asks, led_plan, plan_is_plain, keys_of, up_to_chain, values_rise}
 use Rattle.ub_tetris.proofs.ArrangeFacts.{all_of, least_first, rising_apart, rising_right, rising_two, some_weight, weight_there}
 use Rattle.ub_tetris.proofs.NumberFacts.{asked-chain, asked-never, selected_differ, selected_of_table}
 use Rattle.ub_tetris.proofs.ReachFacts.{event_rows, fetched_weigh, from_fetched, in_fetched, row_in_event, row_is_past}
@@ -341,61 +341,20 @@ none_held schema plan dim is_descending next regions held given fetched unread o
 
 -- ---- where it stops
 
-pub past_is : (down : Bool) (a b : ℕ) → is_past down a b ≡ true → IsAlong down a b
-past_is false a b t = ltb-true a b t
-past_is true a b t = ltb-true b a t
-
-pub is_past_of : (down : Bool) (a b : ℕ) → IsAlong down a b → is_past down a b ≡ true
-is_past_of false a b h = lt-ltb a b h
-is_past_of true a b h = lt-ltb b a h
-
 last_is : (dim : ℕ) (given : List Row) (row : Row) → last_of (coordinates dim (given ++ row ∷ [])) ≡ slice_index row.dims dim
 last_is dim [] row = refl
 last_is dim (first ∷ []) row = refl
 last_is dim (first ∷ second ∷ given) row = last_is dim (second ∷ given) row
 
-filter_all : {E : Type 0} (p : E → Bool) (xs : List E) → ((x : E) → Contains xs x → p x ≡ true) → filter p xs ≡ xs
-filter_all p [] passes = refl
-filter_all p (x ∷ xs) passes = rw (passes x (contains_here x xs)) (ap (λ (ys : List _). x ∷ ys) (filter_all p xs (λ y c. passes y (contains_later x xs y c))))
-
-not_past : (down : Bool) (a b : ℕ) → ¬ (IsAlong down a b) → not (is_past down a b) ≡ true
-not_past down a b h = elim (cases_Bool (is_past down a b)) [
-  | inl t ↦ absurd (h (past_is down a b t))
-  | inr f ↦ rw f refl
-]
-
--- the events whose values aren't past a coordinate are those fetched
-fetched_reached : (dim : ℕ) (is_descending : Bool) (fetched unread : List Event) (row : Row)
+-- the regions that aren't past the last row given are those fetched
+stops_at : (dim : ℕ) (is_descending : Bool) (given : List Row) (fetched unread : List Event) (row : Row)
     → All (λ event. ¬ (IsRowAlong dim is_descending row event.value)) fetched → ((event : Event) → Contains unread event → IsRowAlong dim is_descending row event.value)
-    → filter (λ event. not (is_past is_descending (slice_index row.dims dim) event.value)) (fetched ++ unread) ≡ fetched
-fetched_reached dim is_descending fetched unread row reached before =
-    filter-append (λ (event : Event). not (is_past is_descending (slice_index row.dims dim) event.value)) fetched unread
-    ∙ ap (λ (events : List Event). filter (λ event. not (is_past is_descending (slice_index row.dims dim) event.value)) fetched ++ events)
-    (filter_none (λ (event : Event). not (is_past is_descending (slice_index row.dims dim) event.value)) unread
-    (λ event there t. let past = is_past_of is_descending (slice_index row.dims dim) event.value (before event there) in true≢false (sym t ∙ ap not past)))
-    ∙ append-nil (filter (λ event. not (is_past is_descending (slice_index row.dims dim) event.value)) fetched)
-    ∙ filter_all (λ (event : Event). not (is_past is_descending (slice_index row.dims dim) event.value)) fetched
-    (λ event there. not_past is_descending (slice_index row.dims dim) event.value
-    (All-contains (λ event. ¬ (IsRowAlong dim is_descending row event.value)) fetched event reached there))
-
-limited_filled : (limit : Option ℕ) (given rest : List Row) → limit ≡ Some (length given) → limited limit (given ++ rest) ≡ given
-limited_filled limit given rest filled = ap (λ (o : Option ℕ). limited o (given ++ rest)) filled ∙ take-append_seam given rest
-
-filled_count : (dim : ℕ) (limit : Option ℕ) (given : List Row) → limit ≡ Some (length given) → is_filled limit (length (coordinates dim given)) ≡ true
-filled_count dim limit given filled =
-    ap (λ (o : Option ℕ). is_filled o (length (coordinates dim given))) filled
-    ∙ eq-eqb (length given) (length (coordinates dim given)) (sym (length-map given (λ row. slice_index row.dims dim)))
-
-reached_filled : (plan : PlanView) (dim : ℕ) (is_descending : Bool) (given rest : List Row) (fetched unread : List Event) (row : Row)
-    → plan.asked.limit ≡ Some (length (given ++ row ∷ []))
-    → All (λ event. ¬ (IsRowAlong dim is_descending row event.value)) fetched → ((event : Event) → Contains unread event → IsRowAlong dim is_descending row event.value)
-    → reached is_descending plan.asked.limit (coordinates dim (limited plan.asked.limit ((given ++ row ∷ []) ++ rest))) (fetched ++ unread) ≡ fetched
-reached_filled plan dim is_descending given rest fetched unread row filled past before =
-    ap (λ (rows : List Row). reached is_descending plan.asked.limit (coordinates dim rows) (fetched ++ unread)) (limited_filled plan.asked.limit (given ++ row ∷ []) rest filled)
-    ∙ ap (λ (b : Bool). if b then filter (λ event. not (is_past is_descending (last_of (coordinates dim (given ++ row ∷ []))) event.value)) (fetched ++ unread) else fetched ++ unread)
-    (filled_count dim plan.asked.limit (given ++ row ∷ []) filled)
-    ∙ ap (λ (last : ℕ). filter (λ event. not (is_past is_descending last event.value)) (fetched ++ unread)) (last_is dim given row)
-    ∙ fetched_reached dim is_descending fetched unread row past before
+    → StopsAt is_descending (coordinates dim (take (length (given ++ row ∷ [])) (given ++ row ∷ []))) fetched unread
+stops_at dim is_descending given fetched unread row past before =
+    let is : slice_index row.dims dim ≡ last_of (coordinates dim (take (length (given ++ row ∷ [])) (given ++ row ∷ []))) =
+    sym (ap (λ (rows : List Row). last_of (coordinates dim rows)) (take_all (length (given ++ row ∷ [])) (given ++ row ∷ []) (omega arith)) ∙ last_is dim given row) in
+    subst (λ (last : ℕ). AreUpTo is_descending fetched last × AllByRecursion (λ event. IsAlong is_descending last event.value) unread) is
+    (recursion_from_All (λ event. ¬ (IsRowAlong dim is_descending row event.value)) fetched past, all_from_contains (λ event. IsRowAlong dim is_descending row event.value) unread before)
 
 -- the limit was filled by a row: the regions fetched are the visits
 pub stops : (schema : Schema) (plan : PlanView) (dim : ℕ) (is_descending : Bool) (regions : List Region) (held given rest : List Row) (fetched unread : List Event) (row : Row)
@@ -410,31 +369,16 @@ stops schema plan dim is_descending regions held given rest fetched unread row u
       arranged = (given ++ row ∷ []) ++ rest;
       arranged_are = under.rows;
       visits_are = ap (λ (events : List Event). map (λ (event : Event). event.span) events)
-          (sym (reached_filled plan dim is_descending given rest fetched unread row filled reached
+          (sym (reached_filled (λ (row : Row). slice_index row.dims dim) is_descending plan.asked.limit (length (given ++ row ∷ [])) (given ++ row ∷ []) rest fetched unread filled (omega arith)
+          (stops_at dim is_descending given fetched unread row reached
           (λ event there. All-contains (λ row. IsRowAlong dim is_descending row event.value) (given ++ row ∷ []) row
           (All-contains (λ event. All (λ row. IsRowAlong dim is_descending row event.value) (given ++ row ∷ [])) unread event under.given_before there)
-          (Contains-append_right given (row ∷ []) row (contains_here row [])))));
+          (Contains-append_right given (row ∷ []) row (contains_here row []))))));
     }
 
-limited_short : (limit : Option ℕ) (given : List Row) → IfSome limit (λ n. length given < n) → limited limit (given ++ []) ≡ given
-limited_short None given short = append-nil given
-limited_short (Some n) given short = ap (λ (rows : List Row). take n rows) (append-nil given) ∙ take_all n given (omega (arith, short))
-
-short_count : (dim : ℕ) (limit : Option ℕ) (given : List Row) → IfSome limit (λ n. length given < n) → is_filled limit (length (coordinates dim given)) ≡ false
-short_count dim None given short = refl
-short_count dim (Some n) given short = elim (cases_Bool (n == length (coordinates dim given))) [
-  | inl t ↦
-      let same = eqb-true n (length (coordinates dim given)) t in
-      let long = length-map given (λ row. slice_index row.dims dim) in
-      absurd (omega (arith, short, same, long))
-  | inr f ↦ f
-]
-
-reached_short : (limit : Option ℕ) (dim : ℕ) (is_descending : Bool) (given : List Row) (events : List Event) → IfSome limit (λ n. length given < n)
-    → reached is_descending limit (coordinates dim (limited limit (given ++ []))) events ≡ events
-reached_short limit dim is_descending given events short =
-    ap (λ (rows : List Row). reached is_descending limit (coordinates dim rows) events) (limited_short limit given short)
-    ∙ ap (λ (b : Bool). if b then filter (λ event. not (is_past is_descending (last_of (coordinates dim given)) event.value)) events else events) (short_count dim limit given short)
+-- fewer rows than the limit says, and no more to come
+few_more : (limit : Option ℕ) (given : List Row) → IfSome limit (λ n. length given < n) → IfSome limit (λ n. length (given ++ []) < n)
+few_more limit given short = subst (λ (rows : List Row). IfSome limit (λ n. length rows < n)) (sym (append-nil given)) short
 
 -- no row is left, and the limit isn't filled: all regions are the visits
 pub runs_out : (schema : Schema) (plan : PlanView) (dim : ℕ) (is_descending : Bool) (regions : List Region) (held given : List Row) (fetched : List Event)
@@ -448,53 +392,10 @@ runs_out schema plan dim is_descending regions held given fetched under short =
       arranged = given ++ [];
       arranged_are = under.rows;
       visits_are = ap (λ (events : List Event). map (λ (event : Event). event.span) events)
-          (sym (reached_short plan.asked.limit dim is_descending given (fetched ++ []) short ∙ append-nil fetched));
+          (sym (reached_short (λ (row : Row). slice_index row.dims dim) is_descending plan.asked.limit (given ++ []) (fetched ++ []) (few_more plan.asked.limit given short) ∙ append-nil fetched));
     }
 
 -- ---- where it is broken off
-
-last_among : (P : ℕ → Type 0) (value : ℕ) (values : List ℕ) → P value → AllByRecursion P values → P (last_of (value ∷ values))
-last_among P value [] is all = is
-last_among P value (other ∷ values) is all = last_among P other values all.0 all.1
-
-coordinates_first : (dim : ℕ) (P : ℕ → Type 0) (rows : List Row) (n : ℕ) → AllByRecursion (λ row. P (slice_index row.dims dim)) rows → AllByRecursion P (coordinates dim (take n rows))
-coordinates_first dim P [] zero all = tt
-coordinates_first dim P [] (suc n) all = tt
-coordinates_first dim P (row ∷ rows) zero all = tt
-coordinates_first dim P (row ∷ rows) (suc n) all = (all.0, coordinates_first dim P rows n all.1)
-
--- of rows of which one is asked for the last one doesn't lie before that one
-last_up_to : (dim : ℕ) (P : ℕ → Type 0) (given : List Row) (row : Row) (more : List Row) (n : ℕ) → length given < n → P (slice_index row.dims dim)
-    → AllByRecursion (λ other. P (slice_index other.dims dim)) more → P (last_of (coordinates dim (take n (given ++ row ∷ more))))
-last_up_to dim P [] row more zero below is all = absurd (omega arith)
-last_up_to dim P [] row more (suc n) below is all = last_among P (slice_index row.dims dim) (coordinates dim (take n more)) is (coordinates_first dim P more n all)
-last_up_to dim P (first ∷ given) row more zero below is all = absurd (omega arith)
-last_up_to dim P (first ∷ []) row more (suc zero) below is all = absurd (omega arith)
-last_up_to dim P (first ∷ []) row more (suc (suc n)) below is all = last_up_to dim P [] row more (suc n) (omega arith) is all
-last_up_to dim P (first ∷ second ∷ given) row more (suc zero) below is all = absurd (omega arith)
-last_up_to dim P (first ∷ second ∷ given) row more (suc (suc n)) below is all = last_up_to dim P (second ∷ given) row more (suc n) (omega arith) is all
-
-last_limited : (dim : ℕ) (P : ℕ → Type 0) (limit : Option ℕ) (given : List Row) (row : Row) (more : List Row) → IfSome limit (λ n. length given < n)
-    → is_filled limit (length (coordinates dim (limited limit (given ++ row ∷ more)))) ≡ true → P (slice_index row.dims dim)
-    → AllByRecursion (λ other. P (slice_index other.dims dim)) more → P (last_of (coordinates dim (limited limit (given ++ row ∷ more))))
-last_limited dim P None given row more short filled is all = absurd (true≢false (sym filled))
-last_limited dim P (Some n) given row more short filled is all = last_up_to dim P given row more n short is all
-
-reached_front : (is_descending : Bool) (limit : Option ℕ) (values : List ℕ) (front left : List Event)
-    → (is_filled limit (length values) ≡ true → All (λ event. ¬ (IsAlong is_descending (last_of values) event.value)) front)
-    → (later : List Event) × (reached is_descending limit values (front ++ left) ≡ front ++ later)
-reached_front is_descending limit values front left past = by_fill (is_filled limit (length values)) refl
-  where
-    filter_append_kept : (p : Event → Bool) (xs ys : List Event) → filter p xs ≡ xs → filter p (xs ++ ys) ≡ xs ++ filter p ys
-    filter_append_kept p xs ys kept = filter-append p xs ys ∙ ap (λ (zs : List Event). zs ++ filter p ys) kept
-
-    by_fill : (b : Bool) → is_filled limit (length values) ≡ b → (later : List Event) × (reached is_descending limit values (front ++ left) ≡ front ++ later)
-    by_fill false e = (left, rw e refl)
-    by_fill true e =
-        let p : Event → Bool = λ event. not (is_past is_descending (last_of values) event.value) in
-        let kept : filter p front ≡ front = filter_all p front
-        (λ event there. not_past is_descending (last_of values) event.value (All-contains (λ event. ¬ (IsAlong is_descending (last_of values) event.value)) front event (past e) there)) in
-        (filter p left, rw e (filter_append_kept p front left kept))
 
 -- regions none of which is past a row that is asked for are the first of the visits
 front_visits : (schema : Schema) (plan : PlanView) (dim : ℕ) (is_descending : Bool) (next : ℕ) (regions : List Region) (front left : List Event) (given : List Row) (row : Row) (more : List Row)
@@ -511,13 +412,12 @@ front_visits schema plan dim is_descending next regions front left given row mor
     let after : AllByRecursion (λ other. IsUpTo is_descending (slice_index row.dims dim) (slice_index other.dims dim)) more =
     all_weaker (λ other. IsRowBefore schema order row other) (λ other. IsUpTo is_descending (slice_index row.dims dim) (slice_index other.dims dim))
     (λ other before along. asked-never schema order row (asked-chain schema order row other row before (along_before schema plan.asked dim is_descending other row led along))) more up.0 in
-    let values = coordinates dim (limited plan.asked.limit (given ++ row ∷ more)) in
-    let (later, is) = reached_front is_descending plan.asked.limit values front left
-    (λ filled. all_of (λ event. ¬ (IsAlong is_descending (last_of values) event.value)) front
-    (λ event there.
-    up_to_chain is_descending event.value (slice_index row.dims dim) (last_of values)
-    (All-contains (λ event. ¬ (IsRowAlong dim is_descending row event.value)) front event past there)
-    (last_limited dim (λ v. IsUpTo is_descending (slice_index row.dims dim) v) plan.asked.limit given row more short filled (along_never is_descending (slice_index row.dims dim)) after))) in (
+    let first : AreUpTo is_descending front (slice_index row.dims dim) = recursion_from_All (λ event. ¬ (IsRowAlong dim is_descending row event.value)) front past in
+    let each : AllByRecursion (λ other. AreUpTo is_descending front (slice_index other.dims dim)) more =
+    all_weaker (λ other. IsUpTo is_descending (slice_index row.dims dim) (slice_index other.dims dim)) (λ other. AreUpTo is_descending front (slice_index other.dims dim))
+    (λ other up_to. all_weaker (λ event. IsUpTo is_descending event.value (slice_index row.dims dim)) (λ event. IsUpTo is_descending event.value (slice_index other.dims dim))
+    (λ event before. up_to_chain is_descending event.value (slice_index row.dims dim) (slice_index other.dims dim) before up_to) front first) more after in
+    let (later, is) = reached_front (λ (row : Row). slice_index row.dims dim) is_descending plan.asked.limit given (row ∷ more) front left short (first, each) in (
       later,
       record {
         events = front ++ left;
@@ -557,7 +457,7 @@ broken_before schema plan dim is_descending next regions held given rest fetched
         events_are = events;
         arranged = given ++ [];
         arranged_are = subst (λ (rows : List Row). AreArranged schema plan (selected_rows schema plan regions) (given ++ rows)) is under.rows;
-        visits_are = ap (λ (events : List Event). map (λ (event : Event). event.span) events) (sym (reached_short plan.asked.limit dim is_descending given ((fetched ++ read) ++ left) short));
+        visits_are = ap (λ (events : List Event). map (λ (event : Event). event.span) events) (sym (reached_short (λ (row : Row). slice_index row.dims dim) is_descending plan.asked.limit (given ++ []) ((fetched ++ read) ++ left) (few_more plan.asked.limit given short)));
       },
     )
     by_rest (row ∷ more) is =
@@ -575,6 +475,13 @@ rows_ordered : (schema : Schema) (group : List ℕ) (order : List SortKey) (rows
     → AllAdjacentBelow (IsRowBefore schema (swept_order group order)) rows (length rows) → AllAdjacentBelow (IsRowBefore schema order) rows (length rows)
 rows_ordered schema [] order rows none ordered = ordered
 rows_ordered schema (column ∷ group) order rows none ordered = absurd cc
+
+limited_filled : (limit : Option ℕ) (given rest : List Row) → limit ≡ Some (length given) → limited limit (given ++ rest) ≡ given
+limited_filled limit given rest filled = ap (λ (o : Option ℕ). limited o (given ++ rest)) filled ∙ take-append_seam given rest
+
+limited_short : (limit : Option ℕ) (given : List Row) → IfSome limit (λ n. length given < n) → limited limit (given ++ []) ≡ given
+limited_short None given short = append-nil given
+limited_short (Some n) given short = ap (λ (rows : List Row). take n rows) (append-nil given) ∙ take_all n given (omega (arith, short))
 
 given_mean : (schema : Schema) (plan : PlanView) (dim : ℕ) (is_descending : Bool) (next : ℕ) (regions : List Region) (rows held given rest : List Row) (fetched unread : List Event)
     → IsSweepOver schema plan dim is_descending next regions → plan.asked.group ≡ [] → AreTableRows regions rows

@@ -24,7 +24,8 @@ use Rattle.ub_table.specs.declared.row.Row.{Row}
 use Rattle.ub_table.specs.declared.schema.Schema.{Schema}
 use Rattle.ub_tetris.proofs.AlongFacts.{IsUpTo, along_before, along_up_to, led_asks, led_plan, keys_of, up_to_along}
 use Rattle.ub_tetris.proofs.ArrangeFacts.{all_of, rising_two}
-use Rattle.ub_tetris.proofs.MachineFacts.{IsBeforeNext, IsSweepOver, ends, fetches, gives, is_past_of, past_is}
+use Rattle.ub_planning.proofs.Laws.{is_past_of, past_is}
+use Rattle.ub_tetris.proofs.MachineFacts.{IsBeforeNext, IsSweepOver, ends, fetches, gives}
 use Rattle.ub_tetris.proofs.OrderFacts.{held_before}
 use Rattle.ub_tetris.proofs.ReachFacts.{event_span}
 use Rattle.ub_tetris.proofs.SortedFacts.{keys_rise}
