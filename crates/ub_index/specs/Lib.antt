@@ -6,3 +6,5 @@ pub mod Way
 pub mod View
 pub mod Searching
 pub mod Descending
+pub mod Changing
+pub mod Preparing

@@ -31,11 +31,16 @@
 
 #![tactic(auto)]
 
+pub mod change;
 mod descent;
 pub mod fault;
 pub mod index;
 pub mod law;
 pub mod seat;
+pub mod sheet;
+mod sheets;
+mod told;
+mod turning;
 
 pub use fault::IndexFault;
 pub use index::Index;

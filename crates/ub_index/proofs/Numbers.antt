@@ -1,0 +1,69 @@
+-- Numbers that stand apart, and which pages the numbers under an entry are.
+use Rattle.std.proofs.Common.{◌≡◌, ◌≢◌, ◌<◌, ◌++◌, ℕ, zero, suc, List, [], ◌∷◌, Option, false, nat_eq, length, sym}
+use Rattle.std.proofs.lemmas.Bool.{eq-eqb}
+use Rattle.std.proofs.lemmas.Option.{slice_get_within}
+use Rattle.std.specs.List.{AllByRecursion, IsDistinct, flat_map}
+use Rattle.ub_page.specs.declared.entries.Entry.{Entry}
+use Rattle.ub_region.proofs.Laws.{all_append, all_more, all_right}
+use Rattle.ub_table.specs.declared.row.Key.{Key}
+use Rattle.ub_index.specs.Index.{entries_of, first_or, page_in, EachTo, IsUnder, pages_under}
+
+differs : (a b : ℕ) → nat_eq a b ≡ false → a ≢ b
+differs a b f e = let t = eq-eqb a b e in cc
+
+-- this number is none of those
+abbrev pub IsOutside : ℕ → List ℕ → Type 0
+IsOutside n numbers = AllByRecursion (λ m. n ≢ m) numbers
+
+-- no number of the one list is in the other
+abbrev pub StandApart : List ℕ → List ℕ → Type 0
+StandApart xs ys = AllByRecursion (λ x. IsOutside x ys) xs
+
+pub distinct_first : (x : ℕ) (xs : List ℕ) → IsDistinct nat_eq (x ∷ xs) → IsOutside x xs
+unfolding IsDistinct
+distinct_first x xs h = all_more (λ m. nat_eq x m ≡ false) (λ m. x ≢ m) (λ m f. differs x m f) xs h.0
+
+pub distinct_rest : (x : ℕ) (xs : List ℕ) → IsDistinct nat_eq (x ∷ xs) → IsDistinct nat_eq xs
+unfolding IsDistinct
+distinct_rest x xs h = h.1
+
+pub distinct_right : (xs ys : List ℕ) → IsDistinct nat_eq (xs ++ ys) → IsDistinct nat_eq ys
+unfolding IsDistinct
+distinct_right [] ys h = h
+distinct_right (x ∷ xs) ys h = distinct_right xs ys h.1
+
+pub distinct_left : (xs ys : List ℕ) → IsDistinct nat_eq (xs ++ ys) → IsDistinct nat_eq xs
+unfolding IsDistinct
+distinct_left [] ys h = tt
+distinct_left (x ∷ xs) ys h = (all_first xs ys h.0, distinct_left xs ys h.1)
+  where
+    all_first : (us bs : List ℕ) → AllByRecursion (λ m. nat_eq x m ≡ false) (us ++ bs) → AllByRecursion (λ m. nat_eq x m ≡ false) us
+    all_first [] bs k = tt
+    all_first (a ∷ us) bs k = (k.0, all_first us bs k.1)
+
+pub distinct_apart : (xs ys : List ℕ) → IsDistinct nat_eq (xs ++ ys) → StandApart xs ys
+unfolding IsDistinct
+distinct_apart [] ys h = tt
+distinct_apart (x ∷ xs) ys h =
+    (all_more (λ m. nat_eq x m ≡ false) (λ m. x ≢ m) (λ m f. differs x m f) ys (all_right (λ m. nat_eq x m ≡ false) xs ys h.0), distinct_apart xs ys h.1)
+
+pub apart_swap : (xs ys : List ℕ) → StandApart xs ys → StandApart ys xs
+apart_swap xs [] h = tt
+apart_swap xs (y ∷ ys) h = (
+  all_more (λ x. IsOutside x (y ∷ ys)) (λ x. y ≢ x) (λ x k e. k.0 (sym e)) xs h,
+  apart_swap xs ys (all_more (λ x. IsOutside x (y ∷ ys)) (λ x. IsOutside x ys) (λ x k. k.1) xs h),
+)
+
+each_all : (Q : ℕ → Type 0) (numbers : Entry → List ℕ) (P : Entry → Option Key → Type 0) → ((x : Entry) (o : Option Key) → P x o → AllByRecursion Q (numbers x))
+    → (xs : List Entry) (end : Option Key) → EachTo P xs end → AllByRecursion Q (flat_map numbers xs)
+each_all Q numbers P f [] end h = tt
+each_all Q numbers P f (x ∷ xs) end h = all_append Q (numbers x) (flat_map numbers xs) (f x (first_or xs end) h.0) (each_all Q numbers P f xs end h.1)
+
+-- the pages under an entry are pages of the store
+pub within_store : (last : ℕ) (pages : List (List ℕ)) (level : ℕ) (entry : Entry) (end : Option Key) → IsUnder last pages level entry end
+    → AllByRecursion (λ n. n < length pages) (pages_under pages level entry)
+within_store last pages zero entry end h = tt
+within_store last pages (suc level) entry end h = (
+  slice_get_within pages entry.page (page_in pages entry.page) h.0.there,
+  each_all (λ n. n < length pages) (pages_under pages level) (IsUnder last pages level) (within_store last pages level) (entries_of pages entry.page) end h.1,
+)
