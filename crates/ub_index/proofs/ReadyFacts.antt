@@ -6,7 +6,7 @@ use Rattle.std.specs.List.{AllByRecursion, IsDistinct, flat_map}
 use Rattle.ub_directory.specs.Spans.{first_keys}
 use Rattle.ub_page.specs.Entries.{IsEntry}
 use Rattle.ub_page.specs.declared.entries.Entry.{Entry}
-use Rattle.ub_region.proofs.Laws.{all_left, all_right}
+use Rattle.ub_region.proofs.Laws.{all_left, all_more, all_right}
 use Rattle.ub_store.specs.Facts.{StoreFacts, IsHonest, page_count}
 use Rattle.ub_store.specs.View.{PagerView}
 use Rattle.ub_store.specs.declared.fault.StoreFault.TheVariants as store
@@ -14,9 +14,9 @@ use Rattle.ub_table.proofs.Laws.{not_before_self}
 use Rattle.ub_table.specs.Keys.{origin}
 use Rattle.ub_table.specs.declared.row.Key.{Key}
 use Rattle.ub_index.specs.Changed.{Becomes, Replaces, Stays}
-use Rattle.ub_index.specs.Changing.{IsFine, IsTurnFault, NamesPage, Spelled, Stand, StayBut, named_as, sheet_of, spelled, with_added}
+use Rattle.ub_index.specs.Changing.{AreOnce, IsFine, IsTurnFault, NamesPage, Spelled, Stand, StayBut, named_as, sheet_of, so_far, with_added}
 use Rattle.ub_index.specs.Index.{entries_of, first_or, page_in, pages_under, AscendTo, EachTo, IsUnder, under, top}
-use Rattle.ub_index.specs.Preparing.{ChangeView, IsChangeFault, IsMade, IsPrepared, IsReachedOnce, IsReady, IsSettleFault, IsWithinSeat, PreparesAll, Settles, TurnsRoot, added_at, change_view, entry_at, pages_of_index}
+use Rattle.ub_index.specs.Preparing.{ChangeView, IsChangeFault, IsIndexThen, IsPrepared, IsReachedOnce, MakesIndex, IsSettleFault, IsWithinSeat, PreparesAll, Settles, TurnsRoot, added_at, change_view, entry_at, pages_of_index}
 use Rattle.ub_index.specs.View.{IndexView, IsIndexOn, IsSeatAt, entries_in}
 use Rattle.ub_index.specs.Way.{LeadsTo}
 use Rattle.ub_index.specs.declared.fault.IndexFault.{IndexFault}
@@ -26,7 +26,7 @@ use Rattle.ub_index.specs.declared.sheet.Sheet.{Sheet}
 use Rattle.ub_index.specs.declared.told.Told.{Told}
 use Rattle.ub_index.specs.declared.told.Told.TheVariants.{Same, Gone, One, Two}
 use Rattle.ub_index.proofs.Changes.{replaced, stays, told_index}
-use Rattle.ub_index.proofs.Numbers.{distinct_first, distinct_rest, within_store}
+use Rattle.ub_index.proofs.Numbers.{IsOutside, distinct_cons, distinct_first, distinct_rest, once_join, outside_less, within_store}
 use Rattle.ub_index.proofs.OrderFacts.{first_through, under_first}
 use Rattle.ub_index.proofs.PlaceFacts.{index_of_first, seat_first, up}
 use Rattle.ub_index.proofs.SpreadFacts.{node_so, told_on}
@@ -119,6 +119,20 @@ module _ (index : IndexView) (small : index.last < 2 ^ 128) (low : 1 ≤ index.l
   fs : List Entry
   fs = named_as (with_added added r.found) r.found
 
+  -- the next page's number is none of the index's
+  next_outside : IsOutside middle.next (pages_of_index index store)
+  next_outside =
+      outside_less middle.next (pages_of_index index store)
+      (all_more (λ n. n < length store.pages) (λ n. n < middle.next) (λ n less. let g = r.grown in omega arith) (pages_of_index index store)
+      (within_store index.last store.pages index.levels (top index.root) None is.under_it))
+
+  first_less : 0 < from.next
+  first_less = some_page index.levels low is.under_it
+    where
+      some_page : (level : ℕ) → 1 ≤ level → IsUnder index.last store.pages level (top index.root) None → 0 < from.next
+      some_page zero l u = absurd (omega arith)
+      some_page (suc level) l u = let near = slice_get_within store.pages index.root (page_in store.pages index.root) u.0.there in omega arith
+
   sheets_are : middle.sheets ≡ r.sheets
   sheets_are = r.sheets_are ∙ ap (λ (xs : List Sheet). xs ++ r.sheets) start
 
@@ -146,9 +160,16 @@ module _ (index : IndexView) (small : index.last < 2 ^ 128) (low : 1 ≤ index.l
         let both : Some t.first ≡ Some origin = sym here ∙ (ap (λ (xs : List Entry). first_or xs None) list ∙ there) in
         cc
 
+    -- no page that is told is the store's first
+    outside_first : IsOutside 0 (flat_map (pages_under later index.levels) (named_as told (top index.root)))
+    outside_first = r.among later stand stay 0 (inl (let f = first_less in omega arith)) (distinct_first 0 (pages_of_index index store) own)
+
+    pages_one : named_as told (top index.root) ≡ top index.root ∷ [] → flat_map (pages_under later index.levels) (named_as told (top index.root)) ≡ pages_under later index.levels (top index.root)
+    pages_one list = ap (λ (xs : List Entry). flat_map (pages_under later index.levels) xs) list ∙ append-nil (pages_under later index.levels (top index.root))
+
     -- where one entry is told
     made_one : (other : Entry) → named_as told (top index.root) ≡ other ∷ []
-        → IsMade index.last later index.root index.levels (Replaces r.found fs (entries_in index store))
+        → IsIndexThen index.last later index.root index.levels (Replaces r.found fs (entries_in index store))
     made_one other e =
         let page : other.page ≡ index.root = one_page index.last store.pages later r.found fs r.next index.levels (top index.root) None other low
         (subst (λ (xs : List Entry). Becomes index.last store.pages later r.found fs r.next index.levels (top index.root) None xs) e becomes) in
@@ -159,6 +180,8 @@ module _ (index : IndexView) (small : index.last < 2 ^ 128) (low : 1 ≤ index.l
           low = low;
           high = high;
           under_it = each.0;
+          reached = distinct_cons 0 (pages_under later index.levels (top index.root)) (subst (λ (ns : List ℕ). IsOutside 0 ns) (pages_one list) outside_first)
+              (subst (λ (ns : List ℕ). IsDistinct nat_eq ns) (pages_one list) (r.reached later stand stay));
           entries_are = subst (λ (xs : List Entry). Replaces r.found fs (entries_in index store) xs)
               (ap (λ (xs : List Entry). flat_map (under later index.levels) xs) list ∙ append-nil (under later index.levels (top index.root))) whole;
         }
@@ -166,7 +189,7 @@ module _ (index : IndexView) (small : index.last < 2 ^ 128) (low : 1 ≤ index.l
     -- where two are, and a new root names them
     made_two : (left right : Entry) → named_as told (top index.root) ≡ left ∷ right ∷ [] → index.levels < 16
         → Stand later (sheet_of middle.next (index.levels + 1) (left ∷ right ∷ []) ∷ [])
-        → IsMade index.last later middle.next (index.levels + 1) (Replaces r.found fs (entries_in index store))
+        → IsIndexThen index.last later middle.next (index.levels + 1) (Replaces r.found fs (entries_in index store))
     made_two left right e less root_stands =
         let one : index.levels + 1 ≡ suc index.levels = omega arith in
         let entries : List Entry = left ∷ right ∷ [] in
@@ -181,29 +204,52 @@ module _ (index : IndexView) (small : index.last < 2 ^ 128) (low : 1 ≤ index.l
         record { page_is = refl; begins = ap (λ (k : Key). Some k) (first_origin left (right ∷ []) e) } in
         let told_root = told_on index.last small later middle.next (suc index.levels) (left ∷ right ∷ []) (top middle.next) stands.0 is_node names in
         let index_there = told_index index.last later index.levels (left ∷ right ∷ []) (top middle.next) None told_root up_all each in
+        let pages : middle.next ∷ flat_map (pages_under later index.levels) (named_as told (top index.root)) ≡ pages_under later (suc index.levels) (top middle.next) =
+        ap (λ (xs : List Entry). middle.next ∷ flat_map (pages_under later index.levels) xs) (e ∙ sym told_root.entries_are) in
         let list : flat_map (under later index.levels) (named_as told (top index.root)) ≡ under later (suc index.levels) (top middle.next) =
         ap (λ (xs : List Entry). flat_map (under later index.levels) xs) (e ∙ sym told_root.entries_are) in
-        subst (λ (n : ℕ). IsMade index.last later middle.next n (Replaces r.found fs (entries_in index store))) (sym one) (record {
+        subst (λ (n : ℕ). IsIndexThen index.last later middle.next n (Replaces r.found fs (entries_in index store))) (sym one) (record {
           low = omega arith;
           high = omega arith;
           under_it = index_there;
+          reached = subst (λ (ns : List ℕ). IsDistinct nat_eq (0 ∷ ns)) pages
+              (distinct_cons 0 (middle.next ∷ flat_map (pages_under later index.levels) (named_as told (top index.root))) ((λ z. let f = first_less in let g = r.grown in omega arith), outside_first)
+              (distinct_cons middle.next (flat_map (pages_under later index.levels) (named_as told (top index.root)))
+              (r.among later stand stay middle.next (inr (omega arith)) next_outside) (r.reached later stand stay)));
           entries_are = subst (λ (xs : List Entry). Replaces r.found fs (entries_in index store) xs) list whole;
         })
 
-  pub ready : (change : ChangeView) → Settles index.root index.levels told (page_count store) middle change
-      → IsReady index store change (Replaces r.found (named_as (with_added added r.found) r.found) (entries_in index store))
+  once_then : (change : ChangeView) → Settles index.root index.levels told (page_count store) middle change → AreOnce change.sheets
+  once_then change settles = by_told told settles
+    where
+      kept : change ≡ change_view middle (page_count store) index.root index.levels → AreOnce change.sheets
+      kept same = subst (λ (xs : List Sheet). AreOnce xs) (sym (ap (λ (c : ChangeView). c.sheets) same ∙ sheets_are)) r.once
+
+      by_told : (t : Told) → Settles index.root index.levels t (page_count store) middle change → AreOnce change.sheets
+      by_told Same h = kept h
+      by_told Gone h = absurd h
+      by_told (One other) h = kept h
+      by_told (Two left right) h =
+          let sheets : change.sheets ≡ r.sheets ++ sheet_of middle.next (index.levels + 1) (left ∷ right ∷ []) ∷ [] =
+          ap (λ (c : ChangeView). c.sheets) h.2 ∙ ap (λ (xs : List Sheet). xs ++ sheet_of middle.next (index.levels + 1) (left ∷ right ∷ []) ∷ []) sheets_are in
+          subst (λ (xs : List Sheet). AreOnce xs) (sym sheets)
+          (once_join r.sheets (sheet_of middle.next (index.levels + 1) (left ∷ right ∷ []) ∷ []) r.once (tt, tt) (r.outside middle.next (inr (omega arith)) next_outside, tt))
+
+  ready_then : (change : ChangeView) → Settles index.root index.levels told (page_count store) middle change
+      → (later : List (List ℕ)) → Stand later change.sheets → StayBut store.pages later change.sheets (pages_of_index index store)
+      → IsIndexThen index.last later change.root change.levels (Replaces r.found (named_as (with_added added r.found) r.found) (entries_in index store))
   unfolding fs
-  ready change settles later stand stay = by_told told refl settles
+  ready_then change settles later stand stay = by_told told refl settles
     where
       kept : (same : change ≡ change_view middle (page_count store) index.root index.levels) (other : Entry) → named_as told (top index.root) ≡ other ∷ []
-          → IsMade index.last later change.root change.levels (Replaces r.found (named_as (with_added added r.found) r.found) (entries_in index store))
+          → IsIndexThen index.last later change.root change.levels (Replaces r.found (named_as (with_added added r.found) r.found) (entries_in index store))
       kept same other e =
           let sheets : change.sheets ≡ r.sheets = ap (λ (c : ChangeView). c.sheets) same ∙ sheets_are in
           let made = made_one later (subst (λ (xs : List Sheet). Stand later xs) sheets stand) (subst (λ (xs : List Sheet). StayBut store.pages later xs (pages_of_index index store)) sheets stay) other e in
-          subst (λ (c : ChangeView). IsMade index.last later c.root c.levels (Replaces r.found (named_as (with_added added r.found) r.found) (entries_in index store))) (sym same) made
+          subst (λ (c : ChangeView). IsIndexThen index.last later c.root c.levels (Replaces r.found (named_as (with_added added r.found) r.found) (entries_in index store))) (sym same) made
 
       by_told : (t : Told) → told ≡ t → Settles index.root index.levels t (page_count store) middle change
-          → IsMade index.last later change.root change.levels (Replaces r.found (named_as (with_added added r.found) r.found) (entries_in index store))
+          → IsIndexThen index.last later change.root change.levels (Replaces r.found (named_as (with_added added r.found) r.found) (entries_in index store))
       by_told Same e h = kept h (top index.root) (ap (λ (t : Told). named_as t (top index.root)) e)
       by_told Gone e h = absurd h
       by_told (One other) e h = kept h other (ap (λ (t : Told). named_as t (top index.root)) e)
@@ -221,7 +267,11 @@ module _ (index : IndexView) (small : index.last < 2 ^ 128) (low : 1 ≤ index.l
           (within_store index.last store.pages index.levels (top index.root) None is.under_it) far stay_all)
           left right (ap (λ (t : Told). named_as t (top index.root)) e) h.0
           (all_right (λ (s : Sheet). slice_get later s.number ≡ Some s.page) r.sheets (sheet_of middle.next (index.levels + 1) (left ∷ right ∷ []) ∷ []) stand_all) in
-          subst (λ (c : ChangeView). IsMade index.last later c.root c.levels (Replaces r.found (named_as (with_added added r.found) r.found) (entries_in index store))) (sym h.2) made
+          subst (λ (c : ChangeView). IsIndexThen index.last later c.root c.levels (Replaces r.found (named_as (with_added added r.found) r.found) (entries_in index store))) (sym h.2) made
+
+  pub ready : (change : ChangeView) → Settles index.root index.levels told (page_count store) middle change
+      → MakesIndex index store change (Replaces r.found (named_as (with_added added r.found) r.found) (entries_in index store))
+  ready change settles = (once_then change settles, ready_then change settles)
 
 -- the way to the first key of a seat ends at its region
 pub seat_found : (index : IndexView) (store : StoreFacts) (i : ℕ) (seat : Seat) → IsIndexOn index store → IsSeatAt (entries_in index store) i seat → (found : Entry) (next : Option Key)
@@ -250,8 +300,8 @@ begin_same (b ∷ before) f x after key h = h
 
 pub ready_added : (index : IndexView) (store : StoreFacts) (i : ℕ) (seat : Seat) (first : Key) (change : ChangeView) → index.last < 2 ^ 128 → index.levels ≤ 16 → page_count store < 4294967296
     → IsIndexOn index store → IsReachedOnce index store → IsSeatAt (entries_in index store) i seat → IsWithinSeat index.last seat.first seat.next first
-    → IsPrepared index store seat.first (Some (added_at first store)) (page_count store) (spelled [] (page_count store + 1)) change
-    → IsReady index store change (Replaces (entry_at seat) (entry_at seat ∷ added_at first store ∷ []) (entries_in index store))
+    → IsPrepared index store seat.first (Some (added_at first store)) (page_count store) (so_far [] (page_count store + 1)) change
+    → MakesIndex index store change (Replaces (entry_at seat) (entry_at seat ∷ added_at first store ∷ []) (entries_in index store))
 ready_added index store i seat first change small high few is own at within (middle, told, turns, settles) =
     let added : Option Entry = Some (added_at first store) in
     let whole = root_entry index.last store.pages index.root index.levels is.some few own is.under_it in
@@ -261,15 +311,15 @@ ready_added index store i seat first change small high few is own at within (mid
     let whole_seat = subst (λ (e : Entry). IsEntry index.last e) same.0 (leads_entry index.last store.pages seat.first index.levels (top index.root) None found next whole leads) in
     subst (λ (e : Entry). IsFine index.last (Some (added_at first store)) e next) (sym same.0)
     (subst (λ (o : Option Key). IsFine index.last (Some (added_at first store)) (entry_at seat) o) (sym same.1) (added_fine index store seat first whole_seat some few within)) in
-    let r = rises index.last small store.pages seat.first (Some (added_at first store)) index.levels (top index.root) None (spelled [] (page_count store + 1)) middle told (omega arith) is.under_it whole
+    let r = rises index.last small store.pages seat.first (Some (added_at first store)) index.levels (top index.root) None (so_far [] (page_count store + 1)) middle told (omega arith) is.under_it whole
     (distinct_rest 0 (pages_of_index index store) own) fine_at turns in
     let found = seat_found index store i seat is at r.found r.next r.leads in
     let begins : (before after : List Entry) → entries_in index store ≡ before ++ (r.found ∷ after) → first_or (before ++ ((r.found ∷ added_at first store ∷ []) ++ after)) None ≡ Some origin = λ before after parts.
     begin_same before r.found (added_at first store) after origin
     (subst (λ (xs : List Entry). first_or xs None ≡ Some origin) parts (under_first index.last store.pages index.levels (top index.root) None is.under_it)) in
-    let made = ready index small is.some high store seat.first (Some (added_at first store)) (spelled [] (page_count store + 1)) middle told (omega arith) refl is own few r (fine_at r.found r.next r.leads) begins
+    let made = ready index small is.some high store seat.first (Some (added_at first store)) (so_far [] (page_count store + 1)) middle told (omega arith) refl is own few r (fine_at r.found r.next r.leads) begins
     change settles in
-    subst (λ (e : Entry). IsReady index store change (Replaces e (e ∷ added_at first store ∷ []) (entries_in index store))) found.0 made
+    subst (λ (e : Entry). MakesIndex index store change (Replaces e (e ∷ added_at first store ∷ []) (entries_in index store))) found.0 made
   where
     some_page : (level : ℕ) → 1 ≤ level → IsUnder index.last store.pages level (top index.root) None → 1 ≤ page_count store
     some_page zero l u = absurd (omega arith)

@@ -10,7 +10,7 @@ use Rattle.ub_page.specs.declared.entries.Entry.{Entry}
 use Rattle.ub_region.proofs.Laws.{all_append, all_both, all_left, all_more, all_right}
 use Rattle.ub_table.specs.declared.row.Key.{Key}
 use Rattle.ub_index.specs.Changed.{PagesStay, Becomes, IsTold, Stays}
-use Rattle.ub_index.specs.Changing.{IsFine, IsUnspelled, Mends, Spelled, Spreads, Stand, StayBut, Turns, named_as, with_added}
+use Rattle.ub_index.specs.Changing.{AreOnce, IsFine, IsUnspelled, Mends, Spelled, Spreads, Stand, StayBut, Turns, named_as, with_added}
 use Rattle.ub_index.specs.Fitting.{FallsTo}
 use Rattle.ub_index.specs.Index.{entries_of, first_or, page_in, AscendTo, EachTo, IsUnder, pages_under}
 use Rattle.ub_index.specs.Way.{LeadsTo}
@@ -19,8 +19,8 @@ use Rattle.ub_index.specs.declared.told.Told.{Told}
 use Rattle.ub_index.specs.declared.told.Told.TheVariants.{Same, Gone, One, Two}
 use Rattle.ub_index.proofs.Changes.{kept_named, not_before, same_entries, stays}
 use Rattle.ub_index.proofs.Lists.{ascend_join, ascend_later, ascend_left, ascend_right, each_right}
-use Rattle.ub_index.proofs.Numbers.{IsOutside, StandApart, apart_swap, distinct_apart, distinct_first, distinct_left, distinct_rest, distinct_right, within_store}
-use Rattle.ub_index.proofs.SpreadFacts.{new_sheets, spread_named, spread_next, spread_outside, spread_sheets, stand_spread}
+use Rattle.ub_index.proofs.Numbers.{IsNoNew, IsOutside, StandApart, apart_swap, distinct_apart, distinct_cons, distinct_first, distinct_join, distinct_left, distinct_rest, distinct_right, kept_pages_list, no_new_left, no_new_right, once_join, outside_less, within_store}
+use Rattle.ub_index.proofs.SpreadFacts.{ToldOn, new_sheets, one_pages, pages_among, pages_own, spread_apart, spread_named, spread_next, spread_once, spread_outside, spread_sheets, stand_told, told_spread}
 
 -- what a change makes of an entry: which region's entry it turns at, the pages that it spells, and what holds on all later pages on
 -- which those stand, and the other ones as they were
@@ -32,7 +32,11 @@ pub record Risen (last : ℕ) (old : List (List ℕ)) (key : Key) (added : Optio
   pub sheets_are : to.sheets ≡ from.sheets ++ sheets
   pub grown : from.next ≤ to.next
   pub named : AllByRecursion (IsEntry last) (named_as told entry)
-  pub outside : (n : ℕ) → n < from.next → IsOutside n (pages_under old level entry) → IsUnspelled n sheets
+  pub outside : (n : ℕ) → IsNoNew from.next to.next n → IsOutside n (pages_under old level entry) → IsUnspelled n sheets
+  pub once : AreOnce sheets
+  pub reached : (later : List (List ℕ)) → Stand later sheets → StayBut old later sheets (pages_under old level entry) → IsDistinct nat_eq (flat_map (pages_under later level) (named_as told entry))
+  pub among : (later : List (List ℕ)) → Stand later sheets → StayBut old later sheets (pages_under old level entry) → (n : ℕ) → IsNoNew from.next to.next n
+      → IsOutside n (pages_under old level entry) → IsOutside n (flat_map (pages_under later level) (named_as told entry))
   pub becomes : (later : List (List ℕ)) → Stand later sheets → StayBut old later sheets (pages_under old level entry)
       → Becomes last old later found (named_as (with_added added found) found) next level entry end (named_as told entry)
 
@@ -161,25 +165,71 @@ module _ (last : ℕ) (small : last < 2 ^ 128) (old : List (List ℕ)) (key : Ke
           all_append (IsEntry last) falls.before (named_as news below ++ falls.after) (all_left (IsEntry last) falls.before (below ∷ falls.after) entries_all)
           (all_append (IsEntry last) (named_as news below) falls.after r.named (all_right (IsEntry last) falls.before (below ∷ falls.after) entries_all).1)
 
+      mended_pages : (later : List (List ℕ)) → PagesStay old later A → PagesStay old later C
+          → flat_map (pages_under later level) mended ≡ A ++ (flat_map (pages_under later level) (named_as news below) ++ C)
+      unfolding mended A C
+      mended_pages later kept_a kept_c =
+          flat_map-append (pages_under later level) falls.before (named_as news below ++ falls.after)
+          ∙ (ap (λ (ns : List ℕ). flat_map (pages_under later level) falls.before ++ ns) (flat_map-append (pages_under later level) (named_as news below) falls.after)
+          ∙ (ap (λ (ns : List ℕ). ns ++ (flat_map (pages_under later level) (named_as news below) ++ flat_map (pages_under later level) falls.after)) (kept_pages_list old later level falls.before kept_a)
+          ∙ ap (λ (ns : List ℕ). flat_map (pages_under old level) falls.before ++ (flat_map (pages_under later level) (named_as news below) ++ ns))
+          (kept_pages_list old later level falls.after kept_c)))
+
+      module _ (later : List (List ℕ)) (stand_below : Stand later r.sheets) (stay_below : StayBut old later r.sheets B) (kept_a : PagesStay old later A) (kept_c : PagesStay old later C) where
+        N : List ℕ
+        N = flat_map (pages_under later level) (named_as news below)
+
+        among_below : (n : ℕ) → IsNoNew from.next middle.next n → IsOutside n B → IsOutside n N
+        unfolding N B
+        among_below n new h = r.among later stand_below stay_below n new h
+
+        off : (ns : List ℕ) → AllByRecursion (λ n. n < from.next) ns → StandApart ns B → StandApart ns N
+        off ns lt h = all_both (λ n. n < from.next) (λ n. IsOutside n B) (λ n. IsOutside n N) (λ n less k. among_below n (inl less) k) ns lt h
+
+        reached_parts : IsDistinct nat_eq (A ++ (N ++ C))
+        unfolding N B
+        reached_parts =
+            let a_c = all_more (λ n. IsOutside n (B ++ C)) (λ n. IsOutside n C) (λ n h. all_right (λ m. n ≢ m) B C h) A (distinct_apart A (B ++ C) apart) in
+            let reached_nc = distinct_join N C (r.reached later stand_below stay_below) (distinct_right B C (distinct_right A (B ++ C) apart)) (apart_swap C N (off C less_c after_apart)) in
+            let apart_a : StandApart A (N ++ C) =
+            all_both (λ n. IsOutside n N) (λ n. IsOutside n C) (λ n. IsOutside n (N ++ C)) (λ n h k. all_append (λ m. n ≢ m) N C h k) A (off A less_a before_apart) a_c in
+            distinct_join A (N ++ C) (distinct_left A (B ++ C) apart) reached_nc apart_a
+
+        among_parts : (n : ℕ) → IsNoNew from.next middle.next n → IsOutside n (A ++ (B ++ C)) → IsOutside n (A ++ (N ++ C))
+        among_parts n new h =
+            let right = all_right (λ m. n ≢ m) A (B ++ C) h in
+            all_append (λ m. n ≢ m) A (N ++ C) (all_left (λ m. n ≢ m) A (B ++ C) h)
+            (all_append (λ m. n ≢ m) N C (among_below n new (all_left (λ m. n ≢ m) B C right)) (all_right (λ m. n ≢ m) B C right))
+
+        reached_mended : IsDistinct nat_eq (flat_map (pages_under later level) mended)
+        unfolding N
+        reached_mended = subst (λ (ns : List ℕ). IsDistinct nat_eq ns) (sym (mended_pages later kept_a kept_c)) reached_parts
+
+        among_mended : (n : ℕ) → IsNoNew from.next middle.next n → IsOutside n (A ++ (B ++ C)) → IsOutside n (flat_map (pages_under later level) mended)
+        unfolding N
+        among_mended n new h = subst (λ (ns : List ℕ). IsOutside n ns) (sym (mended_pages later kept_a kept_c)) (among_parts n new h)
+
       module _ (to : Spelled) (told : Told) (spread : Spreads (suc level) entry mended middle to told) where
         extra : List Sheet
         extra = new_sheets (suc level) entry mended middle.next told
 
-        P : ℕ → Type 0
-        P n = IsUnspelled n (r.sheets ++ extra)
+        more : middle.next ≤ to.next
+        more = spread_next (suc level) entry mended middle to told spread
 
-        far : (n : ℕ) → n < from.next → n ≢ entry.page → IsOutside n B → IsUnspelled n (r.sheets ++ extra)
+        page_less : entry.page < middle.next
+        page_less = let g = r.grown in let p = page_there in omega arith
+
+        far : (n : ℕ) → IsNoNew from.next to.next n → n ≢ entry.page → IsOutside n B → IsUnspelled n (r.sheets ++ extra)
         unfolding B extra
-        far n lt p h =
-            let g = r.grown in
-            let new : n ≢ middle.next = λ e. omega arith in
-            unspelled_left n r.sheets extra (r.outside n lt h) (spread_outside (suc level) entry mended middle.next told n p new)
+        far n new p h =
+            unspelled_left n r.sheets extra (r.outside n (no_new_left from.next middle.next to.next n more new) h)
+            (spread_outside (suc level) entry mended middle to told spread n p (no_new_right from.next middle.next to.next n r.grown new))
 
         -- of a part of the store's pages that stands apart from the way
         far_of : (later : List (List ℕ)) (ns : List ℕ) → AllByRecursion (λ n. n < from.next) ns → IsOutside entry.page ns → StandApart ns B
             → StayBut old later (r.sheets ++ extra) ns → PagesStay old later ns
         far_of later [] lt ow ap_b st = tt
-        far_of later (n ∷ ns) lt ow ap_b st = (st.0 (far n lt.0 (λ e. ow.0 (sym e)) ap_b.0), far_of later ns lt.1 ow.1 ap_b.1 st.1)
+        far_of later (n ∷ ns) lt ow ap_b st = (st.0 (far n (inl lt.0) (λ e. ow.0 (sym e)) ap_b.0), far_of later ns lt.1 ow.1 ap_b.1 st.1)
 
         below_stay : (later : List (List ℕ)) (ns : List ℕ) → AllByRecursion (λ n. n < from.next) ns → IsOutside entry.page ns → StayBut old later (r.sheets ++ extra) ns
             → StayBut old later r.sheets ns
@@ -189,35 +239,63 @@ module _ (last : ℕ) (small : last < 2 ^ 128) (old : List (List ℕ)) (key : Ke
           where
             kept_free : (m : ℕ) → m < from.next → m ≢ entry.page → IsUnspelled m r.sheets → IsUnspelled m (r.sheets ++ extra)
             kept_free m lt p free =
-                let g = r.grown in
-                let new : m ≢ middle.next = λ e. omega arith in
-                unspelled_left m r.sheets extra free (spread_outside (suc level) entry mended middle.next told m p new)
+                unspelled_left m r.sheets extra free
+                (spread_outside (suc level) entry mended middle to told spread m p (no_new_right from.next middle.next to.next m r.grown (inl lt)))
 
-        becomes_so : (later : List (List ℕ)) → Stand later (r.sheets ++ extra) → StayBut old later (r.sheets ++ extra) (pages_under old (suc level) entry)
-            → Becomes last old later r.found (named_as (with_added added r.found) r.found) r.next (suc level) entry end (named_as told entry)
-        unfolding A B C mended extra
-        becomes_so later stand stay =
-            let stand_below = all_left (λ (s : Sheet). slice_get later s.number ≡ Some s.page) r.sheets extra stand in
-            let stay_parts : StayBut old later (r.sheets ++ extra) (A ++ (B ++ C)) = subst (λ (ns : List ℕ). StayBut old later (r.sheets ++ extra) ns) parts stay.1 in
-            let Q : ℕ → Type 0 = λ n. IsUnspelled n (r.sheets ++ extra) → slice_get later n ≡ slice_get old n in
-            let stay_a = all_left Q A (B ++ C) stay_parts in
-            let stay_b = all_left Q B C (all_right Q A (B ++ C) stay_parts) in
-            let stay_c = all_right Q B C (all_right Q A (B ++ C) stay_parts) in
-            let own_a = all_left (λ m. entry.page ≢ m) A (B ++ C) own in
-            let own_c = all_right (λ m. entry.page ≢ m) B C (all_right (λ m. entry.page ≢ m) A (B ++ C) own) in
-            let below_it = below_stay later B less_b own_b stay_b in
-            let up = mended_up last old later level entry end falls.before below falls.after (named_as news below) is falls.parts (stays_below later stand_below below_it) in (
-              falls.before,
-              falls.after,
-              below,
-              named_as news below,
-              falls.parts,
-              becomes_below later stand_below below_it,
-              far_of later A less_a own_a before_apart stay_a,
-              far_of later C less_c own_c after_apart stay_c,
-              stand_spread last small later level entry mended end middle to told high spread mended_all up
-                  (all_right (λ (s : Sheet). slice_get later s.number ≡ Some s.page) r.sheets extra stand),
-            )
+        module _ (later : List (List ℕ)) (stand : Stand later (r.sheets ++ extra)) (stay : StayBut old later (r.sheets ++ extra) (pages_under old (suc level) entry)) where
+          stay_parts : StayBut old later (r.sheets ++ extra) (A ++ (B ++ C))
+          stay_parts = subst (λ (ns : List ℕ). StayBut old later (r.sheets ++ extra) ns) parts stay.1
+
+          stand_below : Stand later r.sheets
+          stand_below = all_left (λ (s : Sheet). slice_get later s.number ≡ Some s.page) r.sheets extra stand
+
+          Q : ℕ → Type 0
+          Q n = IsUnspelled n (r.sheets ++ extra) → slice_get later n ≡ slice_get old n
+
+          below_it : StayBut old later r.sheets B
+          unfolding Q
+          below_it = below_stay later B less_b own_b (all_left Q B C (all_right Q A (B ++ C) stay_parts))
+
+          kept_a : PagesStay old later A
+          unfolding Q
+          kept_a = far_of later A less_a (all_left (λ m. entry.page ≢ m) A (B ++ C) own) before_apart (all_left Q A (B ++ C) stay_parts)
+
+          kept_c : PagesStay old later C
+          unfolding Q
+          kept_c = far_of later C less_c (all_right (λ m. entry.page ≢ m) B C (all_right (λ m. entry.page ≢ m) A (B ++ C) own)) after_apart (all_right Q B C (all_right Q A (B ++ C) stay_parts))
+
+          told_so : ToldOn last small later (suc level) entry mended middle.next told
+          unfolding mended extra
+          told_so =
+              let up = mended_up last old later level entry end falls.before below falls.after (named_as news below) is falls.parts (stays_below later stand_below below_it) in
+              told_spread last small later level entry mended end middle to told high spread mended_all up
+              (all_right (λ (s : Sheet). slice_get later s.number ≡ Some s.page) r.sheets extra stand)
+
+          becomes_so : Becomes last old later r.found (named_as (with_added added r.found) r.found) r.next (suc level) entry end (named_as told entry)
+          unfolding A C mended
+          becomes_so = (
+            falls.before,
+            falls.after,
+            below,
+            named_as news below,
+            falls.parts,
+            becomes_below later stand_below below_it,
+            kept_a,
+            kept_c,
+            stand_told last small later (suc level) entry mended middle.next told told_so,
+          )
+
+          reached_so : IsDistinct nat_eq (flat_map (pages_under later (suc level)) (named_as told entry))
+          reached_so =
+              let out_p = among_mended later stand_below below_it kept_a kept_c entry.page (inl (let p = page_there in omega arith)) own in
+              let all_less : AllByRecursion (λ n. n < middle.next) (A ++ (B ++ C)) = all_more (λ n. n < from.next) (λ n. n < middle.next) (λ n lt. let g = r.grown in omega arith) (A ++ (B ++ C)) less in
+              let out_q = among_mended later stand_below below_it kept_a kept_c middle.next (inr (omega arith)) (outside_less middle.next (A ++ (B ++ C)) all_less) in
+              pages_own last small later level entry mended middle.next told told_so (reached_mended later stand_below below_it kept_a kept_c) out_p out_q page_less
+
+          among_so : (n : ℕ) → IsNoNew from.next to.next n → IsOutside n (pages_under old (suc level) entry) → IsOutside n (flat_map (pages_under later (suc level)) (named_as told entry))
+          among_so n new h =
+              pages_among last small later level entry mended middle to told spread told_so n h.0 (no_new_right from.next middle.next to.next n r.grown new)
+              (among_mended later stand_below below_it kept_a kept_c n (no_new_left from.next middle.next to.next n more new) (subst (λ (ns : List ℕ). IsOutside n ns) parts h.1))
 
         -- where what stands on the page is spelled anew
         rise_spread : Risen last old key added (suc level) entry end from to told
@@ -230,7 +308,12 @@ module _ (last : ℕ) (small : last < 2 ^ 128) (old : List (List ℕ)) (key : Ke
           sheets_are = spread_sheets (suc level) entry mended middle to told spread ∙ (ap (λ (xs : List Sheet). xs ++ extra) r.sheets_are ∙ append_assoc from.sheets r.sheets extra);
           grown = let g = r.grown in let h = spread_next (suc level) entry mended middle to told spread in omega arith;
           named = spread_named last (suc level) entry mended middle to told spread whole (let g = r.grown in let p = page_there in omega arith) mended_all;
-          outside = λ n lt h. far n lt h.0 (all_left (λ m. n ≢ m) B C (all_right (λ m. n ≢ m) A (B ++ C) (subst (λ (ns : List ℕ). IsOutside n ns) parts h.1)));
+          outside = λ n new h. far n new h.0 (all_left (λ m. n ≢ m) B C (all_right (λ m. n ≢ m) A (B ++ C) (subst (λ (ns : List ℕ). IsOutside n ns) parts h.1)));
+          once = once_join r.sheets extra r.once (spread_once (suc level) entry mended middle.next told page_less)
+              (spread_apart (suc level) entry mended middle.next told r.sheets (r.outside entry.page (inl (let p = page_there in omega arith)) own_b)
+              (r.outside middle.next (inr (omega arith)) (outside_less middle.next B (all_more (λ n. n < from.next) (λ n. n < middle.next) (λ n lt. let g = r.grown in omega arith) B less_b))));
+          reached = reached_so;
+          among = among_so;
           becomes = becomes_so;
         }
 
@@ -239,37 +322,66 @@ module _ (last : ℕ) (small : last < 2 ^ 128) (old : List (List ℕ)) (key : Ke
         list : falls.before ++ (below ∷ falls.after) ≡ falls.before ++ (named_as news below ++ falls.after)
         list = ap (λ (t : Told). falls.before ++ (named_as t below ++ falls.after)) (sym unchanged)
 
-        same_becomes : (later : List (List ℕ)) → Stand later r.sheets → StayBut old later r.sheets (pages_under old (suc level) entry)
-            → Becomes last old later r.found (named_as (with_added added r.found) r.found) r.next (suc level) entry end (entry ∷ [])
-        unfolding A B C
-        same_becomes later stand stay =
-            let stay_parts : StayBut old later r.sheets (A ++ (B ++ C)) = subst (λ (ns : List ℕ). StayBut old later r.sheets ns) parts stay.1 in
-            let Q : ℕ → Type 0 = λ n. IsUnspelled n r.sheets → slice_get later n ≡ slice_get old n in
-            let stay_a = all_left Q A (B ++ C) stay_parts in
-            let stay_b = all_left Q B C (all_right Q A (B ++ C) stay_parts) in
-            let stay_c = all_right Q B C (all_right Q A (B ++ C) stay_parts) in
-            let lt : entry.page < from.next = (let p = page_there in omega arith) in
-            let here = stay.0 (r.outside entry.page lt own_b) in
-            let kept = kept_named last old later (suc level) entry end here is.0 in
-            let begins : first_or (falls.before ++ (below ∷ falls.after)) None ≡ Some entry.first =
-            subst (λ (xs : List Entry). first_or xs None ≡ Some entry.first) falls.parts is.0.fits.begins in
-            let told : IsTold last later (suc level) (falls.before ++ (below ∷ falls.after)) entry = record {
-              there = kept.there;
-              is = kept.fits.is;
-              level_is = kept.fits.level_is;
-              entries_are = same_entries old later entry.page here ∙ falls.parts;
-              begins = begins;
-            } in (
-              falls.before,
-              falls.after,
-              below,
-              named_as news below,
-              falls.parts,
-              becomes_below later stand stay_b,
-              stay_apart old later r.sheets from.next B A r.outside less_a before_apart stay_a,
-              stay_apart old later r.sheets from.next B C r.outside less_c after_apart stay_c,
-              inr (inl (entry, refl, refl, subst (λ (xs : List Entry). IsTold last later (suc level) xs entry) list told)),
-            )
+        module _ (later : List (List ℕ)) (stand : Stand later r.sheets) (stay : StayBut old later r.sheets (pages_under old (suc level) entry)) where
+          same_parts : StayBut old later r.sheets (A ++ (B ++ C))
+          same_parts = subst (λ (ns : List ℕ). StayBut old later r.sheets ns) parts stay.1
+
+          S : ℕ → Type 0
+          S n = IsUnspelled n r.sheets → slice_get later n ≡ slice_get old n
+
+          same_below : StayBut old later r.sheets B
+          unfolding S
+          same_below = all_left S B C (all_right S A (B ++ C) same_parts)
+
+          same_a : PagesStay old later A
+          unfolding S B
+          same_a = stay_apart old later r.sheets from.next B A (λ n lt h. r.outside n (inl lt) h) less_a before_apart (all_left S A (B ++ C) same_parts)
+
+          same_c : PagesStay old later C
+          unfolding S B
+          same_c = stay_apart old later r.sheets from.next B C (λ n lt h. r.outside n (inl lt) h) less_c after_apart (all_right S B C (all_right S A (B ++ C) same_parts))
+
+          page_new : entry.page < from.next
+          page_new = let p = page_there in omega arith
+
+          same_told : IsTold last later (suc level) mended entry
+          unfolding mended B
+          same_told =
+              let here = stay.0 (r.outside entry.page (inl page_new) own_b) in
+              let kept = kept_named last old later (suc level) entry end here is.0 in
+              let begins : first_or (falls.before ++ (below ∷ falls.after)) None ≡ Some entry.first =
+              subst (λ (xs : List Entry). first_or xs None ≡ Some entry.first) falls.parts is.0.fits.begins in
+              let told : IsTold last later (suc level) (falls.before ++ (below ∷ falls.after)) entry = record {
+                there = kept.there;
+                is = kept.fits.is;
+                level_is = kept.fits.level_is;
+                entries_are = same_entries old later entry.page here ∙ falls.parts;
+                begins = begins;
+              } in
+              subst (λ (xs : List Entry). IsTold last later (suc level) xs entry) list told
+
+          same_becomes : Becomes last old later r.found (named_as (with_added added r.found) r.found) r.next (suc level) entry end (entry ∷ [])
+          unfolding A C mended
+          same_becomes = (
+            falls.before,
+            falls.after,
+            below,
+            named_as news below,
+            falls.parts,
+            becomes_below later stand same_below,
+            same_a,
+            same_c,
+            inr (inl (entry, refl, refl, same_told)),
+          )
+
+          same_reached : IsDistinct nat_eq (flat_map (pages_under later (suc level)) (entry ∷ []))
+          same_reached = subst (λ (ns : List ℕ). IsDistinct nat_eq ns) (sym (one_pages last small later level mended entry same_told))
+              (distinct_cons entry.page (flat_map (pages_under later level) mended) (among_mended later stand same_below same_a same_c entry.page (inl page_new) own)
+              (reached_mended later stand same_below same_a same_c))
+
+          same_among : (n : ℕ) → IsNoNew from.next middle.next n → IsOutside n (pages_under old (suc level) entry) → IsOutside n (flat_map (pages_under later (suc level)) (entry ∷ []))
+          same_among n new h = subst (λ (ns : List ℕ). IsOutside n ns) (sym (one_pages last small later level mended entry same_told))
+              (h.0, among_mended later stand same_below same_a same_c n new (subst (λ (ns : List ℕ). IsOutside n ns) parts h.1))
 
         rise_same : Risen last old key added (suc level) entry end from middle Same
         unfolding A B C
@@ -281,7 +393,10 @@ module _ (last : ℕ) (small : last < 2 ^ 128) (old : List (List ℕ)) (key : Ke
           sheets_are = r.sheets_are;
           grown = r.grown;
           named = (whole, tt);
-          outside = λ n lt h. r.outside n lt (all_left (λ m. n ≢ m) B C (all_right (λ m. n ≢ m) A (B ++ C) (subst (λ (ns : List ℕ). IsOutside n ns) parts h.1)));
+          outside = λ n new h. r.outside n new (all_left (λ m. n ≢ m) B C (all_right (λ m. n ≢ m) A (B ++ C) (subst (λ (ns : List ℕ). IsOutside n ns) parts h.1)));
+          once = r.once;
+          reached = same_reached;
+          among = same_among;
           becomes = same_becomes;
         }
 
@@ -297,6 +412,14 @@ module _ (last : ℕ) (small : last < 2 ^ 128) (old : List (List ℕ)) (key : Ke
           by_news (One other) e h = rise_spread to told (subst (λ (t : Told). Spreads (suc level) entry (falls.before ++ (named_as t below ++ falls.after)) middle to told) (sym e) h)
           by_news (Two left right) e h = rise_spread to told (subst (λ (t : Told). Spreads (suc level) entry (falls.before ++ (named_as t below ++ falls.after)) middle to told) (sym e) h)
 
+  no_pages : (later : List (List ℕ)) (xs : List Entry) → flat_map (pages_under later zero) xs ≡ []
+  no_pages later [] = refl
+  no_pages later (x ∷ xs) = no_pages later xs
+
+  none_distinct : IsDistinct nat_eq []
+  unfolding IsDistinct
+  none_distinct = tt
+
   rise_here : (entry : Entry) (end : Option Key) (from : Spelled) → IsFine last added entry end → Risen last old key added zero entry end from from (with_added added entry)
   rise_here entry end from fine = record {
     found = entry;
@@ -306,7 +429,10 @@ module _ (last : ℕ) (small : last < 2 ^ 128) (old : List (List ℕ)) (key : Ke
     sheets_are = sym (append-nil from.sheets);
     grown = omega arith;
     named = fine.entries;
-    outside = λ n lt h. tt;
+    outside = λ n new h. tt;
+    once = tt;
+    reached = λ later stand stay. subst (λ (ns : List ℕ). IsDistinct nat_eq ns) (sym (no_pages later (named_as (with_added added entry) entry))) none_distinct;
+    among = λ later stand stay n new h. subst (λ (ns : List ℕ). IsOutside n ns) (sym (no_pages later (named_as (with_added added entry) entry))) tt;
     becomes = λ later stand stay. (refl, refl, refl);
   }
 

@@ -37,8 +37,8 @@ pub record Spelled : Type 0 where
   pub sheets : List Sheet
   pub next : ℕ
 
-abbrev pub spelled : List Sheet → ℕ → Spelled
-spelled sheets next = record { sheets = sheets; next = next }
+abbrev pub so_far : List Sheet → ℕ → Spelled
+so_far sheets next = record { sheets = sheets; next = next }
 
 -- the page of these entries of a level, under this number
 abbrev pub sheet_of : ℕ → ℕ → List Entry → Sheet
@@ -60,15 +60,15 @@ pub record NamesPage (number : ℕ) (entries : List Entry) (entry : Entry) : Typ
 abbrev pub Spreads : ℕ → Entry → List Entry → Spelled → Spelled → Told → Type 0
 Spreads level entry entries old new Same =
     (length entries ≤ 170) × (first_or entries None ≡ Some entry.first)
-    × (new ≡ spelled (old.sheets ++ sheet_of entry.page level entries ∷ []) old.next)
+    × (new ≡ so_far (old.sheets ++ sheet_of entry.page level entries ∷ []) old.next)
 Spreads level entry entries old new Gone = (entries ≡ []) × (new ≡ old)
 Spreads level entry entries old new (One other) =
     (length entries ≤ 170) × (other.first ≢ entry.first) × NamesPage entry.page entries other
-    × (new ≡ spelled (old.sheets ++ sheet_of entry.page level entries ∷ []) old.next)
+    × (new ≡ so_far (old.sheets ++ sheet_of entry.page level entries ∷ []) old.next)
 Spreads level entry entries old new (Two left right) =
     (length entries ≡ 171) × (old.next < 4294967295)
     × NamesPage entry.page (take 86 entries) left × NamesPage old.next (drop 86 entries) right
-    × (new ≡ spelled (old.sheets ++ sheet_of old.next level (drop 86 entries) ∷ sheet_of entry.page level (take 86 entries) ∷ [])
+    × (new ≡ so_far (old.sheets ++ sheet_of old.next level (drop 86 entries) ∷ sheet_of entry.page level (take 86 entries) ∷ [])
     (old.next + 1))
 
 -- an entry whose page has these entries before and after one that became `news`: it is as it was where that one is, and otherwise
@@ -136,3 +136,8 @@ pub record IsFine (last : ℕ) (added : Option Entry) (found : Entry) (next : Op
   pub up : AscendTo (named_as (with_added added found) found) next
   pub later : BeginFrom found.first (named_as (with_added added found) found)
   pub entries : AllByRecursion (IsEntry last) (named_as (with_added added found) found)
+
+-- no number is spelled twice
+abbrev pub AreOnce : List Sheet → Type 0
+AreOnce [] = Unit {0}
+AreOnce (sheet ∷ sheets) = IsUnspelled sheet.number sheets × AreOnce sheets

@@ -1,7 +1,7 @@
 -- A change of an index that is prepared: what it spells, and what the index is once that stands.
 use Rattle.std.specs.Prelude.{◌≡◌, ◌≤◌, ◌<◌, ◌+◌, ◌++◌, ◌⊎◌, ℕ, nat_eq, IsTrue, List, [], ◌∷◌, Option, Some, None, IfSome, Result, IfErr}
 use Rattle.std.specs.List.{IsDistinct}
-use Rattle.ub_index.specs.Changing.{Spelled, Stand, StayBut, Turns, sheet_of, spelled}
+use Rattle.ub_index.specs.Changing.{AreOnce, Spelled, Stand, StayBut, Turns, sheet_of, so_far}
 use Rattle.ub_index.specs.Index.{IsUnder, pages_under, top, under}
 use Rattle.ub_index.specs.Searching.{store_after}
 use Rattle.ub_index.specs.View.{IndexView, Stops}
@@ -47,7 +47,7 @@ Settles root levels Gone start old change = ⊥
 Settles root levels (One other) start old change = change ≡ change_view old start root levels
 Settles root levels (Two left right) start old change =
     (levels < 16) × (old.next < 4294967295)
-    × (change ≡ change_view (spelled (old.sheets ++ sheet_of old.next (levels + 1) (left ∷ right ∷ []) ∷ []) (old.next + 1)) start old.next (levels + 1))
+    × (change ≡ change_view (so_far (old.sheets ++ sheet_of old.next (levels + 1) (left ∷ right ∷ []) ∷ []) (old.next + 1)) start old.next (levels + 1))
 
 -- why the root can't be left so: memory was refused, or there are as many pages as there can be; it would be of level 17; or nothing
 -- is left
@@ -67,18 +67,21 @@ abbrev pub IsPrepared : IndexView → StoreFacts → Key → Option Entry → �
 IsPrepared index store key added start old change =
     (middle : Spelled) × (told : Told) × TurnsRoot index store key added old middle told × Settles index.root index.levels told start middle change
 
--- on these pages an index stands once the change is made, the entries of which have the property
-pub record IsMade (last : ℕ) (later : List (List ℕ)) (root levels : ℕ) (Are : List Entry → Type 0) : Type 0 where
+-- on these pages an index stands, with this root, each page of which is reached once, and the entries of which have the property
+pub record IsIndexThen (last : ℕ) (later : List (List ℕ)) (root levels : ℕ) (Are : List Entry → Type 0) : Type 0 where
   pub low : 1 ≤ levels
   pub high : levels ≤ 16
   pub under_it : IsUnder last later levels (top root) None
+  pub reached : IsDistinct nat_eq (0 ∷ pages_under later levels (top root))
   pub entries_are : Are (under later levels (top root))
 
--- and so it is on all pages on which what the change spells stands, and the other pages of the index as they were
-abbrev pub IsReady : IndexView → StoreFacts → ChangeView → (List Entry → Type 0) → Type 0
-IsReady index old change Are =
-    (later : List (List ℕ)) → Stand later change.sheets → StayBut old.pages later change.sheets (pages_of_index index old)
-    → IsMade index.last later change.root change.levels Are
+-- a change spells no page twice, and makes an index on all pages on which what it spells stands, and the other pages of the old one as
+-- they were
+abbrev pub MakesIndex : IndexView → StoreFacts → ChangeView → (List Entry → Type 0) → Type 0
+MakesIndex index old change Are =
+    AreOnce change.sheets
+    × ((later : List (List ℕ)) → Stand later change.sheets → StayBut old.pages later change.sheets (pages_of_index index old)
+    → IsIndexThen index.last later change.root change.levels Are)
 
 -- the entry of the region of a seat
 abbrev pub entry_at : Seat → Entry

@@ -3,9 +3,9 @@ ghost use Rattle.ub_bigmin.specs.Box.{HoldsAny};
 ghost use Rattle.ub_bigmin.specs.Extremes.{LeastFrom};
 ghost use Rattle.ub_directory.specs.Spans.{first_keys, regions_of, Meets, IsLater, First};
 ghost use Rattle.ub_index.specs.Changed.{Replaces};
-ghost use Rattle.ub_index.specs.Changing.{spelled};
+ghost use Rattle.ub_index.specs.Changing.{so_far};
 ghost use Rattle.ub_index.specs.Index.{top};
-ghost use Rattle.ub_index.specs.Preparing.{IsPrepared, IsReachedOnce, IsReady, IsWithinSeat, PreparesAll, added_at, entry_at};
+ghost use Rattle.ub_index.specs.Preparing.{IsPrepared, IsReachedOnce, MakesIndex, IsWithinSeat, PreparesAll, added_at, entry_at};
 ghost use Rattle.ub_index.specs.Descending.{IsBoundary, Reaches};
 ghost use Rattle.ub_index.specs.Searching.{Gives, GivesAny, GivesAfter, IsFirstKeyOf, IsFrom, IsSought, GoesDown, at_least, end_before, key_before, region_of};
 ghost use Rattle.ub_index.specs.View.{IsIndexOn, IsSeatAt, IsNextSeat, IsPreviousSeat, entries_in, index_view};
@@ -180,16 +180,16 @@ impl Index {
     ) -> Result<Change, IndexFault>
         ensures made { IsHonest pager.old.store → IfOk result (IsPrepared self.now pager.old.store
             seat.now.first (Some (added_at first.now pager.old.store)) (page_count pager.old.store)
-            (spelled [] (page_count pager.old.store + 1))) }
+            (so_far [] (page_count pager.old.store + 1))) }
         ensures ready { (i : ℕ) → IsIndexOn self.now pager.old.store
             → IsReachedOnce self.now pager.old.store
             → IsSeatAt (entries_in self.now pager.old.store) i seat.now
             → IsWithinSeat self.now.last seat.now.first seat.now.next first.now
-            → IfOk result (λ c. IsReady self.now pager.old.store c (Replaces (entry_at seat.now)
+            → IfOk result (λ c. MakesIndex self.now pager.old.store c (Replaces (entry_at seat.now)
             (entry_at seat.now ∷ added_at first.now pager.old.store ∷ [])
             (entries_in self.now pager.old.store))) }
         ensures effect { PreparesAll self.now seat.now.first
-            (Some (added_at first.now pager.old.store)) (spelled [] (page_count pager.old.store + 1))
+            (Some (added_at first.now pager.old.store)) (so_far [] (page_count pager.old.store + 1))
             pager.old pager.new result }
     {
         let start = pager.pages();

@@ -1,6 +1,6 @@
 // The pages of an index that a change spells, before one of them is put.
 ghost use Rattle.std.specs.Prelude.{◌≡◌, ◌+◌, ◌<◌, ◌≤◌, ◌++◌, ◌∷◌, [], length, IfOk, IfErr, OnOk};
-ghost use Rattle.ub_index.specs.Changing.{IsNamedBy, Mends, Spreads, IsSpreadFault, named_as, sheet_of, spelled};
+ghost use Rattle.ub_index.specs.Changing.{IsNamedBy, Mends, Spreads, IsSpreadFault, named_as, sheet_of, so_far};
 ghost use Rattle.ub_index_page.specs.declared.index.TheConstants.{MAX_LEVEL};
 ghost use Rattle.ub_page.specs.declared.entries.TheConstants.{MAX_ENTRIES};
 
@@ -25,17 +25,17 @@ pub struct Sheets {
 }
 
 impl Model for Sheets {
-    ghost use Rattle.ub_index.specs.Changing.{Spelled, spelled};
+    ghost use Rattle.ub_index.specs.Changing.{Spelled, so_far};
 
     ghost Value = { Spelled };
 
-    ghost view = { λ s. spelled s.all.items s.next };
+    ghost view = { λ s. so_far s.all.items s.next };
 }
 
 impl Sheets {
     /// No page yet; the next one that the store gets has this number.
     pub fn new(alloc: Global, next: u32) -> Sheets
-        ensures { result ≡ spelled [] next }
+        ensures { result ≡ so_far [] next }
     {
         Sheets {
             all: Vec::new(alloc),
@@ -46,7 +46,7 @@ impl Sheets {
     /// The number of a page more that the store gets. BadSize comes where it would have more than 4294967295.
     pub fn take_number(&mut self) -> Result<u32, IndexFault>
         ensures taken { IfOk result (λ n. (n ≡ self.old.next) × (n < 4294967295)
-            × (self.new ≡ spelled self.old.sheets (n + 1))) }
+            × (self.new ≡ so_far self.old.sheets (n + 1))) }
         ensures refused { IfErr result (IsSpreadFault self.old) }
     {
         let number = self.next;
@@ -61,7 +61,7 @@ impl Sheets {
     pub fn spell(&mut self, number: u32, level: u32, entries: &[Entry]) -> Result<(), AllocError>
         requires few { length entries.now ≤ MAX_ENTRIES }
         requires high { level ≤ MAX_LEVEL }
-        ensures { OnOk result (self.new ≡ spelled
+        ensures { OnOk result (self.new ≡ so_far
             (self.old.sheets ++ sheet_of number level entries.now ∷ []) self.old.next) }
     {
         let mut draft = Draft::new();
