@@ -12,7 +12,7 @@ use Rattle.ub_index.specs.Index.{entries_of, page_in, first_or, AscendTo, EachTo
 use Rattle.ub_index.proofs.Lists.{IsNotBefore, ascend_first, ascend_join, ascend_later, ascend_left, ascend_right, each_join, each_later, each_left, each_right, each_same, same_each}
 
 -- a page that is as it was is the one that it was
-same_page : (old new : List (List ℕ)) (n : ℕ) → slice_get new n ≡ slice_get old n → page_in new n ≡ page_in old n
+pub same_page : (old new : List (List ℕ)) (n : ℕ) → slice_get new n ≡ slice_get old n → page_in new n ≡ page_in old n
 same_page [] [] n h = refl
 same_page [] (q ∷ new) zero h = cc
 same_page [] (q ∷ new) (suc n) h = no_page new n h

@@ -13,3 +13,5 @@ pub mod SpreadFacts
 pub mod ClimbFacts
 pub mod TurnFacts
 pub mod ReadyFacts
+pub mod LowerFacts
+pub mod DropFacts

@@ -12,7 +12,7 @@ use Rattle.ub_index.specs.declared.sheet.Sheet.{Sheet}
 use Rattle.ub_index.proofs.Changes.{same_entries}
 use Rattle.ub_index.specs.Index.{entries_of, first_or, page_in, EachTo, IsUnder, pages_under}
 
-differs : (a b : ℕ) → nat_eq a b ≡ false → a ≢ b
+pub differs : (a b : ℕ) → nat_eq a b ≡ false → a ≢ b
 differs a b f e = let t = eq-eqb a b e in cc
 
 -- this number is none of those

@@ -71,7 +71,7 @@ turn_fault index old key added from (Store store.BadSize) h = omega arith
 turn_fault index old key added from (Page n fault) h = λ honest. inl (h honest)
 turn_fault index old key added from Full h = absurd h
 
-entry_is : (entry : Entry) (first : Key) (page : ℕ) → entry.first ≡ first → entry.page ≡ page → entry ≡ record { first = first; page = page }
+pub entry_is : (entry : Entry) (first : Key) (page : ℕ) → entry.first ≡ first → entry.page ≡ page → entry ≡ record { first = first; page = page }
 entry_is entry first page h k =
     ap (λ (key : Key). record { first = key; page = entry.page }) h ∙ ap (λ (n : ℕ). record { first = first; page = n }) k
 
@@ -87,7 +87,7 @@ one_page last old later f fs next (suc level) entry end other some (before, afte
   ]
 ]
 
-leads_entry : (last : ℕ) (pages : List (List ℕ)) (key : Key) (level : ℕ) (entry : Entry) (end : Option Key) (found : Entry) (next : Option Key) → IsEntry last entry
+pub leads_entry : (last : ℕ) (pages : List (List ℕ)) (key : Key) (level : ℕ) (entry : Entry) (end : Option Key) (found : Entry) (next : Option Key) → IsEntry last entry
     → LeadsTo last pages key level entry end found next → IsEntry last found
 leads_entry last pages key zero entry end found next whole h = subst (λ (e : Entry). IsEntry last e) (sym h.0) whole
 leads_entry last pages key (suc level) entry end found next whole (named, below, after, falls, leads) =
@@ -95,7 +95,7 @@ leads_entry last pages key (suc level) entry end found next whole (named, below,
     leads_entry last pages key level below after found next (all_right (IsEntry last) falls.before (below ∷ falls.after) all).0 leads
 
 -- a root's entry is in range, where its page is reached once and isn't the first
-root_entry : (last : ℕ) (pages : List (List ℕ)) (root level : ℕ) → 1 ≤ level → length pages < 4294967296 → IsDistinct nat_eq (0 ∷ pages_under pages level (top root))
+pub root_entry : (last : ℕ) (pages : List (List ℕ)) (root level : ℕ) → 1 ≤ level → length pages < 4294967296 → IsDistinct nat_eq (0 ∷ pages_under pages level (top root))
     → IsUnder last pages level (top root) None → IsEntry last (top root)
 root_entry last pages root zero some few own is = absurd (omega arith)
 root_entry last pages root (suc level) some few own is =
@@ -116,9 +116,6 @@ module _ (index : IndexView) (small : index.last < 2 ^ 128) (low : 1 ≤ index.l
     (from middle : Spelled) (told : Told) (room : page_count store ≤ from.next) (start : from.sheets ≡ []) (is : IsIndexOn index store) (own : IsReachedOnce index store)
     (few : page_count store < 4294967296) (r : Risen index.last store.pages key added index.levels (top index.root) None from middle told) (fine : IsFine index.last added r.found r.next)
     (begins : (before after : List Entry) → entries_in index store ≡ before ++ (r.found ∷ after) → first_or (before ++ (named_as (with_added added r.found) r.found ++ after)) None ≡ Some origin) where
-  fs : List Entry
-  fs = named_as (with_added added r.found) r.found
-
   -- the next page's number is none of the index's
   next_outside : IsOutside middle.next (pages_of_index index store)
   next_outside =
@@ -137,25 +134,22 @@ module _ (index : IndexView) (small : index.last < 2 ^ 128) (low : 1 ≤ index.l
   sheets_are = r.sheets_are ∙ ap (λ (xs : List Sheet). xs ++ r.sheets) start
 
   module _ (later : List (List ℕ)) (stand : Stand later r.sheets) (stay : StayBut store.pages later r.sheets (pages_of_index index store)) where
-    becomes : Becomes index.last store.pages later r.found fs r.next index.levels (top index.root) None (named_as told (top index.root))
-    unfolding fs
+    becomes : Becomes index.last store.pages later r.found (named_as (with_added added r.found) r.found) r.next index.levels (top index.root) None (named_as told (top index.root))
     becomes = r.becomes later stand stay
 
-    whole : Replaces r.found fs (entries_in index store) (flat_map (under later index.levels) (named_as told (top index.root)))
-    whole = replaced index.last store.pages later r.found fs r.next index.levels (top index.root) None (named_as told (top index.root)) becomes
+    whole : Replaces r.found (named_as (with_added added r.found) r.found) (entries_in index store) (flat_map (under later index.levels) (named_as told (top index.root)))
+    whole = replaced index.last store.pages later r.found (named_as (with_added added r.found) r.found) r.next index.levels (top index.root) None (named_as told (top index.root)) becomes
 
     stays_all : Stays index.last later index.levels (top index.root) None (named_as told (top index.root))
-    unfolding fs
-    stays_all = stays index.last store.pages later r.found fs r.next index.levels (top index.root) None (named_as told (top index.root)) fine.up fine.later tt is.under_it becomes
+    stays_all = stays index.last store.pages later r.found (named_as (with_added added r.found) r.found) r.next index.levels (top index.root) None (named_as told (top index.root)) fine.up fine.later tt is.under_it becomes
 
     -- the first entry that is told begins with the least key
     first_origin : (t : Entry) (ts : List Entry) → named_as told (top index.root) ≡ t ∷ ts → t.first ≡ origin
-    unfolding fs
     first_origin t ts e =
         let each : EachTo (IsUnder index.last later index.levels) (t ∷ ts) None = subst (λ (xs : List Entry). EachTo (IsUnder index.last later index.levels) xs None) e stays_all.each in
         let here : first_or (flat_map (under later index.levels) (t ∷ ts)) None ≡ Some t.first =
         first_through (under later index.levels) (IsUnder index.last later index.levels) (under_first index.last later index.levels) (t ∷ ts) None t.first refl each in
-        let list : flat_map (under later index.levels) (t ∷ ts) ≡ whole.before ++ (fs ++ whole.after) = ap (λ (xs : List Entry). flat_map (under later index.levels) xs) (sym e) ∙ whole.is in
+        let list : flat_map (under later index.levels) (t ∷ ts) ≡ whole.before ++ ((named_as (with_added added r.found) r.found) ++ whole.after) = ap (λ (xs : List Entry). flat_map (under later index.levels) xs) (sym e) ∙ whole.is in
         let there = begins whole.before whole.after whole.was in
         let both : Some t.first ≡ Some origin = sym here ∙ (ap (λ (xs : List Entry). first_or xs None) list ∙ there) in
         cc
@@ -164,17 +158,22 @@ module _ (index : IndexView) (small : index.last < 2 ^ 128) (low : 1 ≤ index.l
     outside_first : IsOutside 0 (flat_map (pages_under later index.levels) (named_as told (top index.root)))
     outside_first = r.among later stand stay 0 (inl (let f = first_less in omega arith)) (distinct_first 0 (pages_of_index index store) own)
 
-    pages_one : named_as told (top index.root) ≡ top index.root ∷ [] → flat_map (pages_under later index.levels) (named_as told (top index.root)) ≡ pages_under later index.levels (top index.root)
+    pub pages_one : named_as told (top index.root) ≡ top index.root ∷ [] → flat_map (pages_under later index.levels) (named_as told (top index.root)) ≡ pages_under later index.levels (top index.root)
     pages_one list = ap (λ (xs : List Entry). flat_map (pages_under later index.levels) xs) list ∙ append-nil (pages_under later index.levels (top index.root))
 
-    -- where one entry is told
-    made_one : (other : Entry) → named_as told (top index.root) ≡ other ∷ []
-        → IsIndexThen index.last later index.root index.levels (Replaces r.found fs (entries_in index store))
-    made_one other e =
-        let page : other.page ≡ index.root = one_page index.last store.pages later r.found fs r.next index.levels (top index.root) None other low
-        (subst (λ (xs : List Entry). Becomes index.last store.pages later r.found fs r.next index.levels (top index.root) None xs) e becomes) in
+    -- the entry that is told is the root's
+    pub told_root : (other : Entry) → named_as told (top index.root) ≡ other ∷ [] → named_as told (top index.root) ≡ top index.root ∷ []
+    told_root other e =
+        let page : other.page ≡ index.root = one_page index.last store.pages later r.found (named_as (with_added added r.found) r.found) r.next index.levels (top index.root) None other low
+        (subst (λ (xs : List Entry). Becomes index.last store.pages later r.found (named_as (with_added added r.found) r.found) r.next index.levels (top index.root) None xs) e becomes) in
         let root : other ≡ top index.root = entry_is other origin index.root (first_origin other [] e) page in
-        let list : named_as told (top index.root) ≡ top index.root ∷ [] = e ∙ ap (λ (x : Entry). x ∷ []) root in
+        e ∙ ap (λ (x : Entry). x ∷ []) root
+
+    -- where one entry is told
+    pub made_one : (other : Entry) → named_as told (top index.root) ≡ other ∷ []
+        → IsIndexThen index.last later index.root index.levels (Replaces r.found (named_as (with_added added r.found) r.found) (entries_in index store))
+    made_one other e =
+        let list = told_root other e in
         let each : EachTo (IsUnder index.last later index.levels) (top index.root ∷ []) None = subst (λ (xs : List Entry). EachTo (IsUnder index.last later index.levels) xs None) list stays_all.each in
         record {
           low = low;
@@ -182,14 +181,14 @@ module _ (index : IndexView) (small : index.last < 2 ^ 128) (low : 1 ≤ index.l
           under_it = each.0;
           reached = distinct_cons 0 (pages_under later index.levels (top index.root)) (subst (λ (ns : List ℕ). IsOutside 0 ns) (pages_one list) outside_first)
               (subst (λ (ns : List ℕ). IsDistinct nat_eq ns) (pages_one list) (r.reached later stand stay));
-          entries_are = subst (λ (xs : List Entry). Replaces r.found fs (entries_in index store) xs)
+          entries_are = subst (λ (xs : List Entry). Replaces r.found (named_as (with_added added r.found) r.found) (entries_in index store) xs)
               (ap (λ (xs : List Entry). flat_map (under later index.levels) xs) list ∙ append-nil (under later index.levels (top index.root))) whole;
         }
 
     -- where two are, and a new root names them
     made_two : (left right : Entry) → named_as told (top index.root) ≡ left ∷ right ∷ [] → index.levels < 16
         → Stand later (sheet_of middle.next (index.levels + 1) (left ∷ right ∷ []) ∷ [])
-        → IsIndexThen index.last later middle.next (index.levels + 1) (Replaces r.found fs (entries_in index store))
+        → IsIndexThen index.last later middle.next (index.levels + 1) (Replaces r.found (named_as (with_added added r.found) r.found) (entries_in index store))
     made_two left right e less root_stands =
         let one : index.levels + 1 ≡ suc index.levels = omega arith in
         let entries : List Entry = left ∷ right ∷ [] in
@@ -208,7 +207,7 @@ module _ (index : IndexView) (small : index.last < 2 ^ 128) (low : 1 ≤ index.l
         ap (λ (xs : List Entry). middle.next ∷ flat_map (pages_under later index.levels) xs) (e ∙ sym told_root.entries_are) in
         let list : flat_map (under later index.levels) (named_as told (top index.root)) ≡ under later (suc index.levels) (top middle.next) =
         ap (λ (xs : List Entry). flat_map (under later index.levels) xs) (e ∙ sym told_root.entries_are) in
-        subst (λ (n : ℕ). IsIndexThen index.last later middle.next n (Replaces r.found fs (entries_in index store))) (sym one) (record {
+        subst (λ (n : ℕ). IsIndexThen index.last later middle.next n (Replaces r.found (named_as (with_added added r.found) r.found) (entries_in index store))) (sym one) (record {
           low = omega arith;
           high = omega arith;
           under_it = index_there;
@@ -216,7 +215,7 @@ module _ (index : IndexView) (small : index.last < 2 ^ 128) (low : 1 ≤ index.l
               (distinct_cons 0 (middle.next ∷ flat_map (pages_under later index.levels) (named_as told (top index.root))) ((λ z. let f = first_less in let g = r.grown in omega arith), outside_first)
               (distinct_cons middle.next (flat_map (pages_under later index.levels) (named_as told (top index.root)))
               (r.among later stand stay middle.next (inr (omega arith)) next_outside) (r.reached later stand stay)));
-          entries_are = subst (λ (xs : List Entry). Replaces r.found fs (entries_in index store) xs) list whole;
+          entries_are = subst (λ (xs : List Entry). Replaces r.found (named_as (with_added added r.found) r.found) (entries_in index store) xs) list whole;
         })
 
   once_then : (change : ChangeView) → Settles index.root index.levels told (page_count store) middle change → AreOnce change.sheets
@@ -238,7 +237,6 @@ module _ (index : IndexView) (small : index.last < 2 ^ 128) (low : 1 ≤ index.l
   ready_then : (change : ChangeView) → Settles index.root index.levels told (page_count store) middle change
       → (later : List (List ℕ)) → Stand later change.sheets → StayBut store.pages later change.sheets (pages_of_index index store)
       → IsIndexThen index.last later change.root change.levels (Replaces r.found (named_as (with_added added r.found) r.found) (entries_in index store))
-  unfolding fs
   ready_then change settles later stand stay = by_told told refl settles
     where
       kept : (same : change ≡ change_view middle (page_count store) index.root index.levels) (other : Entry) → named_as told (top index.root) ≡ other ∷ []

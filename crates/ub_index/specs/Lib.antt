@@ -8,3 +8,4 @@ pub mod Searching
 pub mod Descending
 pub mod Changing
 pub mod Preparing
+pub mod Lowering

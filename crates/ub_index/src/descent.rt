@@ -2,13 +2,14 @@
 ghost use Rattle.std.specs.Prelude.{◌≡◌, ◌+◌, ◌<◌, ◌≤◌, ◌↔◌, None, Some, IfOk, IfErr, IsOk, IfSome, IsTrue, drop};
 ghost use Rattle.ub_index.specs.Descending.{Steps, StepsTo};
 ghost use Rattle.ub_index.specs.Fitting.{FallsTo, IsUnfit};
-ghost use Rattle.ub_index.specs.Index.{Fits, first_or};
+ghost use Rattle.ub_index.specs.Index.{Fits, first_or, top};
 ghost use Rattle.ub_index_page.specs.Index.{head_on, node_on};
 ghost use Rattle.ub_index.specs.Way.{HoldsKey};
 ghost use Rattle.ub_store.specs.Facts.{IsHonest};
 ghost use Rattle.ub_table.specs.Keys.{IsBefore};
 
 use crate::fault::IndexFault;
+use ub_directory::ORIGIN;
 use ub_index_page::{Head, MAX_ENTRIES, check_index, entry_at, first_at, slot_in};
 use ub_page::{Entry, Page};
 use ub_region::is_equal;
@@ -20,6 +21,19 @@ use ub_table::{Key, PageFault};
 pub struct Place {
     pub entry: Entry,
     pub next: Option<Key>,
+}
+
+/// The place of a root.
+pub fn root_place(root: u32) -> Place
+    ensures { result ≡ record { entry = top root; next = None } }
+{
+    Place {
+        entry: Entry {
+            first: ORIGIN,
+            page: root,
+        },
+        next: None,
+    }
 }
 
 /// Goes down from a place of this level to that of the level below to which the key falls. Reads the page that the entry names, if

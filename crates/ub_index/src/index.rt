@@ -5,6 +5,7 @@ ghost use Rattle.ub_directory.specs.Spans.{first_keys, regions_of, Meets, IsLate
 ghost use Rattle.ub_index.specs.Changed.{Replaces};
 ghost use Rattle.ub_index.specs.Changing.{so_far};
 ghost use Rattle.ub_index.specs.Index.{top};
+ghost use Rattle.ub_index.specs.Lowering.{IsDropped, MakesLow, PreparesDrop};
 ghost use Rattle.ub_index.specs.Preparing.{IsPrepared, IsReachedOnce, MakesIndex, IsWithinSeat, PreparesAll, added_at, entry_at};
 ghost use Rattle.ub_index.specs.Descending.{IsBoundary, Reaches};
 ghost use Rattle.ub_index.specs.Searching.{Gives, GivesAny, GivesAfter, IsFirstKeyOf, IsFrom, IsSought, GoesDown, at_least, end_before, key_before, region_of};
@@ -12,10 +13,10 @@ ghost use Rattle.ub_index.specs.View.{IsIndexOn, IsSeatAt, IsNextSeat, IsPreviou
 ghost use Rattle.ub_index_page.specs.declared.index.TheConstants.{MAX_LEVEL};
 ghost use Rattle.ub_region.specs.Regions.{index_holding};
 ghost use Rattle.ub_store.specs.Facts.{IsHonest, page_count};
-ghost use Rattle.ub_table.specs.Keys.{IsBefore};
+ghost use Rattle.ub_table.specs.Keys.{IsBefore, origin};
 
 use crate::change::Change;
-use crate::descent::{Place, step_down};
+use crate::descent::{root_place, step_down};
 use crate::fault::IndexFault;
 use crate::seat::Seat;
 use crate::sheets::Sheets;
@@ -205,6 +206,40 @@ impl Index {
         self.prepare(alloc, pager, &aim, start, sheets)
     }
 
+    /// Prepares that the region of a seat goes, which isn't the first. Nothing is written, and no page is added.
+    ///
+    /// Refused as `seat_of` is, on the way to the seat's first key, and where a page that would be the root can't be taken; with
+    /// BadCount of the root where no region would be left. Index and store are then as they were.
+    pub fn prepare_drop<S: PageStore>(
+        &self,
+        alloc: Global,
+        pager: &mut Pager<S>,
+        seat: &Seat,
+    ) -> Result<Change, IndexFault>
+        ensures made { IsHonest pager.old.store → IfOk result
+            (IsDropped self.now pager.old.store seat.now.first) }
+        ensures ready { (i : ℕ) → IsIndexOn self.now pager.old.store
+            → IsReachedOnce self.now pager.old.store
+            → IsSeatAt (entries_in self.now pager.old.store) i seat.now
+            → IsBefore origin seat.now.first
+            → IfOk result (λ c. MakesIndex self.now pager.old.store c
+            (Replaces (entry_at seat.now) [] (entries_in self.now pager.old.store))) }
+        ensures low { (i : ℕ) → IsIndexOn self.now pager.old.store
+            → IsReachedOnce self.now pager.old.store
+            → IsSeatAt (entries_in self.now pager.old.store) i seat.now
+            → IsBefore origin seat.now.first
+            → IfOk result (λ c. (c.next ≡ c.start) × MakesLow self.now pager.old.store c) }
+        ensures effect { PreparesDrop self.now seat.now.first pager.old pager.new result }
+    {
+        let start = pager.pages();
+        let aim = Aim {
+            key: seat.first,
+            added: None,
+        };
+        let change = self.prepare(alloc, pager, &aim, start, Sheets::new(alloc, start))?;
+        change.lowered(pager, self.last)
+    }
+
     // Prepares a change, where the store has so many pages, and some may be spelled already.
     fn prepare<S: PageStore>(
         &self,
@@ -274,19 +309,6 @@ impl Index {
             });
         }
         Ok(Some(region_at(self.last, &seat)))
-    }
-}
-
-// The place of a root.
-fn root_place(root: u32) -> Place
-    ensures { result ≡ record { entry = top root; next = None } }
-{
-    Place {
-        entry: Entry {
-            first: ORIGIN,
-            page: root,
-        },
-        next: None,
     }
 }
 

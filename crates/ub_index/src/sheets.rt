@@ -1,6 +1,7 @@
 // The pages of an index that a change spells, before one of them is put.
-ghost use Rattle.std.specs.Prelude.{◌≡◌, ◌+◌, ◌<◌, ◌≤◌, ◌++◌, ◌∷◌, [], length, IfOk, IfErr, OnOk};
+ghost use Rattle.std.specs.Prelude.{◌≡◌, ◌+◌, ◌<◌, ◌≤◌, ◌++◌, ◌∷◌, [], length, IfOk, IfErr, OnOk, option_copied};
 ghost use Rattle.ub_index.specs.Changing.{IsNamedBy, Mends, Spreads, IsSpreadFault, named_as, sheet_of, so_far};
+ghost use Rattle.ub_index.specs.Lowering.{spelled_page};
 ghost use Rattle.ub_index_page.specs.declared.index.TheConstants.{MAX_LEVEL};
 ghost use Rattle.ub_page.specs.declared.entries.TheConstants.{MAX_ENTRIES};
 
@@ -10,7 +11,7 @@ use crate::told::{Told, is_unchanged};
 use std::alloc::{AllocError, Global};
 use std::marker::Model;
 use ub_index_page::{MAX_ENTRIES, write_index};
-use ub_page::{Draft, Entry};
+use ub_page::{Draft, Entry, Page};
 use ub_region::is_equal;
 use ub_store::StoreFault;
 
@@ -41,6 +42,18 @@ impl Sheets {
             all: Vec::new(alloc),
             next,
         }
+    }
+
+    /// The first page that is spelled under this number, if one is.
+    pub fn find(&self, number: u32) -> Option<&Page>
+        ensures { option_copied result ≡ spelled_page self.now.sheets number }
+    {
+        for sheet in self.all.as_slice() {
+            if sheet.number == number {
+                return Some(&sheet.page);
+            }
+        }
+        None
     }
 
     /// The number of a page more that the store gets. BadSize comes where it would have more than 4294967295.
