@@ -15,3 +15,4 @@ pub mod TurnFacts
 pub mod ReadyFacts
 pub mod LowerFacts
 pub mod DropFacts
+pub mod PutFacts

@@ -9,3 +9,4 @@ pub mod Descending
 pub mod Changing
 pub mod Preparing
 pub mod Lowering
+pub mod Making

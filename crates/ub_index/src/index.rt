@@ -1,9 +1,12 @@
-ghost use Rattle.std.specs.Prelude.{◌≡◌, ◌≤◌, ◌<◌, ◌+◌, ◌^◌, ℕ, [], ◌∷◌, None, Some, IfOk, IfErr, IfSome, option_copied};
+ghost use Rattle.std.specs.Prelude.{◌≡◌, ◌≤◌, ◌<◌, ◌+◌, ◌^◌, ℕ, [], ◌∷◌, None, Some, IfOk, IfErr, IfSome, OnOk, OnErr, option_copied};
 ghost use Rattle.ub_bigmin.specs.Box.{HoldsAny};
 ghost use Rattle.ub_bigmin.specs.Extremes.{LeastFrom};
 ghost use Rattle.ub_directory.specs.Spans.{first_keys, regions_of, Meets, IsLater, First};
 ghost use Rattle.ub_index.specs.Changed.{Replaces};
-ghost use Rattle.ub_index.specs.Changing.{so_far};
+ghost use Rattle.ub_directory.specs.Writing.{put_store};
+ghost use Rattle.ub_index.specs.Changing.{AreOnce, Stand, so_far};
+ghost use Rattle.ub_index.specs.Making.{IsPutFault, PutsSheets};
+ghost use Rattle.ub_store.specs.View.{SameTrace};
 ghost use Rattle.ub_index.specs.Index.{top};
 ghost use Rattle.ub_index.specs.Lowering.{IsDropped, MakesLow, PreparesDrop};
 ghost use Rattle.ub_index.specs.Preparing.{IsPrepared, IsReachedOnce, MakesIndex, IsWithinSeat, PreparesAll, added_at, entry_at};
@@ -18,6 +21,7 @@ ghost use Rattle.ub_table.specs.Keys.{IsBefore, origin};
 use crate::change::Change;
 use crate::descent::{root_place, step_down};
 use crate::fault::IndexFault;
+use crate::making::put_all;
 use crate::seat::Seat;
 use crate::sheets::Sheets;
 use crate::turning::{Aim, turn};
@@ -26,7 +30,7 @@ use std::marker::Model;
 use ub_bigmin::{ZBox, next_in_any};
 use ub_directory::{ORIGIN, Region};
 use ub_page::Entry;
-use ub_store::{PageStore, Pager};
+use ub_store::{PageStore, Pager, StoreFault};
 use ub_table::{Key, PageFault};
 
 /// An index of several levels over the pages of a store: where its root stands, and how many levels it has. No page of it is kept here.
@@ -238,6 +242,33 @@ impl Index {
         };
         let change = self.prepare(alloc, pager, &aim, start, Sheets::new(alloc, start))?;
         change.lowered(pager, self.last)
+    }
+
+    /// Makes a change, once the store has grown: puts the pages that it spells, and then takes over the root. Device comes where the
+    /// store failed in this call, NoPage where it has no page of that number; the index is then as it was, and the pages that the
+    /// change spells may hold any bytes.
+    pub fn commit<S: PageStore>(
+        &mut self,
+        pager: &mut Pager<S>,
+        change: &Change,
+    ) -> Result<(), StoreFault>
+        ensures now { OnOk result (self.new ≡ record self.old {
+          root = change.now.root;
+          levels = change.now.levels;
+        }) }
+        ensures left { OnErr result (self.new ≡ self.old) }
+        ensures trace { SameTrace pager.old pager.new }
+        ensures stand { AreOnce change.now.sheets → IsHonest pager.old.store
+            → OnOk result (Stand pager.new.store.pages change.now.sheets) }
+        ensures kept { PutsSheets change.now.sheets pager.old.store pager.new.store }
+        ensures same { pager.new.store ≡ put_store result pager.old.store pager.new.store }
+        ensures refused { IfErr result (IsPutFault change.now.sheets pager.old.store) }
+    {
+        put_all(pager, change.sheets())?;
+        let (root, levels) = change.root();
+        self.root = root;
+        self.levels = levels;
+        Ok(())
     }
 
     // Prepares a change, where the store has so many pages, and some may be spelled already.

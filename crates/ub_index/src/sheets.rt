@@ -44,6 +44,20 @@ impl Sheets {
         }
     }
 
+    /// The pages that are spelled so far.
+    pub fn all(&self) -> &[Sheet]
+        ensures { result.now ≡ self.now.sheets }
+    {
+        self.all.as_slice()
+    }
+
+    /// The number of the next page that the store gets.
+    pub fn next(&self) -> u32
+        ensures { result ≡ self.now.next }
+    {
+        self.next
+    }
+
     /// The first page that is spelled under this number, if one is.
     pub fn find(&self, number: u32) -> Option<&Page>
         ensures { option_copied result ≡ spelled_page self.now.sheets number }

@@ -1,4 +1,4 @@
-use Rattle.std.proofs.Common.{◌≡◌, ◌∙◌, List, ap, subst, sym}
+use Rattle.std.proofs.Common.{arith, ◌≡◌, ◌∙◌, List, ap, subst, sym}
 use Rattle.ub_index.specs.Lowering.{entries_then, sole_page}
 use Rattle.ub_index.specs.Preparing.{ChangeView}
 use Rattle.ub_index.specs.declared.sheet.Sheet.{Sheet}
@@ -11,6 +11,8 @@ pub loop-levels-preserved : goal.loop-levels-preserved
 loop-levels-preserved g c =
     let stores = c.loop-levels.invariant.store in
     record {
+      low = omega (arith, c.loop-levels-test.true);
+      high = omega (arith, c.loop-levels.invariant.high);
       store = ap (λ (p : PagerView). p.store) c.in_ok-page.ensures.effect.same ∙ c.loop-levels.invariant.store;
       trace = ap (λ (p : PagerView). p.trace) c.in_ok-page.ensures.effect.same ∙ c.loop-levels.invariant.trace;
       lowers = λ honest.
