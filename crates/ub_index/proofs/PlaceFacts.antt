@@ -4,7 +4,7 @@ use Rattle.std.proofs.lemmas.Bool.{and_from, and_parts, cases_Bool}
 use Rattle.std.proofs.lemmas.Option.{slice_get_within, slice_get_cases}
 use Rattle.std.specs.List.{All, AllByRecursion, flat_map}
 use Rattle.ub_directory.specs.Spans.{first_keys}
-use Rattle.ub_directory.proofs.IndexFacts.{first_at, length-first_keys}
+use Rattle.ub_directory.proofs.Laws.{first_at}
 use Rattle.ub_page.specs.Entries.{IsEntry}
 use Rattle.ub_page.specs.declared.entries.Entry.{Entry}
 use Rattle.ub_region.specs.Regions.{index_holding}
@@ -19,6 +19,10 @@ use Rattle.ub_index.specs.declared.seat.Seat.{Seat}
 use Rattle.ub_index.proofs.Lists.{all_join}
 use Rattle.ub_index.proofs.OrderFacts.{under_first}
 use Rattle.ub_index.proofs.WayFacts.{in_order, not_true, seat_is}
+
+length-first_keys : (entries : List Entry) → length (first_keys entries) ≡ length entries
+length-first_keys [] = refl
+length-first_keys (entry ∷ entries) = ap (λ (n : ℕ). suc n) (length-first_keys entries)
 
 ascending : (xs : List Entry) → AscendTo xs None → are_ascending (first_keys xs) ≡ true
 ascending [] up = refl

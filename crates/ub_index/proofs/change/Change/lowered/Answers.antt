@@ -21,5 +21,5 @@ loop-levels-preserved g c =
           let there = subst (λ (s : StoreFacts). c.in_ok-page.field-0 ≡ sole_page (entries_then c.self.inside.sheets.sheets s.pages c.loop-levels.root)) stores sole in
           let here = subst (λ (xs : List Sheet). c.in_ok-page.field-0 ≡ sole_page (entries_then xs c.args.pager.now.store.pages c.loop-levels.root)) sheets there in
           lowers_on c.args.self.sheets c.args.pager.now.store.pages c.args.self.root c.args.self.levels c.loop-levels.root c.loop-levels.levels c.in-Some.page
-          c.loop-levels-test.true (c.loop-levels.invariant.lowers honest) (sym here ∙ c.in-Some.is);
+          (omega (arith, c.loop-levels-test.true)) (c.loop-levels.invariant.lowers honest) (sym here ∙ c.in-Some.is);
     }
