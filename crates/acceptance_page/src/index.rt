@@ -10,13 +10,13 @@ use ub_store::{FaultyStore, MemStore, PageStore, Pager, StoreFault};
 use ub_zaddr::{Point, Shape};
 
 // An entry: the address and the number of its first key, and its page.
-type Listed = (u128, u32, u32);
+pub type Listed = (u128, u32, u32);
 
 // A page: its level and its entries.
-type Spelled = (u32, &'static [Listed]);
+pub type Spelled = (u32, &'static [Listed]);
 
 // A pager over a store that fails at one call.
-type Tried = Pager<FaultyStore<MemStore>>;
+pub type Tried = Pager<FaultyStore<MemStore>>;
 
 // Six regions under one page, under two levels and under three: the pages from 1 on; the root is
 // the last of them.
@@ -76,7 +76,7 @@ static MISFITS: &[(u32, Spelled, u128, u32, PageFault)] = &[
 ];
 
 // The entry that is listed so.
-fn entry(listed: &Listed) -> Entry {
+pub fn entry(listed: &Listed) -> Entry {
     Entry {
         first: Key {
             z: listed.0,
@@ -97,7 +97,7 @@ fn spell(spelled: &Spelled, draft: &mut Draft) {
 }
 
 // A store of these pages from 1 on, whose call of this number fails, behind a pager.
-fn stored(alloc: Global, pages: &[Spelled], due: u64) -> Option<Tried> {
+pub fn stored(alloc: Global, pages: &[Spelled], due: u64) -> Option<Tried> {
     let mut store = MemStore::new(alloc);
     let mut draft = Draft::new();
     if store.extend().is_err() {
@@ -116,7 +116,7 @@ fn stored(alloc: Global, pages: &[Spelled], due: u64) -> Option<Tried> {
 }
 
 // The seat of the region that holds a key, among those that are listed.
-fn seat_in(flat: &[Listed], z: u128, number: u32) -> Option<Seat> {
+pub fn seat_in(flat: &[Listed], z: u128, number: u32) -> Option<Seat> {
     let key = Key { z, number };
     let mut held = None;
     for i in 0..flat.len() {

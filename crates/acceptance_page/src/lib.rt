@@ -12,6 +12,8 @@ mod file;
 #[cfg(test)]
 mod index;
 #[cfg(test)]
+mod index_changes;
+#[cfg(test)]
 mod page;
 #[cfg(test)]
 mod page_masks;

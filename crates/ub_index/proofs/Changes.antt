@@ -7,46 +7,46 @@ use Rattle.ub_page.specs.declared.entries.Entry.{Entry}
 use Rattle.ub_table.proofs.Laws.{not_before_self, not_both_before}
 use Rattle.ub_table.specs.Keys.{IsBefore}
 use Rattle.ub_table.specs.declared.row.Key.{Key}
-use Rattle.ub_index.specs.Changed.{AreKept, Becomes, BeginFrom, IsTold, Replaces, StandOn, Stays}
-use Rattle.ub_index.specs.Index.{entries_of, page_of, first_or, AscendTo, EachTo, Fits, IsNamed, IsUnder, under, pages_under}
+use Rattle.ub_index.specs.Changed.{PagesStay, Becomes, BeginFrom, IsTold, Replaces, StandOn, Stays}
+use Rattle.ub_index.specs.Index.{entries_of, page_in, first_or, AscendTo, EachTo, Fits, NamesFitting, IsUnder, under, pages_under}
 use Rattle.ub_index.proofs.Lists.{IsNotBefore, ascend_first, ascend_join, ascend_later, ascend_left, ascend_right, each_join, each_later, each_left, each_right, each_same, same_each}
 
 -- a page that is as it was is the one that it was
-same_page : (old new : List (List ℕ)) (n : ℕ) → slice_get new n ≡ slice_get old n → page_of new n ≡ page_of old n
+pub same_page : (old new : List (List ℕ)) (n : ℕ) → slice_get new n ≡ slice_get old n → page_in new n ≡ page_in old n
 same_page [] [] n h = refl
 same_page [] (q ∷ new) zero h = cc
 same_page [] (q ∷ new) (suc n) h = no_page new n h
   where
-    no_page : (pages : List (List ℕ)) (n : ℕ) → slice_get pages n ≡ None → page_of pages n ≡ []
+    no_page : (pages : List (List ℕ)) (n : ℕ) → slice_get pages n ≡ None → page_in pages n ≡ []
     no_page [] n h = refl
     no_page (q ∷ pages) zero h = cc
     no_page (q ∷ pages) (suc n) h = no_page pages n h
 same_page (p ∷ old) [] zero h = cc
 same_page (p ∷ old) [] (suc n) h = no_page old n (sym h)
   where
-    no_page : (pages : List (List ℕ)) (n : ℕ) → slice_get pages n ≡ None → [] ≡ page_of pages n
+    no_page : (pages : List (List ℕ)) (n : ℕ) → slice_get pages n ≡ None → [] ≡ page_in pages n
     no_page [] n h = refl
     no_page (q ∷ pages) zero h = cc
     no_page (q ∷ pages) (suc n) h = no_page pages n h
 same_page (p ∷ old) (q ∷ new) zero h = cc
 same_page (p ∷ old) (q ∷ new) (suc n) h = same_page old new n h
 
-same_entries : (old new : List (List ℕ)) (n : ℕ) → slice_get new n ≡ slice_get old n → entries_of new n ≡ entries_of old n
+pub same_entries : (old new : List (List ℕ)) (n : ℕ) → slice_get new n ≡ slice_get old n → entries_of new n ≡ entries_of old n
 same_entries old new n h = ap (λ (page : List ℕ). entries_of (page ∷ []) 0) (same_page old new n h)
 
-pub kept_under : (old new : List (List ℕ)) (level : ℕ) (entry : Entry) → AreKept old new (pages_under old level entry) → under new level entry ≡ under old level entry
+pub kept_under : (old new : List (List ℕ)) (level : ℕ) (entry : Entry) → PagesStay old new (pages_under old level entry) → under new level entry ≡ under old level entry
 kept_under old new zero entry h = refl
 kept_under old new (suc level) entry h =
     ap (λ (entries : List Entry). flat_map (under new level) entries) (same_entries old new entry.page h.0)
     ∙ same_each (λ n. slice_get new n ≡ slice_get old n) (pages_under old level) (under new level) (under old level) (kept_under old new level) (entries_of old entry.page) h.1
 
-pub kept_list : (old new : List (List ℕ)) (level : ℕ) (entries : List Entry) → AreKept old new (flat_map (pages_under old level) entries)
+pub kept_list : (old new : List (List ℕ)) (level : ℕ) (entries : List Entry) → PagesStay old new (flat_map (pages_under old level) entries)
     → flat_map (under new level) entries ≡ flat_map (under old level) entries
 kept_list old new level entries h =
     same_each (λ n. slice_get new n ≡ slice_get old n) (pages_under old level) (under new level) (under old level) (kept_under old new level) entries h
 
-kept_named : (last : ℕ) (old new : List (List ℕ)) (level : ℕ) (entry : Entry) (end : Option Key) → slice_get new entry.page ≡ slice_get old entry.page
-    → IsNamed last old level entry end → IsNamed last new level entry end
+pub kept_named : (last : ℕ) (old new : List (List ℕ)) (level : ℕ) (entry : Entry) (end : Option Key) → slice_get new entry.page ≡ slice_get old entry.page
+    → NamesFitting last old level entry end → NamesFitting last new level entry end
 kept_named last old new level entry end same h =
     let page = same_page old new entry.page same in
     record {
@@ -54,7 +54,7 @@ kept_named last old new level entry end same h =
       fits = subst (λ (p : List ℕ). Fits last p level entry end) (sym page) h.fits;
     }
 
-pub kept_index : (last : ℕ) (old new : List (List ℕ)) (level : ℕ) (entry : Entry) (end : Option Key) → AreKept old new (pages_under old level entry) → IsUnder last old level entry end
+pub kept_index : (last : ℕ) (old new : List (List ℕ)) (level : ℕ) (entry : Entry) (end : Option Key) → PagesStay old new (pages_under old level entry) → IsUnder last old level entry end
     → IsUnder last new level entry end
 kept_index last old new zero entry end h k = tt
 kept_index last old new (suc level) entry end h k = (
@@ -136,7 +136,7 @@ replaced last old new f fs next (suc level) entry end told (before, after, below
     }
 
 -- where an entry became others that begin not before it, what follows begins not before it either
-not_before : (g : Entry) (news after : List Entry) (end : Option Key) → BeginFrom g.first news → IfSome (first_or after end) (IsBefore g.first)
+pub not_before : (g : Entry) (news after : List Entry) (end : Option Key) → BeginFrom g.first news → IfSome (first_or after end) (IsBefore g.first)
     → IsNotBefore (Some g.first) (first_or (news ++ after) end)
 not_before g [] [] None h k = tt
 not_before g [] [] (Some key) h k = λ yes. not_both_before g.first key k yes
@@ -159,7 +159,7 @@ no_end (Some key) = tt
 
 -- a page that tells these entries fits the entry that names it
 told_named : (last : ℕ) (pages : List (List ℕ)) (level : ℕ) (entries : List Entry) (entry : Entry) (end : Option Key) → IsTold last pages level entries entry → AscendTo entries end
-    → IsNamed last pages level entry end
+    → NamesFitting last pages level entry end
 told_named last pages level entries entry end h up = record {
   there = h.there;
   fits = record {
@@ -170,7 +170,7 @@ told_named last pages level entries entry end h up = record {
   };
 }
 
-told_index : (last : ℕ) (pages : List (List ℕ)) (level : ℕ) (entries : List Entry) (entry : Entry) (end : Option Key) → IsTold last pages (suc level) entries entry → AscendTo entries end
+pub told_index : (last : ℕ) (pages : List (List ℕ)) (level : ℕ) (entries : List Entry) (entry : Entry) (end : Option Key) → IsTold last pages (suc level) entries entry → AscendTo entries end
     → EachTo (IsUnder last pages level) entries end → IsUnder last pages (suc level) entry end
 told_index last pages level entries entry end h up each =
     (told_named last pages (suc level) entries entry end h up, subst (λ (xs : List Entry). EachTo (IsUnder last pages level) xs end) (sym h.entries_are) each)

@@ -9,9 +9,10 @@ use Rattle.ub_page.specs.Entries.{AreAscending}
 use Rattle.ub_page.specs.declared.entries.Entry.{Entry}
 use Rattle.ub_table.specs.Keys.{IsBefore}
 use Rattle.ub_table.specs.declared.row.Key.{Key}
+use Rattle.ub_index.specs.Changing.{OpensTo}
 use Rattle.ub_index.specs.Descending.{StepsTo}
-use Rattle.ub_index.specs.Fitting.{FallsTo, IsMisfit, IsRefused}
-use Rattle.ub_index.specs.Index.{first_or, page_of, AscendTo, Fits}
+use Rattle.ub_index.specs.Fitting.{FallsTo, IsUnfit, IsNotTaken}
+use Rattle.ub_index.specs.Index.{first_or, page_in, AscendTo, Fits}
 use Rattle.ub_store.specs.Facts.{StoreFacts, IsPage}
 use Rattle.ub_table.specs.declared.fault.PageFault.{PageFault}
 
@@ -65,6 +66,17 @@ falls page key end next count slot same h is = record {
           (after_none page (slot + 1) None (omega arith) ∙ ap (λ (i : ℕ). first_or (drop i (node_on page).entries) None) one) tt
     ]
 
+-- and with the entries before it and after it
+pub falls_around : (page : List ℕ) (key : Key) (end next : Option Key) (count slot : ℕ) (below : Entry) (before after : List Entry) → below ≡ entry_in slot page
+    → count ≡ number_at 2 2 page → IsSlot key count page slot → next ≡ first_or (drop (slot + 1) (node_on page).entries) end
+    → before ≡ take slot (node_on page).entries → after ≡ drop (slot + 1) (node_on page).entries
+    → (x : FallsTo key (node_on page).entries end below next) × (x.before ≡ before) × (x.after ≡ after)
+unfolding falls
+falls_around page key end next count slot below before after entry same h is left right =
+    let one : suc slot ≡ slot + 1 = omega arith in
+    subst (λ (e : Entry). (x : FallsTo key (node_on page).entries end e next) × (x.before ≡ before) × (x.after ≡ after)) (sym entry)
+    (falls page key end next count slot same h is, sym left, ap (λ (i : ℕ). drop i (node_on page).entries) one ∙ sym right)
+
 -- the last of entries in order is before the end; and entries of which it is so are in order up to the end
 last_before : (xs : List Entry) (i : ℕ) (e : Entry) (end : Option Key) → length xs ≡ suc i → slice_get xs i ≡ Some e → AscendTo xs end → IfSome end (IsBefore e.first)
 last_before [] i e end long at up = cc
@@ -112,7 +124,7 @@ module _ (page : List ℕ) (last level count : ℕ) (entry : Entry) (end : Optio
   not_ended wrong h = wrong (last_before (node_on page).entries (count - 1) (entry_in (count - 1) page) end long last_here h.ascends)
 
 -- the page that stands under a number is the page of that number
-pub page_is : (pages : List (List ℕ)) (n : ℕ) (page : List ℕ) → slice_get pages n ≡ Some page → page_of pages n ≡ page
+pub page_is : (pages : List (List ℕ)) (n : ℕ) (page : List ℕ) → slice_get pages n ≡ Some page → page_in pages n ≡ page
 page_is [] n page at = cc
 page_is (p ∷ pages) zero page at = cc
 page_is (p ∷ pages) (suc n) page at = page_is pages n page at
@@ -132,11 +144,28 @@ makes_step store last key level entry end below next page at fits to =
     }
 
 pub is_refused : (pages : List (List ℕ)) (last level : ℕ) (entry : Entry) (end : Option Key) (page : List ℕ) (fault : PageFault)
-    → slice_get pages entry.page ≡ Some page → IsMisfit last page level entry end fault → IsRefused last pages level entry end (Some fault)
+    → slice_get pages entry.page ≡ Some page → IsUnfit last page level entry end fault → IsNotTaken last pages level entry end (Some fault)
 is_refused pages last level entry end page fault at misfit =
     let is = page_is pages entry.page page at in
-    (at ∙ ap (λ (p : List ℕ). Some p) (sym is), subst (λ (p : List ℕ). IsMisfit last p level entry end fault) (sym is) misfit)
+    (at ∙ ap (λ (p : List ℕ). Some p) (sym is), subst (λ (p : List ℕ). IsUnfit last p level entry end fault) (sym is) misfit)
 
 -- what a store's page is doesn't depend on its counts
 pub same_page : (old new : StoreFacts) (n reads : ℕ) (page : List ℕ) → new ≡ record old { failed_reads = reads } → IsPage new n page → IsPage old n page
 same_page old new n reads page same h = subst (λ (s : StoreFacts). IsPage s n page) same h
+
+-- the page that stands there and fits opens to what its entries tell
+pub opens_page : (pages : List (List ℕ)) (last : ℕ) (key : Key) (level : ℕ) (entry : Entry) (end : Option Key) (before : List Entry) (below : Entry) (next : Option Key) (after : List Entry)
+    (page : List ℕ) → slice_get pages entry.page ≡ Some page → Fits last page level entry end
+    → (x : FallsTo key (node_on page).entries end below next) × (x.before ≡ before) × (x.after ≡ after) → OpensTo last pages key level entry end before below next after
+opens_page pages last key level entry end before below next after page at fits to =
+    let is = page_is pages entry.page page at in
+    let parts = subst (λ (p : List ℕ). (x : FallsTo key (node_on p).entries end below next) × (x.before ≡ before) × (x.after ≡ after)) (sym is) to in
+    record {
+      named = record {
+        there = at ∙ ap (λ (p : List ℕ). Some p) (sym is);
+        fits = subst (λ (p : List ℕ). Fits last p level entry end) (sym is) fits;
+      };
+      falls = parts.0;
+      before_is = parts.1;
+      after_is = parts.2;
+    }

@@ -8,3 +8,11 @@ pub mod FoundFacts
 pub mod Lists
 pub mod Changes
 pub mod OrderFacts
+pub mod Numbers
+pub mod SpreadFacts
+pub mod ClimbFacts
+pub mod TurnFacts
+pub mod ReadyFacts
+pub mod LowerFacts
+pub mod DropFacts
+pub mod PutFacts

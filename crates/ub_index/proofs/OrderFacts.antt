@@ -13,7 +13,7 @@ first_more [] ys end key h = cc
 first_more (x ∷ xs) ys end key h = h
 
 -- lists put together of lists that each begin with a key begin with the first one
-first_through : (U : Entry → List Entry) (P : Entry → Option Key → Type 0) → ((x : Entry) (end : Option Key) → P x end → first_or (U x) None ≡ Some x.first)
+pub first_through : (U : Entry → List Entry) (P : Entry → Option Key → Type 0) → ((x : Entry) (end : Option Key) → P x end → first_or (U x) None ≡ Some x.first)
     → (entries : List Entry) (end : Option Key) (key : Key) → first_or entries None ≡ Some key → EachTo P entries end → first_or (flat_map U entries) None ≡ Some key
 first_through U P begin [] end key begins each = cc
 first_through U P begin (x ∷ xs) end key begins each = first_more (U x) (flat_map U xs) None key (begin x (first_or xs end) each.0 ∙ begins)

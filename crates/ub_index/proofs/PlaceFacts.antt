@@ -4,7 +4,7 @@ use Rattle.std.proofs.lemmas.Bool.{and_from, and_parts, cases_Bool}
 use Rattle.std.proofs.lemmas.Option.{slice_get_within, slice_get_cases}
 use Rattle.std.specs.List.{All, AllByRecursion, flat_map}
 use Rattle.ub_directory.specs.Spans.{first_keys}
-use Rattle.ub_directory.proofs.IndexFacts.{first_at, length-first_keys}
+use Rattle.ub_directory.proofs.Laws.{first_at}
 use Rattle.ub_page.specs.Entries.{IsEntry}
 use Rattle.ub_page.specs.declared.entries.Entry.{Entry}
 use Rattle.ub_region.specs.Regions.{index_holding}
@@ -14,11 +14,15 @@ use Rattle.ub_table.specs.Keys.{IsBefore, precedes, origin, are_ascending}
 use Rattle.ub_table.specs.declared.row.Key.{Key}
 use Rattle.ub_index.specs.Index.{entries_of, first_or, AscendTo, EachTo, IsUnder, under, top}
 use Rattle.ub_index.specs.Searching.{Gives, key_before}
-use Rattle.ub_index.specs.View.{IndexView, IsIndexOn, IsSeatAt, IsSeatBefore, entries_in}
+use Rattle.ub_index.specs.View.{IndexView, IsIndexOn, IsSeatAt, IsPreviousSeat, entries_in}
 use Rattle.ub_index.specs.declared.seat.Seat.{Seat}
 use Rattle.ub_index.proofs.Lists.{all_join}
 use Rattle.ub_index.proofs.OrderFacts.{under_first}
 use Rattle.ub_index.proofs.WayFacts.{in_order, not_true, seat_is}
+
+length-first_keys : (entries : List Entry) → length (first_keys entries) ≡ length entries
+length-first_keys [] = refl
+length-first_keys (entry ∷ entries) = ap (λ (n : ℕ). suc n) (length-first_keys entries)
 
 ascending : (xs : List Entry) → AscendTo xs None → are_ascending (first_keys xs) ≡ true
 ascending [] up = refl
@@ -182,7 +186,7 @@ greatest_before z (suc n) key h =
       ]
     ]
 
-seat_first : (entries : List Entry) (i : ℕ) (seat : Seat) → IsSeatAt entries i seat → slice_get (first_keys entries) i ≡ Some seat.first
+pub seat_first : (entries : List Entry) (i : ℕ) (seat : Seat) → IsSeatAt entries i seat → slice_get (first_keys entries) i ≡ Some seat.first
 seat_first entries i seat at = first_at entries i (record { first = seat.first; page = seat.page }) at.entry
 
 module _ (index : IndexView) (store : StoreFacts) (is : IsIndexOn index store) where
@@ -198,7 +202,7 @@ module _ (index : IndexView) (store : StoreFacts) (is : IsIndexOn index store) w
       ]
 
   pub some_is_before : (i : ℕ) (seat : Seat) → IsSeatAt (entries_in index store) i seat → (key : Key) (before : Seat) → key_before seat.first.z seat.first.number ≡ Some key
-      → Gives index store key before → IsSeatBefore (entries_in index store) i (Some before)
+      → Gives index store key before → IsPreviousSeat (entries_in index store) i (Some before)
   some_is_before zero seat at key before is_before given =
       let same : seat.first ≡ origin = (let a = seat_first (entries_in index store) zero seat at in let b = begins index store is in cc) in
       let none : key_before seat.first.z seat.first.number ≡ None = ap (λ (k : Key). key_before k.z k.number) same in

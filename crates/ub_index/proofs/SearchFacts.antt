@@ -8,70 +8,72 @@ use Rattle.ub_store.specs.declared.fault.StoreFault.TheVariants as store
 use Rattle.ub_table.specs.declared.fault.PageFault.{PageFault}
 use Rattle.ub_table.specs.declared.row.Key.{Key}
 use Rattle.ub_index.specs.Descending.{IsStepFault, Steps}
-use Rattle.ub_index.specs.Searching.{IsSearchFault, Searches, read_store}
+use Rattle.ub_index.specs.Searching.{IsWayFault, GoesDown, store_after}
 use Rattle.ub_index.specs.View.{IndexView, Stops}
 use Rattle.ub_index.specs.Way.{StopsAt}
 use Rattle.ub_index.specs.declared.fault.IndexFault.{IndexFault}
-use Rattle.ub_index.specs.declared.fault.IndexFault.TheVariants.{Page, Store}
+use Rattle.ub_index.specs.declared.fault.IndexFault.TheVariants.{Full, Page, Store}
 use Rattle.ub_index.proofs.WayFacts.{stops_here}
 
-err_is : {T : Type 0} (r : Result T IndexFault) (e : IndexFault) → IsErrAnd r (λ x. x ≡ e) → r ≡ Err e
+pub err_is : {T : Type 0} (r : Result T IndexFault) (e : IndexFault) → IsErrAnd r (λ x. x ≡ e) → r ≡ Err e
 err_is (Ok x) e h = absurd h
 err_is (Err f) e h = ap (λ (x : IndexFault). Err x) h
 
-abbrev failed : {T : Type 0} → IndexFault → Result T IndexFault
+abbrev pub failed : {T : Type 0} → IndexFault → Result T IndexFault
 failed e = Err e
 
-abbrev pager_with : StoreFacts → Trace → List (ℕ × List ℕ) → PagerView
+abbrev pub pager_with : StoreFacts → Trace → List (ℕ × List ℕ) → PagerView
 pager_with store trace cached = record { store = store; trace = trace; cached = cached }
 
-same_store : (T U : Type 0) (e : IndexFault) (s : StoreFacts) → read_store {A = U} (Err e) s ≡ read_store {A = T} (Err e) s
+pub same_store : (T U : Type 0) (e : IndexFault) (s : StoreFacts) → store_after {A = U} (Err e) s ≡ store_after {A = T} (Err e) s
 same_store T U (Page n fault) s = refl
+same_store T U Full s = refl
 same_store T U (Store store.Memory) s = refl
 same_store T U (Store store.Device) s = refl
 same_store T U (Store store.NoPage) s = refl
 same_store T U (Store store.BadSize) s = refl
 
-frame : {T : Type 0} (r : Result T IndexFault) (old mid new : PagerView) → mid.store ≡ old.store → mid.trace ≡ old.trace
-    → new ≡ record mid { store = read_store r mid.store; cached = new.cached } → new ≡ record old { store = read_store r old.store; cached = new.cached }
+pub frame : {T : Type 0} (r : Result T IndexFault) (old mid new : PagerView) → mid.store ≡ old.store → mid.trace ≡ old.trace
+    → new ≡ record mid { store = store_after r mid.store; cached = new.cached } → new ≡ record old { store = store_after r old.store; cached = new.cached }
 frame r old mid new stores traces h =
     h
-    ∙ (ap (λ (s : StoreFacts). pager_with (read_store r s) mid.trace new.cached) stores
-    ∙ ap (λ (t : Trace). pager_with (read_store r old.store) t new.cached) traces)
+    ∙ (ap (λ (s : StoreFacts). pager_with (store_after r s) mid.trace new.cached) stores
+    ∙ ap (λ (t : Trace). pager_with (store_after r old.store) t new.cached) traces)
 
 -- a step that is refused, after those before it
 module _ (T U : Type 0) (Sought : Key → Type 0) (index : IndexView) (key : Key) (sought : Sought key) (level : ℕ) (some : 0 < level) (entry : Entry) (end : Option Key)
     (old mid new : PagerView) (stores : mid.store ≡ old.store) (traces : mid.trace ≡ old.trace)
     (stops : IsHonest old.store → (n : ℕ) (fault : Option PageFault) → StopsAt index.last old.store.pages key level entry end n fault → Stops index old.store key n fault) where
-  fault_of : (e : IndexFault) → IsStepFault index.last mid.store level entry end e → IsSearchFault index old.store Sought e
+  fault_of : (e : IndexFault) → IsStepFault index.last mid.store level entry end e → IsWayFault index old.store Sought e
   fault_of (Page n fault) h = λ honest.
       let here = h.1 (subst (λ (s : StoreFacts). IsHonest s) (sym stores) honest) in
       let there = stops honest entry.page (Some fault) (stops_here old.store mid.store stores index.last key level entry end (Some fault) some here) in
       (key, sought, subst (λ (m : ℕ). Stops index old.store key m (Some fault)) (sym h.0) there)
   fault_of (Store store.Memory) h = tt
-  fault_of (Store store.Device) h = subst (λ (s : StoreFacts). IsSearchFault index s Sought (Store store.Device)) stores h
+  fault_of (Store store.Device) h = subst (λ (s : StoreFacts). IsWayFault index s Sought (Store store.Device)) stores h
   fault_of (Store store.NoPage) h = (
     entry.page,
     subst (λ (s : StoreFacts). IsStepFault index.last s level entry end (Store store.NoPage)) stores h,
     λ honest. (key, sought, stops honest entry.page None (stops_here old.store mid.store stores index.last key level entry end None some h)),
   )
   fault_of (Store store.BadSize) h = h
+  fault_of Full h = h
 
-  pub step_refused : (r : Result T IndexFault) (e : IndexFault) → IsErrAnd r (λ x. x ≡ e) → Steps {A = U} index.last level entry end mid new (Err e) → Searches Sought index old new r
-  step_refused r e is h = subst (λ (x : Result T IndexFault). Searches Sought index old new x) (sym (err_is r e is)) (record {
+  pub step_refused : (r : Result T IndexFault) (e : IndexFault) → IsErrAnd r (λ x. x ≡ e) → Steps {A = U} index.last level entry end mid new (Err e) → GoesDown Sought index old new r
+  step_refused r e is h = subst (λ (x : Result T IndexFault). GoesDown Sought index old new x) (sym (err_is r e is)) (record {
     same = frame (failed {T = T} e) old mid new stores traces (h.same ∙ ap (λ (s : StoreFacts). pager_with s mid.trace new.cached) (same_store T U e mid.store));
     faults = fault_of e h.faults;
   })
 
 -- a search that was answered left the store
-pub kept_store : {T : Type 0} (Sought : Key → Type 0) (index : IndexView) (old mid : PagerView) (x : T) → Searches Sought index old mid (Ok x) → mid.store ≡ old.store
+pub kept_store : {T : Type 0} (Sought : Key → Type 0) (index : IndexView) (old mid : PagerView) (x : T) → GoesDown Sought index old mid (Ok x) → mid.store ≡ old.store
 kept_store Sought index old mid x h = ap (λ (p : PagerView). p.store) h.same
 
-pub kept_trace : {T : Type 0} (Sought : Key → Type 0) (index : IndexView) (old mid : PagerView) (x : T) → Searches Sought index old mid (Ok x) → mid.trace ≡ old.trace
+pub kept_trace : {T : Type 0} (Sought : Key → Type 0) (index : IndexView) (old mid : PagerView) (x : T) → GoesDown Sought index old mid (Ok x) → mid.trace ≡ old.trace
 kept_trace Sought index old mid x h = ap (λ (p : PagerView). p.trace) h.same
 
 -- a search that leaves all as it was but what the pager holds
-pub answered : {T : Type 0} (Sought : Key → Type 0) (index : IndexView) (old new : PagerView) (x : T) → new.store ≡ old.store → new.trace ≡ old.trace → Searches Sought index old new (Ok x)
+pub answered : {T : Type 0} (Sought : Key → Type 0) (index : IndexView) (old new : PagerView) (x : T) → new.store ≡ old.store → new.trace ≡ old.trace → GoesDown Sought index old new (Ok x)
 answered Sought index old new x stores traces = record {
   same = ap (λ (s : StoreFacts). pager_with s new.trace new.cached) stores ∙ ap (λ (t : Trace). pager_with old.store t new.cached) traces;
   faults = tt;
@@ -79,16 +81,17 @@ answered Sought index old new x stores traces = record {
 
 -- a search that was refused as another one was, which went down to these keys among others
 module _ (T U : Type 0) (A B : Key → Type 0) (wider : (k : Key) → A k → B k) (index : IndexView) (old mid new : PagerView) (stores : mid.store ≡ old.store) (traces : mid.trace ≡ old.trace) where
-  wider_fault : (e : IndexFault) → IsSearchFault index mid.store A e → IsSearchFault index old.store B e
-  wider_fault (Page n fault) h = subst (λ (s : StoreFacts). IsSearchFault index s B (Page n fault)) stores (λ honest. let there = h honest in (there.0, wider there.0 there.1, there.2))
+  wider_fault : (e : IndexFault) → IsWayFault index mid.store A e → IsWayFault index old.store B e
+  wider_fault (Page n fault) h = subst (λ (s : StoreFacts). IsWayFault index s B (Page n fault)) stores (λ honest. let there = h honest in (there.0, wider there.0 there.1, there.2))
   wider_fault (Store store.Memory) h = tt
-  wider_fault (Store store.Device) h = subst (λ (s : StoreFacts). IsSearchFault index s B (Store store.Device)) stores h
+  wider_fault (Store store.Device) h = subst (λ (s : StoreFacts). IsWayFault index s B (Store store.Device)) stores h
   wider_fault (Store store.NoPage) h =
-      subst (λ (s : StoreFacts). IsSearchFault index s B (Store store.NoPage)) stores (h.0, h.1, λ honest. (let there = h.2 honest in (there.0, wider there.0 there.1, there.2)))
+      subst (λ (s : StoreFacts). IsWayFault index s B (Store store.NoPage)) stores (h.0, h.1, λ honest. (let there = h.2 honest in (there.0, wider there.0 there.1, there.2)))
   wider_fault (Store store.BadSize) h = h
+  wider_fault Full h = h
 
-  pub search_refused : (r : Result T IndexFault) (e : IndexFault) → IsErrAnd r (λ x. x ≡ e) → Searches {A = U} A index mid new (Err e) → Searches B index old new r
-  search_refused r e is h = subst (λ (x : Result T IndexFault). Searches B index old new x) (sym (err_is r e is)) (record {
+  pub search_refused : (r : Result T IndexFault) (e : IndexFault) → IsErrAnd r (λ x. x ≡ e) → GoesDown {A = U} A index mid new (Err e) → GoesDown B index old new r
+  search_refused r e is h = subst (λ (x : Result T IndexFault). GoesDown B index old new x) (sym (err_is r e is)) (record {
     same = frame (failed {T = T} e) old mid new stores traces (h.same ∙ ap (λ (s : StoreFacts). pager_with s mid.trace new.cached) (same_store T U e mid.store));
     faults = wider_fault e h.faults;
   })

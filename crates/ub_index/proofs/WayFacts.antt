@@ -16,8 +16,8 @@ use Rattle.ub_table.specs.declared.fault.PageFault.{PageFault}
 use Rattle.ub_table.specs.declared.fault.PageFault.TheVariants.{BadCount, OutOfRegion}
 use Rattle.ub_table.specs.declared.row.Key.{Key}
 use Rattle.ub_index.specs.Descending.{StepsTo}
-use Rattle.ub_index.specs.Fitting.{FallsTo, IsMisfit, IsRefused}
-use Rattle.ub_index.specs.Index.{entries_of, page_of, first_or, AscendTo, EachTo, Fits, IsNamed, IsUnder, under, top}
+use Rattle.ub_index.specs.Fitting.{FallsTo, IsUnfit, IsNotTaken}
+use Rattle.ub_index.specs.Index.{entries_of, page_in, first_or, AscendTo, EachTo, Fits, NamesFitting, IsUnder, under, top}
 use Rattle.ub_index.specs.View.{IndexView, IsIndexOn, IsSeatAt, Leads, entries_in}
 use Rattle.ub_index.specs.Way.{LeadsTo, StopsAt}
 use Rattle.ub_index.specs.declared.seat.Seat.{Seat}
@@ -42,10 +42,10 @@ module _ (store now : StoreFacts) (same : now ≡ store) (last : ℕ) (key : Key
       let h' = subst (λ (s : StoreFacts). StepsTo last s key (suc level) entry end below next) same step in
       inr (h'.named, below, next, h'.falls, subst (λ (m : ℕ). StopsAt last store.pages key m below next n fault) one h)
 
-  pub stops_here : (level : ℕ) (entry : Entry) (end : Option Key) (fault : Option PageFault) → 0 < level → IsRefused last now.pages level entry end fault
+  pub stops_here : (level : ℕ) (entry : Entry) (end : Option Key) (fault : Option PageFault) → 0 < level → IsNotTaken last now.pages level entry end fault
       → StopsAt last store.pages key level entry end entry.page fault
   stops_here zero entry end fault some h = absurd (omega arith)
-  stops_here (suc level) entry end fault some h = inl (refl, subst (λ (s : StoreFacts). IsRefused last s.pages (suc level) entry end fault) same h)
+  stops_here (suc level) entry end fault some h = inl (refl, subst (λ (s : StoreFacts). IsNotTaken last s.pages (suc level) entry end fault) same h)
 
 pub ends_here : (last : ℕ) (pages : List (List ℕ)) (key : Key) (level : ℕ) (entry : Entry) (end : Option Key) → level ≤ 0 → LeadsTo last pages key level entry end entry end
 ends_here last pages key zero entry end h = (refl, refl)
@@ -187,18 +187,18 @@ seat_is index store key seat is leads =
 
 -- and it never stops
 misfit_or_fault : (last : ℕ) (page : List ℕ) (level : ℕ) (entry : Entry) (end : Option Key) (fault : PageFault) → Fits last page level entry end
-    → IsMisfit last page level entry end fault → IsIndexFault last page fault
+    → IsUnfit last page level entry end fault → IsIndexFault last page fault
 misfit_or_fault last page level entry end BadCount fits (inl h) = h
 misfit_or_fault last page level entry end BadCount fits (inr h) = absurd (h.1 fits.level_is)
 misfit_or_fault last page level entry end OutOfRegion fits h = absurd (h.2 fits)
 misfit_or_fault last page level entry end fault fits h = h
 
 module _ (last : ℕ) (small : last < 2 ^ 128) (pages : List (List ℕ)) (key : Key) where
-  named_not_refused : (level : ℕ) (entry : Entry) (end : Option Key) (fault : Option PageFault) → IsNamed last pages level entry end → ¬ (IsRefused last pages level entry end fault)
-  named_not_refused level entry end None h far = let near = slice_get_within pages entry.page (page_of pages entry.page) h.there in omega arith
+  named_not_refused : (level : ℕ) (entry : Entry) (end : Option Key) (fault : Option PageFault) → NamesFitting last pages level entry end → ¬ (IsNotTaken last pages level entry end fault)
+  named_not_refused level entry end None h far = let near = slice_get_within pages entry.page (page_in pages entry.page) h.there in omega arith
   named_not_refused level entry end (Some fault) h refused =
-      node_not_refused (node_on (page_of pages entry.page)) (page_of pages entry.page) last small h.fits.is.is h.fits.is.spelled fault
-      (misfit_or_fault last (page_of pages entry.page) level entry end fault h.fits refused.1)
+      node_not_refused (node_on (page_in pages entry.page)) (page_in pages entry.page) last small h.fits.is.is h.fits.is.spelled fault
+      (misfit_or_fault last (page_in pages entry.page) level entry end fault h.fits refused.1)
 
   pub never_stops : (level : ℕ) (entry : Entry) (end : Option Key) (n : ℕ) (fault : Option PageFault) → IsUnder last pages level entry end → ¬ (StopsAt last pages key level entry end n fault)
   never_stops zero entry end n fault is h = h

@@ -1,7 +1,7 @@
 -- A change of an index: one region's entry becomes none, one or two, and each page on the way to it what follows from that.
 use Rattle.std.specs.Prelude.{◌≡◌, ◌⊎◌, ◌++◌, ℕ, zero, suc, List, [], ◌∷◌, Option, Some, None, IfSome, length, take, drop, slice_get}
 use Rattle.std.specs.List.{AllByRecursion, flat_map}
-use Rattle.ub_index.specs.Index.{first_or, page_of, entries_of, AscendTo, EachTo, IsIndexPage, IsUnder, pages_under}
+use Rattle.ub_index.specs.Index.{first_or, page_in, entries_of, AscendTo, EachTo, IsIndexPage, IsUnder, pages_under}
 use Rattle.ub_index_page.specs.Index.{node_on}
 use Rattle.ub_page.specs.declared.entries.Entry.{Entry}
 use Rattle.ub_table.specs.Keys.{IsBefore}
@@ -9,9 +9,9 @@ use Rattle.ub_table.specs.declared.row.Key.{Key}
 
 -- these entries stand on the page that an entry names, which has their first key
 pub record IsTold (last : ℕ) (pages : List (List ℕ)) (level : ℕ) (entries : List Entry) (entry : Entry) : Type 0 where
-  pub there : slice_get pages entry.page ≡ Some (page_of pages entry.page)
-  pub is : IsIndexPage last (page_of pages entry.page)
-  pub level_is : (node_on (page_of pages entry.page)).level ≡ level
+  pub there : slice_get pages entry.page ≡ Some (page_in pages entry.page)
+  pub is : IsIndexPage last (page_in pages entry.page)
+  pub level_is : (node_on (page_in pages entry.page)).level ≡ level
   pub entries_are : entries_of pages entry.page ≡ entries
   pub begins : first_or entries None ≡ Some entry.first
 
@@ -25,8 +25,8 @@ StandOn last pages level n entries told =
     × IsTold last pages level (take 86 entries) e × IsTold last pages level (drop 86 entries) f))
 
 -- the pages of these numbers are as they were
-abbrev pub AreKept : List (List ℕ) → List (List ℕ) → List ℕ → Type 0
-AreKept old new numbers = AllByRecursion (λ n. slice_get new n ≡ slice_get old n) numbers
+abbrev pub PagesStay : List (List ℕ) → List (List ℕ) → List ℕ → Type 0
+PagesStay old new numbers = AllByRecursion (λ n. slice_get new n ≡ slice_get old n) numbers
 
 -- where the region's entry f, after which `next` begins, became fs, an entry of this level has become what is told
 abbrev pub Becomes : ℕ → List (List ℕ) → List (List ℕ) → Entry → List Entry → Option Key → ℕ → Entry → Option Key → List Entry → Type 0
@@ -35,8 +35,8 @@ Becomes last old new f fs next (suc level) entry end told =
     (before : List Entry) × (after : List Entry) × (below : Entry) × (news : List Entry)
     × (entries_of old entry.page ≡ before ++ below ∷ after)
     × Becomes last old new f fs next level below (first_or after end) news
-    × AreKept old new (flat_map (pages_under old level) before)
-    × AreKept old new (flat_map (pages_under old level) after)
+    × PagesStay old new (flat_map (pages_under old level) before)
+    × PagesStay old new (flat_map (pages_under old level) after)
     × StandOn last new (suc level) entry.page (before ++ (news ++ after)) told
 
 -- in a list of entries, fs stand where f stood

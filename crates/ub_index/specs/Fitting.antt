@@ -1,6 +1,6 @@
 -- Why a page of an index is refused where an entry names it.
 use Rattle.std.specs.Prelude.{◌≡◌, ◌≢◌, ◌≤◌, ◌⊎◌, ◌++◌, ℕ, List, [], ◌∷◌, Option, Some, None, IfSome, length, slice_get}
-use Rattle.ub_index.specs.Index.{first_or, page_of, Fits, IsIndexPage}
+use Rattle.ub_index.specs.Index.{first_or, page_in, Fits, IsIndexPage}
 use Rattle.ub_index_page.specs.Index.{node_on, IsIndexFault}
 use Rattle.ub_page.specs.declared.entries.Entry.{Entry}
 use Rattle.ub_table.specs.Keys.{IsBefore}
@@ -10,18 +10,18 @@ use Rattle.ub_table.specs.declared.row.Key.{Key}
 
 -- the first refusal that holds: one of its reader's; BadCount, where it is of another level; or OutOfRegion, where it doesn't begin
 -- with the entry's key or doesn't end before the end
-abbrev pub IsMisfit : ℕ → List ℕ → ℕ → Entry → Option Key → PageFault → Type 0
-IsMisfit last page level entry end BadCount =
+abbrev pub IsUnfit : ℕ → List ℕ → ℕ → Entry → Option Key → PageFault → Type 0
+IsUnfit last page level entry end BadCount =
     IsIndexFault last page BadCount ⊎ (IsIndexPage last page × ((node_on page).level ≢ level))
-IsMisfit last page level entry end OutOfRegion =
+IsUnfit last page level entry end OutOfRegion =
     IsIndexPage last page × ((node_on page).level ≡ level) × (¬ (Fits last page level entry end))
-IsMisfit last page level entry end fault = IsIndexFault last page fault
+IsUnfit last page level entry end fault = IsIndexFault last page fault
 
 -- why the page that an entry of this level names can't be taken: there is none, or it is refused so
-abbrev pub IsRefused : ℕ → List (List ℕ) → ℕ → Entry → Option Key → Option PageFault → Type 0
-IsRefused last pages level entry end None = length pages ≤ entry.page
-IsRefused last pages level entry end (Some fault) =
-    (slice_get pages entry.page ≡ Some (page_of pages entry.page)) × IsMisfit last (page_of pages entry.page) level entry end fault
+abbrev pub IsNotTaken : ℕ → List (List ℕ) → ℕ → Entry → Option Key → Option PageFault → Type 0
+IsNotTaken last pages level entry end None = length pages ≤ entry.page
+IsNotTaken last pages level entry end (Some fault) =
+    (slice_get pages entry.page ≡ Some (page_in pages entry.page)) × IsUnfit last (page_in pages entry.page) level entry end fault
 
 -- of entries that end before `end`, a key falls to this one, after which the next one begins: the last that doesn't begin after
 -- the key, or else the first of all

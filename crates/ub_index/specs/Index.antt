@@ -8,12 +8,12 @@ use Rattle.ub_table.specs.Keys.{IsBefore, origin}
 use Rattle.ub_table.specs.declared.row.Key.{Key}
 
 -- the page of this number, and no byte where there is none
-abbrev pub page_of : List (List ℕ) → ℕ → List ℕ
-page_of pages n = slice_index_or pages n []
+abbrev pub page_in : List (List ℕ) → ℕ → List ℕ
+page_in pages n = slice_index_or pages n []
 
 -- the entries that the page of this number tells
 abbrev pub entries_of : List (List ℕ) → ℕ → List Entry
-entries_of pages n = (node_on (page_of pages n)).entries
+entries_of pages n = (node_on (page_in pages n)).entries
 
 -- the regions' entries that an entry of this level leads to, in order
 abbrev pub under : List (List ℕ) → ℕ → Entry → List Entry
@@ -53,15 +53,15 @@ pub record Fits (last : ℕ) (page : List ℕ) (level : ℕ) (entry : Entry) (en
   pub ascends : AscendTo (node_on page).entries end
 
 -- among these pages there is the one that an entry of this level names, and it fits
-pub record IsNamed (last : ℕ) (pages : List (List ℕ)) (level : ℕ) (entry : Entry) (end : Option Key) : Type 0 where
-  pub there : slice_get pages entry.page ≡ Some (page_of pages entry.page)
-  pub fits : Fits last (page_of pages entry.page) level entry end
+pub record NamesFitting (last : ℕ) (pages : List (List ℕ)) (level : ℕ) (entry : Entry) (end : Option Key) : Type 0 where
+  pub there : slice_get pages entry.page ≡ Some (page_in pages entry.page)
+  pub fits : Fits last (page_in pages entry.page) level entry end
 
 -- an index stands under this entry of this level, and ends before the end
 abbrev pub IsUnder : ℕ → List (List ℕ) → ℕ → Entry → Option Key → Type 0
 IsUnder last pages zero entry end = Unit {0}
 IsUnder last pages (suc level) entry end =
-    IsNamed last pages (suc level) entry end × EachTo (IsUnder last pages level) (entries_of pages entry.page) end
+    NamesFitting last pages (suc level) entry end × EachTo (IsUnder last pages level) (entries_of pages entry.page) end
 
 -- the entry by which a root is named
 abbrev pub top : ℕ → Entry

@@ -1,9 +1,13 @@
 -- What holds of every index, and what a change of one entry does to the whole. Each is what the function of its name in `law` ensures.
-use Rattle.std.specs.Prelude.{◌≡◌, ◌<◌, ◌^◌, ℕ, List, Option, IfSome}
-use Rattle.std.specs.List.{flat_map}
+use Rattle.std.specs.Prelude.{◌≡◌, ◌≤◌, ◌<◌, ◌^◌, ◌++◌, ℕ, nat_eq, List, Option, IfSome, length}
+use Rattle.std.specs.List.{flat_map, IsDistinct}
 use Rattle.ub_index.specs.Index.{AscendTo, IsUnder, under, pages_under}
-use Rattle.ub_index.specs.Changed.{AreKept, Becomes, BeginFrom, Replaces, Stays}
-use Rattle.ub_index.specs.Way.{StopsAt}
+use Rattle.ub_index.specs.Changed.{PagesStay, Becomes, BeginFrom, Replaces, Stays}
+use Rattle.ub_index.specs.Changing.{IsFine, Spelled, Stand, StayBut, Turns, named_as, with_added}
+use Rattle.ub_index.specs.Way.{LeadsTo, StopsAt}
+use Rattle.ub_index.specs.declared.sheet.Sheet.{Sheet}
+use Rattle.ub_index.specs.declared.told.Told.{Told}
+use Rattle.ub_page.specs.Entries.{IsEntry}
 use Rattle.ub_page.specs.declared.entries.Entry.{Entry}
 use Rattle.ub_table.specs.Keys.{IsBefore}
 use Rattle.ub_table.specs.declared.fault.PageFault.{PageFault}
@@ -23,7 +27,7 @@ WaysNeverStop = (last : ℕ) (pages : List (List ℕ)) (key : Key) (level : ℕ)
 -- where the pages under an entry stay, so do the regions' entries under it, and the index
 abbrev pub OthersStay : Type 0
 OthersStay = (last : ℕ) (old new : List (List ℕ)) (level : ℕ) (entry : Entry) (end : Option Key)
-    → AreKept old new (pages_under old level entry) → IsUnder last old level entry end
+    → PagesStay old new (pages_under old level entry) → IsUnder last old level entry end
     → IsUnder last new level entry end × (under new level entry ≡ under old level entry)
 
 -- where a region's entry became others, they stand in its place in the whole list
@@ -38,3 +42,16 @@ ChangeKeepsOrder = (last : ℕ) (old new : List (List ℕ)) (f : Entry) (fs : Li
     (end : Option Key) (told : List Entry) → AscendTo fs next → BeginFrom f.first fs
     → IfSome end (IsBefore entry.first) → IsUnder last old level entry end
     → Becomes last old new f fs next level entry end told → Stays last new level entry end told
+
+-- where a change turns on an index each page of which is reached once, and what comes is fine, what it spells makes of the entry what
+-- `Becomes` says, on all later pages on which that stands, and the index's other pages as they were
+abbrev pub TurnsBecome : Type 0
+TurnsBecome = (last : ℕ) (old : List (List ℕ)) (key : Key) (added : Option Entry) (level : ℕ) (entry : Entry) (end : Option Key)
+    (from to : Spelled) (told : Told) → last < 2 ^ 128 → length old ≤ from.next → IsUnder last old level entry end → IsEntry last entry
+    → IsDistinct nat_eq (pages_under old level entry)
+    → ((found : Entry) (next : Option Key) → LeadsTo last old key level entry end found next → IsFine last added found next)
+    → Turns last old key added level entry end from to told
+    → (found : Entry) × (next : Option Key) × LeadsTo last old key level entry end found next
+    × (sheets : List Sheet) × (to.sheets ≡ from.sheets ++ sheets)
+    × ((later : List (List ℕ)) → Stand later sheets → StayBut old later sheets (pages_under old level entry)
+    → Becomes last old later found (named_as (with_added added found) found) next level entry end (named_as told entry))

@@ -6,3 +6,7 @@ pub mod Way
 pub mod View
 pub mod Searching
 pub mod Descending
+pub mod Changing
+pub mod Preparing
+pub mod Lowering
+pub mod Making

@@ -2,9 +2,9 @@
 use Rattle.std.specs.Prelude.{◌≡◌, ◌≤◌, ◌<◌, ◌⊎◌, if◌then◌else◌, ℕ, zero, suc, IsTrue, Option, Some, None, Result, Err, IfErr}
 use Rattle.ub_directory.specs.declared.region.Region.{Region}
 use Rattle.ub_index.specs.View.{IndexView, Leads, Stops}
-use Rattle.ub_index.specs.Way.{Holds}
+use Rattle.ub_index.specs.Way.{HoldsKey}
 use Rattle.ub_index.specs.declared.fault.IndexFault.{IndexFault}
-use Rattle.ub_index.specs.declared.fault.IndexFault.TheVariants.{Page, Store}
+use Rattle.ub_index.specs.declared.fault.IndexFault.TheVariants.{Full, Page, Store}
 use Rattle.ub_index.specs.declared.seat.Seat.{Seat}
 use Rattle.ub_region.specs.Spans.{address_before}
 use Rattle.ub_store.specs.Facts.{StoreFacts, IsHonest, page_count, raised}
@@ -15,7 +15,7 @@ use Rattle.ub_table.specs.declared.row.Key.{Key}
 
 -- the seat that is given for a key: it holds the key, and over an honest store the way leads to it
 pub record Gives (index : IndexView) (store : StoreFacts) (key : Key) (seat : Seat) : Type 0 where
-  pub holds : Holds key seat.first seat.next
+  pub holds : HoldsKey key seat.first seat.next
   pub way : IsHonest store → Leads index store key seat
 
 -- the same for a key that there may be; none for none
@@ -63,8 +63,8 @@ GivesFrom index store To (Some from) (Some region) =
     (z : ℕ) × To from (Some z) × (z ≤ index.last) × (seat : Seat) × Gives index store (at_least from z) seat × (region ≡ region_of index.last seat)
 
 -- the first key of a region, if one is given
-abbrev pub IsFirstOf : Option Region → Key → Type 0
-IsFirstOf after key = (region : Region) × (after ≡ Some region) × (key ≡ region.first)
+abbrev pub IsFirstKeyOf : Option Region → Key → Type 0
+IsFirstKeyOf after key = (region : Region) × (after ≡ Some region) × (key ≡ region.first)
 
 -- the region that is given after another one, if one is given
 abbrev pub GivesAfter : IndexView → StoreFacts → (Key → Option ℕ → Type 0) → Option Region → Option Region → Type 0
@@ -73,30 +73,31 @@ GivesAfter index store To after found = (from : Option Key) × IsFrom index stor
 -- the keys to which a search after a region goes down: that region's, and then the one from which it goes on
 abbrev pub IsSought : IndexView → StoreFacts → (Key → Option ℕ → Type 0) → Option Region → Key → Type 0
 IsSought index store To after key =
-    IsFirstOf after key
+    IsFirstKeyOf after key
     ⊎ ((from : Key) × (z : ℕ) × IsFrom index store after (Some from) × To from (Some z) × (z ≤ index.last) × (key ≡ at_least from z))
 
 -- why a search is refused that goes down to these keys alone: memory was refused; the store failed in this call, which it then can;
 -- it has no page of a number that was asked for, or a page is refused, and over an honest store the way to one of these keys stops there
-abbrev pub IsSearchFault : IndexView → StoreFacts → (Key → Type 0) → IndexFault → Type 0
-IsSearchFault index old Sought (Store store.Memory) = Unit {0}
-IsSearchFault index old Sought (Store store.Device) = IsTrue old.can_fail
-IsSearchFault index old Sought (Store store.NoPage) =
+abbrev pub IsWayFault : IndexView → StoreFacts → (Key → Type 0) → IndexFault → Type 0
+IsWayFault index old Sought (Store store.Memory) = Unit {0}
+IsWayFault index old Sought (Store store.Device) = IsTrue old.can_fail
+IsWayFault index old Sought (Store store.NoPage) =
     (n : ℕ) × (page_count old ≤ n) × (IsHonest old → (key : Key) × Sought key × Stops index old key n None)
-IsSearchFault index old Sought (Store store.BadSize) = ⊥
-IsSearchFault index old Sought (Page n fault) = IsHonest old → (key : Key) × Sought key × Stops index old key n (Some fault)
+IsWayFault index old Sought (Store store.BadSize) = ⊥
+IsWayFault index old Sought Full = ⊥
+IsWayFault index old Sought (Page n fault) = IsHonest old → (key : Key) × Sought key × Stops index old key n (Some fault)
 
 -- a count of failures after a call with this result: the device's fault raises it by one
-abbrev pub counted : {A : Type 0} → Result A IndexFault → ℕ → ℕ
-counted (Err (Store store.Device)) n = raised n 1
-counted _ n = n
+abbrev pub count_with : {A : Type 0} → Result A IndexFault → ℕ → ℕ
+count_with (Err (Store store.Device)) n = raised n 1
+count_with _ n = n
 
 -- a store after a call with this result that only reads
-abbrev pub read_store : {A : Type 0} → Result A IndexFault → StoreFacts → StoreFacts
-read_store result old = record old { failed_reads = counted result old.failed_reads }
+abbrev pub store_after : {A : Type 0} → Result A IndexFault → StoreFacts → StoreFacts
+store_after result old = record old { failed_reads = count_with result old.failed_reads }
 
 -- a call with this result that goes down to these keys: with the device's fault the store has one failed read more, and else nothing
 -- has changed but the pages that the pager holds
-pub record Searches {A : Type 0} (Sought : Key → Type 0) (index : IndexView) (old new : PagerView) (result : Result A IndexFault) : Type 0 where
-  pub same : new ≡ record old { store = read_store result old.store; cached = new.cached }
-  pub faults : IfErr result (IsSearchFault index old.store Sought)
+pub record GoesDown {A : Type 0} (Sought : Key → Type 0) (index : IndexView) (old new : PagerView) (result : Result A IndexFault) : Type 0 where
+  pub same : new ≡ record old { store = store_after result old.store; cached = new.cached }
+  pub faults : IfErr result (IsWayFault index old.store Sought)

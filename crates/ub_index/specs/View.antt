@@ -33,14 +33,14 @@ abbrev pub IsSeatAt : List Entry → ℕ → Seat → Type 0
 IsSeatAt entries i seat = IsSeat entries (record { index = i; first = seat.first; page = seat.page; next = seat.next })
 
 -- the seat of the region after that of this index, or none where it is the last
-abbrev pub IsSeatAfter : List Entry → ℕ → Option Seat → Type 0
-IsSeatAfter entries i None = length entries ≡ i + 1
-IsSeatAfter entries i (Some next) = IsSeatAt entries (i + 1) next
+abbrev pub IsNextSeat : List Entry → ℕ → Option Seat → Type 0
+IsNextSeat entries i None = length entries ≡ i + 1
+IsNextSeat entries i (Some next) = IsSeatAt entries (i + 1) next
 
 -- the seat of the region before that of this index, or none where it is the first
-abbrev pub IsSeatBefore : List Entry → ℕ → Option Seat → Type 0
-IsSeatBefore entries i None = i ≡ 0
-IsSeatBefore entries i (Some before) = (j : ℕ) × (i ≡ j + 1) × IsSeatAt entries j before
+abbrev pub IsPreviousSeat : List Entry → ℕ → Option Seat → Type 0
+IsPreviousSeat entries i None = i ≡ 0
+IsPreviousSeat entries i (Some before) = (j : ℕ) × (i ≡ j + 1) × IsSeatAt entries j before
 
 -- from the root the way to the key ends at this seat
 abbrev pub Leads : IndexView → StoreFacts → Key → Seat → Type 0

@@ -1,14 +1,14 @@
 -- The way down to a key, page by page, over any pages: as far as they fit.
 use Rattle.std.specs.Prelude.{◌≡◌, ◌⊎◌, ℕ, zero, suc, List, Option, IfSome}
-use Rattle.ub_index.specs.Fitting.{FallsTo, IsRefused}
-use Rattle.ub_index.specs.Index.{entries_of, IsNamed}
+use Rattle.ub_index.specs.Fitting.{FallsTo, IsNotTaken}
+use Rattle.ub_index.specs.Index.{entries_of, NamesFitting}
 use Rattle.ub_page.specs.declared.entries.Entry.{Entry}
 use Rattle.ub_table.specs.Keys.{IsBefore}
 use Rattle.ub_table.specs.declared.fault.PageFault.{PageFault}
 use Rattle.ub_table.specs.declared.row.Key.{Key}
 
 -- what begins with `first`, and ends before `next`, holds the key
-pub record Holds (key first : Key) (next : Option Key) : Type 0 where
+pub record HoldsKey (key first : Key) (next : Option Key) : Type 0 where
   pub from : ¬ (IsBefore key first)
   pub to : IfSome next (IsBefore key)
 
@@ -17,7 +17,7 @@ pub record Holds (key first : Key) (next : Option Key) : Type 0 where
 abbrev pub LeadsTo : ℕ → List (List ℕ) → Key → ℕ → Entry → Option Key → Entry → Option Key → Type 0
 LeadsTo last pages key zero entry end found next = (found ≡ entry) × (next ≡ end)
 LeadsTo last pages key (suc level) entry end found next =
-    IsNamed last pages (suc level) entry end
+    NamesFitting last pages (suc level) entry end
     × (below : Entry) × (after : Option Key) × FallsTo key (entries_of pages entry.page) end below after
     × LeadsTo last pages key level below after found next
 
@@ -25,7 +25,7 @@ LeadsTo last pages key (suc level) entry end found next =
 abbrev pub StopsAt : ℕ → List (List ℕ) → Key → ℕ → Entry → Option Key → ℕ → Option PageFault → Type 0
 StopsAt last pages key zero entry end n fault = ⊥
 StopsAt last pages key (suc level) entry end n fault =
-    ((n ≡ entry.page) × IsRefused last pages (suc level) entry end fault)
-    ⊎ (IsNamed last pages (suc level) entry end
+    ((n ≡ entry.page) × IsNotTaken last pages (suc level) entry end fault)
+    ⊎ (NamesFitting last pages (suc level) entry end
     × (below : Entry) × (after : Option Key) × FallsTo key (entries_of pages entry.page) end below after
     × StopsAt last pages key level below after n fault)

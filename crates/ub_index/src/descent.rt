@@ -1,14 +1,15 @@
 // One step of the way down an index.
 ghost use Rattle.std.specs.Prelude.{◌≡◌, ◌+◌, ◌<◌, ◌≤◌, ◌↔◌, None, Some, IfOk, IfErr, IsOk, IfSome, IsTrue, drop};
 ghost use Rattle.ub_index.specs.Descending.{Steps, StepsTo};
-ghost use Rattle.ub_index.specs.Fitting.{FallsTo, IsMisfit};
-ghost use Rattle.ub_index.specs.Index.{Fits, first_or};
+ghost use Rattle.ub_index.specs.Fitting.{FallsTo, IsUnfit};
+ghost use Rattle.ub_index.specs.Index.{Fits, first_or, top};
 ghost use Rattle.ub_index_page.specs.Index.{head_on, node_on};
-ghost use Rattle.ub_index.specs.Way.{Holds};
+ghost use Rattle.ub_index.specs.Way.{HoldsKey};
 ghost use Rattle.ub_store.specs.Facts.{IsHonest};
 ghost use Rattle.ub_table.specs.Keys.{IsBefore};
 
 use crate::fault::IndexFault;
+use ub_directory::ORIGIN;
 use ub_index_page::{Head, MAX_ENTRIES, check_index, entry_at, first_at, slot_in};
 use ub_page::{Entry, Page};
 use ub_region::is_equal;
@@ -22,6 +23,19 @@ pub struct Place {
     pub next: Option<Key>,
 }
 
+/// The place of a root.
+pub fn root_place(root: u32) -> Place
+    ensures { result ≡ record { entry = top root; next = None } }
+{
+    Place {
+        entry: Entry {
+            first: ORIGIN,
+            page: root,
+        },
+        next: None,
+    }
+}
+
 /// Goes down from a place of this level to that of the level below to which the key falls. Reads the page that the entry names, if
 /// it isn't held.
 pub fn step_down<S: PageStore>(
@@ -31,8 +45,8 @@ pub fn step_down<S: PageStore>(
     place: &Place,
     key: &Key,
 ) -> Result<Place, IndexFault>
-    requires { Holds key.now place.now.entry.first place.now.next }
-    ensures holds { IfOk result (λ below. Holds key.now below.entry.first below.next) }
+    requires { HoldsKey key.now place.now.entry.first place.now.next }
+    ensures holds { IfOk result (λ below. HoldsKey key.now below.entry.first below.next) }
     ensures below { IsHonest pager.old.store → IfOk result (λ below. StepsTo last pager.old.store
         key.now level place.now.entry place.now.next below.entry below.next) }
     ensures effect { Steps last level place.now.entry place.now.next pager.old pager.new result }
@@ -57,7 +71,7 @@ pub fn fits(page: &Page, last: u128, level: u32, place: &Place) -> Result<Head, 
         (λ _. Fits last page.now level place.now.entry place.now.next) }
     ensures exact { Fits last page.now level place.now.entry place.now.next → IsOk result }
     ensures refused { IfErr result
-        (IsMisfit last page.now level place.now.entry place.now.next) }
+        (IsUnfit last page.now level place.now.entry place.now.next) }
 {
     let head = check_index(last, page)?;
     if head.level != level {
@@ -97,7 +111,7 @@ pub fn fall(page: &Page, count: usize, key: &Key, end: Option<Key>) -> Place
 }
 
 // Where the entry after that of a slot begins, or else the end.
-fn first_after(page: &Page, count: usize, slot: usize, end: Option<Key>) -> Option<Key>
+pub fn first_after(page: &Page, count: usize, slot: usize, end: Option<Key>) -> Option<Key>
     requires count { count ≡ (head_on page.now).count }
     requires within { slot < count }
     requires few { count ≤ MAX_ENTRIES }

@@ -1,3 +1,4 @@
+use std::alloc::AllocError;
 use thiserror::Error;
 use ub_store::StoreFault;
 use ub_table::PageFault;
@@ -11,6 +12,9 @@ pub enum IndexFault {
     /// The store refused, or memory was refused.
     #[error("{0}")]
     Store(StoreFault),
+    /// The index has 16 levels, and no page on the way to the region has room for an entry more.
+    #[error("Full")]
+    Full,
 }
 
 impl From<StoreFault> for IndexFault {
@@ -21,5 +25,17 @@ impl From<StoreFault> for IndexFault {
 
     fn from(fault: StoreFault) -> IndexFault {
         IndexFault::Store(fault)
+    }
+}
+
+impl From<AllocError> for IndexFault {
+    ghost use Rattle.std.specs.Prelude.{◌≡◌};
+    ghost use Rattle.ub_index.specs.declared.fault.IndexFault.TheVariants.{Store};
+    ghost use Rattle.ub_store.specs.declared.fault.StoreFault.TheVariants.{Memory};
+
+    ghost from_gives = { λ _ e. e ≡ Store Memory };
+
+    fn from(_fault: AllocError) -> IndexFault {
+        IndexFault::Store(StoreFault::Memory)
     }
 }

@@ -1,22 +1,36 @@
-ghost use Rattle.std.specs.Prelude.{◌≡◌, ◌≤◌, ◌<◌, ℕ, None, Some, IfOk, IfErr, IfSome, option_copied};
+ghost use Rattle.std.specs.Prelude.{◌≡◌, ◌≤◌, ◌<◌, ◌+◌, ◌^◌, ℕ, [], ◌∷◌, None, Some, IfOk, IfErr, IfSome, OnOk, OnErr, option_copied};
 ghost use Rattle.ub_bigmin.specs.Box.{HoldsAny};
 ghost use Rattle.ub_bigmin.specs.Extremes.{LeastFrom};
 ghost use Rattle.ub_directory.specs.Spans.{first_keys, regions_of, Meets, IsLater, First};
+ghost use Rattle.ub_index.specs.Changed.{Replaces};
+ghost use Rattle.ub_directory.specs.Writing.{put_store};
+ghost use Rattle.ub_index.specs.Changing.{AreOnce, Stand, so_far};
+ghost use Rattle.ub_index.specs.Making.{IsPutFault, PutsSheets};
+ghost use Rattle.ub_store.specs.View.{SameTrace};
+ghost use Rattle.ub_index.specs.Index.{top};
+ghost use Rattle.ub_index.specs.Lowering.{IsDropped, MakesLow, PreparesDrop};
+ghost use Rattle.ub_index.specs.Preparing.{IsPrepared, IsReachedOnce, MakesIndex, IsWithinSeat, PreparesAll, added_at, entry_at};
 ghost use Rattle.ub_index.specs.Descending.{IsBoundary, Reaches};
-ghost use Rattle.ub_index.specs.Searching.{Gives, GivesAny, GivesAfter, IsFirstOf, IsFrom, IsSought, Searches, at_least, end_before, key_before, region_of};
-ghost use Rattle.ub_index.specs.View.{IsIndexOn, IsSeatAt, IsSeatAfter, IsSeatBefore, entries_in, index_view};
+ghost use Rattle.ub_index.specs.Searching.{Gives, GivesAny, GivesAfter, IsFirstKeyOf, IsFrom, IsSought, GoesDown, at_least, end_before, key_before, region_of};
+ghost use Rattle.ub_index.specs.View.{IsIndexOn, IsSeatAt, IsNextSeat, IsPreviousSeat, entries_in, index_view};
 ghost use Rattle.ub_index_page.specs.declared.index.TheConstants.{MAX_LEVEL};
 ghost use Rattle.ub_region.specs.Regions.{index_holding};
-ghost use Rattle.ub_table.specs.Keys.{IsBefore};
+ghost use Rattle.ub_store.specs.Facts.{IsHonest, page_count};
+ghost use Rattle.ub_table.specs.Keys.{IsBefore, origin};
 
-use crate::descent::{Place, step_down};
+use crate::change::Change;
+use crate::descent::{root_place, step_down};
 use crate::fault::IndexFault;
+use crate::making::put_all;
 use crate::seat::Seat;
+use crate::sheets::Sheets;
+use crate::turning::{Aim, turn};
+use std::alloc::Global;
 use std::marker::Model;
 use ub_bigmin::{ZBox, next_in_any};
 use ub_directory::{ORIGIN, Region};
 use ub_page::Entry;
-use ub_store::{PageStore, Pager};
+use ub_store::{PageStore, Pager, StoreFault};
 use ub_table::{Key, PageFault};
 
 /// An index of several levels over the pages of a store: where its root stands, and how many levels it has. No page of it is kept here.
@@ -28,7 +42,7 @@ pub struct Index {
 }
 
 impl Model for Index {
-    ghost use Rattle.std.specs.Prelude.{◌≤◌};
+    ghost use Rattle.std.specs.Prelude.{◌≤◌, ◌<◌, ◌^◌};
     ghost use Rattle.ub_index.specs.View.{IndexView, index_view};
     ghost use Rattle.ub_index_page.specs.declared.index.TheConstants.{MAX_LEVEL};
 
@@ -36,7 +50,7 @@ impl Model for Index {
 
     ghost view = { λ i. index_view i.root i.levels i.last };
 
-    ghost invariant = { λ i. (1 ≤ i.levels) × (i.levels ≤ MAX_LEVEL) };
+    ghost invariant = { λ i. (1 ≤ i.levels) × (i.levels ≤ MAX_LEVEL) × (i.last < 2 ^ 128) };
 }
 
 impl Index {
@@ -60,7 +74,7 @@ impl Index {
         ensures seat { IsIndexOn self.now pager.old.store → IfOk result
             (IsSeatAt (entries_in self.now pager.old.store)
             (index_holding key.now (first_keys (entries_in self.now pager.old.store)))) }
-        ensures effect { Searches (λ k. k ≡ key.now) self.now pager.old pager.new result }
+        ensures effect { GoesDown (λ k. k ≡ key.now) self.now pager.old pager.new result }
     {
         descend(pager, self.root, self.levels, self.last, key)
     }
@@ -74,8 +88,8 @@ impl Index {
         ensures given { IfOk result (GivesAny self.now pager.old.store seat.now.next) }
         ensures after { (i : ℕ) → IsIndexOn self.now pager.old.store
             → IsSeatAt (entries_in self.now pager.old.store) i seat.now
-            → IfOk result (IsSeatAfter (entries_in self.now pager.old.store) i) }
-        ensures effect { Searches (λ k. seat.now.next ≡ Some k) self.now pager.old pager.new result }
+            → IfOk result (IsNextSeat (entries_in self.now pager.old.store) i) }
+        ensures effect { GoesDown (λ k. seat.now.next ≡ Some k) self.now pager.old pager.new result }
     {
         match &seat.next {
             Some(next) => Ok(Some(self.seat_of(pager, next)?)),
@@ -94,8 +108,8 @@ impl Index {
             (key_before seat.now.first.z seat.now.first.number)) }
         ensures before { (i : ℕ) → IsIndexOn self.now pager.old.store
             → IsSeatAt (entries_in self.now pager.old.store) i seat.now
-            → IfOk result (IsSeatBefore (entries_in self.now pager.old.store) i) }
-        ensures effect { Searches (λ k. key_before seat.now.first.z seat.now.first.number ≡ Some k)
+            → IfOk result (IsPreviousSeat (entries_in self.now pager.old.store) i) }
+        ensures effect { GoesDown (λ k. key_before seat.now.first.z seat.now.first.number ≡ Some k)
             self.now pager.old pager.new result }
     {
         match before_key(&seat.first) {
@@ -121,7 +135,7 @@ impl Index {
         ensures found { IsIndexOn self.now pager.old.store → IfOk result (First
             (λ r. IsLater (option_copied after.entry) r × (z ≤ r.to))
             (regions_of self.now.last (entries_in self.now pager.old.store))) }
-        ensures effect { Searches (IsSought self.now pager.old.store (λ _ to. to ≡ Some z)
+        ensures effect { GoesDown (IsSought self.now pager.old.store (λ _ to. to ≡ Some z)
             (option_copied after.entry)) self.now pager.old pager.new result }
     {
         let Some(from) = self.start(pager, after)? else {
@@ -144,7 +158,7 @@ impl Index {
         ensures found { IsIndexOn self.now pager.old.store → IfOk result (First
             (λ r. IsLater (option_copied after.entry) r × Meets boxes.now r)
             (regions_of self.now.last (entries_in self.now pager.old.store))) }
-        ensures effect { Searches (IsSought self.now pager.old.store
+        ensures effect { GoesDown (IsSought self.now pager.old.store
             (λ from. LeastFrom (HoldsAny boxes.now) from.z) (option_copied after.entry))
             self.now pager.old pager.new result }
     {
@@ -157,6 +171,135 @@ impl Index {
         }
     }
 
+    /// Prepares that a region comes behind that of a seat, with this first key, on a page that the store gets first. Nothing is
+    /// written.
+    ///
+    /// Refused as `seat_of` is, on the way to the seat's first key; with BadSize of the store where it would have more than 4294967295
+    /// pages; with Full where all 16 levels are full on that way. Index and store are then as they were.
+    pub fn prepare_add<S: PageStore>(
+        &self,
+        alloc: Global,
+        pager: &mut Pager<S>,
+        seat: &Seat,
+        first: &Key,
+    ) -> Result<Change, IndexFault>
+        ensures made { IsHonest pager.old.store → IfOk result (IsPrepared self.now pager.old.store
+            seat.now.first (Some (added_at first.now pager.old.store)) (page_count pager.old.store)
+            (so_far [] (page_count pager.old.store + 1))) }
+        ensures ready { (i : ℕ) → IsIndexOn self.now pager.old.store
+            → IsReachedOnce self.now pager.old.store
+            → IsSeatAt (entries_in self.now pager.old.store) i seat.now
+            → IsWithinSeat self.now.last seat.now.first seat.now.next first.now
+            → IfOk result (λ c. MakesIndex self.now pager.old.store c (Replaces (entry_at seat.now)
+            (entry_at seat.now ∷ added_at first.now pager.old.store ∷ [])
+            (entries_in self.now pager.old.store))) }
+        ensures effect { PreparesAll self.now seat.now.first
+            (Some (added_at first.now pager.old.store)) (so_far [] (page_count pager.old.store + 1))
+            pager.old pager.new result }
+    {
+        let start = pager.pages();
+        let mut sheets = Sheets::new(alloc, start);
+        let page = sheets.take_number()?;
+        let aim = Aim {
+            key: seat.first,
+            added: Some(Entry {
+                first: *first,
+                page,
+            }),
+        };
+        self.prepare(alloc, pager, &aim, start, sheets)
+    }
+
+    /// Prepares that the region of a seat goes, which isn't the first. Nothing is written, and no page is added.
+    ///
+    /// Refused as `seat_of` is, on the way to the seat's first key, and where a page that would be the root can't be taken; with
+    /// BadCount of the root where no region would be left. Index and store are then as they were.
+    pub fn prepare_drop<S: PageStore>(
+        &self,
+        alloc: Global,
+        pager: &mut Pager<S>,
+        seat: &Seat,
+    ) -> Result<Change, IndexFault>
+        ensures made { IsHonest pager.old.store → IfOk result
+            (IsDropped self.now pager.old.store seat.now.first) }
+        ensures ready { (i : ℕ) → IsIndexOn self.now pager.old.store
+            → IsReachedOnce self.now pager.old.store
+            → IsSeatAt (entries_in self.now pager.old.store) i seat.now
+            → IsBefore origin seat.now.first
+            → IfOk result (λ c. MakesIndex self.now pager.old.store c
+            (Replaces (entry_at seat.now) [] (entries_in self.now pager.old.store))) }
+        ensures low { (i : ℕ) → IsIndexOn self.now pager.old.store
+            → IsReachedOnce self.now pager.old.store
+            → IsSeatAt (entries_in self.now pager.old.store) i seat.now
+            → IsBefore origin seat.now.first
+            → IfOk result (λ c. (c.next ≡ c.start) × MakesLow self.now pager.old.store c) }
+        ensures effect { PreparesDrop self.now seat.now.first pager.old pager.new result }
+    {
+        let start = pager.pages();
+        let aim = Aim {
+            key: seat.first,
+            added: None,
+        };
+        let change = self.prepare(alloc, pager, &aim, start, Sheets::new(alloc, start))?;
+        change.lowered(pager, self.last)
+    }
+
+    /// Makes a change, once the store has grown: puts the pages that it spells, and then takes over the root. Device comes where the
+    /// store failed in this call, NoPage where it has no page of that number; the index is then as it was, and the pages that the
+    /// change spells may hold any bytes.
+    pub fn commit<S: PageStore>(
+        &mut self,
+        pager: &mut Pager<S>,
+        change: &Change,
+    ) -> Result<(), StoreFault>
+        ensures now { OnOk result (self.new ≡ record self.old {
+          root = change.now.root;
+          levels = change.now.levels;
+        }) }
+        ensures left { OnErr result (self.new ≡ self.old) }
+        ensures trace { SameTrace pager.old pager.new }
+        ensures stand { AreOnce change.now.sheets → IsHonest pager.old.store
+            → OnOk result (Stand pager.new.store.pages change.now.sheets) }
+        ensures kept { PutsSheets change.now.sheets pager.old.store pager.new.store }
+        ensures same { pager.new.store ≡ put_store result pager.old.store pager.new.store }
+        ensures refused { IfErr result (IsPutFault change.now.sheets pager.old.store) }
+    {
+        put_all(pager, change.sheets())?;
+        let (root, levels) = change.root();
+        self.root = root;
+        self.levels = levels;
+        Ok(())
+    }
+
+    // Prepares a change, where the store has so many pages, and some may be spelled already.
+    fn prepare<S: PageStore>(
+        &self,
+        alloc: Global,
+        pager: &mut Pager<S>,
+        aim: &Aim,
+        start: u32,
+        sheets: Sheets,
+    ) -> Result<Change, IndexFault>
+        ensures bounds { (self.now.last < 2 ^ 128) × (self.now.levels ≤ MAX_LEVEL) }
+        ensures made { IsHonest pager.old.store → IfOk result
+            (IsPrepared self.now pager.old.store aim.now.key aim.now.added start sheets) }
+        ensures effect { PreparesAll self.now aim.now.key aim.now.added sheets pager.old pager.new
+            result }
+    {
+        let mut sheets = sheets;
+        let place = root_place(self.root);
+        let told = turn(
+            alloc,
+            pager,
+            self.last,
+            self.levels,
+            &place,
+            aim,
+            &mut sheets,
+        )?;
+        Change::settled(self.root, self.levels, told, start, sheets)
+    }
+
     // Where the first region later than `after` begins, if there is one; the first of all, where none is given.
     fn start<S: PageStore>(
         &self,
@@ -164,7 +307,7 @@ impl Index {
         after: Option<&Region>,
     ) -> Result<Option<Key>, IndexFault>
         ensures from { IfOk result (IsFrom self.now pager.old.store (option_copied after.entry)) }
-        ensures effect { Searches (λ k. IsFirstOf (option_copied after.entry) k) self.now pager.old
+        ensures effect { GoesDown (λ k. IsFirstKeyOf (option_copied after.entry) k) self.now pager.old
             pager.new result }
     {
         match after {
@@ -183,7 +326,7 @@ impl Index {
         requires { IsBoundary self.now pager.old.store from.now }
         ensures given { IfOk result (Reaches self.now pager.old.store z from.now) }
         ensures later { IfOk result (λ found. IfSome found (λ r. ¬ (IsBefore r.first from.now))) }
-        ensures effect { Searches (λ k. (z ≤ self.now.last) × (k ≡ at_least from.now z)) self.now
+        ensures effect { GoesDown (λ k. (z ≤ self.now.last) × (k ≡ at_least from.now z)) self.now
             pager.old pager.new result }
     {
         if self.last < z {
@@ -209,16 +352,10 @@ fn descend<S: PageStore>(
     key: &Key,
 ) -> Result<Seat, IndexFault>
     ensures given { IfOk result (Gives (index_view root levels last) pager.old.store key.now) }
-    ensures effect { Searches (λ k. k ≡ key.now) (index_view root levels last) pager.old pager.new
+    ensures effect { GoesDown (λ k. k ≡ key.now) (index_view root levels last) pager.old pager.new
         result }
 {
-    let mut place = Place {
-        entry: Entry {
-            first: ORIGIN,
-            page: root,
-        },
-        next: None,
-    };
+    let mut place = root_place(root);
     let mut level = levels;
     while level > 0 {
         place = step_down(pager, last, level, &place, key)?;

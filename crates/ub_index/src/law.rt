@@ -1,4 +1,4 @@
-ghost use Rattle.ub_index.specs.Laws.{ChangeReplaces, ChangeKeepsOrder, OthersStay, WaysNeverStop, WholeAscends};
+ghost use Rattle.ub_index.specs.Laws.{ChangeReplaces, ChangeKeepsOrder, OthersStay, TurnsBecome, WaysNeverStop, WholeAscends};
 
 /// What an entry leads to is in order.
 pub fn whole_ascends()
@@ -23,4 +23,9 @@ pub fn change_replaces()
 /// And what an upper entry became is an index again.
 pub fn change_keeps_order()
     ensures { ChangeKeepsOrder }
+{}
+
+/// What a change spells makes of an entry what it tells, on all later pages on which that stands.
+pub fn turns_become()
+    ensures { TurnsBecome }
 {}

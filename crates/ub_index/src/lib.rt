@@ -31,12 +31,19 @@
 
 #![tactic(auto)]
 
+pub mod change;
 mod descent;
 pub mod fault;
 pub mod index;
 pub mod law;
+mod making;
 pub mod seat;
+pub mod sheet;
+mod sheets;
+mod told;
+mod turning;
 
+pub use change::Change;
 pub use fault::IndexFault;
 pub use index::Index;
 pub use seat::Seat;

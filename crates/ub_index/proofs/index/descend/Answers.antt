@@ -3,6 +3,7 @@ use Rattle.ub_store.specs.Facts.{StoreFacts, IsHonest}
 use Rattle.ub_store.specs.View.{PagerView}
 use Rattle.ub_table.proofs.Laws.{not_before_origin}
 use Rattle.ub_index.specs.View.{index_view}
+use Rattle.ub_index.specs.Way.{HoldsKey, LeadsTo, StopsAt}
 use Rattle.ub_index.specs.declared.descent.Place.{Place}
 use Rattle.ub_index.specs.declared.seat.Seat.{Seat}
 use Rattle.ub_index.proofs.SearchFacts.{answered, step_refused}
@@ -10,13 +11,15 @@ use Rattle.ub_index.proofs.WayFacts.{ends_here, leads_on, stops_on}
 use Rattle.ub_index.proofs.index.descend.Goals as goal
 
 pub loop-level-init : goal.loop-level-init
-loop-level-init g c = record {
-  store = refl;
-  trace = refl;
-  holds = record { from = not_before_origin c.args.key.now; to = tt };
-  leads = λ honest found next h. h;
-  stops = λ honest n fault h. h;
-}
+loop-level-init g c =
+    let at = c.root_place-place.ensures in
+    record {
+      store = refl;
+      trace = refl;
+      holds = subst (λ (p : Place). HoldsKey c.args.key.now p.entry.first p.next) (sym at) (record { from = not_before_origin c.args.key.now; to = tt });
+      leads = λ honest found next h. subst (λ (p : Place). LeadsTo c.args.last c.args.pager.now.store.pages c.args.key.now c.args.levels p.entry p.next found next) at h;
+      stops = λ honest n fault h. subst (λ (p : Place). StopsAt c.args.last c.args.pager.now.store.pages c.args.key.now c.args.levels p.entry p.next n fault) at h;
+    }
 
 pub loop-level-preserved : goal.loop-level-preserved
 loop-level-preserved g c = record {

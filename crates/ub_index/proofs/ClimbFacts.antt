@@ -1,0 +1,78 @@
+-- How a change goes a level down and back up.
+use Rattle.std.proofs.Common.{◌≡◌, ◌<◌, ◌-◌, ℕ, zero, suc, List, Option, Some, None, Result, Ok, Err, IfOk, ◌∙◌, sym, ap, subst, refl, arith}
+use Rattle.std.specs.Result.{IsErrAnd}
+use Rattle.ub_page.specs.declared.entries.Entry.{Entry}
+use Rattle.ub_store.specs.Facts.{StoreFacts, IsHonest}
+use Rattle.ub_store.specs.View.{PagerView}
+use Rattle.ub_store.specs.declared.fault.StoreFault.TheVariants as store
+use Rattle.ub_table.specs.declared.row.Key.{Key}
+use Rattle.ub_index.specs.Changing.{Mends, OpensTo, Prepares, Spelled, Turns, IsTurnFault}
+use Rattle.ub_index.specs.Descending.{IsStepFault, Steps, StepsTo}
+use Rattle.ub_index.specs.declared.fault.IndexFault.{IndexFault}
+use Rattle.ub_index.specs.declared.fault.IndexFault.TheVariants.{Full, Page, Store}
+use Rattle.ub_index.specs.declared.told.Told.{Told}
+use Rattle.ub_index.proofs.SearchFacts.{err_is, failed, frame, pager_with, same_store}
+use Rattle.ub_index.proofs.WayFacts.{stops_here, stops_on}
+
+pub turns_on : (last : ℕ) (pages : List (List ℕ)) (key : Key) (added : Option Entry) (level : ℕ) (entry : Entry) (end : Option Key) (before after : List Entry)
+    (below : Entry) (next : Option Key) (from middle to : Spelled) (news told : Told) → 0 < level → OpensTo last pages key level entry end before below next after
+    → Turns last pages key added (level - 1) below next from middle news → Mends level entry before below after news middle to told
+    → Turns last pages key added level entry end from to told
+turns_on last pages key added zero entry end before after below next from middle to news told some o turns mends = absurd (omega arith)
+turns_on last pages key added (suc level) entry end before after below next from middle to news told some o turns mends =
+    let one : suc level - 1 ≡ level = omega arith in (
+      o.named,
+      below,
+      next,
+      o.falls,
+      middle,
+      news,
+      subst (λ (n : ℕ). Turns last pages key added n below next from middle news) one turns,
+      subst (λ (xs : List Entry). Mends (suc level) entry xs below o.falls.after news middle to told) (sym o.before_is)
+          (subst (λ (xs : List Entry). Mends (suc level) entry before below xs news middle to told) (sym o.after_is) mends),
+    )
+
+pub turned_so : (r : Result Told IndexFault) (A B : Told → Type 0) → ((told : Told) → A told → B told) → IfOk r A → IfOk r B
+turned_so (Ok told) A B f h = f told h
+turned_so (Err e) A B f h = tt
+
+-- why the page that an entry names isn't opened is why the change is refused
+opened_fault : (last : ℕ) (old : StoreFacts) (key : Key) (level : ℕ) (entry : Entry) (end : Option Key) (next : ℕ) (e : IndexFault) → 0 < level
+    → IsStepFault last old level entry end e → IsTurnFault last old key level entry end next e
+opened_fault last old key level entry end next (Page n fault) some h = λ honest.
+    subst (λ (m : ℕ). IsTurnFault last old key level entry end next (Page m fault)) (sym h.0)
+    (λ good. stops_here old old refl last key level entry end (Some fault) some (h.1 good)) honest
+opened_fault last old key level entry end next (Store store.Memory) some h = tt
+opened_fault last old key level entry end next (Store store.Device) some h = h
+opened_fault last old key level entry end next (Store store.NoPage) some h = (entry.page, h, λ honest. stops_here old old refl last key level entry end None some h)
+opened_fault last old key level entry end next (Store store.BadSize) some h = absurd h
+opened_fault last old key level entry end next Full some h = h
+
+pub open_refused : (T U : Type 0) (last level : ℕ) (key : Key) (entry : Entry) (end : Option Key) (next : ℕ) (old new : PagerView) (r : Result T IndexFault) (e : IndexFault) → 0 < level
+    → IsErrAnd r (λ x. x ≡ e) → Steps {A = U} last level entry end old new (Err e) → Prepares last level key entry end next old new r
+open_refused T U last level key entry end next old new r e some is h = subst (λ (x : Result T IndexFault). Prepares last level key entry end next old new x) (sym (err_is r e is)) (record {
+  same = h.same ∙ ap (λ (s : StoreFacts). pager_with s old.trace new.cached) (same_store T U e old.store);
+  faults = opened_fault last old.store key level entry end next e some h.faults;
+})
+
+-- and so is why the change is refused below it
+below_fault : (last : ℕ) (old : StoreFacts) (key : Key) (level : ℕ) (entry below : Entry) (end after : Option Key) (next : ℕ) (e : IndexFault) → 0 < level
+    → (IsHonest old → StepsTo last old key level entry end below after) → IsTurnFault last old key (level - 1) below after next e → IsTurnFault last old key level entry end next e
+below_fault last old key level entry below end after next (Page n fault) some step h = λ honest.
+    stops_on old old refl last key level entry below end after n (Some fault) some (step honest) (h honest)
+below_fault last old key level entry below end after next (Store store.Memory) some step h = tt
+below_fault last old key level entry below end after next (Store store.Device) some step h = h
+below_fault last old key level entry below end after next (Store store.NoPage) some step h =
+    (h.0, h.1, λ honest. stops_on old old refl last key level entry below end after h.0 None some (step honest) (h.2 honest))
+below_fault last old key level entry below end after next (Store store.BadSize) some step h = omega arith
+below_fault last old key level entry below end after next Full some step h = h
+
+pub below_refused : (T U : Type 0) (last level : ℕ) (key : Key) (entry below : Entry) (end after : Option Key) (next : ℕ) (old mid new : PagerView) (r : Result T IndexFault) (e : IndexFault)
+    → 0 < level → mid.store ≡ old.store → mid.trace ≡ old.trace → (IsHonest old.store → StepsTo last old.store key level entry end below after)
+    → IsErrAnd r (λ x. x ≡ e) → Prepares {A = U} last (level - 1) key below after next mid new (Err e) → Prepares last level key entry end next old new r
+below_refused T U last level key entry below end after next old mid new r e some stores traces step is h =
+    subst (λ (x : Result T IndexFault). Prepares last level key entry end next old new x) (sym (err_is r e is)) (record {
+      same = frame (failed {T = T} e) old mid new stores traces (h.same ∙ ap (λ (s : StoreFacts). pager_with s mid.trace new.cached) (same_store T U e mid.store));
+      faults = below_fault last old.store key level entry below end after next e some step
+          (subst (λ (s : StoreFacts). IsTurnFault last s key (level - 1) below after next e) stores h.faults);
+    })

@@ -1,0 +1,284 @@
+-- A region's entry that goes: what is left is an index, the root of which doesn't name one page alone.
+use Rattle.std.proofs.Common.{◌≡◌, ◌≤◌, ◌<◌, ◌^◌, ◌++◌, ◌⊎◌, ◌==◌, inl, inr, ℕ, zero, suc, nat_eq, List, [], ◌∷◌, Option, Some, None, Result, Ok, Err, length, slice_get, ◌∙◌, sym, ap, subst, refl, arith}
+use Rattle.std.proofs.lemmas.Bool.{cases_Bool, cases_lt, eqb-true}
+use Rattle.std.proofs.lemmas.List.{append-nil}
+use Rattle.std.specs.List.{AllByRecursion, IsDistinct, flat_map}
+use Rattle.ub_index_page.specs.Index.{node_on}
+use Rattle.ub_page.specs.declared.entries.Entry.{Entry}
+use Rattle.ub_store.specs.Facts.{StoreFacts, IsHonest, page_count}
+use Rattle.ub_store.specs.View.{PagerView}
+use Rattle.ub_table.proofs.Laws.{not_before_self}
+use Rattle.ub_table.specs.Keys.{IsBefore, origin}
+use Rattle.ub_table.specs.declared.row.Key.{Key}
+use Rattle.ub_index.specs.Changed.{Replaces}
+use Rattle.ub_index.specs.Changing.{AreOnce, IsFine, IsUnspelled, Mends, Spelled, Spreads, Stand, StayBut, Turns, named_as, so_far}
+use Rattle.ub_index.specs.Index.{entries_of, first_or, page_in, pages_under, EachTo, IsUnder, under, top}
+use Rattle.ub_index.specs.Lowering.{IsLowerFault, IsLowest, Lowers, LowersTo, MakesLow, PreparesDrop, ReadsRoots, entries_then, page_then, sole_page, spelled_page, spelled_or}
+use Rattle.ub_index.specs.Preparing.{ChangeView, IsIndexThen, IsPrepared, IsReachedOnce, MakesIndex, Settles, change_view, entry_at, pages_of_index}
+use Rattle.ub_index.specs.View.{IndexView, IsIndexOn, IsSeatAt, entries_in}
+use Rattle.ub_index.specs.declared.fault.IndexFault.{IndexFault}
+use Rattle.ub_index.specs.declared.seat.Seat.{Seat}
+use Rattle.ub_index.specs.declared.sheet.Sheet.{Sheet}
+use Rattle.ub_index.specs.declared.told.Told.{Told}
+use Rattle.ub_index.specs.declared.told.Told.TheVariants.{Same, Gone, One, Two}
+use Rattle.ub_index.proofs.Changes.{same_page}
+use Rattle.ub_index.proofs.FitFacts.{page_is}
+use Rattle.ub_index.proofs.Numbers.{IsNoNew, IsOutside, differs, distinct_cons, distinct_first, distinct_rest}
+use Rattle.ub_index.proofs.OrderFacts.{under_first}
+use Rattle.ub_index.proofs.ReadyFacts.{entry_is, made_one, told_root, root_entry, seat_found}
+use Rattle.ub_index.proofs.SearchFacts.{frame}
+use Rattle.ub_index.proofs.TurnFacts.{Risen, rises}
+
+-- not by two
+abbrev pub IsNarrow : Told → Type 0
+IsNarrow (Two left right) = ⊥
+IsNarrow _ = Unit {0}
+
+spread_narrow : (level : ℕ) (entry : Entry) (entries : List Entry) (from to : Spelled) (told : Told) → length entries ≤ 170 → Spreads level entry entries from to told
+    → IsNarrow told × (to.next ≡ from.next)
+spread_narrow level entry entries from to Same few h = (tt, ap (λ (s : Spelled). s.next) h.2)
+spread_narrow level entry entries from to Gone few h = (tt, ap (λ (s : Spelled). s.next) h.1)
+spread_narrow level entry entries from to (One other) few h = (tt, ap (λ (s : Spelled). s.next) h.3)
+spread_narrow level entry entries from to (Two left right) few h = let full = h.0 in absurd (omega arith)
+
+-- where one entry became one or none, there are no more than there were
+mended_few : (before : List Entry) (below : Entry) (after : List Entry) (news : Told) → IsNarrow news → length (before ++ (below ∷ after)) ≤ 170
+    → length (before ++ (named_as news below ++ after)) ≤ 170
+mended_few [] below after Same narrow few = few
+mended_few [] below after Gone narrow few = omega arith
+mended_few [] below after (One other) narrow few = few
+mended_few [] below after (Two left right) narrow few = absurd narrow
+mended_few (b ∷ before) below after news narrow few = longer (length (before ++ (below ∷ after))) (length (before ++ (named_as news below ++ after))) (less before) few
+  where
+    less : (bs : List Entry) → length (bs ++ (named_as news below ++ after)) ≤ length (bs ++ (below ∷ after))
+    less [] = by_news news narrow
+      where
+        by_news : (t : Told) → IsNarrow t → length (named_as t below ++ after) ≤ length (below ∷ after)
+        by_news Same n = omega arith
+        by_news Gone n = omega arith
+        by_news (One other) n = omega arith
+        by_news (Two left right) n = absurd n
+    less (x ∷ bs) = let more = less bs in omega arith
+
+    longer : (m n : ℕ) → n ≤ m → suc m ≤ 170 → suc n ≤ 170
+    longer m n le k = omega arith
+
+-- a region's entry that goes needs no page more
+narrow : (last : ℕ) (old : List (List ℕ)) (key : Key) (level : ℕ) (entry : Entry) (end : Option Key) (from to : Spelled) (told : Told)
+    → Turns last old key None level entry end from to told → IsNarrow told × (to.next ≡ from.next)
+narrow last old key zero entry end from to told (told_is, same) = (subst (λ (t : Told). IsNarrow t) (sym told_is) tt, ap (λ (s : Spelled). s.next) same)
+narrow last old key (suc level) entry end from to told (named, below, next, falls, middle, news, turns, mends) =
+    let in_it = narrow last old key level below next from middle news turns in
+    let few : length (falls.before ++ (below ∷ falls.after)) ≤ 170 = subst (λ (xs : List Entry). length xs ≤ 170) falls.parts named.fits.is.is.few in
+    let up = by_news news in_it.0 mends few in
+    (up.0, up.1 ∙ in_it.1)
+  where
+    by_news : (t : Told) → IsNarrow t → Mends (suc level) entry falls.before below falls.after t middle to told → length (falls.before ++ (below ∷ falls.after)) ≤ 170
+        → IsNarrow told × (to.next ≡ middle.next)
+    by_news Same n m few = (subst (λ (t : Told). IsNarrow t) (sym m.0) tt, ap (λ (s : Spelled). s.next) m.1)
+    by_news Gone n m few = spread_narrow (suc level) entry (falls.before ++ (named_as Gone below ++ falls.after)) middle to told (mended_few falls.before below falls.after Gone n few) m
+    by_news (One other) n m few =
+        spread_narrow (suc level) entry (falls.before ++ (named_as (One other) below ++ falls.after)) middle to told (mended_few falls.before below falls.after (One other) n few) m
+    by_news (Two left right) n m few = absurd n
+
+-- a page that is spelled stands; one that isn't spelled isn't among the sheets
+spelled_then : (later : List (List ℕ)) (sheets : List Sheet) (n : ℕ) → Stand later sheets
+    → ((p : List ℕ) × (spelled_page sheets n ≡ Some p) × (slice_get later n ≡ Some p)) ⊎ ((spelled_page sheets n ≡ None) × IsUnspelled n sheets)
+spelled_then later [] n stand = inr (refl, tt)
+spelled_then later (s ∷ sheets) n stand = elim (cases_Bool (s.number == n)) [
+  | inl t ↦ inl (s.page, rw t refl, subst (λ (m : ℕ). slice_get later m ≡ Some s.page) (eqb-true s.number n t) stand.0)
+  | inr f ↦ elim (spelled_then later sheets n stand.1) [
+    | inl some ↦ inl (some.0, rw f some.1, some.2)
+    | inr none ↦ inr (rw f none.0, ((λ e. differs s.number n f (sym e)), none.1))
+  ]
+]
+
+-- a number is none of those, or what holds of all of them holds of it
+in_or_out : (n : ℕ) (numbers : List ℕ) → IsOutside n numbers ⊎ ((P : ℕ → Type 0) → AllByRecursion P numbers → P n)
+in_or_out n [] = inl tt
+in_or_out n (m ∷ numbers) = elim (cases_Bool (n == m)) [
+  | inl t ↦ inr (λ P all. subst P (sym (eqb-true n m t)) all.0)
+  | inr f ↦ elim (in_or_out n numbers) [
+    | inl out ↦ inl (differs n m f, out)
+    | inr there ↦ inr (λ P all. there P all.1)
+  ]
+]
+
+sole_is : (entries : List Entry) (page : ℕ) → sole_page entries ≡ Some page → (entry : Entry) × (entries ≡ entry ∷ []) × (entry.page ≡ page)
+sole_is [] page h = cc
+sole_is (entry ∷ []) page h = (entry, refl, (let e : Some entry.page ≡ Some page = h in cc))
+sole_is (a ∷ b ∷ entries) page h = cc
+
+not_sole : (entries : List Entry) (first : Key) → first_or entries None ≡ Some first → sole_page entries ≡ None → 2 ≤ length entries
+not_sole [] first begins h = cc
+not_sole (a ∷ []) first begins h = cc
+not_sole (a ∷ b ∷ entries) first begins h = omega arith
+
+module _ (last : ℕ) (old later : List (List ℕ)) (sheets : List Sheet) (own : List ℕ) (stand : Stand later sheets) (stay : StayBut old later sheets own) where
+  then_is : (n : ℕ) → ¬ (IsOutside n own) → page_then sheets old n ≡ page_in later n
+  then_is n there = elim (spelled_then later sheets n stand) [
+    | inl some ↦ ap (λ (o : Option (List ℕ)). spelled_or o (page_in old n)) some.1 ∙ sym (page_is later n some.0 some.2)
+    | inr none ↦ elim (in_or_out n own) [
+      | inl out ↦ absurd (there out)
+      | inr is_in ↦
+          ap (λ (o : Option (List ℕ)). spelled_or o (page_in old n)) none.0
+          ∙ sym (same_page old later n (is_in (λ m. IsUnspelled m sheets → slice_get later m ≡ slice_get old m) stay none.1))
+    ]
+  ]
+
+  entries_same : (n : ℕ) → ¬ (IsOutside n own) → entries_then sheets old n ≡ entries_of later n
+  entries_same n there = ap (λ (p : List ℕ). (node_on p).entries) (then_is n there)
+
+  root_there : (level root : ℕ) → ((n : ℕ) → IsOutside n own → IsOutside n (pages_under later (suc level) (top root))) → ¬ (IsOutside root own)
+  root_there level root among out = (among root out).0 refl
+
+  module _ (Are : List Entry → Type 0) where
+    -- the root to which one comes is that of an index with the same entries
+    lower_made : (level root to at : ℕ) → 1 ≤ level → level ≤ 16 → IsUnder last later level (top root) None → IsDistinct nat_eq (0 ∷ pages_under later level (top root))
+        → Are (under later level (top root)) → ((n : ℕ) → IsOutside n own → IsOutside n (pages_under later level (top root))) → Lowers sheets old root level to at
+        → IsIndexThen last later to at Are × ((n : ℕ) → IsOutside n own → IsOutside n (pages_under later at (top to)))
+    lower_made zero root to at some high is once are among lowers = absurd (omega arith)
+    lower_made (suc below) root to at some high is once are among (inl (same, same_level)) =
+        subst (λ (n : ℕ). IsIndexThen last later n at Are × ((m : ℕ) → IsOutside m own → IsOutside m (pages_under later at (top n)))) (sym same)
+        (subst (λ (l : ℕ). IsIndexThen last later root l Are × ((m : ℕ) → IsOutside m own → IsOutside m (pages_under later l (top root)))) (sym same_level)
+        (record { low = some; high = high; under_it = is; reached = once; entries_are = are }, among))
+    lower_made (suc below) root to at some high is once are among (inr (page, sole, more, lowers)) =
+        let here = entries_same root (root_there below root among) in
+        let one = sole_is (entries_of later root) page (ap (λ (xs : List Entry). sole_page xs) (sym here) ∙ sole) in
+        let begins : Some one.0.first ≡ Some origin = subst (λ (xs : List Entry). first_or xs None ≡ Some origin) one.1 is.0.fits.begins in
+        let first : one.0.first ≡ origin = cc in
+        let list : entries_of later root ≡ top page ∷ [] = one.1 ∙ ap (λ (e : Entry). e ∷ []) (entry_is one.0 origin page first one.2) in
+        let each : EachTo (IsUnder last later below) (top page ∷ []) None = subst (λ (xs : List Entry). EachTo (IsUnder last later below) xs None) list is.1 in
+        let under_same : under later (suc below) (top root) ≡ under later below (top page) = ap (λ (xs : List Entry). flat_map (under later below) xs) list ∙ append-nil (under later below (top page)) in
+        let pages_same : flat_map (pages_under later below) (entries_of later root) ≡ pages_under later below (top page) =
+        ap (λ (xs : List Entry). flat_map (pages_under later below) xs) list ∙ append-nil (pages_under later below (top page)) in
+        let once_all : IsDistinct nat_eq (0 ∷ root ∷ pages_under later below (top page)) = subst (λ (ns : List ℕ). IsDistinct nat_eq (0 ∷ root ∷ ns)) pages_same once in
+        let once_below = distinct_cons 0 (pages_under later below (top page)) (distinct_first 0 (root ∷ pages_under later below (top page)) once_all).1
+        (distinct_rest root (pages_under later below (top page)) (distinct_rest 0 (root ∷ pages_under later below (top page)) once_all)) in
+        lower_made below page to at more (omega arith) each.0 once_below (subst Are under_same are)
+        (λ n out. subst (λ (ns : List ℕ). IsOutside n ns) pages_same (among n out).1) lowers
+
+  -- and where it doesn't give way, it names two pages at least, or is of level 1
+  lowest_then : (root level : ℕ) → 1 ≤ level → IsUnder last later level (top root) None → ((n : ℕ) → IsOutside n own → IsOutside n (pages_under later level (top root)))
+      → IsLowest sheets old root level → (level ≡ 1) ⊎ (2 ≤ length (entries_of later root))
+  lowest_then root zero some is among lowest = absurd (omega arith)
+  lowest_then root (suc below) some is among (inl low) = inl (omega arith)
+  lowest_then root (suc below) some is among (inr none) =
+      inr (not_sole (entries_of later root) origin is.0.fits.begins (ap (λ (xs : List Entry). sole_page xs) (sym (entries_same root (root_there below root among))) ∙ none))
+
+-- what goes leaves nothing that could be wrong
+gone_fine : (last : ℕ) (found : Entry) (next : Option Key) → IsFine last None found next
+gone_fine last found next = record { up = tt; later = tt; entries = tt }
+
+begin_other : (before : List Entry) (f : Entry) (after : List Entry) → IsBefore origin f.first → first_or (before ++ (f ∷ after)) None ≡ Some origin
+    → first_or (before ++ ([] ++ after)) None ≡ Some origin
+begin_other [] f after later h = let same : f.first ≡ origin = cc in absurd (not_before_self origin (subst (λ (k : Key). IsBefore origin k) same later))
+begin_other (b ∷ before) f after later h = h
+
+module _ (index : IndexView) (store : StoreFacts) (i : ℕ) (seat : Seat) (small : index.last < 2 ^ 128) (high : index.levels ≤ 16) (few : page_count store < 4294967296)
+    (is : IsIndexOn index store) (own : IsReachedOnce index store) (at : IsSeatAt (entries_in index store) i seat) (later_one : IsBefore origin seat.first)
+    (first change : ChangeView) (middle : Spelled) (told : Told)
+    (turns : Turns index.last store.pages seat.first None index.levels (top index.root) None (so_far [] (page_count store)) middle told)
+    (settles : Settles index.root index.levels told (page_count store) middle first) (lowers : LowersTo store.pages first change) where
+  some_room : (level : ℕ) → 1 ≤ level → IsUnder index.last store.pages level (top index.root) None → 0 < page_count store
+  some_room zero l u = absurd (omega arith)
+  some_room (suc level) l u = some_length store.pages index.root u.0.there
+    where
+      some_length : (pages : List (List ℕ)) (n : ℕ) → slice_get pages n ≡ Some (page_in store.pages index.root) → 0 < length pages
+      some_length [] n h = cc
+      some_length (p ∷ pages) n h = omega arith
+
+  r : Risen index.last store.pages seat.first None index.levels (top index.root) None (so_far [] (page_count store)) middle told
+  r = rises index.last small store.pages seat.first None index.levels (top index.root) None (so_far [] (page_count store)) middle told (omega arith) is.under_it
+      (root_entry index.last store.pages index.root index.levels is.some few own is.under_it)
+      (distinct_rest 0 (pages_of_index index store) own) (λ found next leads. gone_fine index.last found next) turns
+
+  same_next : middle.next ≡ page_count store
+  same_next = (narrow index.last store.pages seat.first index.levels (top index.root) None (so_far [] (page_count store)) middle told turns).1
+
+  found_is : r.found ≡ entry_at seat
+  found_is = (seat_found index store i seat is at r.found r.next r.leads).0
+
+  begins : (before after : List Entry) → entries_in index store ≡ before ++ (r.found ∷ after) → first_or (before ++ ([] ++ after)) None ≡ Some origin
+  begins before after parts =
+      begin_other before r.found after (subst (λ (e : Entry). IsBefore origin e.first) (sym found_is) later_one)
+      (subst (λ (xs : List Entry). first_or xs None ≡ Some origin) parts (under_first index.last store.pages index.levels (top index.root) None is.under_it))
+
+  -- one entry is told, and the root stays at first
+  one_told : ((other : Entry) × (named_as told (top index.root) ≡ other ∷ [])) × (first ≡ change_view middle (page_count store) index.root index.levels)
+  one_told = by_told told refl settles (narrow index.last store.pages seat.first index.levels (top index.root) None (so_far [] (page_count store)) middle told turns).0
+    where
+      by_told : (t : Told) → told ≡ t → Settles index.root index.levels t (page_count store) middle first → IsNarrow told
+          → ((other : Entry) × (named_as told (top index.root) ≡ other ∷ [])) × (first ≡ change_view middle (page_count store) index.root index.levels)
+      by_told Same e h n = ((top index.root, ap (λ (t : Told). named_as t (top index.root)) e), h)
+      by_told Gone e h n = absurd h
+      by_told (One other) e h n = ((other, ap (λ (t : Told). named_as t (top index.root)) e), h)
+      by_told (Two left right) e h n = absurd (subst (λ (t : Told). IsNarrow t) e n)
+
+  sheets_are : change.sheets ≡ r.sheets
+  sheets_are = ap (λ (c : ChangeView). c.sheets) lowers.same ∙ (ap (λ (c : ChangeView). c.sheets) one_told.1 ∙ r.sheets_are)
+
+  first_sheets : first.sheets ≡ r.sheets
+  first_sheets = ap (λ (c : ChangeView). c.sheets) one_told.1 ∙ r.sheets_are
+
+  lowers_so : Lowers r.sheets store.pages index.root index.levels change.root change.levels
+  lowers_so =
+      let root = ap (λ (c : ChangeView). c.root) one_told.1 in
+      let levels = ap (λ (c : ChangeView). c.levels) one_told.1 in
+      subst (λ (xs : List Sheet). Lowers xs store.pages index.root index.levels change.root change.levels) first_sheets
+      (subst (λ (n : ℕ). Lowers first.sheets store.pages n index.levels change.root change.levels) root
+      (subst (λ (n : ℕ). Lowers first.sheets store.pages first.root n change.root change.levels) levels lowers.lowers))
+
+  module _ (later : List (List ℕ)) (stand : Stand later r.sheets) (stay : StayBut store.pages later r.sheets (pages_of_index index store)) where
+    made_first : IsIndexThen index.last later index.root index.levels (Replaces r.found [] (entries_in index store))
+    made_first =
+        made_one index small is.some high store seat.first None (so_far [] (page_count store)) middle told (omega arith) refl is own few r
+        (gone_fine index.last r.found r.next) begins later stand stay one_told.0.0 one_told.0.1
+
+    among_first : (n : ℕ) → IsOutside n (pages_of_index index store) → IsOutside n (pages_under later index.levels (top index.root))
+    among_first n out =
+        let list = told_root index small is.some high store seat.first None (so_far [] (page_count store)) middle told (omega arith) refl is own few r
+        (gone_fine index.last r.found r.next) begins later stand stay one_told.0.0 one_told.0.1 in
+        let new : IsNoNew (page_count store) middle.next n = elim (cases_lt n (page_count store)) [
+          | inl less ↦ inl less
+          | inr more ↦ inr (let e = same_next in omega arith)
+        ] in
+        subst (λ (ns : List ℕ). IsOutside n ns)
+        (ap (λ (xs : List Entry). flat_map (pages_under later index.levels) xs) list ∙ append-nil (pages_under later index.levels (top index.root)))
+        (r.among later stand stay n new out)
+
+    lowered_all : IsIndexThen index.last later change.root change.levels (Replaces r.found [] (entries_in index store))
+        × ((n : ℕ) → IsOutside n (pages_of_index index store) → IsOutside n (pages_under later change.levels (top change.root)))
+    lowered_all =
+        lower_made index.last store.pages later r.sheets (pages_of_index index store) stand stay (Replaces r.found [] (entries_in index store)) index.levels index.root change.root change.levels
+        is.some high made_first.under_it made_first.reached made_first.entries_are among_first lowers_so
+
+    low_then : (change.levels ≡ 1) ⊎ (2 ≤ length (entries_of later change.root))
+    low_then =
+        lowest_then index.last store.pages later r.sheets (pages_of_index index store) stand stay change.root change.levels lowered_all.0.low lowered_all.0.under_it lowered_all.1
+        (subst (λ (xs : List Sheet). IsLowest xs store.pages change.root change.levels) first_sheets lowers.lowest)
+
+  pub dropped_makes : MakesIndex index store change (Replaces (entry_at seat) [] (entries_in index store))
+  dropped_makes = (
+    subst (λ (xs : List Sheet). AreOnce xs) (sym sheets_are) r.once,
+    λ later stand stay.
+        subst (λ (e : Entry). IsIndexThen index.last later change.root change.levels (Replaces e [] (entries_in index store))) found_is
+        (lowered_all later (subst (λ (xs : List Sheet). Stand later xs) sheets_are stand) (subst (λ (xs : List Sheet). StayBut store.pages later xs (pages_of_index index store)) sheets_are stay)).0,
+  )
+
+  pub dropped_low : (change.next ≡ change.start) × MakesLow index store change
+  dropped_low = (
+    ap (λ (c : ChangeView). c.next) lowers.same ∙ (ap (λ (c : ChangeView). c.next) one_told.1 ∙ (same_next
+        ∙ (sym (ap (λ (c : ChangeView). c.start) one_told.1) ∙ sym (ap (λ (c : ChangeView). c.start) lowers.same)))),
+    λ later stand stay.
+        low_then later (subst (λ (xs : List Sheet). Stand later xs) sheets_are stand) (subst (λ (xs : List Sheet). StayBut store.pages later xs (pages_of_index index store)) sheets_are stay),
+  )
+
+pub dropped_effect : (T : Type 0) (index : IndexView) (last : ℕ) (key : Key) (old mid new : PagerView) (change : ChangeView) (r : Result T IndexFault) → last ≡ index.last
+    → mid.store ≡ old.store → mid.trace ≡ old.trace → (IsHonest old.store → IsPrepared index old.store key None (page_count old.store) (so_far [] (page_count old.store)) change)
+    → ReadsRoots last change mid new r → PreparesDrop index key old new r
+dropped_effect T index last key old mid new change (Ok x) lasts stores traces made h = record { same = frame (Ok x) old mid new stores traces h.same; faults = tt }
+dropped_effect T index last key old mid new change (Err e) lasts stores traces made h = record {
+  same = frame {T = T} (Err e) old mid new stores traces h.same;
+  faults = inr (change, made, subst (λ (l : ℕ). IsLowerFault l old.store change e) lasts (subst (λ (s : StoreFacts). IsLowerFault last s change e) stores h.faults));
+}

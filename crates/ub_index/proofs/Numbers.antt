@@ -1,0 +1,144 @@
+-- Numbers that stand apart, and which pages the numbers under an entry are.
+use Rattle.std.proofs.Common.{inl, inr, arith, ◌≡◌, ◌≢◌, ◌≤◌, ◌<◌, ◌++◌, ◌⊎◌, ◌∙◌, ap, refl, slice_get, ℕ, zero, suc, List, [], ◌∷◌, Option, false, nat_eq, length, sym}
+use Rattle.std.proofs.lemmas.Bool.{eq-eqb, ne_eqb}
+use Rattle.std.proofs.lemmas.Option.{slice_get_within}
+use Rattle.std.specs.List.{AllByRecursion, IsDistinct, flat_map}
+use Rattle.ub_page.specs.declared.entries.Entry.{Entry}
+use Rattle.ub_region.proofs.Laws.{all_append, all_left, all_more, all_right}
+use Rattle.ub_table.specs.declared.row.Key.{Key}
+use Rattle.ub_index.specs.Changed.{PagesStay}
+use Rattle.ub_index.specs.Changing.{AreOnce, IsUnspelled}
+use Rattle.ub_index.specs.declared.sheet.Sheet.{Sheet}
+use Rattle.ub_index.proofs.Changes.{same_entries}
+use Rattle.ub_index.specs.Index.{entries_of, first_or, page_in, EachTo, IsUnder, pages_under}
+
+pub differs : (a b : ℕ) → nat_eq a b ≡ false → a ≢ b
+differs a b f e = let t = eq-eqb a b e in cc
+
+-- this number is none of those
+abbrev pub IsOutside : ℕ → List ℕ → Type 0
+IsOutside n numbers = AllByRecursion (λ m. n ≢ m) numbers
+
+-- no number of the one list is in the other
+abbrev pub StandApart : List ℕ → List ℕ → Type 0
+StandApart xs ys = AllByRecursion (λ x. IsOutside x ys) xs
+
+pub distinct_first : (x : ℕ) (xs : List ℕ) → IsDistinct nat_eq (x ∷ xs) → IsOutside x xs
+unfolding IsDistinct
+distinct_first x xs h = all_more (λ m. nat_eq x m ≡ false) (λ m. x ≢ m) (λ m f. differs x m f) xs h.0
+
+pub distinct_rest : (x : ℕ) (xs : List ℕ) → IsDistinct nat_eq (x ∷ xs) → IsDistinct nat_eq xs
+unfolding IsDistinct
+distinct_rest x xs h = h.1
+
+pub distinct_right : (xs ys : List ℕ) → IsDistinct nat_eq (xs ++ ys) → IsDistinct nat_eq ys
+unfolding IsDistinct
+distinct_right [] ys h = h
+distinct_right (x ∷ xs) ys h = distinct_right xs ys h.1
+
+pub distinct_left : (xs ys : List ℕ) → IsDistinct nat_eq (xs ++ ys) → IsDistinct nat_eq xs
+unfolding IsDistinct
+distinct_left [] ys h = tt
+distinct_left (x ∷ xs) ys h = (all_first xs ys h.0, distinct_left xs ys h.1)
+  where
+    all_first : (us bs : List ℕ) → AllByRecursion (λ m. nat_eq x m ≡ false) (us ++ bs) → AllByRecursion (λ m. nat_eq x m ≡ false) us
+    all_first [] bs k = tt
+    all_first (a ∷ us) bs k = (k.0, all_first us bs k.1)
+
+pub distinct_apart : (xs ys : List ℕ) → IsDistinct nat_eq (xs ++ ys) → StandApart xs ys
+unfolding IsDistinct
+distinct_apart [] ys h = tt
+distinct_apart (x ∷ xs) ys h =
+    (all_more (λ m. nat_eq x m ≡ false) (λ m. x ≢ m) (λ m f. differs x m f) ys (all_right (λ m. nat_eq x m ≡ false) xs ys h.0), distinct_apart xs ys h.1)
+
+pub apart_swap : (xs ys : List ℕ) → StandApart xs ys → StandApart ys xs
+apart_swap xs [] h = tt
+apart_swap xs (y ∷ ys) h = (
+  all_more (λ x. IsOutside x (y ∷ ys)) (λ x. y ≢ x) (λ x k e. k.0 (sym e)) xs h,
+  apart_swap xs ys (all_more (λ x. IsOutside x (y ∷ ys)) (λ x. IsOutside x ys) (λ x k. k.1) xs h),
+)
+
+each_all : (Q : ℕ → Type 0) (numbers : Entry → List ℕ) (P : Entry → Option Key → Type 0) → ((x : Entry) (o : Option Key) → P x o → AllByRecursion Q (numbers x))
+    → (xs : List Entry) (end : Option Key) → EachTo P xs end → AllByRecursion Q (flat_map numbers xs)
+each_all Q numbers P f [] end h = tt
+each_all Q numbers P f (x ∷ xs) end h = all_append Q (numbers x) (flat_map numbers xs) (f x (first_or xs end) h.0) (each_all Q numbers P f xs end h.1)
+
+-- the pages under an entry are pages of the store
+pub within_store : (last : ℕ) (pages : List (List ℕ)) (level : ℕ) (entry : Entry) (end : Option Key) → IsUnder last pages level entry end
+    → AllByRecursion (λ n. n < length pages) (pages_under pages level entry)
+within_store last pages zero entry end h = tt
+within_store last pages (suc level) entry end h = (
+  slice_get_within pages entry.page (page_in pages entry.page) h.0.there,
+  each_all (λ n. n < length pages) (pages_under pages level) (IsUnder last pages level) (within_store last pages level) (entries_of pages entry.page) end h.1,
+)
+
+-- this number is none of those that are new from one on up to another
+abbrev pub IsNoNew : ℕ → ℕ → ℕ → Type 0
+IsNoNew from to n = (n < from) ⊎ (to ≤ n)
+
+pub distinct_cons : (x : ℕ) (xs : List ℕ) → IsOutside x xs → IsDistinct nat_eq xs → IsDistinct nat_eq (x ∷ xs)
+unfolding IsDistinct
+distinct_cons x xs h k = (all_more (λ m. x ≢ m) (λ m. nat_eq x m ≡ false) (λ m ne. ne_eqb x m ne) xs h, k)
+
+pub distinct_join : (xs ys : List ℕ) → IsDistinct nat_eq xs → IsDistinct nat_eq ys → StandApart xs ys → IsDistinct nat_eq (xs ++ ys)
+unfolding IsDistinct
+distinct_join [] ys h k apart = k
+distinct_join (x ∷ xs) ys h k apart = (
+  all_append (λ m. nat_eq x m ≡ false) xs ys h.0 (all_more (λ m. x ≢ m) (λ m. nat_eq x m ≡ false) (λ m ne. ne_eqb x m ne) ys apart.0),
+  distinct_join xs ys h.1 k apart.1,
+)
+
+pub distinct_put : (m : ℕ) (xs ys : List ℕ) → IsDistinct nat_eq (xs ++ ys) → IsOutside m (xs ++ ys) → IsDistinct nat_eq (xs ++ (m ∷ ys))
+unfolding IsDistinct
+distinct_put m [] ys h out = (all_more (λ k. m ≢ k) (λ k. nat_eq m k ≡ false) (λ k ne. ne_eqb m k ne) ys out, h)
+distinct_put m (x ∷ xs) ys h out = (put xs h.0, distinct_put m xs ys h.1 out.1)
+  where
+    put : (us : List ℕ) → AllByRecursion (λ k. nat_eq x k ≡ false) (us ++ ys) → AllByRecursion (λ k. nat_eq x k ≡ false) (us ++ (m ∷ ys))
+    put [] all = (ne_eqb x m (λ e. out.0 (sym e)), all)
+    put (u ∷ us) all = (all.0, put us all.1)
+
+pub outside_put : (n m : ℕ) (xs ys : List ℕ) → n ≢ m → IsOutside n (xs ++ ys) → IsOutside n (xs ++ (m ∷ ys))
+outside_put n m [] ys ne out = (ne, out)
+outside_put n m (x ∷ xs) ys ne out = (out.0, outside_put n m xs ys ne out.1)
+
+-- two functions of entries agree on a list where they agree on each whose numbers all have a property
+same_numbers : (P : ℕ → Type 0) (numbers f g : Entry → List ℕ) → ((x : Entry) → AllByRecursion P (numbers x) → f x ≡ g x)
+    → (xs : List Entry) → AllByRecursion P (flat_map numbers xs) → flat_map f xs ≡ flat_map g xs
+same_numbers P numbers f g same [] h = refl
+same_numbers P numbers f g same (x ∷ xs) h =
+    ap (λ (a : List ℕ). a ++ flat_map f xs) (same x (all_left P (numbers x) (flat_map numbers xs) h))
+    ∙ ap (λ (b : List ℕ). g x ++ b) (same_numbers P numbers f g same xs (all_right P (numbers x) (flat_map numbers xs) h))
+
+-- where the pages under an entry stay, they are the same
+kept_pages : (old new : List (List ℕ)) (level : ℕ) (entry : Entry) → PagesStay old new (pages_under old level entry) → pages_under new level entry ≡ pages_under old level entry
+kept_pages old new zero entry h = refl
+kept_pages old new (suc level) entry h =
+    ap (λ (ns : List ℕ). entry.page ∷ ns)
+    (ap (λ (entries : List Entry). flat_map (pages_under new level) entries) (same_entries old new entry.page h.0)
+    ∙ same_numbers (λ n. slice_get new n ≡ slice_get old n) (pages_under old level) (pages_under new level) (pages_under old level) (kept_pages old new level) (entries_of old entry.page) h.1)
+
+pub kept_pages_list : (old new : List (List ℕ)) (level : ℕ) (entries : List Entry) → PagesStay old new (flat_map (pages_under old level) entries)
+    → flat_map (pages_under new level) entries ≡ flat_map (pages_under old level) entries
+kept_pages_list old new level entries h =
+    same_numbers (λ n. slice_get new n ≡ slice_get old n) (pages_under old level) (pages_under new level) (pages_under old level) (kept_pages old new level) entries h
+
+-- numbers of sheets that stand apart
+pub once_join : (xs ys : List Sheet) → AreOnce xs → AreOnce ys → AllByRecursion (λ y. IsUnspelled y.number xs) ys → AreOnce (xs ++ ys)
+once_join [] ys h k apart = k
+once_join (x ∷ xs) ys h k apart = (
+  all_append (λ (s : Sheet). x.number ≢ s.number) xs ys h.0
+      (all_more (λ (y : Sheet). IsUnspelled y.number (x ∷ xs)) (λ (y : Sheet). x.number ≢ y.number) (λ y u e. u.0 (sym e)) ys apart),
+  once_join xs ys h.1 k (all_more (λ (y : Sheet). IsUnspelled y.number (x ∷ xs)) (λ (y : Sheet). IsUnspelled y.number xs) (λ y u. u.1) ys apart),
+)
+
+pub no_new_left : (from middle to n : ℕ) → middle ≤ to → IsNoNew from to n → IsNoNew from middle n
+no_new_left from middle to n le (inl less) = inl less
+no_new_left from middle to n le (inr more) = inr (omega arith)
+
+pub no_new_right : (from middle to n : ℕ) → from ≤ middle → IsNoNew from to n → IsNoNew middle to n
+no_new_right from middle to n le (inl less) = inl (omega arith)
+no_new_right from middle to n le (inr more) = inr more
+
+-- a number that numbers are less than is none of them
+pub outside_less : (n : ℕ) (numbers : List ℕ) → AllByRecursion (λ m. m < n) numbers → IsOutside n numbers
+outside_less n numbers h = all_more (λ m. m < n) (λ m. n ≢ m) (λ m less e. omega arith) numbers h

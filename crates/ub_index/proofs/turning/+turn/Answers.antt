@@ -1,0 +1,39 @@
+use Rattle.std.proofs.Common.{◌-◌, List, ap, arith, subst, sym}
+use Rattle.ub_index.specs.Changing.{Mends, Turns}
+use Rattle.ub_index.specs.declared.told.Told.{Told}
+use Rattle.ub_index.specs.declared.turning.Opened.{Opened}
+use Rattle.ub_page.specs.declared.entries.Entry.{Entry}
+use Rattle.ub_store.specs.Facts.{StoreFacts, IsHonest}
+use Rattle.ub_store.specs.View.{PagerView}
+use Rattle.ub_index.proofs.ClimbFacts.{below_refused, open_refused, turned_so, turns_on}
+use Rattle.ub_index.proofs.turning.+turn.Goals as goal
+
+pub returns-in_err-opened-clause-effect : goal.returns-in_err-opened-clause-effect
+returns-in_err-opened-clause-effect g t c =
+    open_refused Told Opened c.args.last c.args.level c.args.aim.now.key c.args.place.now.entry c.args.place.now.next c.args.sheets.now.next c.args.pager.now c.open.new.pager
+    c.from_residual.result c.in_err-opened.field-0.0 (omega (arith, c.if-level-eq0.false)) c.from_residual.ensures.1 c.in_err-opened.ensures.effect
+
+pub returns-in_err-news-clause-effect : goal.returns-in_err-news-clause-effect
+returns-in_err-news-clause-effect g t c =
+    below_refused Told Told c.args.last c.args.level c.args.aim.now.key c.args.place.now.entry c.in_ok-opened.opened.below.entry c.args.place.now.next c.in_ok-opened.opened.below.next
+    c.args.sheets.now.next c.args.pager.now c.open.new.pager c.turn.new.pager c.from_residual-in_err-news.result c.in_err-news.field-0.0 (omega (arith, c.if-level-eq0.false))
+    (ap (λ (p : PagerView). p.store) c.in_ok-opened.ensures.effect.same) (ap (λ (p : PagerView). p.trace) c.in_ok-opened.ensures.effect.same)
+    (λ honest. let o = c.in_ok-opened.ensures.opened honest in record { named = o.named; falls = o.falls })
+    c.from_residual-in_err-news.ensures.1 c.in_err-news.ensures.effect
+
+pub returns-clause-turned : goal.returns-clause-turned
+returns-clause-turned g t c = λ honest.
+    let same = ap (λ (p : PagerView). p.store) c.in_ok-opened.ensures.effect.same in
+    let turns = subst (λ (s : StoreFacts). Turns c.args.last s.pages c.args.aim.now.key c.args.aim.now.added (c.args.level - 1) c.in_ok-opened.opened.below.entry c.in_ok-opened.opened.below.next c.args.sheets.now
+    c.turn.new.sheets c.in_ok-news.news) same
+    (c.in_ok-news.ensures.turned (subst (λ (s : StoreFacts). IsHonest s) (sym same) honest)) in
+    turned_so c.mend.result
+    (Mends c.args.level c.args.place.now.entry c.in_ok-opened.opened.before.items c.in_ok-opened.opened.below.entry c.deref.result.now c.in_ok-news.news c.turn.new.sheets c.mend.new.self)
+    (Turns c.args.last c.args.pager.now.store.pages c.args.aim.now.key c.args.aim.now.added c.args.level c.args.place.now.entry c.args.place.now.next c.args.sheets.now c.mend.new.self)
+    (λ told mends.
+    turns_on c.args.last c.args.pager.now.store.pages c.args.aim.now.key c.args.aim.now.added c.args.level c.args.place.now.entry c.args.place.now.next
+    c.in_ok-opened.opened.before.items c.in_ok-opened.opened.after.items c.in_ok-opened.opened.below.entry c.in_ok-opened.opened.below.next c.args.sheets.now c.turn.new.sheets c.mend.new.self
+    c.in_ok-news.news told (omega (arith, c.if-level-eq0.false)) (c.in_ok-opened.ensures.opened honest) turns
+    (subst (λ (xs : List Entry). Mends c.args.level c.args.place.now.entry c.in_ok-opened.opened.before.items c.in_ok-opened.opened.below.entry xs c.in_ok-news.news c.turn.new.sheets c.mend.new.self told)
+    c.deref.ensures.value mends))
+    c.mend.ensures.told

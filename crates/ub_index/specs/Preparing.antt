@@ -1,0 +1,121 @@
+-- A change of an index that is prepared: what it spells, and what the index is once that stands.
+use Rattle.std.specs.Prelude.{◌≡◌, ◌≤◌, ◌<◌, ◌+◌, ◌++◌, ◌⊎◌, ℕ, nat_eq, IsTrue, List, [], ◌∷◌, Option, Some, None, IfSome, Result, IfErr}
+use Rattle.std.specs.List.{IsDistinct}
+use Rattle.ub_index.specs.Changing.{AreOnce, Spelled, Stand, StayBut, Turns, sheet_of, so_far}
+use Rattle.ub_index.specs.Index.{IsUnder, pages_under, top, under}
+use Rattle.ub_index.specs.Searching.{store_after}
+use Rattle.ub_index.specs.View.{IndexView, Stops}
+use Rattle.ub_index.specs.declared.fault.IndexFault.{IndexFault}
+use Rattle.ub_index.specs.declared.fault.IndexFault.TheVariants.{Full, Page, Store}
+use Rattle.ub_index.specs.declared.seat.Seat.{Seat}
+use Rattle.ub_index.specs.declared.sheet.Sheet.{Sheet}
+use Rattle.ub_index.specs.declared.told.Told.{Told}
+use Rattle.ub_index.specs.declared.told.Told.TheVariants.{Same, Gone, One, Two}
+use Rattle.ub_page.specs.declared.entries.Entry.{Entry}
+use Rattle.ub_store.specs.Facts.{StoreFacts, IsHonest, page_count}
+use Rattle.ub_store.specs.View.{PagerView}
+use Rattle.ub_store.specs.declared.fault.StoreFault.TheVariants as store
+use Rattle.ub_table.specs.Keys.{IsBefore}
+use Rattle.ub_table.specs.declared.fault.PageFault.TheVariants.{BadCount}
+use Rattle.ub_table.specs.declared.row.Key.{Key}
+use Rattle.ub_table.specs.declared.row.TheConstants.{MAX_ROW_NUMBER}
+
+-- a change: the pages that it spells, in the order in which they are put; how many pages the store has, and how many it gets; and
+-- the root from then on, and its level
+pub record ChangeView : Type 0 where
+  pub sheets : List Sheet
+  pub start : ℕ
+  pub next : ℕ
+  pub root : ℕ
+  pub levels : ℕ
+
+abbrev pub change_view : Spelled → ℕ → ℕ → ℕ → ChangeView
+change_view pages start root levels = record { sheets = pages.sheets; start = start; next = pages.next; root = root; levels = levels }
+
+-- the pages of an index, each upper one before those below it
+abbrev pub pages_of_index : IndexView → StoreFacts → List ℕ
+pages_of_index index store = pages_under store.pages index.levels (top index.root)
+
+-- each page of it is reached once, and none is the store's first
+abbrev pub IsReachedOnce : IndexView → StoreFacts → Type 0
+IsReachedOnce index store = IsDistinct nat_eq (0 ∷ pages_of_index index store)
+
+-- what the root of an index becomes: it stays on its page; or its entries stand on two, which a new root names
+abbrev pub Settles : ℕ → ℕ → Told → ℕ → Spelled → ChangeView → Type 0
+Settles root levels Same start old change = change ≡ change_view old start root levels
+Settles root levels Gone start old change = ⊥
+Settles root levels (One other) start old change = change ≡ change_view old start root levels
+Settles root levels (Two left right) start old change =
+    (levels < 16) × (old.next < 4294967295)
+    × (change ≡ change_view (so_far (old.sheets ++ sheet_of old.next (levels + 1) (left ∷ right ∷ []) ∷ []) (old.next + 1)) start old.next (levels + 1))
+
+-- why the root can't be left so: memory was refused, or there are as many pages as there can be; it would be of level 17; or nothing
+-- is left
+abbrev pub IsSettleFault : ℕ → ℕ → Told → Spelled → IndexFault → Type 0
+IsSettleFault root levels told old (Store store.Memory) = Unit {0}
+IsSettleFault root levels told old (Store store.BadSize) = 4294967295 ≤ old.next
+IsSettleFault root levels told old (Store fault) = ⊥
+IsSettleFault root levels told old (Page n fault) = (n ≡ root) × (fault ≡ BadCount) × (told ≡ Gone)
+IsSettleFault root levels told old Full = (levels ≡ 16) × (left : Entry) × (right : Entry) × (told ≡ Two left right)
+
+-- what becomes of the root where the region's entry to which the key falls goes, or gets this one behind it
+abbrev pub TurnsRoot : IndexView → StoreFacts → Key → Option Entry → Spelled → Spelled → Told → Type 0
+TurnsRoot index store key added old new told = Turns index.last store.pages key added index.levels (top index.root) None old new told
+
+-- the change that is prepared
+abbrev pub IsPrepared : IndexView → StoreFacts → Key → Option Entry → ℕ → Spelled → ChangeView → Type 0
+IsPrepared index store key added start old change =
+    (middle : Spelled) × (told : Told) × TurnsRoot index store key added old middle told × Settles index.root index.levels told start middle change
+
+-- on these pages an index stands, with this root, each page of which is reached once, and the entries of which have the property
+pub record IsIndexThen (last : ℕ) (later : List (List ℕ)) (root levels : ℕ) (Are : List Entry → Type 0) : Type 0 where
+  pub low : 1 ≤ levels
+  pub high : levels ≤ 16
+  pub under_it : IsUnder last later levels (top root) None
+  pub reached : IsDistinct nat_eq (0 ∷ pages_under later levels (top root))
+  pub entries_are : Are (under later levels (top root))
+
+-- a change spells no page twice, and makes an index on all pages on which what it spells stands, and the other pages of the old one as
+-- they were
+abbrev pub MakesIndex : IndexView → StoreFacts → ChangeView → (List Entry → Type 0) → Type 0
+MakesIndex index old change Are =
+    AreOnce change.sheets
+    × ((later : List (List ℕ)) → Stand later change.sheets → StayBut old.pages later change.sheets (pages_of_index index old)
+    → IsIndexThen index.last later change.root change.levels Are)
+
+-- the entry of the region of a seat
+abbrev pub entry_at : Seat → Entry
+entry_at seat = record { first = seat.first; page = seat.page }
+
+-- the entry of a region that comes with this first key, on the next page that the store gets
+abbrev pub added_at : Key → StoreFacts → Entry
+added_at first store = record { first = first; page = page_count store }
+
+-- a key between the first key of a region and that of the next one, in range
+pub record IsWithinSeat (last : ℕ) (seat_first : Key) (next : Option Key) (first : Key) : Type 0 where
+  pub from : IsBefore seat_first first
+  pub to : IfSome next (IsBefore first)
+  pub z : first.z ≤ last
+  pub number : first.number ≤ MAX_ROW_NUMBER
+
+-- why a change isn't prepared: as a search to the key is refused; BadSize, where the store would have too many pages; Full, where the
+-- root would get a level that there isn't; and BadCount of the root, where no region would be left
+abbrev pub IsChangeFault : IndexView → StoreFacts → Key → Option Entry → Spelled → IndexFault → Type 0
+IsChangeFault index old key added from (Store store.Memory) = Unit {0}
+IsChangeFault index old key added from (Store store.Device) = IsTrue old.can_fail
+IsChangeFault index old key added from (Store store.NoPage) =
+    (n : ℕ) × (page_count old ≤ n) × (IsHonest old → Stops index old key n None)
+IsChangeFault index old key added from (Store store.BadSize) = 4294967295 < from.next + (index.levels + 1)
+IsChangeFault index old key added from (Page n fault) =
+    IsHonest old → Stops index old key n (Some fault)
+    ⊎ ((n ≡ index.root) × (fault ≡ BadCount) × (to : Spelled) × TurnsRoot index old key added from to Gone)
+IsChangeFault index old key added from Full =
+    (index.levels ≡ 16)
+    × (IsHonest old → (to : Spelled) × (left : Entry) × (right : Entry) × TurnsRoot index old key added from to (Two left right))
+
+-- a change that is prepared with this result: with the device's fault the store has one failed read more, and else nothing has changed
+-- but the pages that the pager holds
+pub record PreparesAll {A : Type 0} (index : IndexView) (key : Key) (added : Option Entry) (from : Spelled) (old new : PagerView)
+    (result : Result A IndexFault) : Type 0 where
+  pub same : new ≡ record old { store = store_after result old.store; cached = new.cached }
+  pub faults : IfErr result (IsChangeFault index old.store key added from)
