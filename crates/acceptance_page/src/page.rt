@@ -137,10 +137,9 @@ fn is_written(schema: &Schema, page: &Page) -> bool {
 fn is_directory_page(schema: &Schema, page: &Page) -> bool {
     let entries = [entry(0, 1), entry(10, 3), entry(13, 2)];
     match read_directory(schema, page) {
-        Ok(directory) =>
-            is_written(schema, page)
-                && directory.entries() == entries.as_slice()
-                && directory.next() == 0,
+        Ok(directory) => is_written(schema, page)
+            && directory.entries() == entries.as_slice()
+            && directory.next() == 0,
         Err(_) => false,
     }
 }

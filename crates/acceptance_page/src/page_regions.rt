@@ -92,11 +92,10 @@ fn is_written(schema: &Schema, page: &Page) -> bool {
     let longer = region_page(2, 1, Key { z: 0, number: 0 }, &rows);
     let mut draft = Draft::new();
     match table(b"xym", 2, 4) {
-        Ok(larger) =>
-            rewrite(&larger, &longer, &mut draft)
-                && draft.page() == &longer
-                && rewrite(schema, page, &mut draft)
-                && draft.page() == page,
+        Ok(larger) => rewrite(&larger, &longer, &mut draft)
+            && draft.page() == &longer
+            && rewrite(schema, page, &mut draft)
+            && draft.page() == page,
         Err(_) => false,
     }
 }

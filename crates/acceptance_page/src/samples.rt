@@ -51,11 +51,7 @@ fn poke(page: &mut [u8], at: usize, width: u32, number: u128) {
 // A number of 64 bits in two's complement.
 fn word(x: i64) -> u128 {
     let size = u128::from(x.unsigned_abs());
-    if x < 0 {
-        (1 << 64) - size
-    } else {
-        size
-    }
+    if x < 0 { (1 << 64) - size } else { size }
 }
 
 // The page of a region, by hand: so many dimensions and measures, the first key, and these rows, 64 at most.

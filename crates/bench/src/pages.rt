@@ -59,7 +59,12 @@ fn page_of(dims: usize, rows: &[Row; 64]) -> Page {
         let row = &rows[i];
         poke(&mut page, 24 + 4 * i, 4, u128::from(row.number));
         for dim in 0..dims {
-            poke(&mut page, 280 + 256 * dim + 4 * i, 4, u128::from(row.dims[dim]));
+            poke(
+                &mut page,
+                280 + 256 * dim + 4 * i,
+                4,
+                u128::from(row.dims[dim]),
+            );
         }
         let measure = u128::from(row.measures[0].unsigned_abs());
         poke(&mut page, 280 + 256 * dims + 8 * i, 8, measure);
