@@ -105,7 +105,7 @@ pub(crate) fn plane_of(page_rows: u32) -> Result<Schema, PageFault> {
     Schema::new(Name::new(b"t")?, &columns, 2, page_rows)
 }
 
-// The numbers that all headers of the plane have, and its names t, x, y and m: each with its offset and its width.
+// The numbers of a header of the plane that are the same in each, and its names t, x, y and m: each with its offset and its width.
 static PLANE: &[(usize, u32, u128)] = &[
     (0, 4, 0x5542_5452),
     (4, 1, 1),
@@ -147,7 +147,7 @@ fn poke(page: &mut [u8], at: usize, width: u32, number: u128) {
     }
 }
 
-// Spells a header of the plane with so many rows on a page: the next number, how many rows there are, and how many regions.
+// Spells a header of the plane with so many rows on a page: the number that is next, how many rows there are, and how many regions.
 fn spell_header(page: &mut [u8], page_rows: u32, counts: [u32; 3], unclean: bool) {
     let levels = counts[2].saturating_add(169) / 170;
     for (at, width, number) in PLANE {

@@ -12,8 +12,8 @@ use Rattle.ub_table.specs.Keys.{are_ascending}
 use Rattle.ub_zaddr.specs.Address.{last_address}
 use Rattle.ub_store.specs.Facts.{counted as store_counted}
 
--- what a directory is that is written on a chain of pages: its regions can be counted and are in order, and each entry is in
--- its ranges; it begins on a page that is not the first
+-- what a directory is that is written on a chain of pages: its regions can be counted, are in order, and each has its numbers in
+-- range; it begins on a page that is not the first
 pub record IsWritable (chain : List ℕ) (entries : List Entry) : Type 0 where
   pub some : 1 ≤ length entries
   pub few : length entries < 2 ^ 32
