@@ -57,17 +57,17 @@ pub record LowersTo (pages : List (List ℕ)) (old new : ChangeView) : Type 0 wh
   pub lowest : IsLowest old.sheets pages new.root new.levels
 
 -- one comes to a root that isn't spelled, and that can't be taken
-abbrev pub IsStopped : ℕ → List (List ℕ) → ChangeView → ℕ → Option PageFault → Type 0
-IsStopped last pages change n fault =
+abbrev pub IsRootRefused : ℕ → List (List ℕ) → ChangeView → ℕ → Option PageFault → Type 0
+IsRootRefused last pages change n fault =
     (level : ℕ) × Lowers change.sheets pages change.root change.levels n level × IsNotTaken last pages level (top n) None fault
 
 -- why a root doesn't give way
 abbrev pub IsLowerFault : ℕ → StoreFacts → ChangeView → IndexFault → Type 0
 IsLowerFault last old change (Store store.Memory) = Unit {0}
 IsLowerFault last old change (Store store.Device) = IsTrue old.can_fail
-IsLowerFault last old change (Store store.NoPage) = (n : ℕ) × (page_count old ≤ n) × (IsHonest old → IsStopped last old.pages change n None)
+IsLowerFault last old change (Store store.NoPage) = (n : ℕ) × (page_count old ≤ n) × (IsHonest old → IsRootRefused last old.pages change n None)
 IsLowerFault last old change (Store store.BadSize) = ⊥
-IsLowerFault last old change (Page n fault) = IsHonest old → IsStopped last old.pages change n (Some fault)
+IsLowerFault last old change (Page n fault) = IsHonest old → IsRootRefused last old.pages change n (Some fault)
 IsLowerFault last old change Full = ⊥
 
 -- a call with this result that reads roots: with the device's fault the store has one failed read more, and else nothing has changed but
