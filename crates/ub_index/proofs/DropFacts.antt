@@ -11,12 +11,14 @@ use Rattle.ub_table.proofs.Laws.{not_before_self}
 use Rattle.ub_table.specs.Keys.{IsBefore, origin}
 use Rattle.ub_table.specs.declared.row.Key.{Key}
 use Rattle.ub_index.specs.Changed.{Replaces}
-use Rattle.ub_index.specs.Changing.{AreOnce, IsFine, IsUnspelled, Mends, Spelled, Spreads, Stand, StayBut, Turns, named_as, so_far}
+use Rattle.ub_index.specs.Changing.{IsNoGrowth, IsNarrow, AreOnce, IsFine, IsUnspelled, Mends, Spelled, Spreads, Stand, StayBut, Turns, named_as, so_far}
 use Rattle.ub_index.specs.Index.{entries_of, first_or, page_in, pages_under, EachTo, IsUnder, under, top}
 use Rattle.ub_index.specs.Lowering.{IsLowerFault, IsLowest, Lowers, LowersTo, MakesLow, PreparesDrop, ReadsRoots, entries_then, page_then, sole_page, spelled_page, spelled_or}
 use Rattle.ub_index.specs.Preparing.{ChangeView, IsIndexThen, IsPrepared, IsReachedOnce, MakesIndex, Settles, change_view, entry_at, pages_of_index}
 use Rattle.ub_index.specs.View.{IndexView, IsIndexOn, IsSeatAt, entries_in}
 use Rattle.ub_index.specs.declared.fault.IndexFault.{IndexFault}
+use Rattle.ub_index.specs.declared.fault.IndexFault.TheVariants.{Full, Page, Store}
+use Rattle.ub_store.specs.declared.fault.StoreFault.TheVariants as store
 use Rattle.ub_index.specs.declared.seat.Seat.{Seat}
 use Rattle.ub_index.specs.declared.sheet.Sheet.{Sheet}
 use Rattle.ub_index.specs.declared.told.Told.{Told}
@@ -29,11 +31,6 @@ use Rattle.ub_index.proofs.ReadyFacts.{entry_is, made_one, told_root, root_entry
 use Rattle.ub_index.proofs.SearchFacts.{frame}
 use Rattle.ub_index.proofs.TurnFacts.{Risen, rises}
 
--- not by two
-abbrev pub IsNarrow : Told → Type 0
-IsNarrow (Two left right) = ⊥
-IsNarrow _ = Unit {0}
-
 spread_narrow : (level : ℕ) (entry : Entry) (entries : List Entry) (from to : Spelled) (told : Told) → length entries ≤ 170 → Spreads level entry entries from to told
     → IsNarrow told × (to.next ≡ from.next)
 spread_narrow level entry entries from to Same few h = (tt, ap (λ (s : Spelled). s.next) h.2)
@@ -42,7 +39,7 @@ spread_narrow level entry entries from to (One other) few h = (tt, ap (λ (s : S
 spread_narrow level entry entries from to (Two left right) few h = let full = h.0 in absurd (omega arith)
 
 -- where one entry became one or none, there are no more than there were
-mended_few : (before : List Entry) (below : Entry) (after : List Entry) (news : Told) → IsNarrow news → length (before ++ (below ∷ after)) ≤ 170
+pub mended_few : (before : List Entry) (below : Entry) (after : List Entry) (news : Told) → IsNarrow news → length (before ++ (below ∷ after)) ≤ 170
     → length (before ++ (named_as news below ++ after)) ≤ 170
 mended_few [] below after Same narrow few = few
 mended_few [] below after Gone narrow few = omega arith
@@ -274,11 +271,20 @@ module _ (index : IndexView) (store : StoreFacts) (i : ℕ) (seat : Seat) (small
         low_then later (subst (λ (xs : List Sheet). Stand later xs) sheets_are stand) (subst (λ (xs : List Sheet). StayBut store.pages later xs (pages_of_index index store)) sheets_are stay),
   )
 
+-- a root doesn't give way for other reasons
+no_growth : (last : ℕ) (old : StoreFacts) (change : ChangeView) (e : IndexFault) → IsLowerFault last old change e → IsNoGrowth e
+no_growth last old change (Store store.Memory) h = tt
+no_growth last old change (Store store.Device) h = tt
+no_growth last old change (Store store.NoPage) h = tt
+no_growth last old change (Store store.BadSize) h = h
+no_growth last old change (Page n fault) h = tt
+no_growth last old change Full h = h
+
 pub dropped_effect : (T : Type 0) (index : IndexView) (last : ℕ) (key : Key) (old mid new : PagerView) (change : ChangeView) (r : Result T IndexFault) → last ≡ index.last
     → mid.store ≡ old.store → mid.trace ≡ old.trace → (IsHonest old.store → IsPrepared index old.store key None (page_count old.store) (so_far [] (page_count old.store)) change)
     → ReadsRoots last change mid new r → PreparesDrop index key old new r
 dropped_effect T index last key old mid new change (Ok x) lasts stores traces made h = record { same = frame (Ok x) old mid new stores traces h.same; faults = tt }
 dropped_effect T index last key old mid new change (Err e) lasts stores traces made h = record {
   same = frame {T = T} (Err e) old mid new stores traces h.same;
-  faults = inr (change, made, subst (λ (l : ℕ). IsLowerFault l old.store change e) lasts (subst (λ (s : StoreFacts). IsLowerFault last s change e) stores h.faults));
+  faults = (no_growth last mid.store change e h.faults, inr (change, made, subst (λ (l : ℕ). IsLowerFault l old.store change e) lasts (subst (λ (s : StoreFacts). IsLowerFault last s change e) stores h.faults)));
 }

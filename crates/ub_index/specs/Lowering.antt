@@ -1,6 +1,6 @@
 -- A root that names one page alone gives way to it.
 use Rattle.std.specs.Prelude.{◌≡◌, ◌≤◌, ◌==◌, ◌⊎◌, if◌then◌else◌, ℕ, zero, suc, IsTrue, List, [], ◌∷◌, Option, Some, None, Result, IfErr, length}
-use Rattle.ub_index.specs.Changing.{Stand, StayBut, so_far}
+use Rattle.ub_index.specs.Changing.{IsNoGrowth, Stand, StayBut, so_far}
 use Rattle.ub_index.specs.Fitting.{IsNotTaken}
 use Rattle.ub_index.specs.Index.{entries_of, page_in, top}
 use Rattle.ub_index.specs.Preparing.{ChangeView, IsChangeFault, IsPrepared, pages_of_index}
@@ -89,13 +89,14 @@ MakesLow index old change =
     (later : List (List ℕ)) → Stand later change.sheets → StayBut old.pages later change.sheets (pages_of_index index old)
     → (change.levels ≡ 1) ⊎ (2 ≤ length (entries_of later change.root))
 
--- why a region's entry doesn't go: as a change is refused; or as a root doesn't give way
+-- why a region's entry doesn't go, which is never for want of pages or levels: as a change is refused; or as a root doesn't give way
 abbrev pub IsDropFault : IndexView → StoreFacts → Key → IndexFault → Type 0
 IsDropFault index old key fault =
-    IsChangeFault index old key None (so_far [] (page_count old)) fault
+    IsNoGrowth fault
+    × (IsChangeFault index old key None (so_far [] (page_count old)) fault
     ⊎ ((first : ChangeView)
     × (IsHonest old → IsPrepared index old key None (page_count old) (so_far [] (page_count old)) first)
-    × IsLowerFault index.last old first fault)
+    × IsLowerFault index.last old first fault))
 
 pub record PreparesDrop {A : Type 0} (index : IndexView) (key : Key) (old new : PagerView) (result : Result A IndexFault) : Type 0 where
   pub same : new ≡ record old { store = store_after result old.store; cached = new.cached }

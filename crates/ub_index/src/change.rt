@@ -1,6 +1,7 @@
 // A change of an index that is prepared, and not yet made.
 ghost use Rattle.std.specs.Prelude.{◌≡◌, ◌≤◌, ◌<◌, ◌+◌, ◌-◌, None, IfOk, IfErr, OnOk};
 ghost use Rattle.ub_directory.specs.Writing.{Grows, put_store};
+ghost use Rattle.ub_index.specs.Changing.{IsNarrow, IsNoGrowth};
 ghost use Rattle.ub_index.specs.Descending.{Steps};
 ghost use Rattle.ub_index.specs.Index.{top};
 ghost use Rattle.ub_index.specs.Lowering.{LowersTo, ReadsRoots, entries_then, sole_page};
@@ -59,6 +60,7 @@ impl Change {
         requires low { 1 ≤ levels }
         requires high { levels ≤ MAX_LEVEL }
         ensures settled { IfOk result (Settles root levels told start sheets) }
+        ensures narrow { IsNarrow told → IfErr result IsNoGrowth }
         ensures refused { IfErr result (IsSettleFault root levels told sheets) }
     {
         match told {
