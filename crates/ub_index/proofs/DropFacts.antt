@@ -23,6 +23,7 @@ use Rattle.ub_index.specs.declared.seat.Seat.{Seat}
 use Rattle.ub_index.specs.declared.sheet.Sheet.{Sheet}
 use Rattle.ub_index.specs.declared.told.Told.{Told}
 use Rattle.ub_index.specs.declared.told.Told.TheVariants.{Same, Gone, One, Two}
+use Rattle.ub_index.specs.Way.{IsFullWay}
 use Rattle.ub_index.proofs.Changes.{same_page}
 use Rattle.ub_index.proofs.FitFacts.{page_is}
 use Rattle.ub_index.proofs.Numbers.{IsNoNew, IsOutside, differs, distinct_cons, distinct_first, distinct_rest}
@@ -288,3 +289,32 @@ dropped_effect T index last key old mid new change (Err e) lasts stores traces m
   same = frame {T = T} (Err e) old mid new stores traces h.same;
   faults = (no_growth last mid.store change e h.faults, inr (change, made, subst (λ (l : ℕ). IsLowerFault l old.store change e) lasts (subst (λ (s : StoreFacts). IsLowerFault last s change e) stores h.faults)));
 }
+
+one_longer : (before : List Entry) (below left right : Entry) (after : List Entry) → length (before ++ (left ∷ right ∷ after)) ≡ suc (length (before ++ (below ∷ after)))
+one_longer [] below left right after = refl
+one_longer (b ∷ before) below left right after = ap (λ (n : ℕ). suc n) (one_longer before below left right after)
+
+-- an entry becomes two only where each page on the way is full
+pub full_way : (last : ℕ) (old : List (List ℕ)) (key : Key) (added : Option Entry) (level : ℕ) (entry : Entry) (end : Option Key) (from to : Spelled) (left right : Entry)
+    → Turns last old key added level entry end from to (Two left right) → IsFullWay last old key level entry end
+full_way last old key added zero entry end from to left right h = tt
+full_way last old key added (suc level) entry end from to left right (named, below, next, falls, middle, news, turns, mends) =
+    by_news news (λ l r turn. full_way last old key added level below next from middle l r turn) turns mends
+  where
+    few : length (falls.before ++ (below ∷ falls.after)) ≤ 170
+    few = subst (λ (xs : List Entry). length xs ≤ 170) falls.parts named.fits.is.is.few
+
+    not_narrow : (t : Told) → IsNarrow t → length (falls.before ++ (named_as t below ++ falls.after)) ≡ 171 → ⊥
+    not_narrow t n full = let less = mended_few falls.before below falls.after t n few in omega arith
+
+    by_news : (t : Told) → ((l r : Entry) → Turns last old key added level below next from middle (Two l r) → IsFullWay last old key level below next)
+        → Turns last old key added level below next from middle t → Mends (suc level) entry falls.before below falls.after t middle to (Two left right)
+        → IsFullWay last old key (suc level) entry end
+    by_news Same below_it turn m = let no : Two left right ≡ Same = m.0 in cc
+    by_news Gone below_it turn m = absurd (not_narrow Gone tt m.0)
+    by_news (One other) below_it turn m = absurd (not_narrow (One other) tt m.0)
+    by_news (Two l r) below_it turn m =
+        let full : length (falls.before ++ (l ∷ r ∷ falls.after)) ≡ 171 = m.0 in
+        let more = one_longer falls.before below l r falls.after in
+        let long : length (falls.before ++ (below ∷ falls.after)) ≡ 170 = omega arith in
+        (named, subst (λ (xs : List Entry). length xs ≡ 170) (sym falls.parts) long, below, next, falls, below_it l r turn)
