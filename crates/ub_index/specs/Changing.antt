@@ -28,9 +28,9 @@ named_as (One other) entry = other ∷ []
 named_as (Two left right) entry = left ∷ right ∷ []
 
 -- not by two entries
-abbrev pub IsNarrow : Told → Type 0
-IsNarrow (Two left right) = ⊥
-IsNarrow _ = Unit {0}
+abbrev pub IsAtMostOne : Told → Type 0
+IsAtMostOne (Two left right) = ⊥
+IsAtMostOne _ = Unit {0}
 
 -- not for want of pages, nor of levels
 abbrev pub IsNoGrowth : IndexFault → Type 0
@@ -40,7 +40,7 @@ IsNoGrowth _ = Unit {0}
 
 -- a result that takes no page and no level more
 abbrev pub NeedsNoGrowth : Result Told IndexFault → Type 0
-NeedsNoGrowth result = IfOk result IsNarrow × IfErr result IsNoGrowth
+NeedsNoGrowth result = IfOk result IsAtMostOne × IfErr result IsNoGrowth
 
 -- a region's entry goes, or this one comes behind it
 abbrev pub with_added : Option Entry → Entry → Told

@@ -1,6 +1,6 @@
 // The pages of an index that a change spells, before one of them is put.
 ghost use Rattle.std.specs.Prelude.{◌≡◌, ◌+◌, ◌<◌, ◌≤◌, ◌++◌, ◌∷◌, [], length, IfOk, IfErr, OnOk, option_copied};
-ghost use Rattle.ub_index.specs.Changing.{IsNamedBy, IsNarrow, NeedsNoGrowth, Mends, Spreads, IsSpreadFault, named_as, sheet_of, so_far};
+ghost use Rattle.ub_index.specs.Changing.{IsNamedBy, IsAtMostOne, NeedsNoGrowth, Mends, Spreads, IsSpreadFault, named_as, sheet_of, so_far};
 ghost use Rattle.ub_index.specs.Lowering.{spelled_page};
 ghost use Rattle.ub_index_page.specs.declared.index.TheConstants.{MAX_LEVEL};
 ghost use Rattle.ub_page.specs.declared.entries.TheConstants.{MAX_ENTRIES};
@@ -161,7 +161,7 @@ impl Sheets {
         requires high { level ≤ MAX_LEVEL }
         ensures told { IfOk result (Mends level entry.now before.items below.now after.now news
             self.old self.new) }
-        ensures narrow { IsNarrow news → NeedsNoGrowth result }
+        ensures narrow { IsAtMostOne news → NeedsNoGrowth result }
         ensures refused { IfErr result (IsSpreadFault self.old) }
     {
         if is_unchanged(&news) {
