@@ -11,16 +11,19 @@ use Rattle.ub_table.proofs.Laws.{not_before_self}
 use Rattle.ub_table.specs.Keys.{IsBefore, origin}
 use Rattle.ub_table.specs.declared.row.Key.{Key}
 use Rattle.ub_index.specs.Changed.{Replaces}
-use Rattle.ub_index.specs.Changing.{AreOnce, IsFine, IsUnspelled, Mends, Spelled, Spreads, Stand, StayBut, Turns, named_as, so_far}
+use Rattle.ub_index.specs.Changing.{IsNoGrowth, IsAtMostOne, AreOnce, IsFine, IsUnspelled, Mends, Spelled, Spreads, Stand, StayBut, Turns, named_as, so_far}
 use Rattle.ub_index.specs.Index.{entries_of, first_or, page_in, pages_under, EachTo, IsUnder, under, top}
 use Rattle.ub_index.specs.Lowering.{IsLowerFault, IsLowest, Lowers, LowersTo, MakesLow, PreparesDrop, ReadsRoots, entries_then, page_then, sole_page, spelled_page, spelled_or}
 use Rattle.ub_index.specs.Preparing.{ChangeView, IsIndexThen, IsPrepared, IsReachedOnce, MakesIndex, Settles, change_view, entry_at, pages_of_index}
 use Rattle.ub_index.specs.View.{IndexView, IsIndexOn, IsSeatAt, entries_in}
 use Rattle.ub_index.specs.declared.fault.IndexFault.{IndexFault}
+use Rattle.ub_index.specs.declared.fault.IndexFault.TheVariants.{Full, Page, Store}
+use Rattle.ub_store.specs.declared.fault.StoreFault.TheVariants as store
 use Rattle.ub_index.specs.declared.seat.Seat.{Seat}
 use Rattle.ub_index.specs.declared.sheet.Sheet.{Sheet}
 use Rattle.ub_index.specs.declared.told.Told.{Told}
 use Rattle.ub_index.specs.declared.told.Told.TheVariants.{Same, Gone, One, Two}
+use Rattle.ub_index.specs.Way.{IsFullWay}
 use Rattle.ub_index.proofs.Changes.{same_page}
 use Rattle.ub_index.proofs.FitFacts.{page_is}
 use Rattle.ub_index.proofs.Numbers.{IsNoNew, IsOutside, differs, distinct_cons, distinct_first, distinct_rest}
@@ -29,20 +32,15 @@ use Rattle.ub_index.proofs.ReadyFacts.{entry_is, made_one, told_root, root_entry
 use Rattle.ub_index.proofs.SearchFacts.{frame}
 use Rattle.ub_index.proofs.TurnFacts.{Risen, rises}
 
--- not by two
-abbrev pub IsNarrow : Told → Type 0
-IsNarrow (Two left right) = ⊥
-IsNarrow _ = Unit {0}
-
 spread_narrow : (level : ℕ) (entry : Entry) (entries : List Entry) (from to : Spelled) (told : Told) → length entries ≤ 170 → Spreads level entry entries from to told
-    → IsNarrow told × (to.next ≡ from.next)
+    → IsAtMostOne told × (to.next ≡ from.next)
 spread_narrow level entry entries from to Same few h = (tt, ap (λ (s : Spelled). s.next) h.2)
 spread_narrow level entry entries from to Gone few h = (tt, ap (λ (s : Spelled). s.next) h.1)
 spread_narrow level entry entries from to (One other) few h = (tt, ap (λ (s : Spelled). s.next) h.3)
 spread_narrow level entry entries from to (Two left right) few h = let full = h.0 in absurd (omega arith)
 
 -- where one entry became one or none, there are no more than there were
-mended_few : (before : List Entry) (below : Entry) (after : List Entry) (news : Told) → IsNarrow news → length (before ++ (below ∷ after)) ≤ 170
+pub mended_few : (before : List Entry) (below : Entry) (after : List Entry) (news : Told) → IsAtMostOne news → length (before ++ (below ∷ after)) ≤ 170
     → length (before ++ (named_as news below ++ after)) ≤ 170
 mended_few [] below after Same narrow few = few
 mended_few [] below after Gone narrow few = omega arith
@@ -53,7 +51,7 @@ mended_few (b ∷ before) below after news narrow few = longer (length (before +
     less : (bs : List Entry) → length (bs ++ (named_as news below ++ after)) ≤ length (bs ++ (below ∷ after))
     less [] = by_news news narrow
       where
-        by_news : (t : Told) → IsNarrow t → length (named_as t below ++ after) ≤ length (below ∷ after)
+        by_news : (t : Told) → IsAtMostOne t → length (named_as t below ++ after) ≤ length (below ∷ after)
         by_news Same n = omega arith
         by_news Gone n = omega arith
         by_news (One other) n = omega arith
@@ -65,17 +63,17 @@ mended_few (b ∷ before) below after news narrow few = longer (length (before +
 
 -- a region's entry that goes needs no page more
 narrow : (last : ℕ) (old : List (List ℕ)) (key : Key) (level : ℕ) (entry : Entry) (end : Option Key) (from to : Spelled) (told : Told)
-    → Turns last old key None level entry end from to told → IsNarrow told × (to.next ≡ from.next)
-narrow last old key zero entry end from to told (told_is, same) = (subst (λ (t : Told). IsNarrow t) (sym told_is) tt, ap (λ (s : Spelled). s.next) same)
+    → Turns last old key None level entry end from to told → IsAtMostOne told × (to.next ≡ from.next)
+narrow last old key zero entry end from to told (told_is, same) = (subst (λ (t : Told). IsAtMostOne t) (sym told_is) tt, ap (λ (s : Spelled). s.next) same)
 narrow last old key (suc level) entry end from to told (named, below, next, falls, middle, news, turns, mends) =
     let in_it = narrow last old key level below next from middle news turns in
     let few : length (falls.before ++ (below ∷ falls.after)) ≤ 170 = subst (λ (xs : List Entry). length xs ≤ 170) falls.parts named.fits.is.is.few in
     let up = by_news news in_it.0 mends few in
     (up.0, up.1 ∙ in_it.1)
   where
-    by_news : (t : Told) → IsNarrow t → Mends (suc level) entry falls.before below falls.after t middle to told → length (falls.before ++ (below ∷ falls.after)) ≤ 170
-        → IsNarrow told × (to.next ≡ middle.next)
-    by_news Same n m few = (subst (λ (t : Told). IsNarrow t) (sym m.0) tt, ap (λ (s : Spelled). s.next) m.1)
+    by_news : (t : Told) → IsAtMostOne t → Mends (suc level) entry falls.before below falls.after t middle to told → length (falls.before ++ (below ∷ falls.after)) ≤ 170
+        → IsAtMostOne told × (to.next ≡ middle.next)
+    by_news Same n m few = (subst (λ (t : Told). IsAtMostOne t) (sym m.0) tt, ap (λ (s : Spelled). s.next) m.1)
     by_news Gone n m few = spread_narrow (suc level) entry (falls.before ++ (named_as Gone below ++ falls.after)) middle to told (mended_few falls.before below falls.after Gone n few) m
     by_news (One other) n m few =
         spread_narrow (suc level) entry (falls.before ++ (named_as (One other) below ++ falls.after)) middle to told (mended_few falls.before below falls.after (One other) n few) m
@@ -208,12 +206,12 @@ module _ (index : IndexView) (store : StoreFacts) (i : ℕ) (seat : Seat) (small
   one_told : ((other : Entry) × (named_as told (top index.root) ≡ other ∷ [])) × (first ≡ change_view middle (page_count store) index.root index.levels)
   one_told = by_told told refl settles (narrow index.last store.pages seat.first index.levels (top index.root) None (so_far [] (page_count store)) middle told turns).0
     where
-      by_told : (t : Told) → told ≡ t → Settles index.root index.levels t (page_count store) middle first → IsNarrow told
+      by_told : (t : Told) → told ≡ t → Settles index.root index.levels t (page_count store) middle first → IsAtMostOne told
           → ((other : Entry) × (named_as told (top index.root) ≡ other ∷ [])) × (first ≡ change_view middle (page_count store) index.root index.levels)
       by_told Same e h n = ((top index.root, ap (λ (t : Told). named_as t (top index.root)) e), h)
       by_told Gone e h n = absurd h
       by_told (One other) e h n = ((other, ap (λ (t : Told). named_as t (top index.root)) e), h)
-      by_told (Two left right) e h n = absurd (subst (λ (t : Told). IsNarrow t) e n)
+      by_told (Two left right) e h n = absurd (subst (λ (t : Told). IsAtMostOne t) e n)
 
   sheets_are : change.sheets ≡ r.sheets
   sheets_are = ap (λ (c : ChangeView). c.sheets) lowers.same ∙ (ap (λ (c : ChangeView). c.sheets) one_told.1 ∙ r.sheets_are)
@@ -274,11 +272,49 @@ module _ (index : IndexView) (store : StoreFacts) (i : ℕ) (seat : Seat) (small
         low_then later (subst (λ (xs : List Sheet). Stand later xs) sheets_are stand) (subst (λ (xs : List Sheet). StayBut store.pages later xs (pages_of_index index store)) sheets_are stay),
   )
 
+-- a root doesn't give way for other reasons
+no_growth : (last : ℕ) (old : StoreFacts) (change : ChangeView) (e : IndexFault) → IsLowerFault last old change e → IsNoGrowth e
+no_growth last old change (Store store.Memory) h = tt
+no_growth last old change (Store store.Device) h = tt
+no_growth last old change (Store store.NoPage) h = tt
+no_growth last old change (Store store.BadSize) h = h
+no_growth last old change (Page n fault) h = tt
+no_growth last old change Full h = h
+
 pub dropped_effect : (T : Type 0) (index : IndexView) (last : ℕ) (key : Key) (old mid new : PagerView) (change : ChangeView) (r : Result T IndexFault) → last ≡ index.last
     → mid.store ≡ old.store → mid.trace ≡ old.trace → (IsHonest old.store → IsPrepared index old.store key None (page_count old.store) (so_far [] (page_count old.store)) change)
     → ReadsRoots last change mid new r → PreparesDrop index key old new r
 dropped_effect T index last key old mid new change (Ok x) lasts stores traces made h = record { same = frame (Ok x) old mid new stores traces h.same; faults = tt }
 dropped_effect T index last key old mid new change (Err e) lasts stores traces made h = record {
   same = frame {T = T} (Err e) old mid new stores traces h.same;
-  faults = inr (change, made, subst (λ (l : ℕ). IsLowerFault l old.store change e) lasts (subst (λ (s : StoreFacts). IsLowerFault last s change e) stores h.faults));
+  faults = (no_growth last mid.store change e h.faults, inr (change, made, subst (λ (l : ℕ). IsLowerFault l old.store change e) lasts (subst (λ (s : StoreFacts). IsLowerFault last s change e) stores h.faults)));
 }
+
+one_longer : (before : List Entry) (below left right : Entry) (after : List Entry) → length (before ++ (left ∷ right ∷ after)) ≡ suc (length (before ++ (below ∷ after)))
+one_longer [] below left right after = refl
+one_longer (b ∷ before) below left right after = ap (λ (n : ℕ). suc n) (one_longer before below left right after)
+
+-- an entry becomes two only where each page on the way is full
+pub full_way : (last : ℕ) (old : List (List ℕ)) (key : Key) (added : Option Entry) (level : ℕ) (entry : Entry) (end : Option Key) (from to : Spelled) (left right : Entry)
+    → Turns last old key added level entry end from to (Two left right) → IsFullWay last old key level entry end
+full_way last old key added zero entry end from to left right h = tt
+full_way last old key added (suc level) entry end from to left right (named, below, next, falls, middle, news, turns, mends) =
+    by_news news (λ l r turn. full_way last old key added level below next from middle l r turn) turns mends
+  where
+    few : length (falls.before ++ (below ∷ falls.after)) ≤ 170
+    few = subst (λ (xs : List Entry). length xs ≤ 170) falls.parts named.fits.is.is.few
+
+    not_narrow : (t : Told) → IsAtMostOne t → length (falls.before ++ (named_as t below ++ falls.after)) ≡ 171 → ⊥
+    not_narrow t n full = let less = mended_few falls.before below falls.after t n few in omega arith
+
+    by_news : (t : Told) → ((l r : Entry) → Turns last old key added level below next from middle (Two l r) → IsFullWay last old key level below next)
+        → Turns last old key added level below next from middle t → Mends (suc level) entry falls.before below falls.after t middle to (Two left right)
+        → IsFullWay last old key (suc level) entry end
+    by_news Same below_it turn m = let no : Two left right ≡ Same = m.0 in cc
+    by_news Gone below_it turn m = absurd (not_narrow Gone tt m.0)
+    by_news (One other) below_it turn m = absurd (not_narrow (One other) tt m.0)
+    by_news (Two l r) below_it turn m =
+        let full : length (falls.before ++ (l ∷ r ∷ falls.after)) ≡ 171 = m.0 in
+        let more = one_longer falls.before below l r falls.after in
+        let long : length (falls.before ++ (below ∷ falls.after)) ≡ 170 = omega arith in
+        (named, subst (λ (xs : List Entry). length xs ≡ 170) (sym falls.parts) long, below, next, falls, below_it l r turn)

@@ -1,6 +1,6 @@
 -- A change of an index: the entry of the region that holds a key goes, or another one comes behind it; and which pages are spelled
 -- anew on the way to it, as far as what stands there fits.
-use Rattle.std.specs.Prelude.{◌≡◌, ◌≢◌, ◌≤◌, ◌<◌, ◌+◌, ◌++◌, ℕ, zero, suc, IsTrue, List, [], ◌∷◌, Option, Some, None, Result, IfErr, length, take, drop, slice_get}
+use Rattle.std.specs.Prelude.{◌≡◌, ◌≢◌, ◌≤◌, ◌<◌, ◌+◌, ◌++◌, ℕ, zero, suc, IsTrue, List, [], ◌∷◌, Option, Some, None, Result, IfOk, IfErr, length, take, drop, slice_get}
 use Rattle.std.specs.List.{AllByRecursion}
 use Rattle.ub_index.specs.Changed.{BeginFrom}
 use Rattle.ub_index.specs.Fitting.{FallsTo}
@@ -26,6 +26,21 @@ named_as Same entry = entry ∷ []
 named_as Gone entry = []
 named_as (One other) entry = other ∷ []
 named_as (Two left right) entry = left ∷ right ∷ []
+
+-- not by two entries
+abbrev pub IsAtMostOne : Told → Type 0
+IsAtMostOne (Two left right) = ⊥
+IsAtMostOne _ = Unit {0}
+
+-- not for want of pages, nor of levels
+abbrev pub IsNoGrowth : IndexFault → Type 0
+IsNoGrowth (Store store.BadSize) = ⊥
+IsNoGrowth Full = ⊥
+IsNoGrowth _ = Unit {0}
+
+-- a result that takes no page and no level more
+abbrev pub NeedsNoGrowth : Result Told IndexFault → Type 0
+NeedsNoGrowth result = IfOk result IsAtMostOne × IfErr result IsNoGrowth
 
 -- a region's entry goes, or this one comes behind it
 abbrev pub with_added : Option Entry → Entry → Told

@@ -4,9 +4,10 @@ use Rattle.std.specs.List.{flat_map, IsDistinct}
 use Rattle.ub_index.specs.Index.{AscendTo, IsUnder, under, pages_under}
 use Rattle.ub_index.specs.Changed.{PagesStay, Becomes, BeginFrom, Replaces, Stays}
 use Rattle.ub_index.specs.Changing.{IsFine, Spelled, Stand, StayBut, Turns, named_as, with_added}
-use Rattle.ub_index.specs.Way.{LeadsTo, StopsAt}
+use Rattle.ub_index.specs.Way.{IsFullWay, LeadsTo, StopsAt}
 use Rattle.ub_index.specs.declared.sheet.Sheet.{Sheet}
 use Rattle.ub_index.specs.declared.told.Told.{Told}
+use Rattle.ub_index.specs.declared.told.Told.TheVariants.{Two}
 use Rattle.ub_page.specs.Entries.{IsEntry}
 use Rattle.ub_page.specs.declared.entries.Entry.{Entry}
 use Rattle.ub_table.specs.Keys.{IsBefore}
@@ -55,3 +56,9 @@ TurnsBecome = (last : ℕ) (old : List (List ℕ)) (key : Key) (added : Option E
     × (sheets : List Sheet) × (to.sheets ≡ from.sheets ++ sheets)
     × ((later : List (List ℕ)) → Stand later sheets → StayBut old later sheets (pages_under old level entry)
     → Becomes last old later found (named_as (with_added added found) found) next level entry end (named_as told entry))
+
+-- an entry becomes two only where each page on the way is full
+abbrev pub FullWaysPart : Type 0
+FullWaysPart = (last : ℕ) (old : List (List ℕ)) (key : Key) (added : Option Entry) (level : ℕ) (entry : Entry) (end : Option Key)
+    (from to : Spelled) (left right : Entry) → Turns last old key added level entry end from to (Two left right)
+    → IsFullWay last old key level entry end

@@ -1,6 +1,6 @@
 -- A root that names one page alone gives way to it.
 use Rattle.std.specs.Prelude.{◌≡◌, ◌≤◌, ◌==◌, ◌⊎◌, if◌then◌else◌, ℕ, zero, suc, IsTrue, List, [], ◌∷◌, Option, Some, None, Result, IfErr, length}
-use Rattle.ub_index.specs.Changing.{Stand, StayBut, so_far}
+use Rattle.ub_index.specs.Changing.{IsNoGrowth, Stand, StayBut, so_far}
 use Rattle.ub_index.specs.Fitting.{IsNotTaken}
 use Rattle.ub_index.specs.Index.{entries_of, page_in, top}
 use Rattle.ub_index.specs.Preparing.{ChangeView, IsChangeFault, IsPrepared, pages_of_index}
@@ -57,17 +57,17 @@ pub record LowersTo (pages : List (List ℕ)) (old new : ChangeView) : Type 0 wh
   pub lowest : IsLowest old.sheets pages new.root new.levels
 
 -- one comes to a root that isn't spelled, and that can't be taken
-abbrev pub IsStopped : ℕ → List (List ℕ) → ChangeView → ℕ → Option PageFault → Type 0
-IsStopped last pages change n fault =
+abbrev pub IsRootRefused : ℕ → List (List ℕ) → ChangeView → ℕ → Option PageFault → Type 0
+IsRootRefused last pages change n fault =
     (level : ℕ) × Lowers change.sheets pages change.root change.levels n level × IsNotTaken last pages level (top n) None fault
 
 -- why a root doesn't give way
 abbrev pub IsLowerFault : ℕ → StoreFacts → ChangeView → IndexFault → Type 0
 IsLowerFault last old change (Store store.Memory) = Unit {0}
 IsLowerFault last old change (Store store.Device) = IsTrue old.can_fail
-IsLowerFault last old change (Store store.NoPage) = (n : ℕ) × (page_count old ≤ n) × (IsHonest old → IsStopped last old.pages change n None)
+IsLowerFault last old change (Store store.NoPage) = (n : ℕ) × (page_count old ≤ n) × (IsHonest old → IsRootRefused last old.pages change n None)
 IsLowerFault last old change (Store store.BadSize) = ⊥
-IsLowerFault last old change (Page n fault) = IsHonest old → IsStopped last old.pages change n (Some fault)
+IsLowerFault last old change (Page n fault) = IsHonest old → IsRootRefused last old.pages change n (Some fault)
 IsLowerFault last old change Full = ⊥
 
 -- a call with this result that reads roots: with the device's fault the store has one failed read more, and else nothing has changed but
@@ -89,13 +89,14 @@ MakesLow index old change =
     (later : List (List ℕ)) → Stand later change.sheets → StayBut old.pages later change.sheets (pages_of_index index old)
     → (change.levels ≡ 1) ⊎ (2 ≤ length (entries_of later change.root))
 
--- why a region's entry doesn't go: as a change is refused; or as a root doesn't give way
+-- why a region's entry doesn't go, which is never for want of pages or levels: as a change is refused; or as a root doesn't give way
 abbrev pub IsDropFault : IndexView → StoreFacts → Key → IndexFault → Type 0
 IsDropFault index old key fault =
-    IsChangeFault index old key None (so_far [] (page_count old)) fault
+    IsNoGrowth fault
+    × (IsChangeFault index old key None (so_far [] (page_count old)) fault
     ⊎ ((first : ChangeView)
     × (IsHonest old → IsPrepared index old key None (page_count old) (so_far [] (page_count old)) first)
-    × IsLowerFault index.last old first fault)
+    × IsLowerFault index.last old first fault))
 
 pub record PreparesDrop {A : Type 0} (index : IndexView) (key : Key) (old new : PagerView) (result : Result A IndexFault) : Type 0 where
   pub same : new ≡ record old { store = store_after result old.store; cached = new.cached }

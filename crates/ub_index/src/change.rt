@@ -1,6 +1,7 @@
 // A change of an index that is prepared, and not yet made.
 ghost use Rattle.std.specs.Prelude.{◌≡◌, ◌≤◌, ◌<◌, ◌+◌, ◌-◌, None, IfOk, IfErr, OnOk};
 ghost use Rattle.ub_directory.specs.Writing.{Grows, put_store};
+ghost use Rattle.ub_index.specs.Changing.{IsAtMostOne, IsNoGrowth};
 ghost use Rattle.ub_index.specs.Descending.{Steps};
 ghost use Rattle.ub_index.specs.Index.{top};
 ghost use Rattle.ub_index.specs.Lowering.{LowersTo, ReadsRoots, entries_then, sole_page};
@@ -49,7 +50,7 @@ impl Model for Change {
 impl Change {
     /// How the change leaves the root, which stands on this page and is of this level, and of which this is told. Full comes where a
     /// new root would have a level above 16, BadCount where nothing is left.
-    pub fn settled(
+    pub(crate) fn settled(
         root: u32,
         levels: u32,
         told: Told,
@@ -59,6 +60,7 @@ impl Change {
         requires low { 1 ≤ levels }
         requires high { levels ≤ MAX_LEVEL }
         ensures settled { IfOk result (Settles root levels told start sheets) }
+        ensures narrow { IsAtMostOne told → IfErr result IsNoGrowth }
         ensures refused { IfErr result (IsSettleFault root levels told sheets) }
     {
         match told {
@@ -117,7 +119,7 @@ impl Change {
 
     /// The change with the root to which its root gives way: while it is above level 1 and names one page alone, that page becomes the
     /// root. A page that isn't spelled is read, and refused as in a search.
-    pub fn lowered<S: PageStore>(
+    pub(crate) fn lowered<S: PageStore>(
         self,
         pager: &mut Pager<S>,
         last: u128,

@@ -4,7 +4,7 @@ ghost use Rattle.ub_bigmin.specs.Extremes.{LeastFrom};
 ghost use Rattle.ub_directory.specs.Spans.{first_keys, regions_of, Meets, IsLater, First};
 ghost use Rattle.ub_index.specs.Changed.{Replaces};
 ghost use Rattle.ub_directory.specs.Writing.{put_store};
-ghost use Rattle.ub_index.specs.Changing.{AreOnce, Stand, so_far};
+ghost use Rattle.ub_index.specs.Changing.{AreOnce, IsNoGrowth, Stand, so_far};
 ghost use Rattle.ub_index.specs.Making.{IsPutFault, PutsSheets};
 ghost use Rattle.ub_store.specs.View.{SameTrace};
 ghost use Rattle.ub_index.specs.Index.{top};
@@ -283,6 +283,7 @@ impl Index {
         ensures bounds { (self.now.last < 2 ^ 128) × (self.now.levels ≤ MAX_LEVEL) }
         ensures made { IsHonest pager.old.store → IfOk result
             (IsPrepared self.now pager.old.store aim.now.key aim.now.added start sheets) }
+        ensures narrow { aim.now.added ≡ None → IfErr result IsNoGrowth }
         ensures effect { PreparesAll self.now aim.now.key aim.now.added sheets pager.old pager.new
             result }
     {

@@ -1,4 +1,4 @@
-ghost use Rattle.ub_index.specs.Laws.{ChangeReplaces, ChangeKeepsOrder, OthersStay, TurnsBecome, WaysNeverStop, WholeAscends};
+ghost use Rattle.ub_index.specs.Laws.{ChangeReplaces, ChangeKeepsOrder, FullWaysPart, OthersStay, TurnsBecome, WaysNeverStop, WholeAscends};
 
 /// What an entry leads to is in order.
 pub fn whole_ascends()
@@ -28,4 +28,9 @@ pub fn change_keeps_order()
 /// What a change spells makes of an entry what it tells, on all later pages on which that stands.
 pub fn turns_become()
     ensures { TurnsBecome }
+{}
+
+/// A page is parted only where each page on the way to the region is full.
+pub fn full_ways_part()
+    ensures { FullWaysPart }
 {}

@@ -25,6 +25,13 @@
 // goes down as often as the root has levels, whatever a page says. What it answers on an index is the region that holds the key
 // in the flat list; what it answers on any pages, and at which page it stops, is told by specs/Way.
 //
+// A change is one region's entry that goes, or gets another one behind it. It goes down as a search does and back up (`turning`), and
+// tells each page above by which entries to name what it led to (`told`): by the same one, then no page above changes; by none; by
+// one with another first key; or by two, where 171 entries stand on two pages, 86 and 85. What changes is spelled in memory
+// (`sheets`), with the numbers that the store's next pages will have. A root of two pages gets a new one above it; one that names one
+// page alone gives way to it when a region went (`change`). Nothing is written until all of it is spelled: then the store grows, the
+// pages are put, a new one before any that names it, and the root is taken over last (`making`).
+//
 // What belongs here is the way through several pages. How one page is spelled and searched (`ub_index_page`), and how pages are kept
 // (`ub_store`), stands below; which pages are a table's, above. The functions of `law` ensure what holds of every index, and what a
 // change of one entry does to the whole.

@@ -1,6 +1,6 @@
 // The pages of an index that a change spells, before one of them is put.
 ghost use Rattle.std.specs.Prelude.{◌≡◌, ◌+◌, ◌<◌, ◌≤◌, ◌++◌, ◌∷◌, [], length, IfOk, IfErr, OnOk, option_copied};
-ghost use Rattle.ub_index.specs.Changing.{IsNamedBy, Mends, Spreads, IsSpreadFault, named_as, sheet_of, so_far};
+ghost use Rattle.ub_index.specs.Changing.{IsNamedBy, IsAtMostOne, NeedsNoGrowth, Mends, Spreads, IsSpreadFault, named_as, sheet_of, so_far};
 ghost use Rattle.ub_index.specs.Lowering.{spelled_page};
 ghost use Rattle.ub_index_page.specs.declared.index.TheConstants.{MAX_LEVEL};
 ghost use Rattle.ub_page.specs.declared.entries.TheConstants.{MAX_ENTRIES};
@@ -110,6 +110,7 @@ impl Sheets {
         requires few { length entries.now ≤ MAX_ENTRIES + 1 }
         requires high { level ≤ MAX_LEVEL }
         ensures told { IfOk result (Spreads level entry.now entries.now self.old self.new) }
+        ensures narrow { length entries.now ≤ MAX_ENTRIES → NeedsNoGrowth result }
         ensures refused { IfErr result (IsSpreadFault self.old) }
     {
         if entries.is_empty() {
@@ -160,6 +161,7 @@ impl Sheets {
         requires high { level ≤ MAX_LEVEL }
         ensures told { IfOk result (Mends level entry.now before.items below.now after.now news
             self.old self.new) }
+        ensures narrow { IsAtMostOne news → NeedsNoGrowth result }
         ensures refused { IfErr result (IsSpreadFault self.old) }
     {
         if is_unchanged(&news) {

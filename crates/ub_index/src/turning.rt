@@ -1,6 +1,6 @@
 // How a change goes down an index, and back up: what each page on the way becomes.
 ghost use Rattle.std.specs.Prelude.{◌≡◌, ◌+◌, ◌<◌, ◌≤◌, None, IfOk, length, take, drop};
-ghost use Rattle.ub_index.specs.Changing.{OpensTo, Prepares, Turns};
+ghost use Rattle.ub_index.specs.Changing.{NeedsNoGrowth, OpensTo, Prepares, Turns};
 ghost use Rattle.ub_index.specs.Descending.{Steps};
 ghost use Rattle.ub_index.specs.Fitting.{FallsTo};
 ghost use Rattle.ub_index_page.specs.Index.{head_on, node_on};
@@ -50,6 +50,7 @@ pub fn turn<S: PageStore>(
         aim.now.key aim.now.added level place.now.entry place.now.next sheets.old sheets.new) }
     ensures few { IfOk result (λ _. (sheets.old.next ≤ sheets.new.next)
         × (sheets.new.next ≤ sheets.old.next + level)) }
+    ensures narrow { aim.now.added ≡ None → NeedsNoGrowth result }
     ensures effect { Prepares last level aim.now.key place.now.entry place.now.next
         sheets.old.next pager.old pager.new result }
 {
