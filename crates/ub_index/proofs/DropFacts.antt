@@ -11,7 +11,7 @@ use Rattle.ub_table.proofs.Laws.{not_before_self}
 use Rattle.ub_table.specs.Keys.{IsBefore, origin}
 use Rattle.ub_table.specs.declared.row.Key.{Key}
 use Rattle.ub_index.specs.Changed.{Replaces}
-use Rattle.ub_index.specs.Changing.{IsNoGrowth, IsAtMostOne, AreOnce, IsFine, IsUnspelled, Mends, Spelled, Spreads, Stand, StayBut, Turns, named_as, so_far}
+use Rattle.ub_index.specs.Changing.{AreOnce, IsAtMostOne, IsFine, IsNoGrowth, IsNoNew, IsOutside, IsUnspelled, Mends, Spelled, Spreads, Stand, StayBut, Turns, named_as, so_far}
 use Rattle.ub_index.specs.Index.{entries_of, first_or, page_in, pages_under, EachTo, IsUnder, under, top}
 use Rattle.ub_index.specs.Lowering.{IsLowerFault, IsLowest, Lowers, LowersTo, MakesLow, PreparesDrop, ReadsRoots, entries_then, page_then, sole_page, spelled_page, spelled_or}
 use Rattle.ub_index.specs.Preparing.{ChangeView, IsIndexThen, IsPrepared, IsReachedOnce, MakesIndex, Settles, change_view, entry_at, pages_of_index}
@@ -26,9 +26,9 @@ use Rattle.ub_index.specs.declared.told.Told.TheVariants.{Same, Gone, One, Two}
 use Rattle.ub_index.specs.Way.{IsFullWay}
 use Rattle.ub_index.proofs.Changes.{same_page}
 use Rattle.ub_index.proofs.FitFacts.{page_is}
-use Rattle.ub_index.proofs.Numbers.{IsNoNew, IsOutside, differs, distinct_cons, distinct_first, distinct_rest}
+use Rattle.ub_index.proofs.Numbers.{differs, distinct_cons, distinct_first, distinct_rest}
 use Rattle.ub_index.proofs.OrderFacts.{under_first}
-use Rattle.ub_index.proofs.ReadyFacts.{entry_is, made_one, told_root, root_entry, seat_found}
+use Rattle.ub_index.proofs.ReadyFacts.{entry_is, made_one, root_entry, seat_found}
 use Rattle.ub_index.proofs.SearchFacts.{frame}
 use Rattle.ub_index.proofs.TurnFacts.{Risen, rises}
 
@@ -194,6 +194,12 @@ module _ (index : IndexView) (store : StoreFacts) (i : ℕ) (seat : Seat) (small
   same_next : middle.next ≡ page_count store
   same_next = (narrow index.last store.pages seat.first index.levels (top index.root) None (so_far [] (page_count store)) middle told turns).1
 
+  none_new : (n : ℕ) → IsNoNew (page_count store) middle.next n
+  none_new n = elim (cases_lt n (page_count store)) [
+    | inl less ↦ inl less
+    | inr more ↦ inr (let e = same_next in omega arith)
+  ]
+
   found_is : r.found ≡ entry_at seat
   found_is = (seat_found index store i seat is at r.found r.next r.leads).0
 
@@ -230,20 +236,13 @@ module _ (index : IndexView) (store : StoreFacts) (i : ℕ) (seat : Seat) (small
   module _ (later : List (List ℕ)) (stand : Stand later r.sheets) (stay : StayBut store.pages later r.sheets (pages_of_index index store)) where
     made_first : IsIndexThen index.last later index.root index.levels (Replaces r.found [] (entries_in index store))
     made_first =
-        made_one index small is.some high store seat.first None (so_far [] (page_count store)) middle told (omega arith) refl is own few r
-        (gone_fine index.last r.found r.next) begins later stand stay one_told.0.0 one_told.0.1
+        (made_one index small is.some high store seat.first None (so_far [] (page_count store)) middle told (omega arith) refl is own few r
+        (gone_fine index.last r.found r.next) begins later stand stay one_told.0.0 one_told.0.1).0
 
     among_first : (n : ℕ) → IsOutside n (pages_of_index index store) → IsOutside n (pages_under later index.levels (top index.root))
     among_first n out =
-        let list = told_root index small is.some high store seat.first None (so_far [] (page_count store)) middle told (omega arith) refl is own few r
-        (gone_fine index.last r.found r.next) begins later stand stay one_told.0.0 one_told.0.1 in
-        let new : IsNoNew (page_count store) middle.next n = elim (cases_lt n (page_count store)) [
-          | inl less ↦ inl less
-          | inr more ↦ inr (let e = same_next in omega arith)
-        ] in
-        subst (λ (ns : List ℕ). IsOutside n ns)
-        (ap (λ (xs : List Entry). flat_map (pages_under later index.levels) xs) list ∙ append-nil (pages_under later index.levels (top index.root)))
-        (r.among later stand stay n new out)
+        (made_one index small is.some high store seat.first None (so_far [] (page_count store)) middle told (omega arith) refl is own few r
+        (gone_fine index.last r.found r.next) begins later stand stay one_told.0.0 one_told.0.1).1 n (none_new n) out
 
     lowered_all : IsIndexThen index.last later change.root change.levels (Replaces r.found [] (entries_in index store))
         × ((n : ℕ) → IsOutside n (pages_of_index index store) → IsOutside n (pages_under later change.levels (top change.root)))
@@ -256,13 +255,17 @@ module _ (index : IndexView) (store : StoreFacts) (i : ℕ) (seat : Seat) (small
         lowest_then index.last store.pages later r.sheets (pages_of_index index store) stand stay change.root change.levels lowered_all.0.low lowered_all.0.under_it lowered_all.1
         (subst (λ (xs : List Sheet). IsLowest xs store.pages change.root change.levels) first_sheets lowers.lowest)
 
-  pub dropped_makes : MakesIndex index store change (Replaces (entry_at seat) [] (entries_in index store))
-  dropped_makes = (
-    subst (λ (xs : List Sheet). AreOnce xs) (sym sheets_are) r.once,
-    λ later stand stay.
+  pub dropped_makes : MakesIndex index store (page_count store) change (Replaces (entry_at seat) [] (entries_in index store))
+  dropped_makes = record {
+    once = subst (λ (xs : List Sheet). AreOnce xs) (sym sheets_are) r.once;
+    own = λ n foreign. subst (λ (xs : List Sheet). IsUnspelled n xs) (sym sheets_are) (r.outside n (none_new n) foreign.1);
+    makes = λ later stand stay.
         subst (λ (e : Entry). IsIndexThen index.last later change.root change.levels (Replaces e [] (entries_in index store))) found_is
-        (lowered_all later (subst (λ (xs : List Sheet). Stand later xs) sheets_are stand) (subst (λ (xs : List Sheet). StayBut store.pages later xs (pages_of_index index store)) sheets_are stay)).0,
-  )
+        (lowered_all later (subst (λ (xs : List Sheet). Stand later xs) sheets_are stand) (subst (λ (xs : List Sheet). StayBut store.pages later xs (pages_of_index index store)) sheets_are stay)).0;
+    no_other = λ later stand stay n foreign.
+        (lowered_all later (subst (λ (xs : List Sheet). Stand later xs) sheets_are stand) (subst (λ (xs : List Sheet). StayBut store.pages later xs (pages_of_index index store)) sheets_are stay)).1
+        n foreign.1;
+  }
 
   pub dropped_low : (change.next ≡ change.start) × MakesLow index store change
   dropped_low = (

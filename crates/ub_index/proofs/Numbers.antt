@@ -1,5 +1,5 @@
 -- Numbers that stand apart, and which pages the numbers under an entry are.
-use Rattle.std.proofs.Common.{inl, inr, arith, ◌≡◌, ◌≢◌, ◌≤◌, ◌<◌, ◌++◌, ◌⊎◌, ◌∙◌, ap, refl, slice_get, ℕ, zero, suc, List, [], ◌∷◌, Option, false, nat_eq, length, sym}
+use Rattle.std.proofs.Common.{inl, inr, arith, ◌≡◌, ◌≢◌, ◌≤◌, ◌<◌, ◌++◌, ◌∙◌, ap, refl, slice_get, ℕ, zero, suc, List, [], ◌∷◌, Option, false, nat_eq, length, sym}
 use Rattle.std.proofs.lemmas.Bool.{eq-eqb, ne_eqb}
 use Rattle.std.proofs.lemmas.Option.{slice_get_within}
 use Rattle.std.specs.List.{AllByRecursion, IsDistinct, flat_map}
@@ -7,17 +7,13 @@ use Rattle.ub_page.specs.declared.entries.Entry.{Entry}
 use Rattle.ub_region.proofs.Laws.{all_append, all_left, all_more, all_right}
 use Rattle.ub_table.specs.declared.row.Key.{Key}
 use Rattle.ub_index.specs.Changed.{PagesStay}
-use Rattle.ub_index.specs.Changing.{AreOnce, IsUnspelled}
+use Rattle.ub_index.specs.Changing.{AreOnce, IsNoNew, IsOutside, IsUnspelled}
 use Rattle.ub_index.specs.declared.sheet.Sheet.{Sheet}
 use Rattle.ub_index.proofs.Changes.{same_entries}
 use Rattle.ub_index.specs.Index.{entries_of, first_or, page_in, EachTo, IsUnder, pages_under}
 
 pub differs : (a b : ℕ) → nat_eq a b ≡ false → a ≢ b
 differs a b f e = let t = eq-eqb a b e in cc
-
--- this number is none of those
-abbrev pub IsOutside : ℕ → List ℕ → Type 0
-IsOutside n numbers = AllByRecursion (λ m. n ≢ m) numbers
 
 -- no number of the one list is in the other
 abbrev pub StandApart : List ℕ → List ℕ → Type 0
@@ -71,10 +67,6 @@ within_store last pages (suc level) entry end h = (
   slice_get_within pages entry.page (page_in pages entry.page) h.0.there,
   each_all (λ n. n < length pages) (pages_under pages level) (IsUnder last pages level) (within_store last pages level) (entries_of pages entry.page) end h.1,
 )
-
--- this number is none of those that are new from one on up to another
-abbrev pub IsNoNew : ℕ → ℕ → ℕ → Type 0
-IsNoNew from to n = (n < from) ⊎ (to ≤ n)
 
 pub distinct_cons : (x : ℕ) (xs : List ℕ) → IsOutside x xs → IsDistinct nat_eq xs → IsDistinct nat_eq (x ∷ xs)
 unfolding IsDistinct

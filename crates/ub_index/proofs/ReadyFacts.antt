@@ -6,7 +6,7 @@ use Rattle.std.specs.List.{AllByRecursion, IsDistinct, flat_map}
 use Rattle.ub_directory.specs.Spans.{first_keys}
 use Rattle.ub_page.specs.Entries.{IsEntry}
 use Rattle.ub_page.specs.declared.entries.Entry.{Entry}
-use Rattle.ub_region.proofs.Laws.{all_left, all_more, all_right}
+use Rattle.ub_region.proofs.Laws.{all_append, all_left, all_more, all_right}
 use Rattle.ub_store.specs.Facts.{StoreFacts, IsHonest, page_count}
 use Rattle.ub_store.specs.View.{PagerView}
 use Rattle.ub_store.specs.declared.fault.StoreFault.TheVariants as store
@@ -14,7 +14,7 @@ use Rattle.ub_table.proofs.Laws.{not_before_self}
 use Rattle.ub_table.specs.Keys.{origin}
 use Rattle.ub_table.specs.declared.row.Key.{Key}
 use Rattle.ub_index.specs.Changed.{Becomes, Replaces, Stays}
-use Rattle.ub_index.specs.Changing.{AreOnce, IsFine, IsTurnFault, NamesPage, Spelled, Stand, StayBut, named_as, sheet_of, so_far, with_added}
+use Rattle.ub_index.specs.Changing.{AreOnce, IsFine, IsNoNew, IsOutside, IsTurnFault, IsUnspelled, NamesPage, Spelled, Stand, StayBut, named_as, sheet_of, so_far, with_added}
 use Rattle.ub_index.specs.Index.{entries_of, first_or, page_in, pages_under, AscendTo, EachTo, IsUnder, under, top}
 use Rattle.ub_index.specs.Preparing.{ChangeView, IsChangeFault, IsIndexThen, IsPrepared, IsReachedOnce, MakesIndex, IsSettleFault, IsWithinSeat, PreparesAll, Settles, TurnsRoot, added_at, change_view, entry_at, pages_of_index}
 use Rattle.ub_index.specs.View.{IndexView, IsIndexOn, IsSeatAt, entries_in}
@@ -26,7 +26,7 @@ use Rattle.ub_index.specs.declared.sheet.Sheet.{Sheet}
 use Rattle.ub_index.specs.declared.told.Told.{Told}
 use Rattle.ub_index.specs.declared.told.Told.TheVariants.{Same, Gone, One, Two}
 use Rattle.ub_index.proofs.Changes.{replaced, stays, told_index}
-use Rattle.ub_index.proofs.Numbers.{IsOutside, distinct_cons, distinct_first, distinct_rest, once_join, outside_less, within_store}
+use Rattle.ub_index.proofs.Numbers.{distinct_cons, distinct_first, distinct_rest, no_new_left, once_join, outside_less, within_store}
 use Rattle.ub_index.proofs.OrderFacts.{first_through, under_first}
 use Rattle.ub_index.proofs.PlaceFacts.{index_of_first, seat_first, up}
 use Rattle.ub_index.proofs.SpreadFacts.{node_so, told_on}
@@ -111,6 +111,17 @@ stay_less old later sheets more (n ∷ numbers) lt far h =
     let apart : n ≢ more.number = (let near = lt.0 in λ e. omega arith) in
     (λ free. h.0 (unspelled_left n sheets (more ∷ []) free (apart, tt)), stay_less old later sheets more numbers lt.1 far h.1)
 
+-- a number that isn't new up to the one after this is not this one
+no_root : (from middle n : ℕ) → from ≤ middle → IsNoNew from (middle + 1) n → n ≢ middle
+no_root from middle n le (inl less) e = omega arith
+no_root from middle n le (inr more) e = omega arith
+
+-- on these pages an index of these entries stands, with this root, and has no pages but those of the old one and the new ones
+abbrev IsMade : IndexView → StoreFacts → ℕ → ℕ → List (List ℕ) → ℕ → ℕ → (List Entry → Type 0) → Type 0
+IsMade index store from to later root levels Are =
+    IsIndexThen index.last later root levels Are
+    × ((n : ℕ) → IsNoNew from to n → IsOutside n (pages_of_index index store) → IsOutside n (pages_under later levels (top root)))
+
 -- a change of which the entries that come begin where the whole list began
 module _ (index : IndexView) (small : index.last < 2 ^ 128) (low : 1 ≤ index.levels) (high : index.levels ≤ 16) (store : StoreFacts) (key : Key) (added : Option Entry)
     (from middle : Spelled) (told : Told) (room : page_count store ≤ from.next) (start : from.sheets ≡ []) (is : IsIndexOn index store) (own : IsReachedOnce index store)
@@ -171,24 +182,27 @@ module _ (index : IndexView) (small : index.last < 2 ^ 128) (low : 1 ≤ index.l
 
     -- where one entry is told
     pub made_one : (other : Entry) → named_as told (top index.root) ≡ other ∷ []
-        → IsIndexThen index.last later index.root index.levels (Replaces r.found (named_as (with_added added r.found) r.found) (entries_in index store))
+        → IsMade index store from.next middle.next later index.root index.levels (Replaces r.found (named_as (with_added added r.found) r.found) (entries_in index store))
     made_one other e =
         let list = told_root other e in
-        let each : EachTo (IsUnder index.last later index.levels) (top index.root ∷ []) None = subst (λ (xs : List Entry). EachTo (IsUnder index.last later index.levels) xs None) list stays_all.each in
-        record {
-          low = low;
-          high = high;
-          under_it = each.0;
-          reached = distinct_cons 0 (pages_under later index.levels (top index.root)) (subst (λ (ns : List ℕ). IsOutside 0 ns) (pages_one list) outside_first)
-              (subst (λ (ns : List ℕ). IsDistinct nat_eq ns) (pages_one list) (r.reached later stand stay));
-          entries_are = subst (λ (xs : List Entry). Replaces r.found (named_as (with_added added r.found) r.found) (entries_in index store) xs)
-              (ap (λ (xs : List Entry). flat_map (under later index.levels) xs) list ∙ append-nil (under later index.levels (top index.root))) whole;
-        }
+        let each : EachTo (IsUnder index.last later index.levels) (top index.root ∷ []) None = subst (λ (xs : List Entry). EachTo (IsUnder index.last later index.levels) xs None) list stays_all.each in (
+          record {
+            low = low;
+            high = high;
+            under_it = each.0;
+            reached = distinct_cons 0 (pages_under later index.levels (top index.root)) (subst (λ (ns : List ℕ). IsOutside 0 ns) (pages_one list) outside_first)
+                (subst (λ (ns : List ℕ). IsDistinct nat_eq ns) (pages_one list) (r.reached later stand stay));
+            entries_are = subst (λ (xs : List Entry). Replaces r.found (named_as (with_added added r.found) r.found) (entries_in index store) xs)
+                (ap (λ (xs : List Entry). flat_map (under later index.levels) xs) list ∙ append-nil (under later index.levels (top index.root))) whole;
+          },
+          λ n new out. subst (λ (ns : List ℕ). IsOutside n ns) (pages_one list) (r.among later stand stay n new out),
+        )
 
     -- where two are, and a new root names them
     made_two : (left right : Entry) → named_as told (top index.root) ≡ left ∷ right ∷ [] → index.levels < 16
         → Stand later (sheet_of middle.next (index.levels + 1) (left ∷ right ∷ []) ∷ [])
-        → IsIndexThen index.last later middle.next (index.levels + 1) (Replaces r.found (named_as (with_added added r.found) r.found) (entries_in index store))
+        → IsMade index store from.next (middle.next + 1) later middle.next (index.levels + 1)
+        (Replaces r.found (named_as (with_added added r.found) r.found) (entries_in index store))
     made_two left right e less root_stands =
         let one : index.levels + 1 ≡ suc index.levels = omega arith in
         let entries : List Entry = left ∷ right ∷ [] in
@@ -207,16 +221,42 @@ module _ (index : IndexView) (small : index.last < 2 ^ 128) (low : 1 ≤ index.l
         ap (λ (xs : List Entry). middle.next ∷ flat_map (pages_under later index.levels) xs) (e ∙ sym told_root.entries_are) in
         let list : flat_map (under later index.levels) (named_as told (top index.root)) ≡ under later (suc index.levels) (top middle.next) =
         ap (λ (xs : List Entry). flat_map (under later index.levels) xs) (e ∙ sym told_root.entries_are) in
-        subst (λ (n : ℕ). IsIndexThen index.last later middle.next n (Replaces r.found (named_as (with_added added r.found) r.found) (entries_in index store))) (sym one) (record {
-          low = omega arith;
-          high = omega arith;
-          under_it = index_there;
-          reached = subst (λ (ns : List ℕ). IsDistinct nat_eq (0 ∷ ns)) pages
-              (distinct_cons 0 (middle.next ∷ flat_map (pages_under later index.levels) (named_as told (top index.root))) ((λ z. let f = first_less in let g = r.grown in omega arith), outside_first)
-              (distinct_cons middle.next (flat_map (pages_under later index.levels) (named_as told (top index.root)))
-              (r.among later stand stay middle.next (inr (omega arith)) next_outside) (r.reached later stand stay)));
-          entries_are = subst (λ (xs : List Entry). Replaces r.found (named_as (with_added added r.found) r.found) (entries_in index store) xs) list whole;
-        })
+        subst (λ (n : ℕ). IsMade index store from.next (middle.next + 1) later middle.next n (Replaces r.found (named_as (with_added added r.found) r.found) (entries_in index store))) (sym one) (
+          record {
+            low = omega arith;
+            high = omega arith;
+            under_it = index_there;
+            reached = subst (λ (ns : List ℕ). IsDistinct nat_eq (0 ∷ ns)) pages
+                (distinct_cons 0 (middle.next ∷ flat_map (pages_under later index.levels) (named_as told (top index.root))) ((λ z. let f = first_less in let g = r.grown in omega arith), outside_first)
+                (distinct_cons middle.next (flat_map (pages_under later index.levels) (named_as told (top index.root)))
+                (r.among later stand stay middle.next (inr (omega arith)) next_outside) (r.reached later stand stay)));
+            entries_are = subst (λ (xs : List Entry). Replaces r.found (named_as (with_added added r.found) r.found) (entries_in index store) xs) list whole;
+          },
+          λ n new out.
+              subst (λ (ns : List ℕ). IsOutside n ns) pages
+              (no_root from.next middle.next n r.grown new, r.among later stand stay n (no_new_left from.next middle.next (middle.next + 1) n (omega arith) new) out),
+        )
+
+  own_then : (change : ChangeView) → Settles index.root index.levels told (page_count store) middle change
+      → (n : ℕ) → IsNoNew from.next change.next n → IsOutside n (pages_of_index index store) → IsUnspelled n change.sheets
+  own_then change settles n new out = by_told told settles
+    where
+      kept : change ≡ change_view middle (page_count store) index.root index.levels → IsUnspelled n change.sheets
+      kept same =
+          subst (λ (xs : List Sheet). IsUnspelled n xs) (sym (ap (λ (c : ChangeView). c.sheets) same ∙ sheets_are))
+          (r.outside n (subst (λ (to : ℕ). IsNoNew from.next to n) (ap (λ (c : ChangeView). c.next) same) new) out)
+
+      by_told : (t : Told) → Settles index.root index.levels t (page_count store) middle change → IsUnspelled n change.sheets
+      by_told Same h = kept h
+      by_told Gone h = absurd h
+      by_told (One other) h = kept h
+      by_told (Two left right) h =
+          let sheets : change.sheets ≡ r.sheets ++ sheet_of middle.next (index.levels + 1) (left ∷ right ∷ []) ∷ [] =
+          ap (λ (c : ChangeView). c.sheets) h.2 ∙ ap (λ (xs : List Sheet). xs ++ sheet_of middle.next (index.levels + 1) (left ∷ right ∷ []) ∷ []) sheets_are in
+          let new_to : IsNoNew from.next (middle.next + 1) n = subst (λ (to : ℕ). IsNoNew from.next to n) (ap (λ (c : ChangeView). c.next) h.2) new in
+          subst (λ (xs : List Sheet). IsUnspelled n xs) (sym sheets)
+          (all_append (λ (s : Sheet). n ≢ s.number) r.sheets (sheet_of middle.next (index.levels + 1) (left ∷ right ∷ []) ∷ [])
+          (r.outside n (no_new_left from.next middle.next (middle.next + 1) n (omega arith) new_to) out) (no_root from.next middle.next n r.grown new_to, tt))
 
   once_then : (change : ChangeView) → Settles index.root index.levels told (page_count store) middle change → AreOnce change.sheets
   once_then change settles = by_told told settles
@@ -236,18 +276,18 @@ module _ (index : IndexView) (small : index.last < 2 ^ 128) (low : 1 ≤ index.l
 
   ready_then : (change : ChangeView) → Settles index.root index.levels told (page_count store) middle change
       → (later : List (List ℕ)) → Stand later change.sheets → StayBut store.pages later change.sheets (pages_of_index index store)
-      → IsIndexThen index.last later change.root change.levels (Replaces r.found (named_as (with_added added r.found) r.found) (entries_in index store))
+      → IsMade index store from.next change.next later change.root change.levels (Replaces r.found (named_as (with_added added r.found) r.found) (entries_in index store))
   ready_then change settles later stand stay = by_told told refl settles
     where
       kept : (same : change ≡ change_view middle (page_count store) index.root index.levels) (other : Entry) → named_as told (top index.root) ≡ other ∷ []
-          → IsIndexThen index.last later change.root change.levels (Replaces r.found (named_as (with_added added r.found) r.found) (entries_in index store))
+          → IsMade index store from.next change.next later change.root change.levels (Replaces r.found (named_as (with_added added r.found) r.found) (entries_in index store))
       kept same other e =
           let sheets : change.sheets ≡ r.sheets = ap (λ (c : ChangeView). c.sheets) same ∙ sheets_are in
           let made = made_one later (subst (λ (xs : List Sheet). Stand later xs) sheets stand) (subst (λ (xs : List Sheet). StayBut store.pages later xs (pages_of_index index store)) sheets stay) other e in
-          subst (λ (c : ChangeView). IsIndexThen index.last later c.root c.levels (Replaces r.found (named_as (with_added added r.found) r.found) (entries_in index store))) (sym same) made
+          subst (λ (c : ChangeView). IsMade index store from.next c.next later c.root c.levels (Replaces r.found (named_as (with_added added r.found) r.found) (entries_in index store))) (sym same) made
 
       by_told : (t : Told) → told ≡ t → Settles index.root index.levels t (page_count store) middle change
-          → IsIndexThen index.last later change.root change.levels (Replaces r.found (named_as (with_added added r.found) r.found) (entries_in index store))
+          → IsMade index store from.next change.next later change.root change.levels (Replaces r.found (named_as (with_added added r.found) r.found) (entries_in index store))
       by_told Same e h = kept h (top index.root) (ap (λ (t : Told). named_as t (top index.root)) e)
       by_told Gone e h = absurd h
       by_told (One other) e h = kept h other (ap (λ (t : Told). named_as t (top index.root)) e)
@@ -265,11 +305,16 @@ module _ (index : IndexView) (small : index.last < 2 ^ 128) (low : 1 ≤ index.l
           (within_store index.last store.pages index.levels (top index.root) None is.under_it) far stay_all)
           left right (ap (λ (t : Told). named_as t (top index.root)) e) h.0
           (all_right (λ (s : Sheet). slice_get later s.number ≡ Some s.page) r.sheets (sheet_of middle.next (index.levels + 1) (left ∷ right ∷ []) ∷ []) stand_all) in
-          subst (λ (c : ChangeView). IsIndexThen index.last later c.root c.levels (Replaces r.found (named_as (with_added added r.found) r.found) (entries_in index store))) (sym h.2) made
+          subst (λ (c : ChangeView). IsMade index store from.next c.next later c.root c.levels (Replaces r.found (named_as (with_added added r.found) r.found) (entries_in index store))) (sym h.2) made
 
   pub ready : (change : ChangeView) → Settles index.root index.levels told (page_count store) middle change
-      → MakesIndex index store change (Replaces r.found (named_as (with_added added r.found) r.found) (entries_in index store))
-  ready change settles = (once_then change settles, ready_then change settles)
+      → MakesIndex index store from.next change (Replaces r.found (named_as (with_added added r.found) r.found) (entries_in index store))
+  ready change settles = record {
+    once = once_then change settles;
+    own = λ n foreign. own_then change settles n foreign.0 foreign.1;
+    makes = λ later stand stay. (ready_then change settles later stand stay).0;
+    no_other = λ later stand stay n foreign. (ready_then change settles later stand stay).1 n foreign.0 foreign.1;
+  }
 
 -- the way to the first key of a seat ends at its region
 pub seat_found : (index : IndexView) (store : StoreFacts) (i : ℕ) (seat : Seat) → IsIndexOn index store → IsSeatAt (entries_in index store) i seat → (found : Entry) (next : Option Key)
@@ -299,7 +344,7 @@ begin_same (b ∷ before) f x after key h = h
 pub ready_added : (index : IndexView) (store : StoreFacts) (i : ℕ) (seat : Seat) (first : Key) (change : ChangeView) → index.last < 2 ^ 128 → index.levels ≤ 16 → page_count store < 4294967296
     → IsIndexOn index store → IsReachedOnce index store → IsSeatAt (entries_in index store) i seat → IsWithinSeat index.last seat.first seat.next first
     → IsPrepared index store seat.first (Some (added_at first store)) (page_count store) (so_far [] (page_count store + 1)) change
-    → MakesIndex index store change (Replaces (entry_at seat) (entry_at seat ∷ added_at first store ∷ []) (entries_in index store))
+    → MakesIndex index store (page_count store + 1) change (Replaces (entry_at seat) (entry_at seat ∷ added_at first store ∷ []) (entries_in index store))
 ready_added index store i seat first change small high few is own at within (middle, told, turns, settles) =
     let added : Option Entry = Some (added_at first store) in
     let whole = root_entry index.last store.pages index.root index.levels is.some few own is.under_it in
@@ -317,7 +362,7 @@ ready_added index store i seat first change small high few is own at within (mid
     (subst (λ (xs : List Entry). first_or xs None ≡ Some origin) parts (under_first index.last store.pages index.levels (top index.root) None is.under_it)) in
     let made = ready index small is.some high store seat.first (Some (added_at first store)) (so_far [] (page_count store + 1)) middle told (omega arith) refl is own few r (fine_at r.found r.next r.leads) begins
     change settles in
-    subst (λ (e : Entry). MakesIndex index store change (Replaces e (e ∷ added_at first store ∷ []) (entries_in index store))) found.0 made
+    subst (λ (e : Entry). MakesIndex index store (page_count store + 1) change (Replaces e (e ∷ added_at first store ∷ []) (entries_in index store))) found.0 made
   where
     some_page : (level : ℕ) → 1 ≤ level → IsUnder index.last store.pages level (top index.root) None → 1 ≤ page_count store
     some_page zero l u = absurd (omega arith)

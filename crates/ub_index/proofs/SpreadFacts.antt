@@ -10,13 +10,13 @@ use Rattle.ub_page.specs.declared.entries.Entry.{Entry}
 use Rattle.ub_region.proofs.Laws.{all_left, all_right}
 use Rattle.ub_table.specs.declared.row.Key.{Key}
 use Rattle.ub_index.specs.Changed.{IsTold, StandOn}
-use Rattle.ub_index.specs.Changing.{AreOnce, IsUnspelled, NamesPage, Spelled, Spreads, Stand, named_as, sheet_of}
+use Rattle.ub_index.specs.Changing.{AreOnce, IsNoNew, IsOutside, IsUnspelled, NamesPage, Spelled, Spreads, Stand, named_as, sheet_of}
 use Rattle.ub_index.specs.Index.{pages_under, first_or, page_in, AscendTo}
 use Rattle.ub_index.specs.declared.sheet.Sheet.{Sheet}
 use Rattle.ub_index.specs.declared.told.Told.{Told}
 use Rattle.ub_index.specs.declared.told.Told.TheVariants.{Same, Gone, One, Two}
 use Rattle.ub_index.proofs.FitFacts.{page_is}
-use Rattle.ub_index.proofs.Numbers.{IsNoNew, IsOutside, distinct_cons, distinct_put, outside_put}
+use Rattle.ub_index.proofs.Numbers.{distinct_cons, distinct_put, outside_put}
 use Rattle.ub_index.proofs.Lists.{ascend_left, ascend_right}
 
 abbrev pub node : ℕ → List Entry → Node

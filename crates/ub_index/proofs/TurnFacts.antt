@@ -10,7 +10,7 @@ use Rattle.ub_page.specs.declared.entries.Entry.{Entry}
 use Rattle.ub_region.proofs.Laws.{all_append, all_both, all_left, all_more, all_right}
 use Rattle.ub_table.specs.declared.row.Key.{Key}
 use Rattle.ub_index.specs.Changed.{PagesStay, Becomes, IsTold, Stays}
-use Rattle.ub_index.specs.Changing.{AreOnce, IsFine, IsUnspelled, Mends, Spelled, Spreads, Stand, StayBut, Turns, named_as, with_added}
+use Rattle.ub_index.specs.Changing.{AreOnce, IsFine, IsNoNew, IsOutside, IsUnspelled, Mends, Spelled, Spreads, Stand, StayBut, Turns, named_as, with_added}
 use Rattle.ub_index.specs.Fitting.{FallsTo}
 use Rattle.ub_index.specs.Index.{entries_of, first_or, page_in, AscendTo, EachTo, IsUnder, pages_under}
 use Rattle.ub_index.specs.Way.{LeadsTo}
@@ -19,7 +19,7 @@ use Rattle.ub_index.specs.declared.told.Told.{Told}
 use Rattle.ub_index.specs.declared.told.Told.TheVariants.{Same, Gone, One, Two}
 use Rattle.ub_index.proofs.Changes.{kept_named, not_before, same_entries, stays}
 use Rattle.ub_index.proofs.Lists.{ascend_join, ascend_later, ascend_left, ascend_right, each_right}
-use Rattle.ub_index.proofs.Numbers.{IsNoNew, IsOutside, StandApart, apart_swap, distinct_apart, distinct_cons, distinct_first, distinct_join, distinct_left, distinct_rest, distinct_right, kept_pages_list, no_new_left, no_new_right, once_join, outside_less, within_store}
+use Rattle.ub_index.proofs.Numbers.{StandApart, apart_swap, distinct_apart, distinct_cons, distinct_first, distinct_join, distinct_left, distinct_rest, distinct_right, kept_pages_list, no_new_left, no_new_right, once_join, outside_less, within_store}
 use Rattle.ub_index.proofs.SpreadFacts.{ToldOn, new_sheets, one_pages, pages_among, pages_own, spread_apart, spread_named, spread_next, spread_once, spread_outside, spread_sheets, stand_told, told_spread}
 
 -- what a change makes of an entry: which region's entry it turns at, the pages that it spells, and what holds on all later pages on

@@ -1,6 +1,6 @@
 -- A change of an index: the entry of the region that holds a key goes, or another one comes behind it; and which pages are spelled
 -- anew on the way to it, as far as what stands there fits.
-use Rattle.std.specs.Prelude.{◌≡◌, ◌≢◌, ◌≤◌, ◌<◌, ◌+◌, ◌++◌, ℕ, zero, suc, IsTrue, List, [], ◌∷◌, Option, Some, None, Result, IfOk, IfErr, length, take, drop, slice_get}
+use Rattle.std.specs.Prelude.{◌≡◌, ◌≢◌, ◌≤◌, ◌<◌, ◌+◌, ◌++◌, ◌⊎◌, ℕ, zero, suc, IsTrue, List, [], ◌∷◌, Option, Some, None, Result, IfOk, IfErr, length, take, drop, slice_get}
 use Rattle.std.specs.List.{AllByRecursion}
 use Rattle.ub_index.specs.Changed.{BeginFrom}
 use Rattle.ub_index.specs.Fitting.{FallsTo}
@@ -133,6 +133,14 @@ pub record Prepares {A : Type 0} (last level : ℕ) (key : Key) (entry : Entry) 
     (result : Result A IndexFault) : Type 0 where
   pub same : new ≡ record old { store = store_after result old.store; cached = new.cached }
   pub faults : IfErr result (IsTurnFault last old.store key level entry end next)
+
+-- this number is none of those
+abbrev pub IsOutside : ℕ → List ℕ → Type 0
+IsOutside n numbers = AllByRecursion (λ m. n ≢ m) numbers
+
+-- this number is none of those that are new from one on up to another
+abbrev pub IsNoNew : ℕ → ℕ → ℕ → Type 0
+IsNoNew from to n = (n < from) ⊎ (to ≤ n)
 
 -- no page is spelled under this number
 abbrev pub IsUnspelled : ℕ → List Sheet → Type 0

@@ -1,7 +1,7 @@
 -- A change of an index that is prepared: what it spells, and what the index is once that stands.
 use Rattle.std.specs.Prelude.{◌≡◌, ◌≤◌, ◌<◌, ◌+◌, ◌++◌, ◌⊎◌, ℕ, nat_eq, IsTrue, List, [], ◌∷◌, Option, Some, None, IfSome, Result, IfErr}
 use Rattle.std.specs.List.{IsDistinct}
-use Rattle.ub_index.specs.Changing.{AreOnce, Spelled, Stand, StayBut, Turns, sheet_of, so_far}
+use Rattle.ub_index.specs.Changing.{AreOnce, IsNoNew, IsOutside, IsUnspelled, Spelled, Stand, StayBut, Turns, sheet_of, so_far}
 use Rattle.ub_index.specs.Index.{IsUnder, pages_under, top, under}
 use Rattle.ub_index.specs.Searching.{store_after}
 use Rattle.ub_index.specs.View.{IndexView, Stops}
@@ -75,13 +75,19 @@ pub record IsIndexThen (last : ℕ) (later : List (List ℕ)) (root levels : ℕ
   pub reached : IsDistinct nat_eq (0 ∷ pages_under later levels (top root))
   pub entries_are : Are (under later levels (top root))
 
--- a change spells no page twice, and makes an index on all pages on which what it spells stands, and the other pages of the old one as
--- they were
-abbrev pub MakesIndex : IndexView → StoreFacts → ChangeView → (List Entry → Type 0) → Type 0
-MakesIndex index old change Are =
-    AreOnce change.sheets
-    × ((later : List (List ℕ)) → Stand later change.sheets → StayBut old.pages later change.sheets (pages_of_index index old)
-    → IsIndexThen index.last later change.root change.levels Are)
+-- the page of this number isn't one of the old index, nor one of those that a change brings, the first of which has the number `from`
+abbrev pub IsForeign : IndexView → StoreFacts → ℕ → ChangeView → ℕ → Type 0
+IsForeign index old from change n = IsNoNew from change.next n × IsOutside n (pages_of_index index old)
+
+-- a change spells no page twice, and none but those of the old index and those that it brings; and on all pages on which what it
+-- spells stands, and the other pages of the old index as they were, it makes an index, which has no other pages either
+pub record MakesIndex (index : IndexView) (old : StoreFacts) (from : ℕ) (change : ChangeView) (Are : List Entry → Type 0) : Type 0 where
+  pub once : AreOnce change.sheets
+  pub own : (n : ℕ) → IsForeign index old from change n → IsUnspelled n change.sheets
+  pub makes : (later : List (List ℕ)) → Stand later change.sheets → StayBut old.pages later change.sheets (pages_of_index index old)
+      → IsIndexThen index.last later change.root change.levels Are
+  pub no_other : (later : List (List ℕ)) → Stand later change.sheets → StayBut old.pages later change.sheets (pages_of_index index old)
+      → (n : ℕ) → IsForeign index old from change n → IsOutside n (pages_under later change.levels (top change.root))
 
 -- the entry of the region of a seat
 abbrev pub entry_at : Seat → Entry

@@ -190,7 +190,8 @@ impl Index {
             → IsReachedOnce self.now pager.old.store
             → IsSeatAt (entries_in self.now pager.old.store) i seat.now
             → IsWithinSeat self.now.last seat.now.first seat.now.next first.now
-            → IfOk result (λ c. MakesIndex self.now pager.old.store c (Replaces (entry_at seat.now)
+            → IfOk result (λ c. MakesIndex self.now pager.old.store
+            (page_count pager.old.store + 1) c (Replaces (entry_at seat.now)
             (entry_at seat.now ∷ added_at first.now pager.old.store ∷ [])
             (entries_in self.now pager.old.store))) }
         ensures effect { PreparesAll self.now seat.now.first
@@ -226,7 +227,7 @@ impl Index {
             → IsReachedOnce self.now pager.old.store
             → IsSeatAt (entries_in self.now pager.old.store) i seat.now
             → IsBefore origin seat.now.first
-            → IfOk result (λ c. MakesIndex self.now pager.old.store c
+            → IfOk result (λ c. MakesIndex self.now pager.old.store (page_count pager.old.store) c
             (Replaces (entry_at seat.now) [] (entries_in self.now pager.old.store))) }
         ensures low { (i : ℕ) → IsIndexOn self.now pager.old.store
             → IsReachedOnce self.now pager.old.store

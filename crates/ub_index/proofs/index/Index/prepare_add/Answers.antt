@@ -18,7 +18,7 @@ returns-clause-ready g c = λ i is own at within.
     if_ok c.prepare.result
     (IsPrepared c.args.self.now c.args.pager.now.store c.args.seat.now.first (Some (added_at c.args.first.now c.args.pager.now.store)) (page_count c.args.pager.now.store)
     (so_far [] (page_count c.args.pager.now.store + 1)))
-    (λ change. MakesIndex c.args.self.now c.args.pager.now.store change (Replaces (entry_at c.args.seat.now) (entry_at c.args.seat.now ∷ added_at c.args.first.now c.args.pager.now.store ∷ [])
+    (λ change. MakesIndex c.args.self.now c.args.pager.now.store (page_count c.args.pager.now.store + 1) change (Replaces (entry_at c.args.seat.now) (entry_at c.args.seat.now ∷ added_at c.args.first.now c.args.pager.now.store ∷ [])
     (entries_in c.args.self.now c.args.pager.now.store)))
     (λ (change : ChangeView) made.
     ready_added c.args.self.now c.args.pager.now.store i c.args.seat.now c.args.first.now change c.prepare.ensures.bounds.0 c.prepare.ensures.bounds.1 (search rules) is own at within made)

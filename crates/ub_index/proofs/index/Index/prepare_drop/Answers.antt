@@ -19,7 +19,7 @@ returns-clause-ready g c = λ i is own at later.
     search (rules, honest) in
     let lowers : IfOk c.lowered.result (LowersTo c.args.pager.now.store.pages c.in_ok-change.change) = search (rules, honest) in
     if_ok c.lowered.result (LowersTo c.args.pager.now.store.pages c.in_ok-change.change)
-    (λ change. MakesIndex c.args.self.now c.args.pager.now.store change (Replaces (entry_at c.args.seat.now) [] (entries_in c.args.self.now c.args.pager.now.store)))
+    (λ change. MakesIndex c.args.self.now c.args.pager.now.store (page_count c.args.pager.now.store) change (Replaces (entry_at c.args.seat.now) [] (entries_in c.args.self.now c.args.pager.now.store)))
     (λ (change : ChangeView) lowered.
     dropped_makes c.args.self.now c.args.pager.now.store i c.args.seat.now c.in_ok-change.ensures.bounds.0 c.in_ok-change.ensures.bounds.1 (search rules) is own at later c.in_ok-change.change
     change first.0 first.1 first.2 first.3 lowered)
