@@ -1,16 +1,22 @@
 -- How a change goes a level down and back up.
-use Rattle.std.proofs.Common.{◌≡◌, ◌<◌, ◌-◌, ℕ, zero, suc, List, Option, Some, None, Result, Ok, Err, IfOk, ◌∙◌, sym, ap, subst, refl, arith}
+use Rattle.std.proofs.Common.{inl, inr, [], ◌∷◌, ◌++◌, ◌+◌, ◌≤◌, length, IfErr, ◌≡◌, ◌<◌, ◌-◌, ℕ, zero, suc, List, Option, Some, None, Result, Ok, Err, IfOk, ◌∙◌, sym, ap, subst, refl, arith}
+use Rattle.std.proofs.lemmas.Bool.{cases_lt}
 use Rattle.std.specs.Result.{IsErrAnd}
 use Rattle.ub_page.specs.declared.entries.Entry.{Entry}
 use Rattle.ub_store.specs.Facts.{StoreFacts, IsHonest}
 use Rattle.ub_store.specs.View.{PagerView}
 use Rattle.ub_store.specs.declared.fault.StoreFault.TheVariants as store
 use Rattle.ub_table.specs.declared.row.Key.{Key}
-use Rattle.ub_index.specs.Changing.{Mends, OpensTo, Prepares, Spelled, Turns, IsTurnFault}
+use Rattle.ub_index.specs.Changing.{IsAtMostOne, IsSpreadFault, Mends, NeedsNoGrowth, OpensTo, Prepares, Spelled, Turns, IsTurnFault}
 use Rattle.ub_index.specs.Descending.{IsStepFault, Steps, StepsTo}
+use Rattle.ub_index.specs.Fitting.{FallsTo}
+use Rattle.ub_index.specs.Index.{entries_of, NamesFitting}
+use Rattle.ub_index.specs.Way.{EndsFull}
 use Rattle.ub_index.specs.declared.fault.IndexFault.{IndexFault}
 use Rattle.ub_index.specs.declared.fault.IndexFault.TheVariants.{Full, Page, Store}
 use Rattle.ub_index.specs.declared.told.Told.{Told}
+use Rattle.ub_index.specs.declared.told.Told.TheVariants.{Same, Gone, One, Two}
+use Rattle.ub_index.proofs.FullFacts.{full_next, full_way}
 use Rattle.ub_index.proofs.SearchFacts.{err_is, failed, frame, pager_with, same_store}
 use Rattle.ub_index.proofs.WayFacts.{stops_here, stops_on}
 
@@ -55,6 +61,16 @@ open_refused T U last level key entry end next old new r e some is h = subst (λ
   faults = opened_fault last old.store key level entry end next e some h.faults;
 })
 
+-- the lowest pages on the way that are full, from a level more
+ends_on : (last : ℕ) (pages : List (List ℕ)) (key : Key) (level : ℕ) (entry below : Entry) (end after : Option Key) (next : ℕ) → 0 < level
+    → NamesFitting last pages level entry end × FallsTo key (entries_of pages entry.page) end below after
+    → (full : ℕ) × EndsFull last pages key (level - 1) below after full × (4294967295 < next + full)
+    → (full : ℕ) × EndsFull last pages key level entry end full × (4294967295 < next + full)
+ends_on last pages key zero entry below end after next some step h = absurd (omega arith)
+ends_on last pages key (suc level) entry below end after next some step (full, ends, more) =
+    let one : suc level - 1 ≡ level = omega arith in
+    (full, inr (step.0, below, after, step.1, subst (λ (n : ℕ). EndsFull last pages key n below after full) one ends), more)
+
 -- and so is why the change is refused below it
 below_fault : (last : ℕ) (old : StoreFacts) (key : Key) (level : ℕ) (entry below : Entry) (end after : Option Key) (next : ℕ) (e : IndexFault) → 0 < level
     → (IsHonest old → StepsTo last old key level entry end below after) → IsTurnFault last old key (level - 1) below after next e → IsTurnFault last old key level entry end next e
@@ -64,7 +80,10 @@ below_fault last old key level entry below end after next (Store store.Memory) s
 below_fault last old key level entry below end after next (Store store.Device) some step h = h
 below_fault last old key level entry below end after next (Store store.NoPage) some step h =
     (h.0, h.1, λ honest. stops_on old old refl last key level entry below end after h.0 None some (step honest) (h.2 honest))
-below_fault last old key level entry below end after next (Store store.BadSize) some step h = omega arith
+below_fault last old key level entry below end after next (Store store.BadSize) some step h = (
+  (let more = h.0 in omega arith),
+  λ honest. ends_on last old.pages key level entry below end after next some ((step honest).named, (step honest).falls) (h.1 honest),
+)
 below_fault last old key level entry below end after next Full some step h = h
 
 pub below_refused : (T U : Type 0) (last level : ℕ) (key : Key) (entry below : Entry) (end after : Option Key) (next : ℕ) (old mid new : PagerView) (r : Result T IndexFault) (e : IndexFault)
@@ -76,3 +95,54 @@ below_refused T U last level key entry below end after next old mid new r e some
       faults = below_fault last old.store key level entry below end after next e some step
           (subst (λ (s : StoreFacts). IsTurnFault last s key (level - 1) below after next e) stores h.faults);
     })
+
+longer : (before : List Entry) (below : Entry) (after : List Entry) → length (before ++ (below ∷ after)) ≡ length before + length after + 1
+longer [] below after = omega arith
+longer (b ∷ before) below after = let more = longer before below after in omega arith
+
+-- where the lowest pages are all full, and this one is, there is one more
+full_here : (last : ℕ) (pages : List (List ℕ)) (key : Key) (added : Option Entry) (level : ℕ) (entry : Entry) (end : Option Key) (before : List Entry) (below : Entry) (next : Option Key)
+    (after : List Entry) (from middle : Spelled) (left right : Entry) → 0 < level → OpensTo last pages key level entry end before below next after
+    → Turns last pages key added (level - 1) below next from middle (Two left right) → 168 < length before + length after → 4294967295 ≤ middle.next
+    → (full : ℕ) × EndsFull last pages key level entry end full × (4294967295 < from.next + full)
+full_here last pages key added zero entry end before below next after from middle left right some o turns long more = absurd (omega arith)
+full_here last pages key added (suc level) entry end before below next after from middle left right some o turns long more =
+    let one : suc level - 1 ≡ level = omega arith in
+    let turn : Turns last pages key added level below next from middle (Two left right) = subst (λ (n : ℕ). Turns last pages key added n below next from middle (Two left right)) one turns in
+    let way = full_way last pages key added level below next from middle left right turn in
+    let next_is = full_next last pages key added level below next from middle left right turn in
+    let parts : entries_of pages entry.page ≡ before ++ (below ∷ after) =
+    o.falls.parts ∙ (ap (λ (xs : List Entry). xs ++ (below ∷ o.falls.after)) o.before_is ∙ ap (λ (xs : List Entry). before ++ (below ∷ xs)) o.after_is) in
+    let few : length (entries_of pages entry.page) ≤ 170 = o.named.fits.is.is.few in
+    let count : length (entries_of pages entry.page) ≡ length before + length after + 1 = ap (λ (xs : List Entry). length xs) parts ∙ longer before below after in
+    (suc level, inl (refl, (o.named, omega arith, below, next, o.falls, way)), omega arith)
+
+pub mend_refused : (last level : ℕ) (key : Key) (added : Option Entry) (entry : Entry) (end : Option Key) (before : List Entry) (below : Entry) (next : Option Key) (after : List Entry)
+    (from middle : Spelled) (news : Told) (old new : PagerView) (r : Result Told IndexFault) → 0 < level → middle.next ≤ from.next + (level - 1)
+    → (IsHonest old.store → OpensTo last old.store.pages key level entry end before below next after)
+    → (IsHonest old.store → Turns last old.store.pages key added (level - 1) below next from middle news)
+    → new ≡ record old { store = old.store; cached = new.cached } → IfErr r (IsSpreadFault middle) → (IsAtMostOne news → NeedsNoGrowth r)
+    → (length before + length after + 2 ≤ 170 → NeedsNoGrowth r) → Prepares last level key entry end from.next old new r
+mend_refused last level key added entry end before below next after from middle news old new (Ok told) some few opens turns same h narrow fits = record { same = same; faults = tt }
+mend_refused last level key added entry end before below next after from middle news old new (Err (Page n fault)) some few opens turns same h narrow fits = absurd h
+mend_refused last level key added entry end before below next after from middle news old new (Err Full) some few opens turns same h narrow fits = absurd h
+mend_refused last level key added entry end before below next after from middle news old new (Err (Store store.Memory)) some few opens turns same h narrow fits =
+    record { same = same; faults = tt }
+mend_refused last level key added entry end before below next after from middle news old new (Err (Store store.Device)) some few opens turns same h narrow fits = absurd h
+mend_refused last level key added entry end before below next after from middle news old new (Err (Store store.NoPage)) some few opens turns same h narrow fits = absurd h
+mend_refused last level key added entry end before below next after from middle news old new (Err (Store store.BadSize)) some few opens turns same h narrow fits =
+    record { same = same; faults = (omega arith, λ honest. by_news news narrow (opens honest) (turns honest)) }
+  where
+    long : 168 < length before + length after
+    long = elim (cases_lt 168 (length before + length after)) [
+      | inl more ↦ more
+      | inr less ↦ absurd (fits (omega arith)).1
+    ]
+
+    by_news : (t : Told) → (IsAtMostOne t → NeedsNoGrowth (Err (Store store.BadSize))) → OpensTo last old.store.pages key level entry end before below next after
+        → Turns last old.store.pages key added (level - 1) below next from middle t
+        → (full : ℕ) × EndsFull last old.store.pages key level entry end full × (4294967295 < from.next + full)
+    by_news Same slim o turn = absurd (slim tt).1
+    by_news Gone slim o turn = absurd (slim tt).1
+    by_news (One other) slim o turn = absurd (slim tt).1
+    by_news (Two left right) slim o turn = full_here last old.store.pages key added level entry end before below next after from middle left right some o turn long h

@@ -23,9 +23,9 @@ use Rattle.ub_index.specs.declared.seat.Seat.{Seat}
 use Rattle.ub_index.specs.declared.sheet.Sheet.{Sheet}
 use Rattle.ub_index.specs.declared.told.Told.{Told}
 use Rattle.ub_index.specs.declared.told.Told.TheVariants.{Same, Gone, One, Two}
-use Rattle.ub_index.specs.Way.{IsFullWay}
 use Rattle.ub_index.proofs.Changes.{same_page}
 use Rattle.ub_index.proofs.FitFacts.{page_is}
+use Rattle.ub_index.proofs.FullFacts.{mended_few}
 use Rattle.ub_index.proofs.Numbers.{differs, distinct_cons, distinct_first, distinct_rest}
 use Rattle.ub_index.proofs.OrderFacts.{under_first}
 use Rattle.ub_index.proofs.ReadyFacts.{entry_is, made_one, root_entry, seat_found}
@@ -38,28 +38,6 @@ spread_narrow level entry entries from to Same few h = (tt, ap (λ (s : Spelled)
 spread_narrow level entry entries from to Gone few h = (tt, ap (λ (s : Spelled). s.next) h.1)
 spread_narrow level entry entries from to (One other) few h = (tt, ap (λ (s : Spelled). s.next) h.3)
 spread_narrow level entry entries from to (Two left right) few h = let full = h.0 in absurd (omega arith)
-
--- where one entry became one or none, there are no more than there were
-pub mended_few : (before : List Entry) (below : Entry) (after : List Entry) (news : Told) → IsAtMostOne news → length (before ++ (below ∷ after)) ≤ 170
-    → length (before ++ (named_as news below ++ after)) ≤ 170
-mended_few [] below after Same narrow few = few
-mended_few [] below after Gone narrow few = omega arith
-mended_few [] below after (One other) narrow few = few
-mended_few [] below after (Two left right) narrow few = absurd narrow
-mended_few (b ∷ before) below after news narrow few = longer (length (before ++ (below ∷ after))) (length (before ++ (named_as news below ++ after))) (less before) few
-  where
-    less : (bs : List Entry) → length (bs ++ (named_as news below ++ after)) ≤ length (bs ++ (below ∷ after))
-    less [] = by_news news narrow
-      where
-        by_news : (t : Told) → IsAtMostOne t → length (named_as t below ++ after) ≤ length (below ∷ after)
-        by_news Same n = omega arith
-        by_news Gone n = omega arith
-        by_news (One other) n = omega arith
-        by_news (Two left right) n = absurd n
-    less (x ∷ bs) = let more = less bs in omega arith
-
-    longer : (m n : ℕ) → n ≤ m → suc m ≤ 170 → suc n ≤ 170
-    longer m n le k = omega arith
 
 -- a region's entry that goes needs no page more
 narrow : (last : ℕ) (old : List (List ℕ)) (key : Key) (level : ℕ) (entry : Entry) (end : Option Key) (from to : Spelled) (told : Told)
@@ -292,32 +270,3 @@ dropped_effect T index last key old mid new change (Err e) lasts stores traces m
   same = frame {T = T} (Err e) old mid new stores traces h.same;
   faults = (no_growth last mid.store change e h.faults, inr (change, made, subst (λ (l : ℕ). IsLowerFault l old.store change e) lasts (subst (λ (s : StoreFacts). IsLowerFault last s change e) stores h.faults)));
 }
-
-one_longer : (before : List Entry) (below left right : Entry) (after : List Entry) → length (before ++ (left ∷ right ∷ after)) ≡ suc (length (before ++ (below ∷ after)))
-one_longer [] below left right after = refl
-one_longer (b ∷ before) below left right after = ap (λ (n : ℕ). suc n) (one_longer before below left right after)
-
--- an entry becomes two only where each page on the way is full
-pub full_way : (last : ℕ) (old : List (List ℕ)) (key : Key) (added : Option Entry) (level : ℕ) (entry : Entry) (end : Option Key) (from to : Spelled) (left right : Entry)
-    → Turns last old key added level entry end from to (Two left right) → IsFullWay last old key level entry end
-full_way last old key added zero entry end from to left right h = tt
-full_way last old key added (suc level) entry end from to left right (named, below, next, falls, middle, news, turns, mends) =
-    by_news news (λ l r turn. full_way last old key added level below next from middle l r turn) turns mends
-  where
-    few : length (falls.before ++ (below ∷ falls.after)) ≤ 170
-    few = subst (λ (xs : List Entry). length xs ≤ 170) falls.parts named.fits.is.is.few
-
-    not_narrow : (t : Told) → IsAtMostOne t → length (falls.before ++ (named_as t below ++ falls.after)) ≡ 171 → ⊥
-    not_narrow t n full = let less = mended_few falls.before below falls.after t n few in omega arith
-
-    by_news : (t : Told) → ((l r : Entry) → Turns last old key added level below next from middle (Two l r) → IsFullWay last old key level below next)
-        → Turns last old key added level below next from middle t → Mends (suc level) entry falls.before below falls.after t middle to (Two left right)
-        → IsFullWay last old key (suc level) entry end
-    by_news Same below_it turn m = let no : Two left right ≡ Same = m.0 in cc
-    by_news Gone below_it turn m = absurd (not_narrow Gone tt m.0)
-    by_news (One other) below_it turn m = absurd (not_narrow (One other) tt m.0)
-    by_news (Two l r) below_it turn m =
-        let full : length (falls.before ++ (l ∷ r ∷ falls.after)) ≡ 171 = m.0 in
-        let more = one_longer falls.before below l r falls.after in
-        let long : length (falls.before ++ (below ∷ falls.after)) ≡ 170 = omega arith in
-        (named, subst (λ (xs : List Entry). length xs ≡ 170) (sym falls.parts) long, below, next, falls, below_it l r turn)

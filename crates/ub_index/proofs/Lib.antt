@@ -15,4 +15,5 @@ pub mod TurnFacts
 pub mod ReadyFacts
 pub mod LowerFacts
 pub mod DropFacts
+pub mod FullFacts
 pub mod PutFacts

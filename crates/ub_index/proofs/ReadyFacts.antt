@@ -2,6 +2,7 @@
 use Rattle.std.proofs.Common.{◌≡◌, ◌≢◌, ◌≤◌, ◌<◌, ◌+◌, ◌^◌, ◌++◌, inl, inr, ℕ, zero, suc, nat_eq, List, [], ◌∷◌, Option, Some, None, Result, Ok, Err, IfErr, length, slice_get, ◌∙◌, sym, ap, subst, refl, arith}
 use Rattle.std.proofs.lemmas.List.{append-nil}
 use Rattle.std.proofs.lemmas.Option.{slice_get_within}
+use Rattle.std.specs.Result.{IsErrAnd}
 use Rattle.std.specs.List.{AllByRecursion, IsDistinct, flat_map}
 use Rattle.ub_directory.specs.Spans.{first_keys}
 use Rattle.ub_page.specs.Entries.{IsEntry}
@@ -14,10 +15,10 @@ use Rattle.ub_table.proofs.Laws.{not_before_self}
 use Rattle.ub_table.specs.Keys.{origin}
 use Rattle.ub_table.specs.declared.row.Key.{Key}
 use Rattle.ub_index.specs.Changed.{Becomes, Replaces, Stays}
-use Rattle.ub_index.specs.Changing.{AreOnce, IsFine, IsNoNew, IsOutside, IsTurnFault, IsUnspelled, NamesPage, Spelled, Stand, StayBut, named_as, sheet_of, so_far, with_added}
+use Rattle.ub_index.specs.Changing.{AreOnce, IsFine, IsNoNew, IsOutside, IsTurnFault, IsUnspelled, NamesPage, Spelled, Stand, StayBut, named_as, sheet_of, so_far, with_added, Prepares}
 use Rattle.ub_index.specs.Index.{entries_of, first_or, page_in, pages_under, AscendTo, EachTo, IsUnder, under, top}
-use Rattle.ub_index.specs.Preparing.{ChangeView, IsChangeFault, IsIndexThen, IsPrepared, IsReachedOnce, MakesIndex, IsSettleFault, IsWithinSeat, PreparesAll, Settles, TurnsRoot, added_at, change_view, entry_at, pages_of_index}
-use Rattle.ub_index.specs.View.{IndexView, IsIndexOn, IsSeatAt, entries_in}
+use Rattle.ub_index.specs.Preparing.{ChangeView, IsChangeFault, IsIndexThen, IsPrepared, IsReachedOnce, MakesIndex, IsSettleFault, IsWithinSeat, PreparesAll, Settles, TurnsRoot, added_at, change_view, entry_at, pages_of_index, HasFullWay}
+use Rattle.ub_index.specs.View.{IndexView, IsIndexOn, IsSeatAt, entries_in, index_view}
 use Rattle.ub_index.specs.Way.{LeadsTo}
 use Rattle.ub_index.specs.declared.fault.IndexFault.{IndexFault}
 use Rattle.ub_index.specs.declared.fault.IndexFault.TheVariants.{Full, Page, Store}
@@ -26,50 +27,84 @@ use Rattle.ub_index.specs.declared.sheet.Sheet.{Sheet}
 use Rattle.ub_index.specs.declared.told.Told.{Told}
 use Rattle.ub_index.specs.declared.told.Told.TheVariants.{Same, Gone, One, Two}
 use Rattle.ub_index.proofs.Changes.{replaced, stays, told_index}
+use Rattle.ub_index.proofs.FullFacts.{all_end, full_next, full_way}
 use Rattle.ub_index.proofs.Numbers.{distinct_cons, distinct_first, distinct_rest, no_new_left, once_join, outside_less, within_store}
 use Rattle.ub_index.proofs.OrderFacts.{first_through, under_first}
 use Rattle.ub_index.proofs.PlaceFacts.{index_of_first, seat_first, up}
+use Rattle.ub_index.proofs.SearchFacts.{err_is, pager_with, same_store}
 use Rattle.ub_index.proofs.SpreadFacts.{node_so, told_on}
 use Rattle.ub_index.proofs.TurnFacts.{Risen, rises, unspelled_left}
 use Rattle.ub_index.proofs.WayFacts.{seat_is}
 
+-- where the root becomes two, each page on the way is full, and one is taken for each
+settled_two : (index : IndexView) (old : StoreFacts) (key : Key) (added : Option Entry) (from to : Spelled) (told : Told) (left right : Entry) → told ≡ Two left right
+    → TurnsRoot index old key added from to told → HasFullWay index old key × (to.next ≡ from.next + index.levels)
+settled_two index old key added from to told left right is turns =
+    let two = subst (λ (t : Told). TurnsRoot index old key added from to t) is turns in (
+      full_way index.last old.pages key added index.levels (top index.root) None from to left right two,
+      full_next index.last old.pages key added index.levels (top index.root) None from to left right two,
+    )
+
 -- why the root can't be left so is why the change is refused
 settle_fault : (index : IndexView) (old : StoreFacts) (key : Key) (added : Option Entry) (from to : Spelled) (told : Told) (e : IndexFault) → to.next ≤ from.next + index.levels
-    → (IsHonest old → TurnsRoot index old key added from to told) → IsSettleFault index.root index.levels told to e → IsChangeFault index old key added from e
-settle_fault index old key added from to told (Store store.Memory) few turns h = tt
-settle_fault index old key added from to told (Store store.Device) few turns h = absurd h
-settle_fault index old key added from to told (Store store.NoPage) few turns h = absurd h
-settle_fault index old key added from to told (Store store.BadSize) few turns h = omega arith
-settle_fault index old key added from to told (Page n fault) few turns h = λ honest.
+    → to.next ≤ 4294967295 → (IsHonest old → TurnsRoot index old key added from to told) → IsSettleFault index.root index.levels told to e → IsChangeFault index old key added from e
+settle_fault index old key added from to told (Store store.Memory) few room turns h = tt
+settle_fault index old key added from to told (Store store.Device) few room turns h = absurd h
+settle_fault index old key added from to told (Store store.NoPage) few room turns h = absurd h
+settle_fault index old key added from to told (Store store.BadSize) few room turns h = (
+  (let more = h.0 in omega arith),
+  inr (λ honest. let two = settled_two index old key added from to told h.2 h.3 h.4 (turns honest) in
+      let more = h.0 in
+      let next = two.1 in
+      (index.levels + 1, (index.levels, all_end index.last old.pages key index.levels (top index.root) None two.0, inr (refl, h.1, refl)), omega arith)),
+)
+settle_fault index old key added from to told (Page n fault) few room turns h = λ honest.
     inr (h.0, h.1, to, subst (λ (t : Told). TurnsRoot index old key added from to t) h.2 (turns honest))
-settle_fault index old key added from to told Full few turns h = (
+settle_fault index old key added from to told Full few room turns h = (
   h.0,
-  λ honest.
-      (to, h.1, h.2, subst (λ (t : Told). TurnsRoot index old key added from to t) h.3 (turns honest)),
+  λ honest. let two = settled_two index old key added from to told h.1 h.2 h.3 (turns honest) in
+      let next = two.1 in
+      let all = h.0 in
+      (two.0, omega arith),
 )
 
 pub settled_all : (T U : Type 0) (index : IndexView) (key : Key) (added : Option Entry) (from to : Spelled) (old new : PagerView) (told : Told) (r : Result U IndexFault)
-    → to.next ≤ from.next + index.levels → (IsHonest old.store → TurnsRoot index old.store key added from to told)
+    → to.next ≤ from.next + index.levels → to.next ≤ 4294967295 → (IsHonest old.store → TurnsRoot index old.store key added from to told)
     → new ≡ record old { store = old.store; cached = new.cached } → IfErr r (IsSettleFault index.root index.levels told to) → PreparesAll index key added from old new r
-settled_all T U index key added from to old new told (Ok x) few turns same h = record { same = same; faults = tt }
-settled_all T U index key added from to old new told (Err (Page n fault)) few turns same h =
-    record { same = same; faults = settle_fault index old.store key added from to told (Page n fault) few turns h }
-settled_all T U index key added from to old new told (Err Full) few turns same h = record { same = same; faults = settle_fault index old.store key added from to told Full few turns h }
-settled_all T U index key added from to old new told (Err (Store store.Memory)) few turns same h = record { same = same; faults = tt }
-settled_all T U index key added from to old new told (Err (Store store.Device)) few turns same h = absurd h
-settled_all T U index key added from to old new told (Err (Store store.NoPage)) few turns same h = absurd h
-settled_all T U index key added from to old new told (Err (Store store.BadSize)) few turns same h =
-    record { same = same; faults = settle_fault index old.store key added from to told (Store store.BadSize) few turns h }
+settled_all T U index key added from to old new told (Ok x) few room turns same h = record { same = same; faults = tt }
+settled_all T U index key added from to old new told (Err (Page n fault)) few room turns same h =
+    record { same = same; faults = settle_fault index old.store key added from to told (Page n fault) few room turns h }
+settled_all T U index key added from to old new told (Err Full) few room turns same h = record { same = same; faults = settle_fault index old.store key added from to told Full few room turns h }
+settled_all T U index key added from to old new told (Err (Store store.Memory)) few room turns same h = record { same = same; faults = tt }
+settled_all T U index key added from to old new told (Err (Store store.Device)) few room turns same h = absurd h
+settled_all T U index key added from to old new told (Err (Store store.NoPage)) few room turns same h = absurd h
+settled_all T U index key added from to old new told (Err (Store store.BadSize)) few room turns same h =
+    record { same = same; faults = settle_fault index old.store key added from to told (Store store.BadSize) few room turns h }
 
 -- and so is why it doesn't go down or up
-pub turn_fault : (index : IndexView) (old : StoreFacts) (key : Key) (added : Option Entry) (from : Spelled) (e : IndexFault)
+turn_fault : (index : IndexView) (old : StoreFacts) (key : Key) (added : Option Entry) (from : Spelled) (e : IndexFault)
     → IsTurnFault index.last old key index.levels (top index.root) None from.next e → IsChangeFault index old key added from e
 turn_fault index old key added from (Store store.Memory) h = tt
 turn_fault index old key added from (Store store.Device) h = h
 turn_fault index old key added from (Store store.NoPage) h = h
-turn_fault index old key added from (Store store.BadSize) h = omega arith
+turn_fault index old key added from (Store store.BadSize) h = (
+  (let more = h.0 in omega arith),
+  inr (λ honest. let ends = h.1 honest in (ends.0, (ends.0, ends.1, inl refl), ends.2)),
+)
 turn_fault index old key added from (Page n fault) h = λ honest. inl (h honest)
 turn_fault index old key added from Full h = absurd h
+
+turn_refused_at : (T U : Type 0) (index : IndexView) (key : Key) (added : Option Entry) (from : Spelled) (old new : PagerView) (r : Result T IndexFault) (e : IndexFault)
+    → IsErrAnd r (λ x. x ≡ e) → Prepares {A = U} index.last index.levels key (top index.root) None from.next old new (Err e) → PreparesAll index key added from old new r
+turn_refused_at T U index key added from old new r e is h = subst (λ (x : Result T IndexFault). PreparesAll index key added from old new x) (sym (err_is r e is)) (record {
+  same = h.same ∙ ap (λ (s : StoreFacts). pager_with s old.trace new.cached) (same_store T U e old.store);
+  faults = turn_fault index old.store key added from e h.faults;
+})
+
+pub turn_refused : (T U : Type 0) (root levels last : ℕ) (index : IndexView) (key : Key) (added : Option Entry) (from : Spelled) (old new : PagerView) (r : Result T IndexFault) (e : IndexFault)
+    → index_view root levels last ≡ index → IsErrAnd r (λ x. x ≡ e) → Prepares {A = U} last levels key (top root) None from.next old new (Err e) → PreparesAll index key added from old new r
+turn_refused T U root levels last index key added from old new r e view is h =
+    subst (λ (i : IndexView). PreparesAll i key added from old new r) view (turn_refused_at T U (index_view root levels last) key added from old new r e is h)
 
 pub entry_is : (entry : Entry) (first : Key) (page : ℕ) → entry.first ≡ first → entry.page ≡ page → entry ≡ record { first = first; page = page }
 entry_is entry first page h k =

@@ -6,7 +6,7 @@ use Rattle.ub_index.specs.Changed.{BeginFrom}
 use Rattle.ub_index.specs.Fitting.{FallsTo}
 use Rattle.ub_index.specs.Index.{first_or, entries_of, AscendTo, NamesFitting}
 use Rattle.ub_index.specs.Searching.{store_after}
-use Rattle.ub_index.specs.Way.{StopsAt}
+use Rattle.ub_index.specs.Way.{EndsFull, StopsAt}
 use Rattle.ub_index.specs.declared.fault.IndexFault.{IndexFault}
 use Rattle.ub_index.specs.declared.fault.IndexFault.TheVariants.{Full, Page, Store}
 use Rattle.ub_index.specs.declared.sheet.Sheet.{Sheet}
@@ -117,13 +117,15 @@ pub record OpensTo (last : ℕ) (pages : List (List ℕ)) (key : Key) (level : �
   pub after_is : falls.after ≡ after
 
 -- why a change is refused that goes down to the key from an entry of this level, where the next page would have this number: as a
--- search is, or since there would be too many pages
+-- search is, or since there would be too many pages, with one more for each of the lowest that are full
 abbrev pub IsTurnFault : ℕ → StoreFacts → Key → ℕ → Entry → Option Key → ℕ → IndexFault → Type 0
 IsTurnFault last old key level entry end next (Store store.Memory) = Unit {0}
 IsTurnFault last old key level entry end next (Store store.Device) = IsTrue old.can_fail
 IsTurnFault last old key level entry end next (Store store.NoPage) =
     (n : ℕ) × (page_count old ≤ n) × (IsHonest old → StopsAt last old.pages key level entry end n None)
-IsTurnFault last old key level entry end next (Store store.BadSize) = 4294967295 < next + level
+IsTurnFault last old key level entry end next (Store store.BadSize) =
+    (4294967295 < next + level)
+    × (IsHonest old → (full : ℕ) × EndsFull last old.pages key level entry end full × (4294967295 < next + full))
 IsTurnFault last old key level entry end next (Page n fault) = IsHonest old → StopsAt last old.pages key level entry end n (Some fault)
 IsTurnFault last old key level entry end next Full = ⊥
 

@@ -1,6 +1,7 @@
 -- A change of an index that is prepared: what it spells, and what the index is once that stands.
 use Rattle.std.specs.Prelude.{◌≡◌, ◌≤◌, ◌<◌, ◌+◌, ◌++◌, ◌⊎◌, ℕ, nat_eq, IsTrue, List, [], ◌∷◌, Option, Some, None, IfSome, Result, IfErr}
 use Rattle.std.specs.List.{IsDistinct}
+use Rattle.ub_index.specs.Way.{EndsFull, IsFullWay}
 use Rattle.ub_index.specs.Changing.{AreOnce, IsNoNew, IsOutside, IsUnspelled, Spelled, Stand, StayBut, Turns, sheet_of, so_far}
 use Rattle.ub_index.specs.Index.{IsUnder, pages_under, top, under}
 use Rattle.ub_index.specs.Searching.{store_after}
@@ -53,7 +54,8 @@ Settles root levels (Two left right) start old change =
 -- is left
 abbrev pub IsSettleFault : ℕ → ℕ → Told → Spelled → IndexFault → Type 0
 IsSettleFault root levels told old (Store store.Memory) = Unit {0}
-IsSettleFault root levels told old (Store store.BadSize) = 4294967295 ≤ old.next
+IsSettleFault root levels told old (Store store.BadSize) =
+    (4294967295 ≤ old.next) × (levels < 16) × (left : Entry) × (right : Entry) × (told ≡ Two left right)
 IsSettleFault root levels told old (Store fault) = ⊥
 IsSettleFault root levels told old (Page n fault) = (n ≡ root) × (fault ≡ BadCount) × (told ≡ Gone)
 IsSettleFault root levels told old Full = (levels ≡ 16) × (left : Entry) × (right : Entry) × (told ≡ Two left right)
@@ -104,20 +106,40 @@ pub record IsWithinSeat (last : ℕ) (seat_first : Key) (next : Option Key) (fir
   pub z : first.z ≤ last
   pub number : first.number ≤ MAX_ROW_NUMBER
 
--- why a change isn't prepared: as a search to the key is refused; BadSize, where the store would have too many pages; Full, where the
--- root would get a level that there isn't; and BadCount of the root, where no region would be left
+-- from the root each page on the way to the key is full
+abbrev pub HasFullWay : IndexView → StoreFacts → Key → Type 0
+HasFullWay index store key = IsFullWay index.last store.pages key index.levels (top index.root) None
+
+-- an index needs n pages more at least where a region comes behind that of the key: one for each of the lowest pages on the way that are
+-- full, and one for a new root, where all are, and there may be a level more
+abbrev pub NeedsPages : IndexView → StoreFacts → Key → ℕ → Type 0
+NeedsPages index store key n =
+    (full : ℕ) × EndsFull index.last store.pages key index.levels (top index.root) None full
+    × ((n ≡ full) ⊎ ((full ≡ index.levels) × (index.levels < 16) × (n ≡ full + 1)))
+
+-- an addition takes one page for the region, and those that the index needs, no more and no fewer; so many there may be; and where
+-- there can be no level more, not each page on the way is full
+pub record TakesNeeded (index : IndexView) (old : StoreFacts) (key : Key) (change : ChangeView) : Type 0 where
+  pub all : (n : ℕ) → NeedsPages index old key n → page_count old + 1 + n ≤ change.next
+  pub only : (n : ℕ) × NeedsPages index old key n × (change.next ≡ page_count old + 1 + n)
+  pub room : change.next ≤ 4294967295
+  pub level : index.levels ≡ 16 → ¬ (HasFullWay index old key)
+
+-- why a change isn't prepared: as a search to the key is refused; BadSize, where the store would have too many pages; Full, where it
+-- wouldn't, but the root would get a level that there isn't; and BadCount of the root, where no region would be left
 abbrev pub IsChangeFault : IndexView → StoreFacts → Key → Option Entry → Spelled → IndexFault → Type 0
 IsChangeFault index old key added from (Store store.Memory) = Unit {0}
 IsChangeFault index old key added from (Store store.Device) = IsTrue old.can_fail
 IsChangeFault index old key added from (Store store.NoPage) =
     (n : ℕ) × (page_count old ≤ n) × (IsHonest old → Stops index old key n None)
-IsChangeFault index old key added from (Store store.BadSize) = 4294967295 < from.next + (index.levels + 1)
+IsChangeFault index old key added from (Store store.BadSize) =
+    (4294967295 < from.next + (index.levels + 1))
+    × ((4294967295 < from.next) ⊎ (IsHonest old → (n : ℕ) × NeedsPages index old key n × (4294967295 < from.next + n)))
 IsChangeFault index old key added from (Page n fault) =
     IsHonest old → Stops index old key n (Some fault)
     ⊎ ((n ≡ index.root) × (fault ≡ BadCount) × (to : Spelled) × TurnsRoot index old key added from to Gone)
 IsChangeFault index old key added from Full =
-    (index.levels ≡ 16)
-    × (IsHonest old → (to : Spelled) × (left : Entry) × (right : Entry) × TurnsRoot index old key added from to (Two left right))
+    (index.levels ≡ 16) × (IsHonest old → HasFullWay index old key × (from.next + 16 ≤ 4294967295))
 
 -- a change that is prepared with this result: with the device's fault the store has one failed read more, and else nothing has changed
 -- but the pages that the pager holds

@@ -9,7 +9,7 @@ ghost use Rattle.ub_index.specs.Making.{IsPutFault, PutsSheets};
 ghost use Rattle.ub_store.specs.View.{SameTrace};
 ghost use Rattle.ub_index.specs.Index.{top};
 ghost use Rattle.ub_index.specs.Lowering.{IsDropped, MakesLow, PreparesDrop};
-ghost use Rattle.ub_index.specs.Preparing.{IsPrepared, IsReachedOnce, MakesIndex, IsWithinSeat, PreparesAll, added_at, entry_at};
+ghost use Rattle.ub_index.specs.Preparing.{IsPrepared, IsReachedOnce, MakesIndex, IsWithinSeat, PreparesAll, TakesNeeded, added_at, entry_at};
 ghost use Rattle.ub_index.specs.Descending.{IsBoundary, Reaches};
 ghost use Rattle.ub_index.specs.Searching.{Gives, GivesAny, GivesAfter, IsFirstKeyOf, IsFrom, IsSought, GoesDown, at_least, end_before, key_before, region_of};
 ghost use Rattle.ub_index.specs.View.{IsIndexOn, IsSeatAt, IsNextSeat, IsPreviousSeat, entries_in, index_view};
@@ -174,8 +174,10 @@ impl Index {
     /// Prepares that a region comes behind that of a seat, with this first key, on a page that the store gets first. Nothing is
     /// written.
     ///
-    /// Refused as `seat_of` is, on the way to the seat's first key; with BadSize of the store where it would have more than 4294967295
-    /// pages; with Full where all 16 levels are full on that way. Index and store are then as they were.
+    /// Refused as `seat_of` is, on the way to the seat's first key. With BadSize of the store exactly where it would have more than
+    /// 4294967295 pages: the region takes one, each page of 170 entries on that way one, from the lowest up to the first that has
+    /// fewer, and a new root one, where all are full. With Full exactly where that is room enough, and all 16 levels are full on that
+    /// way. Index and store are then as they were.
     pub fn prepare_add<S: PageStore>(
         &self,
         alloc: Global,
@@ -186,6 +188,8 @@ impl Index {
         ensures made { IsHonest pager.old.store → IfOk result (IsPrepared self.now pager.old.store
             seat.now.first (Some (added_at first.now pager.old.store)) (page_count pager.old.store)
             (so_far [] (page_count pager.old.store + 1))) }
+        ensures takes { IsHonest pager.old.store → IfOk result
+            (TakesNeeded self.now pager.old.store seat.now.first) }
         ensures ready { (i : ℕ) → IsIndexOn self.now pager.old.store
             → IsReachedOnce self.now pager.old.store
             → IsSeatAt (entries_in self.now pager.old.store) i seat.now

@@ -26,11 +26,14 @@ pub struct Sheets {
 }
 
 impl Model for Sheets {
+    ghost use Rattle.std.specs.Prelude.{◌≤◌};
     ghost use Rattle.ub_index.specs.Changing.{Spelled, so_far};
 
     ghost Value = { Spelled };
 
     ghost view = { λ s. so_far s.all.items s.next };
+
+    ghost invariant = { λ s. s.next ≤ 4294967295 };
 }
 
 impl Sheets {
@@ -162,6 +165,8 @@ impl Sheets {
         ensures told { IfOk result (Mends level entry.now before.items below.now after.now news
             self.old self.new) }
         ensures narrow { IsAtMostOne news → NeedsNoGrowth result }
+        ensures fits { length before.items + length after.now + 2 ≤ MAX_ENTRIES
+            → NeedsNoGrowth result }
         ensures refused { IfErr result (IsSpreadFault self.old) }
     {
         if is_unchanged(&news) {

@@ -1,4 +1,4 @@
-use Rattle.ub_index.proofs.DropFacts.{full_way}
+use Rattle.ub_index.proofs.FullFacts.{full_way}
 use Rattle.ub_index.proofs.law.full_ways_part.Goals as goal
 
 pub returns : goal.returns

@@ -1,11 +1,11 @@
-use Rattle.std.proofs.Common.{◌-◌, List, ap, arith, subst, sym}
-use Rattle.ub_index.specs.Changing.{Mends, Turns}
+use Rattle.std.proofs.Common.{◌+◌, ◌-◌, ◌≤◌, length, List, ap, arith, rules, subst, sym}
+use Rattle.ub_index.specs.Changing.{Mends, NeedsNoGrowth, Turns}
 use Rattle.ub_index.specs.declared.told.Told.{Told}
 use Rattle.ub_index.specs.declared.turning.Opened.{Opened}
 use Rattle.ub_page.specs.declared.entries.Entry.{Entry}
 use Rattle.ub_store.specs.Facts.{StoreFacts, IsHonest}
 use Rattle.ub_store.specs.View.{PagerView}
-use Rattle.ub_index.proofs.ClimbFacts.{below_refused, open_refused, turned_so, turns_on}
+use Rattle.ub_index.proofs.ClimbFacts.{below_refused, mend_refused, open_refused, turned_so, turns_on}
 use Rattle.ub_index.proofs.turning.+turn.Goals as goal
 
 pub returns-in_err-opened-clause-effect : goal.returns-in_err-opened-clause-effect
@@ -37,3 +37,15 @@ returns-clause-turned g t c = λ honest.
     (subst (λ (xs : List Entry). Mends c.args.level c.args.place.now.entry c.in_ok-opened.opened.before.items c.in_ok-opened.opened.below.entry xs c.in_ok-news.news c.turn.new.sheets c.mend.new.self told)
     c.deref.ensures.value mends))
     c.mend.ensures.told
+
+pub returns-clause-effect : goal.returns-clause-effect
+returns-clause-effect g t c =
+    mend_refused c.args.last c.args.level c.args.aim.now.key c.args.aim.now.added c.args.place.now.entry c.args.place.now.next c.in_ok-opened.opened.before.items
+    c.in_ok-opened.opened.below.entry c.in_ok-opened.opened.below.next c.in_ok-opened.opened.after.items c.args.sheets.now c.turn.new.sheets c.in_ok-news.news c.args.pager.now c.turn.new.pager
+    c.mend.result (omega (arith, c.if-level-eq0.false)) (c.in_ok-news.ensures.few).1 (λ honest. c.in_ok-opened.ensures.opened honest)
+    (λ honest.
+    let same = ap (λ (p : PagerView). p.store) c.in_ok-opened.ensures.effect.same in
+    subst (λ (s : StoreFacts). Turns c.args.last s.pages c.args.aim.now.key c.args.aim.now.added (c.args.level - 1) c.in_ok-opened.opened.below.entry c.in_ok-opened.opened.below.next c.args.sheets.now
+    c.turn.new.sheets c.in_ok-news.news) same (c.in_ok-news.ensures.turned (subst (λ (s : StoreFacts). IsHonest s) (sym same) honest)))
+    (search rules) c.mend.ensures.refused c.mend.ensures.narrow
+    (subst (λ (xs : List Entry). length c.in_ok-opened.opened.before.items + length xs + 2 ≤ 170 → NeedsNoGrowth c.mend.result) c.deref.ensures.value c.mend.ensures.fits)
