@@ -16,4 +16,5 @@ pub mod ReadyFacts
 pub mod LowerFacts
 pub mod DropFacts
 pub mod FullFacts
+pub mod MadeFacts
 pub mod PutFacts

@@ -1,15 +1,20 @@
 -- What holds of every index, and what a change of one entry does to the whole. Each is what the function of its name in `law` ensures.
 use Rattle.std.specs.Prelude.{◌≡◌, ◌≤◌, ◌<◌, ◌^◌, ◌++◌, ℕ, nat_eq, List, Option, IfSome, length}
-use Rattle.std.specs.List.{flat_map, IsDistinct}
+use Rattle.std.specs.List.{AllByRecursion, flat_map, IsDistinct}
+use Rattle.ub_directory.specs.Writing.{Grows}
 use Rattle.ub_index.specs.Index.{AscendTo, IsUnder, under, pages_under}
 use Rattle.ub_index.specs.Changed.{PagesStay, Becomes, BeginFrom, Replaces, Stays}
 use Rattle.ub_index.specs.Changing.{IsFine, Spelled, Stand, StayBut, Turns, named_as, with_added}
+use Rattle.ub_index.specs.Making.{IsMade, PutsSheets, StayOutside}
+use Rattle.ub_index.specs.Preparing.{ChangeView, IsForeign, MakesIndex}
+use Rattle.ub_index.specs.View.{IndexView, IsIndexOn, entries_in}
 use Rattle.ub_index.specs.Way.{IsFullWay, LeadsTo, StopsAt}
 use Rattle.ub_index.specs.declared.sheet.Sheet.{Sheet}
 use Rattle.ub_index.specs.declared.told.Told.{Told}
 use Rattle.ub_index.specs.declared.told.Told.TheVariants.{Two}
 use Rattle.ub_page.specs.Entries.{IsEntry}
 use Rattle.ub_page.specs.declared.entries.Entry.{Entry}
+use Rattle.ub_store.specs.Facts.{StoreFacts, IsHonest}
 use Rattle.ub_table.specs.Keys.{IsBefore}
 use Rattle.ub_table.specs.declared.fault.PageFault.{PageFault}
 use Rattle.ub_table.specs.declared.row.Key.{Key}
@@ -62,3 +67,16 @@ abbrev pub FullWaysPart : Type 0
 FullWaysPart = (last : ℕ) (old : List (List ℕ)) (key : Key) (added : Option Entry) (level : ℕ) (entry : Entry) (end : Option Key)
     (from to : Spelled) (left right : Entry) → Turns last old key added level entry end from to (Two left right)
     → IsFullWay last old key level entry end
+
+-- the pages under an entry are pages of the store
+abbrev pub PagesAreThere : Type 0
+PagesAreThere = (last : ℕ) (pages : List (List ℕ)) (level : ℕ) (entry : Entry) (end : Option Key) → IsUnder last pages level entry end
+    → AllByRecursion (λ n. n < length pages) (pages_under pages level entry)
+
+-- where a change makes an index of that on the old store, it is made once the store has grown, pages of regions have been put, none of
+-- which is one of the old index or one that the change brings, and then the pages that it spells
+abbrev pub ChangeIsMade : Type 0
+ChangeIsMade = (index : IndexView) (old grown filled new : StoreFacts) (from : ℕ) (change : ChangeView) (f : Entry) (fs : List Entry) (numbers : List ℕ)
+    → IsIndexOn index old → MakesIndex index old from change (Replaces f fs (entries_in index old)) → Grows old grown
+    → StayOutside numbers grown.pages filled.pages → AllByRecursion (IsForeign index old from change) numbers → IsHonest filled → IsHonest new
+    → PutsSheets change.sheets filled new → Stand new.pages change.sheets → IsMade index old from change f fs filled new

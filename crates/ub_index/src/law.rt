@@ -1,4 +1,4 @@
-ghost use Rattle.ub_index.specs.Laws.{ChangeReplaces, ChangeKeepsOrder, FullWaysPart, OthersStay, TurnsBecome, WaysNeverStop, WholeAscends};
+ghost use Rattle.ub_index.specs.Laws.{ChangeIsMade, ChangeReplaces, ChangeKeepsOrder, FullWaysPart, OthersStay, PagesAreThere, TurnsBecome, WaysNeverStop, WholeAscends};
 
 /// What an entry leads to is in order.
 pub fn whole_ascends()
@@ -33,4 +33,14 @@ pub fn turns_become()
 /// A page is parted only where each page on the way to the region is full.
 pub fn full_ways_part()
     ensures { FullWaysPart }
+{}
+
+/// The pages of an index are pages of the store.
+pub fn pages_are_there()
+    ensures { PagesAreThere }
+{}
+
+/// A change that is prepared is made once the store has grown, the regions' pages are put, and then the pages that it spells.
+pub fn change_is_made()
+    ensures { ChangeIsMade }
 {}

@@ -1,0 +1,44 @@
+-- A change that is made: the store grows, the regions' pages are put, and then those that are spelled.
+use Rattle.std.proofs.Common.{◌<◌, ◌∙◌, ℕ, List, [], ◌∷◌, None}
+use Rattle.std.specs.List.{AllByRecursion}
+use Rattle.ub_directory.specs.Writing.{Grows}
+use Rattle.ub_page.specs.declared.entries.Entry.{Entry}
+use Rattle.ub_region.proofs.Laws.{all_more}
+use Rattle.ub_store.specs.Facts.{StoreFacts, IsHonest, page_count}
+use Rattle.ub_index.specs.Changed.{Replaces}
+use Rattle.ub_index.specs.Changing.{IsOutside, Stand, StayBut}
+use Rattle.ub_index.specs.Index.{top}
+use Rattle.ub_index.specs.Making.{IsMade, PutsSheets, StayOutside}
+use Rattle.ub_index.specs.Preparing.{ChangeView, IsForeign, IsIndexThen, MakesIndex, pages_of_index}
+use Rattle.ub_index.specs.View.{IndexView, IsIndexOn, entries_in}
+use Rattle.ub_index.specs.declared.sheet.Sheet.{Sheet}
+use Rattle.ub_index.proofs.Numbers.{StandApart, apart_swap, within_store}
+
+-- pages that there were stay, but for those that are spelled, where none of them is put in between
+stays : (old grown filled new : StoreFacts) (sheets : List Sheet) (numbers ns : List ℕ) → IsHonest old → IsHonest filled → Grows old grown
+    → StayOutside numbers grown.pages filled.pages → PutsSheets sheets filled new → AllByRecursion (λ n. IsOutside n numbers) ns → AllByRecursion (λ n. n < page_count old) ns
+    → StayBut old.pages new.pages sheets ns
+stays old grown filled new sheets numbers [] honest good grows others puts apart less = tt
+stays old grown filled new sheets numbers (n ∷ ns) honest good grows others puts apart less = (
+  λ free. puts.others good n free ∙ (others n apart.0 ∙ grows.kept honest n less.0),
+  stays old grown filled new sheets numbers ns honest good grows others puts apart.1 less.1,
+)
+
+pub made : (index : IndexView) (old grown filled new : StoreFacts) (from : ℕ) (change : ChangeView) (f : Entry) (fs : List Entry) (numbers : List ℕ) → IsIndexOn index old
+    → MakesIndex index old from change (Replaces f fs (entries_in index old)) → Grows old grown → StayOutside numbers grown.pages filled.pages
+    → AllByRecursion (IsForeign index old from change) numbers → IsHonest filled → IsHonest new → PutsSheets change.sheets filled new → Stand new.pages change.sheets
+    → IsMade index old from change f fs filled new
+made index old grown filled new from change f fs numbers is makes grows others foreign honest honest_new puts stand =
+    let apart : StandApart numbers (pages_of_index index old) =
+    all_more (IsForeign index old from change) (λ n. IsOutside n (pages_of_index index old)) (λ n h. h.1) numbers foreign in
+    let stay : StayBut old.pages new.pages change.sheets (pages_of_index index old) =
+    stays old grown filled new change.sheets numbers (pages_of_index index old) is.honest honest grows others puts (apart_swap numbers (pages_of_index index old) apart)
+    (within_store index.last old.pages index.levels (top index.root) None is.under_it) in
+    let done : IsIndexThen index.last new.pages change.root change.levels (Replaces f fs (entries_in index old)) = makes.makes new.pages stand stay in
+    record {
+      is = record { honest = honest_new; some = done.low; under_it = done.under_it };
+      reached = done.reached;
+      entries_are = done.entries_are;
+      no_other = makes.no_other new.pages stand stay;
+      kept = λ n h. puts.others honest n (makes.own n h);
+    }
