@@ -8,7 +8,7 @@ use Rattle.ub_store.specs.Facts.{StoreFacts, IsHonest, page_count}
 use Rattle.ub_index.specs.Changed.{Replaces}
 use Rattle.ub_index.specs.Changing.{IsOutside, Stand, StayBut}
 use Rattle.ub_index.specs.Index.{top}
-use Rattle.ub_index.specs.Making.{IsMade, PutsSheets, StayOutside}
+use Rattle.ub_index.specs.Making.{IsCommitted, PutsSheets, StayOutside}
 use Rattle.ub_index.specs.Preparing.{ChangeView, IsForeign, IsIndexThen, MakesIndex, pages_of_index}
 use Rattle.ub_index.specs.View.{IndexView, IsIndexOn, entries_in}
 use Rattle.ub_index.specs.declared.sheet.Sheet.{Sheet}
@@ -27,7 +27,7 @@ stays old grown filled new sheets numbers (n ∷ ns) honest good grows others pu
 pub made : (index : IndexView) (old grown filled new : StoreFacts) (from : ℕ) (change : ChangeView) (f : Entry) (fs : List Entry) (numbers : List ℕ) → IsIndexOn index old
     → MakesIndex index old from change (Replaces f fs (entries_in index old)) → Grows old grown → StayOutside numbers grown.pages filled.pages
     → AllByRecursion (IsForeign index old from change) numbers → IsHonest filled → IsHonest new → PutsSheets change.sheets filled new → Stand new.pages change.sheets
-    → IsMade index old from change f fs filled new
+    → IsCommitted index old from change f fs filled new
 made index old grown filled new from change f fs numbers is makes grows others foreign honest honest_new puts stand =
     let apart : StandApart numbers (pages_of_index index old) =
     all_more (IsForeign index old from change) (λ n. IsOutside n (pages_of_index index old)) (λ n h. h.1) numbers foreign in

@@ -5,7 +5,7 @@ use Rattle.ub_directory.specs.Writing.{Grows}
 use Rattle.ub_index.specs.Index.{AscendTo, IsUnder, under, pages_under}
 use Rattle.ub_index.specs.Changed.{PagesStay, Becomes, BeginFrom, Replaces, Stays}
 use Rattle.ub_index.specs.Changing.{IsFine, Spelled, Stand, StayBut, Turns, named_as, with_added}
-use Rattle.ub_index.specs.Making.{IsMade, PutsSheets, StayOutside}
+use Rattle.ub_index.specs.Making.{IsCommitted, PutsSheets, StayOutside}
 use Rattle.ub_index.specs.Preparing.{ChangeView, IsForeign, MakesIndex}
 use Rattle.ub_index.specs.View.{IndexView, IsIndexOn, entries_in}
 use Rattle.ub_index.specs.Way.{IsFullWay, LeadsTo, StopsAt}
@@ -79,4 +79,4 @@ abbrev pub ChangeIsMade : Type 0
 ChangeIsMade = (index : IndexView) (old grown filled new : StoreFacts) (from : ℕ) (change : ChangeView) (f : Entry) (fs : List Entry) (numbers : List ℕ)
     → IsIndexOn index old → MakesIndex index old from change (Replaces f fs (entries_in index old)) → Grows old grown
     → StayOutside numbers grown.pages filled.pages → AllByRecursion (IsForeign index old from change) numbers → IsHonest filled → IsHonest new
-    → PutsSheets change.sheets filled new → Stand new.pages change.sheets → IsMade index old from change f fs filled new
+    → PutsSheets change.sheets filled new → Stand new.pages change.sheets → IsCommitted index old from change f fs filled new

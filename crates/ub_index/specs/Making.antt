@@ -45,7 +45,7 @@ changed index change = record index { root = change.root; levels = change.levels
 -- a change of an index is made: on the store stands the index that it tells, each page of which is reached once; in its list of regions
 -- fs stand where f stood; and each page that isn't one of the old index, nor one that the change brings, is none of the new index, and
 -- is as it was before the change was put
-pub record IsMade (index : IndexView) (old : StoreFacts) (from : ℕ) (change : ChangeView) (f : Entry) (fs : List Entry) (filled new : StoreFacts) : Type 0 where
+pub record IsCommitted (index : IndexView) (old : StoreFacts) (from : ℕ) (change : ChangeView) (f : Entry) (fs : List Entry) (filled new : StoreFacts) : Type 0 where
   pub is : IsIndexOn (changed index change) new
   pub reached : IsReachedOnce (changed index change) new
   pub entries_are : Replaces f fs (entries_in index old) (entries_in (changed index change) new)
