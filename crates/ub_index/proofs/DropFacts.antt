@@ -235,6 +235,7 @@ module _ (index : IndexView) (store : StoreFacts) (i : ℕ) (seat : Seat) (small
 
   pub dropped_makes : MakesIndex index store (page_count store) change (Replaces (entry_at seat) [] (entries_in index store))
   dropped_makes = record {
+    start = ap (λ (c : ChangeView). c.start) lowers.same ∙ ap (λ (c : ChangeView). c.start) one_told.1;
     once = subst (λ (xs : List Sheet). AreOnce xs) (sym sheets_are) r.once;
     own = λ n foreign. subst (λ (xs : List Sheet). IsUnspelled n xs) (sym sheets_are) (r.outside n (none_new n) foreign.1);
     makes = λ later stand stay.

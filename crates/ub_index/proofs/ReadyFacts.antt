@@ -342,9 +342,19 @@ module _ (index : IndexView) (small : index.last < 2 ^ 128) (low : 1 ≤ index.l
           (all_right (λ (s : Sheet). slice_get later s.number ≡ Some s.page) r.sheets (sheet_of middle.next (index.levels + 1) (left ∷ right ∷ []) ∷ []) stand_all) in
           subst (λ (c : ChangeView). IsMade index store from.next c.next later c.root c.levels (Replaces r.found (named_as (with_added added r.found) r.found) (entries_in index store))) (sym h.2) made
 
+  start_then : (change : ChangeView) → Settles index.root index.levels told (page_count store) middle change → change.start ≡ page_count store
+  start_then change settles = by_told told settles
+    where
+      by_told : (t : Told) → Settles index.root index.levels t (page_count store) middle change → change.start ≡ page_count store
+      by_told Same h = ap (λ (c : ChangeView). c.start) h
+      by_told Gone h = absurd h
+      by_told (One other) h = ap (λ (c : ChangeView). c.start) h
+      by_told (Two left right) h = ap (λ (c : ChangeView). c.start) h.2
+
   pub ready : (change : ChangeView) → Settles index.root index.levels told (page_count store) middle change
       → MakesIndex index store from.next change (Replaces r.found (named_as (with_added added r.found) r.found) (entries_in index store))
   ready change settles = record {
+    start = start_then change settles;
     once = once_then change settles;
     own = λ n foreign. own_then change settles n foreign.0 foreign.1;
     makes = λ later stand stay. (ready_then change settles later stand stay).0;

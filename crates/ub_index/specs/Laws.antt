@@ -5,7 +5,7 @@ use Rattle.ub_directory.specs.Writing.{Grows}
 use Rattle.ub_index.specs.Index.{AscendTo, IsUnder, under, pages_under}
 use Rattle.ub_index.specs.Changed.{PagesStay, Becomes, BeginFrom, Replaces, Stays}
 use Rattle.ub_index.specs.Changing.{IsFine, Spelled, Stand, StayBut, Turns, named_as, with_added}
-use Rattle.ub_index.specs.Making.{IsCommitted, PutsSheets, StayOutside}
+use Rattle.ub_index.specs.Making.{IsCommitted, IsPutFault, PutsSheets, StayOutside}
 use Rattle.ub_index.specs.Preparing.{ChangeView, IsForeign, MakesIndex}
 use Rattle.ub_index.specs.View.{IndexView, IsIndexOn, entries_in}
 use Rattle.ub_index.specs.Way.{IsFullWay, LeadsTo, StopsAt}
@@ -14,7 +14,8 @@ use Rattle.ub_index.specs.declared.told.Told.{Told}
 use Rattle.ub_index.specs.declared.told.Told.TheVariants.{Two}
 use Rattle.ub_page.specs.Entries.{IsEntry}
 use Rattle.ub_page.specs.declared.entries.Entry.{Entry}
-use Rattle.ub_store.specs.Facts.{StoreFacts, IsHonest}
+use Rattle.ub_store.specs.Facts.{StoreFacts, IsHonest, page_count}
+use Rattle.ub_store.specs.declared.fault.StoreFault.TheVariants as store
 use Rattle.ub_table.specs.Keys.{IsBefore}
 use Rattle.ub_table.specs.declared.fault.PageFault.{PageFault}
 use Rattle.ub_table.specs.declared.row.Key.{Key}
@@ -80,3 +81,9 @@ ChangeIsMade = (index : IndexView) (old grown filled new : StoreFacts) (from : �
     → IsIndexOn index old → MakesIndex index old from change (Replaces f fs (entries_in index old)) → Grows old grown
     → StayOutside numbers grown.pages filled.pages → AllByRecursion (IsForeign index old from change) numbers → IsHonest filled → IsHonest new
     → PutsSheets change.sheets filled new → Stand new.pages change.sheets → IsCommitted index old from change f fs filled new
+
+-- no page is missing that such a change spells, on a store that has so many pages as it takes
+abbrev pub ChangeHasPages : Type 0
+ChangeHasPages = (index : IndexView) (old filled : StoreFacts) (from : ℕ) (change : ChangeView) (f : Entry) (fs : List Entry)
+    → IsIndexOn index old → MakesIndex index old from change (Replaces f fs (entries_in index old)) → page_count old ≤ page_count filled → change.next ≤ page_count filled
+    → ¬ (IsPutFault change.sheets filled store.NoPage)

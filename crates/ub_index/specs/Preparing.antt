@@ -81,9 +81,11 @@ pub record IsIndexThen (last : ℕ) (later : List (List ℕ)) (root levels : ℕ
 abbrev pub IsForeign : IndexView → StoreFacts → ℕ → ChangeView → ℕ → Type 0
 IsForeign index old from change n = IsNoNew from change.next n × IsOutside n (pages_of_index index old)
 
--- a change spells no page twice, and none but those of the old index and those that it brings; and on all pages on which what it
--- spells stands, and the other pages of the old index as they were, it makes an index, which has no other pages either
+-- a change begins with as many pages as the store has, spells none twice, and none but those of the old index and those that it
+-- brings; and on all pages on which what it spells stands, and the other pages of the old index as they were, it makes an index, which
+-- has no other pages either
 pub record MakesIndex (index : IndexView) (old : StoreFacts) (from : ℕ) (change : ChangeView) (Are : List Entry → Type 0) : Type 0 where
+  pub start : change.start ≡ page_count old
   pub once : AreOnce change.sheets
   pub own : (n : ℕ) → IsForeign index old from change n → IsUnspelled n change.sheets
   pub makes : (later : List (List ℕ)) → Stand later change.sheets → StayBut old.pages later change.sheets (pages_of_index index old)

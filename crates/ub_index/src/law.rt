@@ -1,4 +1,4 @@
-ghost use Rattle.ub_index.specs.Laws.{ChangeIsMade, ChangeReplaces, ChangeKeepsOrder, FullWaysPart, OthersStay, PagesAreThere, TurnsBecome, WaysNeverStop, WholeAscends};
+ghost use Rattle.ub_index.specs.Laws.{ChangeHasPages, ChangeIsMade, ChangeReplaces, ChangeKeepsOrder, FullWaysPart, OthersStay, PagesAreThere, TurnsBecome, WaysNeverStop, WholeAscends};
 
 /// What an entry leads to is in order.
 pub fn whole_ascends()
@@ -43,4 +43,9 @@ pub fn pages_are_there()
 /// A change that is prepared is made once the store has grown, the regions' pages are put, and then the pages that it spells.
 pub fn change_is_made()
     ensures { ChangeIsMade }
+{}
+
+/// No page that a change spells is missing, once the store has grown.
+pub fn change_has_pages()
+    ensures { ChangeHasPages }
 {}
