@@ -177,7 +177,7 @@ impl Index {
     /// Refused as `seat_of` is, on the way to the seat's first key. With BadSize of the store exactly where it would have more than
     /// 4294967295 pages: the region takes one, each page of 170 entries on that way one, from the lowest up to the first that has
     /// fewer, and a new root one, where all are full. With Full exactly where that is room enough, and all 16 levels are full on that
-    /// way. Index and store are then as they were.
+    /// way. Where there is no page for the region, that is told before any is read. Index and store are then as they were.
     pub fn prepare_add<S: PageStore>(
         &self,
         alloc: Global,
