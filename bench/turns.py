@@ -4,13 +4,14 @@
 usage: bench/turns.py PROGRAM [PROGRAM..] [--rows N] [--xs N] [--rounds N] [--only WORD]      (default 200000 rows, 7 rounds)
 
 Each time is the least of the rounds, in each of which every program has its turn, since what else the machine does only adds. A query's
-time is that of a script which has it many times, less that of an empty script. The answers of all programs must be the same.
+time is that of a script which has it many times, less that of an empty script. The answers of all programs must be the same, but for the pages read.
 With --xs the first dimension has that many values, and the queries that ask for a range of it find no row. With --only just the
 queries whose names have the word are asked. Prints a table in Markdown, with a column for each program in the order given.
 """
 
 import argparse
 import hashlib
+import re
 import subprocess
 import sys
 import tempfile
@@ -48,10 +49,11 @@ QUERIES = [
 
 
 def run(words):
-    """The seconds that a command takes, and the hash of what it wrote."""
+    """The seconds that a command takes, and the hash of what it wrote but for the pages that it told."""
     start = time.perf_counter()
     done = subprocess.run(words, stdout=subprocess.PIPE, check=True)
-    return time.perf_counter() - start, hashlib.sha256(done.stdout).hexdigest()
+    took = time.perf_counter() - start
+    return took, hashlib.sha256(re.sub(rb", pages \d+", b"", done.stdout)).hexdigest()
 
 
 def least_by_turns(commands, rounds, name, same_answers=True):
