@@ -86,14 +86,14 @@ pub fn entry(listed: &Listed) -> Entry {
     }
 }
 
-// The page that is spelled so, of a level of at most 3 and six entries at most.
+// The page that is spelled so, of a level of at most 16 and six entries at most.
 fn spell(spelled: &Spelled, draft: &mut Draft) {
     let mut entries = [entry(&(0, 0, 0)); 6];
     let count = spelled.1.len().min(6);
     for i in 0..count {
         entries[i] = entry(&spelled.1[i]);
     }
-    write_index(&entries[..count], spelled.0.min(3), draft);
+    write_index(&entries[..count], spelled.0.min(16), draft);
 }
 
 // A store of these pages from 1 on, whose call of this number fails, behind a pager.
@@ -133,9 +133,9 @@ pub fn seat_in(flat: &[Listed], z: u128, number: u32) -> Option<Seat> {
 }
 
 // Whether each key of this address is found in the region that holds it.
-fn finds_at(index: &Index, pager: &mut Tried, z: u128) -> bool {
+fn finds_at(index: &Index, pager: &mut Tried, flat: &[Listed], z: u128) -> bool {
     for number in 0..7 {
-        if index.seat_of(pager, &Key { z, number }).ok() != seat_in(FLAT, z, number) {
+        if index.seat_of(pager, &Key { z, number }).ok() != seat_in(flat, z, number) {
             return false;
         }
     }
@@ -143,9 +143,9 @@ fn finds_at(index: &Index, pager: &mut Tried, z: u128) -> bool {
 }
 
 // Whether each key up to an address behind the last region's first is.
-fn finds_each(index: &Index, pager: &mut Tried) -> bool {
+pub fn finds_each(index: &Index, pager: &mut Tried, flat: &[Listed]) -> bool {
     for z in 0..40u32 {
-        if !finds_at(index, pager, u128::from(z)) {
+        if !finds_at(index, pager, flat, u128::from(z)) {
             return false;
         }
     }
@@ -153,7 +153,7 @@ fn finds_each(index: &Index, pager: &mut Tried) -> bool {
 }
 
 // The page of the seat that a call gives, or 0.
-fn page_of(given: Result<Option<Seat>, IndexFault>) -> u32 {
+pub fn page_of(given: Result<Option<Seat>, IndexFault>) -> u32 {
     match given {
         Ok(Some(seat)) => seat.page,
         _ => 0,
@@ -161,13 +161,13 @@ fn page_of(given: Result<Option<Seat>, IndexFault>) -> u32 {
 }
 
 // Whether each region has those for neighbours that are listed beside it.
-fn has_neighbours(index: &Index, pager: &mut Tried) -> bool {
-    for i in 0..FLAT.len() {
-        let Some(seat) = seat_in(FLAT, FLAT[i].0, FLAT[i].1) else {
+pub fn has_neighbours(index: &Index, pager: &mut Tried, flat: &[Listed]) -> bool {
+    for i in 0..flat.len() {
+        let Some(seat) = seat_in(flat, flat[i].0, flat[i].1) else {
             return false;
         };
-        let before = if i == 0 { 0 } else { FLAT[i - 1].2 };
-        let after = if i + 1 < FLAT.len() { FLAT[i + 1].2 } else { 0 };
+        let before = if i == 0 { 0 } else { flat[i - 1].2 };
+        let after = if i + 1 < flat.len() { flat[i + 1].2 } else { 0 };
         if page_of(index.before(pager, &seat)) != before {
             return false;
         }
@@ -226,8 +226,8 @@ fn is_index(alloc: Global, pages: &[Spelled], levels: u32) -> bool {
         return false;
     };
     let index = Index::new(pages.len().min(6) as u32, levels.max(1).min(3), 63);
-    finds_each(&index, &mut pager)
-        && has_neighbours(&index, &mut pager)
+    finds_each(&index, &mut pager, FLAT)
+        && has_neighbours(&index, &mut pager, FLAT)
         && meets_each(&index, &mut pager)
         && pager.trace().is_empty()
 }

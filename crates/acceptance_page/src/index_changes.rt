@@ -57,10 +57,47 @@ static CHANGES: &[Changed] = &[
         (1, 1),
         &[(0, 0, 100)],
     ),
+    // the only one of pages of three levels goes: three roots give way at once
+    (
+        &[
+            (1, &[(0, 0, 100)]),
+            (1, &[(20, 0, 101)]),
+            (2, &[(0, 0, 1)]),
+            (2, &[(20, 0, 2)]),
+            (3, &[(0, 0, 3)]),
+            (3, &[(20, 0, 4)]),
+            (4, &[(0, 0, 5), (20, 0, 6)]),
+        ],
+        4,
+        20,
+        None,
+        (1, 1),
+        &[(0, 0, 100)],
+    ),
+    // the same, and the root stays, since it names two pages yet
+    (
+        &[
+            (1, &[(0, 0, 100)]),
+            (1, &[(20, 0, 101)]),
+            (1, &[(30, 0, 102)]),
+            (2, &[(0, 0, 1)]),
+            (2, &[(20, 0, 2)]),
+            (2, &[(30, 0, 3)]),
+            (3, &[(0, 0, 4)]),
+            (3, &[(20, 0, 5)]),
+            (3, &[(30, 0, 6)]),
+            (4, &[(0, 0, 7), (20, 0, 8), (30, 0, 9)]),
+        ],
+        4,
+        20,
+        None,
+        (10, 4),
+        &[(0, 0, 100), (30, 0, 102)],
+    ),
 ];
 
 // What is prepared: that a region comes at this address behind that of a seat, or that it goes.
-fn prepared(
+pub fn prepared(
     alloc: Global,
     index: &Index,
     pager: &mut Tried,
@@ -74,7 +111,7 @@ fn prepared(
 }
 
 // Whether each region's first key leads to it.
-fn lists(index: &Index, pager: &mut Tried, flat: &[Listed]) -> bool {
+pub fn lists(index: &Index, pager: &mut Tried, flat: &[Listed]) -> bool {
     for listed in flat {
         let first = entry(listed).first;
         let seat = seat_in(flat, listed.0, listed.1);
@@ -86,7 +123,7 @@ fn lists(index: &Index, pager: &mut Tried, flat: &[Listed]) -> bool {
 }
 
 // Whether a change that is prepared leaves this root, and is made.
-fn is_made(index: &mut Index, pager: &mut Tried, change: &Change, root: (u32, u32)) -> bool {
+pub fn is_made(index: &mut Index, pager: &mut Tried, change: &Change, root: (u32, u32)) -> bool {
     change.root() == root && change.grow(pager).is_ok() && index.commit(pager, change).is_ok()
 }
 
@@ -95,7 +132,7 @@ fn changes(alloc: Global, changed: &Changed) -> bool {
     let Some(mut pager) = stored(alloc, changed.0, 0) else {
         return false;
     };
-    let mut index = Index::new(changed.0.len().min(6) as u32, changed.1.max(1).min(3), 63);
+    let mut index = Index::new(changed.0.len().min(16) as u32, changed.1.max(1).min(16), 63);
     let key = Key {
         z: changed.2,
         number: 0,
@@ -139,8 +176,8 @@ fn spell_full(level: u32, below: u32, draft: &mut Draft) {
 }
 
 // A store of a full page of each level, from page 1 on, each of which is the first that the next one
-// names; behind a pager.
-fn tower(alloc: Global, levels: u32) -> Option<Tried> {
+// names, whose call of this number fails; behind a pager.
+pub fn tower(alloc: Global, levels: u32, due: u64) -> Option<Tried> {
     let mut store = MemStore::new(alloc);
     let mut draft = Draft::new();
     if store.extend().is_err() {
@@ -156,7 +193,7 @@ fn tower(alloc: Global, levels: u32) -> Option<Tried> {
             return None;
         }
     }
-    Pager::new(alloc, FaultyStore::new(store, 0), NonZeroUsize::new(4)?).ok()
+    Pager::new(alloc, FaultyStore::new(store, due), NonZeroUsize::new(4)?).ok()
 }
 
 // What an addition at the key (0, 1) prepares in a tower of full pages.
@@ -168,7 +205,7 @@ fn added_to(alloc: Global, index: &Index, pager: &mut Tried) -> Result<Change, I
 // Whether a tower of so many full pages becomes one level higher by an addition, and each of the
 // regions of its lowest page is found.
 fn rises(alloc: Global, levels: u32, root: (u32, u32)) -> bool {
-    let Some(mut pager) = tower(alloc, levels) else {
+    let Some(mut pager) = tower(alloc, levels, 0) else {
         return false;
     };
     let mut index = Index::new(levels, levels.max(1).min(16), u128::MAX);
@@ -181,8 +218,8 @@ fn rises(alloc: Global, levels: u32, root: (u32, u32)) -> bool {
     }
 }
 
-// Whether the regions of the lowest page of a tower are found, and the one that was added.
-fn finds(index: &Index, pager: &mut Tried, added: u32) -> bool {
+// Whether the regions of the lowest page of a tower are found, and the key (0, 2) on this page.
+pub fn finds(index: &Index, pager: &mut Tried, added: u32) -> bool {
     for z in 0..170u32 {
         let key = Key {
             z: u128::from(z),
@@ -207,7 +244,7 @@ fn full_paths(rt: HostRuntime) {
 
 // Whether sixteen full levels refuse an addition, and the store has no page more.
 fn is_full(alloc: Global) -> bool {
-    let Some(mut pager) = tower(alloc, 16) else {
+    let Some(mut pager) = tower(alloc, 16, 0) else {
         return false;
     };
     let index = Index::new(16, 16, u128::MAX);

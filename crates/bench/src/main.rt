@@ -19,10 +19,15 @@
 // all rows in the order of a dimension, by a sweep, and in that of a measure that orders them alike, by a scan.
 //
 // `bench boxes N` makes the boxes of a condition of 64 comparisons and 4096 cells N times, and prints how many they were.
+//
+// `bench index N CALLS` puts such rows in, and prints the nanoseconds of a search at an address, and of the next region that meets a box of
+// a tenth of the space after one that does, in the directory and in an index of several levels of the same regions, the pages of which are
+// all held; and the checksums of so many answers, 100,000 where none is given.
 #![tactic(auto)]
 
 mod addresses;
 mod asking;
+mod beside;
 mod conditions;
 mod events;
 mod fill;
@@ -34,6 +39,7 @@ mod telling;
 mod timing;
 
 use addresses::{interleaved, spread_out};
+use beside::tell_beside;
 use conditions::boxes_of_many_cells;
 use events::events;
 use fill::{Filling, Order};
@@ -176,6 +182,10 @@ fn run(rt: &HostRuntime, words: &[Option<String>; 4]) -> io::Result<()> {
         "held" => tell(rt, filling(Order::Made, rows, 3), &CUBES),
         "count" => tell(rt, filling(Order::Made, rows, 3), &COUNTING),
         "orders" => tell(rt, filling(Order::Made, rows, 3), &ORDERS),
+        "index" => {
+            let calls = third.unwrap_or(100_000).min(u64::from(u32::MAX)) as u32;
+            tell_beside(rt, filling(Order::Made, rows, 3), calls)
+        },
         "boxes" => tell_boxes(rt, second.unwrap_or(1)),
         "pages" => tell_pages(rt, second.unwrap_or(2), third.unwrap_or(1)),
         _ => tell_checksums(

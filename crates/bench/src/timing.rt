@@ -8,7 +8,7 @@ use ub_planning::Plan;
 use ub_tetris::SweepFault;
 
 /// How often work is timed; the least counts, since what else the machine does only adds.
-const REPEATS: u32 = 5;
+pub const REPEATS: u32 = 5;
 
 /// What is done by a plan, and timed.
 #[derive(Clone, Copy)]
@@ -89,8 +89,8 @@ fn done(rt: &HostRuntime, tree: &mut MemTree, plan: &Plan, work: Work) -> Result
     Ok(told)
 }
 
-// The nanoseconds from then to now; none where the clock isn't there.
-fn since(rt: &HostRuntime, start: Option<Instant>) -> u128 {
+/// The nanoseconds from then to now; none where the clock isn't there.
+pub fn since(rt: &HostRuntime, start: Option<Instant>) -> u128 {
     let Some(start) = start else {
         return 0;
     };
