@@ -10,14 +10,6 @@ mod calls;
 #[cfg(test)]
 mod file;
 #[cfg(test)]
-mod index;
-#[cfg(test)]
-mod index_changes;
-#[cfg(test)]
-mod index_faults;
-#[cfg(test)]
-mod index_levels;
-#[cfg(test)]
 mod page;
 #[cfg(test)]
 mod page_masks;

@@ -1,8 +1,8 @@
 // An index of six levels with one to four entries a page, the leftmost pages of which are the roots
 // of indexes of one to five: each key, each neighbour, and all regions but the first dropped in
 // several orders.
-use crate::index::{Listed, Spelled, Tried, entry, finds_each, has_neighbours, page_of, stored};
-use crate::index_changes::is_made;
+use crate::changes::is_made;
+use crate::searches::{Listed, Spelled, Tried, entry, finds_each, has_neighbours, page_of, stored};
 use std::alloc::Global;
 use ub_index::{Index, Seat};
 use ub_index_page::Key;

@@ -1,7 +1,7 @@
 // Changes of an index over a store whose calls fail in turn: the fault comes once, the index is as it
 // was where no page was put yet, and the same call again does what it was to do.
-use crate::index::{Spelled, Tried, stored};
-use crate::index_changes::{prepared, tower};
+use crate::changes::{prepared, tower};
+use crate::searches::{Spelled, Tried, stored};
 use std::alloc::Global;
 use ub_index::{Change, Index, IndexFault, Seat};
 use ub_index_page::Key;

@@ -1,6 +1,6 @@
 // Changes of hand-made indexes: a region more and a region less, full pages that are parted up to a
 // new root, roots that give way, and sixteen full levels.
-use crate::index::{Listed, Spelled, Tried, entry, seat_in, stored};
+use crate::searches::{Listed, Spelled, Tried, entry, seat_in, stored};
 use std::alloc::Global;
 use std::num::NonZeroUsize;
 use ub_index::{Change, Index, IndexFault, Seat};

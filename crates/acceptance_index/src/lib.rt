@@ -1,0 +1,12 @@
+// Tests of an index of several levels, by its public calls alone: searches in hand-made indexes, changes of them, and stores that
+// fail at one call. The values come from hand arithmetic and from models that are written apart, never from the index's own answers.
+#![tactic(auto)]
+
+#[cfg(test)]
+mod changes;
+#[cfg(test)]
+mod faults;
+#[cfg(test)]
+mod levels;
+#[cfg(test)]
+mod searches;
