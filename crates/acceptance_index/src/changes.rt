@@ -97,7 +97,7 @@ static CHANGES: &[Changed] = &[
 ];
 
 // What is prepared: that a region comes at this address behind that of a seat, or that it goes.
-pub fn prepared(
+pub(crate) fn prepared(
     alloc: Global,
     index: &Index,
     pager: &mut Tried,
@@ -111,7 +111,7 @@ pub fn prepared(
 }
 
 // Whether each region's first key leads to it.
-pub fn lists(index: &Index, pager: &mut Tried, flat: &[Listed]) -> bool {
+pub(crate) fn lists(index: &Index, pager: &mut Tried, flat: &[Listed]) -> bool {
     for listed in flat {
         let first = entry(listed).first;
         let seat = seat_in(flat, listed.0, listed.1);
@@ -123,7 +123,12 @@ pub fn lists(index: &Index, pager: &mut Tried, flat: &[Listed]) -> bool {
 }
 
 // Whether a change that is prepared leaves this root, and is made.
-pub fn is_made(index: &mut Index, pager: &mut Tried, change: &Change, root: (u32, u32)) -> bool {
+pub(crate) fn is_made(
+    index: &mut Index,
+    pager: &mut Tried,
+    change: &Change,
+    root: (u32, u32),
+) -> bool {
     change.root() == root && change.grow(pager).is_ok() && index.commit(pager, change).is_ok()
 }
 
@@ -177,7 +182,7 @@ fn spell_full(level: u32, below: u32, draft: &mut Draft) {
 
 // A store of a full page of each level, from page 1 on, each of which is the first that the next one
 // names, whose call of this number fails; behind a pager.
-pub fn tower(alloc: Global, levels: u32, due: u64) -> Option<Tried> {
+pub(crate) fn tower(alloc: Global, levels: u32, due: u64) -> Option<Tried> {
     let mut store = MemStore::new(alloc);
     let mut draft = Draft::new();
     if store.extend().is_err() {
@@ -219,7 +224,7 @@ fn rises(alloc: Global, levels: u32, root: (u32, u32)) -> bool {
 }
 
 // Whether the regions of the lowest page of a tower are found, and the key (0, 2) on this page.
-pub fn finds(index: &Index, pager: &mut Tried, added: u32) -> bool {
+pub(crate) fn finds(index: &Index, pager: &mut Tried, added: u32) -> bool {
     for z in 0..170u32 {
         let key = Key {
             z: u128::from(z),

@@ -10,13 +10,13 @@ use ub_store::{FaultyStore, MemStore, PageStore, Pager, StoreFault};
 use ub_zaddr::{Point, Shape};
 
 // An entry: the address and the number of its first key, and its page.
-pub type Listed = (u128, u32, u32);
+pub(crate) type Listed = (u128, u32, u32);
 
 // A page: its level and its entries.
-pub type Spelled = (u32, &'static [Listed]);
+pub(crate) type Spelled = (u32, &'static [Listed]);
 
 // A pager over a store that fails at one call.
-pub type Tried = Pager<FaultyStore<MemStore>>;
+pub(crate) type Tried = Pager<FaultyStore<MemStore>>;
 
 // Six regions under one page, under two levels and under three: the pages from 1 on; the root is
 // the last of them.
@@ -76,7 +76,7 @@ static MISFITS: &[(u32, Spelled, u128, u32, PageFault)] = &[
 ];
 
 // The entry that is listed so.
-pub fn entry(listed: &Listed) -> Entry {
+pub(crate) fn entry(listed: &Listed) -> Entry {
     Entry {
         first: Key {
             z: listed.0,
@@ -97,7 +97,7 @@ fn spell(spelled: &Spelled, draft: &mut Draft) {
 }
 
 // A store of these pages from 1 on, whose call of this number fails, behind a pager.
-pub fn stored(alloc: Global, pages: &[Spelled], due: u64) -> Option<Tried> {
+pub(crate) fn stored(alloc: Global, pages: &[Spelled], due: u64) -> Option<Tried> {
     let mut store = MemStore::new(alloc);
     let mut draft = Draft::new();
     if store.extend().is_err() {
@@ -116,7 +116,7 @@ pub fn stored(alloc: Global, pages: &[Spelled], due: u64) -> Option<Tried> {
 }
 
 // The seat of the region that holds a key, among those that are listed.
-pub fn seat_in(flat: &[Listed], z: u128, number: u32) -> Option<Seat> {
+pub(crate) fn seat_in(flat: &[Listed], z: u128, number: u32) -> Option<Seat> {
     let key = Key { z, number };
     let mut held = None;
     for i in 0..flat.len() {
@@ -143,7 +143,7 @@ fn finds_at(index: &Index, pager: &mut Tried, flat: &[Listed], z: u128) -> bool 
 }
 
 // Whether each key up to an address behind the last region's first is.
-pub fn finds_each(index: &Index, pager: &mut Tried, flat: &[Listed]) -> bool {
+pub(crate) fn finds_each(index: &Index, pager: &mut Tried, flat: &[Listed]) -> bool {
     for z in 0..40u32 {
         if !finds_at(index, pager, flat, u128::from(z)) {
             return false;
@@ -153,7 +153,7 @@ pub fn finds_each(index: &Index, pager: &mut Tried, flat: &[Listed]) -> bool {
 }
 
 // The page of the seat that a call gives, or 0.
-pub fn page_of(given: Result<Option<Seat>, IndexFault>) -> u32 {
+pub(crate) fn page_of(given: Result<Option<Seat>, IndexFault>) -> u32 {
     match given {
         Ok(Some(seat)) => seat.page,
         _ => 0,
@@ -161,7 +161,7 @@ pub fn page_of(given: Result<Option<Seat>, IndexFault>) -> u32 {
 }
 
 // Whether each region has those for neighbours that are listed beside it.
-pub fn has_neighbours(index: &Index, pager: &mut Tried, flat: &[Listed]) -> bool {
+pub(crate) fn has_neighbours(index: &Index, pager: &mut Tried, flat: &[Listed]) -> bool {
     for i in 0..flat.len() {
         let Some(seat) = seat_in(flat, flat[i].0, flat[i].1) else {
             return false;
