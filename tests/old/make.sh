@@ -28,3 +28,7 @@ mkdir -p "$copy/crates/gaps/src"
 cp "$old/gaps.rt.txt" "$copy/crates/gaps/src/main.rt"
 cd "$copy/crates/gaps"
 rt try -- "$folder/gaps.ub" 24 1 5 8 21 23 2 3
+
+# Each line says OK where the file is the one that stands here.
+cd "$folder"
+grep '\.ub$' "$old/README.md" | sha256sum -c
