@@ -52,6 +52,7 @@ impl Gathering {
     }
 
     /// Takes one more row. `AllocError` only where memory is refused, and then this is used no more.
+    #[inline(always)]
     pub fn take(&mut self, schema: &Schema, query: &Query, row: &Row) -> Result<(), AllocError>
         requires { IsPosed (length schema.now.columns) (asked query.now) }
         ensures gathered { (taken : List _) → IsGathered schema.now (asked query.now) taken self.old
