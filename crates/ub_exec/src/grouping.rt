@@ -26,8 +26,8 @@ use ub_table::{MAX_ROW_NUMBER, Row, Schema};
 use ub_tetris::Sweep;
 use ub_tree::{ReadFault, Tree};
 
-/// The groups of the result by a sweep along their lead. Where a LIMIT stands, they are made value by value, so that no region is
-/// fetched for a group that isn't asked for; where none does, all are asked for, and the rows are gathered as they come. The
+/// The groups of the result by a sweep along their lead. Where a LIMIT stands, they are made value by value, so that no region
+/// is fetched for a group that isn't asked for; where none does, all are asked for, and the rows are gathered as they come. The
 /// trace begins anew.
 pub(crate) fn swept_groups<S: PageStore>(
     alloc: Global,
@@ -56,8 +56,8 @@ pub(crate) fn swept_groups<S: PageStore>(
     }
 }
 
-// The groups of all selected rows: each region is read once, in the order of the sweep, and its rows are gathered in the order in
-// which they stand. No row is held, and of each group one entry.
+// The groups of all selected rows: each region is read once, in the order of the sweep, and its rows are gathered in the order
+// in which they stand. No row is held, and of each group one entry.
 fn all_groups<S: PageStore>(
     alloc: Global,
     tree: &mut Tree<S>,
@@ -88,8 +88,8 @@ fn all_groups<S: PageStore>(
 }
 
 // The first groups, as many as the limit says: the sweep gives the rows of one value of the lead after the other, and the
-// groups of these, which are whole, are put in. Once the limit is filled no more is asked of the sweep. Of the groups only those
-// of one value are held beside the result.
+// groups of these, which are whole, are put in. Once the limit is filled no more is asked of the sweep. Of the groups only
+// those of one value are held beside the result.
 fn first_groups<S: PageStore>(
     alloc: Global,
     tree: &mut Tree<S>,

@@ -1,5 +1,5 @@
 -- A sweep hands over the rows of the regions that are left, one region after the other.
-use Rattle.std.proofs.Common.{◌≡◌, ◌≤◌, ◌+◌, ◌∙◌, ◌++◌, ◌∷◌, ℕ, zero, suc, Bool, List, [], Option, Some, Result, Ok, Err, Contains, drop, filter, length, slice_get, inl, inr, refl, sym, ap, subst, arith, append_assoc}
+use Rattle.std.proofs.Common.{◌≡◌, ◌≤◌, ◌+◌, ◌∙◌, ◌++◌, ◌∷◌, ℕ, zero, suc, Bool, List, [], Some, Result, Ok, Err, Contains, drop, filter, length, slice_get, inl, inr, refl, sym, ap, subst, arith, append_assoc}
 use Rattle.std.proofs.lemmas.List.{append-nil}
 use Rattle.std.proofs.lemmas.List.Elements.{Contains-append_right}
 use Rattle.std.specs.Prelude.{OnOk, is_err}
@@ -125,11 +125,11 @@ module _ (plan : PlanView) (t now : TreeView) (s s_now : State) (given rest : Li
   come_broken : (new : TreeView) → HasAskedNext now new s_now → new.placed ≡ now.placed → HasBrokenOff new fetched unread
   come_broken new asked placed = elim asked.noted [
     | inl kept ↦ record {
-        read = come.read;
-        left = come.left;
-        parts = come.parts;
-        noted = noted_still now new (fetched ++ come.read) come.noted placed (ap (λ (trace : Trace). trace.pages) kept);
-      }
+      read = come.read;
+      left = come.left;
+      parts = come.parts;
+      noted = noted_still now new (fetched ++ come.read) come.noted placed (ap (λ (trace : Trace). trace.pages) kept);
+    }
     | inr noted ↦
         let (event, later, one, awaited, awaits) = next_left asked.next asked.at in
         let (p, there, page, first) = placed_of now asked.next.region awaited.there in

@@ -156,8 +156,8 @@ impl Sweep {
         rows
     }
 
-    /// Fetches all regions that are left, in order, and hands a sink the selected rows of each, as they stand there: for whom all
-    /// rows are asked for, in whatever order. So a sweep that has given none hands over all selected rows. Rows that are held
+    /// Fetches all regions that are left, in order, and hands a sink the selected rows of each, as they stand there: so all rows
+    /// come where no order of them is asked for. A sweep that has given none hands over all selected rows. Those that it holds
     /// stay held.
     ///
     /// No region is fetched twice, also where it answers a fault; where it answers none each was taken in, and none is left. It

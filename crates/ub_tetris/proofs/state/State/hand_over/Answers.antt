@@ -2,7 +2,7 @@ use Rattle.std.proofs.Common.{Err, ap, length, refl, rules, subst}
 use Rattle.ub_table.specs.declared.schema.Schema.{Schema}
 use Rattle.ub_tetris.proofs.EffectFacts.{sweeps_then, swept_by}
 use Rattle.ub_tetris.proofs.HandFacts.{Hands-more, Hands-none, hands_broken, hands_end, hands_left, past_by, schema_so_far}
-use Rattle.ub_tetris.proofs.StepsFacts.{fewer, on_err}
+use Rattle.ub_tetris.proofs.StepsFacts.{on_err}
 use Rattle.ub_tetris.specs.Sweep.{HandsOver}
 use Rattle.ub_tetris.specs.inner.Turns.{HasHandedNext, view_of}
 use Rattle.ub_tree.specs.View.{TreeView}
