@@ -26,7 +26,7 @@ use Rattle.ub_table.specs.declared.schema.Schema.{Schema}
 use Rattle.ub_tetris.specs.Machine.{regions_at}
 use Rattle.ub_tetris.specs.Sweep.{HasBegun, HasBrokenOff, HasHandedOver, SweepView}
 use Rattle.ub_tree.proofs.Laws.{Keeps}
-use Rattle.ub_tree.specs.View.{TreeView, IsSound, regions}
+use Rattle.ub_tree.specs.View.{TreeView, regions}
 
 -- it goes to the end
 all_reached : (is_descending : Bool) (limit : Option ℕ) (given : List ℕ) (events : List Event) → limit ≡ None → reached is_descending limit given events ≡ events
