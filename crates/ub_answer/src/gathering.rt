@@ -52,6 +52,9 @@ impl Gathering {
     }
 
     /// Takes one more row. `AllocError` only where memory is refused, and then this is used no more.
+    // Rows are taken in two places, and to a row of a scan a call costs more than what it counts: so this, and what it calls
+    // for each row, is inlined.
+    #[inline(always)]
     pub fn take(&mut self, schema: &Schema, query: &Query, row: &Row) -> Result<(), AllocError>
         requires { IsPosed (length schema.now.columns) (asked query.now) }
         ensures gathered { (taken : List _) → IsGathered schema.now (asked query.now) taken self.old

@@ -46,6 +46,7 @@ impl CollectedGroups {
     }
 
     /// Takes one more row. After a refusal this is used no more.
+    #[inline(always)]
     pub fn take(
         &mut self,
         alloc: Global,
@@ -98,6 +99,7 @@ impl CollectedGroups {
 }
 
 // The values of a row in the group columns.
+#[inline(always)]
 fn values_of(
     alloc: Global,
     schema: &Schema,
@@ -115,6 +117,7 @@ fn values_of(
 }
 
 // Takes one more row into the group of these values.
+#[inline(always)]
 fn add_to_group(
     groups: &mut HashMap<Values, Tally>,
     values: Values,

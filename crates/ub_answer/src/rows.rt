@@ -41,6 +41,7 @@ impl CollectedRows {
     }
 
     /// Takes one more row. After a refusal some rows are still held, and this is used no more.
+    #[inline(always)]
     pub fn take(&mut self, schema: &Schema, query: &Query, row: &Row) -> Result<(), AllocError>
         requires { All (λ key. IsItemOver (length schema.now.columns) key.item) query.now.order }
         ensures taken { (taken : List _)

@@ -34,6 +34,7 @@ impl CollectedTotals {
     }
 
     /// Takes one more row. Takes no memory.
+    #[inline(always)]
     pub fn take(&mut self, schema: &Schema, query: &Query, row: &Row)
         requires over { All (λ item. IsItemOver (length schema.now.columns) item) query.now.items }
         requires few { length query.now.items ≤ MAX_ITEMS }

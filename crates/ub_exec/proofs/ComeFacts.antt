@@ -5,7 +5,8 @@ use Rattle.std.specs.List.{AllByRecursion}
 use Rattle.ub_exec.proofs.NotedFacts.{all_joined}
 use Rattle.ub_exec.specs.Answers.{begun}
 use Rattle.ub_exec.specs.Reading.{HasSweptAll, IsIn}
-use Rattle.ub_exec.specs.Sweeping.{ComesOn}
+use Rattle.ub_bigmin.specs.Box.{Corners}
+use Rattle.ub_exec.specs.Sweeping.{ComesOn, ComesToAll}
 use Rattle.ub_planning.specs.Plan.{PlanView}
 use Rattle.ub_tetris.specs.Awaited.{AreMetAlong}
 use Rattle.ub_tetris.specs.Effects.{Sweeps}
@@ -83,3 +84,21 @@ module _ (p : PlanView) (start now : TreeView) (s : SweepView) (traced : IsTrace
         trace_is = noted start now new so_far.come comes.come so_far.trace_is comes.trace_is
             ∙ ap (λ (those : List AwaitedRegion). start.trace.pages ++ map (λ (a : AwaitedRegion). a.region.page) those) (sym whole);
       }
+
+-- ---- all at once
+
+pub comes_to_all : (s new_s : SweepView) (old new : TreeView) → Sweeps {A = Unit {0}} s new_s old new (Ok tt) → new_s ≡ record s { awaited = [] } → ComesToAll s old new
+comes_to_all s new_s old new sweeps left =
+    let whole : sweeps.come ≡ s.awaited =
+    sym (append-nil sweeps.come) ∙ ap (λ (those : List AwaitedRegion). sweeps.come ++ those) (sym (ap (λ (v : SweepView). v.awaited) left)) ∙ sym sweeps.left in
+    record {
+      taken = subst (λ (those : List AwaitedRegion). AllByRecursion (λ a. IsIn old a.region) those) whole sweeps.taken.1;
+      trace_is = sweeps.trace_is ∙ ap (λ (pages : List ℕ). old.trace.pages ++ pages) sweeps.taken.0
+          ∙ ap (λ (those : List AwaitedRegion). old.trace.pages ++ map (λ (a : AwaitedRegion). a.region.page) those) whole;
+    }
+
+-- of a sweep that was begun these are all that the tree tells of
+pub swept_at_once : (boxes : List Corners) (dim : ℕ) (is_descending : Bool) (old mid new : TreeView) (s : SweepView) → mid ≡ begun old → AreMetAlong boxes dim is_descending mid s.awaited
+    → ComesToAll s mid new → HasSweptAll boxes dim is_descending (begun old) new
+swept_at_once boxes dim is_descending old mid new s same met comes =
+    subst (λ (t : TreeView). HasSweptAll boxes dim is_descending t new) same (record { awaited = s.awaited; all = met; taken = comes.taken; trace_is = comes.trace_is })

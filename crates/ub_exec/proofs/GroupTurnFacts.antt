@@ -42,7 +42,7 @@ use Rattle.ub_tree.specs.Placed.{Placed, regions_in}
 use Rattle.ub_tree.specs.View.{TreeView, IsSound, regions}
 
 -- the visits of a sweep of groups are the plan's
-group_visits : (plan : PlanView) (dim : ℕ) (is_descending : Bool) (schema : Schema) (regions : List Region) (visits : List spec.Span) → plan.kind ≡ Sweep dim is_descending → plan.asked.group ≢ []
+pub group_visits : (plan : PlanView) (dim : ℕ) (is_descending : Bool) (schema : Schema) (regions : List Region) (visits : List spec.Span) → plan.kind ≡ Sweep dim is_descending → plan.asked.group ≢ []
     → AreGroupVisits schema plan dim is_descending regions visits → AreVisits schema plan regions visits
 group_visits plan dim is_descending schema regions visits kind some are =
     subst (λ (kind : Kind). AreVisitsBy kind schema plan regions visits) (sym kind) (by_group plan.asked.group some are)
@@ -89,7 +89,7 @@ module _ (plan : PlanView) (start t : TreeView) (dim : ℕ) (is_descending : Boo
   arranged_at : AreArranged start.schema plan (selected_rows t.schema plan (regions t)) (given ++ rest)
   arranged_at = subst (λ (schema : Schema). AreArranged schema plan (selected_rows t.schema plan (regions t)) (given ++ rest)) kept.regions.schema sweeping.under_way.rows
 
-  events_at : AreEvents start.schema plan.covering.boxes dim is_descending (regions start) (fetched ++ unread)
+  pub events_at : AreEvents start.schema plan.covering.boxes dim is_descending (regions start) (fetched ++ unread)
   events_at =
       subst (λ (placed : List Placed). AreEvents start.schema plan.covering.boxes dim is_descending (regions_in placed) (fetched ++ unread)) kept.regions.placed
       (subst (λ (schema : Schema). AreEvents schema plan.covering.boxes dim is_descending (regions t) (fetched ++ unread)) kept.regions.schema

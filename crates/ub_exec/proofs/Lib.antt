@@ -12,3 +12,5 @@ pub mod GivenFacts
 pub mod GroupVisitFacts
 pub mod GroupSweptFacts
 pub mod GroupTurnFacts
+pub mod PermutedFacts
+pub mod WholeFacts

@@ -24,3 +24,9 @@ pub record ComesOn {A : Type 0} (s new_s : SweepView) (old new : TreeView) (foun
   pub trace_is : new.trace.pages ≡ old.trace.pages ++ map (λ a. a.region.page) come
   pub ended : found ≡ None → new_s.awaited ≡ []
   pub fewer : IfSome found (λ given. rows_left new_s < rows_left s)
+
+-- it came to all regions that it awaited, over any tree: each was taken in, and their pages were noted, in its order, and no
+-- others
+pub record ComesToAll (s : SweepView) (old new : TreeView) : Type 0 where
+  pub taken : AllByRecursion (λ a. IsIn old a.region) s.awaited
+  pub trace_is : new.trace.pages ≡ old.trace.pages ++ map (λ a. a.region.page) s.awaited

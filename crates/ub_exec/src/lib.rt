@@ -3,8 +3,8 @@
 // A walk reads the regions that meet the plan's boxes, each once, in the order of their keys, and hands the chosen rows of each
 // to a sink (`walking`; which are chosen, and the loop over them, stand in `ub_filter`). The sink of a query is its gathering,
 // which makes the answer of them (`executing`). Where the plan is a sweep, the rows come from it in the order asked
-// (`sweeping`); or, where there is a GROUP BY, the rows of one value of its lead after the other, and the groups of each value
-// are made of these rows alone (`grouping`).
+// (`sweeping`). Where there is a GROUP BY, they come by its lead: with LIMIT the rows of one value after the other, and the
+// groups of each value are made of these rows alone; without, all rows go to one gathering as their regions come (`grouping`).
 #![tactic(auto)]
 
 mod executing;

@@ -49,7 +49,7 @@ first_of xs ys x is = subst (λ (zs : List _). Contains zs x) (sym is) (contains
 -- ---- a turn that is ended by a fault
 
 -- no page was noted in it
-noted_still : (t new : TreeView) (events : List Event) → AreNoted t events → new.placed ≡ t.placed → new.trace.pages ≡ t.trace.pages → AreNoted new events
+pub noted_still : (t new : TreeView) (events : List Event) → AreNoted t events → new.placed ≡ t.placed → new.trace.pages ≡ t.trace.pages → AreNoted new events
 noted_still t new events noted placed trace = record {
   placed = noted.placed;
   there = subst (λ (all : List Placed). AllByRecursion (Contains all) noted.placed) (sym placed) noted.there;

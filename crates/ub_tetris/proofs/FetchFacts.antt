@@ -15,8 +15,9 @@ use Rattle.ub_tetris.proofs.AlongFacts.{keys_of}
 use Rattle.ub_tetris.specs.declared.event.Awaited.{Awaited}
 use Rattle.ub_tetris.specs.declared.state.State.{State}
 use Rattle.ub_tetris.specs.Held.{HeldRow, held_row}
+use Rattle.ub_tetris.specs.Sweep.{rows_left}
 use Rattle.ub_tetris.specs.inner.Kept.{HoldsAlso}
-use Rattle.ub_tetris.specs.inner.Turns.{HasFetchedNext, IsDue, awaited_of, is_due_by}
+use Rattle.ub_tetris.specs.inner.Turns.{HasFetchedNext, HasReadNext, IsDue, IsOnward, awaited_of, is_due_by, view_of}
 use Rattle.ub_tree.specs.Calls.{StandsAt}
 use Rattle.ub_tree.specs.Effects.{HasNoted}
 use Rattle.ub_tree.specs.View.{TreeView, IsSound, spans_of}
@@ -36,6 +37,10 @@ next_awaited (y ∷ queue) zero n x next at =
     ap (λ (z : Awaited). record { value = z.value; region = z.region } ∷ awaited_of (drop 0 queue)) same ∙ ap (λ (m : ℕ). record { value = x.value; region = x.region } ∷ awaited_of (drop m (y ∷ queue))) (sym one)
 next_awaited (y ∷ queue) (suc k) zero x next at = absurd (omega arith)
 next_awaited (y ∷ queue) (suc k) (suc n) x next at = next_awaited queue k n x (omega arith) at
+
+-- reading it leaves the schema
+pub schema_read : (t new : TreeView) (s : State) (region : Region) (schema : Schema) → HasReadNext t new s region → schema ≡ new.schema → schema ≡ t.schema
+schema_read t new s region schema read is = is ∙ ap (λ (v : TreeView). v.schema) read.same
 
 -- a region is due only where one is awaited
 pub due_within : (s : State) → IsDue s true → s.fetched < length s.queue.items
@@ -81,8 +86,13 @@ held_few choice schema of_tree keys region old new is holds =
     omega arith
 
 -- so with a region more behind there are no more to give than before
-pub left_few : (old new : List HeldRow) (queue : List Awaited) (k n : ℕ) (x : Awaited) → n ≡ k + 1 → slice_get queue k ≡ Some x → length new ≤ length old + 64
+left_few : (old new : List HeldRow) (queue : List Awaited) (k n : ℕ) (x : Awaited) → n ≡ k + 1 → slice_get queue k ≡ Some x → length new ≤ length old + 64
     → length new + length (awaited_of (drop n queue)) * 64 ≤ length old + length (awaited_of (drop k queue)) * 64
 left_few old new queue k n x next at few =
     let one : length (awaited_of (drop k queue)) ≡ suc (length (awaited_of (drop n queue))) = ap length (next_awaited queue k n x next at) in
     omega arith
+
+-- a state after that
+pub few_onward : (s new_s : State) (x : Awaited) → IsOnward s new_s → slice_get s.queue.items s.fetched ≡ Some x → length new_s.held ≤ length s.held + 64
+    → rows_left (view_of new_s) ≤ rows_left (view_of s)
+few_onward s new_s x (course, queue, fetched) at few = rw queue (left_few s.held new_s.held s.queue.items s.fetched new_s.fetched x fetched at few)

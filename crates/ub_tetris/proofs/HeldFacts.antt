@@ -1,5 +1,5 @@
 -- The rows held: what a push and a pop of the heap make of them.
-use Rattle.std.proofs.Common.{◌≡◌, ◌<◌, ℕ, ℤ, zero, suc, List, [], ◌∷◌, ◌++◌, true, false, Option, Some, None, Result, Ok, Err, OnOk, Contains, length, map, slice_index_or, refl, sym, ap, subst, ◌∙◌, arith, append_assoc}
+use Rattle.std.proofs.Common.{◌≡◌, ◌<◌, ◌==◌, Bool, eqb-true, ℕ, ℤ, zero, suc, List, [], ◌∷◌, ◌++◌, true, false, Option, Some, None, Result, Ok, Err, OnOk, Contains, length, map, slice_index_or, refl, sym, ap, subst, ◌∙◌, arith, append_assoc}
 use Rattle.std.proofs.lemmas.List.{append-nil, map-append}
 use Rattle.std.proofs.lemmas.List.Sorted.{IsPermutation-append_comm, IsPermutation-cons, IsPermutation-map, IsPermutation-refl, IsPermutation-trans}
 use Rattle.std.proofs.lemmas.List.Elements.{All-contains, All-cons, All-nil}
@@ -84,9 +84,12 @@ lead_held [] order found lead is some = let bad : None ≡ Some lead = sym is �
 lead_held (column ∷ group) order found lead is some = let same : Some lead ≡ group_lead (column ∷ group) order = sym some ∙ is in cc
 
 -- those of rows are the order asked
-pub order_held : (group : List ℕ) (order by : List SortKey) (found : Option SortKey) → found ≡ group_lead group order → found ≡ None → by ≡ order → by ≡ swept_order group order
-order_held [] order by found is none same = same
-order_held (column ∷ group) order by found is none same = let bad : None ≡ group_lead (column ∷ group) order = sym none ∙ is in absurd cc
+pub order_held : (group slice : List ℕ) (order by : List SortKey) (empty : Bool) → slice ≡ group → empty ≡ (length slice == 0) → empty ≡ true → by ≡ order → by ≡ swept_order group order
+order_held [] slice order by empty whole is none same = same
+order_held (column ∷ group) slice order by empty whole is none same =
+    let long : length slice ≡ length (column ∷ group) = ap length whole in
+    let nothing : length slice ≡ 0 = eqb-true (length slice) 0 (sym is ∙ none) in
+    absurd (omega arith)
 
 -- the lead is a column of the table, or none, as each key of the query is
 pub lead_over : (columns : ℕ) (group : List ℕ) (order : List SortKey) (found : Option SortKey) (lead : SortKey) → All (λ column. column < columns) group

@@ -58,7 +58,7 @@ begins schema plan dim is_descending next regions events over are =
       },
     )
 
-selected_append : (schema : Schema) (plan : PlanView) (xs ys : List Event)
+pub selected_append : (schema : Schema) (plan : PlanView) (xs ys : List Event)
     → selected_rows schema plan (regions_at (xs ++ ys)) ≡ selected_rows schema plan (regions_at xs) ++ selected_rows schema plan (regions_at ys)
 selected_append schema plan xs ys =
     ap (λ (regions : List Region). selected_rows schema plan regions) (map-append (λ (event : Event). event.span.region) xs ys)

@@ -94,14 +94,20 @@ contains_within [] x ys = contains_here x ys
 contains_within (y ∷ xs) x ys = contains_later y (xs ++ x ∷ ys) x (contains_within xs x ys)
 
 -- the region on a page is that of the event
-pub event_region : (plan : PlanView) (t : TreeView) (s : SweepView) (given rest : List Row) (fetched left : List Event) (event : Event) (a : AwaitedRegion) (p : Placed)
-    → IsSweeping plan t s given rest fetched (event ∷ left) → IsAwaited t a event → Contains t.placed p → p.region.first ≡ a.region.first → p.region ≡ event.span.region
-event_region plan t s given rest fetched left event a p of is_awaited there first =
+pub region_at : (plan : PlanView) (t : TreeView) (s : SweepView) (given rest : List Row) (fetched unread : List Event) (event : Event) (a : AwaitedRegion) (p : Placed)
+    → IsSweeping plan t s given rest fetched unread → Contains (fetched ++ unread) event → a.region.first ≡ event.span.region.first → Contains t.placed p → p.region.first ≡ a.region.first
+    → p.region ≡ event.span.region
+region_at plan t s given rest fetched unread event a p of among begins there first =
     same_region (regions t) p.region event.span.region of.swept.sound.regions_are.ascending
     (contains_map (λ (p : Placed). p.region) t.placed p there)
     (span_region (last_address t.schema.dims) (regions t) event.span
-    (event_span t.schema plan.covering.boxes s.dim s.is_descending (regions t) (fetched ++ event ∷ left) event of.under_way.events (contains_within fetched event left)))
-    (first ∙ is_awaited.first)
+    (event_span t.schema plan.covering.boxes s.dim s.is_descending (regions t) (fetched ++ unread) event of.under_way.events among))
+    (first ∙ begins)
+
+pub event_region : (plan : PlanView) (t : TreeView) (s : SweepView) (given rest : List Row) (fetched left : List Event) (event : Event) (a : AwaitedRegion) (p : Placed)
+    → IsSweeping plan t s given rest fetched (event ∷ left) → IsAwaited t a event → Contains t.placed p → p.region.first ≡ a.region.first → p.region ≡ event.span.region
+event_region plan t s given rest fetched left event a p of is_awaited there first =
+    region_at plan t s given rest fetched (event ∷ left) event a p of (contains_within fetched event left) is_awaited.first there first
 
 -- the page of one more region was noted
 pub noted_more : (t new : TreeView) (events : List Event) (event : Event) (p : Placed) → AreNoted t events → new.placed ≡ t.placed → Contains t.placed p → p.region ≡ event.span.region
@@ -126,7 +132,7 @@ rows_among (r ∷ regions) region row there here = elim (contains_cases r region
 ]
 
 -- the rows of a page that are chosen are the selected ones
-chosen_of : (plan : PlanView) (t : TreeView) (s : SweepView) (given rest : List Row) (fetched unread : List Event) (choice : Choice) (p : Placed) → IsSweeping plan t s given rest fetched unread
+pub chosen_of : (plan : PlanView) (t : TreeView) (s : SweepView) (given rest : List Row) (fetched unread : List Event) (choice : Choice) (p : Placed) → IsSweeping plan t s given rest fetched unread
     → Contains t.placed p → filter (is_chosen choice t.schema plan) p.region.rows ≡ filter (is_selected t.schema plan.asked.filter) p.region.rows
 chosen_of plan t s given rest fetched unread choice p of there =
     ap (λ (x : PlanView). filter (is_chosen choice t.schema x) p.region.rows) of.swept.planned
@@ -325,7 +331,7 @@ ended plan t s given rest fetched of none =
           (subst (λ (rows : List Row). IsSweeping plan t s given rows fetched []) all_given of);
     }
 
-none_waiting : (t : TreeView) (unread : List Event) (awaited : List AwaitedRegion) → AreAwaited t awaited unread → awaited ≡ [] → unread ≡ []
+pub none_waiting : (t : TreeView) (unread : List Event) (awaited : List AwaitedRegion) → AreAwaited t awaited unread → awaited ≡ [] → unread ≡ []
 none_waiting t unread awaited are none = none_left t unread (subst (λ (awaited : List AwaitedRegion). AreAwaited t awaited unread) none are)
 
 not_empty : {E : Type 0} (xs : List E) (x : E) → Contains xs x → xs ≡ [] → ⊥

@@ -2,7 +2,7 @@
 use Rattle.std.specs.Prelude.{◌≡◌, ◌≢◌, ◌+◌, ◌*◌, ◌++◌, ◌∷◌, [], ℕ, Bool, false, List, Option, Some, None, length, map, slice_index, Contains}
 use Rattle.std.specs.List.{All, AllByRecursion}
 use Rattle.ub_planning.specs.Plan.{PlanView, plan_of}
-use Rattle.ub_planning.specs.Visits.{Event, IsAlong}
+use Rattle.ub_planning.specs.Visits.{Event, IsAlong, selected_rows}
 use Rattle.ub_planning.specs.declared.planned.Kind.{Kind}
 use Rattle.ub_planning.specs.declared.planned.Kind.TheVariants.{Sweep}
 use Rattle.ub_query.specs.Lead.{swept_order}
@@ -128,6 +128,24 @@ pub record HasBroken (t : TreeView) (s : SweepView) (rest : List Row) (fetched u
   pub parts : unread ≡ read ++ left
   pub reached : (row : Row) (more : List Row) → rest ≡ row ∷ more
       → All (λ event. ¬ IsRowAlong s.dim s.is_descending row event.value) read
+  pub noted : AreNoted t (fetched ++ read)
+
+-- a sink took rows such as these, after those that it had taken before
+abbrev pub HandsOver : {K : Type 0} → (K → List Row → K → Type 0) → K → K → (List Row → Type 0) → Type 0
+HandsOver {K = K} HasTaken old new Are = (rows : List Row)
+    × ((before : K) (taken : List Row) → HasTaken before taken old → HasTaken before (taken ++ rows) new) × Are rows
+
+-- all regions not yet fetched were fetched, each once and in order; these are their selected rows, one region after the other
+pub record HasHandedOver (plan : PlanView) (t : TreeView) (fetched unread : List Event) (rows : List Row) : Type 0 where
+  pub rows_are : rows ≡ selected_rows t.schema plan (regions_at unread)
+  pub noted : AreNoted t (fetched ++ unread)
+
+-- that was ended by a fault: of the regions not yet fetched the first ones were fetched, each once and in order, and no others;
+-- their pages stand in the trace
+pub record HasBrokenOff (t : TreeView) (fetched unread : List Event) : Type 0 where
+  pub read : List Event
+  pub left : List Event
+  pub parts : unread ≡ read ++ left
   pub noted : AreNoted t (fetched ++ read)
 
 -- a sweep that was begun over a tree: no row was given, and no region fetched

@@ -4,8 +4,8 @@ ghost use Rattle.ub_planning.specs.Visits.{Event};
 ghost use Rattle.ub_query.specs.Posed.{IsPosed};
 ghost use Rattle.ub_table.specs.declared.row.Row.{Row as RowView};
 ghost use Rattle.ub_tetris.specs.Effects.{Rests, Sweeps};
-ghost use Rattle.ub_tetris.specs.Sweep.{IsSweeping, HasBroken, HasStepped, HasSteppedValue, rows_left};
-ghost use Rattle.ub_tetris.specs.inner.Turns.{HasAskedNext, HasFetchedNext, IsDue, IsOnward, view_of};
+ghost use Rattle.ub_tetris.specs.Sweep.{IsSweeping, HandsOver, HasBroken, HasBrokenOff, HasHandedOver, HasStepped, HasSteppedValue, rows_left};
+ghost use Rattle.ub_tetris.specs.inner.Turns.{HasAskedNext, HasFetchedNext, HasHandedNext, HasReadNext, IsDue, IsOnward, view_of};
 
 use crate::course::Course;
 use crate::event::{Awaited, is_past};
@@ -15,6 +15,7 @@ use std::alloc::Global;
 use ub_filter::{Choice, push_chosen};
 use ub_page::RegionPage;
 use ub_planning::Plan;
+use ub_query::RowSink;
 use ub_store::PageStore;
 use ub_table::Row;
 use ub_tree::Tree;
@@ -113,6 +114,32 @@ impl State {
         Ok(Some(rows))
     }
 
+    /// Fetches all regions that are left, in order, and hands a sink the rows of each that are chosen. Those held stay held.
+    pub fn hand_over<S: PageStore, K: RowSink>(
+        &mut self,
+        tree: &mut Tree<S>,
+        plan: &Plan,
+        sink: &mut K,
+    ) -> Result<(), SweepFault>
+        requires { IsPosed (length tree.old.schema.columns) plan.now.asked }
+        ensures rows { OnOk result (HandsOver (K.HasTaken tree.old.schema plan.now.asked)
+            sink.old sink.new
+            (λ rows. (given rest : List RowView) (fetched unread : List Event)
+            → IsSweeping plan.now tree.old (view_of self.old) given rest fetched unread
+            → HasHandedOver plan.now tree.new fetched unread rows)) }
+        ensures broken { (given rest : List RowView) (fetched unread : List Event)
+            → IsSweeping plan.now tree.old (view_of self.old) given rest fetched unread
+            → OnErr result (HasBrokenOff tree.new fetched unread) }
+        ensures left { OnOk result
+            (view_of self.new ≡ record (view_of self.old) { awaited = [] }) }
+        ensures effect { Sweeps (view_of self.old) (view_of self.new) tree.old tree.new result }
+    {
+        while self.fetched < self.queue.len() {
+            self.hand_next(tree, plan, sink)?;
+        }
+        Ok(())
+    }
+
     // Whether the next region can hold a row that isn't after the first of those held.
     fn is_due(&self) -> bool
         ensures { IsDue self.now result }
@@ -137,12 +164,49 @@ impl State {
         ensures few { OnOk result (rows_left (view_of self.new) ≤ rows_left (view_of self.old)) }
         ensures effect { Sweeps (view_of self.old) (view_of self.new) tree.old tree.new result }
     {
-        let region = self.queue[self.fetched].region;
-        self.fetched += 1;
-        tree.read_region(&region, &mut self.page)?;
+        self.read_next(tree)?;
         // Each call is given its plan, so the choice is made for that one.
         let choice = Choice::of(plan, tree.schema());
         push_chosen(&mut self.held, tree.schema(), plan, choice, &self.page)?;
+        Ok(())
+    }
+
+    // Fetches the next region, and hands a sink its rows that are chosen.
+    fn hand_next<S: PageStore, K: RowSink>(
+        &mut self,
+        tree: &mut Tree<S>,
+        plan: &Plan,
+        sink: &mut K,
+    ) -> Result<(), SweepFault>
+        requires posed { IsPosed (length tree.old.schema.columns) plan.now.asked }
+        requires some { self.old.fetched < length self.old.queue.items }
+        ensures onward { IsOnward self.old self.new }
+        ensures held { self.new.held ≡ self.old.held }
+        ensures asked { HasAskedNext tree.old tree.new self.old }
+        ensures rows { OnOk result (HandsOver (K.HasTaken tree.old.schema plan.now.asked)
+            sink.old sink.new (HasHandedNext plan.now tree.old tree.new self.old)) }
+        ensures effect { Sweeps (view_of self.old) (view_of self.new) tree.old tree.new result }
+    {
+        self.read_next(tree)?;
+        let choice = Choice::of(plan, tree.schema());
+        push_chosen(sink, tree.schema(), plan, choice, &self.page)?;
+        Ok(())
+    }
+
+    // Reads the next region.
+    fn read_next<S: PageStore>(&mut self, tree: &mut Tree<S>) -> Result<(), SweepFault>
+        requires { self.old.fetched < length self.old.queue.items }
+        ensures onward { IsOnward self.old self.new }
+        ensures held { self.new.held ≡ self.old.held }
+        ensures dims { OnOk result (self.new.page.dims ≡ tree.old.schema.dims) }
+        ensures asked { HasAskedNext tree.old tree.new self.old }
+        ensures read { OnOk result
+            (HasReadNext tree.old tree.new self.old self.new.page.region) }
+        ensures effect { Sweeps (view_of self.old) (view_of self.new) tree.old tree.new result }
+    {
+        let region = self.queue[self.fetched].region;
+        self.fetched += 1;
+        tree.read_region(&region, &mut self.page)?;
         Ok(())
     }
 }

@@ -7,6 +7,7 @@ use std::alloc::Global;
 use std::marker::Model;
 use ub_page::RegionPage;
 use ub_planning::Plan;
+use ub_query::RowSink;
 use ub_store::PageStore;
 use ub_table::Row;
 use ub_tree::{Tree, TreeFault};
@@ -31,14 +32,14 @@ impl Model for Sweep {
 }
 
 impl Sweep {
-    ghost use Rattle.std.specs.Prelude.{◌≡◌, ◌≢◌, ◌<◌, ℕ, Bool, List, [], Ok, Err, None, IsTrue, length, IfOk, IfSome, OnErr};
+    ghost use Rattle.std.specs.Prelude.{◌≡◌, ◌≢◌, ◌<◌, ℕ, Bool, List, [], Ok, Err, None, IsTrue, length, IfOk, IfSome, OnErr, OnOk};
     ghost use Rattle.std.specs.Option.{option_map};
     ghost use Rattle.ub_planning.specs.Visits.{Event};
     ghost use Rattle.ub_query.specs.Posed.{IsPosed};
     ghost use Rattle.ub_table.specs.declared.row.Row.{Row as RowView};
     ghost use Rattle.ub_tetris.specs.Effects.{Begins, FailsOnce, Rests, Sweeps};
     ghost use Rattle.ub_tetris.specs.inner.Turns.{begun_view};
-    ghost use Rattle.ub_tetris.specs.Sweep.{HasBegun, HasBroken, HasStepped, HasSteppedValue, IsNoSweep, IsStarted, IsSweepOf, IsSweeping, IsSwept, rows_left};
+    ghost use Rattle.ub_tetris.specs.Sweep.{HandsOver, HasBegun, HasBroken, HasBrokenOff, HasHandedOver, HasStepped, HasSteppedValue, IsNoSweep, IsStarted, IsSweepOf, IsSweeping, IsSwept, rows_left};
     ghost use Rattle.ub_tetris.specs.Awaited.{AreMetAlong};
 
     /// Begins a sweep by a plan. The trace begins anew; no region is fetched. Of a plan that is no sweep it comes to no region;
@@ -153,6 +154,39 @@ impl Sweep {
         let rows = self.state.step_value(tree, plan);
         self.is_failed = rows.is_err();
         rows
+    }
+
+    /// Fetches all regions that are left, in order, and hands a sink the selected rows of each, as they stand there: so all rows
+    /// come where no order of them is asked for. A sweep that has given none hands over all selected rows. Those that it holds
+    /// stay held.
+    ///
+    /// No region is fetched twice, also where it answers a fault; where it answers none each was taken in, and none is left. It
+    /// has the faults of `next`, and after one the sink is used no more.
+    pub fn hand_over<S: PageStore, K: RowSink>(
+        &mut self,
+        tree: &mut Tree<S>,
+        plan: &Plan,
+        sink: &mut K,
+    ) -> Result<(), SweepFault>
+        requires { IsPosed (length tree.old.schema.columns) plan.now.asked }
+        ensures rows { OnOk result (HandsOver (K.HasTaken tree.old.schema plan.now.asked)
+            sink.old sink.new
+            (λ rows. (given rest : List RowView) (fetched unread : List Event)
+            → IsSweeping plan.now tree.old self.old given rest fetched unread
+            → HasHandedOver plan.now tree.new fetched unread rows)) }
+        ensures broken { (given rest : List RowView) (fetched unread : List Event)
+            → IsSweeping plan.now tree.old self.old given rest fetched unread
+            → OnErr result (HasBrokenOff tree.new fetched unread) }
+        ensures left { OnOk result (self.new ≡ record self.old { awaited = [] }) }
+        ensures once { FailsOnce self.old self.new tree.old tree.new result }
+        ensures effect { Sweeps self.old self.new tree.old tree.new result }
+    {
+        if self.is_failed {
+            return Err(SweepFault::Failed);
+        }
+        let handed = self.state.hand_over(tree, plan, sink);
+        self.is_failed = handed.is_err();
+        handed
     }
 
     /// How many rows are held: they were fetched, and are still to be given.

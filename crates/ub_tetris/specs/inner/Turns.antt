@@ -6,13 +6,15 @@ use Rattle.ub_planning.specs.Plan.{PlanView}
 use Rattle.ub_planning.specs.Visits.{is_past}
 use Rattle.ub_filter.specs.declared.choice.Choice.{Choice}
 use Rattle.ub_query.specs.Lead.{swept_order}
+use Rattle.ub_table.specs.Region.{Region}
 use Rattle.ub_table.specs.declared.row.Row.{Row}
 use Rattle.ub_tetris.specs.Sweep.{AwaitedRegion, SweepView}
 use Rattle.ub_tetris.specs.declared.course.Course.{Course}
 use Rattle.ub_tetris.specs.declared.event.Awaited.{Awaited}
 use Rattle.ub_tetris.specs.declared.state.State.{State}
 use Rattle.ub_tetris.specs.inner.Kept.{HoldsAlso, IsFirstOf}
-use Rattle.ub_tree.specs.Effects.{HasNoted}
+use Rattle.ub_tree.specs.Calls.{StandsAt}
+use Rattle.ub_tree.specs.Effects.{HasNoted, IsTakenIn}
 use Rattle.ub_tree.specs.Placed.{Placed}
 use Rattle.ub_tree.specs.View.{TreeView, IsSound, KeepsTrace, spans_of}
 
@@ -54,6 +56,23 @@ pub record HasAskedNext (t new : TreeView) (s : State) : Type 0 where
   pub next : Awaited
   pub at : slice_get s.queue.items s.fetched ≡ Some next
   pub noted : KeepsTrace t new ⊎ HasNoted next.region.page t new
+
+-- the region at the sweep's place was read: this is it
+pub record HasReadNext (t new : TreeView) (s : State) (region : Region) : Type 0 where
+  pub next : Awaited
+  pub at : slice_get s.queue.items s.fetched ≡ Some next
+  pub same : new ≡ record t { trace = new.trace }
+  pub noted : HasNoted next.region.page t new
+  pub first : region.first ≡ next.region.first
+  pub taken : IsTakenIn t next.region region
+  pub stands : IsSound t → Contains (spans_of t) next.region → StandsAt t.placed next.region.page region
+
+-- these are its rows that are chosen
+pub record HasHandedNext (plan : PlanView) (t new : TreeView) (s : State) (rows : List Row) : Type 0 where
+  pub region : Region
+  pub read : HasReadNext t new s region
+  pub choice : Choice
+  pub rows_are : rows ≡ filter (is_chosen choice t.schema plan) region.rows
 
 -- the region at the sweep's place was fetched, and its rows that are chosen are held too
 pub record HasFetchedNext (plan : PlanView) (t new : TreeView) (s new_s : State) : Type 0 where

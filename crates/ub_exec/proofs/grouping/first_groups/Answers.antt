@@ -1,22 +1,20 @@
 use Rattle.std.proofs.Common.{◌≡◌, List, Ok, Err, length, ap, subst, sym}
 use Rattle.ub_exec.proofs.BreakFacts.{ready_begun}
-use Rattle.ub_exec.proofs.ComeFacts.{HasComeOn-none, HasComeOn-more, swept_all}
 use Rattle.ub_exec.proofs.FirstFacts.{none_fetched, on_err}
 use Rattle.ub_exec.proofs.GroupTurnFacts.{HasSweptGroups, HasSweptGroups-none, HaveSwept-more, broken_after_rows, broken_before_rows, ended_groups, filled_groups, one_width, shaped_joined}
 use Rattle.ub_exec.proofs.NotedFacts.{notes_err, notes_none, notes_ok, notes_then, traced_begun}
-use Rattle.ub_exec.proofs.SweptFacts.{begun_fetches, filled_is, left_is, noted_more, shaped_none, unfilled}
+use Rattle.ub_exec.proofs.SweptFacts.{begun_fetches, filled_is, left_is, noted_more, shaped_none}
 use Rattle.ub_query.specs.Shape.{asked}
 use Rattle.ub_query.specs.declared.cell.Cell.{Cell}
 use Rattle.ub_tree.proofs.Laws.{Keeps-by, Keeps-more, begun_traced, reads_by, unchanged_trace}
 use Rattle.ub_tree.specs.View.{TreeView}
 use Rattle.ub_exec.specs.Answers.{begun}
-use Rattle.ub_exec.proofs.grouping.swept_groups.Goals as goal
+use Rattle.ub_exec.proofs.grouping.first_groups.Goals as goal
 
 pub loop-query-init : goal.loop-query-init
 loop-query-init g c = record {
   kept = Keeps-by c.args.tree.now c.begin_sweep.new.tree (begun_traced c.args.tree.now c.begin_sweep.new.tree c.in_ok-sweep.ensures.trace);
   works = (c.in_ok-sweep.ensures.started.working, c.in_ok-sweep.ensures.started.regions);
-  come_on = HasComeOn-none c.args.plan.now c.args.tree.now c.begin_sweep.new.tree c.in_ok-sweep.sweep c.in_ok-sweep.ensures.trace c.in_ok-sweep.ensures.met;
   notes = notes_none (Ok tt) (begun c.args.tree.now) c.begin_sweep.new.tree (unchanged_trace (begun c.args.tree.now) c.begin_sweep.new.tree c.in_ok-sweep.ensures.trace);
   fetches = begun_fetches c.args.tree.now c.begin_sweep.new.tree c.in_ok-sweep.ensures.trace;
   shaped = shaped_none c.args.plan.now.asked c.none-groups.result c.none-groups.ensures;
@@ -43,7 +41,6 @@ loop-query-preserved g c =
     record {
       kept = kept;
       works = c.in_ok-rows.ensures.works;
-      come_on = HasComeOn-more plan (begun start) t c.loop-query.sweep traced inv.come_on new c.next_value.new.sweep c.in-Some.rows (rw c.in-Some.is at c.in_ok-rows.ensures.comes);
       notes = notes_then {A = Unit {0}} tt (Ok tt) (begun start) t new traced inv.notes (notes_ok _ tt t new c.in_ok-rows.ensures.notes);
       fetches = noted_more (Ok _) start t new inv.fetches c.in_ok-rows.ensures.notes;
       shaped = shaped_joined plan.asked query c.loop-query.groups c.in_ok-more.more c.extend.new.self same inv.shaped c.in_ok-more.ensures.shaped c.in_ok-extend.ensures;
@@ -182,14 +179,3 @@ returns-in_err-extend-clause-notes g c =
 
 pub returns-clause-notes : goal.returns-clause-notes
 returns-clause-notes g c = notes_ok tt _ (begun c.args.tree.now) c.loop-query.tree c.loop-query.invariant.notes
-
-pub returns-in_default-clause-all : goal.returns-in_default-clause-all
-returns-in_default-clause-all g c dim is_descending of none =
-    let inv = c.loop-query.invariant in
-    swept_all c.args.plan.now (begun c.args.tree.now) c.loop-query.tree c.loop-query.sweep (traced_begun c.args.tree.now c.loop-query.tree inv.kept.traced) inv.come_on
-    c.next_value.new.tree c.next_value.new.sweep (rw c.in_default.is at c.in_ok-rows.ensures.comes) dim is_descending of
-
-pub returns-clause-all : goal.returns-clause-all
-returns-clause-all g c dim is_descending of none =
-    unfilled c.args.plan.now.asked.limit (length c.loop-query.groups) none
-    (filled_is (asked c.query-query.result.now) c.args.plan.now.asked c.len.result c.loop-query.groups c.query-query.ensures c.len.ensures (c.is_filled.ensures.filled c.loop-query-test.false))

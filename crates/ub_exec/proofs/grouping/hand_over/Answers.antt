@@ -1,0 +1,20 @@
+use Rattle.ub_exec.proofs.ComeFacts.{comes_to_all}
+use Rattle.ub_exec.proofs.KeptFacts.{sweeps_reads}
+use Rattle.ub_exec.proofs.NotedFacts.{broken_notes, sweeps_notes}
+use Rattle.ub_exec.proofs.grouping.hand_over.Goals as goal
+
+pub returns-in_err-hand_over-clause-effect : goal.returns-in_err-hand_over-clause-effect
+returns-in_err-hand_over-clause-effect g c =
+    sweeps_reads c.from_residual.result _ c.args.sweep.now c.hand_over.new.self c.args.tree.now c.hand_over.new.tree c.from_residual.ensures.1 c.requires.works.0 c.requires.works.1 c.in_err-hand_over.ensures.effect
+
+pub returns-in_err-hand_over-clause-notes : goal.returns-in_err-hand_over-clause-notes
+returns-in_err-hand_over-clause-notes g c =
+    broken_notes c.from_residual.result _ _ c.args.sweep.now c.hand_over.new.self c.args.tree.now c.hand_over.new.tree c.from_residual.ensures.1 c.in_err-hand_over.ensures.effect
+
+pub returns-clause-notes : goal.returns-clause-notes
+returns-clause-notes g c =
+    sweeps_notes _ _ c.args.sweep.now c.hand_over.new.self c.args.tree.now c.hand_over.new.tree c.requires.works.1 c.in_ok-hand_over.ensures.effect
+
+pub returns-clause-comes : goal.returns-clause-comes
+returns-clause-comes g c =
+    comes_to_all c.args.sweep.now c.hand_over.new.self c.args.tree.now c.hand_over.new.tree c.in_ok-hand_over.ensures.effect c.in_ok-hand_over.ensures.left

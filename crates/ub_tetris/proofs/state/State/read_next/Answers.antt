@@ -1,0 +1,42 @@
+use Rattle.std.proofs.Common.{inr, refl}
+use Rattle.ub_tetris.proofs.EffectFacts.{either_noted, read_swept, tree_swept}
+use Rattle.ub_tetris.proofs.FetchFacts.{next_at, next_awaited}
+use Rattle.ub_tetris.specs.inner.Turns.{view_of}
+use Rattle.ub_tetris.proofs.state.State.read_next.Goals as goal
+
+pub returns-in_err-read_region-clause-asked : goal.returns-in_err-read_region-clause-asked
+returns-in_err-read_region-clause-asked g c = record {
+  next = c.index.result.now;
+  at = next_at c.args.self.now.queue.items c.args.self.now.fetched c.index.result.now c.requires c.index.ensures;
+  noted = either_noted _ c.args.tree.now c.read_region.new.self _ c.in_err-read_region.ensures.effect.noted;
+}
+
+pub returns-clause-asked : goal.returns-clause-asked
+returns-clause-asked g c = record {
+  next = c.index.result.now;
+  at = next_at c.args.self.now.queue.items c.args.self.now.fetched c.index.result.now c.requires c.index.ensures;
+  noted = inr c.in_ok-read_region.ensures.effect.listed;
+}
+
+pub returns-clause-read : goal.returns-clause-read
+returns-clause-read g c = record {
+  next = c.index.result.now;
+  at = next_at c.args.self.now.queue.items c.args.self.now.fetched c.index.result.now c.requires c.index.ensures;
+  same = c.in_ok-read_region.ensures.effect.same;
+  noted = c.in_ok-read_region.ensures.effect.listed;
+  first = c.in_ok-read_region.ensures.first;
+  taken = c.in_ok-read_region.ensures.taken;
+  stands = c.in_ok-read_region.ensures.stands;
+}
+
+pub returns-in_err-read_region-clause-effect : goal.returns-in_err-read_region-clause-effect
+returns-in_err-read_region-clause-effect g c =
+    tree_swept c.from_residual.result _ (view_of c.args.self.now) _ _ c.args.tree.now c.read_region.new.self c.from_residual.ensures.1
+    (next_awaited c.args.self.now.queue.items c.args.self.now.fetched _ c.index.result.now refl (next_at c.args.self.now.queue.items c.args.self.now.fetched c.index.result.now c.requires c.index.ensures))
+    c.in_err-read_region.ensures.effect
+
+pub returns-clause-effect : goal.returns-clause-effect
+returns-clause-effect g c =
+    read_swept tt (view_of c.args.self.now) _ _ c.args.tree.now c.read_region.new.self
+    (next_awaited c.args.self.now.queue.items c.args.self.now.fetched _ c.index.result.now refl (next_at c.args.self.now.queue.items c.args.self.now.fetched c.index.result.now c.requires c.index.ensures))
+    c.in_ok-read_region.ensures.effect.same c.in_ok-read_region.ensures.effect.listed c.read_region.new.page.region c.in_ok-read_region.ensures.taken
