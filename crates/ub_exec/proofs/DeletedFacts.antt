@@ -1,20 +1,18 @@
 -- What a deletion leaves, put together of reading and of taking out.
-use Rattle.std.proofs.Common.{◌≡◌, ◌≢◌, ◌+◌, ◌++◌, ◌∙◌, inl, inr, ℕ, Bool, true, false, IsTrue, IfErr, List, Result, Ok, Err, length, take, refl, sym, ap, subst, arith}
+use Rattle.std.proofs.Common.{◌≡◌, ◌∙◌, inl, inr, ℕ, Bool, true, false, IsTrue, List, Result, Ok, Err, length, take, refl, sym, ap, subst}
 use Rattle.std.proofs.lemmas.Bool.{true≢false}
 use Rattle.std.specs.List.{AllByRecursion}
 use Rattle.std.specs.List.Sorted.{IsNonDecreasingBy}
-use Rattle.std.specs.Prelude.{OnErr, OnOk}
 use Rattle.std.specs.Result.{IsErrAnd}
 use Rattle.ub_bigmin.specs.Box.{Corners}
-use Rattle.ub_exec.proofs.FirstFacts.{all_fetched}
-use Rattle.ub_exec.proofs.NotedFacts.{notes_none, on_ok}
+use Rattle.ub_exec.proofs.NotedFacts.{on_ok}
 use Rattle.ub_exec.proofs.StandFacts.{first_out, none_taken, read_stand, rows_out, selected_rise, selected_there, stand_by}
-use Rattle.ub_exec.proofs.TakenFacts.{HasLost, HasStopped, stopped_at, taken_lost, taken_none}
-use Rattle.ub_exec.specs.Answers.{IsReady, begun}
-use Rattle.ub_exec.specs.Deleting.{Deletes, HasMetDevice, IsDeletionFault, IsDeletionOf, ReadsFirst, StopsAt, TakesOut, TakesOutAfter, TakesOutBy, answer_of}
+use Rattle.ub_exec.proofs.TakenFacts.{stopped_at, taken_lost, taken_none}
+use Rattle.ub_exec.specs.Answers.{begun}
+use Rattle.ub_exec.specs.Deleting.{Deletes, HasMetDevice, IsDeletionFault, IsDeletionOf, ReadsFirst, StopsAt, TakesOut, TakesOutBy, answer_of}
 use Rattle.ub_exec.specs.Reading.{HasReadAll, IsRead, NotesPages}
 use Rattle.ub_exec.specs.Stand.{Stand, IsStandOf, selected_of, without_rows, without_selected}
-use Rattle.ub_exec.specs.Visits.{HasFetched, HasFetchedFirst}
+use Rattle.ub_exec.specs.Visits.{HasFetched}
 use Rattle.ub_planning.specs.Plan.{PlanView, plan_of}
 use Rattle.ub_query.specs.Shape.{Asked}
 use Rattle.ub_store.specs.View.{Trace}
@@ -25,8 +23,8 @@ use Rattle.ub_table.specs.declared.row.Row.{Row}
 use Rattle.ub_table.specs.declared.schema.Schema.{Schema}
 use Rattle.ub_tree.proofs.Laws.{IsTraced, Keeps, Keeps-by, Keeps-more, begun_traced}
 use Rattle.ub_tree.specs.Effects.{Works}
-use Rattle.ub_tree.specs.Reading.{IsGiven, ReadsTree, fault_of_tree}
-use Rattle.ub_tree.specs.View.{TreeView, IsSound, KeepsTrace}
+use Rattle.ub_tree.specs.Reading.{ReadsTree, fault_of_tree}
+use Rattle.ub_tree.specs.View.{TreeView, KeepsTrace}
 use Rattle.ub_tree.specs.declared.fault.TreeFault.{TreeFault}
 use Rattle.ub_tree.specs.declared.fault.TreeFault.TheVariants.{Full, Page, Store, Failed, Memory as no_memory}
 use Rattle.ub_tree.specs.declared.read_fault.ReadFault.{ReadFault}

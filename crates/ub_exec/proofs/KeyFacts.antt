@@ -1,5 +1,5 @@
 -- The keys of the selected rows, in ascending order of number.
-use Rattle.std.proofs.Common.{◌≡◌, ◌≢◌, ◌<◌, ◌+◌, ◌++◌, ◌∷◌, ◌∙◌, ◌⊎◌, inl, inr, ℕ, Bool, true, false, if◌then◌else◌, List, [], None, Some, Contains, IsPermutation, filter, map, nat_eq, slice_get, refl, sym, ap, subst, arith}
+use Rattle.std.proofs.Common.{◌≡◌, ◌≢◌, ◌<◌, ◌+◌, ◌∷◌, ◌∙◌, inl, inr, ℕ, Bool, true, false, if◌then◌else◌, List, [], Some, IsPermutation, filter, nat_eq, slice_get, sym, ap, subst, arith}
 use Rattle.std.proofs.lemmas.Bool.{cases_Bool, eqb-false, eqb-true}
 use Rattle.std.proofs.lemmas.List.Sorted.{Contains-permutation, IsPermutation-map, IsPermutation-sym, IsPermutation-trans}
 use Rattle.std.proofs.lemmas.Map.Keys.{IsDistinct-IsPermutation, apart_from_distinct}
@@ -14,7 +14,7 @@ use Rattle.ub_filter.specs.Choice.{is_chosen}
 use Rattle.ub_filter.specs.declared.choice.Choice.{Choice}
 use Rattle.ub_planning.specs.Plan.{PlanView, along, plan_of}
 use Rattle.ub_planning.specs.declared.planned.Kind.{Kind}
-use Rattle.ub_planning.specs.declared.planned.Kind.TheVariants.{Empty, Scan, Sweep}
+use Rattle.ub_planning.specs.declared.planned.Kind.TheVariants.{Empty, Scan}
 use Rattle.ub_query.proofs.Laws.{Rising, Rising-from_adjacent, Rising-mapped, Rising-one, rows-rising, selected_are_in_order}
 use Rattle.ub_query.specs.Groups.{is_selected, selected}
 use Rattle.ub_query.specs.Lead.{swept_order}

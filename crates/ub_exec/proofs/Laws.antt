@@ -2,18 +2,18 @@
 use Rattle.std.proofs.Common.{◌≡◌, ◌<◌, ◌∷◌, ◌∙◌, inl, inr, ℕ, Bool, true, false, not, List, [], Contains, filter, nat_eq, refl, sym, ap, subst, arith}
 use Rattle.std.proofs.lemmas.Bool.{cases_Bool, eq-eqb, eqb-true, not-true, true≢false}
 use Rattle.std.specs.List.{AllByRecursion}
-use Rattle.ub_exec.proofs.StandFacts.{differs, has_its_key}
+use Rattle.ub_exec.proofs.StandFacts.{has_its_key}
 use Rattle.ub_exec.specs.Laws.{DeletionLeavesTheOthers, InsertionKeepsStands, NumbersAreNeverUsedAgain, RemovalKeepsStands, SoundTreesStand, StandsAreOne, TreesStandSoundly}
-use Rattle.ub_exec.specs.Stand.{Stand, IsStand, IsStandOf, selected_of, without_row, without_rows, without_selected}
+use Rattle.ub_exec.specs.Stand.{Stand, without_row, without_rows, without_selected}
 use Rattle.ub_planning.proofs.Laws.{regions_have_a_table, regions_have_one_table}
-use Rattle.ub_query.proofs.Laws.{Rising, Rising-filter, Rising-one, all_at, all_from_contains, contains_cases, contains_filter, contains_from_filter, contains_here, contains_later, contains_none, numbers-chain, numbers-never, rows-rising}
+use Rattle.ub_query.proofs.Laws.{Rising, Rising-filter, Rising-one, all_at, all_from_contains, contains_cases, contains_filter, contains_from_filter, contains_none, numbers-chain, numbers-never, rows-rising}
 use Rattle.ub_query.specs.Groups.{is_selected}
 use Rattle.ub_region.proofs.Laws.{insertion_adds_the_row, insertion_keeps_regions, removal_keeps_regions, removal_takes_the_row}
-use Rattle.ub_region.specs.Regions.{AreRegions, AreTableRows, rows_of, without_number}
+use Rattle.ub_region.specs.Regions.{AreRegions, AreTableRows, rows_of}
 use Rattle.ub_table.specs.Region.{Region, key_of}
 use Rattle.ub_table.specs.declared.row.Row.{Row}
 use Rattle.ub_table.specs.declared.schema.Schema.{Schema}
-use Rattle.ub_tree.specs.View.{TreeView, IsSound, regions}
+use Rattle.ub_tree.specs.View.{regions}
 
 pub sound_trees_stand : SoundTreesStand
 sound_trees_stand t sound =

@@ -1,37 +1,26 @@
 -- Where a tree stands once rows of its table were taken out.
-use Rattle.std.proofs.Common.{◌≡◌, ◌≢◌, ◌<◌, ◌≤◌, ◌+◌, ◌++◌, ◌∷◌, ◌∙◌, ◌||◌, inl, inr, ℕ, zero, suc, Bool, true, false, not, if◌then◌else◌, IsTrue, List, [], Option, Some, None, Result, Ok, Err, Contains, IsPermutation, IfErr, filter, length, map, take, nat_eq, refl, sym, ap, subst, arith}
-use Rattle.std.proofs.lemmas.Bool.{cases_Bool, cases_eq, eq-eqb, eqb-true, true≢false}
-use Rattle.std.proofs.lemmas.List.{map-append}
-use Rattle.std.proofs.lemmas.List.Sorted.{IsPermutation-map, IsPermutation-sym, IsPermutation-trans, Contains-permutation}
-use Rattle.std.proofs.lemmas.Map.Keys.{IsDistinct-IsPermutation, IsStrictlyIncreasing-from_distinct}
-use Rattle.std.specs.List.{AllByRecursion, IsDistinct, list_any}
-use Rattle.std.specs.List.Sorted.{IsNonDecreasing, IsNonDecreasingBy, IsStrictlyIncreasing}
-use Rattle.ub_exec.specs.Answers.{IsReady, IsSwept}
-use Rattle.ub_exec.specs.Deleting.{IsDeletion, IsDeletionOf, Removes, StopsAt, TakesOut}
-use Rattle.ub_exec.specs.Stand.{Stand, IsStandOf, selected_of, without_row, without_rows, without_selected}
-use Rattle.ub_exec.specs.Visits.{HasWalked}
-use Rattle.ub_filter.specs.Choice.{is_chosen}
-use Rattle.ub_filter.specs.declared.choice.Choice.{Choice}
-use Rattle.ub_planning.specs.Plan.{PlanView, plan_of}
-use Rattle.ub_planning.specs.declared.planned.Kind.{Kind}
-use Rattle.ub_planning.specs.declared.planned.Kind.TheVariants.{Empty, Scan, Sweep}
-use Rattle.ub_query.proofs.Laws.{Rising, Rising-one, all_at, all_from_contains, contains_cases, contains_filter, contains_from_filter, contains_from_map, contains_here, contains_later, contains_map, contains_none, in_order, rows-rising, selected_are_in_order}
-use Rattle.ub_query.specs.Groups.{is_selected, selected}
-use Rattle.ub_query.specs.Shape.{Asked, Shape}
-use Rattle.ub_region.specs.Regions.{AreTableRows, remove, rows_of, without_number}
+use Rattle.std.proofs.Common.{◌≡◌, ◌<◌, ◌++◌, ◌∷◌, ◌∙◌, ◌||◌, inl, inr, ℕ, zero, suc, Bool, true, false, not, if◌then◌else◌, IsTrue, List, [], Err, Contains, length, map, take, nat_eq, refl, sym, ap, subst, arith}
+use Rattle.std.proofs.lemmas.Bool.{cases_Bool, eq-eqb, eqb-true, true≢false}
+use Rattle.std.specs.List.{AllByRecursion}
+use Rattle.ub_exec.specs.Deleting.{StopsAt, TakesOut}
+use Rattle.ub_exec.specs.Stand.{Stand, IsStandOf, selected_of, without_row, without_rows}
+use Rattle.ub_query.proofs.Laws.{Rising, all_from_contains, contains_cases, contains_filter, contains_from_filter, contains_none, rows-rising, selected_are_in_order}
+use Rattle.ub_query.specs.Groups.{is_selected}
+use Rattle.ub_query.specs.Shape.{Asked}
+use Rattle.ub_region.specs.Regions.{AreTableRows, remove, without_number}
 use Rattle.ub_region.specs.Rows.{has_key}
 use Rattle.ub_store.specs.declared.fault.StoreFault.TheVariants as store
 use Rattle.ub_table.specs.Keys.{is_same}
 use Rattle.ub_table.specs.Region.{Region, key_of, keys_of}
-use Rattle.ub_table.specs.Table.{Table, IsInOrder}
+use Rattle.ub_table.specs.Table.{IsInOrder}
 use Rattle.ub_table.specs.declared.row.Key.{Key}
 use Rattle.ub_table.specs.declared.row.Row.{Row}
 use Rattle.ub_table.specs.declared.schema.Schema.{Schema}
 use Rattle.ub_tree.proofs.Laws.{Keeps, Keeps-by, SearchesTree-regions, SearchesTree-sound}
-use Rattle.ub_tree.specs.Effects.{HasEnded, HasMissed, IsLeft, Leaves}
+use Rattle.ub_tree.specs.Effects.{HasMissed, IsLeft, Leaves}
 use Rattle.ub_tree.specs.Placed.{Placed, regions_in}
 use Rattle.ub_tree.specs.Reading.{ReadsTree, SearchesTree, read_store}
-use Rattle.ub_tree.specs.Removal.{IsRemoved, IsRemovalFault}
+use Rattle.ub_tree.specs.Removal.{IsRemoved}
 use Rattle.ub_tree.specs.View.{TreeView, IsSound, KeepsRegions, regions, tree_rows}
 use Rattle.ub_tree.specs.declared.fault.TreeFault.{TreeFault}
 use Rattle.ub_tree.specs.declared.fault.TreeFault.TheVariants.{Full, Page, Store, Failed, Memory}

@@ -1,16 +1,15 @@
 -- Rows taken out of any tree, one after the other.
-use Rattle.std.proofs.Common.{◌≡◌, ◌+◌, ◌-◌, ◌<◌, ◌≤◌, ◌++◌, ◌∷◌, ◌⊎◌, ◌∙◌, inl, inr, ℕ, zero, suc, Bool, true, false, if◌then◌else◌, IsTrue, List, [], Result, Ok, Err, IfErr, add-one, append_assoc, drop, get_or, length, take, refl, sym, ap, subst, arith}
+use Rattle.std.proofs.Common.{◌≡◌, ◌+◌, ◌-◌, ◌<◌, ◌≤◌, ◌++◌, ◌∷◌, ◌∙◌, inl, inr, ℕ, suc, Bool, true, false, if◌then◌else◌, IsTrue, List, [], Result, Ok, Err, add-one, append_assoc, drop, get_or, length, take, refl, sym, ap, subst, arith}
 use Rattle.std.proofs.Math.Seq.{take-suc}
 use Rattle.std.proofs.lemmas.List.{take-append-drop}
 use Rattle.std.specs.Result.{IsErrAnd}
-use Rattle.ub_exec.specs.Answers.{begun}
 use Rattle.ub_exec.specs.Deleting.{HasMetDevice, IsDeletionFault, Removes, StopsAt, TakesOut, TakesOutBy}
 use Rattle.ub_store.specs.Facts.{StoreFacts, raised}
 use Rattle.ub_store.specs.declared.fault.StoreFault.TheVariants as store
 use Rattle.ub_table.specs.declared.row.Key.{Key}
 use Rattle.ub_table.specs.declared.schema.Schema.{Schema}
 use Rattle.ub_tree.proofs.Laws.{take_all}
-use Rattle.ub_tree.specs.Effects.{Changes, HasEnded, HasMissed, IsLeft, Leaves, Works}
+use Rattle.ub_tree.specs.Effects.{HasEnded, HasMissed, IsLeft, Leaves, Works}
 use Rattle.ub_tree.specs.Reading.{fault_of_tree}
 use Rattle.ub_tree.specs.Removal.{IsRemovalFault}
 use Rattle.ub_tree.specs.View.{TreeView, IsSound}

@@ -1,5 +1,5 @@
 -- What a deletion does to a tree, also to one that isn't sound.
-use Rattle.std.specs.Prelude.{◌≡◌, ◌+◌, ◌++◌, ◌∷◌, ◌⊎◌, [], ℕ, zero, suc, Bool, true, false, if◌then◌else◌, IsTrue, List, None, Result, Ok, Err, IfErr, IfOk, OnOk}
+use Rattle.std.specs.Prelude.{◌≡◌, ◌+◌, ◌++◌, ◌∷◌, ◌⊎◌, [], ℕ, suc, Bool, true, false, if◌then◌else◌, IsTrue, List, None, Result, Ok, Err, IfErr, IfOk, OnOk}
 use Rattle.std.specs.List.Sorted.{IsNonDecreasingBy}
 use Rattle.ub_bigmin.specs.Box.{Corners}
 use Rattle.ub_exec.specs.Answers.{IsReady, begun}
@@ -9,7 +9,7 @@ use Rattle.ub_query.specs.Shape.{Asked}
 use Rattle.ub_store.specs.Facts.{IsHonest, raised}
 use Rattle.ub_store.specs.declared.fault.StoreFault.TheVariants as store
 use Rattle.ub_table.specs.declared.row.Key.{Key}
-use Rattle.ub_tree.specs.Effects.{Changes, IsMarkedFirst, Works}
+use Rattle.ub_tree.specs.Effects.{Changes, Works}
 use Rattle.ub_tree.specs.Holding.{AnswersRemoval, index_for}
 use Rattle.ub_tree.specs.Others.{ShrinksAt}
 use Rattle.ub_tree.specs.Reading.{ReadsTree, fault_of_tree}

@@ -1,5 +1,5 @@
 -- The laws of stands. Each is what the function of its name in `law` ensures.
-use Rattle.std.specs.Prelude.{◌≡◌, ◌+◌, not, List, Contains}
+use Rattle.std.specs.Prelude.{◌≡◌, not, List, Contains}
 use Rattle.std.specs.List.{filter}
 use Rattle.ub_exec.specs.Stand.{Stand, IsStand, IsStandOf, with_row, without_row, without_rows, without_selected}
 use Rattle.ub_query.specs.Groups.{is_selected}

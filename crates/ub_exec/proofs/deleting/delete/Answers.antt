@@ -1,9 +1,8 @@
-use Rattle.std.proofs.Common.{◌≡◌, ◌∙◌, ℕ, Bool, false, List, Result, Ok, Err, OnOk, ap, refl, subst, sym}
+use Rattle.std.proofs.Common.{◌∙◌, ℕ, List, Ok, Err, ap, subst, sym}
 use Rattle.std.specs.List.Sorted.{IsNonDecreasingBy}
 use Rattle.ub_exec.proofs.DeletedFacts.{begun_deletion, begun_stand, begun_then, deletes_by, deletes_done, deletes_failed, deletes_read, deletes_stopped, done_keeps, done_stand, fetched_then, first_by, first_done, first_stopped, none_gone, read_stopped, stopped_keeps, stopped_stand, works_still}
 use Rattle.ub_exec.proofs.FirstFacts.{all_fetched, on_err}
 use Rattle.ub_exec.specs.Answers.{begun}
-use Rattle.ub_exec.specs.Deleting.{TakesOut, TakesOutBy}
 use Rattle.ub_exec.specs.Reading.{HasReadAll, NotesPages}
 use Rattle.ub_exec.specs.Visits.{HasFetched, HasFetchedFirst}
 use Rattle.ub_table.specs.declared.row.Key.{Key}

@@ -1,11 +1,10 @@
-use Rattle.std.proofs.Common.{◌≡◌, ◌++◌, ◌∙◌, List, [], ap, refl, rules, subst, sym}
+use Rattle.std.proofs.Common.{◌≡◌, ◌++◌, ◌∙◌, List, [], ap, rules, sym}
 use Rattle.std.proofs.lemmas.List.{append-nil}
 use Rattle.std.proofs.lemmas.List.Sorted.{IsNonDecreasingBy-from_sort_by_key}
 use Rattle.std.specs.List.{filter}
 use Rattle.ub_exec.proofs.FirstFacts.{on_err, walked_first}
 use Rattle.ub_exec.proofs.KeyFacts.{deletion_scans, walked_keys}
 use Rattle.ub_exec.proofs.MeantFacts.{walk_fetched}
-use Rattle.ub_exec.specs.Deleting.{IsDeletionOf}
 use Rattle.ub_filter.specs.Choice.{is_chosen}
 use Rattle.ub_table.specs.Region.{keys_of}
 use Rattle.ub_table.specs.declared.row.Key.{Key}
