@@ -72,8 +72,8 @@ abbrev pub answer_of : Result ℕ TreeFault → Result ℕ ReadFault
 answer_of (Ok count) = Ok count
 answer_of (Err fault) = Err (fault_of_tree fault)
 
--- no region that the tree tells of for the boxes was passed over, and all of them were taken in; then, and not before, rows were
--- taken out, in ascending order of number
+-- no region that the tree tells of for the boxes was passed over, and all of them were taken in; then, and not before, rows
+-- were taken out, in ascending order of number
 pub record TakesOutAfter (boxes : List Corners) (old new : TreeView) (result : Result ℕ ReadFault) : Type 0 where
   pub mid : TreeView
   pub same : mid ≡ record old { trace = mid.trace }
@@ -93,9 +93,17 @@ pub record ReadsFirst (boxes : List Corners) (old new : TreeView) (result : Resu
 abbrev pub HasMetDevice : TreeView → TreeView → Type 0
 HasMetDevice old new =
     ((new.is_failed ≡ old.is_failed)
-    × (new.store ≡ record old.store { pages = new.store.pages; synced = new.store.synced; failed_reads = raised old.store.failed_reads 1 }))
+    × (new.store ≡ record old.store {
+      pages = new.store.pages;
+      synced = new.store.synced;
+      failed_reads = raised old.store.failed_reads 1;
+    }))
     ⊎ ((new.is_failed ≡ true)
-    × (new.store ≡ record old.store { pages = new.store.pages; synced = new.store.synced; failed_writes = raised old.store.failed_writes 1 }))
+    × (new.store ≡ record old.store {
+      pages = new.store.pages;
+      synced = new.store.synced;
+      failed_writes = raised old.store.failed_writes 1;
+    }))
 
 -- what can end a deletion, and what it leaves then
 abbrev pub IsDeletionFault : TreeView → TreeView → ReadFault → Type 0
@@ -108,10 +116,17 @@ IsDeletionFault old new (Tree (Store store.Device)) = IsTrue old.store.can_fail 
 IsDeletionFault old new (Tree (Store store.NoPage)) = (¬ (IsSound old)) × Works old new
 IsDeletionFault old new (Tree (Store _)) = ⊥
 
--- a deletion from a tree: what it never touches; that it counts the rows that are gone, and no others; that a sound tree's table is
+-- a deletion from a tree: what it never touches; that it counts the rows that are gone, and no others; that a sound tree is
 -- marked once it has changed; and what it leaves
 pub record Deletes (old new : TreeView) (result : Result ℕ ReadFault) : Type 0 where
-  pub frame : new ≡ record old { placed = new.placed; rows = new.rows; is_changed = new.is_changed; is_failed = new.is_failed; store = new.store; trace = new.trace }
+  pub frame : new ≡ record old {
+    placed = new.placed;
+    rows = new.rows;
+    is_changed = new.is_changed;
+    is_failed = new.is_failed;
+    store = new.store;
+    trace = new.trace;
+  }
   pub counted : IfOk result (λ count. new.rows + count ≡ old.rows)
   pub marked : IsSound old → new.is_changed ≡ true → HasMark old.schema new.store.pages
   pub done : OnOk result (Works old new)

@@ -23,12 +23,13 @@ TreesStandSoundly = (t : TreeView) (s : Stand) → IsStandOf t s → IsStand s
 
 -- where a row of the next number is put in, the regions are those of the table then
 abbrev pub InsertionKeepsStands : Type 0
-InsertionKeepsStands = (s : Stand) (row : Row) → IsStand s → IsRow s.table.schema.dims (measures_of s.table.schema) row → row.number ≡ s.next
-    → IsStand (with_row row s)
+InsertionKeepsStands = (s : Stand) (row : Row) → IsStand s
+    → IsRow s.table.schema.dims (measures_of s.table.schema) row → row.number ≡ s.next → IsStand (with_row row s)
 
 -- where a row of the table is taken out, the regions are those of the table then
 abbrev pub RemovalKeepsStands : Type 0
-RemovalKeepsStands = (s : Stand) (row : Row) → IsStand s → Contains s.table.rows row → IsStand (without_row row s)
+RemovalKeepsStands = (s : Stand) (row : Row) → IsStand s → Contains s.table.rows row
+    → IsStand (without_row row s)
 
 -- a deletion leaves of the table the rows that aren't selected, and no others
 abbrev pub DeletionLeavesTheOthers : Type 0

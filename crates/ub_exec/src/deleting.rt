@@ -18,10 +18,10 @@ use ub_store::PageStore;
 use ub_table::{Key, Row, Schema};
 use ub_tree::{ReadFault, Tree, TreeFault};
 
-/// Takes the rows that a query selects out of a tree's table, by its plan, and says how many they were. A query without GROUP BY,
-/// ORDER BY and LIMIT is meant; its items mean nothing. First all regions that meet the plan's boxes are read, and the keys of the
-/// selected rows are put by; then these rows are taken out, in ascending order of their numbers. The trace begins anew, and has
-/// the pages that were fetched: those of the regions that the plan visits.
+/// Takes the rows that a query selects out of a tree's table, by its plan, and says how many they were. A query without GROUP
+/// BY, ORDER BY and LIMIT is meant; its items mean nothing. First all regions that meet the plan's boxes are read, and the keys
+/// of the selected rows are put by; then these rows are taken out, in ascending order of their numbers. The trace begins anew,
+/// and has the pages that were fetched: those of the regions that the plan visits. Where no row is selected nothing is written.
 ///
 /// After a fault the first rows by number are gone, or none, and the others stand. `Memory` where memory was refused; `Tree`
 /// where the tree refused, as it does where it has failed. On a sound tree it refuses only where its store failed in this call,
@@ -55,9 +55,9 @@ pub fn delete<S: PageStore>(
     Ok(count)
 }
 
-/// The keys of rows that are to be taken out once all are known.
+// The keys of rows that are to be taken out once all are known.
 #[derive(Drop)]
-pub struct Doomed {
+struct Doomed {
     keys: Vec<Key>,
 }
 
@@ -78,7 +78,8 @@ fn keys_of_selected<S: PageStore>(
     plan: &Plan,
 ) -> Result<Vec<Key>, ReadFault>
     requires { IsPosed (length tree.old.schema.columns) plan.now.asked }
-    ensures keys { (s : Stand) → IsStandOf tree.old s → IsDeletionOf tree.old plan.now → IfOk result
+    ensures keys { (s : Stand) → IsStandOf tree.old s → IsDeletionOf tree.old plan.now
+        → IfOk result
         (λ keys. keys.items ≡ keys_of s.table.schema.dims (selected_of plan.now.asked s)) }
     ensures ordered { IfOk result (λ keys. IsNonDecreasingBy (λ key. key.number) keys.items) }
     ensures pages { IsDeletionOf tree.old plan.now → OnOk result
@@ -98,7 +99,7 @@ fn keys_of_selected<S: PageStore>(
     Ok(doomed.keys)
 }
 
-// Takes out the rows with these keys, one after the other. How many of them there were is told by how many rows fewer there are.
+// Takes out the rows with these keys, one after the other. How many of them there were tells the count of the tree's rows.
 fn take_out<S: PageStore>(tree: &mut Tree<S>, keys: &[Key]) -> Result<u32, TreeFault>
     ensures { TakesOutBy keys.now tree.old tree.new result }
 {

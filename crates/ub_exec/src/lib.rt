@@ -6,10 +6,10 @@
 // (`sweeping`); or, where there is a GROUP BY, the rows of one value of its lead after the other, and the groups of each value
 // are made of these rows alone (`grouping`).
 //
-// A deletion walks in the same way first, and its sink puts by the keys of the selected rows. Only then are they taken out of the
-// tree, in the order of their numbers (`deleting`): the regions that are left may be joined by each removal, so that a walk which
-// took rows out on its way would pass over some. Where a table stands, and what it is without some rows, is said in `Stand`; the
-// functions of `law` ensure what holds of that.
+// A deletion walks in the same way first, and its sink puts by the keys of the selected rows. Only then are they taken out of
+// the tree, in the order of their numbers (`deleting`): a removal can join two regions, so that a walk which took rows out on
+// its way would pass over some. Where a table stands, and where it stands without some rows, is said in `Stand`; the functions
+// of `law` ensure what holds of that.
 #![tactic(auto)]
 
 mod deleting;
