@@ -180,14 +180,19 @@ fn ends_where_the_store_fails(rt: HostRuntime) {
     goes(&rt, rt.alloc(), &READS_FAIL, &WRITES_FAIL);
 }
 
-// The closed table of 140 rows at (0,0), (1,0), .. (139,0), in 70 regions of two rows.
-fn long_table(alloc: Global, schema: &Schema) -> Option<MemStore> {
-    let mut tree = Tree::create(alloc, MemStore::new(alloc), schema).ok()?;
+// Puts in a row at (x, 0).
+fn put(tree: &mut Tree<MemStore>, x: u32) -> Option<u32> {
     if tree.schema().dims() != 2 || tree.schema().measures() != 1 {
         return None;
     }
+    tree.insert(&[x, 0], &[0]).ok()
+}
+
+// The closed table of 140 rows at (0,0), (1,0), .. (139,0), in 70 regions of two rows.
+fn long_table(alloc: Global, schema: &Schema) -> Option<MemStore> {
+    let mut tree = Tree::create(alloc, MemStore::new(alloc), schema).ok()?;
     for x in 0..140u32 {
-        tree.insert(&[x, 0], &[0]).ok()?;
+        put(&mut tree, x)?;
     }
     tree.close().ok()
 }
