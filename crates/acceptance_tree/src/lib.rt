@@ -7,6 +7,8 @@ mod calls;
 #[cfg(test)]
 mod changes;
 #[cfg(test)]
+mod deletions;
+#[cfg(test)]
 mod openings;
 #[cfg(test)]
 mod plans;

@@ -1,4 +1,5 @@
 // Steps on a tree and on its store, as data.
+use crate::deletions::deleted;
 use crate::samples::{FIVE_ROWS, NO_ROWS, Sheet, Store, page_of, plane, stored};
 use std::alloc::Global;
 use std::process::Abort;
@@ -22,6 +23,8 @@ pub(crate) enum Step {
     Put(u32, u32, i64),
     // Takes out the row of an address and a number: 1 where it was there.
     Remove(u128, u32),
+    // Deletes the rows whose x is this, or all: how many they were.
+    Delete(Option<u32>),
     // How many rows and regions there are, and 1 where the tree has failed.
     Count,
     // Looks for the first region whose span ends at z or later.
@@ -134,6 +137,10 @@ impl Trial {
             }
             Step::Open => self.open(),
             Step::Close => self.close(),
+            Step::Delete(x) => match &mut self.tree {
+                Some(tree) => deleted(self.alloc, tree, *x),
+                None => NOTHING,
+            },
             Step::List | Step::Pages | Step::HoldsNoRows | Step::HoldsFiveRows =>
                 match &mut self.store {
                     Some(store) => look(&self.schema, store, step),

@@ -1,12 +1,17 @@
 pub mod BreakFacts
 pub mod FirstFacts
 pub mod KeptFacts
+pub mod KeyFacts
+pub mod Laws
 pub mod NotedFacts
 pub mod ComeFacts
+pub mod DeletedFacts
 pub mod WalkFacts
 pub mod VisitFacts
 pub mod MeantFacts
+pub mod StandFacts
 pub mod SweptFacts
+pub mod TakenFacts
 pub mod LedFacts
 pub mod GivenFacts
 pub mod GroupVisitFacts

@@ -141,7 +141,7 @@ module _ (t : TreeView) (sound : IsSound t) (rows : List Row) (are : AreTableRow
       omega (arith, below, last)
 
   -- those that are chosen of what a walk hands over
-  chosen_are : (p : PlanView) (new : TreeView) (handed : List Row) → p ≡ plan_of t.schema p.asked → p.asked.limit ≢ Some 0 → (choice : Choice) → HasWalked p.covering.boxes t new handed
+  pub chosen_are : (p : PlanView) (new : TreeView) (handed : List Row) → p ≡ plan_of t.schema p.asked → p.asked.limit ≢ Some 0 → (choice : Choice) → HasWalked p.covering.boxes t new handed
       → filter (is_chosen choice t.schema p) handed ≡ filter (is_selected t.schema p.asked.filter) handed
   chosen_are p new handed is some choice walk =
       ap (λ (x : PlanView). filter (is_chosen choice t.schema x) handed) is

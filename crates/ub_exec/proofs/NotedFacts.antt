@@ -37,7 +37,7 @@ noted_sum fetches (suc a) (suc b) = let e : suc a + suc b ≡ suc (a + suc b) = 
 
 -- ---- one call after the other
 
-on_ok : {A E : Type 0} (r : Result A E) (P : Type 0) → P → OnOk r P
+pub on_ok : {A E : Type 0} (r : Result A E) (P : Type 0) → P → OnOk r P
 on_ok (Ok x) P p = p
 on_ok (Err e) P p = tt
 

@@ -1,4 +1,7 @@
 pub mod Answers
+pub mod Deleting
+pub mod Laws
 pub mod Reading
+pub mod Stand
 pub mod Sweeping
 pub mod Visits

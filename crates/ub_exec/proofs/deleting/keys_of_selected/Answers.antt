@@ -1,0 +1,37 @@
+use Rattle.std.proofs.Common.{◌≡◌, ◌++◌, ◌∙◌, List, [], ap, rules, sym}
+use Rattle.std.proofs.lemmas.List.{append-nil}
+use Rattle.std.proofs.lemmas.List.Sorted.{IsNonDecreasingBy-from_sort_by_key}
+use Rattle.std.specs.List.{filter}
+use Rattle.ub_exec.proofs.FirstFacts.{on_err, walked_first}
+use Rattle.ub_exec.proofs.KeyFacts.{deletion_scans, walked_keys}
+use Rattle.ub_exec.proofs.MeantFacts.{walk_fetched}
+use Rattle.ub_filter.specs.Choice.{is_chosen}
+use Rattle.ub_table.specs.Region.{keys_of}
+use Rattle.ub_table.specs.declared.row.Key.{Key}
+use Rattle.ub_exec.proofs.deleting.keys_of_selected.Goals as goal
+
+pub returns-clause-ordered : goal.returns-clause-ordered
+returns-clause-ordered g c = IsNonDecreasingBy-from_sort_by_key (λ key. key.number) _ c.sort_unstable_by_key.ensures.sorted (λ a r q k. search rules)
+
+pub returns-clause-keys : goal.returns-clause-keys
+returns-clause-keys g c s stand deletion =
+    let none : c.new.result.items ≡ [] = search rules in
+    let (handed, held, walk) = c.in_ok-walk.ensures.rows (record { keys = c.new.result }) [] (sym (append-nil c.new.result.items)) in
+    let chosen = keys_of c.args.tree.now.schema.dims (filter (is_chosen c.of-choice.result c.args.tree.now.schema c.args.plan.now) handed) in
+    let gathered : c.walk.new.sink.keys.items ≡ chosen = held ∙ ap (λ (keys : List Key). keys ++ chosen) none in
+    walked_keys c.args.tree.now c.walk.new.tree s c.args.plan.now c.of-choice.result handed c.walk.new.sink.keys.items _ stand deletion (walk stand.sound) gathered
+    c.sort_unstable_by_key.ensures.permutation
+    (IsNonDecreasingBy-from_sort_by_key (λ key. key.number) _ c.sort_unstable_by_key.ensures.sorted (λ a r q k. search rules))
+
+pub returns-clause-pages : goal.returns-clause-pages
+returns-clause-pages g c deletion =
+    let (handed, held, walk) = c.in_ok-walk.ensures.rows (record { keys = c.new.result }) [] (sym (append-nil c.new.result.items)) in
+    let ready = deletion.ready in
+    walk_fetched c.args.plan.now c.args.tree.now c.walk.new.tree handed ready.sound ready.planned (deletion_scans c.args.tree.now.schema c.args.plan.now ready.planned deletion.plain) (walk ready.sound)
+
+pub returns-in_err-walk-clause-broken : goal.returns-in_err-walk-clause-broken
+returns-in_err-walk-clause-broken g c deletion =
+    let ready = deletion.ready in
+    on_err c.from_residual.result _
+    (walked_first c.args.plan.now c.args.tree.now c.walk.new.tree ready (deletion_scans c.args.tree.now.schema c.args.plan.now ready.planned deletion.plain)
+    (c.in_err-walk.ensures.broken (record { keys = c.new.result }) [] (sym (append-nil c.new.result.items)) ready.sound))

@@ -1,0 +1,134 @@
+-- What a deletion does to a tree, also to one that isn't sound.
+use Rattle.std.specs.Prelude.{◌≡◌, ◌+◌, ◌++◌, ◌∷◌, ◌⊎◌, [], ℕ, suc, Bool, true, false, if◌then◌else◌, IsTrue, List, None, Result, Ok, Err, IfErr, IfOk, OnOk}
+use Rattle.std.specs.List.Sorted.{IsNonDecreasingBy}
+use Rattle.ub_bigmin.specs.Box.{Corners}
+use Rattle.ub_exec.specs.Answers.{IsReady, begun}
+use Rattle.ub_exec.specs.Reading.{HasReadAll, NotesPages}
+use Rattle.ub_planning.specs.Plan.{PlanView}
+use Rattle.ub_query.specs.Shape.{Asked}
+use Rattle.ub_store.specs.Facts.{IsHonest, raised}
+use Rattle.ub_store.specs.declared.fault.StoreFault.TheVariants as store
+use Rattle.ub_table.specs.declared.row.Key.{Key}
+use Rattle.ub_tree.specs.Effects.{Changes, Works}
+use Rattle.ub_tree.specs.Holding.{AnswersRemoval, index_for}
+use Rattle.ub_tree.specs.Others.{ShrinksAt}
+use Rattle.ub_tree.specs.Reading.{ReadsTree, fault_of_tree}
+use Rattle.ub_tree.specs.Removal.{IsRemoved, IsRemovalFault}
+use Rattle.ub_tree.specs.View.{TreeView, IsSound}
+use Rattle.ub_tree.specs.declared.fault.TreeFault.{TreeFault}
+use Rattle.ub_tree.specs.declared.fault.TreeFault.TheVariants.{Full, Page, Store, Failed, Memory as no_memory}
+use Rattle.ub_tree.specs.declared.read_fault.ReadFault.{ReadFault}
+use Rattle.ub_tree.specs.declared.read_fault.ReadFault.TheVariants.{Memory, Tree}
+use Rattle.ub_writing.specs.Marks.{HasMark}
+
+-- a deletion asks for no groups, no order and no limit: each selected row is taken out
+abbrev pub IsDeletion : Asked → Type 0
+IsDeletion q = (q.group ≡ []) × (q.order ≡ []) × (q.limit ≡ None)
+
+-- the plan is that of a deletion from this tree, which is sound
+pub record IsDeletionOf (t : TreeView) (p : PlanView) : Type 0 where
+  pub ready : IsReady t p
+  pub plain : IsDeletion p.asked
+
+-- ---- rows taken out of any tree
+
+-- the row of a key was asked to be taken out, with this answer: all that `Tree::remove` says
+pub record Removes (key : Key) (old new : TreeView) (result : Result Bool TreeFault) : Type 0 where
+  pub removed : IsSound old → IfOk result (λ found. IsRemoved key found old new)
+  pub untouched : IfOk result (λ found. found ≡ false → new ≡ old)
+  pub counted : IfOk result (λ found. found ≡ true
+      → (new.next ≡ old.next) × (new.rows + 1 ≡ old.rows) × ShrinksAt (index_for old key) old new)
+  pub refused : old.is_failed ≡ false → IsHonest old.store → AnswersRemoval old key result
+  pub effect : Changes old new result
+  pub faults : IfErr result (IsRemovalFault old)
+
+-- the rows of these keys were taken out, one after the other, but for those that weren't there; so many were
+abbrev pub TakesOut : List Key → TreeView → TreeView → ℕ → Type 0
+TakesOut [] old new count = (count ≡ 0) × (new ≡ old)
+TakesOut (key ∷ keys) old new count =
+    (found : Bool) × (mid : TreeView) × (more : ℕ) × Removes key old mid (Ok found) × TakesOut keys mid new more
+    × (count ≡ (if found then suc more else more))
+
+-- so it was with the first of these keys; the next one met this fault
+pub record StopsAt (keys : List Key) (old new : TreeView) (fault : TreeFault) : Type 0 where
+  pub front : List Key
+  pub key : Key
+  pub left : List Key
+  pub parts : keys ≡ front ++ key ∷ left
+  pub mid : TreeView
+  pub count : ℕ
+  pub taken : TakesOut front old mid count
+  pub ended : Removes key mid new (Err fault)
+
+-- so it was with all of them, or a fault ended it
+abbrev pub TakesOutBy : List Key → TreeView → TreeView → Result ℕ TreeFault → Type 0
+TakesOutBy keys old new (Ok count) = TakesOut keys old new count
+TakesOutBy keys old new (Err fault) = StopsAt keys old new fault
+
+-- ---- a deletion from any tree
+
+-- what a deletion answers where taking out answers this
+abbrev pub answer_of : Result ℕ TreeFault → Result ℕ ReadFault
+answer_of (Ok count) = Ok count
+answer_of (Err fault) = Err (fault_of_tree fault)
+
+-- no region that the tree tells of for the boxes was passed over, and all of them were taken in; then, and not before, rows
+-- were taken out, in ascending order of number
+pub record TakesOutAfter (boxes : List Corners) (old new : TreeView) (result : Result ℕ ReadFault) : Type 0 where
+  pub mid : TreeView
+  pub same : mid ≡ record old { trace = mid.trace }
+  pub read : HasReadAll boxes old mid
+  pub keys : List Key
+  pub ordered : IsNonDecreasingBy (λ key. key.number) keys
+  pub told : Result ℕ TreeFault
+  pub taken : TakesOutBy keys mid new told
+  pub result_is : result ≡ answer_of told
+
+-- pages were noted, and where a fault ended that, the tree was read and no more; else rows were taken out
+pub record ReadsFirst (boxes : List Corners) (old new : TreeView) (result : Result ℕ ReadFault) : Type 0 where
+  pub notes : NotesPages old new result
+  pub first : (OnOk result ⊥ × ReadsTree old new result) ⊎ TakesOutAfter boxes old new result
+
+-- a call of the store failed: a read, and the tree works as it did; or a write, an extension or a sync, and it has failed
+abbrev pub HasMetDevice : TreeView → TreeView → Type 0
+HasMetDevice old new =
+    ((new.is_failed ≡ old.is_failed)
+    × (new.store ≡ record old.store {
+      pages = new.store.pages;
+      synced = new.store.synced;
+      failed_reads = raised old.store.failed_reads 1;
+    }))
+    ⊎ ((new.is_failed ≡ true)
+    × (new.store ≡ record old.store {
+      pages = new.store.pages;
+      synced = new.store.synced;
+      failed_writes = raised old.store.failed_writes 1;
+    }))
+
+-- what can end a deletion, and what it leaves then
+abbrev pub IsDeletionFault : TreeView → TreeView → ReadFault → Type 0
+IsDeletionFault old new Memory = Works old new
+IsDeletionFault old new (Tree Full) = ⊥
+IsDeletionFault old new (Tree Failed) = IsTrue old.is_failed × (new ≡ begun old)
+IsDeletionFault old new (Tree no_memory) = ⊥
+IsDeletionFault old new (Tree (Page page fault)) = (¬ (IsSound old)) × Works old new
+IsDeletionFault old new (Tree (Store store.Device)) = IsTrue old.store.can_fail × HasMetDevice old new
+IsDeletionFault old new (Tree (Store store.NoPage)) = (¬ (IsSound old)) × Works old new
+IsDeletionFault old new (Tree (Store _)) = ⊥
+
+-- a deletion from a tree: what it never touches; that it counts the rows that are gone, and no others; that a sound tree is
+-- marked once it has changed; and what it leaves
+pub record Deletes (old new : TreeView) (result : Result ℕ ReadFault) : Type 0 where
+  pub frame : new ≡ record old {
+    placed = new.placed;
+    rows = new.rows;
+    is_changed = new.is_changed;
+    is_failed = new.is_failed;
+    store = new.store;
+    trace = new.trace;
+  }
+  pub counted : IfOk result (λ count. new.rows + count ≡ old.rows)
+  pub marked : IsSound old → new.is_changed ≡ true → HasMark old.schema new.store.pages
+  pub done : OnOk result (Works old new)
+  pub left : IfErr result (IsDeletionFault old new)
+  pub failed : IsTrue old.is_failed → result ≡ Err (Tree Failed)
