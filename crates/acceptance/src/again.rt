@@ -16,10 +16,15 @@ const DONE: Result<Summary, RunFault> = Ok(Summary {
     refused: 1,
 });
 
-// Which call of the store fails, how the first run ends, and of how many statements the texts stand then. Opening makes two calls. The
-// first statement reads the last region, the third one the first region, and the fifth one the second region: each is cached then.
-static RUNS: [(u64, Result<Summary, RunFault>, usize); 4] =
-    [(3, DEVICE, 0), (4, DEVICE, 2), (5, DEVICE, 4), (6, DONE, 7)];
+// Which call of the store fails, how the first run ends, and of how many statements the texts stand then. Opening makes two
+// calls. The first statement reads the last region, the third one the first region, and the fifth one the second region: each
+// is cached then.
+static RUNS: [(u64, Result<Summary, RunFault>, usize); 4] = [
+    (3, DEVICE, 0),
+    (4, DEVICE, 2),
+    (5, DEVICE, 4),
+    (6, DONE, 7),
+];
 
 // The closed table, opened over a store that fails at its k-th call.
 fn opened(alloc: Global, k: u64) -> Option<Tree<Store>> {

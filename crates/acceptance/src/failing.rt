@@ -8,6 +8,7 @@ use ub_tree::{Tree, TreeFault};
 
 // Creation makes five calls of the store. The insertion of a row reads the region, and writes it.
 const READ: u64 = 6;
+
 const WRITE: u64 = 7;
 
 // A script, and what is written before it ends as Failed.
@@ -19,7 +20,10 @@ static SCRIPTS: [(&[u8], &str); 8] = [
     (b"SELECT x FROM t ORDER BY x;", ""),
     (b"SELECT x FROM t GROUP BY x;", ""),
     (b"SELECT COUNT(*) FROM t WHERE x > 4294967295;", ""),
-    (b"SELECT z FROM t; SELECT x FROM t;", "! UnknownColumn at 7\n"),
+    (
+        b"SELECT z FROM t; SELECT x FROM t;",
+        "! UnknownColumn at 7\n",
+    ),
 ];
 
 // The schema of a table of one dimension.

@@ -1,6 +1,6 @@
-// Tests across crates that no transcript can show (those that one can stand in the crate `transcripts`): the words of faults as they
-// are displayed, loads into stores that fail and scripts over them, outputs that fail, scripts of any bytes and of many statements,
-// the help of each command, and the nearest addresses of many boxes.
+// Tests across crates that no transcript can show (those that one can stand in the crate `transcripts`): the words of faults as
+// they are displayed, loads into stores that fail and scripts over them, outputs that fail, scripts of any bytes and of many
+// statements, the help of each command, and the nearest addresses of many boxes.
 #![tactic(auto)]
 
 #[cfg(test)]

@@ -129,8 +129,8 @@ fn whole(alloc: Global) -> Result<Vec<u8>, AllocError> {
     Ok(text)
 }
 
-// Whether a run of the worked script, over a writer whose call that is due is refused, is cut off there and makes no call more; where
-// as many calls are made as the text has bytes, it is done.
+// Whether a run of the worked script, over a writer whose call that is due is refused, is cut off there and makes no call more;
+// where as many calls are made as the text has bytes, it is done.
 fn is_cut_off(
     alloc: Global,
     tree: &mut Tree<MemStore>,
@@ -181,6 +181,9 @@ fn count_right(alloc: Global, how: Refusal) -> Option<(usize, usize)> {
 fn is_cut_off_at_each_byte(rt: HostRuntime) {
     for how in [Refusal::Fails, Refusal::TakesNone, Refusal::Interrupts] {
         let right = count_right(rt.alloc(), how);
-        assert!(rt; matches!(right, Some((count, length)) if count == length + 1), "{right:?}");
+        assert!(rt;
+            matches!(right, Some((count, length)) if count == length + 1),
+            "{right:?}"
+        );
     }
 }

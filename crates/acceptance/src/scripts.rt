@@ -1,7 +1,7 @@
 // Scripts that no transcript can hold: bytes that are no text, each single byte, and very many statements.
 use crate::worked::DATA;
 use std::alloc::{AllocError, Global};
-use ub_script::{Over, RunFault, Summary, try_text};
+use ub_script::{Over, Summary, try_text};
 
 // A script on the worked table, how many statements it has, how many of them are refused, and what is written.
 struct Case {
@@ -92,8 +92,7 @@ static CASES: [Case; 12] = [
 // Whether a script on the worked table, two rows on a page, is run to its end, with this summary and text.
 fn is_run(alloc: Global, script: &[u8], summary: Summary, text: &[u8]) -> bool {
     let mut out = Over::new(Vec::new(alloc));
-    let ended: Result<Summary, RunFault> =
-        try_text(alloc, DATA, 2, 2, b"t", script, &mut out);
+    let ended = try_text(alloc, DATA, 2, 2, b"t", script, &mut out);
     ended == Ok(summary) && out.into_inner().as_slice() == text
 }
 

@@ -204,7 +204,8 @@ static CASES: [Case; 10] = [
     },
 ];
 
-// The closed table of five rows, two on a page: rows 1 and 4 in the first region, row 3 in the second, and rows 2 and 5 in the third.
+// The closed table of five rows, two on a page: rows 1 and 4 in the first region, row 3 in the second, and rows 2 and 5 in the
+// third.
 static SMALL: [Case; 3] = [
     // Both insertions find a full region.
     Case {

@@ -1,5 +1,5 @@
-// Queries over the closed table of five rows (`sweep`) whose store fails once while it is read: the same query on the same tree is
-// answered as ever then, and so is how it is read.
+// Queries over the closed table of five rows (`sweep`) whose store fails once while it is read: the same query on the same tree
+// is answered as ever then, and so is how it is read.
 ghost use Rattle.std.specs.Prelude.{◌≡◌};
 ghost use Rattle.ub_query.specs.Posed.{IsPosed};
 
@@ -13,8 +13,8 @@ use ub_query::Cell;
 use ub_store::StoreFault;
 use ub_tree::{Tree, TreeFault};
 
-// SELECT m FROM t ORDER BY two columns, each down or up: the measures that it gives, and how it is explained. It reads each of the
-// three regions.
+// SELECT m FROM t ORDER BY two columns, each down or up: the measures that it gives, and how it is explained. It reads each of
+// the three regions.
 struct Case {
     first: (usize, bool),
     second: (usize, bool),
@@ -28,21 +28,22 @@ static CASES: [Case; 2] = [
         first: (0, true),
         second: (2, false),
         given: &[5, 1, 20, 10, 7],
-        explained: "plan sweep x desc\ncover exact\nfilter no\nbox x 0..4294967295, y 0..4294967295\n\
-            points 18446744073709551616\nregions 3 of 3\n",
+        explained: "plan sweep x desc\ncover exact\nfilter no\n\
+            box x 0..4294967295, y 0..4294967295\npoints 18446744073709551616\nregions 3 of 3\n",
     },
     // A scan.
     Case {
         first: (2, false),
         second: (0, false),
         given: &[1, 5, 7, 10, 20],
-        explained: "plan scan\ncover exact\nfilter no\nbox x 0..4294967295, y 0..4294967295\n\
-            points 18446744073709551616\nregions 3 of 3\n",
+        explained: "plan scan\ncover exact\nfilter no\n\
+            box x 0..4294967295, y 0..4294967295\npoints 18446744073709551616\nregions 3 of 3\n",
     },
 ];
 
 // Opening reads two pages of the store, and the query three.
 const FIRST_READ: u64 = 3;
+
 const LAST_READ: u64 = 5;
 
 // Whether these are rows of one number each.
