@@ -1,8 +1,10 @@
-// Tests across crates that no transcript can show (those that one can stand in the crate `transcripts`): the words of faults as they
-// are displayed, loads into stores that fail and trees over them, outputs that fail, the help of each command, and the nearest
-// addresses of many boxes.
+// Tests across crates that no transcript can show (those that one can stand in the crate `transcripts`): the words of faults as
+// they are displayed, loads into stores that fail and scripts over them, outputs that fail, scripts of any bytes and of many
+// statements, the help of each command, and the nearest addresses of many boxes.
 #![tactic(auto)]
 
+#[cfg(test)]
+mod again;
 #[cfg(test)]
 mod boxes;
 #[cfg(test)]
@@ -14,4 +16,8 @@ mod loads;
 #[cfg(test)]
 mod outputs;
 #[cfg(test)]
+mod scripts;
+#[cfg(test)]
 mod words;
+#[cfg(test)]
+mod worked;

@@ -1,20 +1,38 @@
 // Loads into a store that fails. The command `load` makes its table in memory first, so that it can't show them.
+use crate::worked::DATA;
 use std::alloc::Global;
 use ub_load::{LoadFault, load};
 use ub_store::{FaultyStore, MemStore, StoreFault};
 use ub_tree::TreeFault;
 
+// How many calls of its store the load of five rows makes, two on a page: five for the table with no rows (the first page is
+// added, and marked as that of a changed table; two pages are added, and the first region is written). The first row reads the
+// region and writes it, the second one writes it, which is cached. The third one finds it full, adds a page and writes both,
+// and so does the fourth. The fifth row goes to the region that the third one made: that is read, and written.
+const CALLS: u64 = 5 + 2 + 1 + 3 + 3 + 2;
+
 // Whether a load ends with the device's fault where its store fails at this call.
 fn is_ended(alloc: Global, call: u64) -> bool {
     let store = FaultyStore::new(MemStore::new(alloc), call);
     matches!(
-        load(alloc, b"x,y\n1,2\n", 2, 2, b"t", store),
+        load(alloc, DATA, 2, 2, b"t", store),
         Err(LoadFault::Tree(TreeFault::Store(StoreFault::Device)))
     )
 }
 
-// The store's first call makes the first page, and the sixth comes with the first row.
+// Whether it is done where its store would fail at this call.
+fn is_done(alloc: Global, call: u64) -> bool {
+    let store = FaultyStore::new(MemStore::new(alloc), call);
+    match load(alloc, DATA, 2, 2, b"t", store) {
+        Ok(tree) => tree.rows() == 5 && tree.regions() == 3,
+        Err(_) => false,
+    }
+}
+
 #[test]
 fn end_where_the_store_fails(rt: HostRuntime) {
-    assert!(rt; is_ended(rt.alloc(), 1) && is_ended(rt.alloc(), 6));
+    for call in 1..=CALLS {
+        assert!(rt; is_ended(rt.alloc(), call), "call {call}");
+    }
+    assert!(rt; is_done(rt.alloc(), CALLS + 1));
 }

@@ -1,7 +1,11 @@
 // A write that fails isn't tried again, of whatever kind its error is, and however long the text is.
-use std::alloc::Global;
+use crate::worked::{DATA, SCRIPT, TEXTS};
+use std::alloc::{AllocError, Global};
 use std::io::{self, Write};
-use ub_script::{OutFault, Over, put_all};
+use ub_load::load;
+use ub_script::{OutFault, Over, RunFault, Summary, put_all, run};
+use ub_store::MemStore;
+use ub_tree::Tree;
 
 /// Takes so many bytes, then says once that it was interrupted, and would take all that comes after that.
 #[derive(Drop)]
@@ -75,4 +79,111 @@ fn is_whole_where_there_is_room(rt: HostRuntime) {
     let ended = put_all(&mut out, text(rt.alloc(), 100_000).as_slice());
     let writer = out.into_inner();
     assert!(rt; ended.is_ok() && writer.taken == 100_000 && writer.calls == 1);
+}
+
+/// How a writer refuses a call.
+#[derive(Clone, Copy)]
+enum Refusal {
+    Fails,
+    TakesNone,
+    Interrupts,
+}
+
+/// Takes one byte a call, refuses the call that is due, and would take more after it.
+#[derive(Drop)]
+struct Bytewise {
+    taken: Vec<u8>,
+    calls: usize,
+    due: usize,
+    how: Refusal,
+}
+
+impl Write for Bytewise {
+    fn write(&mut self, bytes: &[u8]) -> io::Result<usize> {
+        self.calls = self.calls.saturating_add(1);
+        if self.calls == self.due {
+            return match self.how {
+                Refusal::Fails => Err(io::Error::from(io::ErrorKind::StorageFull)),
+                Refusal::TakesNone => Ok(0),
+                Refusal::Interrupts => Err(io::Error::from(io::ErrorKind::Interrupted)),
+            };
+        }
+        let Some(first) = bytes.first() else {
+            return Ok(0);
+        };
+        self.taken.push(*first)?;
+        Ok(1)
+    }
+
+    fn flush(&mut self) -> io::Result<()> {
+        Ok(())
+    }
+}
+
+// The text of the worked script.
+fn whole(alloc: Global) -> Result<Vec<u8>, AllocError> {
+    let mut text = Vec::new(alloc);
+    for part in &TEXTS {
+        text.extend_from_slice(part.as_bytes())?;
+    }
+    Ok(text)
+}
+
+// Whether a run of the worked script, over a writer whose call that is due is refused, is cut off there and makes no call more;
+// where as many calls are made as the text has bytes, it is done.
+fn is_cut_off(
+    alloc: Global,
+    tree: &mut Tree<MemStore>,
+    text: &[u8],
+    due: usize,
+    how: Refusal,
+) -> bool {
+    let mut out = Over::new(Bytewise {
+        taken: Vec::new(alloc),
+        calls: 0,
+        due,
+        how,
+    });
+    let ended = run(alloc, tree, SCRIPT, &mut out);
+    let calls = due.min(text.len());
+    let (wanted, count) = if due > text.len() {
+        let summary = Summary {
+            statements: 7,
+            refused: 1,
+        };
+        (Ok(summary), calls)
+    } else {
+        (Err(RunFault::Write), calls.saturating_sub(1))
+    };
+    let writer = out.into_inner();
+    ended == wanted && writer.calls == calls && writer.taken.as_slice() == &text[..count]
+}
+
+// How many calls in turn, from the first one to the one after all of them, were refused so, up to the first that wasn't.
+fn count_cut_off(alloc: Global, tree: &mut Tree<MemStore>, text: &[u8], how: Refusal) -> usize {
+    for due in 1..=text.len() + 1 {
+        if !is_cut_off(alloc, tree, text, due, how) {
+            return due - 1;
+        }
+    }
+    text.len() + 1
+}
+
+// The same over the worked table, and how many bytes the text has, if memory is there.
+fn count_right(alloc: Global, how: Refusal) -> Option<(usize, usize)> {
+    let text = whole(alloc).ok()?;
+    let mut tree = load(alloc, DATA, 2, 2, b"t", MemStore::new(alloc)).ok()?;
+    let right = count_cut_off(alloc, &mut tree, text.as_slice(), how);
+    Some((right, text.as_slice().len()))
+}
+
+#[test]
+fn is_cut_off_at_each_byte(rt: HostRuntime) {
+    for how in [Refusal::Fails, Refusal::TakesNone, Refusal::Interrupts] {
+        let right = count_right(rt.alloc(), how);
+        assert!(rt;
+            matches!(right, Some((count, length)) if count == length + 1),
+            "{right:?}"
+        );
+    }
 }

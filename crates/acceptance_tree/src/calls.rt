@@ -1,8 +1,9 @@
-// How many calls of its store each call of a tree makes, and how many pages it adds.
+// How many calls of its store each call of a tree makes, how many pages it adds, and what is left where one of them fails.
 //
 // Each case is run over a store that fails at its first call, over one that fails at its second call, and so on, up to the
-// call after all that its steps make. So each step makes just the calls that stand beside it.
-use crate::samples::{Sheet, plane_of};
+// call after all that its steps make. So each step makes just the calls that stand beside it. After a failed read the same
+// step is answered as ever, and so are the others; after another failure the tree answers nothing any more.
+use crate::samples::{FIVE_ROWS, Sheet, plane_of};
 use crate::trial::{Answer, DEVICE, DONE, NOTHING, Step, Trial};
 use std::alloc::Global;
 use ub_page::Entry;
@@ -203,6 +204,55 @@ static CASES: [Case; 10] = [
     },
 ];
 
+// The closed table of five rows, two on a page: rows 1 and 4 in the first region, row 3 in the second, and rows 2 and 5 in the
+// third.
+static SMALL: [Case; 3] = [
+    // Both insertions find a full region.
+    Case {
+        sheets: &FIVE_ROWS,
+        steps: &[
+            Made(Step::Open, DONE, b"rr"),
+            // Reads the region; adds a page; marks; writes the new region, and then the old one.
+            Made(Step::Put(1, 1, 0), Ok([6, 0, 0, 0]), b"rewww"),
+            Made(Step::Put(3, 3, 0), Ok([7, 0, 0, 0]), b"reww"),
+            Made(Step::Count, Ok([7, 5, 0, 0]), b""),
+            Made(Step::Close, DONE, b"wsws"),
+            Made(Step::Open, DONE, b"rr"),
+            Made(Step::Walk, Ok([5, 0, 15, 5]), b""),
+            Made(Step::Close, DONE, b""),
+        ],
+    },
+    // The third region loses both its rows, and is joined with the second one.
+    Case {
+        sheets: &FIVE_ROWS,
+        steps: &[
+            Made(Step::Open, DONE, b"rr"),
+            // One row is enough. Reads the region; marks; writes the region.
+            Made(Step::Remove(13, 2), Ok([1, 0, 0, 0]), b"rww"),
+            // None is few, and there is no next region. Reads the one before, and writes that.
+            Made(Step::Remove(13, 5), Ok([1, 0, 0, 0]), b"rw"),
+            Made(Step::Remove(13, 2), DONE, b""),
+            Made(Step::Count, Ok([3, 2, 0, 0]), b""),
+            Made(Step::Span(LAST), Ok([10, LAST, 3, 3]), b""),
+            Made(Step::Close, DONE, b"wsws"),
+            Made(Step::Open, DONE, b"rr"),
+            Made(Step::Walk, Ok([2, 0, 10, 2]), b""),
+            Made(Step::Close, DONE, b""),
+        ],
+    },
+    // A trace that notes two regions stays where a change fails.
+    Case {
+        sheets: &FIVE_ROWS,
+        steps: &[
+            Made(Step::Open, DONE, b"rr"),
+            Made(Step::Span(0), Ok([0, 9, 1, 4]), b"r"),
+            Made(Step::Span(LAST), Ok([13, LAST, 2, 5]), b"r"),
+            Made(Step::Remove(3, 1), Ok([1, 0, 0, 0]), b"ww"),
+            Made(Step::Close, DONE, b"wsws"),
+        ],
+    },
+];
+
 // How many calls of the store the steps make.
 fn count_calls(steps: &[Made]) -> usize {
     let mut count = 0usize;
@@ -223,15 +273,67 @@ fn count_added(calls: &[u8]) -> usize {
     count
 }
 
-// Whether all is left as it should be by a step of which this call failed, with so many pages: after a failed read the tree
-// goes on, after another failure it does no more, and where it was opened or closed the store is handed back.
-fn is_left(trial: &mut Trial, step: &Step, call: u8, pages: usize) -> bool {
-    let closed = match step {
-        Step::Open | Step::Close => NOTHING,
-        _ if call == b'r' => DONE,
-        _ => FAILED,
+// What is asked of a tree that has failed, but for the readers.
+static REFUSED: [Step; 7] = [
+    Step::Put(0, 0, 0),
+    Step::Remove(0, 1),
+    Step::Seek(0),
+    Step::Meet(0),
+    Step::Span(0),
+    Step::Least(1),
+    Step::Walk,
+];
+
+// Whether a tree that has failed answers all of that as Failed.
+fn is_refused(trial: &mut Trial) -> bool {
+    for step in &REFUSED {
+        if trial.answer(step) != FAILED {
+            return false;
+        }
+    }
+    true
+}
+
+// What the readers of a tree tell: of its rows and regions, its schema, and its trace.
+fn told(trial: &mut Trial) -> [Answer; 3] {
+    [
+        trial.answer(&Step::Count),
+        trial.answer(&Step::Shape),
+        trial.answer(&Step::Trace),
+    ]
+}
+
+// How many rows and regions the same tree counts once it has failed.
+fn counted_failed(count: Answer) -> Answer {
+    let numbers = count?;
+    Ok([numbers[0], numbers[1], 1, 0])
+}
+
+// What the readers tell of the same tree once it has failed.
+fn failed(told: [Answer; 3]) -> [Answer; 3] {
+    [counted_failed(told[0]), told[1], told[2]]
+}
+
+// Whether a tree that had told this has failed: it tells the same, can begin anew, and answers nothing else, and closing it
+// hands the store back.
+fn is_stopped(trial: &mut Trial, before: [Answer; 3]) -> bool {
+    told(trial) == failed(before)
+        && is_refused(trial)
+        && told(trial) == failed(before)
+        && trial.answer(&Step::Begin) == DONE
+        && trial.answer(&Step::Trace) == DONE
+        && is_refused(trial)
+        && trial.answer(&Step::Close) == FAILED
+}
+
+// Whether all is left as it should be by a step that wrote, added or synced a page and failed: where it was the closing, the
+// store was handed back.
+fn is_left(trial: &mut Trial, step: &Step, before: [Answer; 3], pages: usize) -> bool {
+    let is_over = match step {
+        Step::Close => trial.answer(&Step::Close) == NOTHING,
+        _ => is_stopped(trial, before),
     };
-    trial.answer(&Step::Close) == closed && has_pages(trial, pages)
+    is_over && has_pages(trial, pages)
 }
 
 // Whether the store that the tree left has so many pages.
@@ -248,16 +350,24 @@ fn goes_over(trial: &mut Trial, case: &Case, good: usize) -> bool {
     let mut left = good;
     let mut pages = case.sheets.len();
     for Made(step, wanted, calls) in case.steps {
-        let answer = trial.answer(step);
+        let before = told(trial);
+        let mut answer = trial.answer(step);
         if left < calls.len() {
-            let added = count_added(&calls[..left]);
-            return answer == DEVICE
-                && is_left(trial, step, calls[left], pages.saturating_add(added));
+            if answer != DEVICE {
+                return false;
+            }
+            if calls[left] != b'r' {
+                pages = pages.saturating_add(count_added(&calls[..left]));
+                return is_left(trial, step, before, pages);
+            }
+            // A store fails once.
+            answer = trial.answer(step);
+            left = usize::MAX;
         }
         if answer != *wanted {
             return false;
         }
-        left -= calls.len();
+        left = left.saturating_sub(calls.len());
         pages = pages.saturating_add(count_added(calls));
     }
     has_pages(trial, pages)
@@ -283,17 +393,23 @@ fn count_right(trial: &mut Trial, cases: &[Case]) -> usize {
     cases.len()
 }
 
-// How many cases of the table go so, up to the first that doesn't.
-fn cases_right(alloc: Global) -> usize {
-    let Ok(schema) = plane_of(4) else {
+// How many of these cases of tables with so many rows on a page go so, up to the first that doesn't.
+fn cases_right(alloc: Global, page_rows: u32, cases: &[Case]) -> usize {
+    let Ok(schema) = plane_of(page_rows) else {
         return 0;
     };
     let mut trial = Trial::new(alloc, schema);
-    count_right(&mut trial, &CASES)
+    count_right(&mut trial, cases)
 }
 
 #[test]
 fn each_call_of_a_tree_makes_so_many_of_its_store(rt: HostRuntime) {
-    let right = cases_right(rt.alloc());
+    let right = cases_right(rt.alloc(), 4, &CASES);
     assert!(rt; right == CASES.len(), "{right} cases were right");
+}
+
+#[test]
+fn each_call_of_a_small_tree_too(rt: HostRuntime) {
+    let right = cases_right(rt.alloc(), 2, &SMALL);
+    assert!(rt; right == SMALL.len(), "{right} cases were right");
 }

@@ -1,5 +1,5 @@
-// Tests of trees over stores and of sweeps over trees, by their public calls alone. `trial` has the steps that they are made of.
-// The values come from worked rows and hand arithmetic, never from the program's own output.
+// Tests of trees over stores, and of sweeps and queries over trees, by their public calls alone. `trial` has the steps that
+// they are made of. The values come from worked rows and hand arithmetic, never from the program's own output.
 #![tactic(auto)]
 
 #[cfg(test)]
@@ -12,6 +12,8 @@ mod deletions;
 mod openings;
 #[cfg(test)]
 mod plans;
+#[cfg(test)]
+mod queries;
 #[cfg(test)]
 mod samples;
 #[cfg(test)]

@@ -65,7 +65,7 @@ pub(crate) fn planned(
 }
 
 // The plan of SELECT m FROM t ORDER BY two columns, each of them down or up.
-fn plan_by(
+pub(crate) fn plan_by(
     alloc: Global,
     schema: &Schema,
     first: (usize, bool),

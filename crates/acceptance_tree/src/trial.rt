@@ -27,12 +27,16 @@ pub(crate) enum Step {
     Delete(Option<u32>),
     // How many rows and regions there are, and 1 where the tree has failed.
     Count,
+    // How many dimensions, measures and columns there are, and how many rows on a page.
+    Shape,
     // Looks for the first region whose span ends at z or later.
     Seek(u128),
     // The span of that region, and the numbers of its first and last row, or zeros.
     Span(u128),
     // The same of that region, read from this page.
     Elsewhere(u128, u32),
+    // The same of the least key alone as a region, with no search before it, read from this page.
+    Least(u32),
     // How many regions there are, of which each is both the first after the one before it and the first there that meets the
     // whole plane, where the first and the last of them begin, and how many regions the tree counts.
     Walk,
@@ -245,9 +249,11 @@ fn ask(tree: &mut Tree<Store>, step: &Step) -> Answer {
             u128::from(tree.has_failed()),
             0,
         ]),
+        Step::Shape => Ok(shape_of(tree.schema())),
         Step::Seek(z) => seek(tree, *z),
         Step::Span(z) => read(tree, *z, None),
         Step::Elsewhere(z, page) => read(tree, *z, Some(*page)),
+        Step::Least(page) => read_region(tree, &least_on(*page)),
         Step::Walk => meet(tree, 0, true),
         Step::Meet(low) => meet(tree, *low, false),
         Step::Trace => traced(tree.trace()),
@@ -257,6 +263,16 @@ fn ask(tree: &mut Tree<Store>, step: &Step) -> Answer {
         }
         _ => NOTHING,
     }
+}
+
+// How many dimensions, measures and columns a schema has, and how many rows on a page.
+fn shape_of(schema: &Schema) -> [u128; 4] {
+    [
+        u128::from(schema.dims()),
+        u128::from(schema.measures()),
+        schema.columns().len() as u128,
+        u128::from(schema.page_rows()),
+    ]
 }
 
 // The number of a row that is put in.
@@ -288,8 +304,24 @@ fn read(tree: &mut Tree<Store>, z: u128, page: Option<u32>) -> Answer {
         return NOTHING;
     };
     region.page = page.unwrap_or(region.page);
+    read_region(tree, &region)
+}
+
+// The region of the least key alone, on this page.
+fn least_on(page: u32) -> Region {
+    Region {
+        first: Key { z: 0, number: 0 },
+        next: None,
+        from: 0,
+        to: 0,
+        page,
+    }
+}
+
+// What stands in a region.
+fn read_region(tree: &mut Tree<Store>, region: &Region) -> Answer {
     let mut held = tree.empty_region();
-    tree.read_region(&region, &mut held)?;
+    tree.read_region(region, &mut held)?;
     Ok([
         region.from,
         region.to,

@@ -20,7 +20,7 @@ use Rattle.ub_script.proofs.RowsFacts.{rows_alike, table_there}
 use Rattle.ub_script.specs.Basis.{Basis, on_table, over_any, schema_of, IsAskedReply, IsReply}
 use Rattle.ub_script.specs.Output.{IsFrontOf}
 use Rattle.ub_script.specs.Run.{IsAnswer, AreAnswers, FirstAt, FirstOver, summary_of}
-use Rattle.ub_script.specs.Laws.{SoundTreesHaveOneTable, QueriesFetchOneNumberOfPages, OutcomesHaveOneReply, StatementsHaveOneReplyEach, ScriptsHaveOneEnd, ScriptsHaveOneSummary, CutTextsAreAFront, StoppedTextsAreAFront}
+use Rattle.ub_script.specs.Laws.{SoundTreesHaveOneTable, QueriesFetchOneNumberOfPages, OutcomesHaveOneReply, StatementsHaveOneReplyEach, ScriptsHaveOneEnd, ScriptsHaveOneSummary, CutTextsAreAFront, StoppedTextsAreAFront, StoppedTextsAreWhole}
 use Rattle.ub_script.specs.Script.{IsTheOutcome, Outcome}
 use Rattle.ub_script.specs.Text.{Reply, reply, answer_text, IsExplainReply, IsQueryReply, IsTableReply, texts_of, pages_of, refused_in}
 use Rattle.ub_table.specs.Region.{Region}
@@ -213,4 +213,16 @@ stopped_texts_are_a_front table next regions script s fault bytes text pages all
       length (texts_of rs),
       rw (writing, split, length-append (texts_of rs) after) (omega arith),
       rw (is, writing, split) (sym (take-append_seam (texts_of rs) after)),
+    )
+
+pub stopped_texts_are_whole : StoppedTextsAreWhole
+stopped_texts_are_whole table next regions script s fault bytes text pages all are (rs, left, more, h, is, sum) (us, k, writing, total, count) =
+    let whole = at_ranges (on_table table regions) script h.tokens h.ranges us 0 h.tokens_are h.ranges_are k in
+    let first : rs ≡ take (length rs) us = first_of_all table next regions are script h.tokens h.ranges rs us (suc left) h.ended.0 whole in
+    let joined : rs ++ drop (length rs) us ≡ us = ap (λ (xs : List Reply). xs ++ drop (length rs) us) first ∙ take-append-drop (length rs) us in (
+      rs,
+      drop (length rs) us,
+      subst (λ (xs : List Reply). FirstOver (on_table table regions) script xs 0) (sym joined) k,
+      is,
+      writing ∙ ap texts_of (sym joined),
     )

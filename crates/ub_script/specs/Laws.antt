@@ -1,12 +1,12 @@
 -- The laws of the definitions. Each is what the function of its name in `law` ensures.
-use Rattle.std.specs.Prelude.{◌≡◌, ◌≤◌, ℕ, List, length, take}
+use Rattle.std.specs.Prelude.{◌≡◌, ◌≤◌, ◌++◌, ℕ, List, length, take}
 use Rattle.ub_query.specs.Shape.{Asked}
 use Rattle.ub_region.specs.Regions.{AreRegions}
 use Rattle.ub_script.specs.Basis.{Basis, on_table, schema_of, IsReply, IsTableOf}
 use Rattle.ub_script.specs.Output.{IsFrontOf}
 use Rattle.ub_script.specs.Run.{EndedOver, FirstOver, IsCutOff, IsStopped, IsWhole}
 use Rattle.ub_script.specs.Script.{Outcome}
-use Rattle.ub_script.specs.Text.{ArePages, Reply}
+use Rattle.ub_script.specs.Text.{ArePages, Reply, texts_of}
 use Rattle.ub_script.specs.declared.fault.RunFault.{RunFault}
 use Rattle.ub_script.specs.declared.script.Summary.{Summary}
 use Rattle.ub_table.specs.Region.{Region}
@@ -66,3 +66,12 @@ StoppedTextsAreAFront =
     (table : Table) (next : ℕ) (regions : List Region) (script : List ℕ) (s : Summary) (fault : RunFault) (bytes text : List ℕ) (pages all : ℕ)
     → AreRegions table.schema next regions → IsStopped (EndedOver (on_table table regions) script fault) bytes pages
     → IsWhole (FirstOver (on_table table regions) script) s text all → (count : ℕ) × (count ≤ length text) × (bytes ≡ take count text)
+
+-- and these are the whole texts of its first statements, which stand so in that text
+abbrev pub StoppedTextsAreWhole : Type 0
+StoppedTextsAreWhole =
+    (table : Table) (next : ℕ) (regions : List Region) (script : List ℕ) (s : Summary) (fault : RunFault) (bytes text : List ℕ) (pages all : ℕ)
+    → AreRegions table.schema next regions → IsStopped (EndedOver (on_table table regions) script fault) bytes pages
+    → IsWhole (FirstOver (on_table table regions) script) s text all
+    → (replies : List Reply) × (more : List Reply) × FirstOver (on_table table regions) script (replies ++ more) 0
+    × (bytes ≡ texts_of replies) × (text ≡ texts_of (replies ++ more))

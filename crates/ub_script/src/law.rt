@@ -1,4 +1,4 @@
-ghost use Rattle.ub_script.specs.Laws.{SoundTreesHaveOneTable, QueriesFetchOneNumberOfPages, OutcomesHaveOneReply, StatementsHaveOneReplyEach, ScriptsHaveOneEnd, ScriptsHaveOneSummary, CutTextsAreAFront, StoppedTextsAreAFront};
+ghost use Rattle.ub_script.specs.Laws.{SoundTreesHaveOneTable, QueriesFetchOneNumberOfPages, OutcomesHaveOneReply, StatementsHaveOneReplyEach, ScriptsHaveOneEnd, ScriptsHaveOneSummary, CutTextsAreAFront, StoppedTextsAreAFront, StoppedTextsAreWhole};
 
 // Each function here does nothing, and its clause is a law of the definitions in specs/. So the law is proved, and is read
 // beside the code.
@@ -43,4 +43,9 @@ pub fn cut_texts_are_a_front()
 /// What a script writes up to a statement that another fault ends is the first part of that text.
 pub fn stopped_texts_are_a_front()
     ensures { StoppedTextsAreAFront }
+{}
+
+/// What stands then are the whole texts of the first statements.
+pub fn stopped_texts_are_whole()
+    ensures { StoppedTextsAreWhole }
 {}
