@@ -122,11 +122,11 @@ abbrev pub IsTurnFault : ℕ → StoreFacts → Key → ℕ → Entry → Option
 IsTurnFault last old key level entry end next (Store store.Memory) = Unit {0}
 IsTurnFault last old key level entry end next (Store store.Device) = IsTrue old.can_fail
 IsTurnFault last old key level entry end next (Store store.NoPage) =
-    (n : ℕ) × (page_count old ≤ n) × (IsHonest old → StopsAt last old.pages key level entry end n None)
+    (n : ℕ) × (page_count old ≤ n) × (IsHonest old → StopsAt last old.pages [] key level entry end n None)
 IsTurnFault last old key level entry end next (Store store.BadSize) =
     (4294967295 < next + level)
     × (IsHonest old → (full : ℕ) × EndsFull last old.pages key level entry end full × (4294967295 < next + full))
-IsTurnFault last old key level entry end next (Page n fault) = IsHonest old → StopsAt last old.pages key level entry end n (Some fault)
+IsTurnFault last old key level entry end next (Page n fault) = IsHonest old → StopsAt last old.pages [] key level entry end n (Some fault)
 IsTurnFault last old key level entry end next Full = ⊥
 
 -- a change that is prepared with this result, from an entry of this level on: with the device's fault the store has one failed read

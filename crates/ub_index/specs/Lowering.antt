@@ -59,7 +59,7 @@ pub record LowersTo (pages : List (List ℕ)) (old new : ChangeView) : Type 0 wh
 -- one comes to a root that isn't spelled, and that can't be taken
 abbrev pub IsRootRefused : ℕ → List (List ℕ) → ChangeView → ℕ → Option PageFault → Type 0
 IsRootRefused last pages change n fault =
-    (level : ℕ) × Lowers change.sheets pages change.root change.levels n level × IsNotTaken last pages level (top n) None fault
+    (level : ℕ) × Lowers change.sheets pages change.root change.levels n level × IsNotTaken last pages [] level (top n) None fault
 
 -- why a root doesn't give way
 abbrev pub IsLowerFault : ℕ → StoreFacts → ChangeView → IndexFault → Type 0

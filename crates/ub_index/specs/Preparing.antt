@@ -133,12 +133,12 @@ abbrev pub IsChangeFault : IndexView → StoreFacts → Key → Option Entry →
 IsChangeFault index old key added from (Store store.Memory) = Unit {0}
 IsChangeFault index old key added from (Store store.Device) = IsTrue old.can_fail
 IsChangeFault index old key added from (Store store.NoPage) =
-    (n : ℕ) × (page_count old ≤ n) × (IsHonest old → Stops index old key n None)
+    (n : ℕ) × (page_count old ≤ n) × (IsHonest old → Stops index old [] key n None)
 IsChangeFault index old key added from (Store store.BadSize) =
     (4294967295 < from.next + (index.levels + 1))
     × ((4294967295 < from.next) ⊎ (IsHonest old → (n : ℕ) × NeedsPages index old key n × (4294967295 < from.next + n)))
 IsChangeFault index old key added from (Page n fault) =
-    IsHonest old → Stops index old key n (Some fault)
+    IsHonest old → Stops index old [] key n (Some fault)
     ⊎ ((n ≡ index.root) × (fault ≡ BadCount) × (to : Spelled) × TurnsRoot index old key added from to Gone)
 IsChangeFault index old key added from Full =
     (index.levels ≡ 16) × (IsHonest old → HasFullWay index old key × (from.next + 16 ≤ 4294967295))

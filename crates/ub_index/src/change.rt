@@ -1,5 +1,5 @@
 // A change of an index that is prepared, and not yet made.
-ghost use Rattle.std.specs.Prelude.{◌≡◌, ◌≤◌, ◌<◌, ◌+◌, ◌-◌, None, IfOk, IfErr, OnOk};
+ghost use Rattle.std.specs.Prelude.{◌≡◌, ◌≤◌, ◌<◌, ◌+◌, ◌-◌, [], None, IfOk, IfErr, OnOk};
 ghost use Rattle.ub_directory.specs.Writing.{Grows, put_store};
 ghost use Rattle.ub_index.specs.Changing.{IsAtMostOne, IsNoGrowth};
 ghost use Rattle.ub_index.specs.Descending.{Steps};
@@ -156,7 +156,7 @@ fn named_alone<S: PageStore>(
 ) -> Result<Option<u32>, IndexFault>
     ensures sole { IsHonest pager.old.store → IfOk result (λ page. page
         ≡ sole_page (entries_then sheets.now.sheets pager.old.store.pages root)) }
-    ensures effect { Steps last level (top root) None pager.old pager.new result }
+    ensures effect { Steps last [] level (top root) None pager.old pager.new result }
 {
     if let Some(page) = sheets.find(root) {
         return Ok(sole_on(page));

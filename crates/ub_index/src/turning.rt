@@ -1,5 +1,5 @@
 // How a change goes down an index, and back up: what each page on the way becomes.
-ghost use Rattle.std.specs.Prelude.{◌≡◌, ◌+◌, ◌<◌, ◌≤◌, None, IfOk, length, take, drop};
+ghost use Rattle.std.specs.Prelude.{◌≡◌, ◌+◌, ◌<◌, ◌≤◌, [], None, IfOk, length, take, drop};
 ghost use Rattle.ub_index.specs.Changing.{NeedsNoGrowth, OpensTo, Prepares, Turns};
 ghost use Rattle.ub_index.specs.Descending.{Steps};
 ghost use Rattle.ub_index.specs.Fitting.{FallsTo};
@@ -83,7 +83,7 @@ fn open<S: PageStore>(
         pager.old.store.pages key.now level place.now.entry place.now.next
         o.before.items o.below.entry o.below.next o.after.items) }
     ensures few { IfOk result (λ o. length o.before.items + length o.after.items < MAX_ENTRIES) }
-    ensures effect { Steps last level place.now.entry place.now.next pager.old pager.new result }
+    ensures effect { Steps last [] level place.now.entry place.now.next pager.old pager.new result }
 {
     let number = place.entry.page;
     pager.bring(number)?;
