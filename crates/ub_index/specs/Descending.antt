@@ -31,8 +31,8 @@ IsStepFault last old held level entry end Full = ⊥
 IsStepFault last old held level entry end (Page n fault) =
     (n ≡ entry.page) × (IsHonest old → IsNotTaken last old.pages held level entry end (Some fault))
 
--- a step with this result: with the device's fault the store has one failed read more, and else nothing has changed but the pages
--- that the pager holds
+-- a step with this result: with the device's fault the store has one failed read more, and else nothing has changed but the
+-- pages that the pager holds
 pub record Steps {A : Type 0} (last : ℕ) (held : List (ℕ × List ℕ)) (level : ℕ) (entry : Entry) (end : Option Key) (old new : PagerView)
     (result : Result A IndexFault) : Type 0 where
   pub same : new ≡ record old { store = store_after result old.store; cached = new.cached }
@@ -54,8 +54,8 @@ pub record HoldsLeaf (key : Key) (leaf : Leaf) : Type 0 where
   pub until : IfSome leaf.until (IsBefore key)
   pub within : (k : Key) → IfSome leaf.until (IsBefore k) → IfSome leaf.place.next (IsBefore k)
 
--- the way from the root to a place of this level: to each key from this one on that is before `until` it leads as it does from that place
--- on, and to this key it stops as it does from there on
+-- the way from the root to a place of this level: to each key from this one on that is before `until` it leads as it does from
+-- that place on, and to this key it stops as it does from there on
 pub record LeadsDown (index : IndexView) (old : PagerView) (key : Key) (level : ℕ) (leaf : Leaf) : Type 0 where
   pub leads : (k : Key) → ¬ (IsBefore k key) → IfSome leaf.until (IsBefore k) → (found : Entry) (next : Option Key)
       → LeadsTo index.last old.store.pages old.cached k level leaf.place.entry leaf.place.next found next
@@ -64,8 +64,8 @@ pub record LeadsDown (index : IndexView) (old : PagerView) (key : Key) (level : 
       → StopsAt index.last old.store.pages old.cached key level leaf.place.entry leaf.place.next n fault
       → Stops index old.store old.cached key n fault
 
--- what is found among the entries of a leaf, behind the one to which the key falls: where the next region begins, and the key to which the
--- search goes down from there; and where that is before `until`, the place to which it falls on the same leaf
+-- what is found among the entries of a leaf, behind the one to which the key falls: where the next region begins, and the key
+-- to which the search goes down from there; and where that is before `until`, the place to which it falls on the same leaf
 abbrev pub Looks : ℕ → (Key → Option ℕ → Type 0) → List Entry → Key → Leaf → Found → Type 0
 Looks last To entries key leaf Nothing =
     (below : Entry) × (next : Option Key) × FallsTo key entries leaf.place.next below next × IsAimless last To next
@@ -84,8 +84,8 @@ pub record LooksAt (last : ℕ) (old : PagerView) (To : Key → Option ℕ → T
   pub taken : IsHonest old.store → NamesTaken last old.store.pages old.cached 1 leaf.place.entry leaf.place.next
   pub there : IsHonest old.store → page ≡ page_in old.store.pages leaf.place.entry.page
 
--- the seat that is found where a search goes on from a key, with that key: it is given for the key to which the search goes down; none
--- where there is no address that it is after
+-- the seat that is found where a search goes on from a key, with that key: it is given for the key to which the search goes
+-- down; none where there is no address that it is after
 abbrev pub FindsFrom : IndexView → PagerView → (Key → Option ℕ → Type 0) → Option Key → Option (Key × Seat) → Type 0
 FindsFrom index old To from None = IsAimless index.last To from
 FindsFrom index old To from (Some found) = (from ≡ Some found.0) × (aim : Key) × IsAim index.last To found.0 aim × Gives index old aim found.1

@@ -10,8 +10,8 @@ use Rattle.ub_table.specs.declared.fault.PageFault.TheVariants.{BadCount, OutOfR
 use Rattle.ub_table.specs.declared.fault.PageFault.{PageFault}
 use Rattle.ub_table.specs.declared.row.Key.{Key}
 
--- the first refusal that holds: one of its reader's; BadCount, where it is of another level; or OutOfRegion, where it doesn't begin
--- with the entry's key or doesn't end before the end
+-- the first refusal that holds: one of its reader's; BadCount, where it is of another level; or OutOfRegion, where it doesn't
+-- begin with the entry's key or doesn't end before the end
 abbrev pub IsUnfit : ℕ → List ℕ → ℕ → Entry → Option Key → PageFault → Type 0
 IsUnfit last page level entry end BadCount =
     IsIndexFault last page BadCount ⊎ (IsIndexPage last page × ((node_on page).level ≢ level))
@@ -19,8 +19,8 @@ IsUnfit last page level entry end OutOfRegion =
     IsIndexPage last page × ((node_on page).level ≡ level) × (¬ (Fits last page level entry end))
 IsUnfit last page level entry end fault = IsIndexFault last page fault
 
--- the page fits an entry as far as its ends tell, whatever stands between them: its head is one of an index's page, of this level, its
--- first entry begins with the entry's key, and its last one before the end
+-- the page fits an entry as far as its ends tell, whatever stands between them: its head is one of an index's page, of this
+-- level, its first entry begins with the entry's key, and its last one before the end
 pub record FitsAtEnds (page : List ℕ) (level : ℕ) (entry : Entry) (end : Option Key) : Type 0 where
   pub kind : IsIndexKind page
   pub head : HasHead page
@@ -28,8 +28,8 @@ pub record FitsAtEnds (page : List ℕ) (level : ℕ) (entry : Entry) (end : Opt
   pub begins : first_in 0 page ≡ entry.first
   pub ends : IfSome end (IsBefore (first_in ((head_on page).count - 1) page))
 
--- the first refusal that holds of them: one of its head's; BadCount, where it is of another level; or OutOfRegion, where it doesn't begin
--- with the entry's key or doesn't end before the end
+-- the first refusal that holds of them: one of its head's; BadCount, where it is of another level; or OutOfRegion, where it
+-- doesn't begin with the entry's key or doesn't end before the end
 abbrev pub IsUnfitAtEnds : List ℕ → ℕ → Entry → Option Key → PageFault → Type 0
 IsUnfitAtEnds page level entry end BadCount =
     IsHeadFault page BadCount ⊎ (IsIndexKind page × HasHead page × ((node_on page).level ≢ level))
@@ -50,14 +50,15 @@ IsUnfitSo false last page level entry end fault = IsUnfitAtEnds page level entry
 abbrev pub IsHeld : List (ℕ × List ℕ) → ℕ → Type 0
 IsHeld held n = (page : List ℕ) × (page_at held n ≡ Some page)
 
--- among these pages there is the one that an entry of this level names, and it is taken: it fits, or it was held, and fits at its ends
+-- among these pages there is the one that an entry of this level names, and it is taken: it fits, or it was held, and fits at
+-- its ends
 pub record NamesTaken (last : ℕ) (pages : List (List ℕ)) (held : List (ℕ × List ℕ)) (level : ℕ) (entry : Entry) (end : Option Key) : Type 0 where
   pub there : slice_get pages entry.page ≡ Some (page_in pages entry.page)
   pub fits : Fits last (page_in pages entry.page) level entry end
       ⊎ (IsHeld held entry.page × FitsAtEnds (page_in pages entry.page) level entry end)
 
--- why the page that an entry of this level names can't be taken: there is none; or it is refused so, in full, or at its ends, if it was
--- held
+-- why the page that an entry of this level names can't be taken: there is none; or it is refused so, in full, or at its ends,
+-- if it was held
 abbrev pub IsNotTaken : ℕ → List (List ℕ) → List (ℕ × List ℕ) → ℕ → Entry → Option Key → Option PageFault → Type 0
 IsNotTaken last pages held level entry end None = length pages ≤ entry.page
 IsNotTaken last pages held level entry end (Some fault) =

@@ -1,4 +1,5 @@
--- What holds of every index, and what a change of one entry does to the whole. Each is what the function of its name in `law` ensures.
+-- What holds of every index, and what a change of one entry does to the whole. Each is what the function of its name in `law`
+-- ensures.
 use Rattle.std.specs.Prelude.{◌≡◌, ◌≤◌, ◌<◌, ◌^◌, ◌++◌, ◌⊎◌, [], ℕ, nat_eq, List, Option, None, IfSome, length}
 use Rattle.std.specs.List.{AllByRecursion, flat_map, IsDistinct}
 use Rattle.ub_directory.specs.Writing.{Grows}
@@ -59,8 +60,8 @@ ChangeKeepsOrder = (last : ℕ) (old new : List (List ℕ)) (f : Entry) (fs : Li
     → IfSome end (IsBefore entry.first) → IsUnder last old level entry end
     → Becomes last old new f fs next level entry end told → Stays last new level entry end told
 
--- where a change turns on an index each page of which is reached once, and what comes is fine, what it spells makes of the entry what
--- `Becomes` says, on all later pages on which that stands, and the index's other pages as they were
+-- where a change turns on an index each page of which is reached once, and what comes is fine, what it spells makes of the
+-- entry what `Becomes` says, on all later pages on which that stands, and the index's other pages as they were
 abbrev pub TurnsBecome : Type 0
 TurnsBecome = (last : ℕ) (old : List (List ℕ)) (key : Key) (added : Option Entry) (level : ℕ) (entry : Entry) (end : Option Key)
     (from to : Spelled) (told : Told) → last < 2 ^ 128 → length old ≤ from.next → IsUnder last old level entry end → IsEntry last entry
@@ -83,8 +84,8 @@ abbrev pub PagesAreThere : Type 0
 PagesAreThere = (last : ℕ) (pages : List (List ℕ)) (level : ℕ) (entry : Entry) (end : Option Key) → IsUnder last pages level entry end
     → AllByRecursion (λ n. n < length pages) (pages_under pages level entry)
 
--- where a change makes an index of that on the old store, it is made once the store has grown, pages of regions have been put, none of
--- which is one of the old index or one that the change brings, and then the pages that it spells
+-- where a change makes an index of that on the old store, it is made once the store has grown, pages of regions have been put,
+-- none of which is one of the old index or one that the change brings, and then the pages that it spells
 abbrev pub ChangeIsMade : Type 0
 ChangeIsMade = (index : IndexView) (old grown filled new : StoreFacts) (from : ℕ) (change : ChangeView) (f : Entry) (fs : List Entry) (numbers : List ℕ)
     → IsIndexOn index old → MakesIndex index old from change (Replaces f fs (entries_in index old)) → Grows old grown

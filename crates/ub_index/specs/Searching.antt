@@ -1,4 +1,5 @@
--- What a search in an index answers, and what it leaves, over any store and any pages, some of which the pager held when it began.
+-- What a search in an index answers, and what it leaves, over any store and any pages, some of which the pager held when it
+-- began.
 use Rattle.std.specs.Prelude.{◌≡◌, ◌≤◌, ◌<◌, ◌⊎◌, if◌then◌else◌, ℕ, zero, suc, IsTrue, List, Option, Some, None, Result, Err, IfErr}
 use Rattle.ub_bigmin.specs.Box.{HoldsAny}
 use Rattle.ub_bigmin.specs.Extremes.{LeastFrom}
@@ -60,8 +61,8 @@ region_of last seat = record {
   page = seat.page;
 }
 
--- the address that a search is after which goes on from a key, if there is one: the one given, or the least one in the boxes from the
--- key's address on
+-- the address that a search is after which goes on from a key, if there is one: the one given, or the least one in the boxes
+-- from the key's address on
 abbrev pub Aims : Goal → Key → Option ℕ → Type 0
 Aims (Address z) from to = to ≡ Some z
 Aims (Boxes boxes) from to = LeastFrom (HoldsAny boxes.now) from.z to
@@ -71,13 +72,13 @@ abbrev pub IsAimless : ℕ → (Key → Option ℕ → Type 0) → Option Key �
 IsAimless last To None = Unit {0}
 IsAimless last To (Some from) = To from None ⊎ ((z : ℕ) × To from (Some z) × (last < z))
 
--- the key to which a search goes down that goes on from a key: this one, or the least key of the address that `To` tells for it, if this
--- is later
+-- the key to which a search goes down that goes on from a key: this one, or the least key of the address that `To` tells for
+-- it, if this is later
 abbrev pub IsAim : ℕ → (Key → Option ℕ → Type 0) → Key → Key → Type 0
 IsAim last To from key = (z : ℕ) × To from (Some z) × (z ≤ last) × (key ≡ at_least from z)
 
--- the region that is given where the search goes on from a key: that which holds the key to which it goes down; none where there is no
--- address that it is after
+-- the region that is given where the search goes on from a key: that which holds the key to which it goes down; none where
+-- there is no address that it is after
 abbrev pub GivesFrom : IndexView → PagerView → (Key → Option ℕ → Type 0) → Option Key → Option Region → Type 0
 GivesFrom index old To from None = IsAimless index.last To from
 GivesFrom index old To None (Some region) = ⊥
@@ -96,8 +97,8 @@ GivesAfter index old To after found = (from : Option Key) × IsFrom index old af
 abbrev pub IsSought : IndexView → PagerView → (Key → Option ℕ → Type 0) → Option Region → Key → Type 0
 IsSought index old To after key = IsFirstKeyOf after key ⊎ ((from : Key) × IsFrom index old after (Some from) × IsAim index.last To from key)
 
--- the ways to two keys cross: where the first one ends, the next region begins at a key that isn't after the second key, and the second
--- one ends before it. They never do where each page on them fits
+-- the ways to two keys cross: where the first one ends, the next region begins at a key that isn't after the second key, and
+-- the second one ends before it. They never do where each page on them fits
 pub record Cross (index : IndexView) (old : PagerView) (key other : Key) : Type 0 where
   pub seat : Seat
   pub from : Key
@@ -114,8 +115,8 @@ IsPageFault index old Sought n fault =
     ((key : Key) × Sought key × Stops index old.store old.cached key n (Some fault))
     ⊎ ((n ≡ index.root) × (fault ≡ OutOfRegion) × (key : Key) × (other : Key) × Sought key × Sought other × Cross index old key other)
 
--- why a search is refused that goes down to these keys alone: memory was refused; the store failed in this call, which it then can;
--- it has no page of a number that was asked for, or a page is refused, over an honest store for such a reason
+-- why a search is refused that goes down to these keys alone: memory was refused; the store failed in this call, which it then
+-- can; it has no page of a number that was asked for, or a page is refused, over an honest store for such a reason
 abbrev pub IsWayFault : IndexView → PagerView → (Key → Type 0) → IndexFault → Type 0
 IsWayFault index old Sought (Store store.Memory) = Unit {0}
 IsWayFault index old Sought (Store store.Device) = IsTrue old.store.can_fail
@@ -134,8 +135,8 @@ count_with _ n = n
 abbrev pub store_after : {A : Type 0} → Result A IndexFault → StoreFacts → StoreFacts
 store_after result old = record old { failed_reads = count_with result old.failed_reads }
 
--- a call with this result that goes down to these keys: with the device's fault the store has one failed read more, and else nothing
--- has changed but the pages that the pager holds
+-- a call with this result that goes down to these keys: with the device's fault the store has one failed read more, and else
+-- nothing has changed but the pages that the pager holds
 pub record GoesDown {A : Type 0} (Sought : Key → Type 0) (index : IndexView) (old new : PagerView) (result : Result A IndexFault) : Type 0 where
   pub same : new ≡ record old { store = store_after result old.store; cached = new.cached }
   pub faults : IfErr result (IsWayFault index old Sought)

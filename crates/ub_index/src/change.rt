@@ -48,8 +48,8 @@ impl Model for Change {
 }
 
 impl Change {
-    /// How the change leaves the root, which stands on this page and is of this level, and of which this is told. Full comes where a
-    /// new root would have a level above 16, BadCount where nothing is left.
+    /// How the change leaves the root, which stands on this page and is of this level, and of which this is told. Full comes
+    /// where a new root would have a level above 16, BadCount where nothing is left.
     pub(crate) fn settled(
         root: u32,
         levels: u32,
@@ -102,8 +102,8 @@ impl Change {
     }
 
     /// Gives the store the pages that the change needs, before a page is put. Device comes where the store failed in this call,
-    /// BadSize where it would have more than 4294967295 pages, Memory where memory was refused. Each page that the store had is as it
-    /// was; after a fault it may have got some.
+    /// BadSize where it would have more than 4294967295 pages, Memory where memory was refused. Each page that the store had is
+    /// as it was; after a fault it may have got some.
     pub fn grow<S: PageStore>(&self, pager: &mut Pager<S>) -> Result<(), StoreFault>
         ensures trace { SameTrace pager.old pager.new }
         ensures cached { pager.new.cached ≡ pager.old.cached }
@@ -117,8 +117,8 @@ impl Change {
         extend_by(pager, self.sheets.next().saturating_sub(self.start))
     }
 
-    /// The change with the root to which its root gives way: while it is above level 1 and names one page alone, that page becomes the
-    /// root. A page that isn't spelled is read, and refused as in a search.
+    /// The change with the root to which its root gives way: while it is above level 1 and names one page alone, that page
+    /// becomes the root. A page that isn't spelled is read, and refused as in a search.
     pub(crate) fn lowered<S: PageStore>(
         self,
         pager: &mut Pager<S>,

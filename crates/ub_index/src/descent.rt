@@ -25,8 +25,8 @@ pub struct Place {
     pub next: Option<Key>,
 }
 
-/// A leaf on the way to a key: the place that names it, and the least key, if there is one, at which the way would go on elsewhere
-/// from one of the pages above it.
+/// A leaf on the way to a key: the place that names it, and the least key, if there is one, at which the way would go on
+/// elsewhere from one of the pages above it.
 #[derive(Clone, Copy)]
 pub struct Leaf {
     pub place: Place,
@@ -57,8 +57,8 @@ pub fn root_place(root: u32) -> Place
     }
 }
 
-/// Goes down from a place of this level to that of the level below to which the key falls. Reads the page that the entry names, if
-/// it isn't held, and then checks it in full; of a page that is held its ends are looked at.
+/// Goes down from a place of this level to that of the level below to which the key falls. Reads the page that the entry names,
+/// if it isn't held, and then checks it in full; of a page that is held its ends are looked at.
 pub fn step_down<S: PageStore>(
     pager: &mut Pager<S>,
     last: u128,
@@ -87,8 +87,8 @@ pub fn step_down<S: PageStore>(
     }
 }
 
-/// Looks on a leaf for what comes behind the region of a key: where the next region begins, and where a search with this goal goes on
-/// from there. Reads the leaf, if it isn't held.
+/// Looks on a leaf for what comes behind the region of a key: where the next region begins, and where a search with this goal
+/// goes on from there. Reads the leaf, if it isn't held.
 pub fn look<S: PageStore>(
     pager: &mut Pager<S>,
     last: u128,
@@ -138,7 +138,8 @@ fn looked(
     }
 }
 
-/// The key to which a search with this goal goes down that goes on from a key, in a space with this last address, if there is one.
+/// The key to which a search with this goal goes down that goes on from a key, in a space with this last address, if there is
+/// one.
 pub fn aim(goal: &Goal, last: u128, from: &Key) -> Option<Key>
     ensures found { IfSome result (IsAim last (Aims goal.now) from.now) }
     ensures none { result ≡ None → IsAimless last (Aims goal.now) (Some from.now) }
@@ -157,8 +158,8 @@ fn later_of(from: &Key, z: u128) -> Key
     if least.is_before(from) { *from } else { least }
 }
 
-// What the first bytes tell of a page that fits the place from which an entry names it: one that was read now is checked in full, and
-// of one that was held its ends are.
+// What the first bytes tell of a page that fits the place from which an entry names it: one that was read now is checked in
+// full, and of one that was held its ends are.
 fn fits_so(
     page: &Page,
     is_read: bool,
@@ -182,8 +183,8 @@ fn fits_so(
     }
 }
 
-/// What the first bytes tell of a page that fits the place from which an entry names it, all bytes of which are looked at. It is refused
-/// by its reader, or else as `fits_at_ends` refuses it.
+/// What the first bytes tell of a page that fits the place from which an entry names it, all bytes of which are looked at. It
+/// is refused by its reader, or else as `fits_at_ends` refuses it.
 pub fn fits(page: &Page, last: u128, level: u32, place: &Place) -> Result<Head, PageFault>
     ensures head { IfOk result (λ head. head ≡ head_on page.now) }
     ensures found { IfOk result
@@ -197,9 +198,9 @@ pub fn fits(page: &Page, last: u128, level: u32, place: &Place) -> Result<Head, 
     fits_at_ends(page, level, place)
 }
 
-// What the first bytes tell of a page, in constant time, where they and its first and its last entry fit the place from which an entry
-// names it. It is refused as WrongKind or BadCount by its head; as BadCount where it is of another level; as OutOfRegion where it
-// doesn't begin with the entry's key, or doesn't end before the next one.
+// What the first bytes tell of a page, in constant time, where they and its first and its last entry fit the place from which
+// an entry names it. It is refused as WrongKind or BadCount by its head; as BadCount where it is of another level; as
+// OutOfRegion where it doesn't begin with the entry's key, or doesn't end before the next one.
 fn fits_at_ends(page: &Page, level: u32, place: &Place) -> Result<Head, PageFault>
     ensures head { IfOk result (λ head. head ≡ head_on page.now) }
     ensures found { IfOk result

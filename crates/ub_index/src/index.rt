@@ -34,7 +34,8 @@ use ub_page::Entry;
 use ub_store::{PageStore, Pager, StoreFault};
 use ub_table::{Key, PageFault};
 
-/// An index of several levels over the pages of a store: where its root stands, and how many levels it has. No page of it is kept here.
+/// An index of several levels over the pages of a store: where its root stands, and how many levels it has. No page of it is
+/// kept here.
 #[derive(Drop)]
 pub struct Index {
     root: u32,
@@ -55,7 +56,8 @@ impl Model for Index {
 }
 
 impl Index {
-    /// The index whose root stands on this page and is of this level, 1 to 16, in a space with this last address. Nothing is read.
+    /// The index whose root stands on this page and is of this level, 1 to 16, in a space with this last address. Nothing is
+    /// read.
     pub fn new(root: u32, levels: u32, last: u128) -> Index
         requires low { 1 ≤ levels }
         requires high { levels ≤ MAX_LEVEL }
@@ -66,10 +68,11 @@ impl Index {
 
     /// The seat of the region that holds a key: the last one that does not begin after it.
     ///
-    /// Page comes where a page on the way down is refused: by its reader; as BadCount where it isn't of the level due; as OutOfRegion
-    /// where it doesn't begin with the key by which the page above names it, or doesn't end before that of the next one. Store with
-    /// NoPage comes where a page is named that the store doesn't have, with Device where the store failed in this call, with Memory
-    /// where memory was refused. The first refusal on the way is told. Index and store are then as they were.
+    /// Page comes where a page on the way down is refused: by its reader; as BadCount where it isn't of the level due; as
+    /// OutOfRegion where it doesn't begin with the key by which the page above names it, or doesn't end before that of the next
+    /// one. Store with NoPage comes where a page is named that the store doesn't have, with Device where the store failed in
+    /// this call, with Memory where memory was refused. The first refusal on the way is told. Index and store are then as they
+    /// were.
     pub fn seat_of<S: PageStore>(&self, pager: &mut Pager<S>, key: &Key) -> Result<Seat, IndexFault>
         ensures given { IfOk result (Gives self.now pager.old key.now) }
         ensures seat { IsIndexOn self.now pager.old.store → IfOk result
@@ -80,7 +83,8 @@ impl Index {
         descend(pager, self.root, self.levels, self.last, key)
     }
 
-    /// The seat of the region after that of a seat, if there is one. Refused as `seat_of` is, on the way to that region's first key.
+    /// The seat of the region after that of a seat, if there is one. Refused as `seat_of` is, on the way to that region's first
+    /// key.
     pub fn after<S: PageStore>(
         &self,
         pager: &mut Pager<S>,
@@ -98,8 +102,8 @@ impl Index {
         }
     }
 
-    /// The seat of the region before that of a seat, if there is one. Refused as `seat_of` is, on the way to the greatest key before
-    /// the seat's first one.
+    /// The seat of the region before that of a seat, if there is one. Refused as `seat_of` is, on the way to the greatest key
+    /// before the seat's first one.
     pub fn before<S: PageStore>(
         &self,
         pager: &mut Pager<S>,
@@ -121,9 +125,9 @@ impl Index {
 
     /// The first region later than `after`, if one is given, whose span ends at z or later. `None` exactly where there is none.
     ///
-    /// Refused as `seat_of` is, on the way to the first key of `after`, or then on the way to the place from which the search goes on.
-    /// A store that isn't honest can give one page in two ways: Page comes with the root and OutOfRegion where what is found so would
-    /// not begin later than `after`.
+    /// Refused as `seat_of` is, on the way to the first key of `after`, or then on the way to the place from which the search
+    /// goes on. A store that isn't honest can give one page in two ways: Page comes with the root and OutOfRegion where what is
+    /// found so would not begin later than `after`.
     pub fn seek<S: PageStore>(
         &self,
         pager: &mut Pager<S>,
@@ -142,8 +146,8 @@ impl Index {
         self.later_region(pager, &Goal::Address(z), after)
     }
 
-    /// The first region later than `after`, if one is given, that meets one of the boxes. `None` exactly where there is none. Refused
-    /// as `seek` is.
+    /// The first region later than `after`, if one is given, that meets one of the boxes. `None` exactly where there is none.
+    /// Refused as `seek` is.
     pub fn next_meeting<S: PageStore>(
         &self,
         pager: &mut Pager<S>,
@@ -166,10 +170,11 @@ impl Index {
     /// Prepares that a region comes behind that of a seat, with this first key, on a page that the store gets first. Nothing is
     /// written.
     ///
-    /// Refused as `seat_of` is, on the way to the seat's first key. With BadSize of the store exactly where it would have more than
-    /// 4294967295 pages: the region takes one, each page of 170 entries on that way one, from the lowest up to the first that has
-    /// fewer, and a new root one, where all are full. With Full exactly where that is room enough, and all 16 levels are full on that
-    /// way. Where there is no page for the region, that is told before any is read. Index and store are then as they were.
+    /// Refused as `seat_of` is, on the way to the seat's first key. With BadSize of the store exactly where it would have more
+    /// than 4294967295 pages: the region takes one, each page of 170 entries on that way one, from the lowest up to the first
+    /// that has fewer, and a new root one, where all are full. With Full exactly where that is room enough, and all 16 levels
+    /// are full on that way. Where there is no page for the region, that is told before any is read. Index and store are then
+    /// as they were.
     pub fn prepare_add<S: PageStore>(
         &self,
         alloc: Global,
@@ -209,8 +214,8 @@ impl Index {
 
     /// Prepares that the region of a seat goes, which isn't the first. Nothing is written, and no page is added.
     ///
-    /// Refused as `seat_of` is, on the way to the seat's first key, and where a page that would be the root can't be taken; with
-    /// BadCount of the root where no region would be left. Index and store are then as they were.
+    /// Refused as `seat_of` is, on the way to the seat's first key, and where a page that would be the root can't be taken;
+    /// with BadCount of the root where no region would be left. Index and store are then as they were.
     pub fn prepare_drop<S: PageStore>(
         &self,
         alloc: Global,
@@ -241,9 +246,9 @@ impl Index {
         change.lowered(pager, self.last)
     }
 
-    /// Makes a change, once the store has grown: puts the pages that it spells, and then takes over the root. Device comes where the
-    /// store failed in this call, NoPage where it has no page of that number; the index is then as it was, and the pages that the
-    /// change spells may hold any bytes.
+    /// Makes a change, once the store has grown: puts the pages that it spells, and then takes over the root. Device comes
+    /// where the store failed in this call, NoPage where it has no page of that number; the index is then as it was, and the
+    /// pages that the change spells may hold any bytes.
     pub fn commit<S: PageStore>(
         &mut self,
         pager: &mut Pager<S>,
@@ -321,8 +326,8 @@ impl Index {
         }
     }
 
-    // The seat that a search with this goal finds after a region, if one is given, and where the search goes on from: where the next
-    // region begins, or the first of all.
+    // The seat that a search with this goal finds after a region, if one is given, and where the search goes on from: where the
+    // next region begins, or the first of all.
     fn seat_after<S: PageStore>(
         &self,
         pager: &mut Pager<S>,
@@ -356,8 +361,8 @@ impl Index {
         }
     }
 
-    // The seat that a search with this goal finds behind a region, and where the next region begins. It is looked for on the region's
-    // own leaf first; only where it can't be there the search goes down anew.
+    // The seat that a search with this goal finds behind a region, and where the next region begins. It is looked for on the
+    // region's own leaf first; only where it can't be there the search goes down anew.
     fn seat_behind<S: PageStore>(
         &self,
         pager: &mut Pager<S>,

@@ -19,7 +19,8 @@ use ub_page::{Entry, Page};
 use ub_store::{PageStore, Pager};
 use ub_table::Key;
 
-/// What a change is made of: the key that falls to the region's entry, and the one that comes behind it, or `None` where it goes.
+/// What a change is made of: the key that falls to the region's entry, and the one that comes behind it, or `None` where it
+/// goes.
 #[derive(Clone, Copy)]
 pub struct Aim {
     pub key: Key,
@@ -34,8 +35,8 @@ pub struct Opened {
     pub after: Vec<Entry>,
 }
 
-/// What an entry of this level becomes, and the pages that it then leads to. Reads the pages on the way to the region's entry; writes
-/// nothing. It calls itself once a level.
+/// What an entry of this level becomes, and the pages that it then leads to. Reads the pages on the way to the region's entry;
+/// writes nothing. It calls itself once a level.
 pub fn turn<S: PageStore>(
     alloc: Global,
     pager: &mut Pager<S>,

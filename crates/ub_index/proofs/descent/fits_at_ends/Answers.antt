@@ -1,4 +1,4 @@
-use Rattle.std.proofs.Common.{◌≡◌, ◌-◌, ◌∙◌, true, IfSome, ap, subst, sym}
+use Rattle.std.proofs.Common.{◌-◌, ◌∙◌, IfSome, ap, subst, sym}
 use Rattle.ub_directory.proofs.Laws.{same_key}
 use Rattle.ub_index_page.specs.Slots.{first_in}
 use Rattle.ub_index_page.specs.declared.index.Head.{Head}

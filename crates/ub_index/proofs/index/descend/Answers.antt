@@ -3,7 +3,6 @@ use Rattle.ub_store.specs.View.{PagerView}
 use Rattle.ub_table.specs.declared.row.Key.{Key}
 use Rattle.ub_index.specs.Searching.{Gives}
 use Rattle.ub_index.specs.View.{index_view}
-use Rattle.ub_index.specs.declared.descent.Leaf.{Leaf}
 use Rattle.ub_index.specs.declared.descent.Place.{Place}
 use Rattle.ub_index.specs.declared.seat.Seat.{Seat}
 use Rattle.ub_index.proofs.BehindFacts.{step_given}

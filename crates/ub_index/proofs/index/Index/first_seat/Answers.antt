@@ -1,5 +1,4 @@
 use Rattle.std.proofs.Common.{◌≡◌, ℕ, None, Option, IfSome, inr, ap, refl, subst, sym}
-use Rattle.ub_store.specs.View.{PagerView}
 use Rattle.ub_table.specs.Keys.{origin}
 use Rattle.ub_table.specs.declared.row.Key.{Key}
 use Rattle.ub_index.specs.Searching.{Aims, IsAim, IsSought}
