@@ -158,9 +158,11 @@ module _ (index : IndexView) (old mid : PagerView) (stores : mid.store ≡ old.s
       → FindsAfter index old To (Some region) (Some (from, record { first = place.entry.first; page = place.entry.page; next = place.next }))
   here_found from place h =
       let (below, falls, aim, is_aim, to, falls_aim) = h.looks in
-      let given = gives h.page h.ends h.taken h.there region.first (not_before_self region.first) holds.until below (Some from) falls in
-      (Some from, (seat_of below (Some from), given, refl),
-          (refl, aim, is_aim, gives h.page h.ends h.taken h.there aim (aim_later from aim given.holds.to is_aim) to place.entry place.next falls_aim))
+      let given = gives h.page h.ends h.taken h.there region.first (not_before_self region.first) holds.until below (Some from) falls in (
+        Some from,
+        (seat_of below (Some from), given, refl),
+        (refl, aim, is_aim, gives h.page h.ends h.taken h.there aim (aim_later from aim given.holds.to is_aim) to place.entry place.next falls_aim),
+      )
 
   pub beyond_found : (from aim : Key) (seat : Seat) → LooksAt index.last mid To region.first leaf (Beyond from aim) → Gives index old aim seat
       → FindsAfter index old To (Some region) (Some (from, seat))

@@ -102,6 +102,11 @@ module _ (pages : List (List ℕ)) (held : List (ℕ × List ℕ)) (last level :
       by_read true was unfit = inl unfit
       by_read false was unfit = inr (was refl, unfit)
 
+  pub refused_either : (b : Bool) (fault : PageFault) → (b ≡ false → IsHeld held entry.page)
+      → IsUnfitSo b last page level entry end fault ⊎ IsUnfit last page level entry end fault → IsNotTaken last pages held level entry end (Some fault)
+  refused_either b fault was (inl unfit) = refused_so b fault was unfit
+  refused_either b fault was (inr unfit) = refused_so true fault (λ e. cc) unfit
+
 -- a step leaves no page that was neither held before nor read in full
 pub step_kept : (last : ℕ) (old new : PagerView) (n : ℕ) → NoneMoreBut n old.cached new.cached → IsHeld old.cached n ⊎ IsIndexPage last (page_in old.store.pages n) → KeepsChecked last old new
 step_kept last old new n none_more here m held = elim (cases_eq m n) [

@@ -2,7 +2,7 @@
 use Rattle.std.specs.Prelude.{◌≡◌, ◌≤◌, ◌⊎◌, ℕ, IsTrue, List, Option, Some, None, Result, IfErr, IfSome}
 use Rattle.ub_directory.specs.declared.region.Region.{Region}
 use Rattle.ub_index.specs.Fitting.{FallsTo, FitsAtEnds, IsHeld, IsNotTaken, NamesTaken}
-use Rattle.ub_index.specs.Index.{entries_of, page_in, top, IsIndexPage}
+use Rattle.ub_index.specs.Index.{entries_of, page_in, top, Fits, IsIndexPage}
 use Rattle.ub_index.specs.Searching.{store_after, Gives, IsAim, IsAimless, IsFrom}
 use Rattle.ub_index.specs.View.{IndexView, Stops}
 use Rattle.ub_index.specs.Way.{HoldsKey, LeadsTo, StopsAt}
@@ -76,11 +76,18 @@ Looks last To entries key leaf (Beyond from aim) =
     (below : Entry) × FallsTo key entries leaf.place.next below (Some from)
     × IsAim last To from aim × (¬ (IfSome leaf.until (IsBefore aim)))
 
--- the same on the page of a leaf, the ends of which fit; over an honest store it is the one that is named, and is taken
+-- what is found on the leaf begins before the next region, as it never does where its keys ascend
+abbrev pub GoesBack : Found → Type 0
+GoesBack (Here from place) = IsBefore place.entry.first from
+GoesBack _ = ⊥
+
+-- what is looked at on the page of a leaf, the ends of which fit, and all of it where the search would go back; over an honest
+-- store it is the one that is named, and is taken
 pub record LooksAt (last : ℕ) (old : PagerView) (To : Key → Option ℕ → Type 0) (key : Key) (leaf : Leaf) (found : Found) : Type 0 where
   pub page : List ℕ
   pub ends : FitsAtEnds page 1 leaf.place.entry leaf.place.next
   pub looks : Looks last To (node_on page).entries key leaf found
+  pub back : GoesBack found → Fits last page 1 leaf.place.entry leaf.place.next
   pub taken : IsHonest old.store → NamesTaken last old.store.pages old.cached 1 leaf.place.entry leaf.place.next
   pub there : IsHonest old.store → page ≡ page_in old.store.pages leaf.place.entry.page
 

@@ -1,6 +1,6 @@
 // The way down an index, step by step.
-ghost use Rattle.std.specs.Prelude.{◌≡◌, ◌+◌, ◌<◌, ◌≤◌, ◌↔◌, None, Some, IfOk, IfErr, IsOk, IfSome, IsTrue, drop};
-ghost use Rattle.ub_index.specs.Descending.{HoldsLeaf, KeepsChecked, Looks, LooksAt, Steps, StepsTo};
+ghost use Rattle.std.specs.Prelude.{◌≡◌, ◌+◌, ◌<◌, ◌≤◌, ◌↔◌, ◌⊎◌, None, Some, IfOk, IfErr, IsOk, IfSome, IsTrue, drop};
+ghost use Rattle.ub_index.specs.Descending.{GoesBack, HoldsLeaf, KeepsChecked, Looks, LooksAt, Steps, StepsTo};
 ghost use Rattle.ub_index.specs.Fitting.{FallsTo, FitsAtEnds, FitsSo, IsUnfit, IsUnfitAtEnds, IsUnfitSo};
 ghost use Rattle.ub_index.specs.Index.{Fits, first_or, top};
 ghost use Rattle.ub_index.specs.Searching.{Aims, IsAim, IsAimless, at_least};
@@ -105,21 +105,55 @@ pub fn look<S: PageStore>(
     let n = leaf.place.entry.page;
     let is_read = pager.bring(n)?;
     let page = pager.cached(n);
-    match fits_so(page, is_read, last, 1, &leaf.place) {
-        Ok(head) => Ok(looked(page, head.count, last, leaf, key, goal)),
+    match look_on(page, is_read, last, leaf, key, goal) {
+        Ok(found) => Ok(found),
         Err(fault) => Err(IndexFault::Page { page: n, fault }),
     }
 }
 
-// The same among the entries of a page, which are so many.
-fn looked(
+// The same on the page of the leaf, which was read now or was held. Where the search would go back on it, its keys don't
+// ascend: it is checked in full then, whether it was read or not, and refused for what is wrong with it.
+fn look_on(
     page: &Page,
-    count: usize,
+    is_read: bool,
     last: u128,
     leaf: &Leaf,
     key: &Key,
     goal: &Goal,
-) -> Found
+) -> Result<Found, PageFault>
+    ensures fits { IfOk result
+        (λ _. FitsSo is_read last page.now 1 leaf.now.place.entry leaf.now.place.next) }
+    ensures ends { IfOk result
+        (λ _. FitsAtEnds page.now 1 leaf.now.place.entry leaf.now.place.next) }
+    ensures looks { IfOk result
+        (Looks last (Aims goal.now) (node_on page.now).entries key.now leaf.now) }
+    ensures back { IfOk result (λ found. GoesBack found
+        → Fits last page.now 1 leaf.now.place.entry leaf.now.place.next) }
+    ensures refused { IfErr result (λ fault.
+        IsUnfitSo is_read last page.now 1 leaf.now.place.entry leaf.now.place.next fault
+        ⊎ IsUnfit last page.now 1 leaf.now.place.entry leaf.now.place.next fault) }
+{
+    let head = fits_so(page, is_read, last, 1, &leaf.place)?;
+    let found = looked(page, head.count, last, leaf, key, goal);
+    if !goes_back(&found) {
+        return Ok(found);
+    }
+    fits(page, last, 1, &leaf.place)?;
+    Ok(found)
+}
+
+// Whether what is found on a leaf begins before the next region.
+fn goes_back(found: &Found) -> bool
+    ensures { IsTrue result ↔ GoesBack found.now }
+{
+    match found {
+        Found::Here(from, place) => place.entry.first.is_before(from),
+        _ => false,
+    }
+}
+
+// The same among the entries of a page, which are so many.
+fn looked(page: &Page, count: usize, last: u128, leaf: &Leaf, key: &Key, goal: &Goal) -> Found
     requires count { count ≡ (head_on page.now).count }
     requires some { 1 ≤ count }
     requires few { count ≤ MAX_ENTRIES }

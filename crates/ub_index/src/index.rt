@@ -434,8 +434,11 @@ fn leaf_of<S: PageStore>(
 
 // The seat of a region's place.
 fn seat_at(place: &Place) -> Seat
-    ensures { result ≡ record { first = place.now.entry.first; page = place.now.entry.page;
-        next = place.now.next } }
+    ensures { result ≡ record {
+      first = place.now.entry.first;
+      page = place.now.entry.page;
+      next = place.now.next;
+    } }
 {
     Seat {
         first: place.entry.first,

@@ -17,8 +17,8 @@ returns-in-Ok-clause-holds g c =
 pub returns-in-Ok-clause-below : goal.returns-in-Ok-clause-below
 returns-in-Ok-clause-below g c = λ honest. record {
   named = taken_so c.args.pager.now.store.pages c.args.pager.now.cached c.args.last c.args.level c.args.place.now.entry c.args.place.now.next c.cached-page.result.now
-    (same_page c.args.pager.now.store c.bring.new.self.store c.args.place.now.entry.page _ c.cached-page.result.now c.in_ok-is_read.ensures.effect.same c.cached-page.ensures.page honest)
-    c.in_ok-is_read.is_read
+      (same_page c.args.pager.now.store c.bring.new.self.store c.args.place.now.entry.page _ c.cached-page.result.now c.in_ok-is_read.ensures.effect.same c.cached-page.ensures.page honest)
+      c.in_ok-is_read.is_read
       (λ e. c.in_ok-is_read.ensures.hit.1 (ap (λ b. Ok b) e)) c.in-Ok.ensures.found;
   falls = falls_there c.args.pager.now.store.pages c.args.place.now.entry.page c.cached-page.result.now c.args.key.now c.args.place.now.next c.fall.result.next c.fall.result.entry
       (same_page c.args.pager.now.store c.bring.new.self.store c.args.place.now.entry.page _ c.cached-page.result.now c.in_ok-is_read.ensures.effect.same c.cached-page.ensures.page honest) c.fall.ensures;
@@ -39,8 +39,8 @@ returns-in-Err-clause-effect g c = record {
     refl,
     λ honest.
         refused_so c.args.pager.now.store.pages c.args.pager.now.cached c.args.last c.args.level c.args.place.now.entry c.args.place.now.next c.cached-page.result.now
-    (same_page c.args.pager.now.store c.bring.new.self.store c.args.place.now.entry.page _ c.cached-page.result.now c.in_ok-is_read.ensures.effect.same c.cached-page.ensures.page honest)
-    c.in_ok-is_read.is_read c.in-Err.fault
+        (same_page c.args.pager.now.store c.bring.new.self.store c.args.place.now.entry.page _ c.cached-page.result.now c.in_ok-is_read.ensures.effect.same c.cached-page.ensures.page honest)
+        c.in_ok-is_read.is_read c.in-Err.fault
         (λ e. c.in_ok-is_read.ensures.hit.1 (ap (λ b. Ok b) e)) c.in-Err.ensures.refused,
   );
 }
