@@ -36,11 +36,11 @@
 //    'I', and tells of a level and a count that there can be (WrongKind, BadCount); it is of the level that is due (BadCount);
 //    its first entry begins with the key of the entry that names it, and its last one before the key of the next one
 //    (OutOfRegion). The first refusal that holds is told.
-//  - Of a page that the pager holds already, the ends alone are looked at otherwise. Mostly a search read it, and checked it
-//    then; or a change spelled it. But a page can be held that was never checked: another caller brought it, as a region's page
-//    or to look at it; it was put while it was held; or a search read it, refused it, and left it there. What stands between
-//    its ends is then taken as it is: keys that don't ascend, or entries that are out of range, lead to a wrong region, but
-//    never to one that doesn't hold the key by what the pages tell.
+//  - Of a page that the pager holds already, the ends alone are looked at, but on a leaf as below. Mostly a search read it, and
+//    checked it then; or a change spelled it. But a page can be held that was never checked: another caller brought it, as a
+//    region's page or to look at it; it was put while it was held; or a search read it, refused it, and left it there. What
+//    stands between its ends is then taken as it is: keys that don't ascend, or entries that are out of range, lead to a wrong
+//    region, but never to one that doesn't hold the key by what the pages tell.
 //  - Where a search would go back on a leaf, the leaf is checked in full, and refused for what is wrong with it. Where the ways
 //    to two leaves contradict each other, so that a later region would not begin later, OutOfRegion of the root is told.
 //  - A change checks each page on its way in full, held or not, since it spells the entries anew that stand there.
