@@ -7,6 +7,8 @@ mod changes;
 #[cfg(test)]
 mod faults;
 #[cfg(test)]
+mod held;
+#[cfg(test)]
 mod levels;
 #[cfg(test)]
 mod searches;

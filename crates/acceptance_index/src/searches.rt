@@ -29,7 +29,7 @@ const TWO: &[Spelled] = &[
     (2, &[(0, 0, 1), (4, 0, 2), (31, 1, 3)]),
 ];
 
-const THREE: &[Spelled] = &[
+pub(crate) const THREE: &[Spelled] = &[
     (1, &[(0, 0, 100), (4, 0, 101)]),
     (1, &[(9, 2, 102)]),
     (1, &[(20, 0, 103), (20, 5, 104), (31, 1, 105)]),
@@ -87,7 +87,7 @@ pub(crate) fn entry(listed: &Listed) -> Entry {
 }
 
 // The page that is spelled so, of a level of at most 16 and six entries at most.
-fn spell(spelled: &Spelled, draft: &mut Draft) {
+pub(crate) fn spell(spelled: &Spelled, draft: &mut Draft) {
     let mut entries = [entry(&(0, 0, 0)); 6];
     let count = spelled.1.len().min(6);
     for i in 0..count {
@@ -96,8 +96,18 @@ fn spell(spelled: &Spelled, draft: &mut Draft) {
     write_index(&entries[..count], spelled.0.min(16), draft);
 }
 
-// A store of these pages from 1 on, whose call of this number fails, behind a pager.
+// A store of these pages from 1 on, whose call of this number fails, behind a pager that holds four.
 pub(crate) fn stored(alloc: Global, pages: &[Spelled], due: u64) -> Option<Tried> {
+    stored_behind(alloc, pages, due, 4)
+}
+
+// The same behind a pager that holds so many pages.
+pub(crate) fn stored_behind(
+    alloc: Global,
+    pages: &[Spelled],
+    due: u64,
+    held: usize,
+) -> Option<Tried> {
     let mut store = MemStore::new(alloc);
     let mut draft = Draft::new();
     if store.extend().is_err() {
@@ -112,7 +122,12 @@ pub(crate) fn stored(alloc: Global, pages: &[Spelled], due: u64) -> Option<Tried
             return None;
         }
     }
-    Pager::new(alloc, FaultyStore::new(store, due), NonZeroUsize::new(4)?).ok()
+    Pager::new(
+        alloc,
+        FaultyStore::new(store, due),
+        NonZeroUsize::new(held)?,
+    )
+    .ok()
 }
 
 // The seat of the region that holds a key, among those that are listed.

@@ -10,9 +10,8 @@ use Rattle.ub_page.specs.declared.entries.Entry.{Entry}
 use Rattle.ub_table.specs.Keys.{IsBefore}
 use Rattle.ub_table.specs.declared.row.Key.{Key}
 use Rattle.ub_index.specs.Changing.{OpensTo}
-use Rattle.ub_index.specs.Descending.{StepsTo}
 use Rattle.ub_index.specs.Fitting.{FallsTo, IsUnfit, IsNotTaken}
-use Rattle.ub_index.specs.Index.{first_or, page_in, AscendTo, Fits}
+use Rattle.ub_index.specs.Index.{entries_of, first_or, page_in, AscendTo, Fits}
 use Rattle.ub_store.specs.Facts.{StoreFacts, IsPage}
 use Rattle.ub_table.specs.declared.fault.PageFault.{PageFault}
 
@@ -99,7 +98,7 @@ module _ (page : List ℕ) (last level count : ℕ) (entry : Entry) (end : Optio
   pub few_count : count ≤ 170
   few_count = let few = is.few in omega (arith, length-node_on page)
 
-  first_here : first_or (node_on page).entries None ≡ Some (first_in 0 page)
+  pub first_here : first_or (node_on page).entries None ≡ Some (first_in 0 page)
   first_here = sym (after_first page 0 None (let some = some_count in omega arith))
 
   last_here : slice_get (node_on page).entries (count - 1) ≡ Some (entry_in (count - 1) page)
@@ -117,11 +116,8 @@ module _ (page : List ℕ) (last level count : ℕ) (entry : Entry) (end : Optio
     ascends = ascend_up_to (node_on page).entries (count - 1) (entry_in (count - 1) page) end long last_here is.ascending to;
   }
 
-  pub not_begun : first_in 0 page ≢ entry.first → ¬ (Fits last page level entry end)
-  not_begun wrong h = wrong (let one = first_here in let two = h.begins in cc)
-
-  pub not_ended : ¬ (IfSome end (IsBefore (first_in (count - 1) page))) → ¬ (Fits last page level entry end)
-  not_ended wrong h = wrong (last_before (node_on page).entries (count - 1) (entry_in (count - 1) page) end long last_here h.ascends)
+  pub last_ends : AscendTo (node_on page).entries end → IfSome end (IsBefore (first_in (count - 1) page))
+  last_ends up = last_before (node_on page).entries (count - 1) (entry_in (count - 1) page) end long last_here up
 
 -- the page that stands under a number is the page of that number
 pub page_is : (pages : List (List ℕ)) (n : ℕ) (page : List ℕ) → slice_get pages n ≡ Some page → page_in pages n ≡ page
@@ -129,25 +125,16 @@ page_is [] n page at = cc
 page_is (p ∷ pages) zero page at = cc
 page_is (p ∷ pages) (suc n) page at = page_is pages n page at
 
--- the step that is made where the page that stands there fits
-pub makes_step : (store : StoreFacts) (last : ℕ) (key : Key) (level : ℕ) (entry : Entry) (end : Option Key) (below : Entry) (next : Option Key) (page : List ℕ)
-    → slice_get store.pages entry.page ≡ Some page → Fits last page level entry end → FallsTo key (node_on page).entries end below next
-    → StepsTo last store key level entry end below next
-makes_step store last key level entry end below next page at fits to =
-    let is = page_is store.pages entry.page page at in
-    record {
-      named = record {
-        there = at ∙ ap (λ (p : List ℕ). Some p) (sym is);
-        fits = subst (λ (p : List ℕ). Fits last p level entry end) (sym is) fits;
-      };
-      falls = subst (λ (p : List ℕ). FallsTo key (node_on p).entries end below next) (sym is) to;
-    }
+-- the key falls to the same entry of the page of that number
+pub falls_there : (pages : List (List ℕ)) (n : ℕ) (page : List ℕ) (key : Key) (end next : Option Key) (below : Entry) → slice_get pages n ≡ Some page
+    → FallsTo key (node_on page).entries end below next → FallsTo key (entries_of pages n) end below next
+falls_there pages n page key end next below at h = subst (λ (p : List ℕ). FallsTo key (node_on p).entries end below next) (sym (page_is pages n page at)) h
 
 pub is_refused : (pages : List (List ℕ)) (last level : ℕ) (entry : Entry) (end : Option Key) (page : List ℕ) (fault : PageFault)
-    → slice_get pages entry.page ≡ Some page → IsUnfit last page level entry end fault → IsNotTaken last pages level entry end (Some fault)
+    → slice_get pages entry.page ≡ Some page → IsUnfit last page level entry end fault → IsNotTaken last pages [] level entry end (Some fault)
 is_refused pages last level entry end page fault at misfit =
     let is = page_is pages entry.page page at in
-    (at ∙ ap (λ (p : List ℕ). Some p) (sym is), subst (λ (p : List ℕ). IsUnfit last p level entry end fault) (sym is) misfit)
+    (at ∙ ap (λ (p : List ℕ). Some p) (sym is), inl (subst (λ (p : List ℕ). IsUnfit last p level entry end fault) (sym is) misfit))
 
 -- what a store's page is doesn't depend on its counts
 pub same_page : (old new : StoreFacts) (n reads : ℕ) (page : List ℕ) → new ≡ record old { failed_reads = reads } → IsPage new n page → IsPage old n page

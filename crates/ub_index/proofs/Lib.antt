@@ -1,10 +1,12 @@
 pub mod KeyFacts
 pub mod FitFacts
+pub mod HeldFacts
 pub mod WayFacts
 pub mod SearchFacts
 pub mod PlaceFacts
 pub mod WaysFacts
 pub mod FoundFacts
+pub mod BehindFacts
 pub mod Lists
 pub mod Changes
 pub mod OrderFacts

@@ -26,6 +26,7 @@ use Rattle.ub_index.specs.declared.seat.Seat.{Seat}
 use Rattle.ub_index.specs.declared.sheet.Sheet.{Sheet}
 use Rattle.ub_index.specs.declared.told.Told.{Told}
 use Rattle.ub_index.specs.declared.told.Told.TheVariants.{Same, Gone, One, Two}
+use Rattle.ub_index.proofs.HeldFacts.{in_full}
 use Rattle.ub_index.proofs.Changes.{replaced, stays, told_index}
 use Rattle.ub_index.proofs.FullFacts.{all_end, full_next, full_way}
 use Rattle.ub_index.proofs.Numbers.{distinct_cons, distinct_first, distinct_rest, no_new_left, once_join, outside_less, within_store}
@@ -123,10 +124,10 @@ one_page last old later f fs next (suc level) entry end other some (before, afte
 ]
 
 pub leads_entry : (last : ℕ) (pages : List (List ℕ)) (key : Key) (level : ℕ) (entry : Entry) (end : Option Key) (found : Entry) (next : Option Key) → IsEntry last entry
-    → LeadsTo last pages key level entry end found next → IsEntry last found
+    → LeadsTo last pages [] key level entry end found next → IsEntry last found
 leads_entry last pages key zero entry end found next whole h = subst (λ (e : Entry). IsEntry last e) (sym h.0) whole
 leads_entry last pages key (suc level) entry end found next whole (named, below, after, falls, leads) =
-    let all : AllByRecursion (IsEntry last) (falls.before ++ (below ∷ falls.after)) = subst (λ (xs : List Entry). AllByRecursion (IsEntry last) xs) falls.parts named.fits.is.is.entries in
+    let all : AllByRecursion (IsEntry last) (falls.before ++ (below ∷ falls.after)) = subst (λ (xs : List Entry). AllByRecursion (IsEntry last) xs) falls.parts (in_full last pages (suc level) entry end named).fits.is.is.entries in
     leads_entry last pages key level below after found next (all_right (IsEntry last) falls.before (below ∷ falls.after) all).0 leads
 
 -- a root's entry is in range, where its page is reached once and isn't the first
@@ -363,10 +364,10 @@ module _ (index : IndexView) (small : index.last < 2 ^ 128) (low : 1 ≤ index.l
 
 -- the way to the first key of a seat ends at its region
 pub seat_found : (index : IndexView) (store : StoreFacts) (i : ℕ) (seat : Seat) → IsIndexOn index store → IsSeatAt (entries_in index store) i seat → (found : Entry) (next : Option Key)
-    → LeadsTo index.last store.pages seat.first index.levels (top index.root) None found next → (found ≡ entry_at seat) × (next ≡ seat.next)
+    → LeadsTo index.last store.pages [] seat.first index.levels (top index.root) None found next → (found ≡ entry_at seat) × (next ≡ seat.next)
 seat_found index store i seat is at found next leads =
     let other : Seat = record { first = found.first; page = found.page; next = next } in
-    let there = seat_is index store seat.first (record { first = found.first; page = found.page; next = next }) is leads in
+    let there = seat_is index store [] seat.first (record { first = found.first; page = found.page; next = next }) is leads in
     let same = index_of_first (first_keys (entries_in index store)) i seat.first (up index store is) (seat_first (entries_in index store) i seat at) in
     let here = subst (λ (n : ℕ). IsSeatAt (entries_in index store) n (record { first = found.first; page = found.page; next = next })) same there in
     let entries : Some found ≡ Some (entry_at seat) = sym here.entry ∙ at.entry in
@@ -394,7 +395,7 @@ ready_added index store i seat first change small high few is own at within (mid
     let added : Option Entry = Some (added_at first store) in
     let whole = root_entry index.last store.pages index.root index.levels is.some few own is.under_it in
     let some : 1 ≤ page_count store = some_page index.levels is.some is.under_it in
-    let fine_at : (found : Entry) (next : Option Key) → LeadsTo index.last store.pages seat.first index.levels (top index.root) None found next → IsFine index.last (Some (added_at first store)) found next = λ found next leads.
+    let fine_at : (found : Entry) (next : Option Key) → LeadsTo index.last store.pages [] seat.first index.levels (top index.root) None found next → IsFine index.last (Some (added_at first store)) found next = λ found next leads.
     let same = seat_found index store i seat is at found next leads in
     let whole_seat = subst (λ (e : Entry). IsEntry index.last e) same.0 (leads_entry index.last store.pages seat.first index.levels (top index.root) None found next whole leads) in
     subst (λ (e : Entry). IsFine index.last (Some (added_at first store)) e next) (sym same.0)

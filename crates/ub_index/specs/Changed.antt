@@ -15,8 +15,8 @@ pub record IsTold (last : ℕ) (pages : List (List ℕ)) (level : ℕ) (entries 
   pub entries_are : entries_of pages entry.page ≡ entries
   pub begins : first_or entries None ≡ Some entry.first
 
--- these entries stand on the page n, and `told` are the entries by which the page above names them: none stand nowhere; one more
--- than a page has stand on two, the first 86 of them on n
+-- these entries stand on the page n, and `told` are the entries by which the page above names them: none stand nowhere; one
+-- more than a page has stand on two, the first 86 of them on n
 abbrev pub StandOn : ℕ → List (List ℕ) → ℕ → ℕ → List Entry → List Entry → Type 0
 StandOn last pages level n entries told =
     ((entries ≡ []) × (told ≡ []))

@@ -1,5 +1,5 @@
--- A change of an index: the entry of the region that holds a key goes, or another one comes behind it; and which pages are spelled
--- anew on the way to it, as far as what stands there fits.
+-- A change of an index: the entry of the region that holds a key goes, or another one comes behind it; and which pages are
+-- spelled anew on the way to it, as far as what stands there fits.
 use Rattle.std.specs.Prelude.{◌≡◌, ◌≢◌, ◌≤◌, ◌<◌, ◌+◌, ◌++◌, ◌⊎◌, ℕ, zero, suc, IsTrue, List, [], ◌∷◌, Option, Some, None, Result, IfOk, IfErr, length, take, drop, slice_get}
 use Rattle.std.specs.List.{AllByRecursion}
 use Rattle.ub_index.specs.Changed.{BeginFrom}
@@ -70,8 +70,8 @@ pub record NamesPage (number : ℕ) (entries : List Entry) (entry : Entry) : Typ
   pub page_is : entry.page ≡ number
   pub begins : first_or entries None ≡ Some entry.first
 
--- these entries of a level stand from then on where an entry led: on its page, which begins as it did, or with another key; nowhere,
--- where there are none; or 171 on two, the first 86 on its page, and the others on a new one, which is put before it
+-- these entries of a level stand from then on where an entry led: on its page, which begins as it did, or with another key;
+-- nowhere, where there are none; or 171 on two, the first 86 on its page, and the others on a new one, which is put before it
 abbrev pub Spreads : ℕ → Entry → List Entry → Spelled → Spelled → Told → Type 0
 Spreads level entry entries old new Same =
     (length entries ≤ 170) × (first_or entries None ≡ Some entry.first)
@@ -86,14 +86,14 @@ Spreads level entry entries old new (Two left right) =
     × (new ≡ so_far (old.sheets ++ sheet_of old.next level (drop 86 entries) ∷ sheet_of entry.page level (take 86 entries) ∷ [])
     (old.next + 1))
 
--- an entry whose page has these entries before and after one that became `news`: it is as it was where that one is, and otherwise
--- what its page tells is spelled anew
+-- an entry whose page has these entries before and after one that became `news`: it is as it was where that one is, and
+-- otherwise what its page tells is spelled anew
 abbrev pub Mends : ℕ → Entry → List Entry → Entry → List Entry → Told → Spelled → Spelled → Told → Type 0
 Mends level entry before below after Same old new told = (told ≡ Same) × (new ≡ old)
 Mends level entry before below after news old new told = Spreads level entry (before ++ (named_as news below ++ after)) old new told
 
--- what an entry of this level becomes where the region's entry to which the key falls goes, or gets this one behind it: each page on
--- the way fits
+-- what an entry of this level becomes where the region's entry to which the key falls goes, or gets this one behind it: each
+-- page on the way fits
 abbrev pub Turns : ℕ → List (List ℕ) → Key → Option Entry → ℕ → Entry → Option Key → Spelled → Spelled → Told → Type 0
 Turns last pages key added zero entry end old new told = (told ≡ with_added added entry) × (new ≡ old)
 Turns last pages key added (suc level) entry end old new told =
@@ -116,21 +116,21 @@ pub record OpensTo (last : ℕ) (pages : List (List ℕ)) (key : Key) (level : �
   pub before_is : falls.before ≡ before
   pub after_is : falls.after ≡ after
 
--- why a change is refused that goes down to the key from an entry of this level, where the next page would have this number: as a
--- search is, or since there would be too many pages, with one more for each of the lowest that are full
+-- why a change is refused that goes down to the key from an entry of this level, where the next page would have this number: as
+-- a search is, or since there would be too many pages, with one more for each of the lowest that are full
 abbrev pub IsTurnFault : ℕ → StoreFacts → Key → ℕ → Entry → Option Key → ℕ → IndexFault → Type 0
 IsTurnFault last old key level entry end next (Store store.Memory) = Unit {0}
 IsTurnFault last old key level entry end next (Store store.Device) = IsTrue old.can_fail
 IsTurnFault last old key level entry end next (Store store.NoPage) =
-    (n : ℕ) × (page_count old ≤ n) × (IsHonest old → StopsAt last old.pages key level entry end n None)
+    (n : ℕ) × (page_count old ≤ n) × (IsHonest old → StopsAt last old.pages [] key level entry end n None)
 IsTurnFault last old key level entry end next (Store store.BadSize) =
     (4294967295 < next + level)
     × (IsHonest old → (full : ℕ) × EndsFull last old.pages key level entry end full × (4294967295 < next + full))
-IsTurnFault last old key level entry end next (Page n fault) = IsHonest old → StopsAt last old.pages key level entry end n (Some fault)
+IsTurnFault last old key level entry end next (Page n fault) = IsHonest old → StopsAt last old.pages [] key level entry end n (Some fault)
 IsTurnFault last old key level entry end next Full = ⊥
 
--- a change that is prepared with this result, from an entry of this level on: with the device's fault the store has one failed read
--- more, and else nothing has changed but the pages that the pager holds
+-- a change that is prepared with this result, from an entry of this level on: with the device's fault the store has one failed
+-- read more, and else nothing has changed but the pages that the pager holds
 pub record Prepares {A : Type 0} (last level : ℕ) (key : Key) (entry : Entry) (end : Option Key) (next : ℕ) (old new : PagerView)
     (result : Result A IndexFault) : Type 0 where
   pub same : new ≡ record old { store = store_after result old.store; cached = new.cached }

@@ -1,12 +1,14 @@
--- What holds of every index, and what a change of one entry does to the whole. Each is what the function of its name in `law` ensures.
-use Rattle.std.specs.Prelude.{◌≡◌, ◌≤◌, ◌<◌, ◌^◌, ◌++◌, ℕ, nat_eq, List, Option, IfSome, length}
+-- What holds of every index, and what a change of one entry does to the whole. Each is what the function of its name in `law`
+-- ensures.
+use Rattle.std.specs.Prelude.{◌≡◌, ◌≤◌, ◌<◌, ◌^◌, ◌++◌, ◌⊎◌, [], ℕ, nat_eq, List, Option, None, IfSome, length}
 use Rattle.std.specs.List.{AllByRecursion, flat_map, IsDistinct}
 use Rattle.ub_directory.specs.Writing.{Grows}
-use Rattle.ub_index.specs.Index.{AscendTo, IsUnder, under, pages_under}
+use Rattle.ub_index.specs.Index.{AscendTo, IsUnder, under, pages_under, top}
 use Rattle.ub_index.specs.Changed.{PagesStay, Becomes, BeginFrom, Replaces, Stays}
 use Rattle.ub_index.specs.Changing.{IsFine, Spelled, Stand, StayBut, Turns, named_as, with_added}
 use Rattle.ub_index.specs.Making.{IsCommitted, IsPutFault, PutsSheets, StayOutside}
 use Rattle.ub_index.specs.Preparing.{ChangeView, IsForeign, MakesIndex}
+use Rattle.ub_index.specs.Searching.{Cross}
 use Rattle.ub_index.specs.View.{IndexView, IsIndexOn, entries_in}
 use Rattle.ub_index.specs.Way.{IsFullWay, LeadsTo, StopsAt}
 use Rattle.ub_index.specs.declared.sheet.Sheet.{Sheet}
@@ -15,6 +17,7 @@ use Rattle.ub_index.specs.declared.told.Told.TheVariants.{Two}
 use Rattle.ub_page.specs.Entries.{IsEntry}
 use Rattle.ub_page.specs.declared.entries.Entry.{Entry}
 use Rattle.ub_store.specs.Facts.{StoreFacts, IsHonest, page_count}
+use Rattle.ub_store.specs.View.{PagerView}
 use Rattle.ub_store.specs.declared.fault.StoreFault.TheVariants as store
 use Rattle.ub_table.specs.Keys.{IsBefore}
 use Rattle.ub_table.specs.declared.fault.PageFault.{PageFault}
@@ -28,8 +31,15 @@ WholeAscends = (last : ℕ) (pages : List (List ℕ)) (level : ℕ) (entry : Ent
 
 -- on the way to a key no page is refused, and none is missing
 abbrev pub WaysNeverStop : Type 0
-WaysNeverStop = (last : ℕ) (pages : List (List ℕ)) (key : Key) (level : ℕ) (entry : Entry) (end : Option Key) (n : ℕ) (fault : Option PageFault)
-    → last < 2 ^ 128 → IsUnder last pages level entry end → ¬ (StopsAt last pages key level entry end n fault)
+WaysNeverStop = (last : ℕ) (pages : List (List ℕ)) (held : List (ℕ × List ℕ)) (key : Key) (level : ℕ) (entry : Entry)
+    (end : Option Key) (n : ℕ) (fault : Option PageFault)
+    → last < 2 ^ 128 → IsUnder last pages level entry end → ¬ (StopsAt last pages held key level entry end n fault)
+
+-- on an index the ways to two keys don't cross, and nowhere over an honest store where no page was held
+abbrev pub WaysNeverCross : Type 0
+WaysNeverCross = (index : IndexView) (old : PagerView) (key other : Key) → IsHonest old.store
+    → IsUnder index.last old.store.pages index.levels (top index.root) None ⊎ (old.cached ≡ [])
+    → ¬ (Cross index old key other)
 
 -- where the pages under an entry stay, so do the regions' entries under it, and the index
 abbrev pub OthersStay : Type 0
@@ -50,15 +60,15 @@ ChangeKeepsOrder = (last : ℕ) (old new : List (List ℕ)) (f : Entry) (fs : Li
     → IfSome end (IsBefore entry.first) → IsUnder last old level entry end
     → Becomes last old new f fs next level entry end told → Stays last new level entry end told
 
--- where a change turns on an index each page of which is reached once, and what comes is fine, what it spells makes of the entry what
--- `Becomes` says, on all later pages on which that stands, and the index's other pages as they were
+-- where a change turns on an index each page of which is reached once, and what comes is fine, what it spells makes of the
+-- entry what `Becomes` says, on all later pages on which that stands, and the index's other pages as they were
 abbrev pub TurnsBecome : Type 0
 TurnsBecome = (last : ℕ) (old : List (List ℕ)) (key : Key) (added : Option Entry) (level : ℕ) (entry : Entry) (end : Option Key)
     (from to : Spelled) (told : Told) → last < 2 ^ 128 → length old ≤ from.next → IsUnder last old level entry end → IsEntry last entry
     → IsDistinct nat_eq (pages_under old level entry)
-    → ((found : Entry) (next : Option Key) → LeadsTo last old key level entry end found next → IsFine last added found next)
+    → ((found : Entry) (next : Option Key) → LeadsTo last old [] key level entry end found next → IsFine last added found next)
     → Turns last old key added level entry end from to told
-    → (found : Entry) × (next : Option Key) × LeadsTo last old key level entry end found next
+    → (found : Entry) × (next : Option Key) × LeadsTo last old [] key level entry end found next
     × (sheets : List Sheet) × (to.sheets ≡ from.sheets ++ sheets)
     × ((later : List (List ℕ)) → Stand later sheets → StayBut old later sheets (pages_under old level entry)
     → Becomes last old later found (named_as (with_added added found) found) next level entry end (named_as told entry))
@@ -74,8 +84,8 @@ abbrev pub PagesAreThere : Type 0
 PagesAreThere = (last : ℕ) (pages : List (List ℕ)) (level : ℕ) (entry : Entry) (end : Option Key) → IsUnder last pages level entry end
     → AllByRecursion (λ n. n < length pages) (pages_under pages level entry)
 
--- where a change makes an index of that on the old store, it is made once the store has grown, pages of regions have been put, none of
--- which is one of the old index or one that the change brings, and then the pages that it spells
+-- where a change makes an index of that on the old store, it is made once the store has grown, pages of regions have been put,
+-- none of which is one of the old index or one that the change brings, and then the pages that it spells
 abbrev pub ChangeIsMade : Type 0
 ChangeIsMade = (index : IndexView) (old grown filled new : StoreFacts) (from : ℕ) (change : ChangeView) (f : Entry) (fs : List Entry) (numbers : List ℕ)
     → IsIndexOn index old → MakesIndex index old from change (Replaces f fs (entries_in index old)) → Grows old grown

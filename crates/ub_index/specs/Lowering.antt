@@ -59,7 +59,7 @@ pub record LowersTo (pages : List (List ℕ)) (old new : ChangeView) : Type 0 wh
 -- one comes to a root that isn't spelled, and that can't be taken
 abbrev pub IsRootRefused : ℕ → List (List ℕ) → ChangeView → ℕ → Option PageFault → Type 0
 IsRootRefused last pages change n fault =
-    (level : ℕ) × Lowers change.sheets pages change.root change.levels n level × IsNotTaken last pages level (top n) None fault
+    (level : ℕ) × Lowers change.sheets pages change.root change.levels n level × IsNotTaken last pages [] level (top n) None fault
 
 -- why a root doesn't give way
 abbrev pub IsLowerFault : ℕ → StoreFacts → ChangeView → IndexFault → Type 0
@@ -70,8 +70,8 @@ IsLowerFault last old change (Store store.BadSize) = ⊥
 IsLowerFault last old change (Page n fault) = IsHonest old → IsRootRefused last old.pages change n (Some fault)
 IsLowerFault last old change Full = ⊥
 
--- a call with this result that reads roots: with the device's fault the store has one failed read more, and else nothing has changed but
--- the pages that the pager holds
+-- a call with this result that reads roots: with the device's fault the store has one failed read more, and else nothing has
+-- changed but the pages that the pager holds
 pub record ReadsRoots {A : Type 0} (last : ℕ) (change : ChangeView) (old new : PagerView) (result : Result A IndexFault) : Type 0 where
   pub same : new ≡ record old { store = store_after result old.store; cached = new.cached }
   pub faults : IfErr result (IsLowerFault last old.store change)
@@ -82,14 +82,15 @@ IsDropped index store key change =
     (first : ChangeView) × IsPrepared index store key None (page_count store) (so_far [] (page_count store)) first
     × LowersTo store.pages first change
 
--- on all pages on which what a change spells stands, and the other pages of the index as they were, the root names two pages at least,
--- unless it is of level 1
+-- on all pages on which what a change spells stands, and the other pages of the index as they were, the root names two pages at
+-- least, unless it is of level 1
 abbrev pub MakesLow : IndexView → StoreFacts → ChangeView → Type 0
 MakesLow index old change =
     (later : List (List ℕ)) → Stand later change.sheets → StayBut old.pages later change.sheets (pages_of_index index old)
     → (change.levels ≡ 1) ⊎ (2 ≤ length (entries_of later change.root))
 
--- why a region's entry doesn't go, which is never for want of pages or levels: as a change is refused; or as a root doesn't give way
+-- why a region's entry doesn't go, which is never for want of pages or levels: as a change is refused; or as a root doesn't
+-- give way
 abbrev pub IsDropFault : IndexView → StoreFacts → Key → IndexFault → Type 0
 IsDropFault index old key fault =
     IsNoGrowth fault

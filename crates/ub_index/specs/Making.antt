@@ -10,7 +10,8 @@ use Rattle.ub_store.specs.Facts.{StoreFacts, IsHonest, page_count}
 use Rattle.ub_store.specs.declared.fault.StoreFault.{StoreFault}
 use Rattle.ub_store.specs.declared.fault.StoreFault.TheVariants as store
 
--- why a store doesn't get so many pages more: memory was refused; the store failed, which it then can; or it would have too many
+-- why a store doesn't get so many pages more: memory was refused; the store failed, which it then can; or it would have too
+-- many
 abbrev pub IsGrowFault : ℕ → StoreFacts → StoreFault → Type 0
 IsGrowFault by old store.Memory = Unit {0}
 IsGrowFault by old store.Device = IsTrue old.can_fail
@@ -22,7 +23,8 @@ pub record SameButSheets (sheets : List Sheet) (old new : List (List ℕ)) : Typ
   pub count : length new ≡ length old
   pub others : (m : ℕ) → IsUnspelled m sheets → slice_get new m ≡ slice_get old m
 
--- the pages are as they were, but for those that are spelled; so it is of those that last, unless they are the ones that lasted before
+-- the pages are as they were, but for those that are spelled; so it is of those that last, unless they are the ones that lasted
+-- before
 pub record PutsSheets (sheets : List Sheet) (old new : StoreFacts) : Type 0 where
   pub count : page_count new ≡ page_count old
   pub others : IsHonest old → (m : ℕ) → IsUnspelled m sheets → slice_get new.pages m ≡ slice_get old.pages m
@@ -42,9 +44,9 @@ StayOutside numbers old new = (m : ℕ) → IsOutside m numbers → slice_get ne
 abbrev pub changed : IndexView → ChangeView → IndexView
 changed index change = record index { root = change.root; levels = change.levels }
 
--- a change of an index is made: on the store stands the index that it tells, each page of which is reached once; in its list of regions
--- fs stand where f stood; and each page that isn't one of the old index, nor one that the change brings, is none of the new index, and
--- is as it was before the change was put
+-- a change of an index is made: on the store stands the index that it tells, each page of which is reached once; in its list of
+-- regions fs stand where f stood; and each page that isn't one of the old index, nor one that the change brings, is none of the
+-- new index, and is as it was before the change was put
 pub record IsCommitted (index : IndexView) (old : StoreFacts) (from : ℕ) (change : ChangeView) (f : Entry) (fs : List Entry) (filled new : StoreFacts) : Type 0 where
   pub is : IsIndexOn (changed index change) new
   pub reached : IsReachedOnce (changed index change) new

@@ -12,17 +12,19 @@ use Rattle.ub_index.specs.declared.seat.Seat.{Seat}
 use Rattle.ub_index.specs.declared.sheet.Sheet.{Sheet}
 use Rattle.ub_index.specs.declared.told.Told.{Told}
 use Rattle.ub_index.specs.declared.told.Told.TheVariants.{Same, Gone, One, Two}
+use Rattle.ub_index_page.specs.declared.index.TheConstants.{MAX_LEVEL}
 use Rattle.ub_page.specs.declared.entries.Entry.{Entry}
 use Rattle.ub_store.specs.Facts.{StoreFacts, IsHonest, page_count}
 use Rattle.ub_store.specs.View.{PagerView}
 use Rattle.ub_store.specs.declared.fault.StoreFault.TheVariants as store
+use Rattle.ub_store.specs.declared.store.TheConstants.{MAX_PAGES}
 use Rattle.ub_table.specs.Keys.{IsBefore}
 use Rattle.ub_table.specs.declared.fault.PageFault.TheVariants.{BadCount}
 use Rattle.ub_table.specs.declared.row.Key.{Key}
 use Rattle.ub_table.specs.declared.row.TheConstants.{MAX_ROW_NUMBER}
 
--- a change: the pages that it spells, in the order in which they are put; how many pages the store has, and how many it gets; and
--- the root from then on, and its level
+-- a change: the pages that it spells, in the order in which they are put; how many pages the store has, and how many it gets;
+-- and the root from then on, and its level
 pub record ChangeView : Type 0 where
   pub sheets : List Sheet
   pub start : ℕ
@@ -47,18 +49,18 @@ Settles root levels Same start old change = change ≡ change_view old start roo
 Settles root levels Gone start old change = ⊥
 Settles root levels (One other) start old change = change ≡ change_view old start root levels
 Settles root levels (Two left right) start old change =
-    (levels < 16) × (old.next < 4294967295)
+    (levels < MAX_LEVEL) × (old.next < MAX_PAGES)
     × (change ≡ change_view (so_far (old.sheets ++ sheet_of old.next (levels + 1) (left ∷ right ∷ []) ∷ []) (old.next + 1)) start old.next (levels + 1))
 
--- why the root can't be left so: memory was refused, or there are as many pages as there can be; it would be of level 17; or nothing
--- is left
+-- why the root can't be left so: memory was refused, or there are as many pages as there can be; it would be of a level above
+-- the highest; or nothing is left
 abbrev pub IsSettleFault : ℕ → ℕ → Told → Spelled → IndexFault → Type 0
 IsSettleFault root levels told old (Store store.Memory) = Unit {0}
 IsSettleFault root levels told old (Store store.BadSize) =
-    (4294967295 ≤ old.next) × (levels < 16) × (left : Entry) × (right : Entry) × (told ≡ Two left right)
+    (MAX_PAGES ≤ old.next) × (levels < MAX_LEVEL) × (left : Entry) × (right : Entry) × (told ≡ Two left right)
 IsSettleFault root levels told old (Store fault) = ⊥
 IsSettleFault root levels told old (Page n fault) = (n ≡ root) × (fault ≡ BadCount) × (told ≡ Gone)
-IsSettleFault root levels told old Full = (levels ≡ 16) × (left : Entry) × (right : Entry) × (told ≡ Two left right)
+IsSettleFault root levels told old Full = (levels ≡ MAX_LEVEL) × (left : Entry) × (right : Entry) × (told ≡ Two left right)
 
 -- what becomes of the root where the region's entry to which the key falls goes, or gets this one behind it
 abbrev pub TurnsRoot : IndexView → StoreFacts → Key → Option Entry → Spelled → Spelled → Told → Type 0
@@ -69,21 +71,23 @@ abbrev pub IsPrepared : IndexView → StoreFacts → Key → Option Entry → �
 IsPrepared index store key added start old change =
     (middle : Spelled) × (told : Told) × TurnsRoot index store key added old middle told × Settles index.root index.levels told start middle change
 
--- on these pages an index stands, with this root, each page of which is reached once, and the entries of which have the property
+-- on these pages an index stands, with this root, each page of which is reached once, and the entries of which have the
+-- property
 pub record IsIndexThen (last : ℕ) (later : List (List ℕ)) (root levels : ℕ) (Are : List Entry → Type 0) : Type 0 where
   pub low : 1 ≤ levels
-  pub high : levels ≤ 16
+  pub high : levels ≤ MAX_LEVEL
   pub under_it : IsUnder last later levels (top root) None
   pub reached : IsDistinct nat_eq (0 ∷ pages_under later levels (top root))
   pub entries_are : Are (under later levels (top root))
 
--- the page of this number isn't one of the old index, nor one of those that a change brings, the first of which has the number `from`
+-- the page of this number isn't one of the old index, nor one of those that a change brings, the first of which has the number
+-- `from`
 abbrev pub IsForeign : IndexView → StoreFacts → ℕ → ChangeView → ℕ → Type 0
 IsForeign index old from change n = IsNoNew from change.next n × IsOutside n (pages_of_index index old)
 
 -- a change begins with as many pages as the store has, spells none twice, and none but those of the old index and those that it
--- brings; and on all pages on which what it spells stands, and the other pages of the old index as they were, it makes an index, which
--- has no other pages either
+-- brings; and on all pages on which what it spells stands, and the other pages of the old index as they were, it makes an
+-- index, which has no other pages either
 pub record MakesIndex (index : IndexView) (old : StoreFacts) (from : ℕ) (change : ChangeView) (Are : List Entry → Type 0) : Type 0 where
   pub start : change.start ≡ page_count old
   pub once : AreOnce change.sheets
@@ -112,39 +116,39 @@ pub record IsWithinSeat (last : ℕ) (seat_first : Key) (next : Option Key) (fir
 abbrev pub HasFullWay : IndexView → StoreFacts → Key → Type 0
 HasFullWay index store key = IsFullWay index.last store.pages key index.levels (top index.root) None
 
--- an index needs n pages more at least where a region comes behind that of the key: one for each of the lowest pages on the way that are
--- full, and one for a new root, where all are, and there may be a level more
+-- an index needs n pages more at least where a region comes behind that of the key: one for each of the lowest pages on the way
+-- that are full, and one for a new root, where all are, and there may be a level more
 abbrev pub NeedsPages : IndexView → StoreFacts → Key → ℕ → Type 0
 NeedsPages index store key n =
     (full : ℕ) × EndsFull index.last store.pages key index.levels (top index.root) None full
     × ((n ≡ full) ⊎ ((full ≡ index.levels) × (index.levels < 16) × (n ≡ full + 1)))
 
--- an addition takes one page for the region, and those that the index needs, no more and no fewer; so many there may be; and where
--- there can be no level more, not each page on the way is full
+-- an addition takes one page for the region, and those that the index needs, no more and no fewer; so many there may be; and
+-- where there can be no level more, not each page on the way is full
 pub record TakesNeeded (index : IndexView) (old : StoreFacts) (key : Key) (change : ChangeView) : Type 0 where
   pub all : (n : ℕ) → NeedsPages index old key n → page_count old + 1 + n ≤ change.next
   pub only : (n : ℕ) × NeedsPages index old key n × (change.next ≡ page_count old + 1 + n)
   pub room : change.next ≤ 4294967295
   pub level : index.levels ≡ 16 → ¬ (HasFullWay index old key)
 
--- why a change isn't prepared: as a search to the key is refused; BadSize, where the store would have too many pages; Full, where it
--- wouldn't, but the root would get a level that there isn't; and BadCount of the root, where no region would be left
+-- why a change isn't prepared: as a search to the key is refused; BadSize, where the store would have too many pages; Full,
+-- where it wouldn't, but the root would get a level that there isn't; and BadCount of the root, where no region would be left
 abbrev pub IsChangeFault : IndexView → StoreFacts → Key → Option Entry → Spelled → IndexFault → Type 0
 IsChangeFault index old key added from (Store store.Memory) = Unit {0}
 IsChangeFault index old key added from (Store store.Device) = IsTrue old.can_fail
 IsChangeFault index old key added from (Store store.NoPage) =
-    (n : ℕ) × (page_count old ≤ n) × (IsHonest old → Stops index old key n None)
+    (n : ℕ) × (page_count old ≤ n) × (IsHonest old → Stops index old [] key n None)
 IsChangeFault index old key added from (Store store.BadSize) =
     (4294967295 < from.next + (index.levels + 1))
     × ((4294967295 < from.next) ⊎ (IsHonest old → (n : ℕ) × NeedsPages index old key n × (4294967295 < from.next + n)))
 IsChangeFault index old key added from (Page n fault) =
-    IsHonest old → Stops index old key n (Some fault)
+    IsHonest old → Stops index old [] key n (Some fault)
     ⊎ ((n ≡ index.root) × (fault ≡ BadCount) × (to : Spelled) × TurnsRoot index old key added from to Gone)
 IsChangeFault index old key added from Full =
     (index.levels ≡ 16) × (IsHonest old → HasFullWay index old key × (from.next + 16 ≤ 4294967295))
 
--- a change that is prepared with this result: with the device's fault the store has one failed read more, and else nothing has changed
--- but the pages that the pager holds
+-- a change that is prepared with this result: with the device's fault the store has one failed read more, and else nothing has
+-- changed but the pages that the pager holds
 pub record PreparesAll {A : Type 0} (index : IndexView) (key : Key) (added : Option Entry) (from : Spelled) (old new : PagerView)
     (result : Result A IndexFault) : Type 0 where
   pub same : new ≡ record old { store = store_after result old.store; cached = new.cached }

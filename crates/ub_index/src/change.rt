@@ -1,5 +1,5 @@
 // A change of an index that is prepared, and not yet made.
-ghost use Rattle.std.specs.Prelude.{◌≡◌, ◌≤◌, ◌<◌, ◌+◌, ◌-◌, None, IfOk, IfErr, OnOk};
+ghost use Rattle.std.specs.Prelude.{◌≡◌, ◌≤◌, ◌<◌, ◌+◌, ◌-◌, [], None, IfOk, IfErr, OnOk};
 ghost use Rattle.ub_directory.specs.Writing.{Grows, put_store};
 ghost use Rattle.ub_index.specs.Changing.{IsAtMostOne, IsNoGrowth};
 ghost use Rattle.ub_index.specs.Descending.{Steps};
@@ -48,8 +48,8 @@ impl Model for Change {
 }
 
 impl Change {
-    /// How the change leaves the root, which stands on this page and is of this level, and of which this is told. Full comes where a
-    /// new root would have a level above 16, BadCount where nothing is left.
+    /// How the change leaves the root, which stands on this page and is of this level, and of which this is told. Full comes
+    /// where a new root would have a level above 16, BadCount where nothing is left.
     pub(crate) fn settled(
         root: u32,
         levels: u32,
@@ -102,8 +102,8 @@ impl Change {
     }
 
     /// Gives the store the pages that the change needs, before a page is put. Device comes where the store failed in this call,
-    /// BadSize where it would have more than 4294967295 pages, Memory where memory was refused. Each page that the store had is as it
-    /// was; after a fault it may have got some.
+    /// BadSize where it would have more than 4294967295 pages, Memory where memory was refused. Each page that the store had is
+    /// as it was; after a fault it may have got some.
     pub fn grow<S: PageStore>(&self, pager: &mut Pager<S>) -> Result<(), StoreFault>
         ensures trace { SameTrace pager.old pager.new }
         ensures cached { pager.new.cached ≡ pager.old.cached }
@@ -117,8 +117,8 @@ impl Change {
         extend_by(pager, self.sheets.next().saturating_sub(self.start))
     }
 
-    /// The change with the root to which its root gives way: while it is above level 1 and names one page alone, that page becomes the
-    /// root. A page that isn't spelled is read, and refused as in a search.
+    /// The change with the root to which its root gives way: while it is above level 1 and names one page alone, that page
+    /// becomes the root. A page that isn't spelled is read, and refused as in a search.
     pub(crate) fn lowered<S: PageStore>(
         self,
         pager: &mut Pager<S>,
@@ -156,7 +156,7 @@ fn named_alone<S: PageStore>(
 ) -> Result<Option<u32>, IndexFault>
     ensures sole { IsHonest pager.old.store → IfOk result (λ page. page
         ≡ sole_page (entries_then sheets.now.sheets pager.old.store.pages root)) }
-    ensures effect { Steps last level (top root) None pager.old pager.new result }
+    ensures effect { Steps last [] level (top root) None pager.old pager.new result }
 {
     if let Some(page) = sheets.find(root) {
         return Ok(sole_on(page));

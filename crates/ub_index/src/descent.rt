@@ -1,16 +1,18 @@
-// One step of the way down an index.
-ghost use Rattle.std.specs.Prelude.{◌≡◌, ◌+◌, ◌<◌, ◌≤◌, ◌↔◌, None, Some, IfOk, IfErr, IsOk, IfSome, IsTrue, drop};
-ghost use Rattle.ub_index.specs.Descending.{Steps, StepsTo};
-ghost use Rattle.ub_index.specs.Fitting.{FallsTo, IsUnfit};
+// The way down an index, step by step.
+ghost use Rattle.std.specs.Prelude.{◌≡◌, ◌+◌, ◌<◌, ◌≤◌, ◌↔◌, ◌⊎◌, None, Some, IfOk, IfErr, IsOk, IfSome, IsTrue, drop};
+ghost use Rattle.ub_index.specs.Descending.{GoesBack, HoldsLeaf, KeepsChecked, Looks, LooksAt, Steps, StepsTo};
+ghost use Rattle.ub_index.specs.Fitting.{FallsTo, FitsAtEnds, FitsSo, IsUnfit, IsUnfitAtEnds, IsUnfitSo};
 ghost use Rattle.ub_index.specs.Index.{Fits, first_or, top};
+ghost use Rattle.ub_index.specs.Searching.{Aims, IsAim, IsAimless, at_least};
 ghost use Rattle.ub_index_page.specs.Index.{head_on, node_on};
 ghost use Rattle.ub_index.specs.Way.{HoldsKey};
 ghost use Rattle.ub_store.specs.Facts.{IsHonest};
 ghost use Rattle.ub_table.specs.Keys.{IsBefore};
 
 use crate::fault::IndexFault;
+use crate::goal::{Goal, aimed_at};
 use ub_directory::ORIGIN;
-use ub_index_page::{Head, MAX_ENTRIES, check_index, entry_at, first_at, slot_in};
+use ub_index_page::{Head, MAX_ENTRIES, check_index, entry_at, first_at, read_head, slot_in};
 use ub_page::{Entry, Page};
 use ub_region::is_equal;
 use ub_store::{PageStore, Pager};
@@ -21,6 +23,25 @@ use ub_table::{Key, PageFault};
 pub struct Place {
     pub entry: Entry,
     pub next: Option<Key>,
+}
+
+/// A leaf on the way to a key: the place that names it, and the least key, if there is one, at which the way would go on
+/// elsewhere from one of the pages above it.
+#[derive(Clone, Copy)]
+pub struct Leaf {
+    pub place: Place,
+    pub until: Option<Key>,
+}
+
+/// What a search finds on the leaf of a region, behind that region.
+#[derive(Clone, Copy)]
+pub enum Found {
+    /// Nothing that it goes on to.
+    Nothing,
+    /// Where the next region begins, and the place on this leaf to which the search falls that goes on from there.
+    Here(Key, Place),
+    /// Where the next region begins, and the key of another leaf to which the search goes down that goes on from there.
+    Beyond(Key, Key),
 }
 
 /// The place of a root.
@@ -36,8 +57,8 @@ pub fn root_place(root: u32) -> Place
     }
 }
 
-/// Goes down from a place of this level to that of the level below to which the key falls. Reads the page that the entry names, if
-/// it isn't held.
+/// Goes down from a place of this level to that of the level below to which the key falls. Reads the page that the entry names,
+/// if it isn't held, and then checks it in full; of a page that is held its ends are looked at.
 pub fn step_down<S: PageStore>(
     pager: &mut Pager<S>,
     last: u128,
@@ -48,13 +69,16 @@ pub fn step_down<S: PageStore>(
     requires { HoldsKey key.now place.now.entry.first place.now.next }
     ensures holds { IfOk result (λ below. HoldsKey key.now below.entry.first below.next) }
     ensures below { IsHonest pager.old.store → IfOk result (λ below. StepsTo last pager.old.store
-        key.now level place.now.entry place.now.next below.entry below.next) }
-    ensures effect { Steps last level place.now.entry place.now.next pager.old pager.new result }
+        pager.old.cached key.now level place.now.entry place.now.next below.entry below.next) }
+    ensures checked { IsHonest pager.old.store
+        → IfOk result (λ _. KeepsChecked last pager.old pager.new) }
+    ensures effect { Steps last pager.old.cached level place.now.entry place.now.next
+        pager.old pager.new result }
 {
     let number = place.entry.page;
-    pager.bring(number)?;
+    let is_read = pager.bring(number)?;
     let page = pager.cached(number);
-    match fits(page, last, level, place) {
+    match fits_so(page, is_read, last, level, place) {
         Ok(head) => Ok(fall(page, head.count, key, place.next)),
         Err(fault) => Err(IndexFault::Page {
             page: number,
@@ -63,17 +87,163 @@ pub fn step_down<S: PageStore>(
     }
 }
 
-/// What the first bytes tell of a page that fits the place from which an entry names it. It is refused by its reader; as BadCount
-/// where it is of another level; as OutOfRegion where it doesn't begin with the entry's key, or doesn't end before the next one.
+/// Looks on a leaf for what comes behind the region of a key: where the next region begins, and where a search with this goal
+/// goes on from there. Reads the leaf, if it isn't held.
+pub fn look<S: PageStore>(
+    pager: &mut Pager<S>,
+    last: u128,
+    leaf: &Leaf,
+    key: &Key,
+    goal: &Goal,
+) -> Result<Found, IndexFault>
+    ensures looks { IfOk result (LooksAt last pager.old (Aims goal.now) key.now leaf.now) }
+    ensures checked { IsHonest pager.old.store
+        → IfOk result (λ _. KeepsChecked last pager.old pager.new) }
+    ensures effect { Steps last pager.old.cached 1 leaf.now.place.entry leaf.now.place.next
+        pager.old pager.new result }
+{
+    let n = leaf.place.entry.page;
+    let is_read = pager.bring(n)?;
+    let page = pager.cached(n);
+    match look_on(page, is_read, last, leaf, key, goal) {
+        Ok(found) => Ok(found),
+        Err(fault) => Err(IndexFault::Page { page: n, fault }),
+    }
+}
+
+// The same on the page of the leaf, which was read now or was held. Where the search would go back on it, its keys don't
+// ascend: it is checked in full then, whether it was read or not, and refused for what is wrong with it.
+fn look_on(
+    page: &Page,
+    is_read: bool,
+    last: u128,
+    leaf: &Leaf,
+    key: &Key,
+    goal: &Goal,
+) -> Result<Found, PageFault>
+    ensures fits { IfOk result
+        (λ _. FitsSo is_read last page.now 1 leaf.now.place.entry leaf.now.place.next) }
+    ensures ends { IfOk result
+        (λ _. FitsAtEnds page.now 1 leaf.now.place.entry leaf.now.place.next) }
+    ensures looks { IfOk result
+        (Looks last (Aims goal.now) (node_on page.now).entries key.now leaf.now) }
+    ensures back { IfOk result (λ found. GoesBack found
+        → Fits last page.now 1 leaf.now.place.entry leaf.now.place.next) }
+    ensures refused { IfErr result (λ fault.
+        IsUnfitSo is_read last page.now 1 leaf.now.place.entry leaf.now.place.next fault
+        ⊎ IsUnfit last page.now 1 leaf.now.place.entry leaf.now.place.next fault) }
+{
+    let head = fits_so(page, is_read, last, 1, &leaf.place)?;
+    let found = looked(page, head.count, last, leaf, key, goal);
+    if !goes_back(&found) {
+        return Ok(found);
+    }
+    fits(page, last, 1, &leaf.place)?;
+    Ok(found)
+}
+
+// Whether what is found on a leaf begins before the next region.
+fn goes_back(found: &Found) -> bool
+    ensures { IsTrue result ↔ GoesBack found.now }
+{
+    match found {
+        Found::Here(from, place) => place.entry.first.is_before(from),
+        _ => false,
+    }
+}
+
+// The same among the entries of a page, which are so many.
+fn looked(page: &Page, count: usize, last: u128, leaf: &Leaf, key: &Key, goal: &Goal) -> Found
+    requires count { count ≡ (head_on page.now).count }
+    requires some { 1 ≤ count }
+    requires few { count ≤ MAX_ENTRIES }
+    ensures { Looks last (Aims goal.now) (node_on page.now).entries key.now leaf.now result }
+{
+    let end = leaf.place.next;
+    let Some(from) = fall(page, count, key, end).next else {
+        return Found::Nothing;
+    };
+    match aim(goal, last, &from) {
+        None => Found::Nothing,
+        Some(aim) if ends_before(&aim, &leaf.until) => {
+            Found::Here(from, fall(page, count, &aim, end))
+        }
+        Some(aim) => Found::Beyond(from, aim),
+    }
+}
+
+/// The key to which a search with this goal goes down that goes on from a key, in a space with this last address, if there is
+/// one.
+pub fn aim(goal: &Goal, last: u128, from: &Key) -> Option<Key>
+    ensures found { IfSome result (IsAim last (Aims goal.now) from.now) }
+    ensures none { result ≡ None → IsAimless last (Aims goal.now) (Some from.now) }
+{
+    match aimed_at(goal, from) {
+        Some(z) if z <= last => Some(later_of(from, z)),
+        _ => None,
+    }
+}
+
+// The least key of the address z, or the key `from` if this is later.
+fn later_of(from: &Key, z: u128) -> Key
+    ensures { result ≡ at_least from.now z }
+{
+    let least = Key { z, number: 0 };
+    if least.is_before(from) { *from } else { least }
+}
+
+// What the first bytes tell of a page that fits the place from which an entry names it: one that was read now is checked in
+// full, and of one that was held its ends are.
+fn fits_so(
+    page: &Page,
+    is_read: bool,
+    last: u128,
+    level: u32,
+    place: &Place,
+) -> Result<Head, PageFault>
+    ensures head { IfOk result (λ head. head ≡ head_on page.now) }
+    ensures found { IfOk result
+        (λ _. FitsSo is_read last page.now level place.now.entry place.now.next) }
+    ensures ends { IfOk result (λ _. FitsAtEnds page.now level place.now.entry place.now.next) }
+    ensures exact { FitsSo is_read last page.now level place.now.entry place.now.next
+        → IsOk result }
+    ensures refused { IfErr result
+        (IsUnfitSo is_read last page.now level place.now.entry place.now.next) }
+{
+    if is_read {
+        fits(page, last, level, place)
+    } else {
+        fits_at_ends(page, level, place)
+    }
+}
+
+/// What the first bytes tell of a page that fits the place from which an entry names it, all bytes of which are looked at. It
+/// is refused by its reader, or else as `fits_at_ends` refuses it.
 pub fn fits(page: &Page, last: u128, level: u32, place: &Place) -> Result<Head, PageFault>
     ensures head { IfOk result (λ head. head ≡ head_on page.now) }
     ensures found { IfOk result
         (λ _. Fits last page.now level place.now.entry place.now.next) }
+    ensures ends { IfOk result (λ _. FitsAtEnds page.now level place.now.entry place.now.next) }
     ensures exact { Fits last page.now level place.now.entry place.now.next → IsOk result }
     ensures refused { IfErr result
         (IsUnfit last page.now level place.now.entry place.now.next) }
 {
-    let head = check_index(last, page)?;
+    check_index(last, page)?;
+    fits_at_ends(page, level, place)
+}
+
+// What the first bytes tell of a page, in constant time, where they and its first and its last entry fit the place from which
+// an entry names it. It is refused as WrongKind or BadCount by its head; as BadCount where it is of another level; as
+// OutOfRegion where it doesn't begin with the entry's key, or doesn't end before the next one.
+fn fits_at_ends(page: &Page, level: u32, place: &Place) -> Result<Head, PageFault>
+    ensures head { IfOk result (λ head. head ≡ head_on page.now) }
+    ensures found { IfOk result
+        (λ _. FitsAtEnds page.now level place.now.entry place.now.next) }
+    ensures exact { FitsAtEnds page.now level place.now.entry place.now.next → IsOk result }
+    ensures refused { IfErr result
+        (IsUnfitAtEnds page.now level place.now.entry place.now.next) }
+{
+    let head = read_head(page)?;
     if head.level != level {
         return Err(PageFault::BadCount);
     }
@@ -84,6 +254,17 @@ pub fn fits(page: &Page, last: u128, level: u32, place: &Place) -> Result<Head, 
         return Err(PageFault::OutOfRegion);
     }
     Ok(head)
+}
+
+/// The earlier one of two ends, if there is one.
+pub fn earlier(a: &Option<Key>, b: &Option<Key>) -> Option<Key>
+    ensures { (k : Key) → IfSome result (IsBefore k)
+        ↔ (IfSome a.now (IsBefore k) × IfSome b.now (IsBefore k)) }
+{
+    match a {
+        Some(key) if ends_before(key, b) => *a,
+        _ => *b,
+    }
 }
 
 // Whether a key is before the end, if there is one.

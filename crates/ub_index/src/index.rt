@@ -10,8 +10,8 @@ ghost use Rattle.ub_store.specs.View.{SameTrace};
 ghost use Rattle.ub_index.specs.Index.{top};
 ghost use Rattle.ub_index.specs.Lowering.{IsDropped, MakesLow, PreparesDrop};
 ghost use Rattle.ub_index.specs.Preparing.{IsPrepared, IsReachedOnce, MakesIndex, IsWithinSeat, PreparesAll, TakesNeeded, added_at, entry_at};
-ghost use Rattle.ub_index.specs.Descending.{IsBoundary, Reaches};
-ghost use Rattle.ub_index.specs.Searching.{Gives, GivesAny, GivesAfter, IsFirstKeyOf, IsFrom, IsSought, GoesDown, at_least, end_before, key_before, region_of};
+ghost use Rattle.ub_index.specs.Descending.{FindsAfter, HoldsLeaf, KeepsChecked, LeadsDown};
+ghost use Rattle.ub_index.specs.Searching.{Aims, Gives, GivesAny, GivesAfter, IsSought, GoesDown, end_before, key_before, region_of};
 ghost use Rattle.ub_index.specs.View.{IsIndexOn, IsSeatAt, IsNextSeat, IsPreviousSeat, entries_in, index_view};
 ghost use Rattle.ub_index_page.specs.declared.index.TheConstants.{MAX_LEVEL};
 ghost use Rattle.ub_region.specs.Regions.{index_holding};
@@ -19,21 +19,23 @@ ghost use Rattle.ub_store.specs.Facts.{IsHonest, page_count};
 ghost use Rattle.ub_table.specs.Keys.{IsBefore, origin};
 
 use crate::change::Change;
-use crate::descent::{root_place, step_down};
+use crate::descent::{Found, Leaf, Place, aim, earlier, look, root_place, step_down};
 use crate::fault::IndexFault;
+use crate::goal::Goal;
 use crate::making::put_all;
 use crate::seat::Seat;
 use crate::sheets::Sheets;
 use crate::turning::{Aim, turn};
 use std::alloc::Global;
 use std::marker::Model;
-use ub_bigmin::{ZBox, next_in_any};
+use ub_bigmin::ZBox;
 use ub_directory::{ORIGIN, Region};
 use ub_page::Entry;
 use ub_store::{PageStore, Pager, StoreFault};
 use ub_table::{Key, PageFault};
 
-/// An index of several levels over the pages of a store: where its root stands, and how many levels it has. No page of it is kept here.
+/// An index of several levels over the pages of a store: where its root stands, and how many levels it has. No page of it is
+/// kept here.
 #[derive(Drop)]
 pub struct Index {
     root: u32,
@@ -54,7 +56,8 @@ impl Model for Index {
 }
 
 impl Index {
-    /// The index whose root stands on this page and is of this level, 1 to 16, in a space with this last address. Nothing is read.
+    /// The index whose root stands on this page and is of this level, 1 to 16, in a space with this last address. Nothing is
+    /// read.
     pub fn new(root: u32, levels: u32, last: u128) -> Index
         requires low { 1 ≤ levels }
         requires high { levels ≤ MAX_LEVEL }
@@ -65,12 +68,13 @@ impl Index {
 
     /// The seat of the region that holds a key: the last one that does not begin after it.
     ///
-    /// Page comes where a page on the way down is refused: by its reader; as BadCount where it isn't of the level due; as OutOfRegion
-    /// where it doesn't begin with the key by which the page above names it, or doesn't end before that of the next one. Store with
-    /// NoPage comes where a page is named that the store doesn't have, with Device where the store failed in this call, with Memory
-    /// where memory was refused. The first refusal on the way is told. Index and store are then as they were.
+    /// Page comes where a page on the way down is refused: by its reader; as BadCount where it isn't of the level due; as
+    /// OutOfRegion where it doesn't begin with the key by which the page above names it, or doesn't end before that of the next
+    /// one. Store with NoPage comes where a page is named that the store doesn't have, with Device where the store failed in
+    /// this call, with Memory where memory was refused. The first refusal on the way is told. Index and store are then as they
+    /// were.
     pub fn seat_of<S: PageStore>(&self, pager: &mut Pager<S>, key: &Key) -> Result<Seat, IndexFault>
-        ensures given { IfOk result (Gives self.now pager.old.store key.now) }
+        ensures given { IfOk result (Gives self.now pager.old key.now) }
         ensures seat { IsIndexOn self.now pager.old.store → IfOk result
             (IsSeatAt (entries_in self.now pager.old.store)
             (index_holding key.now (first_keys (entries_in self.now pager.old.store)))) }
@@ -79,13 +83,14 @@ impl Index {
         descend(pager, self.root, self.levels, self.last, key)
     }
 
-    /// The seat of the region after that of a seat, if there is one. Refused as `seat_of` is, on the way to that region's first key.
+    /// The seat of the region after that of a seat, if there is one. Refused as `seat_of` is, on the way to that region's first
+    /// key.
     pub fn after<S: PageStore>(
         &self,
         pager: &mut Pager<S>,
         seat: &Seat,
     ) -> Result<Option<Seat>, IndexFault>
-        ensures given { IfOk result (GivesAny self.now pager.old.store seat.now.next) }
+        ensures given { IfOk result (GivesAny self.now pager.old seat.now.next) }
         ensures after { (i : ℕ) → IsIndexOn self.now pager.old.store
             → IsSeatAt (entries_in self.now pager.old.store) i seat.now
             → IfOk result (IsNextSeat (entries_in self.now pager.old.store) i) }
@@ -97,14 +102,14 @@ impl Index {
         }
     }
 
-    /// The seat of the region before that of a seat, if there is one. Refused as `seat_of` is, on the way to the greatest key before
-    /// the seat's first one.
+    /// The seat of the region before that of a seat, if there is one. Refused as `seat_of` is, on the way to the greatest key
+    /// before the seat's first one.
     pub fn before<S: PageStore>(
         &self,
         pager: &mut Pager<S>,
         seat: &Seat,
     ) -> Result<Option<Seat>, IndexFault>
-        ensures given { IfOk result (GivesAny self.now pager.old.store
+        ensures given { IfOk result (GivesAny self.now pager.old
             (key_before seat.now.first.z seat.now.first.number)) }
         ensures before { (i : ℕ) → IsIndexOn self.now pager.old.store
             → IsSeatAt (entries_in self.now pager.old.store) i seat.now
@@ -120,64 +125,56 @@ impl Index {
 
     /// The first region later than `after`, if one is given, whose span ends at z or later. `None` exactly where there is none.
     ///
-    /// Refused as `seat_of` is, on the way to the first key of `after`, or then on the way to the place from which the search goes on.
-    /// A store that isn't honest can give one page in two ways: Page comes with the root and OutOfRegion where what is found so would
-    /// not begin later than `after`.
+    /// Refused as `seat_of` is, on the way to the first key of `after`, or then on the way to the place from which the search
+    /// goes on. A store that isn't honest can give one page in two ways: Page comes with the root and OutOfRegion where what is
+    /// found so would not begin later than `after`.
     pub fn seek<S: PageStore>(
         &self,
         pager: &mut Pager<S>,
         z: u128,
         after: Option<&Region>,
     ) -> Result<Option<Region>, IndexFault>
-        ensures given { IfOk result (GivesAfter self.now pager.old.store (λ _ to. to ≡ Some z)
+        ensures given { IfOk result (GivesAfter self.now pager.old (λ _ to. to ≡ Some z)
             (option_copied after.entry)) }
         ensures later { IfOk result (λ found. IfSome found (IsLater (option_copied after.entry))) }
         ensures found { IsIndexOn self.now pager.old.store → IfOk result (First
             (λ r. IsLater (option_copied after.entry) r × (z ≤ r.to))
             (regions_of self.now.last (entries_in self.now pager.old.store))) }
-        ensures effect { GoesDown (IsSought self.now pager.old.store (λ _ to. to ≡ Some z)
+        ensures effect { GoesDown (IsSought self.now pager.old (λ _ to. to ≡ Some z)
             (option_copied after.entry)) self.now pager.old pager.new result }
     {
-        let Some(from) = self.start(pager, after)? else {
-            return Ok(None);
-        };
-        self.reach(pager, z, &from)
+        self.later_region(pager, &Goal::Address(z), after)
     }
 
-    /// The first region later than `after`, if one is given, that meets one of the boxes. `None` exactly where there is none. Refused
-    /// as `seek` is.
+    /// The first region later than `after`, if one is given, that meets one of the boxes. `None` exactly where there is none.
+    /// Refused as `seek` is.
     pub fn next_meeting<S: PageStore>(
         &self,
         pager: &mut Pager<S>,
         boxes: &[ZBox],
         after: Option<&Region>,
     ) -> Result<Option<Region>, IndexFault>
-        ensures given { IfOk result (GivesAfter self.now pager.old.store
+        ensures given { IfOk result (GivesAfter self.now pager.old
             (λ from. LeastFrom (HoldsAny boxes.now) from.z) (option_copied after.entry)) }
         ensures later { IfOk result (λ found. IfSome found (IsLater (option_copied after.entry))) }
         ensures found { IsIndexOn self.now pager.old.store → IfOk result (First
             (λ r. IsLater (option_copied after.entry) r × Meets boxes.now r)
             (regions_of self.now.last (entries_in self.now pager.old.store))) }
-        ensures effect { GoesDown (IsSought self.now pager.old.store
+        ensures effect { GoesDown (IsSought self.now pager.old
             (λ from. LeastFrom (HoldsAny boxes.now) from.z) (option_copied after.entry))
             self.now pager.old pager.new result }
     {
-        let Some(from) = self.start(pager, after)? else {
-            return Ok(None);
-        };
-        match next_in_any(boxes, from.z) {
-            Some(z) => self.reach(pager, z, &from),
-            None => Ok(None),
-        }
+        self.later_region(pager, &Goal::Boxes(boxes), after)
     }
 
     /// Prepares that a region comes behind that of a seat, with this first key, on a page that the store gets first. Nothing is
     /// written.
     ///
-    /// Refused as `seat_of` is, on the way to the seat's first key. With BadSize of the store exactly where it would have more than
-    /// 4294967295 pages: the region takes one, each page of 170 entries on that way one, from the lowest up to the first that has
-    /// fewer, and a new root one, where all are full. With Full exactly where that is room enough, and all 16 levels are full on that
-    /// way. Where there is no page for the region, that is told before any is read. Index and store are then as they were.
+    /// Refused as `seat_of` is, on the way to the seat's first key. With BadSize of the store exactly where it would have more
+    /// than 4294967295 pages: the region takes one, each page of 170 entries on that way one, from the lowest up to the first
+    /// that has fewer, and a new root one, where all are full. With Full exactly where that is room enough, and all 16 levels
+    /// are full on that way. Where there is no page for the region, that is told before any is read. Index and store are then
+    /// as they were.
     pub fn prepare_add<S: PageStore>(
         &self,
         alloc: Global,
@@ -217,8 +214,8 @@ impl Index {
 
     /// Prepares that the region of a seat goes, which isn't the first. Nothing is written, and no page is added.
     ///
-    /// Refused as `seat_of` is, on the way to the seat's first key, and where a page that would be the root can't be taken; with
-    /// BadCount of the root where no region would be left. Index and store are then as they were.
+    /// Refused as `seat_of` is, on the way to the seat's first key, and where a page that would be the root can't be taken;
+    /// with BadCount of the root where no region would be left. Index and store are then as they were.
     pub fn prepare_drop<S: PageStore>(
         &self,
         alloc: Global,
@@ -249,9 +246,9 @@ impl Index {
         change.lowered(pager, self.last)
     }
 
-    /// Makes a change, once the store has grown: puts the pages that it spells, and then takes over the root. Device comes where the
-    /// store failed in this call, NoPage where it has no page of that number; the index is then as it was, and the pages that the
-    /// change spells may hold any bytes.
+    /// Makes a change, once the store has grown: puts the pages that it spells, and then takes over the root. Device comes
+    /// where the store failed in this call, NoPage where it has no page of that number; the index is then as it was, and the
+    /// pages that the change spells may hold any bytes.
     pub fn commit<S: PageStore>(
         &mut self,
         pager: &mut Pager<S>,
@@ -306,46 +303,83 @@ impl Index {
         Change::settled(self.root, self.levels, told, start, sheets)
     }
 
-    // Where the first region later than `after` begins, if there is one; the first of all, where none is given.
-    fn start<S: PageStore>(
+    // The region of the seat that is found after another region, if one is given. It is refused where it would not begin later.
+    fn later_region<S: PageStore>(
         &self,
         pager: &mut Pager<S>,
+        goal: &Goal,
         after: Option<&Region>,
-    ) -> Result<Option<Key>, IndexFault>
-        ensures from { IfOk result (IsFrom self.now pager.old.store (option_copied after.entry)) }
-        ensures effect { GoesDown (λ k. IsFirstKeyOf (option_copied after.entry) k) self.now pager.old
-            pager.new result }
+    ) -> Result<Option<Region>, IndexFault>
+        ensures given { IfOk result (GivesAfter self.now pager.old (Aims goal.now)
+            (option_copied after.entry)) }
+        ensures later { IfOk result (λ found. IfSome found (IsLater (option_copied after.entry))) }
+        ensures effect { GoesDown (IsSought self.now pager.old (Aims goal.now)
+            (option_copied after.entry)) self.now pager.old pager.new result }
     {
-        match after {
-            Some(region) => Ok(self.seat_of(pager, &region.first)?.next),
-            None => Ok(Some(ORIGIN)),
+        match self.seat_after(pager, goal, after)? {
+            Some((from, seat)) if seat.first.is_before(&from) => Err(IndexFault::Page {
+                page: self.root,
+                fault: PageFault::OutOfRegion,
+            }),
+            Some((_, seat)) => Ok(Some(region_at(self.last, &seat))),
+            None => Ok(None),
         }
     }
 
-    // The region that holds the least key of the address z, or the key `from` if this is later.
-    fn reach<S: PageStore>(
+    // The seat that a search with this goal finds after a region, if one is given, and where the search goes on from: where the
+    // next region begins, or the first of all.
+    fn seat_after<S: PageStore>(
         &self,
         pager: &mut Pager<S>,
-        z: u128,
-        from: &Key,
-    ) -> Result<Option<Region>, IndexFault>
-        requires { IsBoundary self.now pager.old.store from.now }
-        ensures given { IfOk result (Reaches self.now pager.old.store z from.now) }
-        ensures later { IfOk result (λ found. IfSome found (λ r. ¬ (IsBefore r.first from.now))) }
-        ensures effect { GoesDown (λ k. (z ≤ self.now.last) × (k ≡ at_least from.now z)) self.now
+        goal: &Goal,
+        after: Option<&Region>,
+    ) -> Result<Option<(Key, Seat)>, IndexFault>
+        ensures found { IfOk result
+            (FindsAfter self.now pager.old (Aims goal.now) (option_copied after.entry)) }
+        ensures effect { GoesDown (IsSought self.now pager.old (Aims goal.now)
+            (option_copied after.entry)) self.now pager.old pager.new result }
+    {
+        match after {
+            Some(region) => self.seat_behind(pager, goal, region),
+            None => self.first_seat(pager, goal),
+        }
+    }
+
+    // The seat that a search with this goal finds from the first key of all on, with that key.
+    fn first_seat<S: PageStore>(
+        &self,
+        pager: &mut Pager<S>,
+        goal: &Goal,
+    ) -> Result<Option<(Key, Seat)>, IndexFault>
+        ensures found { IfOk result (FindsAfter self.now pager.old (Aims goal.now) None) }
+        ensures effect { GoesDown (IsSought self.now pager.old (Aims goal.now) None) self.now
             pager.old pager.new result }
     {
-        if self.last < z {
-            return Ok(None);
+        match aim(goal, self.last, &ORIGIN) {
+            Some(aim) => Ok(Some((ORIGIN, self.seat_of(pager, &aim)?))),
+            None => Ok(None),
         }
-        let seat = self.seat_of(pager, &later_of(from, z))?;
-        if seat.first.is_before(from) {
-            return Err(IndexFault::Page {
-                page: self.root,
-                fault: PageFault::OutOfRegion,
-            });
+    }
+
+    // The seat that a search with this goal finds behind a region, and where the next region begins. It is looked for on the
+    // region's own leaf first; only where it can't be there the search goes down anew.
+    fn seat_behind<S: PageStore>(
+        &self,
+        pager: &mut Pager<S>,
+        goal: &Goal,
+        region: &Region,
+    ) -> Result<Option<(Key, Seat)>, IndexFault>
+        ensures found { IfOk result
+            (FindsAfter self.now pager.old (Aims goal.now) (Some region.now)) }
+        ensures effect { GoesDown (IsSought self.now pager.old (Aims goal.now) (Some region.now))
+            self.now pager.old pager.new result }
+    {
+        let leaf = leaf_of(pager, self.root, self.levels, self.last, &region.first)?;
+        match look(pager, self.last, &leaf, &region.first, goal)? {
+            Found::Nothing => Ok(None),
+            Found::Here(from, place) => Ok(Some((from, seat_at(&place)))),
+            Found::Beyond(from, aim) => Ok(Some((from, self.seat_of(pager, &aim)?))),
         }
-        Ok(Some(region_at(self.last, &seat)))
     }
 }
 
@@ -357,29 +391,60 @@ fn descend<S: PageStore>(
     last: u128,
     key: &Key,
 ) -> Result<Seat, IndexFault>
-    ensures given { IfOk result (Gives (index_view root levels last) pager.old.store key.now) }
+    requires { 1 ≤ levels }
+    ensures given { IfOk result (Gives (index_view root levels last) pager.old key.now) }
     ensures effect { GoesDown (λ k. k ≡ key.now) (index_view root levels last) pager.old pager.new
         result }
 {
-    let mut place = root_place(root);
+    let leaf = leaf_of(pager, root, levels, last, key)?;
+    let place = step_down(pager, last, 1, &leaf.place, key)?;
+    Ok(seat_at(&place))
+}
+
+// The leaf to which the way down from a root of this level leads.
+fn leaf_of<S: PageStore>(
+    pager: &mut Pager<S>,
+    root: u32,
+    levels: u32,
+    last: u128,
+    key: &Key,
+) -> Result<Leaf, IndexFault>
+    requires { 1 ≤ levels }
+    ensures holds { IfOk result (HoldsLeaf key.now) }
+    ensures leads { IsHonest pager.old.store → IfOk result
+        (LeadsDown (index_view root levels last) pager.old key.now 1) }
+    ensures checked { IsHonest pager.old.store
+        → IfOk result (λ _. KeepsChecked last pager.old pager.new) }
+    ensures effect { GoesDown (λ k. k ≡ key.now) (index_view root levels last) pager.old pager.new
+        result }
+{
+    let mut leaf = Leaf {
+        place: root_place(root),
+        until: None,
+    };
     let mut level = levels;
-    while level > 0 {
-        place = step_down(pager, last, level, &place, key)?;
+    while level > 1 {
+        let place = step_down(pager, last, level, &leaf.place, key)?;
+        let until = earlier(&place.next, &leaf.until);
+        leaf = Leaf { place, until };
         level -= 1;
     }
-    Ok(Seat {
+    Ok(leaf)
+}
+
+// The seat of a region's place.
+fn seat_at(place: &Place) -> Seat
+    ensures { result ≡ record {
+      first = place.now.entry.first;
+      page = place.now.entry.page;
+      next = place.now.next;
+    } }
+{
+    Seat {
         first: place.entry.first,
         page: place.entry.page,
         next: place.next,
-    })
-}
-
-// The least key of the address z, or the key `from` if this is later.
-fn later_of(from: &Key, z: u128) -> Key
-    ensures { result ≡ at_least from.now z }
-{
-    let least = Key { z, number: 0 };
-    if least.is_before(from) { *from } else { least }
+    }
 }
 
 // The greatest key before this one, if there is any.

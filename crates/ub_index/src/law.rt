@@ -1,4 +1,4 @@
-ghost use Rattle.ub_index.specs.Laws.{ChangeHasPages, ChangeIsMade, ChangeReplaces, ChangeKeepsOrder, FullWaysPart, OthersStay, PagesAreThere, TurnsBecome, WaysNeverStop, WholeAscends};
+ghost use Rattle.ub_index.specs.Laws.{ChangeHasPages, ChangeIsMade, ChangeReplaces, ChangeKeepsOrder, FullWaysPart, OthersStay, PagesAreThere, TurnsBecome, WaysNeverCross, WaysNeverStop, WholeAscends};
 
 /// What an entry leads to is in order.
 pub fn whole_ascends()
@@ -8,6 +8,11 @@ pub fn whole_ascends()
 /// On an index no search is refused for what a page tells, nor for one that isn't there.
 pub fn ways_never_stop()
     ensures { WaysNeverStop }
+{}
+
+/// On an index the ways to two keys never cross, and so no search is refused for that.
+pub fn ways_never_cross()
+    ensures { WaysNeverCross }
 {}
 
 /// What an entry leads to stays where its pages stay.

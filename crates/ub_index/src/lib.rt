@@ -1,5 +1,5 @@
-// The index of a UB-tree's regions (Bayer 1997), in pages of several levels: where each region begins, and on which page it stands.
-// Nothing of it is held in memory but four numbers; its pages are read as a search comes to them.
+// The index of a UB-tree's regions (Bayer 1997), in pages of several levels: where each region begins, and on which page it
+// stands. Nothing of it is held in memory but three numbers; its pages are read as a search comes to them.
 //
 //     level 3                    root  (0,0) ........................ (40,7) ...
 //                                        |                              |
@@ -9,38 +9,69 @@
 //                    |     |     |        |      |
 //     regions        R     R     R        R      R
 //
-// A page, as `ub_index_page` spells it: 'I', the level, the count of entries, zeros, and the entries, 24 bytes each: a key, and the
-// number of a page of the level below, or at level 1 of a region's page.
+// A page, as `ub_index_page` spells it: 'I', the level, the count of entries, zeros, and the entries, 24 bytes each: a key, and
+// the number of a page of the level below, or at level 1 of a region's page. A page of level 1 is a leaf.
 //
-//  - Levels are counted from below: 1 to 16. Each page that a page of level n names is of level n - 1; the root's level is told with
-//    its number.
+//  - Levels are counted from below: 1 to 16. Each page that a page of level n names is of level n - 1; the root's level is told
+//    with its number.
 //  - A page has 1 to 170 entries, each of which begins after the one before it.
-//  - An entry's key is the first key of the page that it names, and so the least first key of all regions that it leads to. The root
-//    begins with the least key of all.
+//  - An entry's key is the first key of the page that it names, and so the least first key of all regions that it leads to. The
+//    root begins with the least key of all.
 //  - All that a page tells ends before the key of the next entry of the page above.
 //  - The regions' entries, read from left to right, are the flat list that searches tell of (`under` in specs/Index).
 //
-// A search goes down (`descent`): from an entry, and where the next one begins, to the page that it names, which is checked whole, in
-// the order of its reader, then by its level, its first key and its last (`fits`); then to the entry of it to which the key falls. It
-// goes down as often as the root has levels, whatever a page says. What it answers on an index is the region that holds the key
-// in the flat list; what it answers on any pages, and at which page it stops, is told by specs/Way.
+// SEARCHES. A search goes down (`descent`): from an entry, and where the next one begins, to the page that it names; then to
+// the entry of it to which the key falls, the last one that doesn't begin after the key. It goes down as often as the root has
+// levels, whatever a page says. What it answers on an index is the region that holds the key in the flat list; what it answers
+// on any pages, and at which page it stops, is told by specs/Way.
 //
-// A change is one region's entry that goes, or gets another one behind it. It goes down as a search does and back up (`turning`), and
-// tells each page above by which entries to name what it led to (`told`): by the same one, then no page above changes; by none; by
-// one with another first key; or by two, where 171 entries stand on two pages, 86 and 85. What changes is spelled in memory
-// (`sheets`), with the numbers that the store's next pages will have. A root of two pages gets a new one above it; one that names one
-// page alone gives way to it when a region went (`change`). Nothing is written until all of it is spelled: then the store grows, the
-// pages are put, a new one before any that names it, and the root is taken over last (`making`).
+// A search for a region that is later than another one goes down to that one's leaf, and goes on from the next entry on the
+// same leaf. Only where the key that it is after lies beyond the leaf it goes down once more from the root.
 //
-// What belongs here is the way through several pages. How one page is spelled and searched (`ub_index_page`), and how pages are kept
-// (`ub_store`), stands below; which pages are a table's, above. The functions of `law` ensure what holds of every index, and what a
-// change of one entry does to the whole.
+// WHAT IS CHECKED, AND WHEN.
+//
+//  - A page that a search reads from the store is checked in full (`fits`): each byte by its reader (`check_index`: WrongKind,
+//    BadCount, BadRow, BadOrder, BadPadding), and then its ends.
+//  - The ends of a page (`fits_at_ends`) are looked at each time that a search comes to it, in constant time: it begins with
+//    'I', and tells of a level and a count that there can be (WrongKind, BadCount); it is of the level that is due (BadCount);
+//    its first entry begins with the key of the entry that names it, and its last one before the key of the next one
+//    (OutOfRegion). The first refusal that holds is told.
+//  - Of a page that the pager holds already, the ends alone are looked at, but on a leaf as below. Mostly a search read it, and
+//    checked it then; or a change spelled it. But a page can be held that was never checked: another caller brought it, as a
+//    region's page or to look at it; it was put while it was held; or a search read it, refused it, and left it there. What
+//    stands between its ends is then taken as it is: keys that don't ascend, or entries that are out of range, lead to a wrong
+//    region, but never to one that doesn't hold the key by what the pages tell.
+//  - Where a search would go back on a leaf, the leaf is checked in full, and refused for what is wrong with it. Where the ways
+//    to two leaves contradict each other, so that a later region would not begin later, OutOfRegion of the root is told.
+//  - A change checks each page on its way in full, held or not, since it spells the entries anew that stand there.
+//
+// CHANGES. A change is one region's entry that goes, or gets another one behind it. It goes down as a search does and back up
+// (`turning`), and tells each page above by which entries to name what it led to (`told`):
+//
+//  - by the same one: then no page above changes, nor is one of them spelled;
+//  - by one with another first key, where the first entry of the page went: the page above gets that key, and so on up;
+//  - by none, where its last entry went: an empty page leaves the page above it, and stands in the store with no use;
+//  - by two, where 171 entries stand on two pages: the first 86 stay on the old page, and 85 stand on a new one.
+//
+// A root of two pages gets a new one above it, which names both: it grows by a level. With 16 levels that is refused as Full. A
+// root above level 1 that names one page alone gives way to it when a region went, and so on down (`change`).
+//
+// THE ORDER. What changes is spelled in memory (`sheets`), with the numbers that the store's next pages will have: the region's
+// page first, then a new page as it comes on the way up, the new root last. All reading, and all want of memory for it, comes
+// before that: a call that is refused so far has changed nothing. Then the store grows, and the region's page is put by the
+// caller; then the pages are put, a new one before any that names it; and the root is taken over last, when all of them stand
+// (`making`). A failure in between leaves the old root, and pages of which some may be those of the change.
+//
+// What belongs here is the way through several pages. How one page is spelled and searched (`ub_index_page`), and how pages are
+// kept (`ub_store`), stands below; which pages are a table's, above. The functions of `law` ensure what holds of every index,
+// and what a change of one entry does to the whole.
 
 #![tactic(auto)]
 
 pub mod change;
 mod descent;
 pub mod fault;
+mod goal;
 pub mod index;
 pub mod law;
 mod making;

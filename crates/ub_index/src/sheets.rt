@@ -101,9 +101,9 @@ impl Sheets {
         Ok(())
     }
 
-    /// Spells the pages of these entries of a level, at most 171, which stand from now on where an entry led, and tells by which
-    /// entries they are named. They stand on its page; where they are 171, 86 do, and the others on a new one; no page is spelled
-    /// where there are none. Memory comes where memory was refused, BadSize where the store would have too many pages.
+    /// Spells the pages of these entries of a level, at most 171, which stand from now on where an entry led, and tells by
+    /// which entries they are named. They stand on its page; where they are 171, 86 do, and the others on a new one; no page is
+    /// spelled where there are none. Memory comes where memory was refused, BadSize where the store would have too many pages.
     pub fn spread(
         &mut self,
         level: u32,
@@ -149,8 +149,8 @@ impl Sheets {
         ))
     }
 
-    /// Spells what stands from now on where an entry led, whose page has these entries before and after one that became `news`: at
-    /// most 170 with it. Nothing is spelled where that one is as it was. Refused as `spread` is.
+    /// Spells what stands from now on where an entry led, whose page has these entries before and after one that became `news`:
+    /// at most 170 with it. Nothing is spelled where that one is as it was. Refused as `spread` is.
     pub fn mend(
         &mut self,
         level: u32,

@@ -1,5 +1,5 @@
 // How a change goes down an index, and back up: what each page on the way becomes.
-ghost use Rattle.std.specs.Prelude.{◌≡◌, ◌+◌, ◌<◌, ◌≤◌, None, IfOk, length, take, drop};
+ghost use Rattle.std.specs.Prelude.{◌≡◌, ◌+◌, ◌<◌, ◌≤◌, [], None, IfOk, length, take, drop};
 ghost use Rattle.ub_index.specs.Changing.{NeedsNoGrowth, OpensTo, Prepares, Turns};
 ghost use Rattle.ub_index.specs.Descending.{Steps};
 ghost use Rattle.ub_index.specs.Fitting.{FallsTo};
@@ -19,7 +19,8 @@ use ub_page::{Entry, Page};
 use ub_store::{PageStore, Pager};
 use ub_table::Key;
 
-/// What a change is made of: the key that falls to the region's entry, and the one that comes behind it, or `None` where it goes.
+/// What a change is made of: the key that falls to the region's entry, and the one that comes behind it, or `None` where it
+/// goes.
 #[derive(Clone, Copy)]
 pub struct Aim {
     pub key: Key,
@@ -34,8 +35,8 @@ pub struct Opened {
     pub after: Vec<Entry>,
 }
 
-/// What an entry of this level becomes, and the pages that it then leads to. Reads the pages on the way to the region's entry; writes
-/// nothing. It calls itself once a level.
+/// What an entry of this level becomes, and the pages that it then leads to. Reads the pages on the way to the region's entry;
+/// writes nothing. It calls itself once a level.
 pub fn turn<S: PageStore>(
     alloc: Global,
     pager: &mut Pager<S>,
@@ -83,7 +84,7 @@ fn open<S: PageStore>(
         pager.old.store.pages key.now level place.now.entry place.now.next
         o.before.items o.below.entry o.below.next o.after.items) }
     ensures few { IfOk result (λ o. length o.before.items + length o.after.items < MAX_ENTRIES) }
-    ensures effect { Steps last level place.now.entry place.now.next pager.old pager.new result }
+    ensures effect { Steps last [] level place.now.entry place.now.next pager.old pager.new result }
 {
     let number = place.entry.page;
     pager.bring(number)?;

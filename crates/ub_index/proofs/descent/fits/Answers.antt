@@ -1,41 +1,23 @@
-use Rattle.std.proofs.Common.{◌≡◌, ◌-◌, ◌∙◌, true, IfSome, ap, arith, subst, sym}
-use Rattle.ub_directory.proofs.Laws.{same_key}
-use Rattle.ub_index_page.specs.Slots.{first_in}
-use Rattle.ub_index_page.specs.declared.index.Head.{Head}
-use Rattle.ub_table.specs.Keys.{IsBefore}
-use Rattle.ub_table.specs.declared.row.Key.{Key}
-use Rattle.ub_index.proofs.FitFacts.{few_count, fits_so, not_ended}
+use Rattle.std.proofs.Common.{◌<◌, ◌^◌, arith}
+use Rattle.ub_index.proofs.HeldFacts.{ends_of, err_so, fits_of, ok_so, unfit_of}
+use Rattle.ub_index.specs.Fitting.{FitsAtEnds, IsUnfit, IsUnfitAtEnds}
+use Rattle.ub_index.specs.Index.{Fits}
 use Rattle.ub_index.proofs.descent.fits.Goals as goal
-
-pub first_at-requires-2 : goal.first_at-requires-2
-first_at-requires-2 c =
-    let same = ap (λ (h : Head). h.count) c.in_ok-head.ensures.head in
-    let few = few_count c.args.page.now c.args.last c.args.level c.in_ok-head.head.count c.args.place.now.entry c.args.place.now.next same c.in_ok-head.ensures.found.0 in
-    omega arith
-
-pub returns-then-not-ends_before-clause-exact : goal.returns-then-not-ends_before-clause-exact
-returns-then-not-ends_before-clause-exact c = λ h.
-    let same = ap (λ (h : Head). h.count) c.in_ok-head.ensures.head in
-    let end : ¬ (IfSome c.args.place.now.next (IsBefore (first_in (c.in_ok-head.head.count - 1) c.args.page.now))) =
-    λ yes. (let t : c.ends_before.result ≡ true = c.ends_before.ensures.1 (subst (λ (k : Key). IfSome c.args.place.now.next (IsBefore k)) (sym c.first_at-2.ensures) yes) in cc) in
-    absurd (not_ended c.args.page.now c.args.last c.args.level c.in_ok-head.head.count c.args.place.now.entry c.args.place.now.next same c.in_ok-head.ensures.found.0 end h)
-
-pub returns-then-not-ends_before-clause-refused : goal.returns-then-not-ends_before-clause-refused
-returns-then-not-ends_before-clause-refused c =
-    let same = ap (λ (h : Head). h.count) c.in_ok-head.ensures.head in
-    let end : ¬ (IfSome c.args.place.now.next (IsBefore (first_in (c.in_ok-head.head.count - 1) c.args.page.now))) =
-    λ yes. (let t : c.ends_before.result ≡ true = c.ends_before.ensures.1 (subst (λ (k : Key). IfSome c.args.place.now.next (IsBefore k)) (sym c.first_at-2.ensures) yes) in cc) in (
-      record { spelled = c.in_ok-head.ensures.found.1; is = c.in_ok-head.ensures.found.0 },
-      sym (ap (λ (h : Head). h.level) c.in_ok-head.ensures.head) ∙ c.if-head-level.false,
-      not_ended c.args.page.now c.args.last c.args.level c.in_ok-head.head.count c.args.place.now.entry c.args.place.now.next same c.in_ok-head.ensures.found.0 end,
-    )
 
 pub returns-clause-found : goal.returns-clause-found
 returns-clause-found c =
-    let same = ap (λ (h : Head). h.count) c.in_ok-head.ensures.head in
-    let begins = same_key _ _ (sym c.is_equal.ensures ∙ c.if-not-is_equal.false) in
-    fits_so c.args.page.now c.args.last c.args.level c.in_ok-head.head.count c.args.place.now.entry c.args.place.now.next same c.in_ok-head.ensures.found.0
-    c.in_ok-head.ensures.found.1
-    (sym (ap (λ (h : Head). h.level) c.in_ok-head.ensures.head) ∙ c.if-head-level.false)
-    (sym c.first_at.ensures ∙ begins)
-    (subst (λ (k : Key). IfSome c.args.place.now.next (IsBefore k)) c.first_at-2.ensures (c.ends_before.ensures.0 c.if-not-ends_before.false))
+    let found = c.in_ok-check_index.ensures.found in
+    ok_so c.fits_at_ends.result (FitsAtEnds c.args.page.now c.args.level c.args.place.now.entry c.args.place.now.next) (Fits c.args.last c.args.page.now c.args.level c.args.place.now.entry c.args.place.now.next)
+    (fits_of c.args.last c.args.page.now c.args.level c.args.place.now.entry c.args.place.now.next (record { spelled = found.1; is = found.0 })) c.fits_at_ends.ensures.found
+
+pub returns-clause-exact : goal.returns-clause-exact
+returns-clause-exact c = λ fits.
+    let small : c.args.last < 256 ^ 16 = omega arith in
+    c.fits_at_ends.ensures.exact (ends_of c.args.last c.args.page.now c.args.level c.args.place.now.entry c.args.place.now.next small fits)
+
+pub returns-clause-refused : goal.returns-clause-refused
+returns-clause-refused c =
+    let found = c.in_ok-check_index.ensures.found in
+    err_so c.fits_at_ends.result (IsUnfitAtEnds c.args.page.now c.args.level c.args.place.now.entry c.args.place.now.next)
+    (IsUnfit c.args.last c.args.page.now c.args.level c.args.place.now.entry c.args.place.now.next)
+    (λ e unfit. unfit_of c.args.last c.args.page.now c.args.level c.args.place.now.entry c.args.place.now.next e (record { spelled = found.1; is = found.0 }) unfit) c.fits_at_ends.ensures.refused

@@ -1,10 +1,11 @@
-use Rattle.std.proofs.Common.{◌+◌, ◌-◌, ◌≤◌, length, List, ap, arith, rules, subst, sym}
+use Rattle.std.proofs.Common.{◌+◌, ◌-◌, ◌≤◌, [], length, List, ap, arith, rules, subst, sym}
 use Rattle.ub_index.specs.Changing.{Mends, NeedsNoGrowth, Turns}
 use Rattle.ub_index.specs.declared.told.Told.{Told}
 use Rattle.ub_index.specs.declared.turning.Opened.{Opened}
 use Rattle.ub_page.specs.declared.entries.Entry.{Entry}
 use Rattle.ub_store.specs.Facts.{StoreFacts, IsHonest}
 use Rattle.ub_store.specs.View.{PagerView}
+use Rattle.ub_index.proofs.HeldFacts.{taken_of}
 use Rattle.ub_index.proofs.ClimbFacts.{below_refused, mend_refused, open_refused, turned_so, turns_on}
 use Rattle.ub_index.proofs.turning.+turn.Goals as goal
 
@@ -18,7 +19,7 @@ returns-in_err-news-clause-effect g t c =
     below_refused Told Told c.args.last c.args.level c.args.aim.now.key c.args.place.now.entry c.in_ok-opened.opened.below.entry c.args.place.now.next c.in_ok-opened.opened.below.next
     c.args.sheets.now.next c.args.pager.now c.open.new.pager c.turn.new.pager c.from_residual-in_err-news.result c.in_err-news.field-0.0 (omega (arith, c.if-level-eq0.false))
     (ap (λ (p : PagerView). p.store) c.in_ok-opened.ensures.effect.same) (ap (λ (p : PagerView). p.trace) c.in_ok-opened.ensures.effect.same)
-    (λ honest. let o = c.in_ok-opened.ensures.opened honest in record { named = o.named; falls = o.falls })
+    (λ honest. let o = c.in_ok-opened.ensures.opened honest in record { named = taken_of c.args.last c.args.pager.now.store.pages [] c.args.level c.args.place.now.entry c.args.place.now.next o.named; falls = o.falls })
     c.from_residual-in_err-news.ensures.1 c.in_err-news.ensures.effect
 
 pub returns-clause-turned : goal.returns-clause-turned

@@ -4,8 +4,8 @@ use Rattle.ub_index.proofs.index.Index.before.Goals as goal
 
 pub returns-in_ok-seat_of-in-Some-clause-before : goal.returns-in_ok-seat_of-in-Some-clause-before
 returns-in_ok-seat_of-in-Some-clause-before g c = λ i is at.
-    some_is_before c.args.self.now c.args.pager.now.store is i c.args.seat.now at c.in-Some.key c.in_ok-seat_of-in-Some.field-0 (sym c.before_key.ensures ∙ c.in-Some.is)
+    some_is_before c.args.self.now c.args.pager.now is i c.args.seat.now at c.in-Some.key c.in_ok-seat_of-in-Some.field-0 (sym c.before_key.ensures ∙ c.in-Some.is)
     c.in_ok-seat_of-in-Some.ensures.given
 
 pub returns-in-None-clause-before : goal.returns-in-None-clause-before
-returns-in-None-clause-before g c = λ i is at. none_is_before c.args.self.now c.args.pager.now.store is i c.args.seat.now at (sym c.before_key.ensures ∙ c.in-None.is)
+returns-in-None-clause-before g c = λ i is at. none_is_before c.args.self.now c.args.pager.now is i c.args.seat.now at (sym c.before_key.ensures ∙ c.in-None.is)

@@ -1,0 +1,20 @@
+use Rattle.std.proofs.Common.{◌≡◌, ℕ, None, Option, IfSome, inr, ap, refl, subst, sym}
+use Rattle.ub_table.specs.Keys.{origin}
+use Rattle.ub_table.specs.declared.row.Key.{Key}
+use Rattle.ub_index.specs.Searching.{Aims, IsAim, IsSought}
+use Rattle.ub_index.specs.View.{IndexView}
+use Rattle.ub_index.specs.declared.seat.Seat.{Seat}
+use Rattle.ub_index.proofs.HeldFacts.{keeps_self}
+use Rattle.ub_index.proofs.SearchFacts.{search_refused}
+use Rattle.ub_index.proofs.index.Index.first_seat.Goals as goal
+
+pub returns-in_err-seat_of-in-Some-clause-effect : goal.returns-in_err-seat_of-in-Some-clause-effect
+returns-in_err-seat_of-in-Some-clause-effect g c =
+    let is_aim : IsAim c.self.inside.last (Aims c.args.goal.now) origin c.in-Some.aim =
+    subst (λ (o : Option Key). IfSome o (IsAim c.self.inside.last (Aims c.args.goal.now) origin)) c.in-Some.is c.aim.ensures.found in
+    let here : IsAim c.args.self.now.last (Aims c.args.goal.now) origin c.in-Some.aim =
+    subst (λ (n : ℕ). IsAim n (Aims c.args.goal.now) origin c.in-Some.aim) (ap (λ (v : IndexView). v.last) c.self.view_is) is_aim in
+    search_refused (Option (Key × Seat)) Seat (λ (k : Key). k ≡ c.in-Some.aim) (IsSought c.args.self.now c.args.pager.now (Aims c.args.goal.now) None)
+    (λ k is. inr (origin, refl, subst (λ (x : Key). IsAim c.args.self.now.last (Aims c.args.goal.now) origin x) (sym is) here)) c.args.self.now c.args.pager.now c.args.pager.now
+    c.seat_of.new.pager refl refl (λ honest. keeps_self c.args.self.now.last c.args.pager.now) c.from_residual.result c.in_err-seat_of-in-Some.field-0.0
+    c.from_residual.ensures.1 c.in_err-seat_of-in-Some.ensures.effect
