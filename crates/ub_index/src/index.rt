@@ -68,11 +68,12 @@ impl Index {
 
     /// The seat of the region that holds a key: the last one that does not begin after it.
     ///
-    /// Page comes where a page on the way down is refused: by its reader; as BadCount where it isn't of the level due; as
-    /// OutOfRegion where it doesn't begin with the key by which the page above names it, or doesn't end before that of the next
-    /// one. Store with NoPage comes where a page is named that the store doesn't have, with Device where the store failed in
-    /// this call, with Memory where memory was refused. The first refusal on the way is told. Index and store are then as they
-    /// were.
+    /// Page comes where a page on the way down is refused. One that is read in this call is checked in full: it is refused by
+    /// its reader; as BadCount where it isn't of the level due; as OutOfRegion where it doesn't begin with the key by which the
+    /// page above names it, or doesn't end before that of the next one. Of one that the pager holds the ends alone are looked
+    /// at: its reader refuses its first bytes alone then. Store with NoPage comes where a page is named that the store doesn't
+    /// have, with Device where the store failed in this call, with Memory where memory was refused. The first refusal on the
+    /// way is told. Index and store are then as they were.
     pub fn seat_of<S: PageStore>(&self, pager: &mut Pager<S>, key: &Key) -> Result<Seat, IndexFault>
         ensures given { IfOk result (Gives self.now pager.old key.now) }
         ensures seat { IsIndexOn self.now pager.old.store → IfOk result
@@ -126,8 +127,9 @@ impl Index {
     /// The first region later than `after`, if one is given, whose span ends at z or later. `None` exactly where there is none.
     ///
     /// Refused as `seat_of` is, on the way to the first key of `after`, or then on the way to the place from which the search
-    /// goes on. A store that isn't honest can give one page in two ways: Page comes with the root and OutOfRegion where what is
-    /// found so would not begin later than `after`.
+    /// goes on; a leaf on which it would go back is checked in full. Page comes with the root and OutOfRegion where what is
+    /// found would not begin later than `after` all the same: where pages that were held don't ascend, or a store that isn't
+    /// honest gave one page in two ways.
     pub fn seek<S: PageStore>(
         &self,
         pager: &mut Pager<S>,
@@ -170,11 +172,11 @@ impl Index {
     /// Prepares that a region comes behind that of a seat, with this first key, on a page that the store gets first. Nothing is
     /// written.
     ///
-    /// Refused as `seat_of` is, on the way to the seat's first key. With BadSize of the store exactly where it would have more
-    /// than 4294967295 pages: the region takes one, each page of 170 entries on that way one, from the lowest up to the first
-    /// that has fewer, and a new root one, where all are full. With Full exactly where that is room enough, and all 16 levels
-    /// are full on that way. Where there is no page for the region, that is told before any is read. Index and store are then
-    /// as they were.
+    /// Refused as `seat_of` is where no page is held, on the way to the seat's first key. With BadSize of the store exactly
+    /// where it would have more than 4294967295 pages: the region takes one, each page of 170 entries on that way one, from the
+    /// lowest up to the first that has fewer, and a new root one, where all are full. With Full exactly where that is room
+    /// enough, and all 16 levels are full on that way. Where there is no page for the region, that is told before any is read.
+    /// Index and store are then as they were.
     pub fn prepare_add<S: PageStore>(
         &self,
         alloc: Global,
@@ -214,8 +216,8 @@ impl Index {
 
     /// Prepares that the region of a seat goes, which isn't the first. Nothing is written, and no page is added.
     ///
-    /// Refused as `seat_of` is, on the way to the seat's first key, and where a page that would be the root can't be taken;
-    /// with BadCount of the root where no region would be left. Index and store are then as they were.
+    /// Refused as `seat_of` is where no page is held, on the way to the seat's first key, and where a page that would be the
+    /// root can't be taken; with BadCount of the root where no region would be left. Index and store are then as they were.
     pub fn prepare_drop<S: PageStore>(
         &self,
         alloc: Global,
