@@ -1,5 +1,5 @@
 -- The rows held: what a push and a pop of the heap make of them.
-use Rattle.std.proofs.Common.{◌≡◌, ◌<◌, ◌==◌, Bool, eqb-true, ℕ, ℤ, zero, suc, List, [], ◌∷◌, ◌++◌, true, false, Option, Some, None, Result, Ok, Err, OnOk, Contains, length, map, slice_index_or, refl, sym, ap, subst, ◌∙◌, arith, append_assoc}
+use Rattle.std.proofs.Common.{◌≡◌, ◌<◌, ℕ, ℤ, zero, suc, List, [], ◌∷◌, ◌++◌, true, false, Option, Some, None, Result, Ok, Err, OnOk, Contains, length, map, slice_index_or, refl, sym, ap, subst, ◌∙◌, arith, append_assoc}
 use Rattle.std.proofs.lemmas.List.{append-nil, map-append}
 use Rattle.std.proofs.lemmas.List.Sorted.{IsPermutation-append_comm, IsPermutation-cons, IsPermutation-map, IsPermutation-refl, IsPermutation-trans}
 use Rattle.std.proofs.lemmas.List.Elements.{All-contains, All-cons, All-nil}
@@ -83,13 +83,10 @@ pub lead_held : (group : List ℕ) (order : List SortKey) (found : Option SortKe
 lead_held [] order found lead is some = let bad : None ≡ Some lead = sym is ∙ some in absurd cc
 lead_held (column ∷ group) order found lead is some = let same : Some lead ≡ group_lead (column ∷ group) order = sym some ∙ is in cc
 
--- those of rows are the order asked
-pub order_held : (group slice : List ℕ) (order by : List SortKey) (empty : Bool) → slice ≡ group → empty ≡ (length slice == 0) → empty ≡ true → by ≡ order → by ≡ swept_order group order
-order_held [] slice order by empty whole is none same = same
-order_held (column ∷ group) slice order by empty whole is none same =
-    let long : length slice ≡ length (column ∷ group) = ap length whole in
-    let nothing : length slice ≡ 0 = eqb-true (length slice) 0 (sym is ∙ none) in
-    absurd (omega arith)
+-- where there is no lead they are the order asked
+pub order_held : (group : List ℕ) (order by : List SortKey) (found : Option SortKey) → found ≡ group_lead group order → found ≡ None → by ≡ order → by ≡ swept_order group order
+order_held [] order by found is none same = same
+order_held (column ∷ group) order by found is none same = let bad : None ≡ Some (lead_by column order) = sym none ∙ is in absurd cc
 
 -- the lead is a column of the table, or none, as each key of the query is
 pub lead_over : (columns : ℕ) (group : List ℕ) (order : List SortKey) (found : Option SortKey) (lead : SortKey) → All (λ column. column < columns) group
@@ -107,3 +104,11 @@ lead_over columns (column ∷ group) (key ∷ order) found lead groups keys is s
     All-cons (λ key. IsItemOver columns key.item) lead []
     (subst (λ (key : SortKey). IsItemOver columns key.item) first (All-contains (λ key. IsItemOver columns key.item) (key ∷ order) key keys (contains_here key order)))
     (All-nil (λ (key : SortKey). IsItemOver columns key.item))
+
+-- so is each key by which rows are held
+pub swept_over : (columns : ℕ) (group : List ℕ) (order by : List SortKey) → All (λ column. column < columns) group
+    → All (λ key. IsItemOver columns key.item) order → by ≡ swept_order group order → All (λ key. IsItemOver columns key.item) by
+swept_over columns [] order by groups keys same = subst (λ (ks : List SortKey). All (λ key. IsItemOver columns key.item) ks) (sym same) keys
+swept_over columns (column ∷ group) order by groups keys same =
+    subst (λ (ks : List SortKey). All (λ key. IsItemOver columns key.item) ks) (sym same)
+    (lead_over columns (column ∷ group) order (Some (lead_by column order)) (lead_by column order) groups keys refl refl)

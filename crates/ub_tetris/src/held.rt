@@ -1,7 +1,7 @@
 ghost use Rattle.std.specs.Prelude.{◌≡◌, ◌∷◌, ◌≤ℤ◌, [], List, ℕ, ℤ, pos, neg_ℤ, length, map, IfOk, OnOk, OnErr, IsTrue, option_copied, slice_index};
 ghost use Rattle.std.specs.List.{All};
 ghost use Rattle.std.specs.List.Sorted.{IsPermutation};
-ghost use Rattle.ub_query.specs.Lead.{swept_order};
+ghost use Rattle.ub_query.specs.Lead.{group_lead, swept_order};
 ghost use Rattle.ub_query.specs.Posed.{IsItemOver};
 ghost use Rattle.ub_tetris.specs.Held as spec;
 ghost use Rattle.ub_tetris.specs.inner.Kept.{HoldsAlso, IsFirstOf, TakesFirst, TakesFirstAt, TakesValue};
@@ -11,6 +11,7 @@ use crate::ranked::Ranked;
 use std::alloc::{AllocError, Global};
 use std::collections::BinaryHeap;
 use std::marker::Model;
+use std::slice;
 use ub_query::{Query, RowSink, SortKey};
 use ub_table::{Row, Schema};
 
@@ -120,14 +121,20 @@ impl RowSink for HeldRows {
         taken before now };
 
     fn push(&mut self, schema: &Schema, query: &Query, row: &Row) -> Result<(), AllocError> {
-        // Where there is no GROUP BY, which costs one test for each row, no lead is made.
-        if query.group.as_slice().is_empty() {
-            return self.hold(schema, query.order.as_slice(), row);
-        }
-        match query.group_lead() {
-            Some(lead) => self.hold(schema, &[lead], row),
-            None => unreachable!(),
-        }
+        let lead = query.group_lead();
+        self.hold(schema, keys_by(query, &lead), row)
+    }
+}
+
+// The keys by which rows are held: the lead of the groups, or where there is none the order asked.
+#[inline(always)]
+fn keys_by<'a>(query: &'a Query, lead: &'a Option<SortKey>) -> &'a [SortKey]
+    requires { lead.now ≡ group_lead query.now.group query.now.order }
+    ensures { result.now ≡ swept_order query.now.group query.now.order }
+{
+    match lead {
+        Some(lead) => slice::from_ref(lead),
+        None => query.order.as_slice(),
     }
 }
 

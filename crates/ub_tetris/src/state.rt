@@ -57,6 +57,7 @@ impl State {
     }
 
     /// Fetches regions until none can hold a row before the first that is held, and takes that row.
+    #[inline(always)]
     pub fn step<S: PageStore>(
         &mut self,
         tree: &mut Tree<S>,
