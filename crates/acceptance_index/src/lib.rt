@@ -9,4 +9,6 @@ mod faults;
 #[cfg(test)]
 mod levels;
 #[cfg(test)]
+mod opening;
+#[cfg(test)]
 mod searches;

@@ -66,7 +66,7 @@ rest_begins last pages level [] end each = refl
 rest_begins last pages level (x ∷ xs) end each =
     sym (first_more (under pages level x) (flat_map (under pages level) xs) end x.first (under_first last pages level x (first_or xs end) each.0))
 
-falls_from : (key : Key) (entries : List Entry) (first : Key) (end next : Option Key) (below : Entry) → first_or entries None ≡ Some first → ¬ (IsBefore key first)
+pub falls_from : (key : Key) (entries : List Entry) (first : Key) (end next : Option Key) (below : Entry) → first_or entries None ≡ Some first → ¬ (IsBefore key first)
     → FallsTo key entries end below next → ¬ (IsBefore key below.first)
 falls_from key entries first end next below begins from h = elim h.from [
   | inl none ↦

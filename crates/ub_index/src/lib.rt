@@ -44,6 +44,7 @@ pub mod fault;
 pub mod index;
 pub mod law;
 mod making;
+mod opening;
 pub mod seat;
 pub mod sheet;
 mod sheets;
