@@ -52,7 +52,10 @@ fn opens(alloc: Global, root: u32, levels: u32, last: u128, fault: Option<IndexF
 #[test]
 fn roots(rt: HostRuntime) {
     for (root, levels, last) in ROOTS {
-        assert!(rt; opens(rt.alloc(), *root, *levels, *last, None), "{root} {last}");
+        assert!(rt;
+            opens(rt.alloc(), *root, *levels, *last, None),
+            "{root} {last}"
+        );
     }
 }
 
@@ -63,7 +66,10 @@ fn other_pages(rt: HostRuntime) {
             page: *root,
             fault: *fault,
         };
-        assert!(rt; opens(rt.alloc(), *root, *levels, *last, Some(wanted)), "{root} {levels} {last}");
+        assert!(rt;
+            opens(rt.alloc(), *root, *levels, *last, Some(wanted)),
+            "{root} {levels} {last}"
+        );
     }
 }
 
@@ -122,8 +128,8 @@ fn reads(rt: HostRuntime) {
 // The page of a root that names the region on page 5, byte by byte: 'I', level 1, one entry, zeros,
 // and at 36 the number of the page.
 const ROOT: [u8; 40] = [
-    0x49, 1, 0, 1, 0, 0, 0, 0, 0, 0, 0, 0, 0, 0, 0, 0, 0, 0, 0, 0, 0, 0, 0, 0, 0, 0, 0, 0, 0, 0, 0, 0,
-    0, 0, 0, 0, 0, 0, 0, 5,
+    0x49, 1, 0, 1, 0, 0, 0, 0, 0, 0, 0, 0, 0, 0, 0, 0, 0, 0, 0, 0, 0, 0, 0, 0, 0, 0, 0, 0, 0, 0, 0,
+    0, 0, 0, 0, 0, 0, 0, 0, 5,
 ];
 
 // Whether the page of this number is that one.

@@ -1,5 +1,5 @@
 -- The pages of a table: none serves twice, and none does after a change. Where a change stands in the list of regions.
-use Rattle.std.proofs.Common.{false, None, ◌≡◌, ◌≢◌, ◌≤◌, ◌<◌, ◌+◌, ◌∙◌, inl, inr, ℕ, zero, suc, List, [], ◌∷◌, ◌++◌, Some, length, take, drop, nat_eq, ap, sym, subst, refl, arith, slice_get}
+use Rattle.std.proofs.Common.{false, None, ◌≡◌, ◌≢◌, ◌≤◌, ◌<◌, ◌+◌, ◌∙◌, inl, ℕ, zero, suc, List, [], ◌∷◌, ◌++◌, Some, length, take, drop, nat_eq, ap, sym, subst, refl, arith, slice_get}
 use Rattle.std.proofs.lemmas.Bool.{ne_eqb}
 use Rattle.std.proofs.lemmas.List.{length-append}
 use Rattle.std.proofs.lemmas.Option.{slice_get_within}

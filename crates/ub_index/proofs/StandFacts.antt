@@ -1,16 +1,16 @@
 -- What an index is to those who keep regions on other pages of its store.
-use Rattle.std.proofs.Common.{◌≡◌, ◌≤◌, ◌<◌, ◌∙◌, ◌^◌, ℕ, zero, suc, List, [], ◌∷◌, ◌++◌, Option, Some, None, length, nat_eq, ap, sym, subst, refl, arith, slice_get}
+use Rattle.std.proofs.Common.{Ok, ◌≡◌, ◌≤◌, ◌<◌, ◌∙◌, ◌^◌, ℕ, zero, List, [], ◌∷◌, Some, None, length, nat_eq, ap, sym, subst, refl, arith, slice_get}
 use Rattle.std.specs.List.{AllByRecursion, IsDistinct, flat_map}
 use Rattle.ub_directory.specs.Spans.{ArePlaces}
 use Rattle.ub_page.specs.Entries.{IsEntry}
 use Rattle.ub_page.specs.declared.entries.Entry.{Entry}
-use Rattle.ub_store.specs.Facts.{StoreFacts, IsHonest, page_count}
+use Rattle.ub_store.specs.Facts.{StoreFacts, IsHonest, WritesAt, page_count}
 use Rattle.ub_table.specs.Keys.{origin}
 use Rattle.ub_table.specs.declared.row.Key.{Key}
 use Rattle.ub_index_page.specs.Index.{IsNode}
 use Rattle.ub_index.specs.Changed.{PagesStay}
 use Rattle.ub_index.specs.Changing.{IsOutside, NamesPage}
-use Rattle.ub_index.specs.Index.{IsUnder, first_or, page_in, pages_under, top, under}
+use Rattle.ub_index.specs.Index.{first_or, pages_under, top, under}
 use Rattle.ub_index.specs.Opening.{IsAlone, root_page}
 use Rattle.ub_index.specs.Preparing.{IsReachedOnce, pages_of_index}
 use Rattle.ub_index.specs.Standing.{OldStayOutside, StandsAsOn}
@@ -19,6 +19,7 @@ use Rattle.ub_index.proofs.Changes.{kept_index, kept_under, told_index}
 use Rattle.ub_index.proofs.Numbers.{StandApart, apart_swap, distinct_cons, kept_pages, within_store}
 use Rattle.ub_index.proofs.OrderFacts.{under_first}
 use Rattle.ub_index.proofs.PlaceFacts.{begins, each_entry, up, within}
+use Rattle.ub_index.proofs.PutFacts.{put_get}
 use Rattle.ub_index.proofs.SpreadFacts.{told_on}
 
 some_entries : (xs : List Entry) (key : Key) → first_or xs None ≡ Some key → 1 ≤ length xs
@@ -55,7 +56,7 @@ stands_as index old new numbers is own honest keeps outside =
     }
 
 -- where the page of a root stands that names one region, there is an index of one region
-pub is_alone : (root page last : ℕ) (store : StoreFacts) → last < 2 ^ 128 → IsHonest store → 1 ≤ root → 1 ≤ page → page < 2 ^ 32
+is_alone : (root page last : ℕ) (store : StoreFacts) → last < 2 ^ 128 → IsHonest store → 1 ≤ root → 1 ≤ page → page < 2 ^ 32
     → slice_get store.pages root ≡ Some (root_page page) → IsAlone (index_view root 1 last) page store
 unfolding IsDistinct
 is_alone root page last store small honest some_root some few at =
@@ -77,3 +78,11 @@ is_alone root page last store small honest some_root some few at =
       entries_are = ap (λ (xs : List Entry). flat_map (under store.pages zero) xs) told.entries_are;
       pages_are = pages;
     }
+
+-- and it stands there once it was put
+pub made_alone : (root page last : ℕ) (bytes : List ℕ) (old new : StoreFacts) → last < 2 ^ 128 → page < 2 ^ 32 → IsHonest old → root < page_count old
+    → WritesAt {A = Unit {0}} root bytes old new (Ok tt) → bytes ≡ root_page page → 1 ≤ root → 1 ≤ page → IsAlone (index_view root 1 last) page new
+made_alone root page last bytes old new small few honest there puts is some_root some =
+    let at : slice_get new.pages root ≡ Some (root_page page) =
+    ap (λ (ps : List (List ℕ)). slice_get ps root) (puts.written honest) ∙ (put_get old.pages root bytes there ∙ ap (λ (p : List ℕ). Some p) is) in
+    is_alone root page last new small (ap (λ (s : StoreFacts). s.honest) puts.frame ∙ honest) some_root some few at
