@@ -75,6 +75,7 @@ mod goal;
 pub mod index;
 pub mod law;
 mod making;
+mod opening;
 pub mod seat;
 pub mod sheet;
 mod sheets;
