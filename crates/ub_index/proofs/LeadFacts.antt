@@ -231,8 +231,7 @@ module _ (last : ℕ) (old new : List (List ℕ)) (keeps : OldStayOutside [] old
   led zero entry end found next leads = leads
   led (suc level) entry end found next (named, below, beyond, falls, leads) = elim (cases_lt entry.page (length old)) [
     | inl near ↦
-        let same = sym (keeps entry.page near tt) in
-        (
+        let same = sym (keeps entry.page near tt) in (
           kept_taken last [] new old (suc level) entry end same named,
           below,
           beyond,

@@ -2,7 +2,7 @@
 use Rattle.std.proofs.Common.{◌≡◌, ◌++◌, ◌⊎◌, inl, inr, ℕ, zero, suc, List, [], ◌∷◌, Option, Some, None, IfSome, ◌∙◌, sym, ap, subst, refl}
 use Rattle.std.proofs.lemmas.Bool.{cases_Bool}
 use Rattle.ub_page.specs.declared.entries.Entry.{Entry}
-use Rattle.ub_table.proofs.Laws.{before_trans, not_before_origin, not_before_self, not_both_before, precedes_of}
+use Rattle.ub_table.proofs.Laws.{before_trans, not_before_self, not_both_before, precedes_of}
 use Rattle.ub_table.specs.Keys.{IsBefore, precedes}
 use Rattle.ub_table.specs.declared.row.Key.{Key}
 use Rattle.ub_store.specs.Facts.{IsHonest}
