@@ -11,4 +11,6 @@ mod held;
 #[cfg(test)]
 mod levels;
 #[cfg(test)]
+mod opening;
+#[cfg(test)]
 mod searches;

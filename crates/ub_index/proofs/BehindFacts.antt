@@ -1,5 +1,5 @@
 -- How a search goes down to a leaf, and what it finds there behind a region.
-use Rattle.std.proofs.Common.{◌≡◌, ◌≤◌, ◌<◌, ◌-◌, ◌↔◌, ◌⊎◌, inl, inr, ℕ, zero, suc, List, [], ◌∷◌, Option, Some, None, IfSome, ◌∙◌, sym, ap, subst, refl, arith}
+use Rattle.std.proofs.Common.{◌≡◌, ◌<◌, ◌-◌, ◌↔◌, ◌⊎◌, inl, inr, ℕ, List, [], ◌∷◌, Option, Some, None, IfSome, ◌∙◌, sym, ap, subst, refl, arith}
 use Rattle.ub_directory.specs.declared.region.Region.{Region}
 use Rattle.ub_index_page.specs.Index.{node_on}
 use Rattle.ub_page.specs.declared.entries.Entry.{Entry}
@@ -7,12 +7,11 @@ use Rattle.ub_store.specs.Facts.{StoreFacts, IsHonest}
 use Rattle.ub_store.specs.View.{PagerView}
 use Rattle.ub_table.proofs.Laws.{not_before_origin, not_before_self, not_both_before}
 use Rattle.ub_table.specs.Keys.{IsBefore, origin}
-use Rattle.ub_table.specs.declared.fault.PageFault.{PageFault}
 use Rattle.ub_table.specs.declared.row.Key.{Key}
 use Rattle.ub_index.specs.Descending.{FindsAfter, HoldsLeaf, KeepsChecked, LeadsDown, LooksAt, StepsTo}
 use Rattle.ub_index.specs.Fitting.{FallsTo, FitsAtEnds, NamesTaken}
 use Rattle.ub_index.specs.Index.{entries_of, first_or, page_in, top}
-use Rattle.ub_index.specs.Searching.{Cross, Gives, IsAim, IsFrom, IsSought, at_least}
+use Rattle.ub_index.specs.Searching.{Cross, Gives, IsAim, IsFrom, IsSought}
 use Rattle.ub_index.specs.View.{IndexView, Leads}
 use Rattle.ub_index.specs.Way.{HoldsKey}
 use Rattle.ub_index.specs.declared.descent.Found.TheVariants.{Nothing, Here, Beyond}

@@ -1,15 +1,13 @@
 -- What the ends of a page tell of it, and for what a page is taken that was held before others were read.
-use Rattle.std.proofs.Common.{◌≡◌, ◌≢◌, ◌≤◌, ◌<◌, ◌-◌, ◌^◌, ◌⊎◌, inl, inr, ℕ, zero, suc, Bool, true, false, List, [], Option, Some, None, Result, Ok, Err, IfOk, IfErr, length, slice_get, ◌∙◌, sym, ap, subst, refl, arith}
+use Rattle.std.proofs.Common.{◌≡◌, ◌≤◌, ◌<◌, ◌^◌, ◌⊎◌, inl, inr, ℕ, zero, suc, Bool, true, false, List, [], Option, Some, None, Result, Ok, Err, IfOk, IfErr, length, slice_get, ◌∙◌, sym, ap, subst, refl, arith}
 use Rattle.std.proofs.lemmas.Bool.{cases_eq}
 use Rattle.ub_index_page.proofs.Laws.{length-node_on, node_parts}
-use Rattle.ub_index_page.specs.Index.{head_on, node_on, HasHead, IsIndexFault, IsIndexKind}
-use Rattle.ub_index_page.specs.Slots.{first_in}
+use Rattle.ub_index_page.specs.Index.{node_on, HasHead, IsIndexKind}
 use Rattle.ub_page.specs.Bytes.{number_at}
 use Rattle.ub_page.specs.declared.entries.Entry.{Entry}
 use Rattle.ub_store.specs.Cache.{NoneMoreBut}
 use Rattle.ub_store.specs.Facts.{StoreFacts}
 use Rattle.ub_store.specs.View.{PagerView}
-use Rattle.ub_table.specs.Keys.{IsBefore}
 use Rattle.ub_table.specs.declared.fault.PageFault.{PageFault}
 use Rattle.ub_table.specs.declared.fault.PageFault.TheVariants.{WrongKind, OldFormat, Unclean, BadCount, BadName, BadRow, BadOrder, OutOfRegion, BadPadding}
 use Rattle.ub_table.specs.declared.row.Key.{Key}

@@ -20,3 +20,6 @@ pub mod DropFacts
 pub mod FullFacts
 pub mod MadeFacts
 pub mod PutFacts
+pub mod StandFacts
+pub mod LeadFacts
+pub mod OwnFacts

@@ -102,7 +102,7 @@ same_numbers P numbers f g same (x ∷ xs) h =
     ∙ ap (λ (b : List ℕ). g x ++ b) (same_numbers P numbers f g same xs (all_right P (numbers x) (flat_map numbers xs) h))
 
 -- where the pages under an entry stay, they are the same
-kept_pages : (old new : List (List ℕ)) (level : ℕ) (entry : Entry) → PagesStay old new (pages_under old level entry) → pages_under new level entry ≡ pages_under old level entry
+pub kept_pages : (old new : List (List ℕ)) (level : ℕ) (entry : Entry) → PagesStay old new (pages_under old level entry) → pages_under new level entry ≡ pages_under old level entry
 kept_pages old new zero entry h = refl
 kept_pages old new (suc level) entry h =
     ap (λ (ns : List ℕ). entry.page ∷ ns)

@@ -60,7 +60,7 @@ first_is [] = refl
 first_is (x ∷ xs) = refl
 
 module _ (index : IndexView) (store : StoreFacts) (is : IsIndexOn index store) where
-  each_entry : AllByRecursion (IsEntry index.last) (entries_in index store)
+  pub each_entry : AllByRecursion (IsEntry index.last) (entries_in index store)
   each_entry = by_level index.levels is.some is.under_it
     where
       by_level : (level : ℕ) → 1 ≤ level → IsUnder index.last store.pages level (top index.root) None → AllByRecursion (IsEntry index.last) (under store.pages level (top index.root))

@@ -72,7 +72,7 @@ grow_fault by old store.Device can room there = can refl
 grow_fault by old store.BadSize can room there = room refl
 grow_fault by old store.NoPage can room there = absurd (there refl)
 
-put_get : (pages : List (List ℕ)) (n : ℕ) (page : List ℕ) → n < length pages → slice_get (slice_set pages n page) n ≡ Some page
+pub put_get : (pages : List (List ℕ)) (n : ℕ) (page : List ℕ) → n < length pages → slice_get (slice_set pages n page) n ≡ Some page
 put_get [] n page lt = absurd (omega arith)
 put_get (p ∷ pages) zero page lt = refl
 put_get (p ∷ pages) (suc n) page lt = put_get pages n page (omega arith)

@@ -2,7 +2,7 @@
 use Rattle.std.proofs.Common.{◌≡◌, ◌++◌, ◌⊎◌, inl, inr, ℕ, zero, suc, List, [], ◌∷◌, Option, Some, None, IfSome, ◌∙◌, sym, ap, subst, refl}
 use Rattle.std.proofs.lemmas.Bool.{cases_Bool}
 use Rattle.ub_page.specs.declared.entries.Entry.{Entry}
-use Rattle.ub_table.proofs.Laws.{before_trans, not_before_origin, not_before_self, not_both_before, precedes_of}
+use Rattle.ub_table.proofs.Laws.{before_trans, not_before_self, not_both_before, precedes_of}
 use Rattle.ub_table.specs.Keys.{IsBefore, precedes}
 use Rattle.ub_table.specs.declared.row.Key.{Key}
 use Rattle.ub_store.specs.Facts.{IsHonest}
@@ -18,7 +18,7 @@ use Rattle.ub_index.proofs.Lists.{ascend_first, ascend_right}
 use Rattle.ub_index.proofs.WayFacts.{falls_to, way_in_full}
 
 -- two elements of a list: the same place, or one behind the other
-compare : (b1 : List Entry) (x1 : Entry) (a1 b2 : List Entry) (x2 : Entry) (a2 : List Entry) → b1 ++ (x1 ∷ a1) ≡ b2 ++ (x2 ∷ a2)
+pub compare : (b1 : List Entry) (x1 : Entry) (a1 b2 : List Entry) (x2 : Entry) (a2 : List Entry) → b1 ++ (x1 ∷ a1) ≡ b2 ++ (x2 ∷ a2)
     → ((x1 ≡ x2) × (a1 ≡ a2)) ⊎ (((m : List Entry) × (a1 ≡ m ++ (x2 ∷ a2))) ⊎ ((m : List Entry) × (a2 ≡ m ++ (x1 ∷ a1))))
 compare [] x1 a1 [] x2 a2 e = inl (cc, cc)
 compare [] x1 a1 (y ∷ b2) x2 a2 e = inr (inl (b2, cc))
@@ -26,7 +26,7 @@ compare (x ∷ b1) x1 a1 [] x2 a2 e = let same : x2 ∷ a2 ≡ x ∷ (b1 ++ (x1 
 compare (x ∷ b1) x1 a1 (y ∷ b2) x2 a2 e = compare b1 x1 a1 b2 x2 a2 cc
 
 -- the first of entries isn't after one of them
-first_up_to : (m : List Entry) (x : Entry) (a : List Entry) (end : Option Key) → AscendTo (m ++ (x ∷ a)) end → (first : Key) → first_or (m ++ (x ∷ a)) end ≡ Some first
+pub first_up_to : (m : List Entry) (x : Entry) (a : List Entry) (end : Option Key) → AscendTo (m ++ (x ∷ a)) end → (first : Key) → first_or (m ++ (x ∷ a)) end ≡ Some first
     → ¬ (IsBefore x.first first)
 first_up_to [] x a end up first is = let same : x.first ≡ first = cc in subst (λ (k : Key). ¬ (IsBefore x.first k)) same (not_before_self x.first)
 first_up_to (y ∷ m) x a end up first is =
@@ -47,7 +47,7 @@ rest_up_to (x ∷ a) end up first last is is_end =
 
 module _ (last : ℕ) (pages : List (List ℕ)) where
   -- the way ends not before where it begins
-  ends_from : (key : Key) (level : ℕ) (entry : Entry) (end : Option Key) (found : Entry) (next : Option Key) → LeadsTo last pages [] key level entry end found next
+  pub ends_from : (key : Key) (level : ℕ) (entry : Entry) (end : Option Key) (found : Entry) (next : Option Key) → LeadsTo last pages [] key level entry end found next
       → ¬ (IsBefore found.first entry.first)
   ends_from key zero entry end found next h = subst (λ (e : Entry). ¬ (IsBefore e.first entry.first)) (sym h.0) (not_before_self entry.first)
   ends_from key (suc level) entry end found next (named, below, beyond, falls, leads) =
@@ -61,7 +61,7 @@ module _ (last : ℕ) (pages : List (List ℕ)) where
       with_end (y ∷ m) x a o = refl
 
   -- and what follows it begins not after the end
-  ends_to : (key : Key) (level : ℕ) (entry : Entry) (end : Option Key) (found : Entry) (next : Option Key) → LeadsTo last pages [] key level entry end found next
+  pub ends_to : (key : Key) (level : ℕ) (entry : Entry) (end : Option Key) (found : Entry) (next : Option Key) → LeadsTo last pages [] key level entry end found next
       → (first limit : Key) → next ≡ Some first → end ≡ Some limit → ¬ (IsBefore limit first)
   ends_to key zero entry end found next h first limit is is_end = let same : first ≡ limit = (let e = h.1 in cc) in subst (λ (k : Key). ¬ (IsBefore k first)) same (not_before_self first)
   ends_to key (suc level) entry end found next (named, below, beyond, falls, leads) first limit is is_end =

@@ -1,22 +1,26 @@
 -- What holds of every index, and what a change of one entry does to the whole. Each is what the function of its name in `law`
 -- ensures.
-use Rattle.std.specs.Prelude.{◌≡◌, ◌≤◌, ◌<◌, ◌^◌, ◌++◌, ◌⊎◌, [], ℕ, nat_eq, List, Option, None, IfSome, length}
+use Rattle.std.specs.Prelude.{◌≡◌, ◌≤◌, ◌<◌, ◌+◌, ◌^◌, ◌++◌, ◌⊎◌, ◌↔◌, [], ◌∷◌, ℕ, suc, nat_eq, List, Option, None, IfSome, length, take, drop}
 use Rattle.std.specs.List.{AllByRecursion, flat_map, IsDistinct}
+use Rattle.ub_directory.specs.Spans.{ArePlaces, first_keys}
 use Rattle.ub_directory.specs.Writing.{Grows}
-use Rattle.ub_index.specs.Index.{AscendTo, IsUnder, under, pages_under, top}
+use Rattle.ub_index.specs.Index.{AscendTo, IsIndexPage, IsUnder, under, pages_under, top}
 use Rattle.ub_index.specs.Changed.{PagesStay, Becomes, BeginFrom, Replaces, Stays}
-use Rattle.ub_index.specs.Changing.{IsFine, Spelled, Stand, StayBut, Turns, named_as, with_added}
-use Rattle.ub_index.specs.Making.{IsCommitted, IsPutFault, PutsSheets, StayOutside}
-use Rattle.ub_index.specs.Preparing.{ChangeView, IsForeign, MakesIndex}
+use Rattle.ub_index.specs.Changing.{IsFine, IsOutside, Spelled, Stand, StayBut, Turns, named_as, with_added}
+use Rattle.ub_index.specs.Making.{IsCommitted, IsPutFault, PutsSheets, StayOutside, changed}
+use Rattle.ub_index.specs.Preparing.{ChangeView, IsForeign, IsReachedOnce, MakesIndex, added_at, entry_at, pages_of_index}
 use Rattle.ub_index.specs.Searching.{Cross}
-use Rattle.ub_index.specs.View.{IndexView, IsIndexOn, entries_in}
-use Rattle.ub_index.specs.Way.{IsFullWay, LeadsTo, StopsAt}
+use Rattle.ub_index.specs.Standing.{AddsNoIndexPage, AreOwnPages, AreRegionsThere, OldStayOutside, StandsAsOn, region_pages}
+use Rattle.ub_index.specs.View.{IndexView, IsIndexOn, IsSeatAt, Leads, Stops, entries_in}
+use Rattle.ub_index.specs.Way.{HoldsKey, IsFullWay, LeadsTo, StopsAt}
+use Rattle.ub_index.specs.declared.seat.Seat.{Seat}
 use Rattle.ub_index.specs.declared.sheet.Sheet.{Sheet}
 use Rattle.ub_index.specs.declared.told.Told.{Told}
 use Rattle.ub_index.specs.declared.told.Told.TheVariants.{Two}
 use Rattle.ub_page.specs.Entries.{IsEntry}
 use Rattle.ub_page.specs.declared.entries.Entry.{Entry}
-use Rattle.ub_store.specs.Facts.{StoreFacts, IsHonest, page_count}
+use Rattle.ub_region.specs.Regions.{index_holding}
+use Rattle.ub_store.specs.Facts.{StoreFacts, IsHonest, page_count, zero_page}
 use Rattle.ub_store.specs.View.{PagerView}
 use Rattle.ub_store.specs.declared.fault.StoreFault.TheVariants as store
 use Rattle.ub_table.specs.Keys.{IsBefore}
@@ -97,3 +101,86 @@ abbrev pub ChangeHasPages : Type 0
 ChangeHasPages = (index : IndexView) (old filled : StoreFacts) (from : ℕ) (change : ChangeView) (f : Entry) (fs : List Entry)
     → IsIndexOn index old → MakesIndex index old from change (Replaces f fs (entries_in index old)) → page_count old ≤ page_count filled → change.next ≤ page_count filled
     → ¬ (IsPutFault change.sheets filled store.NoPage)
+
+-- the entries of an index are those of a table's regions in order: one at least, each in range
+abbrev pub EntriesArePlaces : Type 0
+EntriesArePlaces = (index : IndexView) (store : StoreFacts) → IsIndexOn index store
+    → ArePlaces index.last (entries_in index store) × (1 ≤ length (entries_in index store))
+    × AllByRecursion (IsEntry index.last) (entries_in index store)
+
+-- where pages are put anew none of which is the index's own, and the others stay, the index stands as it stood
+abbrev pub RegionsMayChange : Type 0
+RegionsMayChange = (index : IndexView) (old new : StoreFacts) (numbers : List ℕ) → IsIndexOn index old → IsReachedOnce index old
+    → IsHonest new → OldStayOutside numbers old.pages new.pages
+    → AllByRecursion (λ n. IsOutside n (pages_of_index index old)) numbers → StandsAsOn index old new
+
+-- over any pages, whichever of them were held: where those that there were stay, and others may stand after them, a way that
+-- led to a seat leads there still; and one that leads to a seat led there before, or stopped where no page was
+abbrev pub WaysStay : Type 0
+WaysStay = (index : IndexView) (old new : StoreFacts) (held : List (ℕ × List ℕ)) (key : Key) (seat : Seat)
+    → OldStayOutside [] old.pages new.pages
+    → (Leads index old held key seat → Leads index new held key seat)
+    × (Leads index new held key seat → Leads index old held key seat ⊎ ((n : ℕ) × Stops index old held key n None))
+
+-- and where none of those that came is a page of an index, the ways are the same, where no page was held
+abbrev pub WaysAreTheSame : Type 0
+WaysAreTheSame = (index : IndexView) (old new : StoreFacts) (key : Key) (seat : Seat) → OldStayOutside [] old.pages new.pages
+    → AddsNoIndexPage index.last old.pages new.pages → Leads index old [] key seat ↔ Leads index new [] key seat
+
+-- a page of zeros, as a store adds it, is none of an index
+abbrev pub ZerosAreNoIndexPage : Type 0
+ZerosAreNoIndexPage = (last : ℕ) → ¬ (IsIndexPage last zero_page)
+
+-- over any pages, none of which was held: the seat to which the way to a key leads holds that key, and its own first key; and
+-- the way to each key that it holds leads to it
+abbrev pub WaysHold : Type 0
+WaysHold = (index : IndexView) (store : StoreFacts) (key : Key) (seat : Seat) → Leads index store [] key seat
+    → HoldsKey key seat.first seat.next × HoldsKey seat.first seat.first seat.next
+    × ((other : Key) → HoldsKey other seat.first seat.next → Leads index store [] other seat)
+
+-- over any pages, none of which was held: the way to a key leads to one seat
+abbrev pub WaysAreOne : Type 0
+WaysAreOne = (index : IndexView) (store : StoreFacts) (key : Key) (a b : Seat)
+    → Leads index store [] key a → Leads index store [] key b → a ≡ b
+
+-- on an index, whichever pages were held, the seats to which ways lead are those of its regions: the way to a key leads to that
+-- of the region which holds it, and to each there is one
+abbrev pub SeatsAreLedTo : Type 0
+SeatsAreLedTo = (index : IndexView) (store : StoreFacts) (held : List (ℕ × List ℕ)) → IsIndexOn index store
+    → ((key : Key) (seat : Seat) → Leads index store held key seat
+    → IsSeatAt (entries_in index store) (index_holding key (first_keys (entries_in index store))) seat)
+    × ((i : ℕ) (seat : Seat) → IsSeatAt (entries_in index store) i seat → Leads index store held seat.first seat)
+
+-- where no page serves twice, the first and those of the regions are none of the index
+abbrev pub OwnPagesStandApart : Type 0
+OwnPagesStandApart = (index : IndexView) (store : StoreFacts) → AreOwnPages index store
+    → AllByRecursion (λ n. IsOutside n (pages_of_index index store)) (0 ∷ region_pages (entries_in index store))
+
+-- a change puts neither the first page, nor a page of a region, nor that of the region that comes
+abbrev pub RegionsAreForeign : Type 0
+RegionsAreForeign = (index : IndexView) (old : StoreFacts) (from : ℕ) (change : ChangeView)
+    → IsIndexOn index old → AreOwnPages index old → AreRegionsThere index old → page_count old ≤ from
+    → AllByRecursion (IsForeign index old from change) (0 ∷ region_pages (entries_in index old))
+    × (page_count old < from → IsForeign index old from change (page_count old))
+
+-- where no page serves twice, none does once a region has come, on the page that the store got first
+abbrev pub AddedPagesAreOwn : Type 0
+AddedPagesAreOwn = (index : IndexView) (old filled new : StoreFacts) (change : ChangeView) (f : Entry) (first : Key)
+    → IsIndexOn index old → AreOwnPages index old → AreRegionsThere index old
+    → IsCommitted index old (page_count old + 1) change f (f ∷ added_at first old ∷ []) filled new
+    → AreOwnPages (changed index change) new
+
+-- nor once one has gone
+abbrev pub DroppedPagesAreOwn : Type 0
+DroppedPagesAreOwn = (index : IndexView) (old filled new : StoreFacts) (change : ChangeView) (f : Entry)
+    → IsIndexOn index old → AreOwnPages index old → AreRegionsThere index old
+    → IsCommitted index old (page_count old) change f [] filled new → AreOwnPages (changed index change) new
+
+-- where entries stand in the place of one, there are so many: with two one more, with none one less
+abbrev pub EntriesCount : Type 0
+EntriesCount = (f : Entry) (fs old new : List Entry) → Replaces f fs old new → length new + 1 ≡ length old + length fs
+
+-- and where that one was the entry of a seat, they stand at its index
+abbrev pub ReplacesAtSeat : Type 0
+ReplacesAtSeat = (last : ℕ) (entries new : List Entry) (i : ℕ) (seat : Seat) (fs : List Entry) → ArePlaces last entries
+    → IsSeatAt entries i seat → Replaces (entry_at seat) fs entries new → new ≡ take i entries ++ (fs ++ drop (suc i) entries)

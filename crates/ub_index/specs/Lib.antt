@@ -10,3 +10,5 @@ pub mod Changing
 pub mod Preparing
 pub mod Lowering
 pub mod Making
+pub mod Opening
+pub mod Standing

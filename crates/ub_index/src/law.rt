@@ -1,4 +1,4 @@
-ghost use Rattle.ub_index.specs.Laws.{ChangeHasPages, ChangeIsMade, ChangeReplaces, ChangeKeepsOrder, FullWaysPart, OthersStay, PagesAreThere, TurnsBecome, WaysNeverCross, WaysNeverStop, WholeAscends};
+ghost use Rattle.ub_index.specs.Laws.{AddedPagesAreOwn, ChangeHasPages, ChangeIsMade, ChangeKeepsOrder, ChangeReplaces, DroppedPagesAreOwn, EntriesArePlaces, EntriesCount, FullWaysPart, OthersStay, OwnPagesStandApart, PagesAreThere, RegionsAreForeign, RegionsMayChange, ReplacesAtSeat, SeatsAreLedTo, TurnsBecome, WaysAreOne, WaysAreTheSame, WaysHold, WaysNeverCross, WaysNeverStop, WaysStay, WholeAscends, ZerosAreNoIndexPage};
 
 /// What an entry leads to is in order.
 pub fn whole_ascends()
@@ -53,4 +53,74 @@ pub fn change_is_made()
 /// No page that a change spells is missing, once the store has grown.
 pub fn change_has_pages()
     ensures { ChangeHasPages }
+{}
+
+/// The entries of an index are those of a table's regions.
+pub fn entries_are_places()
+    ensures { EntriesArePlaces }
+{}
+
+/// An index stands as it stood where pages change that aren't its own.
+pub fn regions_may_change()
+    ensures { RegionsMayChange }
+{}
+
+/// Where a store grows, ways lead where they led.
+pub fn ways_stay()
+    ensures { WaysStay }
+{}
+
+/// And no other way leads anywhere, where no page of an index came.
+pub fn ways_are_the_same()
+    ensures { WaysAreTheSame }
+{}
+
+/// A page that a store adds is none of an index.
+pub fn zeros_are_no_index_page()
+    ensures { ZerosAreNoIndexPage }
+{}
+
+/// A way leads to a region that holds the key, and the way to each of its keys does.
+pub fn ways_hold()
+    ensures { WaysHold }
+{}
+
+/// The way to a key leads to one region.
+pub fn ways_are_one()
+    ensures { WaysAreOne }
+{}
+
+/// A change of an index puts none of the regions' pages.
+pub fn regions_are_foreign()
+    ensures { RegionsAreForeign }
+{}
+
+/// No page serves twice once a region has come.
+pub fn added_pages_are_own()
+    ensures { AddedPagesAreOwn }
+{}
+
+/// No page serves twice once a region has gone.
+pub fn dropped_pages_are_own()
+    ensures { DroppedPagesAreOwn }
+{}
+
+/// How many regions there are after a change.
+pub fn entries_count()
+    ensures { EntriesCount }
+{}
+
+/// A change stands at the index of the seat.
+pub fn replaces_at_seat()
+    ensures { ReplacesAtSeat }
+{}
+
+/// On an index ways lead to the seats of its regions, and to each of them.
+pub fn seats_are_led_to()
+    ensures { SeatsAreLedTo }
+{}
+
+/// The regions' pages are none of the index.
+pub fn own_pages_stand_apart()
+    ensures { OwnPagesStandApart }
 {}

@@ -20,6 +20,9 @@
 //  - All that a page tells ends before the key of the next entry of the page above.
 //  - The regions' entries, read from left to right, are the flat list that searches tell of (`under` in specs/Index).
 //
+// OPENING. An index is opened by the number and the level of its root (`opening`): that page alone is read, and it is checked
+// in full, held or not. One of a single region is made by putting its root, of level 1.
+//
 // SEARCHES. A search goes down (`descent`): from an entry, and where the next one begins, to the page that it names; then to
 // the entry of it to which the key falls, the last one that doesn't begin after the key. It goes down as often as the root has
 // levels, whatever a page says. What it answers on an index is the region that holds the key in the flat list; what it answers
@@ -75,6 +78,7 @@ mod goal;
 pub mod index;
 pub mod law;
 mod making;
+mod opening;
 pub mod seat;
 pub mod sheet;
 mod sheets;

@@ -1,0 +1,12 @@
+use Rattle.std.proofs.Common.{◌≡◌, arith, rules, subst, sym}
+use Rattle.ub_index.specs.Opening.{IsAlone, root_page}
+use Rattle.ub_index.specs.View.{IndexView}
+use Rattle.ub_index.proofs.StandFacts.{made_alone}
+use Rattle.ub_index.proofs.index.Index.create.Goals as goal
+
+pub returns-clause-stands : goal.returns-clause-stands
+returns-clause-stands g c = λ honest some_root some.
+    let page_is : c.page.result.now ≡ root_page c.args.page = search rules in
+    subst (λ (index : IndexView). IsAlone index c.args.page c.put.new.self.store) (sym c.new.ensures)
+    (made_alone c.args.root c.args.page c.args.last c.page.result.now c.args.pager.now.store c.put.new.self.store (omega arith) (omega arith) honest c.in_ok-put.ensures.there
+    c.in_ok-put.ensures.effect page_is some_root some)

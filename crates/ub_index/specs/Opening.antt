@@ -1,0 +1,66 @@
+-- Opening an index that stands on a store, and making one of a single region.
+use Rattle.std.specs.Prelude.{◌≡◌, ◌≤◌, ℕ, IsTrue, List, [], ◌∷◌, Some, None, Result, IfErr}
+use Rattle.ub_index.specs.Fitting.{IsNotTaken}
+use Rattle.ub_index.specs.Index.{Fits, NamesFitting, top}
+use Rattle.ub_index.specs.Preparing.{IsReachedOnce, pages_of_index}
+use Rattle.ub_index.specs.Searching.{store_after}
+use Rattle.ub_index.specs.View.{IndexView, IsIndexOn, entries_in}
+use Rattle.ub_index.specs.declared.fault.IndexFault.{IndexFault}
+use Rattle.ub_index.specs.declared.fault.IndexFault.TheVariants.{Full, Page, Store}
+use Rattle.ub_index_page.specs.Index.{index_page}
+use Rattle.ub_store.specs.Cache.{NoneMoreBut}
+use Rattle.ub_store.specs.Facts.{StoreFacts, IsHonest, page_count}
+use Rattle.ub_store.specs.View.{Holds, PagerView}
+use Rattle.ub_store.specs.declared.fault.StoreFault.{StoreFault}
+use Rattle.ub_store.specs.declared.fault.StoreFault.TheVariants as store
+
+-- the store has the page of the root, and it fits as the page of one
+abbrev pub IsRooted : IndexView → StoreFacts → Type 0
+IsRooted index store = NamesFitting index.last store.pages index.levels (top index.root) None
+
+-- the pager holds a page of the root's number that fits so
+pub record HoldsRoot (index : IndexView) (pager : PagerView) : Type 0 where
+  pub page : List ℕ
+  pub held : Holds pager index.root page
+  pub fits : Fits index.last page index.levels (top index.root) None
+
+-- why an index isn't opened: memory was refused; the store failed, which it then can; it has no page of the root's number; or
+-- that page is refused, and over an honest store it is the one that the store has
+abbrev pub IsOpenFault : IndexView → StoreFacts → IndexFault → Type 0
+IsOpenFault index old (Store store.Memory) = Unit {0}
+IsOpenFault index old (Store store.Device) = IsTrue old.can_fail
+IsOpenFault index old (Store store.NoPage) = page_count old ≤ index.root
+IsOpenFault index old (Store store.BadSize) = ⊥
+IsOpenFault index old Full = ⊥
+IsOpenFault index old (Page n fault) =
+    (n ≡ index.root) × (IsHonest old → IsNotTaken index.last old.pages [] index.levels (top index.root) None (Some fault))
+
+-- memory was refused, or the store failed: the same call may succeed later
+abbrev pub IsPassing : IndexFault → Type 0
+IsPassing (Store store.Memory) = Unit {0}
+IsPassing (Store store.Device) = Unit {0}
+IsPassing _ = ⊥
+
+-- opening with this result: the pager holds no other page more than the root's; with the device's fault the store has one
+-- failed read more, and else nothing has changed
+pub record Opens {A : Type 0} (index : IndexView) (old new : PagerView) (result : Result A IndexFault) : Type 0 where
+  pub same : new ≡ record old { store = store_after result old.store; cached = new.cached }
+  pub cached : NoneMoreBut index.root old.cached new.cached
+  pub faults : IfErr result (IsOpenFault index old.store)
+
+-- the page of a root that names one region, on this page
+abbrev pub root_page : ℕ → List ℕ
+root_page page = index_page (record { level = 1; entries = top page ∷ [] })
+
+-- why no root is put: the store failed, which it then can; or it has no page of that number
+abbrev pub IsRootFault : ℕ → StoreFacts → StoreFault → Type 0
+IsRootFault root old store.Device = IsTrue old.can_fail
+IsRootFault root old store.NoPage = page_count old ≤ root
+IsRootFault root old _ = ⊥
+
+-- on the store stands an index of one region, on this page, and the root is its only page
+pub record IsAlone (index : IndexView) (page : ℕ) (store : StoreFacts) : Type 0 where
+  pub is : IsIndexOn index store
+  pub reached : IsReachedOnce index store
+  pub entries_are : entries_in index store ≡ top page ∷ []
+  pub pages_are : pages_of_index index store ≡ index.root ∷ []

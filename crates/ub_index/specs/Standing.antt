@@ -1,0 +1,37 @@
+-- What an index is to those who keep regions on other pages of its store.
+use Rattle.std.specs.Prelude.{◌≡◌, ◌≤◌, ◌<◌, ◌++◌, ◌∷◌, ℕ, nat_eq, List, Some, map, length, slice_get}
+use Rattle.std.specs.List.{AllByRecursion, IsDistinct}
+use Rattle.ub_index.specs.Changing.{IsOutside}
+use Rattle.ub_index.specs.Index.{IsIndexPage}
+use Rattle.ub_index.specs.Preparing.{IsReachedOnce, pages_of_index}
+use Rattle.ub_index.specs.View.{IndexView, IsIndexOn, entries_in}
+use Rattle.ub_page.specs.declared.entries.Entry.{Entry}
+use Rattle.ub_store.specs.Facts.{StoreFacts, page_count}
+
+-- the pages that there were are as they were, but for those of these numbers; others may stand after them
+abbrev pub OldStayOutside : List ℕ → List (List ℕ) → List (List ℕ) → Type 0
+OldStayOutside numbers old new = (m : ℕ) → m < length old → IsOutside m numbers → slice_get new m ≡ slice_get old m
+
+-- none of those that stand after them is a page of an index
+abbrev pub AddsNoIndexPage : ℕ → List (List ℕ) → List (List ℕ) → Type 0
+AddsNoIndexPage last old new =
+    (m : ℕ) (page : List ℕ) → length old ≤ m → slice_get new m ≡ Some page → ¬ (IsIndexPage last page)
+
+-- the index stands on the new store as on the old one: with the same entries, on the same pages
+pub record StandsAsOn (index : IndexView) (old new : StoreFacts) : Type 0 where
+  pub is : IsIndexOn index new
+  pub reached : IsReachedOnce index new
+  pub entries_are : entries_in index new ≡ entries_in index old
+  pub pages_are : pages_of_index index new ≡ pages_of_index index old
+
+-- the numbers of the regions' pages
+abbrev pub region_pages : List Entry → List ℕ
+region_pages entries = map (λ entry. entry.page) entries
+
+-- no page serves twice: the first, those of the index, and one for each region
+abbrev pub AreOwnPages : IndexView → StoreFacts → Type 0
+AreOwnPages index store = IsDistinct nat_eq ((0 ∷ pages_of_index index store) ++ region_pages (entries_in index store))
+
+-- the store has each region's page
+abbrev pub AreRegionsThere : IndexView → StoreFacts → Type 0
+AreRegionsThere index store = AllByRecursion (λ n. n < page_count store) (region_pages (entries_in index store))
