@@ -11,7 +11,8 @@ import subprocess
 import sys
 import tempfile
 
-TOP = pathlib.Path(__file__).resolve().parent.parent
+from program import program as program_of
+
 SHIM = r"""
 #define _GNU_SOURCE
 #include <dlfcn.h>
@@ -72,11 +73,7 @@ def first_texts(text):
 
 
 def main():
-    if len(sys.argv) > 1:
-        program = os.path.abspath(sys.argv[1])
-    else:
-        subprocess.run([TOP / "bin" / "ubq", "--prove"], check=True)
-        program = str(TOP / "crates" / "ubq" / "out" / "ubq")
+    program = program_of(sys.argv[1] if len(sys.argv) > 1 else None)
     wrong = 0
     with tempfile.TemporaryDirectory() as work:
         pathlib.Path(work, "shim.c").write_text(SHIM)

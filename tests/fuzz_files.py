@@ -22,7 +22,8 @@ import subprocess
 import sys
 import tempfile
 
-TOP = os.path.dirname(os.path.dirname(os.path.abspath(__file__)))
+from program import program as program_of
+
 PAGE = 4096
 SECONDS = 10
 
@@ -303,11 +304,7 @@ def case(program, work, made, rng):
 
 
 def main():
-    if len(sys.argv) > 1:
-        program = os.path.abspath(sys.argv[1])
-    else:
-        subprocess.run([os.path.join(TOP, "bin", "ubq"), "--prove"], check=True)
-        program = os.path.join(TOP, "crates", "ubq", "out", "ubq")
+    program = program_of(sys.argv[1] if len(sys.argv) > 1 else None)
     count = int(sys.argv[2]) if len(sys.argv) > 2 else 2000
     seed = sys.argv[3] if len(sys.argv) > 3 else "1"
     ends, bad = collections.Counter(), 0

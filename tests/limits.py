@@ -14,7 +14,8 @@ import sys
 import tempfile
 import time
 
-TOP = os.path.dirname(os.path.dirname(os.path.abspath(__file__)))
+from program import program as program_of
+
 SECONDS = 10
 STACK = 256 * 1024
 DATA = b"x,y,m\n1,1,10\n2,3,20\n3,0,5\n0,2,7\n2,3,1\n"
@@ -105,11 +106,7 @@ def ended(words, setting):
 
 
 def main():
-    if len(sys.argv) > 1:
-        program = os.path.abspath(sys.argv[1])
-    else:
-        subprocess.run([os.path.join(TOP, "bin", "ubq"), "--prove"], check=True)
-        program = os.path.join(TOP, "crates", "ubq", "out", "ubq")
+    program = program_of(sys.argv[1] if len(sys.argv) > 1 else None)
     right = wrong = 0
     slowest = 0.0, "none"
     with tempfile.TemporaryDirectory() as work:

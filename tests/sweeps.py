@@ -11,7 +11,8 @@ import subprocess
 import sys
 import tempfile
 
-TOP = os.path.dirname(os.path.dirname(os.path.abspath(__file__)))
+from program import program as program_of
+
 BITS = 32
 GREATEST = 2**BITS - 1
 
@@ -220,8 +221,7 @@ def example(rng):
 def main():
     count = int(sys.argv[1]) if len(sys.argv) > 1 else 500
     rng = random.Random(int(sys.argv[2]) if len(sys.argv) > 2 else 1)
-    subprocess.run([os.path.join(TOP, "bin", "ubq"), "--prove"], check=True)
-    program = os.path.join(TOP, "crates", "ubq", "out", "ubq")
+    program = program_of(None)
     right = wrong = 0
     with tempfile.TemporaryDirectory() as work:
         data, script = os.path.join(work, "data.csv"), os.path.join(work, "script.sql")
