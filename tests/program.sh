@@ -90,6 +90,11 @@ done
 try 'a file with a byte more' 3 all '! BadSize\n' run cut.ub row1.sql
 { printf '\0' && tail -c +2 s.ub; } >kind.ub
 try 'a file whose first byte is 0' 3 all '! WrongKind page 0\n' run kind.ub row1.sql
+for old in s four gaps; do
+    cp "$root/tests/old/$old.ub" old.ub
+    try "a table of format 1, $old.ub" 3 all '! OldFormat page 0\n' run old.ub row1.sql
+    holds 'and it stays as it was' cmp -s old.ub "$root/tests/old/$old.ub"
+done
 try 'no table file' 4 all '! Device\n' run missing.ub row1.sql
 try 'no script' 4 all '! Device\n' run s.ub missing.sql
 mkdir folder

@@ -8,7 +8,8 @@ top=$(cd "$(dirname "$0")/.." && pwd)
 cd "$top/crates/tree_trial"
 first=${1:-1}
 last=${2:-400}
-whole=$(< stdout)
+# The last line is that of the word `tall` alone.
+whole=$(head -n -1 stdout)
 bad=0
 for ((n = first; n <= last; n++)); do
     text=$(rt try --fail-alloc "$n" 2> /dev/null)

@@ -6,10 +6,12 @@ use ub_store::{FaultyStore, MemStore, StoreFault};
 use ub_table::{Name, PageFault, Schema};
 use ub_tree::{Tree, TreeFault};
 
-// Creation makes five calls of the store. The insertion of a row reads the region, and writes it.
-const READ: u64 = 6;
+// Creation makes six calls of the store. The insertion of a row reads the root of the index and the region, and writes the region.
+const READ_ROOT: u64 = 7;
 
-const WRITE: u64 = 7;
+const READ: u64 = 8;
+
+const WRITE: u64 = 9;
 
 // A script, and what is written before it ends as Failed.
 static SCRIPTS: [(&[u8], &str); 8] = [
@@ -70,6 +72,7 @@ fn told(alloc: Global, k: u64) -> Option<(bool, bool)> {
 
 #[test]
 fn is_not_asked(rt: HostRuntime) {
+    assert!(rt; told(rt.alloc(), READ_ROOT) == Some((true, false)));
     assert!(rt; told(rt.alloc(), READ) == Some((true, false)));
     assert!(rt; told(rt.alloc(), WRITE) == Some((true, true)));
     assert!(rt; told(rt.alloc(), WRITE + 1) == Some((false, false)));

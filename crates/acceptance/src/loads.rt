@@ -5,11 +5,12 @@ use ub_load::{LoadFault, load};
 use ub_store::{FaultyStore, MemStore, StoreFault};
 use ub_tree::TreeFault;
 
-// How many calls of its store the load of five rows makes, two on a page: five for the table with no rows (the first page is
-// added, and marked as that of a changed table; two pages are added, and the first region is written). The first row reads the
-// region and writes it, the second one writes it, which is cached. The third one finds it full, adds a page and writes both,
-// and so does the fourth. The fifth row goes to the region that the third one made: that is read, and written.
-const CALLS: u64 = 5 + 2 + 1 + 3 + 3 + 2;
+// How many calls of its store the load of five rows makes, two on a page: six for the table with no rows (the first page is
+// added, and marked as that of a changed table; two pages are added, and the first region and the root of the index are written).
+// The first row reads the root and the region and writes the region, the second one writes it, which is cached. The third one finds
+// it full, adds a page and writes both and the root, and so does the fourth. The fifth row goes to the region that the third one
+// made: that is read, and written.
+const CALLS: u64 = 6 + 3 + 1 + 4 + 4 + 2;
 
 // Whether a load ends with the device's fault where its store fails at this call.
 fn is_ended(alloc: Global, call: u64) -> bool {

@@ -137,7 +137,8 @@ fn changes(alloc: Global, changed: &Changed) -> bool {
     let Some(mut pager) = stored(alloc, changed.0, 0) else {
         return false;
     };
-    let mut index = Index::new(changed.0.len().min(16) as u32, changed.1.max(1).min(16), 63);
+    let root = changed.0.len().min(16) as u32;
+    let mut index = Index::new(root.max(1), changed.1.max(1).min(16), 63);
     let key = Key {
         z: changed.2,
         number: 0,
@@ -213,7 +214,7 @@ fn rises(alloc: Global, levels: u32, root: (u32, u32)) -> bool {
     let Some(mut pager) = tower(alloc, levels, 0) else {
         return false;
     };
-    let mut index = Index::new(levels, levels.max(1).min(16), u128::MAX);
+    let mut index = Index::new(levels.max(1), levels.max(1).min(16), u128::MAX);
     match added_to(alloc, &index, &mut pager) {
         Ok(change) => {
             let page = change.page();

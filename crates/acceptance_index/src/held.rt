@@ -10,8 +10,9 @@ use ub_store::StoreFault;
 // What is put in the place of a page of the index of three levels; and an address.
 type Damage = (u32, Spelled, u128);
 
-// Damage at the ends of a page, and the page that is refused, held or not, and why: no entry, a level
-// too many, one too few, another first key on each level, and a last key that isn't before the next.
+// Damage that is seen where a page is held too, at its ends or on the entry to which the search goes,
+// and the page that is refused, and why: no entry, a level too many, one too few, another first key on
+// each level, a last key that isn't before the next, and an entry that names page 0, on two levels.
 static AT_ENDS: &[(Damage, u32, PageFault)] = &[
     ((2, (1, &[]), 10), 2, PageFault::BadCount),
     ((2, (2, &[(9, 2, 1)]), 10), 2, PageFault::BadCount),
@@ -24,11 +25,21 @@ static AT_ENDS: &[(Damage, u32, PageFault)] = &[
         1,
         PageFault::OutOfRegion,
     ),
+    (
+        (3, (1, &[(20, 0, 103), (21, 0, 0), (31, 1, 105)]), 25),
+        3,
+        PageFault::BadRow,
+    ),
+    (
+        (5, (2, &[(20, 0, 3), (25, 0, 0)]), 31),
+        5,
+        PageFault::BadRow,
+    ),
 ];
 
 // Damage between the ends of a page, why the page is refused when it is read, and the page of the
-// region to which it leads while it is held: keys that don't ascend, two that are equal, and a region
-// on page 0.
+// region to which it leads while it is held: keys that don't ascend, two that are equal, a row number
+// above the greatest, and page 0 beside the way.
 static WITHIN: &[(Damage, PageFault, u32)] = &[
     (
         (3, (1, &[(20, 0, 103), (19, 0, 104), (31, 1, 105)]), 25),
@@ -41,9 +52,18 @@ static WITHIN: &[(Damage, PageFault, u32)] = &[
         104,
     ),
     (
-        (3, (1, &[(20, 0, 103), (21, 0, 0), (31, 1, 105)]), 25),
+        (
+            3,
+            (1, &[(20, 0, 103), (21, 16_777_216, 106), (31, 1, 105)]),
+            25,
+        ),
         PageFault::BadRow,
-        0,
+        106,
+    ),
+    (
+        (3, (1, &[(20, 0, 103), (21, 0, 0), (22, 0, 104)]), 25),
+        PageFault::BadRow,
+        104,
     ),
 ];
 
@@ -138,6 +158,27 @@ fn between_the_ends(rt: HostRuntime) {
         assert!(rt;
             leads_to(after_damage(rt.alloc(), damage, true), *page),
             "held {page}"
+        );
+    }
+}
+
+// What a search answers that is asked again, after it read a damaged page and refused it.
+fn asked_again(alloc: Global, damage: &Damage) -> Option<Result<Seat, IndexFault>> {
+    let mut pager = stored(alloc, THREE, 0)?;
+    if !damaged(&mut pager, damage.0, &damage.1) || sought(&mut pager, damage.2).is_ok() {
+        return None;
+    }
+    Some(sought(&mut pager, damage.2))
+}
+
+// A page that is refused isn't held, so that all of it is looked at again.
+#[test]
+fn refused_page_is_read_again(rt: HostRuntime) {
+    for (damage, fault, _) in WITHIN {
+        assert!(rt;
+            is_refused(asked_again(rt.alloc(), damage), damage.0, *fault),
+            "again {}",
+            damage.0
         );
     }
 }

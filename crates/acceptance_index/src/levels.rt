@@ -92,7 +92,7 @@ enum Order {
 
 // The index of a level.
 fn index_of(level: &Level) -> Index {
-    Index::new(level.1, level.0.max(1).min(16), 63)
+    Index::new(level.1.max(1), level.0.max(1).min(16), 63)
 }
 
 // Whether the index of this level answers as the flat list of its regions does.

@@ -19,10 +19,9 @@ const PAGES: &[Spelled] = &[
 // Roots, their levels and the last addresses that are taken; pages 1 and 4 are roots too.
 static ROOTS: &[(u32, u32, u128)] = &[(6, 3, 63), (6, 3, 20), (4, 2, 63), (1, 1, 63), (1, 1, 4)];
 
-// Those that are refused, and why: a page of zeros; one of another level, also where it doesn't
-// begin with the least key; one that begins later; an address above the last.
+// Those that are refused, and why: one of another level, also where it doesn't begin with the least
+// key; one that begins later; an address above the last.
 static REFUSED: &[(u32, u32, u128, PageFault)] = &[
-    (0, 1, 63, PageFault::WrongKind),
     (6, 2, 63, PageFault::BadCount),
     (6, 4, 63, PageFault::BadCount),
     (6, 16, 63, PageFault::BadCount),
@@ -36,7 +35,7 @@ static REFUSED: &[(u32, u32, u128, PageFault)] = &[
 
 // The fault with which the index with this root is opened, if it is with any.
 fn fault_of(pager: &mut Tried, root: u32, levels: u32, last: u128) -> Option<IndexFault> {
-    Index::open(pager, root, levels.max(1).min(16), last).err()
+    Index::open(pager, root.max(1), levels.max(1).min(16), last).err()
 }
 
 // Whether the one is opened with this fault, or with none, over a store that doesn't fail.
@@ -71,6 +70,22 @@ fn other_pages(rt: HostRuntime) {
             "{root} {levels} {last}"
         );
     }
+}
+
+// The fault with which the index is opened whose root became a page of zeros, if it is with any.
+fn fault_of_zeros(alloc: Global) -> Option<IndexFault> {
+    let mut pager = stored(alloc, PAGES, 0)?;
+    pager.put(6, &[0; 4096]).ok()?;
+    fault_of(&mut pager, 6, 3, 63)
+}
+
+#[test]
+fn page_of_zeros(rt: HostRuntime) {
+    let fault = IndexFault::Page {
+        page: 6,
+        fault: PageFault::WrongKind,
+    };
+    assert!(rt; fault_of_zeros(rt.alloc()) == Some(fault));
 }
 
 #[test]
@@ -184,7 +199,7 @@ fn index_of_one_region(rt: HostRuntime) {
 // number fails.
 fn made_with(alloc: Global, root: u32, due: u64) -> Option<StoreFault> {
     let mut pager = stored(alloc, PAGES, due)?;
-    Index::create(&mut pager, root, 5, 63).err()
+    Index::create(&mut pager, root.max(1), 5, 63).err()
 }
 
 #[test]

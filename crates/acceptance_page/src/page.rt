@@ -6,14 +6,14 @@ use ub_index_page::{
 use ub_page::{Draft, Entry, Page, read_directory, read_header, write_directory, write_header};
 use ub_table::{Key, PageFault, Schema};
 
-// The bytes of a header of a table of five rows in three regions: the table's numbers, and the
-// names t, x, y and m.
+// The bytes of a header of a table of five rows in three regions, whose index has its root on
+// page 4: the table's numbers, and the names t, x, y and m.
 const HEADER: &[(usize, u8)] = &[
     (0, 0x55),
     (1, 0x42),
     (2, 0x54),
     (3, 0x52),
-    (4, 1),
+    (4, 2),
     (6, 2),
     (7, 1),
     (8, 2),
@@ -38,7 +38,24 @@ const HEADER_FAULTS: &[(usize, u8, PageFault)] = &[
     (34, 1, PageFault::BadName),
     (8, 1, PageFault::BadCount),
     (5, 1, PageFault::Unclean),
-    (4, 2, PageFault::WrongKind),
+    (4, 1, PageFault::OldFormat),
+    (4, 3, PageFault::WrongKind),
+    (4, 0, PageFault::WrongKind),
+    (4, 1, PageFault::OldFormat),
+    (3, 0, PageFault::WrongKind),
+];
+
+// And bytes each of which is changed alone.
+const HEADER_FAULTS_ALONE: &[(usize, u8, PageFault)] = &[
+    (0, 0, PageFault::WrongKind),
+    (4, 3, PageFault::WrongKind),
+    (4, 1, PageFault::OldFormat),
+    (5, 2, PageFault::BadCount),
+    (27, 0, PageFault::BadCount),
+    (31, 0, PageFault::BadCount),
+    (31, 17, PageFault::BadCount),
+    (30, 1, PageFault::BadCount),
+    (9, 1, PageFault::BadPadding),
 ];
 
 // Writes the directory that a page tells of.
@@ -72,10 +89,32 @@ fn is_header_page(page: &Page) -> bool {
         && !read.unclean
 }
 
+// Whether a header with this level of the root is read, and written so.
+fn keeps_level(level: u8) -> bool {
+    let page = page_of(HEADER, &[(31, level)]);
+    let Ok(read) = read_header(&page) else {
+        return false;
+    };
+    let mut draft = Draft::new();
+    write_header(&read, &mut draft);
+    draft.page() == &page && read.levels == u32::from(level)
+}
+
+// Whether each of these bytes, changed alone, is refused so.
+fn are_refused_alone(faults: &[(usize, u8, PageFault)]) -> bool {
+    for (place, byte, fault) in faults {
+        if read_header(&page_of(HEADER, &[(*place, *byte)])).err() != Some(*fault) {
+            return false;
+        }
+    }
+    true
+}
+
 #[test]
 fn headers(rt: HostRuntime) {
     let mut page = page_of(HEADER, &[]);
-    assert!(rt; is_header_page(&page));
+    assert!(rt; is_header_page(&page) && keeps_level(2) && keeps_level(16));
+    assert!(rt; are_refused_alone(HEADER_FAULTS_ALONE));
     for (place, byte, fault) in HEADER_FAULTS {
         page[*place % 4096] = *byte;
         assert!(rt; read_header(&page).err() == Some(*fault), "{place}");

@@ -29,42 +29,96 @@ struct Case {
 const FIVE_REGIONS: [Sheet; 7] = [
     Sheet::Header(15, 14, 5, false),
     Sheet::Equal(0, 0, 1, 2),
-    Sheet::Directory(&[
-        Entry {
-            first: Key { z: 0, number: 0 },
-            page: 1,
-        },
-        Entry {
-            first: Key { z: 1, number: 0 },
-            page: 3,
-        },
-        Entry {
-            first: Key { z: 4, number: 0 },
-            page: 4,
-        },
-        Entry {
-            first: Key { z: 16, number: 0 },
-            page: 5,
-        },
-        Entry {
-            first: Key { z: 64, number: 0 },
-            page: 6,
-        },
-    ]),
+    Sheet::Index(
+        1,
+        &[
+            Entry {
+                first: Key { z: 0, number: 0 },
+                page: 1,
+            },
+            Entry {
+                first: Key { z: 1, number: 0 },
+                page: 3,
+            },
+            Entry {
+                first: Key { z: 4, number: 0 },
+                page: 4,
+            },
+            Entry {
+                first: Key { z: 16, number: 0 },
+                page: 5,
+            },
+            Entry {
+                first: Key { z: 64, number: 0 },
+                page: 6,
+            },
+        ],
+    ),
     Sheet::Equal(1, 1, 3, 2),
     Sheet::Equal(4, 2, 5, 4),
     Sheet::Equal(16, 4, 9, 2),
     Sheet::Equal(64, 8, 11, 4),
 ];
 
-static CASES: [Case; 10] = [
+// The same table whose last region has a page of the index for itself.
+const TWO_LEVELS: [Sheet; 9] = [
+    Sheet::Rooted(15, 14, 5, 2, 2),
+    Sheet::Equal(0, 0, 1, 2),
+    Sheet::Index(
+        2,
+        &[
+            Entry {
+                first: Key { z: 0, number: 0 },
+                page: 7,
+            },
+            Entry {
+                first: Key { z: 64, number: 0 },
+                page: 8,
+            },
+        ],
+    ),
+    Sheet::Equal(1, 1, 3, 2),
+    Sheet::Equal(4, 2, 5, 4),
+    Sheet::Equal(16, 4, 9, 2),
+    Sheet::Equal(64, 8, 11, 4),
+    Sheet::Index(
+        1,
+        &[
+            Entry {
+                first: Key { z: 0, number: 0 },
+                page: 1,
+            },
+            Entry {
+                first: Key { z: 1, number: 0 },
+                page: 3,
+            },
+            Entry {
+                first: Key { z: 4, number: 0 },
+                page: 4,
+            },
+            Entry {
+                first: Key { z: 16, number: 0 },
+                page: 5,
+            },
+        ],
+    ),
+    Sheet::Index(
+        1,
+        &[Entry {
+            first: Key { z: 64, number: 0 },
+            page: 6,
+        }],
+    ),
+];
+
+static CASES: [Case; 11] = [
     // Opening and reading.
     Case {
         sheets: &FIVE_REGIONS,
         steps: &[
-            // Reads the header, and the one page of the directory.
+            // Reads the header, and the root of the index.
             Made(Step::Open, DONE, b"rr"),
-            // The directory stands in memory.
+            // The root is cached, and there is no other page of the index.
             Made(Step::Seek(5), DONE, b""),
             Made(Step::Meet(1), Ok([4, 1, 64, 5]), b""),
             Made(Step::Walk, Ok([5, 0, 64, 5]), b""),
@@ -91,8 +145,8 @@ static CASES: [Case; 10] = [
             // Reads another region, and writes it.
             Made(Step::Put(0, 1, 0), Ok([17, 0, 0, 0]), b"rw"),
             Made(Step::Count, Ok([17, 5, 0, 0]), b""),
-            // Writes the directory; syncs; writes the header; syncs.
-            Made(Step::Close, DONE, b"wsws"),
+            // Syncs; writes the header; syncs.
+            Made(Step::Close, DONE, b"sws"),
         ],
     },
     // Insertions with a split.
@@ -100,14 +154,14 @@ static CASES: [Case; 10] = [
         sheets: &FIVE_REGIONS,
         steps: &[
             Made(Step::Open, DONE, b"rr"),
-            // Reads the region; adds a page; marks; writes the new region, and then the old one.
-            Made(Step::Put(0, 2, 0), Ok([15, 0, 0, 0]), b"rewww"),
+            // Reads the region; adds a page; marks; writes the new region, then the old one, and then the root.
+            Made(Step::Put(0, 2, 0), Ok([15, 0, 0, 0]), b"rewwww"),
             // The same of another region, but the header is marked.
-            Made(Step::Put(0, 8, 0), Ok([16, 0, 0, 0]), b"reww"),
+            Made(Step::Put(0, 8, 0), Ok([16, 0, 0, 0]), b"rewww"),
             // The new region of the first split was written, and so isn't cached.
             Made(Step::Put(0, 2, 0), Ok([17, 0, 0, 0]), b"rw"),
             Made(Step::Count, Ok([17, 7, 0, 0]), b""),
-            Made(Step::Close, DONE, b"wsws"),
+            Made(Step::Close, DONE, b"sws"),
         ],
     },
     // Removals of a row that isn't there.
@@ -130,10 +184,10 @@ static CASES: [Case; 10] = [
             Made(Step::Remove(64, 11), Ok([1, 0, 0, 0]), b"rww"),
             // Two rows are enough.
             Made(Step::Remove(64, 12), Ok([1, 0, 0, 0]), b"w"),
-            // One is few, and there is no next region. Reads the one before, which takes the row, and writes that.
-            Made(Step::Remove(64, 13), Ok([1, 0, 0, 0]), b"rw"),
+            // One is few, and there is no next region. Reads the one before, which takes the row, writes that, and then the root.
+            Made(Step::Remove(64, 13), Ok([1, 0, 0, 0]), b"rww"),
             Made(Step::Count, Ok([11, 4, 0, 0]), b""),
-            Made(Step::Close, DONE, b"wsws"),
+            Made(Step::Close, DONE, b"sws"),
         ],
     },
     // A removal from the first region, which has two rows, as the next one has.
@@ -141,10 +195,10 @@ static CASES: [Case; 10] = [
         sheets: &FIVE_REGIONS,
         steps: &[
             Made(Step::Open, DONE, b"rr"),
-            // Reads the region, and the next one, whose rows it takes; marks; writes the region.
-            Made(Step::Remove(0, 1), Ok([1, 0, 0, 0]), b"rrww"),
+            // Reads the region, and the next one, whose rows it takes; marks; writes the region, and then the root.
+            Made(Step::Remove(0, 1), Ok([1, 0, 0, 0]), b"rrwww"),
             Made(Step::Count, Ok([13, 4, 0, 0]), b""),
-            Made(Step::Close, DONE, b"wsws"),
+            Made(Step::Close, DONE, b"sws"),
         ],
     },
     // A removal from the second region, which has two rows, as the one before has; the next one is full.
@@ -152,10 +206,11 @@ static CASES: [Case; 10] = [
         sheets: &FIVE_REGIONS,
         steps: &[
             Made(Step::Open, DONE, b"rr"),
-            // Reads the region, the next one, and the one before, which takes the row; marks; writes the one before.
-            Made(Step::Remove(1, 3), Ok([1, 0, 0, 0]), b"rrrww"),
+            // Reads the region, the next one, and the one before, which takes the row; marks; writes the one before, and then the
+            // root.
+            Made(Step::Remove(1, 3), Ok([1, 0, 0, 0]), b"rrrwww"),
             Made(Step::Count, Ok([13, 4, 0, 0]), b""),
-            Made(Step::Close, DONE, b"wsws"),
+            Made(Step::Close, DONE, b"sws"),
         ],
     },
     // A removal from the fourth region, which has two rows and stands between full ones.
@@ -166,40 +221,83 @@ static CASES: [Case; 10] = [
             // Reads the region, the next one, and the one before; marks; writes the region.
             Made(Step::Remove(16, 9), Ok([1, 0, 0, 0]), b"rrrww"),
             Made(Step::Count, Ok([13, 5, 0, 0]), b""),
-            Made(Step::Close, DONE, b"wsws"),
+            Made(Step::Close, DONE, b"sws"),
         ],
     },
-    // A directory of two pages.
+    // An index of two levels, whose regions are all on page 1.
     Case {
         sheets: &[
-            Sheet::Header(1, 0, 171, false),
+            Sheet::Rooted(1, 0, 171, 2, 2),
             Sheet::Region(0, &[]),
-            Sheet::Part(0, 170, 3),
-            Sheet::Part(170, 1, 0),
+            Sheet::Index(
+                2,
+                &[
+                    Entry {
+                        first: Key { z: 0, number: 0 },
+                        page: 3,
+                    },
+                    Entry {
+                        first: Key { z: 170, number: 0 },
+                        page: 4,
+                    },
+                ],
+            ),
+            Sheet::Part(1, 0, 170),
+            Sheet::Part(1, 170, 1),
         ],
         steps: &[
-            // Reads the header, and both pages of the directory.
-            Made(Step::Open, DONE, b"rrr"),
-            Made(Step::Walk, Ok([171, 0, 170, 171]), b""),
+            // Reads the header, and the root.
+            Made(Step::Open, DONE, b"rr"),
+            // Reads the pages below the root, one after the other.
+            Made(Step::Walk, Ok([171, 0, 170, 171]), b"rr"),
             Made(Step::Trace, DONE, b""),
+            // Reads the region; marks; writes the region.
             Made(Step::Put(0, 0, 0), Ok([1, 0, 0, 0]), b"rww"),
-            // Writes the directory's last page, and its first one; syncs; writes the header; syncs.
-            Made(Step::Close, DONE, b"wwsws"),
+            Made(Step::Walk, Ok([171, 0, 170, 171]), b""),
+            // Syncs; writes the header; syncs.
+            Made(Step::Close, DONE, b"sws"),
         ],
     },
-    // A directory whose one page is full.
+    // An index whose one page is full gets a second level.
     Case {
         sheets: &[
             Sheet::Header(5, 4, 170, false),
             Sheet::Equal(0, 0, 1, 4),
-            Sheet::Part(0, 170, 0),
+            Sheet::Part(1, 0, 170),
         ],
         steps: &[
             Made(Step::Open, DONE, b"rr"),
-            Made(Step::Put(0, 0, 0), Ok([5, 0, 0, 0]), b"rewww"),
+            // Reads the region; adds three pages; marks; writes the new region, then the old one, then the right half of the root,
+            // then the left one, and then the new root.
+            Made(Step::Put(0, 0, 0), Ok([5, 0, 0, 0]), b"reeewwwwww"),
             Made(Step::Count, Ok([5, 171, 0, 0]), b""),
-            // Adds a page for the directory, and then writes as above.
-            Made(Step::Close, DONE, b"ewwsws"),
+            // The left half is cached, as the root was: reads the new root and the right half.
+            Made(Step::Walk, Ok([171, 0, 169, 171]), b"rr"),
+            Made(Step::Close, DONE, b"sws"),
+            // Reads the header and the new root, and then both pages below it.
+            Made(Step::Open, DONE, b"rr"),
+            Made(Step::Walk, Ok([171, 0, 169, 171]), b"rr"),
+            Made(Step::Close, DONE, b""),
+        ],
+    },
+    // An index of two levels loses the one region of its last page, and a level with it.
+    Case {
+        sheets: &TWO_LEVELS,
+        steps: &[
+            Made(Step::Open, DONE, b"rr"),
+            // Three rows are enough. Reads the last page of the index and the region; marks; writes the region.
+            Made(Step::Remove(64, 11), Ok([1, 0, 0, 0]), b"rrww"),
+            // Two rows are enough.
+            Made(Step::Remove(64, 12), Ok([1, 0, 0, 0]), b"w"),
+            // One is few, and there is no next region. Reads the page of the index for the region before, and that region, which
+            // takes the row; writes it, and then the old root, which has one entry now. What that names is the root from then on.
+            Made(Step::Remove(64, 13), Ok([1, 0, 0, 0]), b"rrww"),
+            Made(Step::Count, Ok([11, 4, 0, 0]), b""),
+            Made(Step::Walk, Ok([4, 0, 16, 4]), b""),
+            Made(Step::Close, DONE, b"sws"),
+            Made(Step::Open, DONE, b"rr"),
+            Made(Step::Walk, Ok([4, 0, 16, 4]), b""),
+            Made(Step::Close, DONE, b""),
         ],
     },
 ];
@@ -212,11 +310,11 @@ static SMALL: [Case; 3] = [
         sheets: &FIVE_ROWS,
         steps: &[
             Made(Step::Open, DONE, b"rr"),
-            // Reads the region; adds a page; marks; writes the new region, and then the old one.
-            Made(Step::Put(1, 1, 0), Ok([6, 0, 0, 0]), b"rewww"),
-            Made(Step::Put(3, 3, 0), Ok([7, 0, 0, 0]), b"reww"),
+            // Reads the region; adds a page; marks; writes the new region, then the old one, and then the root.
+            Made(Step::Put(1, 1, 0), Ok([6, 0, 0, 0]), b"rewwww"),
+            Made(Step::Put(3, 3, 0), Ok([7, 0, 0, 0]), b"rewww"),
             Made(Step::Count, Ok([7, 5, 0, 0]), b""),
-            Made(Step::Close, DONE, b"wsws"),
+            Made(Step::Close, DONE, b"sws"),
             Made(Step::Open, DONE, b"rr"),
             Made(Step::Walk, Ok([5, 0, 15, 5]), b""),
             Made(Step::Close, DONE, b""),
@@ -229,12 +327,12 @@ static SMALL: [Case; 3] = [
             Made(Step::Open, DONE, b"rr"),
             // One row is enough. Reads the region; marks; writes the region.
             Made(Step::Remove(13, 2), Ok([1, 0, 0, 0]), b"rww"),
-            // None is few, and there is no next region. Reads the one before, and writes that.
-            Made(Step::Remove(13, 5), Ok([1, 0, 0, 0]), b"rw"),
+            // None is few, and there is no next region. Reads the one before, writes that, and then the root.
+            Made(Step::Remove(13, 5), Ok([1, 0, 0, 0]), b"rww"),
             Made(Step::Remove(13, 2), DONE, b""),
             Made(Step::Count, Ok([3, 2, 0, 0]), b""),
             Made(Step::Span(LAST), Ok([10, LAST, 3, 3]), b""),
-            Made(Step::Close, DONE, b"wsws"),
+            Made(Step::Close, DONE, b"sws"),
             Made(Step::Open, DONE, b"rr"),
             Made(Step::Walk, Ok([2, 0, 10, 2]), b""),
             Made(Step::Close, DONE, b""),
@@ -248,7 +346,7 @@ static SMALL: [Case; 3] = [
             Made(Step::Span(0), Ok([0, 9, 1, 4]), b"r"),
             Made(Step::Span(LAST), Ok([13, LAST, 2, 5]), b"r"),
             Made(Step::Remove(3, 1), Ok([1, 0, 0, 0]), b"ww"),
-            Made(Step::Close, DONE, b"wsws"),
+            Made(Step::Close, DONE, b"sws"),
         ],
     },
 ];

@@ -1,5 +1,5 @@
 // Tables that are made, changed and closed, and stores that fail at one of the calls.
-use crate::samples::FIVE_ROWS;
+use crate::samples::{FIVE_ROWS, NO_ROWS};
 use crate::trial::{Answer, DEVICE, DONE, NO_PAGE, NO_STEPS, NOTHING, Step, UNCLEAN, goes};
 use ub_table::PageFault;
 use ub_tree::TreeFault;
@@ -67,10 +67,13 @@ fn takes_rows_out(rt: HostRuntime) {
 static CLOSED_EMPTY: [(Step, Answer); 3] = [
     (Step::Create(0), DONE),
     (Step::Close, DONE),
-    (Step::HoldsNoRows, Ok([3, 0, 0, 0])),
+    (Step::Holds(&NO_ROWS), Ok([3, 0, 0, 0])),
 ];
 
-static CLOSED: [(Step, Answer); 2] = [(Step::Close, DONE), (Step::HoldsFiveRows, Ok([5, 0, 0, 0]))];
+static CLOSED: [(Step, Answer); 2] = [
+    (Step::Close, DONE),
+    (Step::Holds(&FIVE_ROWS), Ok([5, 0, 0, 0])),
+];
 
 #[test]
 fn closes_tables(rt: HostRuntime) {
@@ -78,8 +81,9 @@ fn closes_tables(rt: HostRuntime) {
     goes(&rt, rt.alloc(), &PUT_ROWS, &CLOSED);
 }
 
-// Creation takes a page and marks it, takes two more, and writes the region. So the sixth call is the first of the closing.
-static FAILING: [(Step, Answer); 13] = [
+// Creation takes a page and marks it, takes two more, and writes the region and the root of the index. So the seventh call is the
+// first of the closing.
+static FAILING: [(Step, Answer); 15] = [
     (Step::Create(1), DEVICE),
     (Step::Open, NO_PAGE),
     (Step::Create(2), DEVICE),
@@ -96,7 +100,9 @@ static FAILING: [(Step, Answer); 13] = [
     (Step::Open, UNCLEAN),
     (Step::Create(5), DEVICE),
     (Step::Open, UNCLEAN),
-    (Step::Create(6), DONE),
+    (Step::Create(6), DEVICE),
+    (Step::Open, UNCLEAN),
+    (Step::Create(7), DONE),
     (Step::Close, DEVICE),
     (Step::Open, UNCLEAN),
 ];
@@ -106,7 +112,7 @@ fn creation_and_closing_fail(rt: HostRuntime) {
     goes(&rt, rt.alloc(), &FAILING, &NO_STEPS);
 }
 
-// Opening reads the header and the directory. The row is put into the second region, whose page is read, and for which the
+// Opening reads the header and the root of the index. The row is put into the second region, whose page is read, and for which the
 // header is marked before the page is written. So the sixth call is the first of the closing.
 static CHANGED: [(Step, Answer); 5] = [
     (Step::Store(6, &FIVE_ROWS), DONE),
@@ -116,14 +122,15 @@ static CHANGED: [(Step, Answer); 5] = [
     (Step::Open, UNCLEAN),
 ];
 
-// The row is put into the third region, which is full: its page is read and a page is added; the header is marked, and both
-// halves are written. So closing begins with the eighth call: it writes the directory of now four regions, syncs, writes the
-// header, and syncs.
-static CLOSINGS: [(Step, Answer); 35] = [
+// The row is put into the third region, which is full: its page is read and a page is added; the header is marked, both halves are
+// written, and then the root, which has four entries then. So closing begins with the ninth call: it syncs, writes the header, and
+// syncs.
+static CLOSINGS: [(Step, Answer); 37] = [
     (Step::Store(8, &FIVE_ROWS), DONE),
     (Step::Open, DONE),
-    (Step::Put(3, 3, 0), Ok([6, 0, 0, 0])),
-    (Step::Close, DEVICE),
+    (Step::Put(3, 3, 0), DEVICE),
+    (Step::Count, Ok([5, 3, 1, 0])),
+    (Step::Close, Err(TreeFault::Failed)),
     (Step::List, Ok([3, 0, 0, 0])),
     (Step::Open, UNCLEAN),
     (Step::Count, NOTHING),
@@ -148,6 +155,7 @@ static CLOSINGS: [(Step, Answer); 35] = [
     (Step::List, Ok([4, 0, 0, 0])),
     (Step::Open, DONE),
     (Step::Count, Ok([6, 4, 0, 0])),
+    (Step::Close, DONE),
     (Step::Store(0, &FIVE_ROWS), DONE),
     (Step::Open, DONE),
     (Step::Put(3, 3, 0), Ok([6, 0, 0, 0])),

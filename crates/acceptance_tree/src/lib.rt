@@ -3,11 +3,15 @@
 #![tactic(auto)]
 
 #[cfg(test)]
+mod by_hand;
+#[cfg(test)]
 mod calls;
 #[cfg(test)]
 mod changes;
 #[cfg(test)]
 mod deletions;
+#[cfg(test)]
+mod levels;
 #[cfg(test)]
 mod openings;
 #[cfg(test)]

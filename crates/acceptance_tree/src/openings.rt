@@ -7,14 +7,37 @@ use ub_tree::TreeFault;
 
 const LAST: u128 = 18_446_744_073_709_551_615;
 
+// The header is refused.
+const BAD_HEADER: Answer = Err(TreeFault::Page {
+    page: 0,
+    fault: PageFault::BadCount,
+});
+
+// The root is refused: it is no page of an index; its count or its level isn't what it should be; an entry isn't; two entries aren't
+// in order; it doesn't begin with the least key.
+const WRONG_KIND: Answer = Err(TreeFault::Page {
+    page: 2,
+    fault: PageFault::WrongKind,
+});
+
 const BAD_COUNT: Answer = Err(TreeFault::Page {
     page: 2,
     fault: PageFault::BadCount,
 });
 
+const BAD_ROW: Answer = Err(TreeFault::Page {
+    page: 2,
+    fault: PageFault::BadRow,
+});
+
 const BAD_ORDER: Answer = Err(TreeFault::Page {
     page: 2,
     fault: PageFault::BadOrder,
+});
+
+const OUT_OF_REGION: Answer = Err(TreeFault::Page {
+    page: 2,
+    fault: PageFault::OutOfRegion,
 });
 
 // The table of five rows.
@@ -38,7 +61,7 @@ static REFUSED_ROWS: [(Step, Answer); 8] = [
             &[
                 Sheet::Header(16_777_216, 0, 1, false),
                 Sheet::Region(0, &[]),
-                Sheet::Part(0, 1, 0),
+                Sheet::Part(1, 0, 1),
             ],
         ),
         DONE,
@@ -59,7 +82,7 @@ static REFUSED_ROWS: [(Step, Answer); 8] = [
                         measures: [0; 4],
                     }],
                 ),
-                Sheet::Part(0, 1, 0),
+                Sheet::Part(1, 0, 1),
             ],
         ),
         DONE,
@@ -75,7 +98,7 @@ static REFUSED_ROWS: [(Step, Answer); 8] = [
     (Step::Count, Ok([1, 1, 0, 0])),
 ];
 
-// Two regions of the directory have one page, which is the first one's.
+// Two entries of the index name one page, which is the first region's.
 static ONE_PAGE: [(Step, Answer); 4] = [
     (
         Step::Store(
@@ -83,16 +106,19 @@ static ONE_PAGE: [(Step, Answer); 4] = [
             &[
                 Sheet::Header(1, 0, 2, false),
                 Sheet::Region(0, &[]),
-                Sheet::Directory(&[
-                    Entry {
-                        first: Key { z: 0, number: 0 },
-                        page: 1,
-                    },
-                    Entry {
-                        first: Key { z: 10, number: 0 },
-                        page: 1,
-                    },
-                ]),
+                Sheet::Index(
+                    1,
+                    &[
+                        Entry {
+                            first: Key { z: 0, number: 0 },
+                            page: 1,
+                        },
+                        Entry {
+                            first: Key { z: 10, number: 0 },
+                            page: 1,
+                        },
+                    ],
+                ),
             ],
         ),
         DONE,
@@ -113,15 +139,16 @@ fn refuses_rows_and_pages_of_regions(rt: HostRuntime) {
     goes(&rt, rt.alloc(), &REFUSED_ROWS, &ONE_PAGE);
 }
 
-// The header is unclean; there is no page; page 0 is no header.
-static REFUSED_HEADERS: [(Step, Answer); 6] = [
+// The header is unclean; there is no page; page 0 is no header; it is one of format 1; the root is page 0; its level is none that
+// there can be.
+static REFUSED_HEADERS: [(Step, Answer); 14] = [
     (
         Step::Store(
             0,
             &[
                 Sheet::Header(1, 0, 1, true),
                 Sheet::Blank,
-                Sheet::Part(0, 1, 0),
+                Sheet::Part(1, 0, 1),
             ],
         ),
         DONE,
@@ -129,7 +156,7 @@ static REFUSED_HEADERS: [(Step, Answer); 6] = [
     (Step::Open, UNCLEAN),
     (Step::Store(0, &[]), DONE),
     (Step::Open, NO_PAGE),
-    (Step::Store(0, &[Sheet::Blank, Sheet::Part(0, 1, 0)]), DONE),
+    (Step::Store(0, &[Sheet::Blank, Sheet::Part(1, 0, 1)]), DONE),
     (
         Step::Open,
         Err(TreeFault::Page {
@@ -137,18 +164,64 @@ static REFUSED_HEADERS: [(Step, Answer); 6] = [
             fault: PageFault::WrongKind,
         }),
     ),
+    (
+        Step::Store(0, &[Sheet::Old, Sheet::Blank, Sheet::Part(1, 0, 1)]),
+        DONE,
+    ),
+    (
+        Step::Open,
+        Err(TreeFault::Page {
+            page: 0,
+            fault: PageFault::OldFormat,
+        }),
+    ),
+    (
+        Step::Store(
+            0,
+            &[
+                Sheet::Rooted(1, 0, 1, 0, 1),
+                Sheet::Blank,
+                Sheet::Part(1, 0, 1),
+            ],
+        ),
+        DONE,
+    ),
+    (Step::Open, BAD_HEADER),
+    (
+        Step::Store(
+            0,
+            &[
+                Sheet::Rooted(1, 0, 1, 2, 0),
+                Sheet::Blank,
+                Sheet::Part(1, 0, 1),
+            ],
+        ),
+        DONE,
+    ),
+    (Step::Open, BAD_HEADER),
+    (
+        Step::Store(
+            0,
+            &[
+                Sheet::Rooted(1, 0, 1, 2, 17),
+                Sheet::Blank,
+                Sheet::Part(1, 0, 1),
+            ],
+        ),
+        DONE,
+    ),
+    (Step::Open, BAD_HEADER),
 ];
 
-// Tables of no rows. A page of directory has 170 regions at most.
-static DIRECTORIES: [(Step, Answer); 30] = [
+// Tables of no rows. Of the index the root alone is read: how many regions there are is the header's to tell.
+static ROOTS: [(Step, Answer); 34] = [
     (
         Step::Store(
             0,
             &[
                 Sheet::Header(1, 0, 1, false),
                 Sheet::Blank,
-                Sheet::Part(0, 1, 0),
-                Sheet::Part(170, 0, 0),
+                Sheet::Part(1, 0, 1),
             ],
         ),
         DONE,
@@ -161,180 +234,420 @@ static DIRECTORIES: [(Step, Answer); 30] = [
             &[
                 Sheet::Header(1, 0, 170, false),
                 Sheet::Blank,
-                Sheet::Part(0, 170, 0),
-                Sheet::Part(170, 0, 0),
+                Sheet::Part(1, 0, 170),
             ],
         ),
         DONE,
     ),
     (Step::Open, DONE),
     (Step::Count, Ok([0, 170, 0, 0])),
+    // A root of level 2. No page below it is read, so that what stands there is told later.
     (
         Step::Store(
             0,
             &[
-                Sheet::Header(1, 0, 171, false),
+                Sheet::Rooted(1, 0, 171, 2, 2),
                 Sheet::Blank,
-                Sheet::Part(0, 170, 3),
-                Sheet::Part(170, 1, 0),
+                Sheet::Index(
+                    2,
+                    &[
+                        Entry {
+                            first: Key { z: 0, number: 0 },
+                            page: 3,
+                        },
+                        Entry {
+                            first: Key { z: 170, number: 0 },
+                            page: 4,
+                        },
+                    ],
+                ),
+                Sheet::Part(1, 0, 170),
+                Sheet::Part(1, 170, 1),
             ],
         ),
         DONE,
     ),
     (Step::Open, DONE),
     (Step::Count, Ok([0, 171, 0, 0])),
-    // It ends early; page 2 names itself; it goes on; page 2 has an entry too few; page 3 has one too many.
     (
         Step::Store(
             0,
             &[
-                Sheet::Header(1, 0, 171, false),
+                Sheet::Rooted(1, 0, 171, 2, 2),
                 Sheet::Blank,
-                Sheet::Part(0, 170, 0),
-                Sheet::Part(170, 1, 0),
+                Sheet::Index(
+                    2,
+                    &[
+                        Entry {
+                            first: Key { z: 0, number: 0 },
+                            page: 3,
+                        },
+                        Entry {
+                            first: Key { z: 170, number: 0 },
+                            page: 4,
+                        },
+                    ],
+                ),
+                Sheet::Part(1, 0, 170),
             ],
         ),
         DONE,
     ),
-    (Step::Open, BAD_COUNT),
-    (Step::Count, NOTHING),
+    (Step::Open, DONE),
+    (Step::Count, Ok([0, 171, 0, 0])),
+    (Step::Seek(169), DONE),
+    (Step::Seek(170), NO_PAGE),
+    // Below the root: page 3 has another level than is due; it begins with another key than the entry that names it; it ends behind
+    // the next entry's key; it is of a region.
     (
         Step::Store(
             0,
             &[
-                Sheet::Header(1, 0, 171, false),
+                Sheet::Rooted(1, 0, 5, 2, 2),
                 Sheet::Blank,
-                Sheet::Part(0, 170, 2),
-                Sheet::Part(170, 1, 0),
+                Sheet::Index(
+                    2,
+                    &[
+                        Entry {
+                            first: Key { z: 0, number: 0 },
+                            page: 3,
+                        },
+                        Entry {
+                            first: Key { z: 9, number: 0 },
+                            page: 4,
+                        },
+                    ],
+                ),
+                Sheet::Part(2, 0, 1),
             ],
         ),
         DONE,
     ),
-    (Step::Open, BAD_COUNT),
-    (Step::Count, NOTHING),
+    (Step::Open, DONE),
+    (Step::Count, Ok([0, 5, 0, 0])),
     (
-        Step::Store(
-            0,
-            &[
-                Sheet::Header(1, 0, 1, false),
-                Sheet::Blank,
-                Sheet::Part(0, 1, 3),
-                Sheet::Part(1, 1, 0),
-            ],
-        ),
-        DONE,
-    ),
-    (Step::Open, BAD_COUNT),
-    (Step::Count, NOTHING),
-    (
-        Step::Store(
-            0,
-            &[
-                Sheet::Header(1, 0, 171, false),
-                Sheet::Blank,
-                Sheet::Part(0, 169, 3),
-                Sheet::Part(169, 2, 0),
-            ],
-        ),
-        DONE,
-    ),
-    (Step::Open, BAD_COUNT),
-    (Step::Count, NOTHING),
-    (
-        Step::Store(
-            0,
-            &[
-                Sheet::Header(1, 0, 171, false),
-                Sheet::Blank,
-                Sheet::Part(0, 170, 3),
-                Sheet::Part(170, 2, 0),
-            ],
-        ),
-        DONE,
-    ),
-    (
-        Step::Open,
+        Step::Seek(0),
         Err(TreeFault::Page {
             page: 3,
             fault: PageFault::BadCount,
         }),
     ),
-    (Step::Count, NOTHING),
-    // Page 3 begins with the last key of page 2; page 2 names itself where another full page is due.
     (
         Step::Store(
             0,
             &[
-                Sheet::Header(1, 0, 171, false),
+                Sheet::Rooted(1, 0, 5, 2, 2),
                 Sheet::Blank,
-                Sheet::Part(0, 170, 3),
-                Sheet::Part(169, 1, 0),
+                Sheet::Index(
+                    2,
+                    &[
+                        Entry {
+                            first: Key { z: 0, number: 0 },
+                            page: 3,
+                        },
+                        Entry {
+                            first: Key { z: 9, number: 0 },
+                            page: 4,
+                        },
+                    ],
+                ),
+                Sheet::Part(1, 1, 1),
             ],
         ),
         DONE,
     ),
+    (Step::Open, DONE),
+    (Step::Count, Ok([0, 5, 0, 0])),
     (
-        Step::Open,
+        Step::Seek(0),
         Err(TreeFault::Page {
             page: 3,
-            fault: PageFault::BadOrder,
+            fault: PageFault::OutOfRegion,
         }),
     ),
-    (Step::Count, NOTHING),
     (
         Step::Store(
             0,
             &[
-                Sheet::Header(1, 0, 510, false),
+                Sheet::Rooted(1, 0, 5, 2, 2),
                 Sheet::Blank,
-                Sheet::Part(0, 170, 2),
-                Sheet::Part(170, 1, 0),
+                Sheet::Index(
+                    2,
+                    &[
+                        Entry {
+                            first: Key { z: 0, number: 0 },
+                            page: 3,
+                        },
+                        Entry {
+                            first: Key { z: 9, number: 0 },
+                            page: 4,
+                        },
+                    ],
+                ),
+                Sheet::Part(1, 0, 10),
             ],
         ),
         DONE,
     ),
-    (Step::Open, BAD_ORDER),
-    (Step::Count, NOTHING),
+    (Step::Open, DONE),
+    (Step::Count, Ok([0, 5, 0, 0])),
+    (
+        Step::Seek(0),
+        Err(TreeFault::Page {
+            page: 3,
+            fault: PageFault::OutOfRegion,
+        }),
+    ),
+    (
+        Step::Store(
+            0,
+            &[
+                Sheet::Rooted(1, 0, 5, 2, 2),
+                Sheet::Blank,
+                Sheet::Index(
+                    2,
+                    &[
+                        Entry {
+                            first: Key { z: 0, number: 0 },
+                            page: 3,
+                        },
+                        Entry {
+                            first: Key { z: 9, number: 0 },
+                            page: 4,
+                        },
+                    ],
+                ),
+                Sheet::Region(0, &[]),
+            ],
+        ),
+        DONE,
+    ),
+    (Step::Open, DONE),
+    (Step::Count, Ok([0, 5, 0, 0])),
+    (
+        Step::Seek(0),
+        Err(TreeFault::Page {
+            page: 3,
+            fault: PageFault::WrongKind,
+        }),
+    ),
+    // The root names itself, as a page below it.
+    (
+        Step::Store(
+            0,
+            &[
+                Sheet::Rooted(1, 0, 5, 2, 2),
+                Sheet::Blank,
+                Sheet::Index(
+                    2,
+                    &[Entry {
+                        first: Key { z: 0, number: 0 },
+                        page: 2,
+                    }],
+                ),
+            ],
+        ),
+        DONE,
+    ),
+    (Step::Open, DONE),
+    (Step::Count, Ok([0, 5, 0, 0])),
+    (Step::Seek(0), BAD_COUNT),
 ];
 
 #[test]
-fn reads_directories(rt: HostRuntime) {
-    goes(&rt, rt.alloc(), &DIRECTORIES, &NO_STEPS);
+fn reads_roots(rt: HostRuntime) {
+    goes(&rt, rt.alloc(), &ROOTS, &NO_STEPS);
 }
 
-// The first key of the directory isn't the least; page 4 isn't there.
-static REFUSED_DIRECTORIES: [(Step, Answer); 4] = [
+// Roots that are refused.
+static REFUSED_ROOTS: [(Step, Answer); 36] = [
+    // It is no page of an index: it is blank, or of a region.
+    (
+        Step::Store(
+            0,
+            &[Sheet::Header(1, 0, 1, false), Sheet::Blank, Sheet::Blank],
+        ),
+        DONE,
+    ),
+    (Step::Open, WRONG_KIND),
+    (Step::Count, NOTHING),
     (
         Step::Store(
             0,
             &[
                 Sheet::Header(1, 0, 1, false),
                 Sheet::Blank,
-                Sheet::Part(1, 1, 0),
+                Sheet::Region(0, &[]),
+            ],
+        ),
+        DONE,
+    ),
+    (Step::Open, WRONG_KIND),
+    (Step::Count, NOTHING),
+    // Its level isn't the one that the header tells, which is lower, or higher; it is none that there can be.
+    (
+        Step::Store(
+            0,
+            &[
+                Sheet::Header(1, 0, 1, false),
                 Sheet::Blank,
+                Sheet::Part(2, 0, 1),
+            ],
+        ),
+        DONE,
+    ),
+    (Step::Open, BAD_COUNT),
+    (Step::Count, NOTHING),
+    (
+        Step::Store(
+            0,
+            &[
+                Sheet::Rooted(1, 0, 1, 2, 2),
+                Sheet::Blank,
+                Sheet::Part(1, 0, 1),
+            ],
+        ),
+        DONE,
+    ),
+    (Step::Open, BAD_COUNT),
+    (Step::Count, NOTHING),
+    (
+        Step::Store(
+            0,
+            &[
+                Sheet::Header(1, 0, 1, false),
+                Sheet::Blank,
+                Sheet::Part(0, 0, 1),
+            ],
+        ),
+        DONE,
+    ),
+    (Step::Open, BAD_COUNT),
+    (Step::Count, NOTHING),
+    (
+        Step::Store(
+            0,
+            &[
+                Sheet::Rooted(1, 0, 1, 2, 16),
+                Sheet::Blank,
+                Sheet::Part(17, 0, 1),
+            ],
+        ),
+        DONE,
+    ),
+    (Step::Open, BAD_COUNT),
+    (Step::Count, NOTHING),
+    // It has no entry.
+    (
+        Step::Store(
+            0,
+            &[
+                Sheet::Header(1, 0, 1, false),
+                Sheet::Blank,
+                Sheet::Part(1, 0, 0),
+            ],
+        ),
+        DONE,
+    ),
+    (Step::Open, BAD_COUNT),
+    (Step::Count, NOTHING),
+    // An entry names page 0; two entries begin with one key.
+    (
+        Step::Store(
+            0,
+            &[
+                Sheet::Header(1, 0, 1, false),
+                Sheet::Blank,
+                Sheet::Index(
+                    1,
+                    &[Entry {
+                        first: Key { z: 0, number: 0 },
+                        page: 0,
+                    }],
+                ),
+            ],
+        ),
+        DONE,
+    ),
+    (Step::Open, BAD_ROW),
+    (Step::Count, NOTHING),
+    (
+        Step::Store(
+            0,
+            &[
+                Sheet::Header(1, 0, 2, false),
+                Sheet::Blank,
+                Sheet::Index(
+                    1,
+                    &[
+                        Entry {
+                            first: Key { z: 0, number: 0 },
+                            page: 1,
+                        },
+                        Entry {
+                            first: Key { z: 0, number: 0 },
+                            page: 1,
+                        },
+                    ],
+                ),
             ],
         ),
         DONE,
     ),
     (Step::Open, BAD_ORDER),
+    (Step::Count, NOTHING),
+    // It doesn't begin with the least key of all.
     (
         Step::Store(
             0,
             &[
-                Sheet::Header(1, 0, 171, false),
+                Sheet::Header(1, 0, 1, false),
                 Sheet::Blank,
-                Sheet::Part(0, 170, 4),
+                Sheet::Part(1, 1, 1),
+            ],
+        ),
+        DONE,
+    ),
+    (Step::Open, OUT_OF_REGION),
+    (Step::Count, NOTHING),
+    (
+        Step::Store(
+            0,
+            &[
+                Sheet::Header(1, 0, 1, false),
                 Sheet::Blank,
+                Sheet::Index(
+                    1,
+                    &[Entry {
+                        first: Key { z: 0, number: 1 },
+                        page: 1,
+                    }],
+                ),
+            ],
+        ),
+        DONE,
+    ),
+    (Step::Open, OUT_OF_REGION),
+    (Step::Count, NOTHING),
+    // There is no such page.
+    (
+        Step::Store(
+            0,
+            &[
+                Sheet::Rooted(1, 0, 1, 3, 1),
+                Sheet::Blank,
+                Sheet::Part(1, 0, 1),
             ],
         ),
         DONE,
     ),
     (Step::Open, NO_PAGE),
+    (Step::Count, NOTHING),
 ];
 
 #[test]
-fn refuses_headers_and_pages_of_directories(rt: HostRuntime) {
-    goes(&rt, rt.alloc(), &REFUSED_HEADERS, &REFUSED_DIRECTORIES);
+fn refuses_headers_and_roots(rt: HostRuntime) {
+    goes(&rt, rt.alloc(), &REFUSED_HEADERS, &REFUSED_ROOTS);
 }
 
 #[test]

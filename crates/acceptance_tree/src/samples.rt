@@ -7,19 +7,25 @@ use ub_table::{Key, Name, PageFault, Row, Schema};
 // A store in memory that fails at one call, or at none.
 pub(crate) type Store = FaultyStore<MemStore>;
 
-// A page of a table whose directory begins on page 2.
+// A page of a table.
 #[derive(Clone, Copy)]
 pub(crate) enum Sheet {
-    // A header: the number that is next, how many rows and regions there are, and whether it is unclean.
+    // A header: the number that is next, how many rows and regions there are, and whether it is unclean. The root of the index is on
+    // page 2, and has level 1.
     Header(u32, u32, u32, bool),
+    // A clean header: the number that is next, how many rows and regions there are, the page of the root, and its level.
+    Rooted(u32, u32, u32, u32, u32),
+    // The clean header of format 1 of a table of no rows.
+    Old,
     // A region from an address on, of these rows, two at most.
     Region(u128, &'static [Row]),
     // A region from an address on, of rows at the point (0, y): this y, the number of the first, and how many, four at most.
     Equal(u128, u32, u32, usize),
-    // A directory of these regions, and no page after it.
-    Directory(&'static [Entry]),
-    // A directory of so many regions that begin with the addresses from one on, 170 at most, and the next page of it.
-    Part(u128, usize, u32),
+    // A page of the index, of this level, with these entries.
+    Index(u32, &'static [Entry]),
+    // A page of the index, of this level, with so many entries, 170 at most, which begin with the addresses from one on and all
+    // name page 1.
+    Part(u32, u128, usize),
     // Zeros.
     Blank,
 }
@@ -28,10 +34,13 @@ pub(crate) enum Sheet {
 pub(crate) const NO_ROWS: [Sheet; 3] = [
     Sheet::Header(1, 0, 1, false),
     Sheet::Region(0, &[]),
-    Sheet::Directory(&[Entry {
-        first: Key { z: 0, number: 0 },
-        page: 1,
-    }]),
+    Sheet::Index(
+        1,
+        &[Entry {
+            first: Key { z: 0, number: 0 },
+            page: 1,
+        }],
+    ),
 ];
 
 // The closed table of the rows (1,1), (2,3), (3,0), (0,2) and (2,3), whose addresses are 3, 13, 10, 4 and 13, and whose measures
@@ -55,20 +64,23 @@ pub(crate) const FIVE_ROWS: [Sheet; 5] = [
             },
         ],
     ),
-    Sheet::Directory(&[
-        Entry {
-            first: Key { z: 0, number: 0 },
-            page: 1,
-        },
-        Entry {
-            first: Key { z: 10, number: 0 },
-            page: 4,
-        },
-        Entry {
-            first: Key { z: 13, number: 0 },
-            page: 3,
-        },
-    ]),
+    Sheet::Index(
+        1,
+        &[
+            Entry {
+                first: Key { z: 0, number: 0 },
+                page: 1,
+            },
+            Entry {
+                first: Key { z: 10, number: 0 },
+                page: 4,
+            },
+            Entry {
+                first: Key { z: 13, number: 0 },
+                page: 3,
+            },
+        ],
+    ),
     Sheet::Region(
         13,
         &[
@@ -108,10 +120,9 @@ pub(crate) fn plane_of(page_rows: u32) -> Result<Schema, PageFault> {
 // The numbers of a header of the plane that are the same in each, and its names t, x, y and m: each with its offset and its width.
 static PLANE: &[(usize, u32, u128)] = &[
     (0, 4, 0x5542_5452),
-    (4, 1, 1),
+    (4, 1, 2),
     (6, 1, 2),
     (7, 1, 1),
-    (24, 4, 2),
     (32, 2, 0x0174),
     (65, 2, 0x0178),
     (98, 2, 0x0179),
@@ -121,15 +132,27 @@ static PLANE: &[(usize, u32, u128)] = &[
 // The bytes of a page: by hand, since a writer writes no page that its reader refuses.
 pub(crate) fn page_of(schema: &Schema, sheet: &Sheet) -> Page {
     let mut page = [0; 4096];
+    let page_rows = schema.page_rows();
     match sheet {
         Sheet::Header(next, rows, regions, unclean) => {
-            let counts = [*next, *rows, *regions];
-            spell_header(&mut page, schema.page_rows(), counts, *unclean);
+            spell_header(&mut page, page_rows, [*next, *rows, *regions, 2, 1]);
+            poke(&mut page, 5, 1, u128::from(*unclean));
+        }
+        Sheet::Rooted(next, rows, regions, root, levels) => {
+            spell_header(
+                &mut page,
+                page_rows,
+                [*next, *rows, *regions, *root, *levels],
+            );
+        }
+        Sheet::Old => {
+            spell_header(&mut page, page_rows, [1, 0, 1, 2, 1]);
+            poke(&mut page, 4, 1, 1);
         }
         Sheet::Region(z, rows) => spell_region(&mut page, *z, rows),
         Sheet::Equal(z, y, number, count) => spell_equal(&mut page, *z, *y, *number, *count),
-        Sheet::Directory(entries) => spell_directory(&mut page, entries, 0),
-        Sheet::Part(from, count, next) => spell_part(&mut page, *from, *count, *next),
+        Sheet::Index(level, entries) => spell_index(&mut page, *level, entries),
+        Sheet::Part(level, from, count) => spell_part(&mut page, *level, *from, *count),
         Sheet::Blank => {}
     }
     page
@@ -147,18 +170,16 @@ fn poke(page: &mut [u8], at: usize, width: u32, number: u128) {
     }
 }
 
-// Spells a header of the plane with so many rows on a page: the number that is next, how many rows there are, and how many regions.
-fn spell_header(page: &mut [u8], page_rows: u32, counts: [u32; 3], unclean: bool) {
-    let levels = counts[2].saturating_add(169) / 170;
+// Spells a clean header of the plane with so many rows on a page: the number that is next, how many rows there are, how many
+// regions, and the root of the index and its level.
+fn spell_header(page: &mut [u8], page_rows: u32, numbers: [u32; 5]) {
     for (at, width, number) in PLANE {
         poke(page, *at, *width, *number);
     }
-    poke(page, 5, 1, u128::from(unclean));
     poke(page, 8, 1, u128::from(page_rows));
-    for i in 0..3usize {
-        poke(page, 12 + 4 * i, 4, u128::from(counts[i]));
+    for i in 0..5usize {
+        poke(page, 12 + 4 * i, 4, u128::from(numbers[i]));
     }
-    poke(page, 28, 4, u128::from(levels));
 }
 
 // Spells a region of the plane from an address on, of these rows.
@@ -192,11 +213,12 @@ fn spell_equal(page: &mut [u8], z: u128, y: u32, from: u32, count: usize) {
     spell_region(page, z, &rows[..count.min(4)]);
 }
 
-// Spells a page of the directory, of these regions, and the next page of it.
-fn spell_directory(page: &mut [u8], entries: &[Entry], next: u32) {
+// Spells a page of the index, of this level, with these entries.
+fn spell_index(page: &mut [u8], level: u32, entries: &[Entry]) {
     let count = entries.len().min(170);
-    poke(page, 0, 4, 0x4400_0000 + count as u128);
-    poke(page, 4, 4, u128::from(next));
+    poke(page, 0, 1, 0x49);
+    poke(page, 1, 1, u128::from(level));
+    poke(page, 2, 2, count as u128);
     for i in 0..count {
         let entry = &entries[i];
         poke(page, 16 + 24 * i, 16, entry.first.z);
@@ -205,8 +227,8 @@ fn spell_directory(page: &mut [u8], entries: &[Entry], next: u32) {
     }
 }
 
-// The same of so many regions that begin with the addresses from one on, all on page 1.
-fn spell_part(page: &mut [u8], from: u128, count: usize, next: u32) {
+// The same with so many entries that begin with the addresses from one on and name page 1.
+fn spell_part(page: &mut [u8], level: u32, from: u128, count: usize) {
     let first = Key { z: from, number: 0 };
     let mut entries = [Entry { first, page: 1 }; 170];
     let mut z = from;
@@ -214,7 +236,7 @@ fn spell_part(page: &mut [u8], from: u128, count: usize, next: u32) {
         entry.first.z = z;
         z = z.wrapping_add(1);
     }
-    spell_directory(page, &entries[..count.min(170)], next);
+    spell_index(page, level, &entries[..count.min(170)]);
 }
 
 // A store of these pages, that fails at its k-th call.

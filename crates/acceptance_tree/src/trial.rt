@@ -1,10 +1,10 @@
 // Steps on a tree and on its store, as data.
 use crate::deletions::deleted;
-use crate::samples::{FIVE_ROWS, NO_ROWS, Sheet, Store, page_of, plane, stored};
+use crate::samples::{Sheet, Store, page_of, plane, stored};
 use std::alloc::Global;
 use std::process::Abort;
 use ub_bigmin::ZBox;
-use ub_page::{RegionPage, read_directory};
+use ub_page::RegionPage;
 use ub_store::{FaultyStore, MemStore, PageStore, Rejected, StoreFault};
 use ub_table::{Key, PageFault, Schema};
 use ub_tree::{Region, Tree, TreeFault};
@@ -45,14 +45,12 @@ pub(crate) enum Step {
     // How many pages the trace notes, and the last of them, or 0.
     Trace,
     Begin,
-    // How many regions page 2 of the store lists.
+    // How many entries page 2 of the store has, which is of the index.
     List,
     // How many pages the store has.
     Pages,
-    // How many pages of the closed table of no rows the store has, from the first on.
-    HoldsNoRows,
-    // The same of the closed table of five rows.
-    HoldsFiveRows,
+    // How many of these pages the store has, from the first on.
+    Holds(&'static [Sheet]),
 }
 
 // What a step answers: numbers, and zeros behind them.
@@ -145,11 +143,10 @@ impl Trial {
                 Some(tree) => deleted(self.alloc, tree, *x),
                 None => NOTHING,
             },
-            Step::List | Step::Pages | Step::HoldsNoRows | Step::HoldsFiveRows =>
-                match &mut self.store {
-                    Some(store) => look(&self.schema, store, step),
-                    None => NOTHING,
-                },
+            Step::List | Step::Pages | Step::Holds(_) => match &mut self.store {
+                Some(store) => look(&self.schema, store, step),
+                None => NOTHING,
+            },
             _ => match &mut self.tree {
                 Some(tree) => ask(tree, step),
                 None => NOTHING,
@@ -210,20 +207,17 @@ impl Trial {
 // What a step on a store answers.
 fn look(schema: &Schema, store: &mut Store, step: &Step) -> Answer {
     match step {
-        Step::List => list(schema, store),
-        Step::HoldsNoRows => have(schema, store, &NO_ROWS),
-        Step::HoldsFiveRows => have(schema, store, &FIVE_ROWS),
+        Step::List => list(store),
+        Step::Holds(sheets) => have(schema, store, sheets),
         _ => Ok([u128::from(store.pages()), 0, 0, 0]),
     }
 }
 
-// How many regions page 2 lists.
-fn list(schema: &Schema, store: &mut Store) -> Answer {
+// How many entries page 2 has.
+fn list(store: &mut Store) -> Answer {
     let page = store.read_page(2)?;
-    match read_directory(schema, &page) {
-        Ok(directory) => Ok([directory.entries().len() as u128, 0, 0, 0]),
-        Err(fault) => Err(TreeFault::Page { page: 2, fault }),
-    }
+    let count = u128::from(page[2]) * 256 + u128::from(page[3]);
+    Ok([count, 0, 0, 0])
 }
 
 // How many of these pages a store has.

@@ -21,30 +21,30 @@
 // `bench boxes N` makes the boxes of a condition of 64 comparisons and 4096 cells N times, and prints how many they were.
 //
 // `bench index N CALLS` puts such rows in, and prints the nanoseconds of a search at an address, and of the next region that meets a box of
-// a tenth of the space after one that does, in the directory and in an index of several levels of the same regions, the pages of which are
-// all held; and the checksums of so many answers, 100,000 where none is given.
+// a tenth of the space after one that does, in the table's index, the pages of which are all held; and the checksums of so many answers,
+// 100,000 where none is given.
 #![tactic(auto)]
 
 mod addresses;
 mod asking;
-mod beside;
 mod conditions;
 mod events;
 mod fill;
 mod generator;
 mod held;
 mod pages;
+mod searches;
 mod table;
 mod telling;
 mod timing;
 
 use addresses::{interleaved, spread_out};
-use beside::tell_beside;
 use conditions::boxes_of_many_cells;
 use events::events;
 use fill::{Filling, Order};
 use generator::Generator;
 use pages::read_and_filter;
+use searches::tell_searches;
 use std::{env, io};
 use telling::{COUNTING, CUBES, ORDERS, tell};
 use ub_bigmin::ZBox;
@@ -184,7 +184,7 @@ fn run(rt: &HostRuntime, words: &[Option<String>; 4]) -> io::Result<()> {
         "orders" => tell(rt, filling(Order::Made, rows, 3), &ORDERS),
         "index" => {
             let calls = third.unwrap_or(100_000).min(u64::from(u32::MAX)) as u32;
-            tell_beside(rt, filling(Order::Made, rows, 3), calls)
+            tell_searches(rt, filling(Order::Made, rows, 3), calls)
         },
         "boxes" => tell_boxes(rt, second.unwrap_or(1)),
         "pages" => tell_pages(rt, second.unwrap_or(2), third.unwrap_or(1)),

@@ -20,8 +20,8 @@ pub struct Left {
     pub checksum: u128,
 }
 
-// Reads the region after this one, or the first where there is none, and tells whether it is there.
-fn read_next(
+/// Reads the region after this one, or the first where there is none, and tells whether it is there.
+pub fn read_next(
     tree: &mut Tree<Store>,
     region: &mut Option<Region>,
     page: &mut RegionPage,

@@ -16,6 +16,12 @@ impl Numbers {
         (self.state >> 61) as u32
     }
 
+    /// Any number of 32 bits.
+    pub fn any(&mut self) -> u32 {
+        self.below(1);
+        (self.state >> 32) as u32
+    }
+
     /// A number below the end, or 0 where the end is 0.
     pub fn below(&mut self, end: u64) -> u64 {
         self.state = self

@@ -19,6 +19,21 @@ pub fn address(x: u32, y: u32) -> u128 {
     (y & 1) | ((x & 1) << 1) | ((y & 2) << 1) | ((x & 2) << 2) | ((y & 4) << 2) | ((x & 4) << 3)
 }
 
+/// The address of the point (x, 0), on the line.
+pub fn on_line(x: u32) -> u128 {
+    let mut z = 0u128;
+    let mut place = 2u128;
+    let mut rest = x;
+    for _ in 0..32 {
+        if rest % 2 == 1 {
+            z = z.wrapping_add(place);
+        }
+        place = place.wrapping_mul(4);
+        rest /= 2;
+    }
+    z
+}
+
 /// What a call answers that took a store, without the store that a refusal hands back.
 pub fn accepted<T>(answer: Result<T, Rejected<Store, TreeFault>>) -> Result<T, TreeFault> {
     match answer {

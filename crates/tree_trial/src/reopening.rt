@@ -4,9 +4,9 @@ use crate::trouble::Trouble;
 use std::alloc::Global;
 use ub_tree::{Tree, TreeFault};
 
-// Rows that come in order fill a page each time that one more comes: n rows, two on a page, make n / 2 regions. A page of the
-// directory has 170 regions.
-const TABLES: [(u32, u32); 5] = [(2, 1), (340, 170), (342, 171), (680, 340), (682, 341)];
+// Rows that come in order fill a page each time that one more comes: n rows, two on a page, make n / 2 regions. A page of the index
+// has 170 entries, so that the 171st region makes it two levels; the right one of its two pages has 170 entries at 256 regions.
+const TABLES: [(u32, u32); 5] = [(2, 1), (340, 170), (342, 171), (512, 256), (514, 257)];
 
 // Puts so many rows at points on a line in.
 fn fill(tree: &mut Tree<Store>, rows: u32) -> Result<(), TreeFault> {
@@ -34,7 +34,7 @@ fn is_reopened(alloc: Global, rows: u32, regions: u32) -> Result<bool, TreeFault
     is_whole(&mut opened, rows, regions)
 }
 
-/// How many tables were closed and opened again, with one page of directory or more.
+/// How many tables were closed and opened again, with an index of one page or more.
 pub fn reopened_tables(alloc: Global) -> Result<u32, Trouble> {
     let mut tables = 0u32;
     for (rows, regions) in TABLES {

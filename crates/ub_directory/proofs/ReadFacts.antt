@@ -9,14 +9,13 @@ use Rattle.ub_zaddr.specs.Address.{last_address}
 use Rattle.ub_page.specs.Directory.{Listing, IsListing, directory_page}
 use Rattle.ub_page.specs.Entries.{AreAscending, IsEntry}
 use Rattle.ub_page.specs.declared.entries.Entry.{Entry}
-use Rattle.ub_page.specs.declared.header.Header.{Header}
 use Rattle.ub_region.proofs.Laws.{all_more, all_append}
 use Rattle.ub_store.specs.Facts.{StoreFacts, IsHonest, IsPage, Reads, counted, page_count}
 use Rattle.ub_store.specs.View.{PagerView, SameTrace, Trace}
 use Rattle.ub_store.specs.declared.fault.StoreFault.{StoreFault}
 use Rattle.ub_table.proofs.Laws.{precedes_of}
 use Rattle.ub_table.specs.Keys.{origin, precedes, is_same, are_ascending}
-use Rattle.ub_directory.specs.Reading.{read_store, Spells, AreFull, AreBegun, HasPart, IsReadUpTo, IsReadWhole, IsAskedFor, IsReadFault, IsSamePager, Opens}
+use Rattle.ub_directory.specs.Reading.{HeadingView, read_store, Spells, AreFull, AreBegun, HasPart, IsReadUpTo, IsReadWhole, IsAskedFor, IsReadFault, IsSamePager, Opens}
 use Rattle.ub_directory.specs.Spans.{ArePlaces, first_keys}
 use Rattle.ub_directory.specs.Chain.{IsChain}
 use Rattle.ub_directory.specs.declared.fault.DirectoryFault.{DirectoryFault}
@@ -73,20 +72,17 @@ pager_read old new now is trace =
     ap (λ (s : StoreFacts). record new { store = s }) is ∙ ap (λ (t : Trace). record old { store = now; trace = t; cached = new.cached }) trace
 
 -- the same effect seen from before a call that changed nothing but the pages held
-opens_from : (T : Type 0) (e : DirectoryFault) (a b c : PagerView) → IsSamePager a b → Opens {A = T} b c (Err e) → Opens {A = T} a c (Err e)
-opens_from T e a b c same h = record {
+opens_from : (T : Type 0) (heading : HeadingView) (e : DirectoryFault) (a b c : PagerView) → IsSamePager a b → Opens {A = T} heading b c (Err e) → Opens {A = T} heading a c (Err e)
+opens_from T heading e a b c same h = record {
   same = h.same ∙ ap (λ (v : PagerView). record v { store = read_store {A = T} (Err e) v.store; cached = c.cached }) same;
-  faults = subst (λ (s : StoreFacts). IsReadFault s e) (ap (λ (v : PagerView). v.store) same) h.faults;
+  faults = subst (λ (s : StoreFacts). IsReadFault heading s e) (ap (λ (v : PagerView). v.store) same) h.faults;
 }
 
 -- the same refusal of another call, and one after calls that changed nothing but the pages held
-pub opens_by : {T U : Type 0} (r : Result T DirectoryFault) (e : DirectoryFault) (a b c : PagerView) → IsErrAnd r (λ x. x ≡ e) → IsSamePager a b → Opens {A = U} b c (Err e) → Opens a c r
-opens_by (Ok x) e a b c is same h = absurd is
-opens_by {T = T} (Err f) e a b c is same h = rw is (opens_from T e a b c same (record { same = h.same; faults = h.faults }))
-
--- two calls that changed nothing but the pages held
-pub same_pagers : (a b c : PagerView) → IsSamePager a b → IsSamePager b c → IsSamePager a c
-same_pagers a b c one two = two ∙ ap (λ (v : PagerView). record v { cached = c.cached }) one
+pub opens_by : {T U : Type 0} (heading : HeadingView) (r : Result T DirectoryFault) (e : DirectoryFault) (a b c : PagerView) → IsErrAnd r (λ x. x ≡ e) → IsSamePager a b → Opens {A = U} heading b c (Err e)
+    → Opens heading a c r
+opens_by heading (Ok x) e a b c is same h = absurd is
+opens_by {T = T} heading (Err f) e a b c is same h = rw is (opens_from T heading e a b c same (record { same = h.same; faults = h.faults }))
 
 -- a store that a call read, by the fault of the store and by that of the directory
 read_there : {T : Type 0} (r : Result T DirectoryFault) (U : Type 0) (fault : StoreFault) (old new : StoreFacts) → IsErrAnd r (λ e. e ≡ Store fault)
@@ -97,9 +93,9 @@ read_there (Err e) U store.NoPage old new is same = rw is same
 read_there (Err e) U store.Memory old new is same = rw is same
 read_there (Err e) U store.BadSize old new is same = rw is same
 
-module _ {U : Type 0} (old new : PagerView) (n : ℕ) where
+module _ {U : Type 0} (heading : HeadingView) (old new : PagerView) (n : ℕ) where
   fault_refused : (fault : StoreFault) → (IsErrOf {T = U} (Err fault) store.Device → IsTrue old.store.can_fail) → (IsErrOf {T = U} (Err fault) store.NoPage → page_count old.store ≤ n)
-      → (¬ (IsErrOf {T = U} (Err fault) store.BadSize)) → IsAskedFor old.store n → IsReadFault old.store (Store fault)
+      → (¬ (IsErrOf {T = U} (Err fault) store.BadSize)) → IsAskedFor heading old.store n → IsReadFault heading old.store (Store fault)
   fault_refused store.Device device missing size asked = device refl
   fault_refused store.NoPage device missing size asked = (n, asked, missing refl)
   fault_refused store.Memory device missing size asked = tt
@@ -109,13 +105,13 @@ module _ {U : Type 0} (old new : PagerView) (n : ℕ) where
   pub bring_refused : {T : Type 0} (r : Result T DirectoryFault) (fault : StoreFault) → IsErrAnd r (λ e. e ≡ Store fault)
       → new.store ≡ record old.store { failed_reads = counted {A = U} (Err fault) old.store.failed_reads } → SameTrace old new
       → (IsErrOf {T = U} (Err fault) store.Device → IsTrue old.store.can_fail) → (IsErrOf {T = U} (Err fault) store.NoPage → page_count old.store ≤ n)
-      → (¬ (IsErrOf {T = U} (Err fault) store.BadSize)) → IsAskedFor old.store n → Opens old new r
+      → (¬ (IsErrOf {T = U} (Err fault) store.BadSize)) → IsAskedFor heading old.store n → Opens heading old new r
   bring_refused r fault is same trace device missing size asked = record {
     same = pager_read old new (read_store r old.store) (read_there r U fault old.store new.store is same) trace;
     faults = refused r is;
   }
     where
-      refused : {T : Type 0} (r : Result T DirectoryFault) → IsErrAnd r (λ e. e ≡ Store fault) → IfErr r (IsReadFault old.store)
+      refused : {T : Type 0} (r : Result T DirectoryFault) → IsErrAnd r (λ e. e ≡ Store fault) → IfErr r (IsReadFault heading old.store)
       refused (Ok x) is = tt
       refused (Err e) is = rw is (fault_refused fault device missing size asked)
 
@@ -194,30 +190,27 @@ places_of last (e ∷ entries) some begun each =
     (ap (λ k. Some k) begun.0, All-from_recursion (λ e. e.first.z ≤ last) (e ∷ entries) (all_more (IsEntry last) (λ e. e.first.z ≤ last) (λ e h. h.z) (e ∷ entries) each), begun.1)
 
 -- a page of the directory was read that fits
-module _ (old : StoreFacts) (header : Header) (chain : List ℕ) (entries : List Entry) (n : ℕ) (page : List ℕ) (part : Listing) (h : IsReadUpTo old header chain entries n)
-    (at : IsPage old n page) (range : IsListing header.schema.dims part) (page_is : page ≡ directory_page part) (fits : HasPart (header.regions - length entries) part)
+module _ (old : StoreFacts) (heading : HeadingView) (chain : List ℕ) (entries : List Entry) (n : ℕ) (page : List ℕ) (part : Listing) (h : IsReadUpTo old heading chain entries n)
+    (at : IsPage old n page) (range : IsListing heading.dims part) (page_is : page ≡ directory_page part) (fits : HasPart (heading.regions - length entries) part)
     (begun : AreBegun (entries ++ part.entries)) where
-  spells : IsHonest old → Spells header.schema.dims old.pages n part
+  spells : IsHonest old → Spells heading.dims old.pages n part
   spells is = record { some = h.some_page; range = range; page = at is ∙ ap (λ p. Some p) page_is }
 
-  each_is : AllByRecursion (IsEntry (last_address header.schema.dims)) (entries ++ part.entries)
-  each_is = all_append (IsEntry (last_address header.schema.dims)) entries part.entries h.each range.entries
+  each_is : AllByRecursion (IsEntry (last_address heading.dims)) (entries ++ part.entries)
+  each_is = all_append (IsEntry (last_address heading.dims)) entries part.entries h.each range.entries
 
-  part_full : length entries + 170 < header.regions → IsReadUpTo old header (chain ++ n ∷ []) (entries ++ part.entries) part.next × (length (entries ++ part.entries) ≡ length entries + 170)
+  part_full : length entries + 170 < heading.regions → IsReadUpTo old heading (chain ++ n ∷ []) (entries ++ part.entries) part.next × (length (entries ++ part.entries) ≡ length entries + 170)
   part_full more =
       let long : length part.entries ≡ 170 = omega (arith, fits.0) in
       let all = length-append entries part.entries in (
         record {
-          spelled = h.spelled;
-          in_range = h.in_range;
-          clean = h.clean;
           root_is = first_kept chain n part.next ∙ h.root_is;
           some_page = elim (cases_eq part.next 0) [
             | inl e ↦ let few = fits.1.0 e in absurd (omega arith)
             | inr ne ↦ omega arith
           ];
           small = range.next;
-          full = λ is. full_next header.schema.dims old.pages chain entries n part (h.full is) (spells is) long;
+          full = λ is. full_next heading.dims old.pages chain entries n part (h.full is) (spells is) long;
           each = each_is;
           begun = begun;
           more = omega arith;
@@ -225,32 +218,26 @@ module _ (old : StoreFacts) (header : Header) (chain : List ℕ) (entries : List
         omega arith,
       )
 
-  part_whole : header.regions ≤ length entries + 170 → IsReadWhole old header (chain ++ n ∷ []) (entries ++ part.entries)
+  part_whole : heading.regions ≤ length entries + 170 → IsReadWhole old heading (chain ++ n ∷ []) (entries ++ part.entries)
   part_whole last =
       let more = h.more in
       let some = range.some in
-      let long : length part.entries ≡ header.regions - length entries = omega (arith, fits.0) in
+      let long : length part.entries ≡ heading.regions - length entries = omega (arith, fits.0) in
       let all = length-append entries part.entries in
       let end : part.next ≡ 0 = fits.1.1 (omega arith) in
-      let places = places_of (last_address header.schema.dims) (entries ++ part.entries) (omega arith) begun each_is in
+      let places = places_of (last_address heading.dims) (entries ++ part.entries) (omega arith) begun each_is in
       let pages = length-append chain (n ∷ []) in
       record {
-        each = All-from_recursion (IsEntry (last_address header.schema.dims)) (entries ++ part.entries) each_is;
+        each = All-from_recursion (IsEntry (last_address heading.dims)) (entries ++ part.entries) each_is;
         places = places;
         regions_are = omega arith;
         root_is = h.root_is;
         some_chain = omega arith;
         directory = λ is. (
-            let levels = h.in_range.numbers.levels in
-            let full = full_length header.schema.dims old.pages chain entries n (h.full is) in
             record {
-              spelled = h.spelled is;
-              in_range = h.in_range;
-              clean = h.clean;
               root_is = h.root_is;
-              levels_are = omega arith;
-              some_pages = all_append (λ n. 1 ≤ n) chain (n ∷ []) (full_some header.schema.dims old.pages chain entries n (h.full is)) (h.some_page, tt);
-              directory = chain_whole header.schema.dims old.pages chain entries n part (h.full is) (spells is) end;
+              some_pages = all_append (λ n. 1 ≤ n) chain (n ∷ []) (full_some heading.dims old.pages chain entries n (h.full is)) (h.some_page, tt);
+              directory = chain_whole heading.dims old.pages chain entries n part (h.full is) (spells is) end;
               regions_are = omega arith;
               each = each_is;
               places = places;
@@ -259,11 +246,11 @@ module _ (old : StoreFacts) (header : Header) (chain : List ℕ) (entries : List
       }
 
   module _ (chain_now : List ℕ) (entries_now : List Entry) (next : ℕ) (chain_is : chain_now ≡ chain ++ n ∷ []) (entries_are : entries_now ≡ entries ++ part.entries) where
-    pub part_read : (new : StoreFacts) → new ≡ old → next ≡ part.next → length entries + 170 < header.regions
-        → IsReadUpTo new header chain_now entries_now next × (length entries_now ≡ length entries + 170)
+    pub part_read : (new : StoreFacts) → new ≡ old → next ≡ part.next → length entries + 170 < heading.regions
+        → IsReadUpTo new heading chain_now entries_now next × (length entries_now ≡ length entries + 170)
     part_read new same next_is more =
         let done = part_full more in
-        rw (chain_is, entries_are, next_is) (subst (λ (s : StoreFacts). IsReadUpTo s header (chain ++ n ∷ []) (entries ++ part.entries) part.next) (sym same) done.0, done.1)
+        rw (chain_is, entries_are, next_is) (subst (λ (s : StoreFacts). IsReadUpTo s heading (chain ++ n ∷ []) (entries ++ part.entries) part.next) (sym same) done.0, done.1)
 
-    pub part_read_last : header.regions ≤ length entries + 170 → IsReadWhole old header chain_now entries_now
+    pub part_read_last : heading.regions ≤ length entries + 170 → IsReadWhole old heading chain_now entries_now
     part_read_last last = rw (chain_is, entries_are) (part_whole last)

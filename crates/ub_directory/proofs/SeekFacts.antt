@@ -17,7 +17,7 @@ use Rattle.ub_directory.proofs.IndexFacts.{first_at}
 use Rattle.ub_directory.proofs.SpanFacts.{region_with}
 
 -- what a region's index in the list tells of its entry
-pub region_entry : (last : ℕ) (entries : List Entry) (i : ℕ) (r : Region) → slice_get (regions_of last entries) i ≡ Some r
+region_entry : (last : ℕ) (entries : List Entry) (i : ℕ) (r : Region) → slice_get (regions_of last entries) i ≡ Some r
     → (entry : Entry) × (slice_get entries i ≡ Some entry) × (entry.first ≡ r.first) × (r.from ≡ r.first.z)
 region_entry last [] i r at = cc
 region_entry last (e ∷ entries) zero r at =
@@ -33,14 +33,6 @@ region_first last (e ∷ entries) zero r at =
     let same : whole ≡ r = cc in
     ap (λ (q : Region). Some q.first) same
 region_first last (e ∷ entries) (suc i) r at = region_first last entries i r at
-
--- the regions that begin after a key, of which the entries are known
-pub later_by_key : (last : ℕ) (entries : List Entry) (key : Key) (start : ℕ)
-    → ((i : ℕ) (entry : Entry) → slice_get entries i ≡ Some entry → IsBefore key entry.first ↔ (start ≤ i))
-    → (i : ℕ) (r : Region) → slice_get (regions_of last entries) i ≡ Some r → IsBefore key r.first ↔ (start ≤ i)
-later_by_key last entries key start h i r at =
-    let there = region_entry last entries i r at in
-    subst (λ (k : Key). IsBefore key k ↔ (start ≤ i)) there.2 (h i there.0 there.1)
 
 ends_from : (z : ℕ) (first next : Key) → precedes first next ≡ true → (z ≤ address_before next.z next.number) ↔ (precedes (record { z = z; number = 0 }) next ≡ true)
 ends_from z first next up = by_number next.z next.number (before_of first next up)
@@ -87,7 +79,7 @@ index_zero key first [] up t = refl
 index_zero key first (next ∷ firsts) up t = rw (precedes_trans key first next t (and_parts _ _ up).0) refl
 
 -- a span ends at an address or later exactly from the region on that holds the least key of the address
-pub reaches : (last z : ℕ) (entries : List Entry) → are_ascending (first_keys entries) ≡ true → z ≤ last → (i : ℕ) (r : Region) → slice_get (regions_of last entries) i ≡ Some r
+reaches : (last z : ℕ) (entries : List Entry) → are_ascending (first_keys entries) ≡ true → z ≤ last → (i : ℕ) (r : Region) → slice_get (regions_of last entries) i ≡ Some r
     → (z ≤ r.to) ↔ (index_holding (record { z = z; number = 0 }) (first_keys entries) ≤ i)
 reaches last z [] up le i r at = cc
 reaches last z (e ∷ []) up le zero r at =
@@ -119,7 +111,7 @@ reaches last z (e ∷ next ∷ entries) up le (suc i) r at =
     ]
 
 -- the region that holds the least key of an address begins at that address or before
-pub begins_by : (z : ℕ) (first : Key) (firsts : List Key) (i : ℕ) (found : Key) → first.z ≤ z → index_holding (record { z = z; number = 0 }) (first ∷ firsts) ≡ i
+begins_by : (z : ℕ) (first : Key) (firsts : List Key) (i : ℕ) (found : Key) → first.z ≤ z → index_holding (record { z = z; number = 0 }) (first ∷ firsts) ≡ i
     → slice_get (first ∷ firsts) i ≡ Some found → found.z ≤ z
 begins_by z first [] zero found le is at = let same : first ≡ found = cc in let e = ap (λ (k : Key). k.z) same in omega arith
 begins_by z first [] (suc i) found le is at = cc
@@ -137,7 +129,7 @@ begins_by z first (next ∷ firsts) (suc i) found le is at = elim (cases_Bool (p
     ]
 
 -- no span ends after the last address
-pub ends_by_last : (last : ℕ) (entries : List Entry) → All (λ entry. entry.first.z ≤ last) entries → (i : ℕ) (r : Region) → slice_get (regions_of last entries) i ≡ Some r → r.to ≤ last
+ends_by_last : (last : ℕ) (entries : List Entry) → All (λ entry. entry.first.z ≤ last) entries → (i : ℕ) (r : Region) → slice_get (regions_of last entries) i ≡ Some r → r.to ≤ last
 ends_by_last last [] within i r at = cc
 ends_by_last last (e ∷ []) within zero r at =
     let whole : Region = region_with last None e in
@@ -166,7 +158,7 @@ module _ (last : ℕ) (entries : List Entry) (up : are_ascending (first_keys ent
   ordered : (i j : ℕ) (a b : Region) → i < j → slice_get (regions_of last entries) i ≡ Some a → slice_get (regions_of last entries) j ≡ Some b → IsBefore a.first b.first
   ordered i j a b lt at_i at_j = before_of a.first b.first (ascending_get (first_keys entries) up i j lt a.first b.first (region_first last entries i a at_i) (region_first last entries j b at_j))
 
-  pub first_of : (P : Region → Type 0) (n : ℕ) → ((i : ℕ) (r : Region) → slice_get (regions_of last entries) i ≡ Some r → P r → n ≤ i)
+  first_of : (P : Region → Type 0) (n : ℕ) → ((i : ℕ) (r : Region) → slice_get (regions_of last entries) i ≡ Some r → P r → n ≤ i)
       → ((r : Region) → slice_get (regions_of last entries) n ≡ Some r → P r) → First P (regions_of last entries) (slice_get (regions_of last entries) n)
   first_of P n least has = by_found (slice_get (regions_of last entries) n) refl
     where
@@ -206,13 +198,6 @@ module _ (last : ℕ) (entries : List Entry) (up : are_ascending (first_keys ent
           (λ i r at p. let a = (later i r at).0 p.0 in let b = (reaches last z entries up le i r at).0 p.1 in omega arith)
           (λ r at. ((later _ r at).1 (omega arith), (reaches last z entries up le _ r at).1 (omega arith))))
     ]
-
-    pub none_meets : (boxes : List Corners) → length entries ≤ start → First (λ r. IsLater after r × Meets boxes r) (regions_of last entries) None
-    none_meets boxes past = none_of (λ r. IsLater after r × Meets boxes r) (λ i r at p.
-        let a = (later i r at).0 p.0 in
-        let there = region_entry last entries i r at in
-        let lt = slice_get_within entries i there.0 there.1 in
-        omega arith)
 
     module _ (boxes : List Corners) (entry : Entry) (at_start : slice_get entries start ≡ Some entry) where
       -- a later region does not begin before the first one that is

@@ -2,6 +2,4 @@ pub mod Spans
 pub mod View
 pub mod Chain
 pub mod Reading
-pub mod Searching
 pub mod Writing
-pub mod Inner

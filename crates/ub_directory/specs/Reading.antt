@@ -1,13 +1,11 @@
--- Reading a directory: which pages tell of one, what is read of them, and why they are refused.
-use Rattle.std.specs.Prelude.{◌≡◌, ◌≤◌, ◌<◌, ◌-◌, ◌^◌, ◌↔◌, ◌⊎◌, ◌++◌, ℕ, min, false, All, IsTrue, List, [], ◌∷◌, Some, length, take, drop, slice_get, slice_index_or, Result, IfErr}
+-- Reading a directory of format 1: which pages are one, what is read of them, and why they are refused.
+use Rattle.std.specs.Prelude.{◌≡◌, ◌≤◌, ◌<◌, ◌-◌, ◌^◌, ◌↔◌, ◌⊎◌, ◌++◌, ℕ, min, All, IsTrue, List, [], ◌∷◌, Some, length, take, drop, slice_get, slice_index_or, Result, IfErr}
 use Rattle.std.specs.List.{AllByRecursion}
 use Rattle.ub_page.specs.declared.entries.TheConstants.{MAX_ENTRIES}
 use Rattle.ub_zaddr.specs.Address.{last_address}
 use Rattle.ub_page.specs.Directory.{Listing, IsListing, directory_page, IsDirectoryFault}
 use Rattle.ub_page.specs.Entries.{IsEntry}
-use Rattle.ub_page.specs.Header.{IsHeader, header_page, IsHeaderFault}
 use Rattle.ub_page.specs.declared.entries.Entry.{Entry}
-use Rattle.ub_page.specs.declared.header.Header.{Header}
 use Rattle.ub_store.specs.Facts.{StoreFacts, IsHonest, page_count}
 use Rattle.ub_store.specs.View.{PagerView}
 use Rattle.ub_table.specs.Keys.{origin, are_ascending}
@@ -22,18 +20,21 @@ use Rattle.ub_store.specs.declared.fault.StoreFault.TheVariants as store
 use Rattle.ub_store.specs.Facts.{raised}
 use Rattle.std.specs.Prelude.{Err}
 
--- the pages tell of a table that can be opened: a clean header, and a directory of the regions that it counts
-pub record IsDirectory (pages : List (List ℕ)) (header : Header) (chain : List ℕ) (entries : List Entry) : Type 0 where
-  pub spelled : slice_get pages 0 ≡ Some (header_page header)
-  pub in_range : IsHeader header
-  pub clean : header.unclean ≡ false
-  pub root_is : slice_get chain 0 ≡ Some header.root
-  pub levels_are : header.levels ≡ length chain
+-- what a header of format 1 tells of its directory: how many dimensions the table has, the page on which the directory begins, and
+-- how many regions it has
+pub record HeadingView : Type 0 where
+  pub dims : ℕ
+  pub root : ℕ
+  pub regions : ℕ
+
+-- the pages hold such a directory, on this chain, of these entries
+pub record IsDirectory (pages : List (List ℕ)) (heading : HeadingView) (chain : List ℕ) (entries : List Entry) : Type 0 where
+  pub root_is : slice_get chain 0 ≡ Some heading.root
   pub some_pages : AllByRecursion (λ n. 1 ≤ n) chain
   pub directory : IsChain pages chain entries
-  pub regions_are : header.regions ≡ length entries
-  pub each : AllByRecursion (IsEntry (last_address header.schema.dims)) entries
-  pub places : ArePlaces (last_address header.schema.dims) entries
+  pub regions_are : heading.regions ≡ length entries
+  pub each : AllByRecursion (IsEntry (last_address heading.dims)) entries
+  pub places : ArePlaces (last_address heading.dims) entries
 
 -- the page of this number, which is not the first, spells this part of a directory
 pub record Spells (dims : ℕ) (pages : List (List ℕ)) (n : ℕ) (listing : Listing) : Type 0 where
@@ -53,18 +54,15 @@ abbrev pub AreBegun : List Entry → Type 0
 AreBegun [] = Unit {0}
 AreBegun (entry ∷ entries) = (entry.first ≡ origin) × IsTrue (are_ascending (first_keys (entry ∷ entries)))
 
--- from the header's root on the directory was read, full pages in order, up to the page of this number, and not all regions were met
-pub record IsReadUpTo (store : StoreFacts) (header : Header) (chain : List ℕ) (entries : List Entry) (n : ℕ) : Type 0 where
-  pub spelled : facts.IsPage store 0 (header_page header)
-  pub in_range : IsHeader header
-  pub clean : header.unclean ≡ false
-  pub root_is : slice_get (chain ++ n ∷ []) 0 ≡ Some header.root
+-- from its first page on the directory was read, full pages in order, up to the page of this number, and not all regions were met
+pub record IsReadUpTo (store : StoreFacts) (heading : HeadingView) (chain : List ℕ) (entries : List Entry) (n : ℕ) : Type 0 where
+  pub root_is : slice_get (chain ++ n ∷ []) 0 ≡ Some heading.root
   pub some_page : 1 ≤ n
   pub small : n < 2 ^ 32
-  pub full : IsHonest store → AreFull header.schema.dims store.pages chain entries n
-  pub each : AllByRecursion (IsEntry (last_address header.schema.dims)) entries
+  pub full : IsHonest store → AreFull heading.dims store.pages chain entries n
+  pub each : AllByRecursion (IsEntry (last_address heading.dims)) entries
   pub begun : AreBegun entries
-  pub more : length entries < header.regions
+  pub more : length entries < heading.regions
 
 -- a page of the directory tells what it must where so many regions are left: 170 of them and the next page, or all and none
 abbrev pub HasPart : ℕ → Listing → Type 0
@@ -77,29 +75,31 @@ IsMisfit left before listing BadOrder = HasPart left listing × (¬ (AreBegun (b
 IsMisfit left before listing _ = ⊥
 
 -- why this page of the directory is refused after these entries: its reader refuses it, or else it doesn't fit
-abbrev pub IsPartFault : Header → List Entry → List ℕ → PageFault → Type 0
-IsPartFault header before page fault =
-    IsDirectoryFault header.schema.dims page fault
-    ⊎ ((listing : Listing) × IsListing header.schema.dims listing × (page ≡ directory_page listing) × IsMisfit (header.regions - length before) before listing fault)
+abbrev pub IsPartFault : HeadingView → List Entry → List ℕ → PageFault → Type 0
+IsPartFault heading before page fault =
+    IsDirectoryFault heading.dims page fault
+    ⊎ ((listing : Listing) × IsListing heading.dims listing × (page ≡ directory_page listing) × IsMisfit (heading.regions - length before) before listing fault)
 
--- the page of this number is asked for: it is the first, or the directory goes on there
-abbrev pub IsAskedFor : StoreFacts → ℕ → Type 0
-IsAskedFor store n = (n ≡ 0) ⊎ ((header : Header) × (chain : List ℕ) × (entries : List Entry) × IsReadUpTo store header chain entries n)
+-- the page of this number is asked for: the directory begins or goes on there
+abbrev pub IsAskedFor : HeadingView → StoreFacts → ℕ → Type 0
+IsAskedFor heading store n = (chain : List ℕ) × (entries : List Entry) × IsReadUpTo store heading chain entries n
 
--- this page is refused: as the header, or where the directory goes on
-abbrev pub IsRefused : StoreFacts → ℕ → List ℕ → PageFault → Type 0
-IsRefused store n page fault =
-    ((n ≡ 0) × IsHeaderFault page fault)
-    ⊎ ((header : Header) × (chain : List ℕ) × (entries : List Entry) × IsReadUpTo store header chain entries n × IsPartFault header entries page fault)
+-- this page is refused where the directory begins or goes on
+abbrev pub IsRefused : HeadingView → StoreFacts → ℕ → List ℕ → PageFault → Type 0
+IsRefused heading store n page fault = (chain : List ℕ) × (entries : List Entry) × IsReadUpTo store heading chain entries n × IsPartFault heading entries page fault
 
 -- why reading is refused: for want of memory; the store failed in this call, which it then can; it has no page of a number that
 -- was asked for; or a page is refused
-abbrev pub IsReadFault : StoreFacts → DirectoryFault → Type 0
-IsReadFault old (Store store.Memory) = Unit {0}
-IsReadFault old (Store store.Device) = IsTrue old.can_fail
-IsReadFault old (Store store.NoPage) = (n : ℕ) × IsAskedFor old n × (page_count old ≤ n)
-IsReadFault old (Store store.BadSize) = ⊥
-IsReadFault old (Page n fault) = (page : List ℕ) × facts.IsPage old n page × IsRefused old n page fault
+abbrev pub IsReadFault : HeadingView → StoreFacts → DirectoryFault → Type 0
+IsReadFault heading old (Store store.Memory) = Unit {0}
+IsReadFault heading old (Store store.Device) = IsTrue old.can_fail
+IsReadFault heading old (Store store.NoPage) = (n : ℕ) × IsAskedFor heading old n × (page_count old ≤ n)
+IsReadFault heading old (Store store.BadSize) = ⊥
+IsReadFault heading old (Page n fault) = (page : List ℕ) × facts.IsPage old n page × IsRefused heading old n page fault
+
+-- why a directory isn't read that is there: for want of memory, or as the store failed
+abbrev pub IsPassing : DirectoryFault → Type 0
+IsPassing fault = (fault ≡ Store store.Memory) ⊎ (fault ≡ Store store.Device)
 
 -- a count of failures after a call with this result: the device's fault raises it by one
 abbrev pub counted : {A : Type 0} → Result A DirectoryFault → ℕ → ℕ
@@ -114,16 +114,16 @@ read_store result old = record old { failed_reads = counted result old.failed_re
 abbrev pub IsSamePager : PagerView → PagerView → Type 0
 IsSamePager old new = new ≡ record old { cached = new.cached }
 
--- a call that only reads a store behind a pager, of which no region is asked for
-pub record Opens {A : Type 0} (old new : PagerView) (result : Result A DirectoryFault) : Type 0 where
+-- a call that only reads a directory behind a pager, of which no region is asked for
+pub record Opens {A : Type 0} (heading : HeadingView) (old new : PagerView) (result : Result A DirectoryFault) : Type 0 where
   pub same : new ≡ record old { store = read_store result old.store; cached = new.cached }
-  pub faults : IfErr result (IsReadFault old.store)
+  pub faults : IfErr result (IsReadFault heading old.store)
 
 -- a directory that was read whole
-pub record IsReadWhole (store : StoreFacts) (header : Header) (chain : List ℕ) (entries : List Entry) : Type 0 where
-  pub each : All (IsEntry (last_address header.schema.dims)) entries
-  pub places : ArePlaces (last_address header.schema.dims) entries
-  pub regions_are : header.regions ≡ length entries
-  pub root_is : slice_get chain 0 ≡ Some header.root
+pub record IsReadWhole (store : StoreFacts) (heading : HeadingView) (chain : List ℕ) (entries : List Entry) : Type 0 where
+  pub each : All (IsEntry (last_address heading.dims)) entries
+  pub places : ArePlaces (last_address heading.dims) entries
+  pub regions_are : heading.regions ≡ length entries
+  pub root_is : slice_get chain 0 ≡ Some heading.root
   pub some_chain : 1 ≤ length chain
-  pub directory : IsHonest store → IsDirectory store.pages header chain entries
+  pub directory : IsHonest store → IsDirectory store.pages heading chain entries

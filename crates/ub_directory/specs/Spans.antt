@@ -1,5 +1,5 @@
 -- Where the regions of a table stand: entries in the order of their first keys; and the span of each.
-use Rattle.std.specs.Prelude.{◌≡◌, ◌+◌, ◌≤◌, ◌<◌, ℕ, suc, List, [], ◌∷◌, map, Option, Some, None, IfSome, All, IsTrue, length, slice_get}
+use Rattle.std.specs.Prelude.{◌≡◌, ◌≤◌, ◌<◌, ℕ, suc, List, [], ◌∷◌, map, Option, Some, IfSome, All, IsTrue, length, slice_get}
 use Rattle.ub_bigmin.specs.Box.{Corners, HoldsAny}
 use Rattle.ub_directory.specs.View.{SeatView}
 use Rattle.ub_directory.specs.declared.region.Region.{Region}
@@ -22,16 +22,6 @@ pub record IsSeat (entries : List Entry) (seat : SeatView) : Type 0 where
   pub within : seat.index < length entries
   pub entry : slice_get entries seat.index ≡ Some (record { first = seat.first; page = seat.page })
   pub next : seat.next ≡ slice_get (first_keys entries) (suc seat.index)
-
--- the seat of the entry after that of a seat, or none where it has the last one
-abbrev pub IsSeatAfter : List Entry → SeatView → Option SeatView → Type 0
-IsSeatAfter entries seat None = length entries ≡ seat.index + 1
-IsSeatAfter entries seat (Some next) = IsSeat entries next × (next.index ≡ seat.index + 1)
-
--- the seat of the entry before that of a seat, or none where it has the first one
-abbrev pub IsSeatBefore : List Entry → SeatView → Option SeatView → Type 0
-IsSeatBefore entries seat None = seat.index ≡ 0
-IsSeatBefore entries seat (Some before) = IsSeat entries before × (seat.index ≡ before.index + 1)
 
 -- the regions of these entries, each with its span, in a space that ends with this address
 abbrev pub regions_of : ℕ → List Entry → List Region

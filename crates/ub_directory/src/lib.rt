@@ -1,29 +1,18 @@
-// The directory of a UB-tree (Bayer 1997): where each of a table's regions begins and on which page
-// it stands. `directory` is its one face: a search gives a region's `seat`, and an entry is added
-// or dropped in two halves, with what is `pending` between them. In memory it is a list of entries
-// in the order of their first keys (`places`), in which the region that holds a key, and the next
-// one that meets some boxes, are found by halving. In a store it is a chain of pages, which
-// `reading` reads and `writing` writes. The definitions stand in specs/: `View` (what contracts see
-// of a directory), `Spans` (entries and spans), `Chain` (its pages), `Reading` and `Writing`.
+// What stands of the directory of a UB-tree (Bayer 1997) since an index has its place: what a region's entry and its span are,
+// and what growing a store, and putting pages into it, leaves of it; crates above speak of regions and stores in these words. And
+// the one room that reads a directory of format 1, for an upgrade of old files: a chain of pages, each of which tells of up to
+// 170 regions and names the next one (`reading`). The definitions stand in specs/: `Spans` and `View` (entries, seats, spans),
+// `Writing` (stores), `Chain` and `Reading` (the old pages, and what is read of them).
 //
-// What belongs here is where a region's page is. What stands on that page, and when a table is opened, changed and closed, stands
-// above; how pages are spelled, and stores kept, below.
+// What belongs here is what a region is to those that look for it, and the old pages. How regions are found stands above, in
+// `ub_index`; how pages are spelled, and stores kept, below.
 
 #![tactic(auto)]
 
-pub mod directory;
 pub mod fault;
-pub mod pending;
-mod places;
-mod reading;
+pub mod reading;
 pub mod region;
-pub mod seat;
-mod writing;
 
-pub use directory::Directory;
 pub use fault::DirectoryFault;
-pub use pending::{Adding, Dropping};
-pub use places::ORIGIN;
-pub use region::Region;
-pub use seat::Seat;
-pub use writing::levels_of;
+pub use reading::{OldDirectory, read_chain};
+pub use region::{ORIGIN, Region};

@@ -1,5 +1,8 @@
 use ub_table::Key;
 
+/// Where the first region of all begins.
+pub const ORIGIN: Key = Key { z: 0, number: 0 };
+
 /// A region: its place in the order of addresses, the span of addresses that its rows can have, and its page.
 #[derive(Clone, Copy, PartialEq, Eq, Debug)]
 pub struct Region {

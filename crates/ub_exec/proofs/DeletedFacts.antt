@@ -1,5 +1,5 @@
 -- What a deletion leaves, put together of reading and of taking out.
-use Rattle.std.proofs.Common.{◌≡◌, ◌∙◌, inl, inr, ℕ, Bool, true, false, IsTrue, List, Result, Ok, Err, length, take, refl, sym, ap, subst}
+use Rattle.std.proofs.Common.{◌≡◌, ◌⊎◌, ◌∙◌, inl, inr, ℕ, Bool, true, false, IsTrue, List, Result, Ok, Err, length, take, refl, sym, ap, subst}
 use Rattle.std.proofs.lemmas.Bool.{true≢false}
 use Rattle.std.specs.List.{AllByRecursion}
 use Rattle.std.specs.List.Sorted.{IsNonDecreasingBy}
@@ -9,12 +9,13 @@ use Rattle.ub_exec.proofs.NotedFacts.{on_ok}
 use Rattle.ub_exec.proofs.StandFacts.{first_out, none_taken, read_stand, rows_out, selected_rise, selected_there, stand_by}
 use Rattle.ub_exec.proofs.TakenFacts.{stopped_at, taken_lost, taken_none}
 use Rattle.ub_exec.specs.Answers.{begun}
-use Rattle.ub_exec.specs.Deleting.{Deletes, HasMetDevice, IsDeletionFault, IsDeletionOf, ReadsFirst, StopsAt, TakesOut, TakesOutBy, answer_of}
+use Rattle.ub_exec.specs.Deleting.{Deletes, HasLostPage, HasMetDevice, IsDeletionFault, IsDeletionOf, ReadsFirst, StopsAt, TakesOut, TakesOutBy, answer_of}
 use Rattle.ub_exec.specs.Reading.{HasReadAll, IsRead, NotesPages}
 use Rattle.ub_exec.specs.Stand.{Stand, IsStandOf, selected_of, without_rows, without_selected}
 use Rattle.ub_exec.specs.Visits.{HasFetched}
 use Rattle.ub_planning.specs.Plan.{PlanView, plan_of}
 use Rattle.ub_query.specs.Shape.{Asked}
+use Rattle.ub_store.specs.Facts.{IsHonest}
 use Rattle.ub_store.specs.View.{Trace}
 use Rattle.ub_store.specs.declared.fault.StoreFault.TheVariants as store
 use Rattle.ub_table.specs.Region.{keys_of}
@@ -136,8 +137,10 @@ fault_before a b new (Page page fault) traced working left =
     ((λ sound. left.0 ((Keeps-by a b traced).sound sound)), subst (λ (t : TreeView). Works t new) traced left.1)
 fault_before a b new (Store store.Device) traced working left =
     subst (λ (t : TreeView). IsDeletionFault t new (Tree (Store store.Device))) traced left
-fault_before a b new (Store store.NoPage) traced working left =
-    ((λ sound. left.0 ((Keeps-by a b traced).sound sound)), subst (λ (t : TreeView). Works t new) traced left.1)
+fault_before a b new (Store store.NoPage) traced working left = (
+  (λ sound. left.0 ((Keeps-by a b traced).sound sound)),
+  subst (λ (t : TreeView). Works t new ⊎ ((¬ (IsHonest t.store)) × HasLostPage t new)) traced left.1,
+)
 fault_before a b new (Store store.BadSize) traced working left = left
 fault_before a b new (Store store.Memory) traced working left = left
 
@@ -152,7 +155,7 @@ reading_fault old new (Tree (Page page fault)) working reads =
 reading_fault old new (Tree (Store store.Device)) working reads =
     (reads.faults.0, subst (λ (t : TreeView). HasMetDevice old t) (sym reads.same) (inl (refl, refl)))
 reading_fault old new (Tree (Store store.NoPage)) working reads =
-    ((λ sound. reads.faults.0.0 ((begun_keeps old (begun old) refl).sound sound)), subst (λ (t : TreeView). Works old t) (sym reads.same) (refl, refl))
+    ((λ sound. reads.faults.0.0 ((begun_keeps old (begun old) refl).sound sound)), inl (subst (λ (t : TreeView). Works old t) (sym reads.same) (refl, refl)))
 reading_fault old new (Tree (Store store.BadSize)) working reads = absurd reads.faults.0
 reading_fault old new (Tree (Store store.Memory)) working reads = absurd reads.faults.0
 
@@ -173,7 +176,7 @@ not_failed failed working is = absurd (true≢false (sym is ∙ working))
 -- reading was ended by a fault
 pub deletes_read : {A : Type 0} (old new : TreeView) (e : ReadFault) → old.is_failed ≡ false → ReadsTree {A = A} (begun old) new (Err e) → Deletes old new (Err e)
 deletes_read {A = A} old new e working reads = record {
-  frame = reads.same ∙ ap (λ (t : TreeView). record old { placed = t.placed; rows = t.rows; is_changed = t.is_changed; is_failed = t.is_failed; store = t.store; trace = new.trace }) (sym reads.same);
+  frame = reads.same ∙ ap (λ (t : TreeView). record old { placed = t.placed; rows = t.rows; is_changed = t.is_changed; is_failed = t.is_failed; store = t.store; trace = new.trace; inner = t.inner }) (sym reads.same);
   counted = tt;
   marked = λ sound changed. subst (λ (t : TreeView). t.is_changed ≡ true → HasMark old.schema t.store.pages) (sym reads.same) sound.marked changed;
   done = tt;
@@ -185,11 +188,11 @@ module _ (old mid new : TreeView) (working : old.is_failed ≡ false) (traced : 
   still_works : mid.is_failed ≡ false
   still_works = ap (λ (t : TreeView). t.is_failed) traced ∙ working
 
-  frame_of : new ≡ record mid { placed = new.placed; rows = new.rows; is_changed = new.is_changed; is_failed = new.is_failed; store = new.store }
-      → new ≡ record old { placed = new.placed; rows = new.rows; is_changed = new.is_changed; is_failed = new.is_failed; store = new.store; trace = new.trace }
+  frame_of : new ≡ record mid { placed = new.placed; rows = new.rows; is_changed = new.is_changed; is_failed = new.is_failed; store = new.store; inner = new.inner }
+      → new ≡ record old { placed = new.placed; rows = new.rows; is_changed = new.is_changed; is_failed = new.is_failed; store = new.store; trace = new.trace; inner = new.inner }
   frame_of frame =
-      frame ∙ ap (λ (t : TreeView). record t { placed = new.placed; rows = new.rows; is_changed = new.is_changed; is_failed = new.is_failed; store = new.store }) traced
-      ∙ ap (λ (trace : Trace). record old { placed = new.placed; rows = new.rows; is_changed = new.is_changed; is_failed = new.is_failed; store = new.store; trace = trace })
+      frame ∙ ap (λ (t : TreeView). record t { placed = new.placed; rows = new.rows; is_changed = new.is_changed; is_failed = new.is_failed; store = new.store; inner = new.inner }) traced
+      ∙ ap (λ (trace : Trace). record old { placed = new.placed; rows = new.rows; is_changed = new.is_changed; is_failed = new.is_failed; store = new.store; trace = trace; inner = new.inner })
       (sym (ap (λ (t : TreeView). t.trace) frame))
 
   -- taking out was ended by a fault

@@ -137,7 +137,7 @@ removal_stand a b s (Store store.Device) stand (can, inl missed) working =
     stand_kept a b s (SearchesTree-sound a b (Err (read.Tree (Store store.Device))) reads stand.sound) (SearchesTree-regions a b (Err (read.Tree (Store store.Device))) reads) stand
 removal_stand a b s (Store store.Device) stand (can, inr ended) working =
     let failed : b.is_failed ≡ true = ap (λ (t : TreeView). t.is_failed) ended.same in absurd (true≢false (sym failed ∙ working))
-removal_stand a b s (Store store.NoPage) stand left working = stand_same a b s left.2 stand
+removal_stand a b s (Store store.NoPage) stand left working = absurd (left.0 stand.sound)
 removal_stand a b s (Store store.BadSize) stand left working = left_stand a b s left.1 stand
 removal_stand a b s (Store store.Memory) stand left working = absurd left
 

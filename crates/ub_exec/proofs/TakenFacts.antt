@@ -3,7 +3,7 @@ use Rattle.std.proofs.Common.{◌≡◌, ◌+◌, ◌-◌, ◌<◌, ◌≤◌, �
 use Rattle.std.proofs.Math.Seq.{take-suc}
 use Rattle.std.proofs.lemmas.List.{take-append-drop}
 use Rattle.std.specs.Result.{IsErrAnd}
-use Rattle.ub_exec.specs.Deleting.{HasMetDevice, IsDeletionFault, Removes, StopsAt, TakesOut, TakesOutBy}
+use Rattle.ub_exec.specs.Deleting.{HasLostPage, HasMetDevice, IsDeletionFault, Removes, StopsAt, TakesOut, TakesOutBy}
 use Rattle.ub_store.specs.Facts.{StoreFacts, raised}
 use Rattle.ub_store.specs.declared.fault.StoreFault.TheVariants as store
 use Rattle.ub_table.specs.declared.row.Key.{Key}
@@ -59,7 +59,7 @@ Works-same a b same = subst (λ (t : TreeView). Works a t) (sym same) (refl, ref
 
 -- so many rows were taken out of a tree, which works as it did
 pub record HasLost (old new : TreeView) (count : ℕ) : Type 0 where
-  pub frame : new ≡ record old { placed = new.placed; rows = new.rows; is_changed = new.is_changed; is_failed = new.is_failed; store = new.store }
+  pub frame : new ≡ record old { placed = new.placed; rows = new.rows; is_changed = new.is_changed; is_failed = new.is_failed; store = new.store; inner = new.inner }
   pub counted : new.rows + count ≡ old.rows
   pub works : Works old new
   pub sound : IsSound old → IsSound new
@@ -77,7 +77,7 @@ lost_one key a b false removes = lost_none a b (removes.untouched refl)
 lost_one key a b true removes =
     let (next, rows, shrinks) = removes.counted refl in
     record {
-      frame = removes.effect.frame ∙ ap (λ (n : ℕ). record a { placed = b.placed; rows = b.rows; next = n; is_changed = b.is_changed; is_failed = b.is_failed; store = b.store }) next;
+      frame = removes.effect.frame ∙ ap (λ (n : ℕ). record a { placed = b.placed; rows = b.rows; next = n; is_changed = b.is_changed; is_failed = b.is_failed; store = b.store; inner = b.inner }) next;
       counted = rows;
       works = removes.effect.done;
       sound = λ sound. (removes.removed sound).sound;
@@ -88,7 +88,7 @@ lost_more a b c m n first second =
     let one = first.counted in
     let other = second.counted in
     record {
-      frame = second.frame ∙ ap (λ (t : TreeView). record t { placed = c.placed; rows = c.rows; is_changed = c.is_changed; is_failed = c.is_failed; store = c.store }) first.frame;
+      frame = second.frame ∙ ap (λ (t : TreeView). record t { placed = c.placed; rows = c.rows; is_changed = c.is_changed; is_failed = c.is_failed; store = c.store; inner = c.inner }) first.frame;
       counted = omega (arith, one, other);
       works = Works-then a b c first.works second.works;
       sound = λ sound. second.sound (first.sound sound);
@@ -116,7 +116,8 @@ left_next a b Memory left = ap (λ (t : TreeView). t.next) left.same
 left_next a b (Page page fault) left = ap (λ (t : TreeView). t.next) left.2
 left_next a b (Store store.Device) (can, inl missed) = ap (λ (t : TreeView). t.next) missed
 left_next a b (Store store.Device) (can, inr ended) = ap (λ (t : TreeView). t.next) ended.same
-left_next a b (Store store.NoPage) left = ap (λ (t : TreeView). t.next) left.2
+left_next a b (Store store.NoPage) (broken, inl missing) = ap (λ (t : TreeView). t.next) missing.1
+left_next a b (Store store.NoPage) (broken, inr ended) = ap (λ (t : TreeView). t.next) ended.1.same
 left_next a b (Store store.BadSize) left = ap (λ (t : TreeView). t.next) left.1.same
 left_next a b (Store store.Memory) left = absurd left
 
@@ -140,6 +141,12 @@ ended_device a b c works ended =
           ∙ ap (λ (facts : StoreFacts). record facts { pages = c.store.pages; synced = c.store.synced; failed_writes = raised facts.failed_writes 1 }) works.1,
     )
 
+lost_page : (a b c : TreeView) → Works a b → HasEnded (Store store.NoPage) b c → HasLostPage a c
+lost_page a b c works ended = (
+  ap (λ (t : TreeView). t.is_failed) ended.same,
+  ap (λ (t : TreeView). t.store) ended.same ∙ ap (λ (facts : StoreFacts). record facts { pages = c.store.pages; synced = c.store.synced }) works.1,
+)
+
 deletion_fault : (a b c : TreeView) (count : ℕ) (fault : TreeFault) → a.is_failed ≡ false → HasLost a b count → IsLeft b c fault → IsRemovalFault b fault
     → IsDeletionFault a c (fault_of_tree fault)
 deletion_fault a b c count Full working lost left of = absurd of
@@ -151,14 +158,21 @@ deletion_fault a b c count (Store store.Device) working lost (can, inl missed) o
     (subst IsTrue (ap (λ (facts : StoreFacts). facts.can_fail) lost.works.1) can, missed_device a b c lost.works missed)
 deletion_fault a b c count (Store store.Device) working lost (can, inr ended) of =
     (subst IsTrue (ap (λ (facts : StoreFacts). facts.can_fail) lost.works.1) can, ended_device a b c lost.works ended)
-deletion_fault a b c count (Store store.NoPage) working lost left of =
-    ((λ sound. left.0 (lost.sound sound)), Works-then a b c lost.works (Works-same b c left.2))
+deletion_fault a b c count (Store store.NoPage) working lost (broken, inl missing) of =
+    ((λ sound. broken (lost.sound sound)), inl (Works-then a b c lost.works (Works-same b c missing.1)))
+deletion_fault a b c count (Store store.NoPage) working lost (broken, inr ended) of = (
+  (λ sound. broken (lost.sound sound)),
+  inr (
+    (λ honest. ended.0 (ap (λ (facts : StoreFacts). facts.honest) lost.works.1 ∙ honest)),
+    lost_page a b c lost.works ended.1,
+  ),
+)
 deletion_fault a b c count (Store store.BadSize) working lost left of = absurd of
 deletion_fault a b c count (Store store.Memory) working lost left of = absurd left
 
 -- what it leaves then
 pub record HasStopped (old new : TreeView) (fault : TreeFault) : Type 0 where
-  pub frame : new ≡ record old { placed = new.placed; rows = new.rows; is_changed = new.is_changed; is_failed = new.is_failed; store = new.store }
+  pub frame : new ≡ record old { placed = new.placed; rows = new.rows; is_changed = new.is_changed; is_failed = new.is_failed; store = new.store; inner = new.inner }
   pub marked : IsSound old → new.is_changed ≡ true → HasMark old.schema new.store.pages
   pub left : IsDeletionFault old new (fault_of_tree fault)
 
@@ -169,8 +183,8 @@ stopped_at keys a c fault working stops =
     let effect = stops.ended.effect in
     record {
       frame = effect.frame
-          ∙ ap (λ (n : ℕ). record b { placed = c.placed; rows = c.rows; next = n; is_changed = c.is_changed; is_failed = c.is_failed; store = c.store }) (left_next b c fault effect.left)
-          ∙ ap (λ (t : TreeView). record t { placed = c.placed; rows = c.rows; is_changed = c.is_changed; is_failed = c.is_failed; store = c.store }) lost.frame;
+          ∙ ap (λ (n : ℕ). record b { placed = c.placed; rows = c.rows; next = n; is_changed = c.is_changed; is_failed = c.is_failed; store = c.store; inner = c.inner }) (left_next b c fault effect.left)
+          ∙ ap (λ (t : TreeView). record t { placed = c.placed; rows = c.rows; is_changed = c.is_changed; is_failed = c.is_failed; store = c.store; inner = c.inner }) lost.frame;
       marked = λ sound changed. subst (λ (schema : Schema). HasMark schema c.store.pages) (lost_schema a b stops.count lost) (effect.marked.marked (lost.sound sound) changed);
       left = deletion_fault a b c stops.count fault working lost effect.left stops.ended.faults;
     }

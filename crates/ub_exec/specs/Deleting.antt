@@ -10,8 +10,7 @@ use Rattle.ub_store.specs.Facts.{IsHonest, raised}
 use Rattle.ub_store.specs.declared.fault.StoreFault.TheVariants as store
 use Rattle.ub_table.specs.declared.row.Key.{Key}
 use Rattle.ub_tree.specs.Effects.{Changes, Works}
-use Rattle.ub_tree.specs.Holding.{AnswersRemoval, index_for}
-use Rattle.ub_tree.specs.Others.{ShrinksAt}
+use Rattle.ub_tree.specs.Holding.{AnswersRemoval, ShrinksAt}
 use Rattle.ub_tree.specs.Reading.{ReadsTree, fault_of_tree}
 use Rattle.ub_tree.specs.Removal.{IsRemoved, IsRemovalFault}
 use Rattle.ub_tree.specs.View.{TreeView, IsSound}
@@ -37,7 +36,7 @@ pub record Removes (key : Key) (old new : TreeView) (result : Result Bool TreeFa
   pub removed : IsSound old → IfOk result (λ found. IsRemoved key found old new)
   pub untouched : IfOk result (λ found. found ≡ false → new ≡ old)
   pub counted : IfOk result (λ found. found ≡ true
-      → (new.next ≡ old.next) × (new.rows + 1 ≡ old.rows) × ShrinksAt (index_for old key) old new)
+      → (new.next ≡ old.next) × (new.rows + 1 ≡ old.rows) × ShrinksAt key old new)
   pub refused : old.is_failed ≡ false → IsHonest old.store → AnswersRemoval old key result
   pub effect : Changes old new result
   pub faults : IfErr result (IsRemovalFault old)
@@ -105,6 +104,12 @@ HasMetDevice old new =
       failed_writes = raised old.store.failed_writes 1;
     }))
 
+-- the store has no page of a number that the index was to be written on, as one that isn't honest can answer: the tree has failed, and
+-- no call of the store has
+abbrev pub HasLostPage : TreeView → TreeView → Type 0
+HasLostPage old new =
+    (new.is_failed ≡ true) × (new.store ≡ record old.store { pages = new.store.pages; synced = new.store.synced })
+
 -- what can end a deletion, and what it leaves then
 abbrev pub IsDeletionFault : TreeView → TreeView → ReadFault → Type 0
 IsDeletionFault old new Memory = Works old new
@@ -113,7 +118,8 @@ IsDeletionFault old new (Tree Failed) = IsTrue old.is_failed × (new ≡ begun o
 IsDeletionFault old new (Tree no_memory) = ⊥
 IsDeletionFault old new (Tree (Page page fault)) = (¬ (IsSound old)) × Works old new
 IsDeletionFault old new (Tree (Store store.Device)) = IsTrue old.store.can_fail × HasMetDevice old new
-IsDeletionFault old new (Tree (Store store.NoPage)) = (¬ (IsSound old)) × Works old new
+IsDeletionFault old new (Tree (Store store.NoPage)) =
+    (¬ (IsSound old)) × (Works old new ⊎ ((¬ (IsHonest old.store)) × HasLostPage old new))
 IsDeletionFault old new (Tree (Store _)) = ⊥
 
 -- a deletion from a tree: what it never touches; that it counts the rows that are gone, and no others; that a sound tree is
@@ -126,6 +132,7 @@ pub record Deletes (old new : TreeView) (result : Result ℕ ReadFault) : Type 0
     is_failed = new.is_failed;
     store = new.store;
     trace = new.trace;
+    inner = new.inner;
   }
   pub counted : IfOk result (λ count. new.rows + count ≡ old.rows)
   pub marked : IsSound old → new.is_changed ≡ true → HasMark old.schema new.store.pages

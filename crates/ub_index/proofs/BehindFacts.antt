@@ -34,6 +34,7 @@ falls_too key k entries end next below later to h = record {
   next_is = h.next_is;
   from = from_too h.from;
   to = less h.after (subst (λ (o : Option Key). IfSome o (IsBefore k)) h.next_is to);
+  some = h.some;
 }
   where
     from_too : (h.before ≡ []) ⊎ (¬ (IsBefore key below.first)) → (h.before ≡ []) ⊎ (¬ (IsBefore k below.first))

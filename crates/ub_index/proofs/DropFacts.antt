@@ -4,16 +4,18 @@ use Rattle.std.proofs.lemmas.Bool.{cases_Bool, cases_lt, eqb-true}
 use Rattle.std.proofs.lemmas.List.{append-nil}
 use Rattle.std.specs.List.{AllByRecursion, IsDistinct, flat_map}
 use Rattle.ub_index_page.specs.Index.{node_on}
+use Rattle.ub_page.specs.Entries.{IsEntry}
 use Rattle.ub_page.specs.declared.entries.Entry.{Entry}
 use Rattle.ub_store.specs.Facts.{StoreFacts, IsHonest, page_count}
 use Rattle.ub_store.specs.View.{PagerView}
 use Rattle.ub_table.proofs.Laws.{not_before_self}
 use Rattle.ub_table.specs.Keys.{IsBefore, origin}
+use Rattle.ub_table.specs.declared.fault.PageFault.{PageFault}
 use Rattle.ub_table.specs.declared.row.Key.{Key}
 use Rattle.ub_index.specs.Changed.{Replaces}
 use Rattle.ub_index.specs.Changing.{AreOnce, IsAtMostOne, IsFine, IsNoGrowth, IsNoNew, IsOutside, IsUnspelled, Mends, Spelled, Spreads, Stand, StayBut, Turns, named_as, so_far}
 use Rattle.ub_index.specs.Index.{entries_of, first_or, page_in, pages_under, EachTo, IsUnder, under, top}
-use Rattle.ub_index.specs.Lowering.{IsLowerFault, IsLowest, Lowers, LowersTo, MakesLow, PreparesDrop, ReadsRoots, entries_then, page_then, sole_page, spelled_page, spelled_or}
+use Rattle.ub_index.specs.Lowering.{IsLowerFault, IsLowest, IsRootRefused, Lowers, LowersTo, MakesLow, PreparesDrop, ReadsRoots, entries_then, page_then, sole_page, spelled_page, spelled_or, unless_first}
 use Rattle.ub_index.specs.Preparing.{ChangeView, IsIndexThen, IsPrepared, IsReachedOnce, MakesIndex, Settles, change_view, entry_at, pages_of_index}
 use Rattle.ub_index.specs.View.{IndexView, IsIndexOn, IsSeatAt, entries_in}
 use Rattle.ub_index.specs.declared.fault.IndexFault.{IndexFault}
@@ -26,9 +28,10 @@ use Rattle.ub_index.specs.declared.told.Told.TheVariants.{Same, Gone, One, Two}
 use Rattle.ub_index.proofs.Changes.{same_page}
 use Rattle.ub_index.proofs.FitFacts.{page_is}
 use Rattle.ub_index.proofs.FullFacts.{mended_few}
-use Rattle.ub_index.proofs.Numbers.{differs, distinct_cons, distinct_first, distinct_rest}
+use Rattle.ub_index.proofs.Numbers.{differs, distinct_cons, distinct_first, distinct_rest, within_store}
 use Rattle.ub_index.proofs.OrderFacts.{under_first}
 use Rattle.ub_index.proofs.ReadyFacts.{entry_is, made_one, root_entry, seat_found}
+use Rattle.ub_index.proofs.RefusedFacts.{far_outside, root_not_refused, unspelled_of, with_other, with_sheets, with_stand, with_stay}
 use Rattle.ub_index.proofs.SearchFacts.{frame}
 use Rattle.ub_index.proofs.TurnFacts.{Risen, rises}
 
@@ -80,15 +83,23 @@ in_or_out n (m ∷ numbers) = elim (cases_Bool (n == m)) [
   ]
 ]
 
+named_is : (n page : ℕ) → unless_first n ≡ Some page → n ≡ page
+named_is zero page h = cc
+named_is (suc n) page h = let e : Some (suc n) ≡ Some page = h in cc
+
+named_some : (n : ℕ) → 1 ≤ n → unless_first n ≡ None → ⊥
+named_some zero some h = omega (arith, some)
+named_some (suc n) some h = cc
+
 sole_is : (entries : List Entry) (page : ℕ) → sole_page entries ≡ Some page → (entry : Entry) × (entries ≡ entry ∷ []) × (entry.page ≡ page)
 sole_is [] page h = cc
-sole_is (entry ∷ []) page h = (entry, refl, (let e : Some entry.page ≡ Some page = h in cc))
+sole_is (entry ∷ []) page h = (entry, refl, named_is entry.page page h)
 sole_is (a ∷ b ∷ entries) page h = cc
 
-not_sole : (entries : List Entry) (first : Key) → first_or entries None ≡ Some first → sole_page entries ≡ None → 2 ≤ length entries
-not_sole [] first begins h = cc
-not_sole (a ∷ []) first begins h = cc
-not_sole (a ∷ b ∷ entries) first begins h = omega arith
+not_sole : (last : ℕ) (entries : List Entry) (first : Key) → AllByRecursion (IsEntry last) entries → first_or entries None ≡ Some first → sole_page entries ≡ None → 2 ≤ length entries
+not_sole last [] first all begins h = cc
+not_sole last (a ∷ []) first all begins h = absurd (named_some a.page all.0.some_page h)
+not_sole last (a ∷ b ∷ entries) first all begins h = omega arith
 
 module _ (last : ℕ) (old later : List (List ℕ)) (sheets : List Sheet) (own : List ℕ) (stand : Stand later sheets) (stay : StayBut old later sheets own) where
   then_is : (n : ℕ) → ¬ (IsOutside n own) → page_then sheets old n ≡ page_in later n
@@ -140,7 +151,7 @@ module _ (last : ℕ) (old later : List (List ℕ)) (sheets : List Sheet) (own :
   lowest_then root zero some is among lowest = absurd (omega arith)
   lowest_then root (suc below) some is among (inl low) = inl (omega arith)
   lowest_then root (suc below) some is among (inr none) =
-      inr (not_sole (entries_of later root) origin is.0.fits.begins (ap (λ (xs : List Entry). sole_page xs) (sym (entries_same root (root_there below root among))) ∙ none))
+      inr (not_sole last (entries_of later root) origin is.0.fits.is.is.entries is.0.fits.begins (ap (λ (xs : List Entry). sole_page xs) (sym (entries_same root (root_there below root among))) ∙ none))
 
 -- what goes leaves nothing that could be wrong
 gone_fine : (last : ℕ) (found : Entry) (next : Option Key) → IsFine last None found next
@@ -153,9 +164,9 @@ begin_other (b ∷ before) f after later h = h
 
 module _ (index : IndexView) (store : StoreFacts) (i : ℕ) (seat : Seat) (small : index.last < 2 ^ 128) (high : index.levels ≤ 16) (few : page_count store < 4294967296)
     (is : IsIndexOn index store) (own : IsReachedOnce index store) (at : IsSeatAt (entries_in index store) i seat) (later_one : IsBefore origin seat.first)
-    (first change : ChangeView) (middle : Spelled) (told : Told)
+    (first : ChangeView) (middle : Spelled) (told : Told)
     (turns : Turns index.last store.pages seat.first None index.levels (top index.root) None (so_far [] (page_count store)) middle told)
-    (settles : Settles index.root index.levels told (page_count store) middle first) (lowers : LowersTo store.pages first change) where
+    (settles : Settles index.root index.levels told (page_count store) middle first) where
   some_room : (level : ℕ) → 1 ≤ level → IsUnder index.last store.pages level (top index.root) None → 0 < page_count store
   some_room zero l u = absurd (omega arith)
   some_room (suc level) l u = some_length store.pages index.root u.0.there
@@ -197,19 +208,16 @@ module _ (index : IndexView) (store : StoreFacts) (i : ℕ) (seat : Seat) (small
       by_told (One other) e h n = ((other, ap (λ (t : Told). named_as t (top index.root)) e), h)
       by_told (Two left right) e h n = absurd (subst (λ (t : Told). IsAtMostOne t) e n)
 
-  sheets_are : change.sheets ≡ r.sheets
-  sheets_are = ap (λ (c : ChangeView). c.sheets) lowers.same ∙ (ap (λ (c : ChangeView). c.sheets) one_told.1 ∙ r.sheets_are)
-
   first_sheets : first.sheets ≡ r.sheets
   first_sheets = ap (λ (c : ChangeView). c.sheets) one_told.1 ∙ r.sheets_are
 
-  lowers_so : Lowers r.sheets store.pages index.root index.levels change.root change.levels
-  lowers_so =
+  on_index : (to at : ℕ) → Lowers first.sheets store.pages first.root first.levels to at → Lowers r.sheets store.pages index.root index.levels to at
+  on_index to at h =
       let root = ap (λ (c : ChangeView). c.root) one_told.1 in
       let levels = ap (λ (c : ChangeView). c.levels) one_told.1 in
-      subst (λ (xs : List Sheet). Lowers xs store.pages index.root index.levels change.root change.levels) first_sheets
-      (subst (λ (n : ℕ). Lowers first.sheets store.pages n index.levels change.root change.levels) root
-      (subst (λ (n : ℕ). Lowers first.sheets store.pages first.root n change.root change.levels) levels lowers.lowers))
+      subst (λ (xs : List Sheet). Lowers xs store.pages index.root index.levels to at) first_sheets
+      (subst (λ (n : ℕ). Lowers first.sheets store.pages n index.levels to at) root
+      (subst (λ (n : ℕ). Lowers first.sheets store.pages first.root n to at) levels h))
 
   module _ (later : List (List ℕ)) (stand : Stand later r.sheets) (stay : StayBut store.pages later r.sheets (pages_of_index index store)) where
     made_first : IsIndexThen index.last later index.root index.levels (Replaces r.found [] (entries_in index store))
@@ -222,37 +230,62 @@ module _ (index : IndexView) (store : StoreFacts) (i : ℕ) (seat : Seat) (small
         (made_one index small is.some high store seat.first None (so_far [] (page_count store)) middle told (omega arith) refl is own few r
         (gone_fine index.last r.found r.next) begins later stand stay one_told.0.0 one_told.0.1).1 n (none_new n) out
 
-    lowered_all : IsIndexThen index.last later change.root change.levels (Replaces r.found [] (entries_in index store))
-        × ((n : ℕ) → IsOutside n (pages_of_index index store) → IsOutside n (pages_under later change.levels (top change.root)))
-    lowered_all =
-        lower_made index.last store.pages later r.sheets (pages_of_index index store) stand stay (Replaces r.found [] (entries_in index store)) index.levels index.root change.root change.levels
-        is.some high made_first.under_it made_first.reached made_first.entries_are among_first lowers_so
+    lowered_all : (to at : ℕ) → Lowers first.sheets store.pages first.root first.levels to at → IsIndexThen index.last later to at (Replaces r.found [] (entries_in index store))
+        × ((n : ℕ) → IsOutside n (pages_of_index index store) → IsOutside n (pages_under later at (top to)))
+    lowered_all to at h =
+        lower_made index.last store.pages later r.sheets (pages_of_index index store) stand stay (Replaces r.found [] (entries_in index store)) index.levels index.root to at
+        is.some high made_first.under_it made_first.reached made_first.entries_are among_first (on_index to at h)
 
-    low_then : (change.levels ≡ 1) ⊎ (2 ≤ length (entries_of later change.root))
-    low_then =
-        lowest_then index.last store.pages later r.sheets (pages_of_index index store) stand stay change.root change.levels lowered_all.0.low lowered_all.0.under_it lowered_all.1
-        (subst (λ (xs : List Sheet). IsLowest xs store.pages change.root change.levels) first_sheets lowers.lowest)
+  -- no root is refused to which it gives way, and which isn't spelled
+  pub root_taken : (n : ℕ) (fault : Option PageFault) → ¬ (IsRootRefused index.last store.pages first n fault)
+  root_taken n fault (level, lowers, unspelled, refused) =
+      let far : (m : ℕ) → length store.pages ≤ m → IsUnspelled m r.sheets =
+      λ m beyond. r.outside m (none_new m)
+      (far_outside m (length store.pages) (pages_of_index index store) beyond (within_store index.last store.pages index.levels (top index.root) None is.under_it)) in
+      let made = lowered_all (with_sheets store.pages r.sheets) (with_stand store.pages r.sheets r.once far) (with_stay store.pages r.sheets (pages_of_index index store)) n level lowers in
+      let free : IsUnspelled n r.sheets = subst (λ (xs : List Sheet). IsUnspelled n xs) first_sheets (unspelled_of first.sheets n unspelled) in
+      root_not_refused index.last small store.pages (with_sheets store.pages r.sheets) n level fault made.0.low made.0.under_it (with_other store.pages r.sheets n free) refused
 
-  pub dropped_makes : MakesIndex index store (page_count store) change (Replaces (entry_at seat) [] (entries_in index store))
-  dropped_makes = record {
-    start = ap (λ (c : ChangeView). c.start) lowers.same ∙ ap (λ (c : ChangeView). c.start) one_told.1;
-    once = subst (λ (xs : List Sheet). AreOnce xs) (sym sheets_are) r.once;
-    own = λ n foreign. subst (λ (xs : List Sheet). IsUnspelled n xs) (sym sheets_are) (r.outside n (none_new n) foreign.1);
-    makes = λ later stand stay.
-        subst (λ (e : Entry). IsIndexThen index.last later change.root change.levels (Replaces e [] (entries_in index store))) found_is
-        (lowered_all later (subst (λ (xs : List Sheet). Stand later xs) sheets_are stand) (subst (λ (xs : List Sheet). StayBut store.pages later xs (pages_of_index index store)) sheets_are stay)).0;
-    no_other = λ later stand stay n foreign.
-        (lowered_all later (subst (λ (xs : List Sheet). Stand later xs) sheets_are stand) (subst (λ (xs : List Sheet). StayBut store.pages later xs (pages_of_index index store)) sheets_are stay)).1
-        n foreign.1;
-  }
+  module _ (change : ChangeView) (lowers : LowersTo store.pages first change) where
+    sheets_are : change.sheets ≡ r.sheets
+    sheets_are = ap (λ (c : ChangeView). c.sheets) lowers.same ∙ (ap (λ (c : ChangeView). c.sheets) one_told.1 ∙ r.sheets_are)
 
-  pub dropped_low : (change.next ≡ change.start) × MakesLow index store change
-  dropped_low = (
-    ap (λ (c : ChangeView). c.next) lowers.same ∙ (ap (λ (c : ChangeView). c.next) one_told.1 ∙ (same_next
-        ∙ (sym (ap (λ (c : ChangeView). c.start) one_told.1) ∙ sym (ap (λ (c : ChangeView). c.start) lowers.same)))),
-    λ later stand stay.
-        low_then later (subst (λ (xs : List Sheet). Stand later xs) sheets_are stand) (subst (λ (xs : List Sheet). StayBut store.pages later xs (pages_of_index index store)) sheets_are stay),
-  )
+    module _ (later : List (List ℕ)) (stand : Stand later r.sheets) (stay : StayBut store.pages later r.sheets (pages_of_index index store)) where
+      lowered_there : IsIndexThen index.last later change.root change.levels (Replaces r.found [] (entries_in index store))
+          × ((n : ℕ) → IsOutside n (pages_of_index index store) → IsOutside n (pages_under later change.levels (top change.root)))
+      lowered_there = lowered_all later stand stay change.root change.levels lowers.lowers
+
+      low_then : (change.levels ≡ 1) ⊎ (2 ≤ length (entries_of later change.root))
+      low_then =
+          lowest_then index.last store.pages later r.sheets (pages_of_index index store) stand stay change.root change.levels lowered_there.0.low lowered_there.0.under_it lowered_there.1
+          (subst (λ (xs : List Sheet). IsLowest xs store.pages change.root change.levels) first_sheets lowers.lowest)
+
+    pub dropped_makes : MakesIndex index store (page_count store) change (Replaces (entry_at seat) [] (entries_in index store))
+    dropped_makes = record {
+      start = ap (λ (c : ChangeView). c.start) lowers.same ∙ ap (λ (c : ChangeView). c.start) one_told.1;
+      once = subst (λ (xs : List Sheet). AreOnce xs) (sym sheets_are) r.once;
+      own = λ n foreign. subst (λ (xs : List Sheet). IsUnspelled n xs) (sym sheets_are) (r.outside n (none_new n) foreign.1);
+      makes = λ later stand stay.
+          subst (λ (e : Entry). IsIndexThen index.last later change.root change.levels (Replaces e [] (entries_in index store))) found_is
+          (lowered_there later (subst (λ (xs : List Sheet). Stand later xs) sheets_are stand) (subst (λ (xs : List Sheet). StayBut store.pages later xs (pages_of_index index store)) sheets_are stay)).0;
+      no_other = λ later stand stay n foreign.
+          (lowered_there later (subst (λ (xs : List Sheet). Stand later xs) sheets_are stand) (subst (λ (xs : List Sheet). StayBut store.pages later xs (pages_of_index index store)) sheets_are stay)).1
+          n foreign.1;
+    }
+
+    pub dropped_low : (change.next ≡ change.start) × MakesLow index store change
+    dropped_low = (
+      ap (λ (c : ChangeView). c.next) lowers.same ∙ (ap (λ (c : ChangeView). c.next) one_told.1 ∙ (same_next
+          ∙ (sym (ap (λ (c : ChangeView). c.start) one_told.1) ∙ sym (ap (λ (c : ChangeView). c.start) lowers.same)))),
+      λ later stand stay.
+          low_then later (subst (λ (xs : List Sheet). Stand later xs) sheets_are stand) (subst (λ (xs : List Sheet). StayBut store.pages later xs (pages_of_index index store)) sheets_are stay),
+    )
+
+pub roots_taken : (index : IndexView) (store : StoreFacts) (i : ℕ) (seat : Seat) (change : ChangeView) (n : ℕ) (fault : Option PageFault) → index.last < 2 ^ 128 → index.levels ≤ 16
+    → page_count store < 2 ^ 32 → IsIndexOn index store → IsReachedOnce index store → IsSeatAt (entries_in index store) i seat → IsBefore origin seat.first
+    → IsPrepared index store seat.first None (page_count store) (so_far [] (page_count store)) change → ¬ (IsRootRefused index.last store.pages change n fault)
+roots_taken index store i seat change n fault small high few is own at later (middle, told, turns, settles) =
+    root_taken index store i seat small high few is own at later change middle told turns settles n fault
 
 -- a root doesn't give way for other reasons
 no_growth : (last : ℕ) (old : StoreFacts) (change : ChangeView) (e : IndexFault) → IsLowerFault last old change e → IsNoGrowth e

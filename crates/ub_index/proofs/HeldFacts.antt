@@ -1,6 +1,7 @@
 -- What the ends of a page tell of it, and for what a page is taken that was held before others were read.
 use Rattle.std.proofs.Common.{◌≡◌, ◌≤◌, ◌<◌, ◌^◌, ◌⊎◌, inl, inr, ℕ, zero, suc, Bool, true, false, List, [], Option, Some, None, Result, Ok, Err, IfOk, IfErr, length, slice_get, ◌∙◌, sym, ap, subst, refl, arith}
 use Rattle.std.proofs.lemmas.Bool.{cases_eq}
+use Rattle.std.specs.Result.{IsErrAnd}
 use Rattle.ub_index_page.proofs.Laws.{length-node_on, node_parts}
 use Rattle.ub_index_page.specs.Index.{node_on, HasHead, IsIndexKind}
 use Rattle.ub_page.specs.Bytes.{number_at}
@@ -59,6 +60,10 @@ ok_so (Err e) P Q f h = tt
 pub err_so : {T : Type 0} (r : Result T PageFault) (P Q : PageFault → Type 0) → ((e : PageFault) → P e → Q e) → IfErr r P → IfErr r Q
 err_so (Ok x) P Q f h = tt
 err_so (Err e) P Q f h = f e h
+
+pub err_by : {T : Type 0} (r : Result T PageFault) (e : PageFault) (Q : PageFault → Type 0) → IsErrAnd r (λ x. x ≡ e) → Q e → IfErr r Q
+err_by (Ok x) e Q is h = tt
+err_by (Err f) e Q is h = subst Q (sym is) h
 
 -- where no page was held, a page that is taken fits
 pub in_full : (last : ℕ) (pages : List (List ℕ)) (level : ℕ) (entry : Entry) (end : Option Key) → NamesTaken last pages [] level entry end → NamesFitting last pages level entry end

@@ -5,6 +5,8 @@ use Rattle.std.proofs.lemmas.List.{length-append}
 use Rattle.std.proofs.lemmas.Option.{slice_get_within}
 use Rattle.ub_directory.specs.Spans.{first_keys}
 use Rattle.ub_page.specs.Bytes.{number_at}
+use Rattle.std.specs.List.{AllByRecursion}
+use Rattle.ub_page.specs.Entries.{IsEntry}
 use Rattle.ub_page.specs.declared.entries.Entry.{Entry}
 use Rattle.ub_region.specs.Regions.{index_holding}
 use Rattle.ub_store.specs.Facts.{StoreFacts, zero_page}
@@ -91,6 +93,7 @@ module _ (last : ℕ) (pages : List (List ℕ)) where
       next_is = falls.next_is;
       from = inr (le_trans below.first found.first other (ends_from last pages key level below beyond found next leads) h.from);
       to = to_of falls.after falls.next_is;
+      some = falls.some;
     },
     held_way key other level below beyond found next leads h,
   )
@@ -134,16 +137,16 @@ module _ (last : ℕ) (pages : List (List ℕ)) where
           ]
 
 -- a key that isn't before the first of entries falls to one of them that doesn't begin after it
-falls_in : (key : Key) (x : Entry) (xs : List Entry) (end : Option Key) → ¬ (IsBefore key x.first)
+falls_in : (last : ℕ) (key : Key) (x : Entry) (xs : List Entry) (end : Option Key) → AllByRecursion (IsEntry last) (x ∷ xs) → ¬ (IsBefore key x.first)
     → (below : Entry) × (next : Option Key) × FallsTo key (x ∷ xs) end below next × (¬ (IsBefore key below.first))
-falls_in key x [] end from = (x, end, record { before = []; after = []; parts = refl; next_is = refl; from = inr from; to = tt }, from)
-falls_in key x (y ∷ ys) end from = elim (cases_Bool (precedes key y.first)) [
-  | inl t ↦ (x, Some y.first, record { before = []; after = y ∷ ys; parts = refl; next_is = refl; from = inr from; to = before_of key y.first t }, from)
+falls_in last key x [] end all from = (x, end, record { before = []; after = []; parts = refl; next_is = refl; from = inr from; to = tt; some = all.0.some_page }, from)
+falls_in last key x (y ∷ ys) end all from = elim (cases_Bool (precedes key y.first)) [
+  | inl t ↦ (x, Some y.first, record { before = []; after = y ∷ ys; parts = refl; next_is = refl; from = inr from; to = before_of key y.first t; some = all.0.some_page }, from)
   | inr f ↦
-      let r = falls_in key y ys end (λ yes. let t = precedes_of key y.first yes in cc) in (
+      let r = falls_in last key y ys end all.1 (λ yes. let t = precedes_of key y.first yes in cc) in (
         r.0,
         r.1,
-        record { before = x ∷ r.2.before; after = r.2.after; parts = ap (λ (zs : List Entry). x ∷ zs) r.2.parts; next_is = r.2.next_is; from = inr r.3; to = r.2.to },
+        record { before = x ∷ r.2.before; after = r.2.after; parts = ap (λ (zs : List Entry). x ∷ zs) r.2.parts; next_is = r.2.next_is; from = inr r.3; to = r.2.to; some = r.2.some },
         r.3,
       )
 ]
@@ -162,7 +165,7 @@ module _ (last : ℕ) (pages : List (List ℕ)) (held : List (ℕ × List ℕ)) 
       by_entries go (x ∷ xs) e =
           let begins : Some x.first ≡ Some entry.first = ap (λ (zs : List Entry). first_or zs None) (sym e) ∙ is.0.fits.begins in
           let first : entry.first ≡ x.first = cc in
-          let r = falls_in key x xs end (subst (λ (k : Key). ¬ (IsBefore key k)) first from) in
+          let r = falls_in last key x xs end (subst (λ (zs : List Entry). AllByRecursion (IsEntry last) zs) e is.0.fits.is.is.entries) (subst (λ (k : Key). ¬ (IsBefore key k)) first from) in
           let falls : FallsTo key (entries_of pages entry.page) end r.0 r.1 = subst (λ (zs : List Entry). FallsTo key zs end r.0 r.1) (sym e) r.2 in
           let each : EachTo (IsUnder last pages level) (r.0 ∷ falls.after) end =
           each_right (IsUnder last pages level) falls.before (r.0 ∷ falls.after) end (subst (λ (zs : List Entry). EachTo (IsUnder last pages level) zs end) falls.parts is.1) in
@@ -184,7 +187,7 @@ pub seats_led_to : (index : IndexView) (store : StoreFacts) (held : List (ℕ ×
 seats_led_to index store held is = (λ key seat leads. seat_is index store held key seat is leads, λ i seat at. led_to index store held i seat is at)
 
 -- a page that is taken is, where it stays
-kept_taken : (last : ℕ) (held : List (ℕ × List ℕ)) (old new : List (List ℕ)) (level : ℕ) (entry : Entry) (end : Option Key) → slice_get new entry.page ≡ slice_get old entry.page
+pub kept_taken : (last : ℕ) (held : List (ℕ × List ℕ)) (old new : List (List ℕ)) (level : ℕ) (entry : Entry) (end : Option Key) → slice_get new entry.page ≡ slice_get old entry.page
     → NamesTaken last old held level entry end → NamesTaken last new held level entry end
 kept_taken last held old new level entry end same h =
     let page = same_page old new entry.page same in
@@ -194,7 +197,7 @@ kept_taken last held old new level entry end same h =
     }
 
 -- where a page stays, a key falls to the entry to which it fell
-moved : (key : Key) (a b : List (List ℕ)) (entry below : Entry) (end beyond : Option Key) → slice_get b entry.page ≡ slice_get a entry.page → FallsTo key (entries_of a entry.page) end below beyond
+pub moved : (key : Key) (a b : List (List ℕ)) (entry below : Entry) (end beyond : Option Key) → slice_get b entry.page ≡ slice_get a entry.page → FallsTo key (entries_of a entry.page) end below beyond
     → FallsTo key (entries_of b entry.page) end below beyond
 moved key a b entry below end beyond same falls = subst (λ (xs : List Entry). FallsTo key xs end below beyond) (sym (same_entries a b entry.page same)) falls
 

@@ -13,13 +13,16 @@ pub mod OrderFacts
 pub mod Numbers
 pub mod SpreadFacts
 pub mod ClimbFacts
+pub mod FillFacts
 pub mod TurnFacts
 pub mod ReadyFacts
 pub mod LowerFacts
+pub mod RefusedFacts
 pub mod DropFacts
 pub mod FullFacts
 pub mod MadeFacts
 pub mod PutFacts
 pub mod StandFacts
 pub mod LeadFacts
+pub mod FirstFacts
 pub mod OwnFacts

@@ -8,8 +8,9 @@ use Rattle.ub_store.specs.Facts.{StoreFacts, IsHonest, page_count}
 use Rattle.ub_store.specs.declared.fault.StoreFault.TheVariants as store
 use Rattle.ub_index.specs.Changed.{Replaces}
 use Rattle.ub_index.specs.Changing.{IsOutside, IsUnspelled, Stand, StayBut}
+use Rattle.ub_index.specs.Filling.{IsFilled, KeepsFilled}
 use Rattle.ub_index.specs.Index.{top}
-use Rattle.ub_index.specs.Making.{IsCommitted, IsPutFault, PutsSheets, StayOutside}
+use Rattle.ub_index.specs.Making.{IsCommitted, IsPutFault, PutsSheets, StayOutside, changed}
 use Rattle.ub_index.specs.Preparing.{ChangeView, IsForeign, IsIndexThen, MakesIndex, pages_of_index}
 use Rattle.ub_index.specs.View.{IndexView, IsIndexOn, entries_in}
 use Rattle.ub_index.specs.declared.sheet.Sheet.{Sheet}
@@ -59,3 +60,16 @@ has_pages index old filled from change f fs is makes more all (k, sheet, at, far
     (all_more (λ n. n < page_count old) (λ n. n < sheet.number) (λ n less. omega arith) (pages_of_index index old)
     (within_store index.last old.pages index.levels (top index.root) None is.under_it)) in
     spelled_at change.sheets k sheet at (makes.own sheet.number (inr (omega arith), outside))
+
+-- and an index that it keeps filled is filled then
+pub made_filled : (index : IndexView) (old grown filled new : StoreFacts) (from : ℕ) (change : ChangeView) (f : Entry) (fs : List Entry) (numbers : List ℕ) → IsIndexOn index old
+    → MakesIndex index old from change (Replaces f fs (entries_in index old)) → Grows old grown → StayOutside numbers grown.pages filled.pages
+    → AllByRecursion (IsForeign index old from change) numbers → IsHonest filled → IsHonest new → PutsSheets change.sheets filled new → Stand new.pages change.sheets
+    → KeepsFilled index old change → IsFilled index old.pages → IsFilled (changed index change) new.pages
+made_filled index old grown filled new from change f fs numbers is makes grows others foreign honest honest_new puts stand keeps was =
+    let apart : StandApart numbers (pages_of_index index old) =
+    all_more (IsForeign index old from change) (λ n. IsOutside n (pages_of_index index old)) (λ n h. h.1) numbers foreign in
+    let stay : StayBut old.pages new.pages change.sheets (pages_of_index index old) =
+    stays old grown filled new change.sheets numbers (pages_of_index index old) is.honest honest grows others puts (apart_swap numbers (pages_of_index index old) apart)
+    (within_store index.last old.pages index.levels (top index.root) None is.under_it) in
+    keeps new.pages stand stay was

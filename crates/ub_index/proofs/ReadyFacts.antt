@@ -14,8 +14,9 @@ use Rattle.ub_store.specs.declared.fault.StoreFault.TheVariants as store
 use Rattle.ub_table.proofs.Laws.{not_before_self}
 use Rattle.ub_table.specs.Keys.{origin}
 use Rattle.ub_table.specs.declared.row.Key.{Key}
-use Rattle.ub_index.specs.Changed.{Becomes, Replaces, Stays}
+use Rattle.ub_index.specs.Changed.{Becomes, IsTold, Replaces, Stays}
 use Rattle.ub_index.specs.Changing.{AreOnce, IsFine, IsNoNew, IsOutside, IsTurnFault, IsUnspelled, NamesPage, Spelled, Stand, StayBut, named_as, sheet_of, so_far, with_added, Prepares}
+use Rattle.ub_index.specs.Filling.{IsFilled, IsFilledRoot, KeepsFilled}
 use Rattle.ub_index.specs.Index.{entries_of, first_or, page_in, pages_under, AscendTo, EachTo, IsUnder, under, top}
 use Rattle.ub_index.specs.Preparing.{ChangeView, IsChangeFault, IsIndexThen, IsPrepared, IsReachedOnce, MakesIndex, IsSettleFault, IsWithinSeat, PreparesAll, Settles, TurnsRoot, added_at, change_view, entry_at, pages_of_index, HasFullWay}
 use Rattle.ub_index.specs.View.{IndexView, IsIndexOn, IsSeatAt, entries_in, index_view}
@@ -28,6 +29,7 @@ use Rattle.ub_index.specs.declared.told.Told.{Told}
 use Rattle.ub_index.specs.declared.told.Told.TheVariants.{Same, Gone, One, Two}
 use Rattle.ub_index.proofs.HeldFacts.{in_full}
 use Rattle.ub_index.proofs.Changes.{replaced, stays, told_index}
+use Rattle.ub_index.proofs.FillFacts.{AreFilled, filled_becomes, filled_over}
 use Rattle.ub_index.proofs.FullFacts.{all_end, full_next, full_way}
 use Rattle.ub_index.proofs.Numbers.{distinct_cons, distinct_first, distinct_rest, no_new_left, once_join, outside_less, within_store}
 use Rattle.ub_index.proofs.OrderFacts.{first_through, under_first}
@@ -234,6 +236,21 @@ module _ (index : IndexView) (small : index.last < 2 ^ 128) (low : 1 ≤ index.l
           λ n new out. subst (λ (ns : List ℕ). IsOutside n ns) (pages_one list) (r.among later stand stay n new out),
         )
 
+    -- the page of the new root names both
+    new_root : (left right : Entry) → named_as told (top index.root) ≡ left ∷ right ∷ [] → index.levels < 16
+        → Stand later (sheet_of middle.next (index.levels + 1) (left ∷ right ∷ []) ∷ []) → IsTold index.last later (suc index.levels) (left ∷ right ∷ []) (top middle.next)
+    new_root left right e less root_stands =
+        let one : index.levels + 1 ≡ suc index.levels = omega arith in
+        let all : AllByRecursion (IsEntry index.last) (left ∷ right ∷ []) = subst (λ (xs : List Entry). AllByRecursion (IsEntry index.last) xs) e r.named in
+        let up_all : AscendTo (left ∷ right ∷ []) None = subst (λ (xs : List Entry). AscendTo xs None) e stays_all.ascends in
+        let stands : Stand later (sheet_of middle.next (suc index.levels) (left ∷ right ∷ []) ∷ []) =
+        subst (λ (n : ℕ). Stand later (sheet_of middle.next n (left ∷ right ∷ []) ∷ [])) one root_stands in
+        let two : length (left ∷ right ∷ []) ≤ 170 = omega arith in
+        let is_node = node_so index.last index.levels (left ∷ right ∷ []) None left.first (omega arith) refl two all up_all in
+        let names : NamesPage middle.next (left ∷ right ∷ []) (top middle.next) =
+        record { page_is = refl; begins = ap (λ (k : Key). Some k) (first_origin left (right ∷ []) e) } in
+        told_on index.last small later middle.next (suc index.levels) (left ∷ right ∷ []) (top middle.next) stands.0 is_node names
+
     -- where two are, and a new root names them
     made_two : (left right : Entry) → named_as told (top index.root) ≡ left ∷ right ∷ [] → index.levels < 16
         → Stand later (sheet_of middle.next (index.levels + 1) (left ∷ right ∷ []) ∷ [])
@@ -241,17 +258,9 @@ module _ (index : IndexView) (small : index.last < 2 ^ 128) (low : 1 ≤ index.l
         (Replaces r.found (named_as (with_added added r.found) r.found) (entries_in index store))
     made_two left right e less root_stands =
         let one : index.levels + 1 ≡ suc index.levels = omega arith in
-        let entries : List Entry = left ∷ right ∷ [] in
-        let all : AllByRecursion (IsEntry index.last) (left ∷ right ∷ []) = subst (λ (xs : List Entry). AllByRecursion (IsEntry index.last) xs) e r.named in
         let up_all : AscendTo (left ∷ right ∷ []) None = subst (λ (xs : List Entry). AscendTo xs None) e stays_all.ascends in
         let each : EachTo (IsUnder index.last later index.levels) (left ∷ right ∷ []) None = subst (λ (xs : List Entry). EachTo (IsUnder index.last later index.levels) xs None) e stays_all.each in
-        let stands : Stand later (sheet_of middle.next (suc index.levels) (left ∷ right ∷ []) ∷ []) =
-        subst (λ (n : ℕ). Stand later (sheet_of middle.next n (left ∷ right ∷ []) ∷ [])) one root_stands in
-        let two : length (left ∷ right ∷ []) ≤ 170 = omega arith in
-        let is_node = node_so index.last index.levels (left ∷ right ∷ []) None left.first (omega arith) refl two all up_all in
-        let names : NamesPage middle.next (left ∷ right ∷ []) (top middle.next) =
-        record { page_is = refl; begins = ap (λ (k : Key). Some k) (first_origin left (right ∷ []) e) } in
-        let told_root = told_on index.last small later middle.next (suc index.levels) (left ∷ right ∷ []) (top middle.next) stands.0 is_node names in
+        let told_root = new_root left right e less root_stands in
         let index_there = told_index index.last later index.levels (left ∷ right ∷ []) (top middle.next) None told_root up_all each in
         let pages : middle.next ∷ flat_map (pages_under later index.levels) (named_as told (top index.root)) ≡ pages_under later (suc index.levels) (top middle.next) =
         ap (λ (xs : List Entry). middle.next ∷ flat_map (pages_under later index.levels) xs) (e ∙ sym told_root.entries_are) in
@@ -272,6 +281,23 @@ module _ (index : IndexView) (small : index.last < 2 ^ 128) (low : 1 ≤ index.l
               subst (λ (ns : List ℕ). IsOutside n ns) pages
               (no_root from.next middle.next n r.grown new, r.among later stand stay n (no_new_left from.next middle.next (middle.next + 1) n (omega arith) new) out),
         )
+
+    -- the index is filled that was so, where no fewer regions are named
+    module _ (some : 1 ≤ length (named_as (with_added added r.found) r.found)) (filled : IsFilled index store.pages) where
+      filled_told : AreFilled later index.levels (named_as told (top index.root))
+      filled_told =
+          filled_becomes index.last store.pages later r.found (named_as (with_added added r.found) r.found) r.next index.levels (top index.root) None (named_as told (top index.root)) some becomes filled
+
+      filled_one : (other : Entry) → named_as told (top index.root) ≡ other ∷ [] → IsFilledRoot later index.levels (top index.root)
+      filled_one other e = subst (λ (xs : List Entry). AreFilled later index.levels xs) (told_root other e) filled_told
+
+      filled_two : (left right : Entry) → named_as told (top index.root) ≡ left ∷ right ∷ [] → index.levels < 16
+          → Stand later (sheet_of middle.next (index.levels + 1) (left ∷ right ∷ []) ∷ []) → IsFilledRoot later (index.levels + 1) (top middle.next)
+      filled_two left right e less root_stands =
+          let one : index.levels + 1 ≡ suc index.levels = omega arith in
+          subst (λ (n : ℕ). IsFilledRoot later n (top middle.next)) (sym one)
+          (filled_over index.last later index.levels left right (top middle.next) (new_root left right e less root_stands)
+          (subst (λ (xs : List Entry). AreFilled later index.levels xs) e filled_told))
 
   own_then : (change : ChangeView) → Settles index.root index.levels told (page_count store) middle change
       → (n : ℕ) → IsNoNew from.next change.next n → IsOutside n (pages_of_index index store) → IsUnspelled n change.sheets
@@ -362,6 +388,37 @@ module _ (index : IndexView) (small : index.last < 2 ^ 128) (low : 1 ≤ index.l
     no_other = λ later stand stay n foreign. (ready_then change settles later stand stay).1 n foreign.0 foreign.1;
   }
 
+  pub fills : (change : ChangeView) → Settles index.root index.levels told (page_count store) middle change → 1 ≤ length (named_as (with_added added r.found) r.found)
+      → KeepsFilled index store change
+  fills change settles some later stand stay filled = by_told told refl settles
+    where
+      kept : (same : change ≡ change_view middle (page_count store) index.root index.levels) (other : Entry) → named_as told (top index.root) ≡ other ∷ []
+          → IsFilledRoot later change.levels (top change.root)
+      kept same other e =
+          let sheets : change.sheets ≡ r.sheets = ap (λ (c : ChangeView). c.sheets) same ∙ sheets_are in
+          let so = filled_one later (subst (λ (xs : List Sheet). Stand later xs) sheets stand) (subst (λ (xs : List Sheet). StayBut store.pages later xs (pages_of_index index store)) sheets stay)
+          some filled other e in
+          subst (λ (c : ChangeView). IsFilledRoot later c.levels (top c.root)) (sym same) so
+
+      by_told : (t : Told) → told ≡ t → Settles index.root index.levels t (page_count store) middle change → IsFilledRoot later change.levels (top change.root)
+      by_told Same e h = kept h (top index.root) (ap (λ (t : Told). named_as t (top index.root)) e)
+      by_told Gone e h = absurd h
+      by_told (One other) e h = kept h other (ap (λ (t : Told). named_as t (top index.root)) e)
+      by_told (Two left right) e h =
+          let sheets : change.sheets ≡ r.sheets ++ sheet_of middle.next (index.levels + 1) (left ∷ right ∷ []) ∷ [] =
+          ap (λ (c : ChangeView). c.sheets) h.2 ∙ ap (λ (xs : List Sheet). xs ++ sheet_of middle.next (index.levels + 1) (left ∷ right ∷ []) ∷ []) sheets_are in
+          let stand_all : Stand later (r.sheets ++ sheet_of middle.next (index.levels + 1) (left ∷ right ∷ []) ∷ []) = subst (λ (xs : List Sheet). Stand later xs) sheets stand in
+          let stay_all : StayBut store.pages later (r.sheets ++ sheet_of middle.next (index.levels + 1) (left ∷ right ∷ []) ∷ []) (pages_of_index index store) =
+          subst (λ (xs : List Sheet). StayBut store.pages later xs (pages_of_index index store)) sheets stay in
+          let far : length store.pages ≤ middle.next = (let g = r.grown in omega arith) in
+          let so = filled_two later
+          (all_left (λ (s : Sheet). slice_get later s.number ≡ Some s.page) r.sheets (sheet_of middle.next (index.levels + 1) (left ∷ right ∷ []) ∷ []) stand_all)
+          (stay_less store.pages later r.sheets (sheet_of middle.next (index.levels + 1) (left ∷ right ∷ [])) (pages_of_index index store)
+          (within_store index.last store.pages index.levels (top index.root) None is.under_it) far stay_all)
+          some filled left right (ap (λ (t : Told). named_as t (top index.root)) e) h.0
+          (all_right (λ (s : Sheet). slice_get later s.number ≡ Some s.page) r.sheets (sheet_of middle.next (index.levels + 1) (left ∷ right ∷ []) ∷ []) stand_all) in
+          subst (λ (c : ChangeView). IsFilledRoot later c.levels (top c.root)) (sym h.2) so
+
 -- the way to the first key of a seat ends at its region
 pub seat_found : (index : IndexView) (store : StoreFacts) (i : ℕ) (seat : Seat) → IsIndexOn index store → IsSeatAt (entries_in index store) i seat → (found : Entry) (next : Option Key)
     → LeadsTo index.last store.pages [] seat.first index.levels (top index.root) None found next → (found ≡ entry_at seat) × (next ≡ seat.next)
@@ -387,11 +444,11 @@ begin_same : (before : List Entry) (f x : Entry) (after : List Entry) (key : Key
 begin_same [] f x after key h = h
 begin_same (b ∷ before) f x after key h = h
 
-pub ready_added : (index : IndexView) (store : StoreFacts) (i : ℕ) (seat : Seat) (first : Key) (change : ChangeView) → index.last < 2 ^ 128 → index.levels ≤ 16 → page_count store < 4294967296
+added_both : (index : IndexView) (store : StoreFacts) (i : ℕ) (seat : Seat) (first : Key) (change : ChangeView) → index.last < 2 ^ 128 → index.levels ≤ 16 → page_count store < 4294967296
     → IsIndexOn index store → IsReachedOnce index store → IsSeatAt (entries_in index store) i seat → IsWithinSeat index.last seat.first seat.next first
     → IsPrepared index store seat.first (Some (added_at first store)) (page_count store) (so_far [] (page_count store + 1)) change
-    → MakesIndex index store (page_count store + 1) change (Replaces (entry_at seat) (entry_at seat ∷ added_at first store ∷ []) (entries_in index store))
-ready_added index store i seat first change small high few is own at within (middle, told, turns, settles) =
+    → MakesIndex index store (page_count store + 1) change (Replaces (entry_at seat) (entry_at seat ∷ added_at first store ∷ []) (entries_in index store)) × KeepsFilled index store change
+added_both index store i seat first change small high few is own at within (middle, told, turns, settles) =
     let added : Option Entry = Some (added_at first store) in
     let whole = root_entry index.last store.pages index.root index.levels is.some few own is.under_it in
     let some : 1 ≤ page_count store = some_page index.levels is.some is.under_it in
@@ -408,8 +465,23 @@ ready_added index store i seat first change small high few is own at within (mid
     (subst (λ (xs : List Entry). first_or xs None ≡ Some origin) parts (under_first index.last store.pages index.levels (top index.root) None is.under_it)) in
     let made = ready index small is.some high store seat.first (Some (added_at first store)) (so_far [] (page_count store + 1)) middle told (omega arith) refl is own few r (fine_at r.found r.next r.leads) begins
     change settles in
-    subst (λ (e : Entry). MakesIndex index store (page_count store + 1) change (Replaces e (e ∷ added_at first store ∷ []) (entries_in index store))) found.0 made
+    let two : 1 ≤ length (r.found ∷ added_at first store ∷ []) = omega arith in
+    let filled = fills index small is.some high store seat.first (Some (added_at first store)) (so_far [] (page_count store + 1)) middle told (omega arith) refl is own few r (fine_at r.found r.next r.leads) begins
+    change settles two in
+    (subst (λ (e : Entry). MakesIndex index store (page_count store + 1) change (Replaces e (e ∷ added_at first store ∷ []) (entries_in index store))) found.0 made, filled)
   where
     some_page : (level : ℕ) → 1 ≤ level → IsUnder index.last store.pages level (top index.root) None → 1 ≤ page_count store
     some_page zero l u = absurd (omega arith)
     some_page (suc level) l u = let near = slice_get_within store.pages index.root (page_in store.pages index.root) u.0.there in omega arith
+
+pub ready_added : (index : IndexView) (store : StoreFacts) (i : ℕ) (seat : Seat) (first : Key) (change : ChangeView) → index.last < 2 ^ 128 → index.levels ≤ 16 → page_count store < 4294967296
+    → IsIndexOn index store → IsReachedOnce index store → IsSeatAt (entries_in index store) i seat → IsWithinSeat index.last seat.first seat.next first
+    → IsPrepared index store seat.first (Some (added_at first store)) (page_count store) (so_far [] (page_count store + 1)) change
+    → MakesIndex index store (page_count store + 1) change (Replaces (entry_at seat) (entry_at seat ∷ added_at first store ∷ []) (entries_in index store))
+ready_added index store i seat first change small high few is own at within made = (added_both index store i seat first change small high few is own at within made).0
+
+-- and it keeps the index filled
+pub fills_added : (index : IndexView) (store : StoreFacts) (i : ℕ) (seat : Seat) (first : Key) (change : ChangeView) → index.last < 2 ^ 128 → index.levels ≤ 16 → page_count store < 4294967296
+    → IsIndexOn index store → IsReachedOnce index store → IsSeatAt (entries_in index store) i seat → IsWithinSeat index.last seat.first seat.next first
+    → IsPrepared index store seat.first (Some (added_at first store)) (page_count store) (so_far [] (page_count store + 1)) change → KeepsFilled index store change
+fills_added index store i seat first change small high few is own at within made = (added_both index store i seat first change small high few is own at within made).1

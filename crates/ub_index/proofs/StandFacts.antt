@@ -10,12 +10,14 @@ use Rattle.ub_table.specs.declared.row.Key.{Key}
 use Rattle.ub_index_page.specs.Index.{IsNode}
 use Rattle.ub_index.specs.Changed.{PagesStay}
 use Rattle.ub_index.specs.Changing.{IsOutside, NamesPage}
+use Rattle.ub_index.specs.Filling.{IsFilled}
 use Rattle.ub_index.specs.Index.{first_or, pages_under, top, under}
 use Rattle.ub_index.specs.Opening.{IsAlone, root_page}
 use Rattle.ub_index.specs.Preparing.{IsReachedOnce, pages_of_index}
 use Rattle.ub_index.specs.Standing.{OldStayOutside, StandsAsOn}
 use Rattle.ub_index.specs.View.{IndexView, IsIndexOn, entries_in, index_view}
 use Rattle.ub_index.proofs.Changes.{kept_index, kept_under, told_index}
+use Rattle.ub_index.proofs.FillFacts.{kept_filled}
 use Rattle.ub_index.proofs.Numbers.{StandApart, apart_swap, distinct_cons, kept_pages, within_store}
 use Rattle.ub_index.proofs.OrderFacts.{under_first}
 use Rattle.ub_index.proofs.PlaceFacts.{begins, each_entry, up, within}
@@ -54,6 +56,15 @@ stands_as index old new numbers is own honest keeps outside =
       entries_are = kept_under old.pages new.pages index.levels (top index.root) stay;
       pages_are = same;
     }
+
+-- and is filled as it was
+pub stands_filled : (index : IndexView) (old new : StoreFacts) (numbers : List ℕ) → IsIndexOn index old → IsReachedOnce index old → IsHonest new → OldStayOutside numbers old.pages new.pages
+    → AllByRecursion (λ n. IsOutside n (pages_of_index index old)) numbers → IsFilled index old.pages → IsFilled index new.pages
+stands_filled index old new numbers is own honest keeps outside filled =
+    let stay : PagesStay old.pages new.pages (pages_of_index index old) =
+    stay_apart old.pages new.pages numbers (pages_of_index index old) keeps (within_store index.last old.pages index.levels (top index.root) None is.under_it)
+    (apart_swap numbers (pages_of_index index old) outside) in
+    kept_filled old.pages new.pages index.levels (top index.root) stay filled
 
 -- where the page of a root stands that names one region, there is an index of one region
 is_alone : (root page last : ℕ) (store : StoreFacts) → last < 2 ^ 128 → IsHonest store → 1 ≤ root → 1 ≤ page → page < 2 ^ 32

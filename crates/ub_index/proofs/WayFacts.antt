@@ -195,7 +195,7 @@ misfit_or_fault last page level entry end OutOfRegion fits h = absurd (h.2 fits)
 misfit_or_fault last page level entry end fault fits h = h
 
 module _ (last : ℕ) (small : last < 2 ^ 128) (pages : List (List ℕ)) (held : List (ℕ × List ℕ)) (key : Key) where
-  named_not_refused : (level : ℕ) (entry : Entry) (end : Option Key) (fault : Option PageFault) → NamesFitting last pages level entry end
+  pub named_not_refused : (level : ℕ) (entry : Entry) (end : Option Key) (fault : Option PageFault) → NamesFitting last pages level entry end
       → ¬ (IsNotTaken last pages held level entry end fault)
   named_not_refused level entry end None h far = let near = slice_get_within pages entry.page (page_in pages entry.page) h.there in omega arith
   named_not_refused level entry end (Some fault) h refused =

@@ -14,6 +14,7 @@ use Rattle.ub_index.specs.declared.fault.IndexFault.TheVariants.{Full, Page, Sto
 use Rattle.ub_index.specs.declared.seat.Seat.{Seat}
 use Rattle.ub_index_page.specs.Index.{node_on}
 use Rattle.ub_page.specs.declared.entries.Entry.{Entry}
+use Rattle.ub_store.specs.Cache.{page_at}
 use Rattle.ub_store.specs.Facts.{StoreFacts, IsHonest, page_count}
 use Rattle.ub_store.specs.View.{PagerView}
 use Rattle.ub_store.specs.declared.fault.StoreFault.TheVariants as store
@@ -47,6 +48,12 @@ pub record StepsTo (last : ℕ) (store : StoreFacts) (held : List (ℕ × List �
 -- each page that is held was held before, or is a page of an index, since it was read in between
 abbrev pub KeepsChecked : ℕ → PagerView → PagerView → Type 0
 KeepsChecked last old new = (n : ℕ) → IsHeld new.cached n → IsHeld old.cached n ⊎ IsIndexPage last (page_in old.store.pages n)
+
+-- a page that was refused isn't held any more: where it is asked for again, it is read and checked in full
+abbrev pub IsForgotten : PagerView → IndexFault → Type 0
+IsForgotten new (Page n fault) = page_at new.cached n ≡ None
+IsForgotten new (Store fault) = Unit {0}
+IsForgotten new Full = Unit {0}
 
 -- a leaf that is named from here holds the key, and so does all up to `until`; what is before `until` is before the leaf's end
 pub record HoldsLeaf (key : Key) (leaf : Leaf) : Type 0 where

@@ -1,12 +1,12 @@
 -- Whether a page of an index is taken where an entry names it, and why it is refused.
 use Rattle.std.specs.Prelude.{◌≡◌, ◌≢◌, ◌≤◌, ◌-◌, ◌⊎◌, ◌++◌, ℕ, Bool, true, false, List, [], ◌∷◌, Option, Some, None, IfSome, length, slice_get}
 use Rattle.ub_index.specs.Index.{first_or, page_in, Fits, IsIndexPage}
-use Rattle.ub_index_page.specs.Index.{head_on, node_on, HasHead, IsHeadFault, IsIndexFault, IsIndexKind}
+use Rattle.ub_index_page.specs.Index.{head_on, node_on, HasHead, HasNodeEntries, IsHeadFault, IsIndexFault, IsIndexKind}
 use Rattle.ub_index_page.specs.Slots.{first_in}
 use Rattle.ub_page.specs.declared.entries.Entry.{Entry}
 use Rattle.ub_store.specs.Cache.{page_at}
 use Rattle.ub_table.specs.Keys.{IsBefore}
-use Rattle.ub_table.specs.declared.fault.PageFault.TheVariants.{BadCount, OutOfRegion}
+use Rattle.ub_table.specs.declared.fault.PageFault.TheVariants.{BadCount, BadRow, OutOfRegion}
 use Rattle.ub_table.specs.declared.fault.PageFault.{PageFault}
 use Rattle.ub_table.specs.declared.row.Key.{Key}
 
@@ -67,7 +67,7 @@ IsNotTaken last pages held level entry end (Some fault) =
     ⊎ (IsHeld held entry.page × IsUnfitAtEnds (page_in pages entry.page) level entry end fault))
 
 -- of entries that end before `end`, a key falls to this one, after which the next one begins: the last that doesn't begin after
--- the key, or else the first of all
+-- the key, or else the first of all; and it doesn't name page 0
 pub record FallsTo (key : Key) (entries : List Entry) (end : Option Key) (below : Entry) (next : Option Key) : Type 0 where
   pub before : List Entry
   pub after : List Entry
@@ -75,3 +75,8 @@ pub record FallsTo (key : Key) (entries : List Entry) (end : Option Key) (below 
   pub next_is : next ≡ first_or after end
   pub from : (before ≡ []) ⊎ (¬ (IsBefore key below.first))
   pub to : IfSome (first_or after None) (IsBefore key)
+  pub some : 1 ≤ below.page
+
+-- a page is refused for an entry of it that is out of range in each space, as one is that names page 0
+abbrev pub IsRowRefused : List ℕ → PageFault → Type 0
+IsRowRefused page fault = (fault ≡ BadRow) × ((last : ℕ) → ¬ (HasNodeEntries last page))

@@ -1,14 +1,16 @@
 -- What holds of every index, and what a change of one entry does to the whole. Each is what the function of its name in `law`
 -- ensures.
-use Rattle.std.specs.Prelude.{◌≡◌, ◌≤◌, ◌<◌, ◌+◌, ◌^◌, ◌++◌, ◌⊎◌, ◌↔◌, [], ◌∷◌, ℕ, suc, nat_eq, List, Option, None, IfSome, length, take, drop}
+use Rattle.std.specs.Prelude.{◌≡◌, ◌≤◌, ◌<◌, ◌+◌, ◌^◌, ◌++◌, ◌⊎◌, ◌↔◌, [], ◌∷◌, ℕ, suc, nat_eq, List, Option, None, IfSome, length, slice_get, take, drop}
 use Rattle.std.specs.List.{AllByRecursion, flat_map, IsDistinct}
 use Rattle.ub_directory.specs.Spans.{ArePlaces, first_keys}
 use Rattle.ub_directory.specs.Writing.{Grows}
 use Rattle.ub_index.specs.Index.{AscendTo, IsIndexPage, IsUnder, under, pages_under, top}
 use Rattle.ub_index.specs.Changed.{PagesStay, Becomes, BeginFrom, Replaces, Stays}
-use Rattle.ub_index.specs.Changing.{IsFine, IsOutside, Spelled, Stand, StayBut, Turns, named_as, with_added}
+use Rattle.ub_index.specs.Changing.{IsFine, IsOutside, Spelled, Stand, StayBut, Turns, named_as, so_far, with_added}
+use Rattle.ub_index.specs.Filling.{IsFilled, KeepsFilled}
+use Rattle.ub_index.specs.Lowering.{IsRootRefused}
 use Rattle.ub_index.specs.Making.{IsCommitted, IsPutFault, PutsSheets, StayOutside, changed}
-use Rattle.ub_index.specs.Preparing.{ChangeView, IsForeign, IsReachedOnce, MakesIndex, added_at, entry_at, pages_of_index}
+use Rattle.ub_index.specs.Preparing.{ChangeView, IsForeign, IsPrepared, IsReachedOnce, MakesIndex, added_at, entry_at, pages_of_index}
 use Rattle.ub_index.specs.Searching.{Cross}
 use Rattle.ub_index.specs.Standing.{AddsNoIndexPage, AreOwnPages, AreRegionsThere, OldStayOutside, StandsAsOn, region_pages}
 use Rattle.ub_index.specs.View.{IndexView, IsIndexOn, IsSeatAt, Leads, Stops, entries_in}
@@ -17,13 +19,14 @@ use Rattle.ub_index.specs.declared.seat.Seat.{Seat}
 use Rattle.ub_index.specs.declared.sheet.Sheet.{Sheet}
 use Rattle.ub_index.specs.declared.told.Told.{Told}
 use Rattle.ub_index.specs.declared.told.Told.TheVariants.{Two}
+use Rattle.ub_index_page.specs.declared.index.TheConstants.{MAX_LEVEL}
 use Rattle.ub_page.specs.Entries.{IsEntry}
 use Rattle.ub_page.specs.declared.entries.Entry.{Entry}
 use Rattle.ub_region.specs.Regions.{index_holding}
 use Rattle.ub_store.specs.Facts.{StoreFacts, IsHonest, page_count, zero_page}
 use Rattle.ub_store.specs.View.{PagerView}
 use Rattle.ub_store.specs.declared.fault.StoreFault.TheVariants as store
-use Rattle.ub_table.specs.Keys.{IsBefore}
+use Rattle.ub_table.specs.Keys.{IsBefore, origin}
 use Rattle.ub_table.specs.declared.fault.PageFault.{PageFault}
 use Rattle.ub_table.specs.declared.row.Key.{Key}
 
@@ -127,6 +130,16 @@ abbrev pub WaysAreTheSame : Type 0
 WaysAreTheSame = (index : IndexView) (old new : StoreFacts) (key : Key) (seat : Seat) → OldStayOutside [] old.pages new.pages
     → AddsNoIndexPage index.last old.pages new.pages → Leads index old [] key seat ↔ Leads index new [] key seat
 
+-- over any pages, whichever of them were held: no way from a root that isn't page 0 goes over page 0; it neither leads to it nor
+-- stops there, and where all other pages stay, ways lead where they led, and stop where they stopped
+abbrev pub WaysMissFirst : Type 0
+WaysMissFirst = (index : IndexView) (old new : StoreFacts) (held : List (ℕ × List ℕ)) (key : Key) → 1 ≤ index.root
+    → ((seat : Seat) → Leads index old held key seat → 1 ≤ seat.page)
+    × ((n : ℕ) (fault : Option PageFault) → Stops index old held key n fault → 1 ≤ n)
+    × (((n : ℕ) → 1 ≤ n → slice_get new.pages n ≡ slice_get old.pages n)
+    → ((seat : Seat) → Leads index old held key seat ↔ Leads index new held key seat)
+    × ((n : ℕ) (fault : Option PageFault) → Stops index old held key n fault ↔ Stops index new held key n fault))
+
 -- a page of zeros, as a store adds it, is none of an index
 abbrev pub ZerosAreNoIndexPage : Type 0
 ZerosAreNoIndexPage = (last : ℕ) → ¬ (IsIndexPage last zero_page)
@@ -176,6 +189,15 @@ DroppedPagesAreOwn = (index : IndexView) (old filled new : StoreFacts) (change :
     → IsIndexOn index old → AreOwnPages index old → AreRegionsThere index old
     → IsCommitted index old (page_count old) change f [] filled new → AreOwnPages (changed index change) new
 
+-- on an index each page of which is reached once, once the entry of a seat that isn't the first has gone: no root is refused to
+-- which its root gives way
+abbrev pub RootsAreTaken : Type 0
+RootsAreTaken = (index : IndexView) (store : StoreFacts) (i : ℕ) (seat : Seat) (change : ChangeView) (n : ℕ) (fault : Option PageFault)
+    → index.last < 2 ^ 128 → index.levels ≤ 16 → page_count store < 2 ^ 32 → IsIndexOn index store → IsReachedOnce index store
+    → IsSeatAt (entries_in index store) i seat → IsBefore origin seat.first
+    → IsPrepared index store seat.first None (page_count store) (so_far [] (page_count store)) change
+    → ¬ (IsRootRefused index.last store.pages change n fault)
+
 -- where entries stand in the place of one, there are so many: with two one more, with none one less
 abbrev pub EntriesCount : Type 0
 EntriesCount = (f : Entry) (fs old new : List Entry) → Replaces f fs old new → length new + 1 ≡ length old + length fs
@@ -184,3 +206,26 @@ EntriesCount = (f : Entry) (fs old new : List Entry) → Replaces f fs old new �
 abbrev pub ReplacesAtSeat : Type 0
 ReplacesAtSeat = (last : ℕ) (entries new : List Entry) (i : ℕ) (seat : Seat) (fs : List Entry) → ArePlaces last entries
     → IsSeatAt entries i seat → Replaces (entry_at seat) fs entries new → new ≡ take i entries ++ (fs ++ drop (suc i) entries)
+
+-- an index of one level is filled, whatever its root names
+abbrev pub NewIndexIsFilled : Type 0
+NewIndexIsFilled = (index : IndexView) (pages : List (List ℕ)) → index.levels ≡ 1 → IsFilled index pages
+
+-- where a change keeps an index filled, it is once the change is made, as `ChangeIsMade` says of it
+abbrev pub ChangeFills : Type 0
+ChangeFills = (index : IndexView) (old grown filled new : StoreFacts) (from : ℕ) (change : ChangeView) (f : Entry) (fs : List Entry) (numbers : List ℕ)
+    → IsIndexOn index old → MakesIndex index old from change (Replaces f fs (entries_in index old)) → Grows old grown
+    → StayOutside numbers grown.pages filled.pages → AllByRecursion (IsForeign index old from change) numbers → IsHonest filled → IsHonest new
+    → PutsSheets change.sheets filled new → Stand new.pages change.sheets → KeepsFilled index old change → IsFilled index old.pages
+    → IsFilled (changed index change) new.pages
+
+-- where pages are put anew none of which is the index's own, and the others stay, an index is filled as it was
+abbrev pub RegionsKeepFilled : Type 0
+RegionsKeepFilled = (index : IndexView) (old new : StoreFacts) (numbers : List ℕ) → IsIndexOn index old → IsReachedOnce index old
+    → IsHonest new → OldStayOutside numbers old.pages new.pages
+    → AllByRecursion (λ n. IsOutside n (pages_of_index index old)) numbers → IsFilled index old.pages → IsFilled index new.pages
+
+-- an index that is filled, and has fewer regions than there can be pages, has fewer levels than there can be
+abbrev pub FilledIndexIsLow : Type 0
+FilledIndexIsLow = (index : IndexView) (store : StoreFacts) → IsIndexOn index store → IsFilled index store.pages
+    → length (entries_in index store) < 2 ^ 32 → index.levels < MAX_LEVEL

@@ -10,5 +10,6 @@ pub mod Changing
 pub mod Preparing
 pub mod Lowering
 pub mod Making
+pub mod Filling
 pub mod Opening
 pub mod Standing

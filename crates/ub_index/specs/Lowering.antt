@@ -34,9 +34,14 @@ page_then sheets pages n = spelled_or (spelled_page sheets n) (page_in pages n)
 abbrev pub entries_then : List Sheet → List (List ℕ) → ℕ → List Entry
 entries_then sheets pages n = (node_on (page_then sheets pages n)).entries
 
--- the page that these entries name, if there is one entry alone
+-- this page, unless it is page 0, on which no index has a page
+abbrev pub unless_first : ℕ → Option ℕ
+unless_first zero = None
+unless_first (suc n) = Some (suc n)
+
+-- the page that these entries name, if there is one entry alone, and it doesn't name page 0
 abbrev pub sole_page : List Entry → Option ℕ
-sole_page (entry ∷ []) = Some entry.page
+sole_page (entry ∷ []) = unless_first entry.page
 sole_page _ = None
 
 -- from a root of a level on, each of which names one page alone, one comes to another root
@@ -59,7 +64,8 @@ pub record LowersTo (pages : List (List ℕ)) (old new : ChangeView) : Type 0 wh
 -- one comes to a root that isn't spelled, and that can't be taken
 abbrev pub IsRootRefused : ℕ → List (List ℕ) → ChangeView → ℕ → Option PageFault → Type 0
 IsRootRefused last pages change n fault =
-    (level : ℕ) × Lowers change.sheets pages change.root change.levels n level × IsNotTaken last pages [] level (top n) None fault
+    (level : ℕ) × Lowers change.sheets pages change.root change.levels n level × (spelled_page change.sheets n ≡ None)
+    × IsNotTaken last pages [] level (top n) None fault
 
 -- why a root doesn't give way
 abbrev pub IsLowerFault : ℕ → StoreFacts → ChangeView → IndexFault → Type 0

@@ -123,6 +123,12 @@ NeedsPages index store key n =
     (full : ℕ) × EndsFull index.last store.pages key index.levels (top index.root) None full
     × ((n ≡ full) ⊎ ((full ≡ index.levels) × (index.levels < 16) × (n ≡ full + 1)))
 
+-- a change begins with so many pages, and its next one has this number at least, and is so much further at most
+pub record TakesFew (start next most : ℕ) (change : ChangeView) : Type 0 where
+  pub start_is : change.start ≡ start
+  pub more : next ≤ change.next
+  pub few : change.next ≤ next + most
+
 -- an addition takes one page for the region, and those that the index needs, no more and no fewer; so many there may be; and
 -- where there can be no level more, not each page on the way is full
 pub record TakesNeeded (index : IndexView) (old : StoreFacts) (key : Key) (change : ChangeView) : Type 0 where

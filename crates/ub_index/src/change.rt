@@ -1,15 +1,15 @@
 // A change of an index that is prepared, and not yet made.
-ghost use Rattle.std.specs.Prelude.{◌≡◌, ◌≤◌, ◌<◌, ◌+◌, ◌-◌, [], None, IfOk, IfErr, OnOk};
+ghost use Rattle.std.specs.Prelude.{◌≡◌, ◌≤◌, ◌<◌, ◌+◌, ◌-◌, ◌⊎◌, [], None, IfOk, IfErr, IfSome, OnOk};
 ghost use Rattle.ub_directory.specs.Writing.{Grows, put_store};
 ghost use Rattle.ub_index.specs.Changing.{IsAtMostOne, IsNoGrowth};
-ghost use Rattle.ub_index.specs.Descending.{Steps};
+ghost use Rattle.ub_index.specs.Descending.{IsForgotten, Steps};
 ghost use Rattle.ub_index.specs.Index.{top};
-ghost use Rattle.ub_index.specs.Lowering.{LowersTo, ReadsRoots, entries_then, sole_page};
+ghost use Rattle.ub_index.specs.Lowering.{LowersTo, ReadsRoots, entries_then, sole_page, spelled_page, unless_first};
 ghost use Rattle.ub_index_page.specs.Index.{node_on};
 ghost use Rattle.ub_store.specs.Facts.{IsHonest, page_count};
 ghost use Rattle.ub_store.specs.View.{SameTrace};
 ghost use Rattle.ub_index.specs.Making.{IsGrowFault};
-ghost use Rattle.ub_index.specs.Preparing.{Settles, IsSettleFault};
+ghost use Rattle.ub_index.specs.Preparing.{Settles, IsSettleFault, TakesFew};
 ghost use Rattle.ub_index.specs.declared.told.Told.TheVariants.{Two};
 ghost use Rattle.ub_index_page.specs.declared.index.TheConstants.{MAX_LEVEL};
 
@@ -44,7 +44,7 @@ impl Model for Change {
 
     ghost view = { λ c. change_view c.sheets c.start c.root c.levels };
 
-    ghost invariant = { λ c. (1 ≤ c.levels) × (c.levels ≤ MAX_LEVEL) };
+    ghost invariant = { λ c. (1 ≤ c.levels) × (c.levels ≤ MAX_LEVEL) × (1 ≤ c.root) };
 }
 
 impl Change {
@@ -59,7 +59,10 @@ impl Change {
     ) -> Result<Change, IndexFault>
         requires low { 1 ≤ levels }
         requires high { levels ≤ MAX_LEVEL }
+        requires some { 1 ≤ root }
+        requires more { IsAtMostOne told ⊎ (1 ≤ sheets.next) }
         ensures settled { IfOk result (Settles root levels told start sheets) }
+        ensures few { IfOk result (TakesFew start sheets.next 1) }
         ensures narrow { IsAtMostOne told → IfErr result IsNoGrowth }
         ensures refused { IfErr result (IsSettleFault root levels told sheets) }
     {
@@ -85,9 +88,10 @@ impl Change {
         self.sheets.all()
     }
 
-    /// The root from then on: its page, and its level, 1 to 16.
+    /// The root from then on: its page, which isn't the store's first, and its level, 1 to 16.
     pub fn root(&self) -> (u32, u32)
         ensures root { result ≡ (self.now.root, self.now.levels) }
+        ensures some { 1 ≤ self.now.root }
         ensures low { 1 ≤ self.now.levels }
         ensures high { self.now.levels ≤ MAX_LEVEL }
     {
@@ -156,6 +160,9 @@ fn named_alone<S: PageStore>(
 ) -> Result<Option<u32>, IndexFault>
     ensures sole { IsHonest pager.old.store → IfOk result (λ page. page
         ≡ sole_page (entries_then sheets.now.sheets pager.old.store.pages root)) }
+    ensures some { IfOk result (λ page. IfSome page (λ n. 1 ≤ n)) }
+    ensures unspelled { IfErr result (λ _. spelled_page sheets.now.sheets root ≡ None) }
+    ensures forgotten { IfErr result (IsForgotten pager.new) }
     ensures effect { Steps last [] level (top root) None pager.old pager.new result }
 {
     if let Some(page) = sheets.find(root) {
@@ -165,19 +172,31 @@ fn named_alone<S: PageStore>(
     let page = pager.cached(root);
     match fits(page, last, level, &root_place(root)) {
         Ok(_) => Ok(sole_on(page)),
-        Err(fault) => Err(IndexFault::Page { page: root, fault }),
+        Err(fault) => {
+            pager.forget(root);
+            Err(IndexFault::Page { page: root, fault })
+        }
     }
 }
 
-// The page that a page of an index names alone, if it does.
+// The page that a page of an index names alone, if it does, and it isn't page 0.
 fn sole_on(page: &Page) -> Option<u32>
-    ensures { result ≡ sole_page (node_on page.now).entries }
+    ensures sole { result ≡ sole_page (node_on page.now).entries }
+    ensures some { IfSome result (λ n. 1 ≤ n) }
 {
     if u16_at(page, 2) == 1 {
-        Some(entry_at(page, 0).page)
+        unless_first(entry_at(page, 0).page)
     } else {
         None
     }
+}
+
+// This page, unless it is page 0.
+fn unless_first(page: u32) -> Option<u32>
+    ensures same { result ≡ unless_first page }
+    ensures some { IfSome result (λ n. 1 ≤ n) }
+{
+    if page == 0 { None } else { Some(page) }
 }
 
 // How the change leaves a root the entries of which stand on two pages: a new one above it names them.
@@ -189,8 +208,10 @@ fn raised(
     start: u32,
     sheets: Sheets,
 ) -> Result<Change, IndexFault>
-    requires { levels ≤ MAX_LEVEL }
+    requires high { levels ≤ MAX_LEVEL }
+    requires more { 1 ≤ sheets.next }
     ensures settled { IfOk result (Settles root levels (Two left right) start sheets) }
+    ensures few { IfOk result (TakesFew start sheets.next 1) }
     ensures refused { IfErr result (IsSettleFault root levels (Two left right) sheets) }
 {
     if levels == MAX_LEVEL {

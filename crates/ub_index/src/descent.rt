@@ -1,10 +1,11 @@
 // The way down an index, step by step.
 ghost use Rattle.std.specs.Prelude.{◌≡◌, ◌+◌, ◌<◌, ◌≤◌, ◌↔◌, ◌⊎◌, None, Some, IfOk, IfErr, IsOk, IfSome, IsTrue, drop};
-ghost use Rattle.ub_index.specs.Descending.{GoesBack, HoldsLeaf, KeepsChecked, Looks, LooksAt, Steps, StepsTo};
-ghost use Rattle.ub_index.specs.Fitting.{FallsTo, FitsAtEnds, FitsSo, IsUnfit, IsUnfitAtEnds, IsUnfitSo};
+ghost use Rattle.ub_index.specs.Descending.{GoesBack, HoldsLeaf, IsForgotten, KeepsChecked, Looks, LooksAt, Steps, StepsTo};
+ghost use Rattle.ub_index.specs.Fitting.{FallsTo, FitsAtEnds, FitsSo, IsRowRefused, IsUnfit, IsUnfitAtEnds, IsUnfitSo};
 ghost use Rattle.ub_index.specs.Index.{Fits, first_or, top};
 ghost use Rattle.ub_index.specs.Searching.{Aims, IsAim, IsAimless, at_least};
 ghost use Rattle.ub_index_page.specs.Index.{head_on, node_on};
+ghost use Rattle.ub_index_page.specs.Slots.{IsSlot};
 ghost use Rattle.ub_index.specs.Way.{HoldsKey};
 ghost use Rattle.ub_store.specs.Facts.{IsHonest};
 ghost use Rattle.ub_table.specs.Keys.{IsBefore};
@@ -58,7 +59,8 @@ pub fn root_place(root: u32) -> Place
 }
 
 /// Goes down from a place of this level to that of the level below to which the key falls. Reads the page that the entry names,
-/// if it isn't held, and then checks it in full; of a page that is held its ends are looked at.
+/// if it isn't held, and then checks it in full; of a page that is held its ends are looked at, and the entry to which the key
+/// falls: it is refused as BadRow where it names page 0, as it would be in full. The pager forgets a page that is refused.
 pub fn step_down<S: PageStore>(
     pager: &mut Pager<S>,
     last: u128,
@@ -72,23 +74,50 @@ pub fn step_down<S: PageStore>(
         pager.old.cached key.now level place.now.entry place.now.next below.entry below.next) }
     ensures checked { IsHonest pager.old.store
         → IfOk result (λ _. KeepsChecked last pager.old pager.new) }
+    ensures forgotten { IfErr result (IsForgotten pager.new) }
     ensures effect { Steps last pager.old.cached level place.now.entry place.now.next
         pager.old pager.new result }
 {
     let number = place.entry.page;
     let is_read = pager.bring(number)?;
     let page = pager.cached(number);
-    match fits_so(page, is_read, last, level, place) {
-        Ok(head) => Ok(fall(page, head.count, key, place.next)),
-        Err(fault) => Err(IndexFault::Page {
-            page: number,
-            fault,
-        }),
+    match fall_on(page, is_read, last, level, place, key) {
+        Ok(below) => Ok(below),
+        Err(fault) => {
+            pager.forget(number);
+            Err(IndexFault::Page {
+                page: number,
+                fault,
+            })
+        }
     }
 }
 
+// The place to which a key falls on a page that was read now or was held, where the page fits the place from which an entry
+// names it.
+fn fall_on(
+    page: &Page,
+    is_read: bool,
+    last: u128,
+    level: u32,
+    place: &Place,
+    key: &Key,
+) -> Result<Place, PageFault>
+    ensures fits { IfOk result
+        (λ _. FitsSo is_read last page.now level place.now.entry place.now.next) }
+    ensures ends { IfOk result (λ _. FitsAtEnds page.now level place.now.entry place.now.next) }
+    ensures falls { IfOk result (λ below. FallsTo key.now (node_on page.now).entries
+        place.now.next below.entry below.next) }
+    ensures refused { IfErr result (λ fault.
+        IsUnfitSo is_read last page.now level place.now.entry place.now.next fault
+        ⊎ IsUnfit last page.now level place.now.entry place.now.next fault) }
+{
+    let head = fits_so(page, is_read, last, level, place)?;
+    fall(page, head.count, key, place.next)
+}
+
 /// Looks on a leaf for what comes behind the region of a key: where the next region begins, and where a search with this goal
-/// goes on from there. Reads the leaf, if it isn't held.
+/// goes on from there. Reads the leaf, if it isn't held. The pager forgets it where it is refused.
 pub fn look<S: PageStore>(
     pager: &mut Pager<S>,
     last: u128,
@@ -99,6 +128,7 @@ pub fn look<S: PageStore>(
     ensures looks { IfOk result (LooksAt last pager.old (Aims goal.now) key.now leaf.now) }
     ensures checked { IsHonest pager.old.store
         → IfOk result (λ _. KeepsChecked last pager.old pager.new) }
+    ensures forgotten { IfErr result (IsForgotten pager.new) }
     ensures effect { Steps last pager.old.cached 1 leaf.now.place.entry leaf.now.place.next
         pager.old pager.new result }
 {
@@ -107,7 +137,10 @@ pub fn look<S: PageStore>(
     let page = pager.cached(n);
     match look_on(page, is_read, last, leaf, key, goal) {
         Ok(found) => Ok(found),
-        Err(fault) => Err(IndexFault::Page { page: n, fault }),
+        Err(fault) => {
+            pager.forget(n);
+            Err(IndexFault::Page { page: n, fault })
+        }
     }
 }
 
@@ -134,7 +167,7 @@ fn look_on(
         ⊎ IsUnfit last page.now 1 leaf.now.place.entry leaf.now.place.next fault) }
 {
     let head = fits_so(page, is_read, last, 1, &leaf.place)?;
-    let found = looked(page, head.count, last, leaf, key, goal);
+    let found = looked(page, head.count, last, leaf, key, goal)?;
     if !goes_back(&found) {
         return Ok(found);
     }
@@ -153,22 +186,33 @@ fn goes_back(found: &Found) -> bool
 }
 
 // The same among the entries of a page, which are so many.
-fn looked(page: &Page, count: usize, last: u128, leaf: &Leaf, key: &Key, goal: &Goal) -> Found
+fn looked(
+    page: &Page,
+    count: usize,
+    last: u128,
+    leaf: &Leaf,
+    key: &Key,
+    goal: &Goal,
+) -> Result<Found, PageFault>
     requires count { count ≡ (head_on page.now).count }
     requires some { 1 ≤ count }
     requires few { count ≤ MAX_ENTRIES }
-    ensures { Looks last (Aims goal.now) (node_on page.now).entries key.now leaf.now result }
+    ensures looks { IfOk result
+        (Looks last (Aims goal.now) (node_on page.now).entries key.now leaf.now) }
+    ensures refused { IfErr result (IsRowRefused page.now) }
 {
     let end = leaf.place.next;
-    let Some(from) = fall(page, count, key, end).next else {
-        return Found::Nothing;
+    let slot = slot_in(page, count, key);
+    let Some(from) = place_in(page, count, slot, end)?.next else {
+        return Ok(Found::Nothing);
     };
     match aim(goal, last, &from) {
-        None => Found::Nothing,
+        None => Ok(Found::Nothing),
         Some(aim) if ends_before(&aim, &leaf.until) => {
-            Found::Here(from, fall(page, count, &aim, end))
+            let slot = slot_behind(page, count, slot, &aim);
+            Ok(Found::Here(from, place_in(page, count, slot, end)?))
         }
-        Some(aim) => Found::Beyond(from, aim),
+        Some(aim) => Ok(Found::Beyond(from, aim)),
     }
 }
 
@@ -277,18 +321,61 @@ fn ends_before(key: &Key, end: &Option<Key>) -> bool
     }
 }
 
-/// The place to which a key falls among the entries of a page, which are so many, and end before `end`.
-pub fn fall(page: &Page, count: usize, key: &Key, end: Option<Key>) -> Place
+// The place to which a key falls among the entries of a page, which are so many, and end before `end`. It is refused as BadRow
+// where the entry names page 0.
+fn fall(page: &Page, count: usize, key: &Key, end: Option<Key>) -> Result<Place, PageFault>
     requires count { count ≡ (head_on page.now).count }
     requires some { 1 ≤ count }
     requires few { count ≤ MAX_ENTRIES }
-    ensures { FallsTo key.now (node_on page.now).entries end result.entry result.next }
+    ensures falls { IfOk result (λ place.
+        FallsTo key.now (node_on page.now).entries end place.entry place.next) }
+    ensures refused { IfErr result (IsRowRefused page.now) }
 {
-    let slot = slot_in(page, count, key);
-    Place {
-        entry: entry_at(page, slot),
-        next: first_after(page, count, slot, end),
+    place_in(page, count, slot_in(page, count, key), end)
+}
+
+// The place in a slot, to which each key falls that falls to this slot.
+fn place_in(page: &Page, count: usize, slot: usize, end: Option<Key>) -> Result<Place, PageFault>
+    requires count { count ≡ (head_on page.now).count }
+    requires within { slot < count }
+    requires few { count ≤ MAX_ENTRIES }
+    ensures falls { (key : Key) → IsSlot key count page.now slot → IfOk result (λ place.
+        FallsTo key (node_on page.now).entries end place.entry place.next) }
+    ensures refused { IfErr result (IsRowRefused page.now) }
+{
+    let entry = entry_at(page, slot);
+    if entry.page == 0 {
+        return Err(PageFault::BadRow);
     }
+    Ok(Place {
+        entry,
+        next: first_after(page, count, slot, end),
+    })
+}
+
+// The slot to which a key falls: the one behind this slot, as it mostly is where a search goes on, or else it is found by
+// halving.
+fn slot_behind(page: &Page, count: usize, slot: usize, key: &Key) -> usize
+    requires within { slot < count }
+    requires few { count ≤ MAX_ENTRIES }
+    ensures { IsSlot key.now count page.now result }
+{
+    if is_slot(page, count, slot + 1, key) {
+        slot + 1
+    } else {
+        slot_in(page, count, key)
+    }
+}
+
+// Whether a key falls to this slot, which isn't the first.
+fn is_slot(page: &Page, count: usize, slot: usize, key: &Key) -> bool
+    requires later { 1 ≤ slot }
+    requires few { count ≤ MAX_ENTRIES }
+    ensures { IsTrue result ↔ IsSlot key.now count page.now slot }
+{
+    slot < count
+        && !key.is_before(&first_at(page, slot))
+        && (slot + 1 == count || key.is_before(&first_at(page, slot + 1)))
 }
 
 // Where the entry after that of a slot begins, or else the end.

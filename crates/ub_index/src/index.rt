@@ -1,4 +1,4 @@
-ghost use Rattle.std.specs.Prelude.{◌≡◌, ◌≤◌, ◌<◌, ◌+◌, ◌^◌, ℕ, [], ◌∷◌, None, Some, IfOk, IfErr, IfSome, OnOk, OnErr, option_copied};
+ghost use Rattle.std.specs.Prelude.{◌≡◌, ◌≤◌, ◌<◌, ◌+◌, ◌^◌, ◌⊎◌, ℕ, [], ◌∷◌, None, Some, IfOk, IfErr, IfSome, OnOk, OnErr, option_copied};
 ghost use Rattle.ub_bigmin.specs.Box.{HoldsAny};
 ghost use Rattle.ub_bigmin.specs.Extremes.{LeastFrom};
 ghost use Rattle.ub_directory.specs.Spans.{first_keys, regions_of, Meets, IsLater, First};
@@ -7,10 +7,11 @@ ghost use Rattle.ub_directory.specs.Writing.{put_store};
 ghost use Rattle.ub_index.specs.Changing.{AreOnce, IsNoGrowth, Stand, so_far};
 ghost use Rattle.ub_index.specs.Making.{IsPutFault, PutsSheets};
 ghost use Rattle.ub_store.specs.View.{SameTrace};
+ghost use Rattle.ub_index.specs.Filling.{KeepsFilled};
 ghost use Rattle.ub_index.specs.Index.{top};
 ghost use Rattle.ub_index.specs.Lowering.{IsDropped, MakesLow, PreparesDrop};
-ghost use Rattle.ub_index.specs.Preparing.{IsPrepared, IsReachedOnce, MakesIndex, IsWithinSeat, PreparesAll, TakesNeeded, added_at, entry_at};
-ghost use Rattle.ub_index.specs.Descending.{FindsAfter, HoldsLeaf, KeepsChecked, LeadsDown};
+ghost use Rattle.ub_index.specs.Preparing.{IsPrepared, IsReachedOnce, MakesIndex, IsWithinSeat, PreparesAll, TakesFew, TakesNeeded, added_at, entry_at};
+ghost use Rattle.ub_index.specs.Descending.{FindsAfter, HoldsLeaf, IsForgotten, KeepsChecked, LeadsDown};
 ghost use Rattle.ub_index.specs.Searching.{Aims, Gives, GivesAny, GivesAfter, IsSought, GoesDown, end_before, key_before, region_of};
 ghost use Rattle.ub_index.specs.View.{IsIndexOn, IsSeatAt, IsNextSeat, IsPreviousSeat, entries_in, index_view};
 ghost use Rattle.ub_index_page.specs.declared.index.TheConstants.{MAX_LEVEL};
@@ -52,18 +53,29 @@ impl Model for Index {
 
     ghost view = { λ i. index_view i.root i.levels i.last };
 
-    ghost invariant = { λ i. (1 ≤ i.levels) × (i.levels ≤ MAX_LEVEL) × (i.last < 2 ^ 128) };
+    ghost invariant = { λ i. (1 ≤ i.levels) × (i.levels ≤ MAX_LEVEL) × (i.last < 2 ^ 128) × (1 ≤ i.root) };
 }
 
 impl Index {
-    /// The index whose root stands on this page and is of this level, 1 to 16, in a space with this last address. Nothing is
-    /// read.
+    /// The index whose root stands on this page, which isn't the store's first, and is of this level, 1 to 16, in a space with
+    /// this last address. Nothing is read.
     pub fn new(root: u32, levels: u32, last: u128) -> Index
+        requires some { 1 ≤ root }
         requires low { 1 ≤ levels }
         requires high { levels ≤ MAX_LEVEL }
         ensures { result ≡ record { root = root; levels = levels; last = last } }
     {
         Index { root, levels, last }
+    }
+
+    /// The root: its page, which isn't the store's first, and its level, 1 to 16.
+    pub fn root(&self) -> (u32, u32)
+        ensures root { result ≡ (self.now.root, self.now.levels) }
+        ensures some { 1 ≤ self.now.root }
+        ensures low { 1 ≤ self.now.levels }
+        ensures high { self.now.levels ≤ MAX_LEVEL }
+    {
+        (self.root, self.levels)
     }
 
     /// The seat of the region that holds a key: the last one that does not begin after it.
@@ -73,12 +85,13 @@ impl Index {
     /// page above names it, or doesn't end before that of the next one. Of one that the pager holds the ends alone are looked
     /// at: its reader refuses its first bytes alone then. Store with NoPage comes where a page is named that the store doesn't
     /// have, with Device where the store failed in this call, with Memory where memory was refused. The first refusal on the
-    /// way is told. Index and store are then as they were.
+    /// way is told. Index and store are then as they were, and the pager has forgotten the page that is refused.
     pub fn seat_of<S: PageStore>(&self, pager: &mut Pager<S>, key: &Key) -> Result<Seat, IndexFault>
         ensures given { IfOk result (Gives self.now pager.old key.now) }
         ensures seat { IsIndexOn self.now pager.old.store → IfOk result
             (IsSeatAt (entries_in self.now pager.old.store)
             (index_holding key.now (first_keys (entries_in self.now pager.old.store)))) }
+        ensures forgotten { IfErr result (IsForgotten pager.new) }
         ensures effect { GoesDown (λ k. k ≡ key.now) self.now pager.old pager.new result }
     {
         descend(pager, self.root, self.levels, self.last, key)
@@ -95,6 +108,7 @@ impl Index {
         ensures after { (i : ℕ) → IsIndexOn self.now pager.old.store
             → IsSeatAt (entries_in self.now pager.old.store) i seat.now
             → IfOk result (IsNextSeat (entries_in self.now pager.old.store) i) }
+        ensures forgotten { IfErr result (IsForgotten pager.new) }
         ensures effect { GoesDown (λ k. seat.now.next ≡ Some k) self.now pager.old pager.new result }
     {
         match &seat.next {
@@ -115,6 +129,7 @@ impl Index {
         ensures before { (i : ℕ) → IsIndexOn self.now pager.old.store
             → IsSeatAt (entries_in self.now pager.old.store) i seat.now
             → IfOk result (IsPreviousSeat (entries_in self.now pager.old.store) i) }
+        ensures forgotten { IfErr result (IsForgotten pager.new) }
         ensures effect { GoesDown (λ k. key_before seat.now.first.z seat.now.first.number ≡ Some k)
             self.now pager.old pager.new result }
     {
@@ -139,6 +154,7 @@ impl Index {
         ensures given { IfOk result (GivesAfter self.now pager.old (λ _ to. to ≡ Some z)
             (option_copied after.entry)) }
         ensures later { IfOk result (λ found. IfSome found (IsLater (option_copied after.entry))) }
+        ensures small { IfOk result (λ found. IfSome found (λ r. r.first.number < 2 ^ 32)) }
         ensures found { IsIndexOn self.now pager.old.store → IfOk result (First
             (λ r. IsLater (option_copied after.entry) r × (z ≤ r.to))
             (regions_of self.now.last (entries_in self.now pager.old.store))) }
@@ -159,6 +175,7 @@ impl Index {
         ensures given { IfOk result (GivesAfter self.now pager.old
             (λ from. LeastFrom (HoldsAny boxes.now) from.z) (option_copied after.entry)) }
         ensures later { IfOk result (λ found. IfSome found (IsLater (option_copied after.entry))) }
+        ensures small { IfOk result (λ found. IfSome found (λ r. r.first.number < 2 ^ 32)) }
         ensures found { IsIndexOn self.now pager.old.store → IfOk result (First
             (λ r. IsLater (option_copied after.entry) r × Meets boxes.now r)
             (regions_of self.now.last (entries_in self.now pager.old.store))) }
@@ -187,6 +204,8 @@ impl Index {
         ensures made { IsHonest pager.old.store → IfOk result (IsPrepared self.now pager.old.store
             seat.now.first (Some (added_at first.now pager.old.store)) (page_count pager.old.store)
             (so_far [] (page_count pager.old.store + 1))) }
+        ensures few { IfOk result
+            (TakesFew (page_count pager.old.store) (page_count pager.old.store + 1) (self.now.levels + 1)) }
         ensures takes { IsHonest pager.old.store → IfOk result
             (TakesNeeded self.now pager.old.store seat.now.first) }
         ensures ready { (i : ℕ) → IsIndexOn self.now pager.old.store
@@ -197,6 +216,11 @@ impl Index {
             (page_count pager.old.store + 1) c (Replaces (entry_at seat.now)
             (entry_at seat.now ∷ added_at first.now pager.old.store ∷ [])
             (entries_in self.now pager.old.store))) }
+        ensures fills { (i : ℕ) → IsIndexOn self.now pager.old.store
+            → IsReachedOnce self.now pager.old.store
+            → IsSeatAt (entries_in self.now pager.old.store) i seat.now
+            → IsWithinSeat self.now.last seat.now.first seat.now.next first.now
+            → IfOk result (KeepsFilled self.now pager.old.store) }
         ensures effect { PreparesAll self.now seat.now.first
             (Some (added_at first.now pager.old.store)) (so_far [] (page_count pager.old.store + 1))
             pager.old pager.new result }
@@ -275,7 +299,8 @@ impl Index {
         Ok(())
     }
 
-    // Prepares a change, where the store has so many pages, and some may be spelled already.
+    // Prepares a change, where the store has so many pages, and some may be spelled already: one at least that the store gets,
+    // where a region comes.
     fn prepare<S: PageStore>(
         &self,
         alloc: Global,
@@ -284,9 +309,11 @@ impl Index {
         start: u32,
         sheets: Sheets,
     ) -> Result<Change, IndexFault>
+        requires { (aim.now.added ≡ None) ⊎ (1 ≤ sheets.next) }
         ensures bounds { (self.now.last < 2 ^ 128) × (self.now.levels ≤ MAX_LEVEL) }
         ensures made { IsHonest pager.old.store → IfOk result
             (IsPrepared self.now pager.old.store aim.now.key aim.now.added start sheets) }
+        ensures few { IfOk result (TakesFew start sheets.next (self.now.levels + 1)) }
         ensures narrow { aim.now.added ≡ None → IfErr result IsNoGrowth }
         ensures effect { PreparesAll self.now aim.now.key aim.now.added sheets pager.old pager.new
             result }
@@ -315,6 +342,7 @@ impl Index {
         ensures given { IfOk result (GivesAfter self.now pager.old (Aims goal.now)
             (option_copied after.entry)) }
         ensures later { IfOk result (λ found. IfSome found (IsLater (option_copied after.entry))) }
+        ensures small { IfOk result (λ found. IfSome found (λ r. r.first.number < 2 ^ 32)) }
         ensures effect { GoesDown (IsSought self.now pager.old (Aims goal.now)
             (option_copied after.entry)) self.now pager.old pager.new result }
     {
@@ -323,7 +351,13 @@ impl Index {
                 page: self.root,
                 fault: PageFault::OutOfRegion,
             }),
-            Some((_, seat)) => Ok(Some(region_at(self.last, &seat))),
+            Some((_, seat)) => Ok(Some(region_at(
+                self.last,
+                seat.first.z,
+                seat.first.number,
+                seat.page,
+                &seat.next,
+            ))),
             None => Ok(None),
         }
     }
@@ -338,6 +372,7 @@ impl Index {
     ) -> Result<Option<(Key, Seat)>, IndexFault>
         ensures found { IfOk result
             (FindsAfter self.now pager.old (Aims goal.now) (option_copied after.entry)) }
+        ensures forgotten { IfErr result (IsForgotten pager.new) }
         ensures effect { GoesDown (IsSought self.now pager.old (Aims goal.now)
             (option_copied after.entry)) self.now pager.old pager.new result }
     {
@@ -354,6 +389,7 @@ impl Index {
         goal: &Goal,
     ) -> Result<Option<(Key, Seat)>, IndexFault>
         ensures found { IfOk result (FindsAfter self.now pager.old (Aims goal.now) None) }
+        ensures forgotten { IfErr result (IsForgotten pager.new) }
         ensures effect { GoesDown (IsSought self.now pager.old (Aims goal.now) None) self.now
             pager.old pager.new result }
     {
@@ -373,6 +409,7 @@ impl Index {
     ) -> Result<Option<(Key, Seat)>, IndexFault>
         ensures found { IfOk result
             (FindsAfter self.now pager.old (Aims goal.now) (Some region.now)) }
+        ensures forgotten { IfErr result (IsForgotten pager.new) }
         ensures effect { GoesDown (IsSought self.now pager.old (Aims goal.now) (Some region.now))
             self.now pager.old pager.new result }
     {
@@ -395,6 +432,7 @@ fn descend<S: PageStore>(
 ) -> Result<Seat, IndexFault>
     requires { 1 ≤ levels }
     ensures given { IfOk result (Gives (index_view root levels last) pager.old key.now) }
+    ensures forgotten { IfErr result (IsForgotten pager.new) }
     ensures effect { GoesDown (λ k. k ≡ key.now) (index_view root levels last) pager.old pager.new
         result }
 {
@@ -417,6 +455,7 @@ fn leaf_of<S: PageStore>(
         (LeadsDown (index_view root levels last) pager.old key.now 1) }
     ensures checked { IsHonest pager.old.store
         → IfOk result (λ _. KeepsChecked last pager.old pager.new) }
+    ensures forgotten { IfErr result (IsForgotten pager.new) }
     ensures effect { GoesDown (λ k. k ≡ key.now) (index_view root levels last) pager.old pager.new
         result }
 {
@@ -468,16 +507,21 @@ fn before_key(key: &Key) -> Option<Key>
     }
 }
 
-// The region of a seat, in a space with this last address.
-fn region_at(last: u128, seat: &Seat) -> Region
-    ensures { result ≡ region_of last seat.now }
+// The region of a seat with this first key, this page and this next key, in a space with this last address.
+fn region_at(last: u128, z: u128, number: u32, page: u32, next: &Option<Key>) -> Region
+    ensures region { result ≡ region_of last (record {
+      first = record { z = z; number = number };
+      page = page;
+      next = next.now;
+    }) }
+    ensures small { result.first.number < 2 ^ 32 }
 {
     Region {
-        first: seat.first,
-        next: seat.next,
-        from: seat.first.z,
-        to: end_at(last, &seat.next),
-        page: seat.page,
+        first: Key { z, number },
+        next: *next,
+        from: z,
+        to: end_at(last, next),
+        page,
     }
 }
 

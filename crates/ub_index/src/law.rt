@@ -1,4 +1,4 @@
-ghost use Rattle.ub_index.specs.Laws.{AddedPagesAreOwn, ChangeHasPages, ChangeIsMade, ChangeKeepsOrder, ChangeReplaces, DroppedPagesAreOwn, EntriesArePlaces, EntriesCount, FullWaysPart, OthersStay, OwnPagesStandApart, PagesAreThere, RegionsAreForeign, RegionsMayChange, ReplacesAtSeat, SeatsAreLedTo, TurnsBecome, WaysAreOne, WaysAreTheSame, WaysHold, WaysNeverCross, WaysNeverStop, WaysStay, WholeAscends, ZerosAreNoIndexPage};
+ghost use Rattle.ub_index.specs.Laws.{AddedPagesAreOwn, ChangeFills, ChangeHasPages, ChangeIsMade, ChangeKeepsOrder, ChangeReplaces, DroppedPagesAreOwn, EntriesArePlaces, EntriesCount, FilledIndexIsLow, FullWaysPart, NewIndexIsFilled, OthersStay, OwnPagesStandApart, PagesAreThere, RegionsAreForeign, RegionsKeepFilled, RegionsMayChange, ReplacesAtSeat, RootsAreTaken, SeatsAreLedTo, TurnsBecome, WaysAreOne, WaysAreTheSame, WaysHold, WaysMissFirst, WaysNeverCross, WaysNeverStop, WaysStay, WholeAscends, ZerosAreNoIndexPage};
 
 /// What an entry leads to is in order.
 pub fn whole_ascends()
@@ -65,6 +65,11 @@ pub fn regions_may_change()
     ensures { RegionsMayChange }
 {}
 
+/// No way goes over page 0, so that it may change.
+pub fn ways_miss_first()
+    ensures { WaysMissFirst }
+{}
+
 /// Where a store grows, ways lead where they led.
 pub fn ways_stay()
     ensures { WaysStay }
@@ -123,4 +128,29 @@ pub fn seats_are_led_to()
 /// The regions' pages are none of the index.
 pub fn own_pages_stand_apart()
     ensures { OwnPagesStandApart }
+{}
+
+/// On an index no root is refused to which its root gives way.
+pub fn roots_are_taken()
+    ensures { RootsAreTaken }
+{}
+
+/// An index of one level is filled.
+pub fn new_index_is_filled()
+    ensures { NewIndexIsFilled }
+{}
+
+/// An index that was filled is filled once a change is made that keeps it so.
+pub fn change_fills()
+    ensures { ChangeFills }
+{}
+
+/// An index is filled as it was where pages change that aren't its own.
+pub fn regions_keep_filled()
+    ensures { RegionsKeepFilled }
+{}
+
+/// An index that is filled has fewer levels than there can be.
+pub fn filled_index_is_low()
+    ensures { FilledIndexIsLow }
 {}

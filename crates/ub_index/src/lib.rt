@@ -43,7 +43,8 @@
 //    checked it then; or a change spelled it. But a page can be held that was never checked: another caller brought it, as a
 //    region's page or to look at it; it was put while it was held; or a search read it, refused it, and left it there. What
 //    stands between its ends is then taken as it is: keys that don't ascend, or entries that are out of range, lead to a wrong
-//    region, but never to one that doesn't hold the key by what the pages tell.
+//    region, but never to one that doesn't hold the key by what the pages tell, and never to page 0: an entry that names it is
+//    refused where it is followed, as BadRow of the page on which it stands, as the page would be in full.
 //  - Where a search would go back on a leaf, the leaf is checked in full, and refused for what is wrong with it. Where the ways
 //    to two leaves contradict each other, so that a later region would not begin later, OutOfRegion of the root is told.
 //  - A change checks each page on its way in full, held or not, since it spells the entries anew that stand there.
@@ -58,6 +59,9 @@
 //
 // A root of two pages gets a new one above it, which names both: it grows by a level. With 16 levels that is refused as Full. A
 // root above level 1 that names one page alone gives way to it when a region went, and so on down (`change`).
+//
+// An index that has only grown is filled: each page below its root has 85 entries at least, and a root above level 1 has two. So
+// it has fewer than 16 levels where it has fewer than 2^32 regions, and none of its additions is refused as Full then.
 //
 // THE ORDER. What changes is spelled in memory (`sheets`), with the numbers that the store's next pages will have: the region's
 // page first, then a new page as it comes on the way up, the new root last. All reading, and all want of memory for it, comes

@@ -1,5 +1,6 @@
 // Opening an index that stands on a store, and making one of a single region.
 ghost use Rattle.std.specs.Prelude.{◌≡◌, ◌≤◌, ◌<◌, IfOk, IfErr, OnOk};
+ghost use Rattle.ub_index.specs.Descending.{IsForgotten};
 ghost use Rattle.ub_index.specs.Opening.{HoldsRoot, IsAlone, IsPassing, IsRootFault, IsRooted, Opens, root_page};
 ghost use Rattle.ub_index.specs.View.{index_view};
 ghost use Rattle.ub_index_page.specs.declared.index.TheConstants.{MAX_LEVEL};
@@ -13,8 +14,8 @@ use ub_index_page::{Draft, write_index};
 use ub_store::{PageStore, Pager, StoreFault};
 
 impl Index {
-    /// Opens the index whose root stands on this page and is of this level, 1 to 16, in a space with this last address. The
-    /// root's page is read, if it isn't held, and no other.
+    /// Opens the index whose root stands on this page, which isn't the store's first, and is of this level, 1 to 16, in a space
+    /// with this last address. The root's page is read, if it isn't held, and no other.
     ///
     /// Page comes where that page is refused: by its reader; as BadCount where it is of another level; as OutOfRegion where it
     /// doesn't begin with the least key. Store with NoPage comes where there is no such page, with Device where the store
@@ -25,6 +26,7 @@ impl Index {
         levels: u32,
         last: u128,
     ) -> Result<Index, IndexFault>
+        requires some { 1 ≤ root }
         requires low { 1 ≤ levels }
         requires high { levels ≤ MAX_LEVEL }
         ensures index { IfOk result (λ index. index ≡ index_view root levels last) }
@@ -33,17 +35,21 @@ impl Index {
             → IfOk result (λ index. IsRooted index pager.old.store) }
         ensures exact { IsHonest pager.old.store
             → IsRooted (index_view root levels last) pager.old.store → IfErr result IsPassing }
+        ensures forgotten { IfErr result (IsForgotten pager.new) }
         ensures effect { Opens (index_view root levels last) pager.old pager.new result }
     {
         pager.bring(root)?;
         match fits(pager.cached(root), last, levels, &root_place(root)) {
             Ok(_) => Ok(Index::new(root, levels, last)),
-            Err(fault) => Err(IndexFault::Page { page: root, fault }),
+            Err(fault) => {
+                pager.forget(root);
+                Err(IndexFault::Page { page: root, fault })
+            }
         }
     }
 
     /// Makes an index of one region, which stands on the page `page` and begins with the least key, in a space with this last
-    /// address: puts its root, of level 1, on the page `root`. Device comes where the store failed in this call, and that page
+    /// address: puts its root, of level 1, on the page `root`, which isn't the store's first. Device comes where the store failed in this call, and that page
     /// may then hold any bytes; NoPage where there is no such page.
     pub fn create<S: PageStore>(
         pager: &mut Pager<S>,
@@ -51,6 +57,7 @@ impl Index {
         page: u32,
         last: u128,
     ) -> Result<Index, StoreFault>
+        requires { 1 ≤ root }
         ensures index { IfOk result (λ index. index ≡ index_view root 1 last) }
         ensures stands { IsHonest pager.old.store → 1 ≤ root → 1 ≤ page
             → IfOk result (λ index. IsAlone index page pager.new.store) }

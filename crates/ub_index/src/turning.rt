@@ -1,9 +1,9 @@
 // How a change goes down an index, and back up: what each page on the way becomes.
-ghost use Rattle.std.specs.Prelude.{◌≡◌, ◌+◌, ◌<◌, ◌≤◌, [], None, IfOk, length, take, drop};
+ghost use Rattle.std.specs.Prelude.{◌≡◌, ◌+◌, ◌<◌, ◌≤◌, ℕ, [], None, IfErr, IfOk, length, take, drop};
 ghost use Rattle.ub_index.specs.Changing.{NeedsNoGrowth, OpensTo, Prepares, Turns};
-ghost use Rattle.ub_index.specs.Descending.{Steps};
+ghost use Rattle.ub_index.specs.Descending.{IsForgotten, Steps};
 ghost use Rattle.ub_index.specs.Fitting.{FallsTo};
-ghost use Rattle.ub_index_page.specs.Index.{head_on, node_on};
+ghost use Rattle.ub_index_page.specs.Index.{head_on, node_on, HasNodeEntries};
 ghost use Rattle.ub_index_page.specs.declared.index.TheConstants.{MAX_LEVEL};
 ghost use Rattle.ub_page.specs.declared.entries.TheConstants.{MAX_ENTRIES};
 ghost use Rattle.ub_store.specs.Facts.{IsHonest};
@@ -84,6 +84,7 @@ fn open<S: PageStore>(
         pager.old.store.pages key.now level place.now.entry place.now.next
         o.before.items o.below.entry o.below.next o.after.items) }
     ensures few { IfOk result (λ o. length o.before.items + length o.after.items < MAX_ENTRIES) }
+    ensures forgotten { IfErr result (IsForgotten pager.new) }
     ensures effect { Steps last [] level place.now.entry place.now.next pager.old pager.new result }
 {
     let number = place.entry.page;
@@ -91,10 +92,13 @@ fn open<S: PageStore>(
     let page = pager.cached(number);
     match fits(page, last, level, place) {
         Ok(head) => Ok(opened_at(alloc, page, head.count, key, place.next)?),
-        Err(fault) => Err(IndexFault::Page {
-            page: number,
-            fault,
-        }),
+        Err(fault) => {
+            pager.forget(number);
+            Err(IndexFault::Page {
+                page: number,
+                fault,
+            })
+        }
     }
 }
 
@@ -109,6 +113,7 @@ fn opened_at(
     requires count { count ≡ (head_on page.now).count }
     requires some { 1 ≤ count }
     requires few { count ≤ MAX_ENTRIES }
+    requires rows { (last : ℕ) × HasNodeEntries last page.now }
     ensures falls { IfOk result (λ o. (falls : FallsTo key.now (node_on page.now).entries end
         o.below.entry o.below.next) × (falls.before ≡ o.before.items) × (falls.after ≡ o.after.items)) }
     ensures few { IfOk result (λ o. length o.before.items + length o.after.items < MAX_ENTRIES) }

@@ -12,7 +12,7 @@ use ub_table::{PageFault, Schema};
 use ub_zaddr::last;
 
 /// The highest level of a page of an index; the lowest one is 1.
-pub const MAX_LEVEL: u32 = 16;
+pub const MAX_LEVEL: u32 = ub_page::MAX_LEVEL;
 
 // 'I', with which each page of an index begins.
 const KIND: u8 = 0x49;

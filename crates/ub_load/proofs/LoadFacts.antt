@@ -12,8 +12,11 @@ use Rattle.csv.specs.declared.parser.State.TheVariants as st
 use Rattle.csv.specs.declared.reader.Reader.{Reader}
 use Rattle.csv.specs.declared.reader.Trim.TheVariants as trim
 use Rattle.ub_store.specs.Facts.{StoreFacts, IsHonest}
+use Rattle.ub_tree.proofs.Laws.{grown_is_not_full}
 use Rattle.ub_tree.specs.Calls.{IsCreated}
 use Rattle.ub_tree.specs.Change.{IsInserted}
+use Rattle.ub_tree.specs.Effects.{IsIndexFull}
+use Rattle.ub_tree.specs.Grown.{IsOnlyGrown}
 use Rattle.ub_tree.specs.Placed.{Placed}
 use Rattle.ub_tree.specs.View.{TreeView, IsSound, regions}
 use Rattle.ub_load.specs.Field.{trimmed}
@@ -89,13 +92,14 @@ insert_all-more dims c [] row regions = refl
 insert_all-more dims c (first ∷ rows) row regions = insert_all-more dims c rows row (insert dims c first regions)
 
 -- a new tree holds no rows
-holds_none : (dims c : ℕ) (t : TreeView) → IsSound t → regions t ≡ record { first = origin; rows = [] } ∷ [] → t.next ≡ 1 → HoldsRows dims c [] t
-holds_none dims c t sound are next = record {
+holds_none : (dims c : ℕ) (t : TreeView) → IsSound t → regions t ≡ record { first = origin; rows = [] } ∷ [] → t.next ≡ 1 → IsOnlyGrown t → HoldsRows dims c [] t
+holds_none dims c t sound are next grown = record {
   sound = sound;
   regions_are = are;
   table = rw are (record { ascending = λ k lt. absurd (omega arith); same = λ row. (λ c. c, λ c. c) });
   next = next;
-  few = (let one = sym (length-map t.placed (λ (p : Placed). p.region)) ∙ ap length are in omega arith);
+  few = (let count = sound.count_is in let one = sym (length-map t.placed (λ (p : Placed). p.region)) ∙ ap length are in omega arith);
+  grown = grown;
 }
 
 -- one more row, which is put in
@@ -109,6 +113,7 @@ holds_more dims c rows row t u h dims_are page_rows_are good put grown =
       table = rw are (insertion_adds_the_row t.schema t.next (regions t) rows row h.sound.regions_are h.table good put.number);
       next = put.next ∙ (let old = h.next in let long = length-append rows (row ∷ []) in omega arith);
       few = (let before = h.few in let more = grown.0 in let next = put.next in omega arith);
+      grown = put.grown h.grown;
     }
 
 -- before the first record
@@ -136,7 +141,7 @@ loading_none {text} {dims} {page_rows} {name} {schema} is store t made =
         pages = (let three = made.pages in let next = made.next_is in omega arith);
         trace_is = made.trace_is;
       };
-      holds = λ honest. rw (rows_of-none dims) (holds_none dims page_rows t (made.sound honest) (made.regions_are honest) made.next_is);
+      holds = λ honest. rw (rows_of-none dims) (holds_none dims page_rows t (made.sound honest) (made.regions_are honest) made.next_is made.grown);
     }
 
 -- what the tree's schema tells of a record's refusals is what the header tells
@@ -192,12 +197,24 @@ refused_here {text} {dims} {page_rows} {name} {store} {number} {t} is b r s f ba
     ∙ first-skip (header_refusals dims name (map trimmed is.header)) _ is.fine
     ∙ flat-refused (record_refusals dims (length is.header)) 1 number is.taken front.0 (r) f is.number_is is.accepted (rw (is.dims_are, wide) at bad)
 
+-- the index of a tree that is loaded is never full, since rows were only put into it
+index_never_full : {text : List ℕ} {dims page_rows : ℕ} {name : List ℕ} {store : StoreFacts} {number : ℕ} {t : TreeView} {a : Reader Source}
+    → IsLoading text dims page_rows name store number t a → IsHonest store → IsIndexFull t → ⊥
+index_never_full {t = t} is honest full = let h = is.holds honest in grown_is_not_full t h.sound h.grown full
+
 -- what is told of a record is told of the text
 pub told_record : {text : List ℕ} {dims page_rows : ℕ} {name : List ℕ} {store : StoreFacts} {number : ℕ} {t : TreeView} {a : Reader Source}
     → IsLoading text dims page_rows name store number t a → (b : Reader Source) (r : List (List ℕ)) → Took a b r → (f : LoadFault)
     → IsTakeFault (number, r) t f → IsLoadFault dims name text store f
-told_record is b r s f (inl full) = let few = is.few in let next = is.next_is in let pages = is.at_work.pages in let most = full.1 in absurd (omega arith)
-told_record is b r s f (inr h) =
+told_record {t = t} is b r s f (inl (same, full)) =
+    let few = is.few in
+    let next = is.next_is in
+    let pages = is.at_work.pages in
+    let levels : t.inner.index.levels ≤ 16 = full.0 in
+    let most = full.1 in
+    absurd (omega arith)
+told_record is b r s f (inr (inl (same, full))) = rw same (inr (inr (λ honest. index_never_full is honest full)))
+told_record is b r s f (inr (inr h)) =
     let can_fail = ap (λ (facts : StoreFacts). facts.can_fail) is.at_work.store_is in
     inr (told_after (refused_here is b r s) (λ can. rw can_fail at can) (λ broken honest. broken (is.holds honest).sound) f h)
 

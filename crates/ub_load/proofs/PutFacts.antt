@@ -1,17 +1,15 @@
 -- A record that is accepted makes a row.
-use Rattle.std.proofs.Common.{◌⊎◌, ◌≡◌, ◌+◌, ◌-◌, ◌<◌, ◌≤◌, ◌==◌, ◌^◌, ℕ, zero, suc, true, false, List, [], ◌∷◌, length, take, drop, map, Option, Some, None, refl, ap, ◌∙◌, arith, inl, inr}
+use Rattle.std.proofs.Common.{◌≡◌, ◌+◌, ◌-◌, ◌<◌, ◌≤◌, ◌==◌, ◌^◌, ℕ, zero, suc, true, false, List, [], ◌∷◌, length, take, drop, map, Option, Some, None, refl, ap, ◌∙◌, arith, inl, inr}
 use Rattle.std.specs.Prelude.{FitsSigned, nat_lt, if◌then◌else◌}
 use Rattle.std.specs.Int.{w64}
-use Rattle.std.specs.List.{AllByRecursion, enumerate_from, insert}
+use Rattle.std.specs.List.{AllByRecursion, enumerate_from}
 use Rattle.std.proofs.lemmas.Bool.{cases_Bool, eqb-true, le-ltb}
-use Rattle.std.proofs.lemmas.List.{length-append, length-map, length-take}
+use Rattle.std.proofs.lemmas.List.{length-map}
 use Rattle.std.proofs.lemmas.List.FromFn.{length-enumerate_from}
 use Rattle.std.proofs.lemmas.List.Elements.{All-from_recursion}
 use Rattle.ub_tree.proofs.Laws.{new_values, numbered_row}
-use Rattle.ub_store.specs.Facts.{page_count}
 use Rattle.ub_tree.specs.Change.{Suits, numbered}
-use Rattle.ub_tree.specs.Others.{AddsEntry, KeepsEntries}
-use Rattle.ub_tree.specs.Placed.{entry_of}
+use Rattle.ub_tree.specs.Holding.{GrowsAt}
 use Rattle.ub_tree.specs.View.{TreeView}
 use Rattle.ub_load.specs.Field.{trimmed, is_number, number_of}
 use Rattle.ub_load.specs.LoadedTable.{coordinate_of, row_of}
@@ -24,6 +22,7 @@ use Rattle.ub_load.proofs.RowFacts.{measure}
 use Rattle.ub_table.proofs.Laws.{fitting_coordinate}
 use Rattle.ub_table.specs.Region.{IsNumbered, IsRow}
 use Rattle.ub_table.specs.Value.{fits_at}
+use Rattle.ub_table.specs.declared.row.Key.{Key}
 use Rattle.ub_table.specs.declared.row.Row.{Row}
 
 none_head : (o : Option LoadFault) (rest : List (Option LoadFault)) → first_of (o ∷ rest) ≡ None → (o ≡ None) × (first_of rest ≡ None)
@@ -122,24 +121,9 @@ pub number_is : (dims number : ℕ) (fields : List (List ℕ)) (row : Row) → r
 unfolding row_of
 number_is dims number fields row is = rw is refl
 
-length_put : {X : Type 0} (xs : List X) (i : ℕ) (x : X) → length (insert xs i x) ≡ length xs + 1
-length_put xs i x =
-    let parts = length-append (take i xs) (x ∷ drop i xs) in
-    let front = length-take i xs in
-    let back = length_left i xs in
-    omega arith
-
--- a tree gets one region and one page more at the most where a row is put in
-pub few_more : (index : ℕ) (old new : TreeView) → KeepsEntries old new ⊎ AddsEntry index old new → HasGrown old new
-few_more index old new (inl kept) =
-    let before = length-map old.placed entry_of in
-    let after = length-map new.placed entry_of in
-    let long = ap length kept.0 in
-    let same = kept.1 in
-    (omega arith, omega arith)
-few_more index old new (inr added) =
-    let before = length-map old.placed entry_of in
-    let after = length-map new.placed entry_of in
-    let long = ap length added.1 ∙ length_put (map entry_of old.placed) (index + 1) (record { first = added.0; page = page_count old.store }) in
-    let more = added.2 in
-    (omega arith, omega arith)
+-- a tree gets one region and eighteen pages more at the most where a row is put in
+pub few_more : (key : Key) (old new : TreeView) → GrowsAt key old new → HasGrown old new
+few_more key old new grows = elim grows.others [
+  | inl h ↦ let count = h.1.0.count in let pages = h.1.1 in (omega arith, omega arith)
+  | inr h ↦ let count = h.1.0 in let pages = h.1.2 in let few : h.1.1 ≤ 17 = h.1.3 in (omega arith, omega arith)
+]

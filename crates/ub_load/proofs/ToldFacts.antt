@@ -7,7 +7,7 @@ use Rattle.std.proofs.lemmas.Bool.{cases_Bool}
 use Rattle.ub_store.specs.Facts.{StoreFacts}
 use Rattle.ub_store.specs.declared.fault.StoreFault.TheVariants as store
 use Rattle.ub_tree.specs.Calls.{IsCreateFault}
-use Rattle.ub_tree.specs.Effects.{IsFull, IsLeft}
+use Rattle.ub_tree.specs.Effects.{IsFull, IsIndexFull, IsLeft}
 use Rattle.ub_tree.specs.View.{TreeView, IsSound, KeepsTrace}
 use Rattle.ub_tree.specs.declared.fault.TreeFault.{TreeFault}
 use Rattle.ub_tree.specs.declared.fault.TreeFault.TheVariants as tree
@@ -28,7 +28,8 @@ told_after same can broken ColumnCount h = same ColumnCount h
 told_after same can broken (BadNumber row column) h = same (BadNumber row column) h
 told_after same can broken (OutOfRange row column) h = same (OutOfRange row column) h
 told_after same can broken Csv h = same Csv h
-told_after same can broken (Tree tree.Full) h = same (Tree tree.Full) h
+told_after same can broken (Tree tree.Full) (inl h) = inl (same (Tree tree.Full) h)
+told_after same can broken (Tree tree.Full) (inr h) = inr (broken h)
 told_after same can broken (Tree (tree.Page page fault)) h = broken h
 told_after same can broken (Tree (tree.Store store.Device)) h = can h
 told_after same can broken (Tree (tree.Store store.NoPage)) h = broken h
@@ -82,18 +83,20 @@ new_fault facts tree.Memory h = tt
 
 -- what a refused insertion into a tree that works tells
 pub told_put : (first : Option LoadFault) (t u : TreeView) → t.is_failed ≡ false → (t.next ≡ 16777216 → first ≡ Some (Tree tree.Full)) → (fault : TreeFault) → IsLeft t u fault
-    → ((fault_of_tree fault ≡ Tree (tree.Store store.BadSize)) × IsFull t) ⊎ IsToldOf first (IsTrue t.store.can_fail) (¬ (IsSound t)) (fault_of_tree fault)
-told_put first t u works last tree.Full h = inr (last h.0)
-told_put first t u works last (tree.Page page fault) h = inr h.0
-told_put first t u works last (tree.Store store.Device) h = inr h.0
-told_put first t u works last (tree.Store store.NoPage) h = inr h.0
+    → ((fault_of_tree fault ≡ Tree (tree.Store store.BadSize)) × IsFull t) ⊎ ((fault_of_tree fault ≡ Tree tree.Full) × IsIndexFull t)
+    ⊎ IsToldOf first (IsTrue t.store.can_fail) (¬ (IsSound t)) (fault_of_tree fault)
+told_put first t u works last tree.Full (inl given, same) = inr (inr (inl (last given)))
+told_put first t u works last tree.Full (inr full, same) = inr (inl (refl, full))
+told_put first t u works last (tree.Page page fault) h = inr (inr h.0)
+told_put first t u works last (tree.Store store.Device) h = inr (inr h.0)
+told_put first t u works last (tree.Store store.NoPage) h = inr (inr h.0)
 told_put first t u works last (tree.Store store.BadSize) h = inl (refl, h.0)
 told_put first t u works last (tree.Store store.Memory) h = absurd h
 told_put first t u works last tree.Failed h = let bad = rw works at h.0 in cc
-told_put first t u works last tree.Memory h = inr tt
+told_put first t u works last tree.Memory h = inr (inr tt)
 
 -- what a change of a tree keeps
-pub frame_keeps : (t u : TreeView) → u ≡ record t { placed = u.placed; rows = u.rows; next = u.next; is_changed = u.is_changed; is_failed = u.is_failed; store = u.store }
+pub frame_keeps : (t u : TreeView) → u ≡ record t { placed = u.placed; rows = u.rows; next = u.next; is_changed = u.is_changed; is_failed = u.is_failed; store = u.store; inner = u.inner }
     → (u.schema ≡ t.schema) × KeepsTrace t u
 frame_keeps t u e = (ap (λ (v : TreeView). v.schema) e, ap (λ (v : TreeView). v.trace) e)
 
@@ -105,7 +108,8 @@ told_sure reliable honest ColumnCount h some = h
 told_sure reliable honest (BadNumber row column) h some = h
 told_sure reliable honest (OutOfRange row column) h some = h
 told_sure reliable honest Csv h some = h
-told_sure reliable honest (Tree tree.Full) h some = h
+told_sure reliable honest (Tree tree.Full) (inl h) some = h
+told_sure reliable honest (Tree tree.Full) (inr broken) some = absurd (honest broken)
 told_sure reliable honest (Tree (tree.Page page fault)) h some = absurd (honest h)
 told_sure reliable honest (Tree (tree.Store store.Device)) h some = absurd (reliable h)
 told_sure reliable honest (Tree (tree.Store store.NoPage)) h some = absurd (honest h)

@@ -32,9 +32,9 @@ use ub_tree::{Tree, TreeFault};
 /// The error is the first thing that is wrong, in the order of the text: `NoHeader`, `ColumnCount`, `BadName`, and then for
 /// each row `Csv` for a length other than the header's, `BadNumber` or `OutOfRange`, and `Tree` with `Full`. `Csv` comes only
 /// where `csv` refused a record, which is also where reading failed, `Memory` only where memory was refused, and `Tree` with
-/// another fault only from the store: `Device` where it failed (never where it can't fail), and `NoPage` or a page's fault
-/// where it isn't honest. It never is `BadSize`, since a store has room for more pages than a table can have rows. With each
-/// refusal the store is dropped, and the rows in it. Where a table is loaded no call of the store has failed.
+/// another fault only from the store: `Device` where it failed (never where it can't fail), and `NoPage`, a page's fault or
+/// `Full` where it isn't honest. It never is `BadSize`, since a store has room for eighteen times as many pages as a table can
+/// have rows. With each refusal the store is dropped, and the rows in it. Where a table is loaded no call of the store has failed.
 pub fn load<S: PageStore>(
     alloc: Global,
     text: &[u8],

@@ -4,9 +4,10 @@ use Rattle.std.specs.Prelude.{IsErrOf}
 use Rattle.std.proofs.lemmas.List.{length-append, length-replicate, length-drop}
 use Rattle.std.specs.List.{flat_map, AllByRecursion}
 use Rattle.ub_page.specs.Bytes.{number_bytes, number_at, layout, padded}
-use Rattle.ub_page.specs.Header.{numbers_of, names_of, number_fields, name_bytes, page_of, header_page, IsHeader, AreInRange, AreSame, IsHeaderKind, IsHeaderFault, HasNames, columns_on, numbers_on, name_on, names_on, IsNameOn, AreNamesOn}
+use Rattle.ub_page.specs.Header.{numbers_of, names_of, number_fields, name_bytes, page_of, header_page, header_page_of, IsHeader, AreInRange, AreSame, IsOfVersion, IsHeaderKind, IsFaultOf, IsHeaderFault, HasNames, columns_on, numbers_on, name_on, names_on, IsNameOn, AreNamesOn}
 use Rattle.ub_page.specs.declared.header.Header.{Header}
 use Rattle.ub_page.specs.declared.header.Numbers.{Numbers}
+use Rattle.ub_page.specs.declared.header.TheConstants.{VERSION}
 use Rattle.ub_page.proofs.BytesFacts.{length-number_bytes, read_at, layout_read, length-layout, AllFit}
 use Rattle.ub_page.proofs.DraftFacts.{of_front}
 use Rattle.ub_table.proofs.Laws.{name_block, length-name}
@@ -132,19 +133,24 @@ is_header h page numbers range regions root name columns names = record {
   names = rw (name, columns) (name_valid 32 page names.0, names_valid 65 (columns_on page) page names.1);
 }
 
-pub record HasParts (h : Header) (page : List ℕ) : Type 0 where
-  pub kind : IsHeaderKind page
+-- the parts of a header in this version stand on the page
+pub record HasPartsOf (version : ℕ) (h : Header) (page : List ℕ) : Type 0 where
+  pub kind : IsOfVersion version page
   pub numbers : numbers_on page ≡ numbers_of h
   pub name : name_on 32 page ≡ h.schema.name
   pub columns : names_on 65 (columns_on page) page ≡ h.schema.columns
   pub names : HasNames (columns_on page) page
 
+-- and in the version that is written
+abbrev pub HasParts : Header → List ℕ → Type 0
+HasParts h page = HasPartsOf VERSION h page
+
 -- the parts of a header are read from its page
-pub parts : (h : Header) (page : List ℕ) → IsHeader h → page ≡ header_page h → HasParts h page
+pub parts : (version : ℕ) (h : Header) (page : List ℕ) → version < 256 → IsHeader h → page ≡ header_page_of version h → HasPartsOf version h page
 unfolding page_of
-parts h page is e =
+parts version h page byte is e =
     let n = numbers_of h in
-    let fields = number_fields n in
+    let fields = number_fields version n in
     let names = flat_map name_bytes (names_of h) in
     let zeros : List ℕ = replicate (4096 - length (layout fields ++ names)) 0 in
     let whole : page ≡ layout fields ++ (names ++ zeros) = e ∙ append_assoc (layout fields) names zeros in
@@ -153,7 +159,7 @@ parts h page is e =
     let flag : (if h.unclean then 1 else 0) < 256 = omega (arith, state) in
     let next = is.numbers.last_next in
     let rows = is.numbers.rows in
-    let levels = is.numbers.levels in
+    let levels = is.numbers.levels.1 in
     let regions = is.regions in
     let root = is.root in
     let fit : AllFit fields = (omega arith, (omega arith, (omega arith, (omega arith, (omega arith, (omega arith, (omega arith, (omega arith, (omega arith, (omega arith, (omega arith, (omega arith, tt)))))))))))) in
@@ -191,39 +197,81 @@ same a b numbers name columns unclean = record {
 }
 
 -- where the numbers and the names are the same, so is the page
-pub same_page : (a b : Header) → numbers_of a ≡ numbers_of b → a.schema.name ≡ b.schema.name → a.schema.columns ≡ b.schema.columns → header_page a ≡ header_page b
-same_page a b numbers name columns = rw (numbers, name, columns) refl
+pub same_page : (version : ℕ) (a b : Header) → numbers_of a ≡ numbers_of b → a.schema.name ≡ b.schema.name → a.schema.columns ≡ b.schema.columns
+    → header_page_of version a ≡ header_page_of version b
+same_page version a b numbers name columns = rw (numbers, name, columns) refl
 
 -- a page that holds a clean header's parts and is not its page has another byte that is not zero
-pub padding_fault : (h : Header) (page : List ℕ) → numbers_of h ≡ numbers_on page → AreInRange (numbers_on page) → h.schema.name ≡ name_on 32 page
-    → h.schema.columns ≡ names_on 65 (columns_on page) page → IsHeaderKind page → h.unclean ≡ false → HasNames (columns_on page) page
-    → header_page h ≢ page → IsHeaderFault page BadPadding
-padding_fault h page numbers range name columns kind clean names other =
+pub padding_fault : (version : ℕ) (h : Header) (page : List ℕ) → version < 256 → numbers_of h ≡ numbers_on page → AreInRange (numbers_on page)
+    → h.schema.name ≡ name_on 32 page → h.schema.columns ≡ names_on 65 (columns_on page) page → IsOfVersion version page → h.unclean ≡ false
+    → HasNames (columns_on page) page → header_page_of version h ≢ page → IsFaultOf version page BadPadding
+padding_fault version h page byte numbers range name columns kind clean names other =
     let state = ap (λ (n : Numbers). n.state) numbers in
     let zero_state = rw clean at state in (
       kind,
       (λ one. omega arith),
       range,
       names,
-      (λ k is e. let read = parts k page is e in
-          other (same_page h k (numbers ∙ read.numbers) (name ∙ read.name) (columns ∙ read.columns) ∙ sym e)),
+      (λ k is e. let read = parts version k page byte is e in
+          other (same_page version h k (numbers ∙ read.numbers) (name ∙ read.name) (columns ∙ read.columns) ∙ sym e)),
     )
 
--- the page of a clean header is not refused
-pub not_refused : (h : Header) (page : List ℕ) → IsHeader h → h.unclean ≡ false → page ≡ header_page h → (e : PageFault) → IsHeaderFault page e → ⊥
-not_refused h page is clean same WrongKind fault = fault (parts h page is same).kind
-not_refused h page is clean same Unclean fault =
-    let state = ap (λ (n : Numbers). n.state) (parts h page is same).numbers in
+-- the page of a clean header is not refused by a reader of its version
+pub not_fault_of : (version : ℕ) (h : Header) (page : List ℕ) → version < 256 → IsHeader h → h.unclean ≡ false → page ≡ header_page_of version h
+    → (e : PageFault) → IsFaultOf version page e → ⊥
+not_fault_of version h page byte is clean same WrongKind fault = fault (parts version h page byte is same).kind
+not_fault_of version h page byte is clean same Unclean fault =
+    let state = ap (λ (n : Numbers). n.state) (parts version h page byte is same).numbers in
     let zero_state = rw clean at state in
     let one = fault.1 in
     omega arith
-not_refused h page is clean same BadCount fault = fault.2 (rw (parts h page is same).numbers is.numbers)
-not_refused h page is clean same BadName fault = fault.3 (parts h page is same).names
-not_refused h page is clean same BadPadding fault = fault.4 h is same
-not_refused h page is clean same OldFormat fault = fault
+not_fault_of version h page byte is clean same BadCount fault = fault.2 (rw (parts version h page byte is same).numbers is.numbers)
+not_fault_of version h page byte is clean same BadName fault = fault.3 (parts version h page byte is same).names
+not_fault_of version h page byte is clean same BadPadding fault = fault.4 h is same
+not_fault_of version h page byte is clean same OldFormat fault = fault
+not_fault_of version h page byte is clean same BadRow fault = fault
+not_fault_of version h page byte is clean same BadOrder fault = fault
+not_fault_of version h page byte is clean same OutOfRegion fault = fault
+
+-- a page of the version that is written is one of a version that there has been
+pub kind_of : (page : List ℕ) → IsOfVersion VERSION page → IsHeaderKind page
+kind_of page kind = let version = kind.1 in (kind.0, omega arith, omega arith)
+
+-- the page of a clean header is not refused
+pub not_refused : (h : Header) (page : List ℕ) → IsHeader h → h.unclean ≡ false → page ≡ header_page h → (e : PageFault) → IsHeaderFault page e → ⊥
+not_refused h page is clean same WrongKind fault = fault (kind_of page (parts VERSION h page (omega arith) is same).kind)
+not_refused h page is clean same OldFormat fault =
+    let version = (parts VERSION h page (omega arith) is same).kind.1 in
+    let older = fault.1 in
+    omega arith
+not_refused h page is clean same Unclean fault = not_fault_of VERSION h page (omega arith) is clean same Unclean fault
+not_refused h page is clean same BadCount fault = not_fault_of VERSION h page (omega arith) is clean same BadCount fault
+not_refused h page is clean same BadName fault = not_fault_of VERSION h page (omega arith) is clean same BadName fault
+not_refused h page is clean same BadPadding fault = not_fault_of VERSION h page (omega arith) is clean same BadPadding fault
 not_refused h page is clean same BadRow fault = fault
 not_refused h page is clean same BadOrder fault = fault
 not_refused h page is clean same OutOfRegion fault = fault
+
+-- the page of an unclean header is refused as Unclean alone
+pub unclean_refused : (h : Header) (page : List ℕ) → IsHeader h → h.unclean ≡ true → page ≡ header_page h → (e : PageFault) → IsHeaderFault page e → e ≡ Unclean
+unclean_refused h page is unclean same e fault = refused e fault
+  where
+    on : HasParts h page
+    on = parts VERSION h page (omega arith) is same
+
+    marked : number_at 1 5 page ≡ 1
+    marked = ap (λ (n : Numbers). n.state) on.numbers ∙ rw unclean refl
+
+    refused : (e : PageFault) → IsHeaderFault page e → e ≡ Unclean
+    refused WrongKind f = absurd (f (kind_of page on.kind))
+    refused OldFormat f = let version = on.kind.1 in let older = f.1 in absurd (omega arith)
+    refused Unclean f = refl
+    refused BadCount f = absurd (f.1 marked)
+    refused BadName f = absurd (f.1 marked)
+    refused BadPadding f = absurd (f.1 marked)
+    refused BadRow f = absurd f
+    refused BadOrder f = absurd f
+    refused OutOfRegion f = absurd f
 
 -- what is written one after the other is the page of all
 regrouped : (a1 a2 a3 a4 a5 a6 a7 a8 a9 a10 a11 a12 b c : List ℕ) → padded ((((((((((((((a1 ++ a2) ++ a3) ++ a4) ++ a5) ++ a6) ++ a7) ++ a8) ++ a9) ++ a10) ++ a11) ++ a12) ++ b) ++ c)) ≡ padded ((a1 ++ (a2 ++ (a3 ++ (a4 ++ (a5 ++ (a6 ++ (a7 ++ (a8 ++ (a9 ++ (a10 ++ (a11 ++ (a12 ++ [])))))))))))) ++ (b ++ c))
@@ -232,8 +280,8 @@ regrouped a1 a2 a3 a4 a5 a6 a7 a8 a9 a10 a11 a12 b c =
     ap padded e
 
 -- the writer's bytes are those of the spelling
-pub written : (n : Numbers) (name : List ℕ) (columns : List (List ℕ))
-    → padded ((((((((((((((number_bytes 4 0x55425452 ++ number_bytes 1 1) ++ number_bytes 1 n.state) ++ number_bytes 1 n.dims) ++ number_bytes 1 n.measures) ++ number_bytes 1 n.page_rows) ++ number_bytes 3 0) ++ number_bytes 4 n.next) ++ number_bytes 4 n.rows) ++ number_bytes 4 n.regions) ++ number_bytes 4 n.root) ++ number_bytes 4 n.levels) ++ name_bytes name) ++ flat_map name_bytes columns)) ≡ page_of n (name ∷ columns)
+pub written : (version : ℕ) (n : Numbers) (name : List ℕ) (columns : List (List ℕ))
+    → padded ((((((((((((((number_bytes 4 0x55425452 ++ number_bytes 1 version) ++ number_bytes 1 n.state) ++ number_bytes 1 n.dims) ++ number_bytes 1 n.measures) ++ number_bytes 1 n.page_rows) ++ number_bytes 3 0) ++ number_bytes 4 n.next) ++ number_bytes 4 n.rows) ++ number_bytes 4 n.regions) ++ number_bytes 4 n.root) ++ number_bytes 4 n.levels) ++ name_bytes name) ++ flat_map name_bytes columns)) ≡ page_of version n (name ∷ columns)
 unfolding page_of
-written n name columns =
-    regrouped (number_bytes 4 0x55425452) (number_bytes 1 1) (number_bytes 1 n.state) (number_bytes 1 n.dims) (number_bytes 1 n.measures) (number_bytes 1 n.page_rows) (number_bytes 3 0) (number_bytes 4 n.next) (number_bytes 4 n.rows) (number_bytes 4 n.regions) (number_bytes 4 n.root) (number_bytes 4 n.levels) (name_bytes name) (flat_map name_bytes columns)
+written version n name columns =
+    regrouped (number_bytes 4 0x55425452) (number_bytes 1 version) (number_bytes 1 n.state) (number_bytes 1 n.dims) (number_bytes 1 n.measures) (number_bytes 1 n.page_rows) (number_bytes 3 0) (number_bytes 4 n.next) (number_bytes 4 n.rows) (number_bytes 4 n.regions) (number_bytes 4 n.root) (number_bytes 4 n.levels) (name_bytes name) (flat_map name_bytes columns)

@@ -1,6 +1,6 @@
--- What the proofs of crates above use of pages: what the page of a value tells of it, that a page of a value is not refused, and how
--- entries and other fields stand on a page.
-use Rattle.std.proofs.Common.{◌≡◌, ℕ, ◌≤◌, List, false}
+-- What the proofs of crates above use of pages: what the page of a value tells of it, that a page of a value is not refused (of an
+-- unclean header, that it is refused as Unclean alone), and how entries and other fields stand on a page.
+use Rattle.std.proofs.Common.{◌≡◌, ℕ, ◌≤◌, List, true, false, arith}
 use Rattle.ub_page.proofs.DirectoryFacts as directory
 use Rattle.ub_page.proofs.HeaderFacts as headers
 use Rattle.ub_page.proofs.RegionFacts as regions
@@ -8,12 +8,14 @@ use Rattle.ub_page.specs.Directory.{Listing, IsListing, IsDirectoryFault, direct
 use Rattle.ub_page.specs.Header.{AreSame, IsHeader, IsHeaderFault, header_page, numbers_of}
 use Rattle.ub_page.specs.Region.{region_page}
 use Rattle.ub_page.specs.declared.header.Header.{Header}
+use Rattle.ub_page.specs.declared.header.TheConstants.{VERSION}
 use Rattle.ub_table.specs.Region.{Region, IsRegion}
+use Rattle.ub_table.specs.declared.fault.PageFault.TheVariants.{Unclean}
 use Rattle.ub_table.specs.declared.fault.PageFault.{PageFault}
 use Rattle.ub_table.specs.declared.schema.Schema.{Schema}
 pub use Rattle.ub_page.proofs.DirectoryFacts.{HasListing}
 pub use Rattle.ub_page.proofs.EntryFacts.{HasFields, small_address, fields_read, length-entries_on, entries_next, short_ascending}
-pub use Rattle.ub_page.proofs.HeaderFacts.{HasParts}
+pub use Rattle.ub_page.proofs.HeaderFacts.{HasParts, HasPartsOf}
 pub use Rattle.ub_page.proofs.RegionFacts.{HasRegion}
 pub use Rattle.ub_page.proofs.SpelledFacts.{layout_back, joined}
 
@@ -24,10 +26,13 @@ pub listing_not_refused : (listing : Listing) (page : List ℕ) (d : ℕ) → d 
 listing_not_refused = directory.not_refused
 
 pub header_parts : (h : Header) (page : List ℕ) → IsHeader h → page ≡ header_page h → HasParts h page
-header_parts = headers.parts
+header_parts h page is e = headers.parts VERSION h page (omega arith) is e
 
 pub header_not_refused : (h : Header) (page : List ℕ) → IsHeader h → h.unclean ≡ false → page ≡ header_page h → (e : PageFault) → IsHeaderFault page e → ⊥
 header_not_refused = headers.not_refused
+
+pub unclean_refused : (h : Header) (page : List ℕ) → IsHeader h → h.unclean ≡ true → page ≡ header_page h → (e : PageFault) → IsHeaderFault page e → e ≡ Unclean
+unclean_refused = headers.unclean_refused
 
 pub same_header : (a b : Header) → numbers_of a ≡ numbers_of b → a.schema.name ≡ b.schema.name → a.schema.columns ≡ b.schema.columns → a.unclean ≡ b.unclean → AreSame a b
 same_header = headers.same

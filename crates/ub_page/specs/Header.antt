@@ -1,13 +1,14 @@
--- The header page of a table, format 1.
-use Rattle.std.specs.Prelude.{◌≡◌, ◌≢◌, ◌≤◌, ◌<◌, ◌+◌, ◌-◌, ◌/◌, ◌^◌, ◌++◌, ℕ, zero, suc, List, [], ◌∷◌, length, take, drop, replicate, if◌then◌else◌}
+-- The header page of a table, format 2.
+use Rattle.std.specs.Prelude.{◌≡◌, ◌≢◌, ◌≤◌, ◌<◌, ◌+◌, ◌-◌, ◌^◌, ◌++◌, ℕ, zero, suc, List, [], ◌∷◌, length, take, drop, replicate, if◌then◌else◌}
 use Rattle.std.specs.List.{flat_map, AllByRecursion}
 use Rattle.ub_page.specs.Bytes.{number_bytes, number_at, layout, padded}
 use Rattle.ub_page.specs.declared.header.Header.{Header}
 use Rattle.ub_page.specs.declared.header.Numbers.{Numbers}
+use Rattle.ub_page.specs.declared.header.TheConstants.{MAX_LEVEL, VERSION}
 use Rattle.ub_table.specs.Block.{IsNameBlock}
 use Rattle.ub_table.specs.Name.{IsName}
 use Rattle.ub_table.specs.Schema.{AreCounts, AreDistinct}
-use Rattle.ub_table.specs.declared.fault.PageFault.TheVariants.{WrongKind, Unclean, BadCount, BadName, BadPadding}
+use Rattle.ub_table.specs.declared.fault.PageFault.TheVariants.{WrongKind, OldFormat, Unclean, BadCount, BadName, BadPadding}
 use Rattle.ub_table.specs.declared.fault.PageFault.{PageFault}
 use Rattle.ub_table.specs.declared.row.TheConstants.{MAX_ROW_NUMBER}
 
@@ -25,7 +26,7 @@ numbers_of h = record {
   levels = h.levels;
 }
 
--- each in its range: 170 regions stand on a directory page, and rows are numbered below the next number
+-- each in its range: the root of the index has a level from 1 to 16, and rows are numbered below the next number
 pub record AreInRange (n : Numbers) : Type 0 where
   pub state : n.state ≤ 1
   pub counts : AreCounts (n.dims + n.measures) n.dims n.page_rows
@@ -34,7 +35,7 @@ pub record AreInRange (n : Numbers) : Type 0 where
   pub rows : n.rows < n.next
   pub regions : 1 ≤ n.regions
   pub root : 1 ≤ n.root
-  pub levels : n.levels ≡ (n.regions + 169) / 170
+  pub levels : (1 ≤ n.levels) × (n.levels ≤ MAX_LEVEL)
 
 -- the table's name, then the columns' names
 abbrev pub names_of : Header → List (List ℕ)
@@ -47,27 +48,39 @@ pub record IsHeader (h : Header) : Type 0 where
   pub root : h.root < 2 ^ 32
   pub names : AllByRecursion IsName (names_of h)
 
--- 'UBTR', version 1, and the numbers, each with its bytes
-abbrev pub number_fields : Numbers → List (ℕ × ℕ)
-number_fields n =
-    (4, 0x55425452) ∷ (1, 1) ∷ (1, n.state) ∷ (1, n.dims) ∷ (1, n.measures) ∷ (1, n.page_rows) ∷ (3, 0)
+-- 'UBTR', the version, and the numbers, each with its bytes
+abbrev pub number_fields : ℕ → Numbers → List (ℕ × ℕ)
+number_fields version n =
+    (4, 0x55425452) ∷ (1, version) ∷ (1, n.state) ∷ (1, n.dims) ∷ (1, n.measures) ∷ (1, n.page_rows) ∷ (3, 0)
     ∷ (4, n.next) ∷ (4, n.rows) ∷ (4, n.regions) ∷ (4, n.root) ∷ (4, n.levels) ∷ []
 
 -- a name on 33 bytes: its length, its bytes, and zeros
 abbrev pub name_bytes : List ℕ → List ℕ
 name_bytes name = number_bytes 1 (length name) ++ (name ++ replicate (32 - length name) 0)
 
--- a page of these numbers and names
-unfoldable pub page_of : Numbers → List (List ℕ) → List ℕ
-page_of numbers names = padded (layout (number_fields numbers) ++ flat_map name_bytes names)
+-- a page of this version, of these numbers and names
+unfoldable pub page_of : ℕ → Numbers → List (List ℕ) → List ℕ
+page_of version numbers names = padded (layout (number_fields version numbers) ++ flat_map name_bytes names)
 
--- the one spelling of a header
+-- the one spelling of a header in a version
+abbrev pub header_page_of : ℕ → Header → List ℕ
+header_page_of version h = page_of version (numbers_of h) (names_of h)
+
+-- and in the version that is written
 abbrev pub header_page : Header → List ℕ
-header_page h = page_of (numbers_of h) (names_of h)
+header_page h = header_page_of VERSION h
 
--- the page begins with 'UBTR', and its version is 1
+-- the version that the page tells of, if it is a header
+abbrev pub version_on : List ℕ → ℕ
+version_on page = number_at 1 4 page
+
+-- the page begins with 'UBTR', and its version is this one
+abbrev pub IsOfVersion : ℕ → List ℕ → Type 0
+IsOfVersion version page = (number_at 4 0 page ≡ 0x55425452) × (version_on page ≡ version)
+
+-- it begins with 'UBTR', and its version is one that there has been: from 1 to the one that is written
 abbrev pub IsHeaderKind : List ℕ → Type 0
-IsHeaderKind page = (number_at 4 0 page ≡ 0x55425452) × (number_at 1 4 page ≡ 1)
+IsHeaderKind page = (number_at 4 0 page ≡ 0x55425452) × (1 ≤ version_on page) × (version_on page ≤ VERSION)
 
 -- the numbers that stand on the page
 abbrev pub numbers_on : List ℕ → Numbers
@@ -108,17 +121,24 @@ HasNames columns page = IsNameOn 32 page × AreNamesOn 65 columns page × AreDis
 abbrev pub columns_on : List ℕ → ℕ
 columns_on page = number_at 1 6 page + number_at 1 7 page
 
--- the refusal is the first that holds of the page
+-- the refusal by a reader of this version alone is the first that holds of the page
+abbrev pub IsFaultOf : ℕ → List ℕ → PageFault → Type 0
+IsFaultOf version page WrongKind = ¬ (IsOfVersion version page)
+IsFaultOf version page Unclean = IsOfVersion version page × (number_at 1 5 page ≡ 1)
+IsFaultOf version page BadCount =
+    IsOfVersion version page × (number_at 1 5 page ≢ 1) × (¬ (AreInRange (numbers_on page)))
+IsFaultOf version page BadName =
+    IsOfVersion version page × (number_at 1 5 page ≢ 1) × AreInRange (numbers_on page) × (¬ (HasNames (columns_on page) page))
+IsFaultOf version page BadPadding =
+    IsOfVersion version page × (number_at 1 5 page ≢ 1) × AreInRange (numbers_on page) × HasNames (columns_on page) page
+    × ((h : Header) → IsHeader h → page ≢ header_page_of version h)
+IsFaultOf version page _ = ⊥
+
+-- the refusal is the first that holds of the page; a header of an older version is refused as one, whatever else it tells
 abbrev pub IsHeaderFault : List ℕ → PageFault → Type 0
 IsHeaderFault page WrongKind = ¬ (IsHeaderKind page)
-IsHeaderFault page Unclean = IsHeaderKind page × (number_at 1 5 page ≡ 1)
-IsHeaderFault page BadCount = IsHeaderKind page × (number_at 1 5 page ≢ 1) × (¬ (AreInRange (numbers_on page)))
-IsHeaderFault page BadName =
-    IsHeaderKind page × (number_at 1 5 page ≢ 1) × AreInRange (numbers_on page) × (¬ (HasNames (columns_on page) page))
-IsHeaderFault page BadPadding =
-    IsHeaderKind page × (number_at 1 5 page ≢ 1) × AreInRange (numbers_on page) × HasNames (columns_on page) page
-    × ((h : Header) → IsHeader h → page ≢ header_page h)
-IsHeaderFault page _ = ⊥
+IsHeaderFault page OldFormat = IsHeaderKind page × (version_on page < VERSION)
+IsHeaderFault page fault = IsFaultOf VERSION page fault
 
 -- two headers agree in each part
 pub record AreSame (a b : Header) : Type 0 where

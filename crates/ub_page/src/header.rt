@@ -1,7 +1,7 @@
 ghost use Rattle.std.specs.Prelude.{◌≡◌, ◌≢◌, ◌+◌, ◌-◌, ◌*◌, ◌≤◌, ◌<◌, ◌^◌, ◌↔◌, ◌++◌, false, if◌then◌else◌, length, replicate, IsTrue, IsOk, IfOk, IfErr};
 ghost use Rattle.std.specs.List.{AllByRecursion, flat_map};
 ghost use Rattle.ub_page.specs.Bytes.{number_bytes, padded};
-ghost use Rattle.ub_page.specs.Header.{numbers_of, names_of, numbers_on, columns_on, name_bytes, name_on, names_on, header_page, AreInRange, IsHeader, AreSame, IsHeaderKind, IsHeaderFault, IsNameOn, AreNamesOn, HasNames};
+ghost use Rattle.ub_page.specs.Header.{numbers_of, names_of, numbers_on, columns_on, name_bytes, name_on, names_on, header_page, header_page_of, AreInRange, IsHeader, AreSame, IsOfVersion, IsFaultOf, IsHeaderFault, IsNameOn, AreNamesOn, HasNames};
 ghost use Rattle.ub_table.specs.Name.{IsName};
 ghost use Rattle.ub_table.specs.Schema.{AreCounts};
 
@@ -13,10 +13,13 @@ use ub_table::{Columns, MAX_ROW_NUMBER, Name, PageFault, Schema};
 // 'UBTR', with which each header begins.
 const KIND: u32 = 0x5542_5452;
 
-// The only version so far.
-const VERSION: u8 = 1;
+/// The version of the headers that are written. The one before it is 1.
+pub const VERSION: u8 = 2;
 
-/// What the first page of a table's file tells: the schema, the counts, and where the directory begins.
+/// The highest level of the root of an index; the lowest one is 1.
+pub const MAX_LEVEL: u32 = 16;
+
+/// What the first page of a table's file tells: the schema, the counts, and where the root of its index is.
 #[derive(Drop)]
 pub struct Header {
     /// What the table is made of.
@@ -27,9 +30,9 @@ pub struct Header {
     pub rows: u32,
     /// How many regions the table has: at least 1.
     pub regions: u32,
-    /// The page on which the directory begins: at least 1.
+    /// The page of the index's root: at least 1.
     pub root: u32,
-    /// How many pages the directory takes: one for each 170 regions begun.
+    /// The level of the root: 1 to 16.
     pub levels: u32,
     /// Whether the table was changed and not closed since.
     pub unclean: bool,
@@ -56,9 +59,18 @@ pub fn write_header(header: &Header, draft: &mut Draft)
     ensures page { padded draft.new ≡ header_page header.now }
     ensures header { IsHeader header.now }
 {
+    spell(VERSION, header, draft);
+}
+
+// Writes the page of a header in a version.
+fn spell(version: u8, header: &Header, draft: &mut Draft)
+    requires { AreInRange (numbers_of header.now) }
+    ensures page { padded draft.new ≡ header_page_of version header.now }
+    ensures header { IsHeader header.now }
+{
     draft.clear();
     draft.put_u32(KIND);
-    draft.put_u8(VERSION);
+    draft.put_u8(version);
     draft.put_u8(state_of(header.unclean));
     draft.put_u8(header.schema.dims() as u8);
     draft.put_u8(header.schema.measures() as u8);
@@ -113,37 +125,52 @@ fn block_of(name: &Name) -> [u8; MAX_NAME_LEN]
 }
 
 /// The header that the page holds, where it is clean. Otherwise the first of these that holds: `WrongKind` (the first
-/// four bytes are not 'UBTR', or the version is not 1), `Unclean`, `BadCount` (a number is out of its range), `BadName`
-/// (a name breaks the rule for names, its unused bytes are not zero, or two columns have one name), `BadPadding` (another
-/// byte is not zero).
+/// four bytes are not 'UBTR', or the version is neither 1 nor 2), `OldFormat` (the version is 1), `Unclean`, `BadCount` (a
+/// number is out of its range), `BadName` (a name breaks the rule for names, its unused bytes are not zero, or two columns
+/// have one name), `BadPadding` (another byte is not zero).
 pub fn read_header(page: &Page) -> Result<Header, PageFault>
     ensures found { IfOk result (λ h. IsHeader h × (h.unclean ≡ false) × (page.now ≡ header_page h)) }
     ensures exact { (h : Header) → IsHeader h → h.unclean ≡ false → page.now ≡ header_page h
         → IsOk result × IfOk result (λ read. AreSame read h) }
     ensures refused { IfErr result (IsHeaderFault page.now) }
 {
-    let header = parts_on(page)?;
+    if u32_at(page, 0) == KIND && (1..VERSION).contains(&u8_at(page, 4)) {
+        return Err(PageFault::OldFormat);
+    }
+    read_as(VERSION, page)
+}
+
+// The clean header that the page holds in a version. Otherwise the first refusal that holds, `WrongKind` being also that of
+// another version.
+fn read_as(version: u8, page: &Page) -> Result<Header, PageFault>
+    ensures found { IfOk result
+        (λ h. IsHeader h × (h.unclean ≡ false) × (page.now ≡ header_page_of version h)) }
+    ensures exact { (h : Header) → IsHeader h → h.unclean ≡ false → page.now ≡ header_page_of version h
+        → IsOk result × IfOk result (λ read. AreSame read h) }
+    ensures refused { IfErr result (IsFaultOf version page.now) }
+{
+    let header = parts_on(version, page)?;
     let mut draft = Draft::new();
-    write_header(&header, &mut draft);
+    spell(version, &header, &mut draft);
     if !is_same(draft.page(), page) {
         return Err(PageFault::BadPadding);
     }
     Ok(header)
 }
 
-// The header whose parts stand on the page.
-fn parts_on(page: &Page) -> Result<Header, PageFault>
+// The header of this version whose parts stand on the page.
+fn parts_on(version: u8, page: &Page) -> Result<Header, PageFault>
     ensures numbers { IfOk result
         (λ h. (numbers_of h ≡ numbers_on page.now) × AreInRange (numbers_on page.now)) }
     ensures names { IfOk result (λ h. (h.schema.name ≡ name_on 32 page.now)
         × (h.schema.columns ≡ names_on 65 (columns_on page.now) page.now)) }
     ensures clean { IfOk result
-        (λ h. IsHeaderKind page.now × (h.unclean ≡ false) × HasNames (columns_on page.now) page.now) }
+        (λ h. IsOfVersion version page.now × (h.unclean ≡ false) × HasNames (columns_on page.now) page.now) }
     ensures small { IfOk result (λ h. (h.regions < 2 ^ 32) × (h.root < 2 ^ 32)) }
-    ensures refused { IfErr result (IsHeaderFault page.now) }
+    ensures refused { IfErr result (IsFaultOf version page.now) }
     ensures early { IfErr result (λ e. e ≢ PageFault.BadPadding) }
 {
-    if u32_at(page, 0) != KIND || u8_at(page, 4) != VERSION {
+    if u32_at(page, 0) != KIND || u8_at(page, 4) != version {
         return Err(PageFault::WrongKind);
     }
     let numbers = read_numbers(page);
@@ -190,7 +217,7 @@ fn are_in_range(numbers: &Numbers) -> bool
     let rows = (1..=MAX_ROW_NUMBER + 1).contains(&numbers.next) && numbers.rows < numbers.next;
     let pages = numbers.regions >= 1
         && numbers.root >= 1
-        && u64::from(numbers.levels) == (u64::from(numbers.regions) + 169) / 170;
+        && (1..=MAX_LEVEL).contains(&numbers.levels);
     numbers.state <= 1 && counts && rows && pages
 }
 

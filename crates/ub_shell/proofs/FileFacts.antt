@@ -1,7 +1,7 @@
 -- What the commands that read and write files leave of them, step by step.
 use Rattle.std.proofs.lemmas.Bool.{cases_Bool}
 use Rattle.std.specs.Prelude.{IsErrOf, IsTrue}
-use Rattle.std.proofs.Common.{◌≡◌, ◌≤◌, ◌+◌, ◌⊎◌, ◌∙◌, ℕ, List, arith, Result, Ok, Err, inl, inr, ap, false, refl, subst, sym}
+use Rattle.std.proofs.Common.{◌≡◌, ◌⊎◌, ◌∙◌, ℕ, List, Result, Ok, Err, inl, inr, ap, false, refl, subst, sym}
 use Rattle.ub_script.specs.Faults.{counted}
 use Rattle.ub_script.specs.Output.{OutFacts}
 use Rattle.ub_store.specs.Facts.{StoreFacts, IsHonest, memory_facts}
@@ -13,10 +13,9 @@ use Rattle.ub_tree.specs.Opened.{IsOpened}
 use Rattle.ub_load.specs.LoadedTree.{IsLoadedTree}
 use Rattle.ub_load.specs.Loading.{IsAtWork}
 use Rattle.ub_tree.specs.Closing.{IsCloseFault}
-use Rattle.ub_tree.specs.View.{TreeView, region_count}
+use Rattle.ub_tree.specs.View.{TreeView}
 use Rattle.ub_tree.specs.declared.fault.TreeFault.{TreeFault}
 use Rattle.ub_tree.specs.declared.fault.TreeFault.TheVariants as tree
-use Rattle.std.proofs.Math.Nat.{div-le_self}
 use Rattle.ub_words.specs.Asked.{AreLines, IsAskedBy}
 use Rattle.ub_words.specs.CommandLine.{AsksHelp, AsksNothing}
 use Rattle.ub_words.specs.declared.given.LoadWords.{LoadWords}
@@ -99,22 +98,17 @@ file_kept table text name dims page_rows rows regions pages old new u is = elim 
 
 -- ---- a table in memory
 
--- it has room for its directory, so that only memory can be wanting where it is closed
-pub unclosed_fault : {text name : List ℕ} {dims page_rows : ℕ} (held : List (List ℕ)) (t : TreeView) → IsLoadedTree text dims page_rows name t → IsAtWork (memory_facts held) t
-    → (fault : TreeFault) → IsCloseFault t fault → fault ≡ tree.Memory
-unclosed_fault held t loaded work tree.Memory h = refl
-unclosed_fault held t loaded work tree.Failed h = let works = work.working in cc
-unclosed_fault held t loaded work (tree.Store store.Device) h = let never = ap (λ (s : StoreFacts). s.can_fail) work.store_is in cc
-unclosed_fault held t loaded work (tree.Store store.NoPage) h = absurd (h loaded.sound)
-unclosed_fault held t loaded work (tree.Store store.BadSize) h =
-    let last : t.next ≤ 16777216 = loaded.sound.last_next in
-    let few = loaded.few in
-    let pages = work.pages in
-    let levels = div-le_self (region_count t + 169) 170 in
-    absurd (omega arith)
-unclosed_fault held t loaded work (tree.Store store.Memory) h = absurd h
-unclosed_fault held t loaded work tree.Full h = absurd h
-unclosed_fault held t loaded work (tree.Page page fault) h = absurd h
+-- it can be closed there: a store in memory never fails, and the tree is sound
+pub never_unclosed : {text name : List ℕ} {dims page_rows : ℕ} (held : List (List ℕ)) (t : TreeView) → IsLoadedTree text dims page_rows name t → IsAtWork (memory_facts held) t
+    → (fault : TreeFault) → IsCloseFault t fault → ⊥
+never_unclosed held t loaded work tree.Memory h = h
+never_unclosed held t loaded work tree.Failed h = let works = work.working in cc
+never_unclosed held t loaded work (tree.Store store.Device) h = let never = ap (λ (s : StoreFacts). s.can_fail) work.store_is in cc
+never_unclosed held t loaded work (tree.Store store.NoPage) h = h loaded.sound
+never_unclosed held t loaded work (tree.Store store.BadSize) h = h
+never_unclosed held t loaded work (tree.Store store.Memory) h = h
+never_unclosed held t loaded work tree.Full h = h
+never_unclosed held t loaded work (tree.Page page fault) h = h
 
 -- ---- a script on a table file
 

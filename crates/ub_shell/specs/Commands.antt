@@ -1,11 +1,10 @@
 -- What the commands that read and write files leave of them, and what they tell.
-use Rattle.std.specs.Prelude.{◌≡◌, ◌≢◌, ◌⊎◌, ◌++◌, ℕ, List, [], Result, Ok, Err, codes, decimal, map, false, IfErr, IsTrue, OnErr, OnOk, IsOk}
+use Rattle.std.specs.Prelude.{◌≡◌, ◌≢◌, ◌⊎◌, ◌++◌, ℕ, List, [], Result, Ok, Err, codes, decimal, false, IfErr, IsTrue, OnErr, OnOk, IsOk}
 use Rattle.ub_load.specs.LoadedTree.{IsLoadedTree}
 use Rattle.ub_load.specs.Loading.{IsLoadFault}
 use Rattle.ub_load.specs.Refusals.{fault_of_tree}
 use Rattle.ub_load.specs.declared.fault.LoadFault.{LoadFault}
 use Rattle.ub_load.specs.declared.fault.LoadFault.TheVariants.{Tree}
-use Rattle.ub_load.specs.declared.fault.LoadFault.TheVariants as load
 use Rattle.ub_script.specs.Output.{OutFacts}
 use Rattle.ub_script.specs.Faults.{counted}
 use Rattle.ub_script.specs.Run.{IsRun}
@@ -20,12 +19,12 @@ use Rattle.ub_tree.specs.Closing.{IsCloseFault}
 use Rattle.ub_tree.specs.Effects.{read_store, written_store}
 use Rattle.ub_tree.specs.Faults.{tree_fault}
 use Rattle.ub_tree.specs.Opened.{IsOpened, IsOpenFault, IsPassing}
-use Rattle.ub_tree.specs.Placed.{Placed, entry_of}
+use Rattle.ub_tree.specs.Placed.{Placed}
 use Rattle.ub_tree.specs.Stored.{AreSoundPages}
 use Rattle.ub_tree.specs.View.{TreeView, IsSound, region_count}
 use Rattle.ub_tree.specs.declared.fault.TreeFault.{TreeFault}
 use Rattle.ub_tree.specs.declared.fault.TreeFault.TheVariants.{Failed, Store}
-use Rattle.ub_writing.specs.Closing as writing
+use Rattle.ub_writing.specs.Closing.{IsUnclosed}
 use Rattle.ub_files.specs.Copying.{Copies}
 use Rattle.ub_shell.specs.Ending.{HasTried, Tells, trial}
 use Rattle.ub_files.specs.Files.{FilesFacts, HoldsBut, IsLent, IsMade, IsText, IsTorn, LendsFile, OpensFile, PutsBack, ReadsFile, Returns}
@@ -75,15 +74,15 @@ TriesFiles source script name dims page_rows old new out out_now status =
 -- ---- closing a table file
 
 -- a tree was closed, and its store is left so: that of a sound tree is a closed table, all of which lasts where it was changed; one
--- that was not changed is as it was, and so is that of a tree that has failed; and where the closing of a sound tree is refused, the
--- first page is as it was, unless the whole directory stands
+-- that was not changed is as it was, and so is that of a tree that has failed; and where the closing is refused over an honest store,
+-- the first page is as it was, unless all others last
 pub record Closes {A : Type 0} (t : TreeView) (left : StoreFacts) (result : Result A TreeFault) : Type 0 where
   pub store_is : left ≡ written_store result t.store left
   pub closed : IsSound t → OnOk result (IsHonest left × AreSoundPages left.pages t.schema t.placed t.next)
   pub synced : IsTrue t.is_changed → OnOk result (left.synced ≡ left.pages)
   pub unchanged : t.is_changed ≡ false → t.is_failed ≡ false → IsOk result × (left ≡ t.store)
   pub failed : IsTrue t.is_failed → (result ≡ Err Failed) × (left ≡ t.store)
-  pub unclosed : IsSound t → OnErr result (writing.IsUnclosed (map (λ p. p.page) t.placed) (map entry_of t.placed) t.store left)
+  pub unclosed : IsHonest t.store → OnErr result (IsUnclosed t.store left)
   pub refused : IfErr result (IsCloseFault t)
 
 -- and its store was put back at this path
@@ -136,12 +135,6 @@ pub record IsFileOf (table text name : List ℕ) (dims page_rows rows regions : 
 abbrev pub IsUnloaded : List ℕ → List ℕ → ℕ → LoadFault → Type 0
 IsUnloaded text name dims fault = IsLoadFault dims name text (memory_facts []) fault
 
--- the table that was loaded isn't closed there: memory was refused
-pub record IsUnclosed (text name : List ℕ) (dims page_rows : ℕ) (fault : LoadFault) : Type 0 where
-  pub tree : TreeView
-  pub loaded : IsLoadedTree text dims page_rows name tree
-  pub refused : fault ≡ load.Memory
-
 -- the table of the text stands in memory, and the table file can't be made
 pub record IsUnmade (text name : List ℕ) (dims page_rows : ℕ) (fault : LoadFault) : Type 0 where
   pub rows : ℕ
@@ -166,10 +159,9 @@ pub record Uses (table : List ℕ) (old new : FilesFacts) : Type 0 where
   pub same : new ≡ record old { holds = new.holds; failed_tables = new.failed_tables }
   pub others : HoldsBut table old new
 
--- a text isn't kept in the table file of this path for this reason; where it holds no table, or none that can be closed, the files hold
--- what they did
+-- a text isn't kept in the table file of this path for this reason; where it holds no table the files hold what they did
 pub record IsUnkept (table text name : List ℕ) (dims page_rows : ℕ) (old new : FilesFacts) (fault : LoadFault) : Type 0 where
-  pub why : ((IsUnloaded text name dims fault ⊎ IsUnclosed text name dims page_rows fault) × (new ≡ old))
+  pub why : (IsUnloaded text name dims fault × (new ≡ old))
       ⊎ ((IsUnmade text name dims page_rows fault × (new.failed_tables ≡ raised old.failed_tables 1))
       ⊎ (IsUnwritten table text name dims page_rows old new fault × (new.failed_tables ≡ old.failed_tables)))
   pub uses : Uses table old new

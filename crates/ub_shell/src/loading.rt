@@ -1,5 +1,5 @@
 ghost use Rattle.std.specs.Prelude.{◌≡◌, ◌≤◌, ◌↔◌, ◌⊎◌, length, IsTrue, IfOk, IfErr};
-ghost use Rattle.ub_shell.specs.Commands.{loaded_line, IsFileOf, IsTable, IsUnclosed, IsUnkept, IsUnloaded, KeepsText, LoadsFile, WritesFile};
+ghost use Rattle.ub_shell.specs.Commands.{loaded_line, IsFileOf, IsTable, IsUnkept, IsUnloaded, KeepsText, LoadsFile, WritesFile};
 ghost use Rattle.ub_table.specs.Schema.{AreTableNumbers};
 
 use crate::line::{Line, twice_numbered_line};
@@ -105,10 +105,8 @@ fn load_pages(alloc: Global, text: &[u8], asked: LoadWords<'_>) -> Result<Loaded
     ensures loaded { IfOk result (λ l. IsTable text.now asked.entry.source.name.now
         asked.entry.source.dims asked.entry.source.page_rows
         l.counts.rows l.counts.regions l.store) }
-    ensures refused { IfErr result (λ fault.
-        IsUnloaded text.now asked.entry.source.name.now asked.entry.source.dims fault
-        ⊎ IsUnclosed text.now asked.entry.source.name.now asked.entry.source.dims
-        asked.entry.source.page_rows fault) }
+    ensures refused { IfErr result
+        (IsUnloaded text.now asked.entry.source.name.now asked.entry.source.dims) }
 {
     let tree = load(
         alloc,

@@ -5,8 +5,9 @@ use Rattle.std.specs.Borrow.{Bor}
 use Rattle.std.proofs.lemmas.Bool.{cases_Bool, eqb-true, eq-eqb}
 use Rattle.std.proofs.lemmas.Map.{lookup-remove_entry}
 use Rattle.std.specs.Cmp.{nat_eq_equiv}
-use Rattle.std.specs.List.{IsDistinct}
+use Rattle.std.specs.List.{IsDistinct, slice_get}
 use Rattle.std.specs.Option.{option_map_or, is_some, option_map, option_copied}
+use Rattle.std.specs.Map.Iter.{deref_pair}
 use Rattle.std.specs.Map.{lookup, lookup_entry, remove_entry, set_value, keys_of}
 use Rattle.std.specs.declared.alloc.Global.{Global}
 use Rattle.lru.specs.LruCache.{LruCache, promoted, put_entries}
@@ -89,6 +90,9 @@ module _ {V : Type 0} where
     | inr f ↦ rw f (ap (λ (o : Option V). cond (nat_eq n e.0) (Some e.1) o) (lookup-set_other k n w es ne))
   ]
 
+  entry_of_some : {e f : ℕ × V} → Some e ≡ Some f → e ≡ f
+  entry_of_some h = cc
+
 module _ where
   abbrev Entries : Type 0
   Entries = List (ℕ × Box (List ℕ) Global)
@@ -129,6 +133,15 @@ module _ where
 
   pub touch_same : (k n : ℕ) (es : Entries) → page_at (pages_of (promoted (nat_eq k) es)) n ≡ page_at (pages_of es) n
   touch_same k n es = same_at n es (promoted (nat_eq k) es) (lookup-promoted k n es)
+
+  -- the page of the first entry is the one under its number
+  pub latest_found : (n : ℕ) (es : Entries) (number : Bor ℕ) (page : Bor (Box (List ℕ) Global)) (o : Option (Bor ℕ × Bor (Box (List ℕ) Global)))
+      → option_map deref_pair o ≡ slice_get es 0 → o ≡ Some (number, page) → number.now ≡ n → page_at (pages_of es) n ≡ Some page.now.value
+  latest_found n [] number page o e is same = let none : option_map deref_pair (Some (number, page)) ≡ slice_get [] 0 = rw is at e in cc
+  latest_found n (f ∷ es) number page o e is same =
+      let first : Some (number.now, page.now) ≡ Some f = rw is at e in
+      let self : nat_eq n number.now ≡ true = eq-eqb n number.now (sym same) in
+      at_found n (f ∷ es) page.now (rw (sym (entry_of_some first)) (rw self refl))
 
   pub get_found : (n : ℕ) (es : Entries) (b : Bor (Box (List ℕ) Global)) (o : Option (Bor (Box (List ℕ) Global)))
       → option_copied o ≡ lookup (nat_eq n) es → o ≡ Some b → Some b.now.value ≡ page_at (pages_of es) n

@@ -1,4 +1,4 @@
-ghost use Rattle.std.specs.Prelude.{◌≡◌, ℕ, [], Some, None, IfOk, OnOk, OnErr, option_map};
+ghost use Rattle.std.specs.Prelude.{◌≡◌, ℕ, [], Some, None, IfOk, IfSome, OnOk, OnErr, option_map};
 ghost use Rattle.std.specs.Option.{is_some, option_copied};
 ghost use Rattle.ub_store.specs.Cache.{page_at, SameBut, NoneMoreBut};
 
@@ -52,10 +52,23 @@ impl Cache {
         self.pages.promote(&n)
     }
 
-    /// The page that is held under this number.
+    // The page used last, where it has this number: no search is needed for it.
+    fn latest(&self, n: u32) -> Option<&Page>
+        ensures { IfSome result (λ page. page_at self.now n ≡ Some page.now) }
+    {
+        match self.pages.peek_mru() {
+            Some((number, page)) if *number == n => Some(page),
+            _ => None,
+        }
+    }
+
+    /// The page that is held under this number. The one used last is given without a search.
     pub fn get(&self, n: u32) -> Option<&Page>
         ensures { option_copied result ≡ page_at self.now n }
     {
+        if let Some(page) = self.latest(n) {
+            return Some(page);
+        }
         match self.pages.peek(&n) {
             Some(page) => Some(page),
             None => None,

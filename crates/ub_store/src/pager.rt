@@ -136,6 +136,15 @@ impl<S: PageStore> Pager<S> {
         self.cache.get(n).unwrap()
     }
 
+    /// Forgets the page of this number, if it is held: it is read again where it is asked for next.
+    pub fn forget(&mut self, number: u32)
+        ensures same { self.new ≡ record self.old { cached = self.new.cached } }
+        ensures gone { page_at self.new.cached number ≡ None }
+        ensures others { SameBut number self.old.cached self.new.cached }
+    {
+        self.cache.forget(number);
+    }
+
     /// Puts a page in the place of that of this number, in the store and in the cache. NoPage comes where there is none, Device
     /// where the store failed in this call. After a fault that page may hold any bytes, and the cache has forgotten it.
     pub fn put(&mut self, n: u32, page: &Page) -> Result<(), StoreFault>

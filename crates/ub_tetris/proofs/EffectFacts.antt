@@ -71,7 +71,8 @@ module _ {T : Type 0} (r : Result T SweepFault) (s new_s : SweepView) (a : Await
         faults = faults;
         regions = λ all.
             all_weaker (λ (b : AwaitedRegion). IsRegionOf old b.region) (λ b. IsRegionOf new b.region)
-            (λ b told. told_kept old new (ap (λ (t : TreeView). t.schema) same) (ap (λ (t : TreeView). t.placed) same) b.region told) new_s.awaited
+            (λ b told. told_kept old new (ap (λ (t : TreeView). t.store.honest) same) (ap (λ (t : TreeView). t.store.pages) same) (ap (λ (t : TreeView). t.inner) same) b.region told)
+            new_s.awaited
             (subst (λ (those : List AwaitedRegion). AllByRecursion (λ b. IsRegionOf old b.region) those) one all).1;
       }
 

@@ -1,133 +1,135 @@
--- What a tree answers that is asked for the next region that meets some boxes again and again, its regions in any order: each
--- answer is later than the one before it, so there are no more than regions, and fewer are left after each.
-use Rattle.std.proofs.Common.{◌≡◌, ◌<◌, ◌≤◌, ◌+◌, ◌∙◌, ◌++◌, ◌∷◌, ◌⊎◌, inl, inr, ℕ, zero, suc, Bool, true, false, List, [], Option, Some, None, Contains, IsTrue, length, slice_get, refl, sym, ap, subst, arith, append_assoc}
+-- What a tree answers that is asked for the next region that meets some boxes again and again, over any pages: each answer is later than
+-- the one before it, and begins with a key of the space, so fewer keys are left after each.
+use Rattle.std.proofs.Common.{◌≡◌, ◌<◌, ◌≤◌, ◌+◌, ◌-◌, ◌*◌, ◌^◌, ◌++◌, ◌∷◌, ◌⊎◌, inl, inr, ℕ, zero, suc, List, [], Option, Some, None, IfSome, if◌then◌else◌, nat_lt, slice_get, refl, sym, ap, ◌∙◌, subst, arith, append_assoc}
+use Rattle.std.proofs.lemmas.Bool.{cases_Bool, cases_lt, lt-ltb, ltb-true}
 use Rattle.std.proofs.lemmas.List.{append-nil}
 use Rattle.std.specs.List.{AllByRecursion}
-use Rattle.ub_table.proofs.Laws.{before_trans, not_before_self, precedes_trans}
+use Rattle.ub_bigmin.specs.Box.{Corners, HoldsAny}
+use Rattle.ub_bigmin.specs.Extremes.{LeastFrom}
+use Rattle.ub_index.specs.Searching.{GivesFrom, at_least, end_before}
+use Rattle.ub_region.specs.Spans.{address_before}
+use Rattle.ub_table.proofs.Laws.{before_from, before_parts, before_trans}
 use Rattle.ub_table.specs.Keys.{IsBefore, precedes}
-use Rattle.ub_bigmin.specs.Box.{Corners}
+use Rattle.ub_table.specs.declared.row.Key.{Key}
 use Rattle.ub_tree.specs.Spans.{IsLater, Meets, Region as Span}
-use Rattle.ub_tree.specs.Told.{AreAnswers, GivesNext, IsRegionOf}
-use Rattle.ub_tree.specs.View.{TreeView, spans_of}
+use Rattle.ub_tree.specs.Told.{AreAnswers, GivesNext, IsRegionOf, pager_of}
+use Rattle.ub_tree.specs.View.{TreeView}
 
--- ---- how many spans are later than one
+-- ---- how many keys of a space are later than a region's first one
 
-found_cases : (x : Span) (xs : List Span) (y : Span) → Contains (x ∷ xs) y → (x ≡ y) ⊎ Contains xs y
-found_cases x xs y (zero, within, is) = inl is
-found_cases x xs y (suc k, within, is) = inr (k, omega arith, is)
+-- a number, or the greatest of 32 bits
+abbrev capped : ℕ → ℕ
+capped n = if nat_lt n 4294967296 then n else 4294967295
 
-found_none : (y : Span) → Contains [] y → ⊥
-found_none y (k, within, is) = omega arith
-
-weight : Bool → ℕ
-weight true = 1
-weight false = 0
-
-weight_le : (a b : Bool) → (a ≡ true → b ≡ true) → weight a ≤ weight b
-unfolding weight
-weight_le true true h = omega arith
-weight_le true false h = let t = h refl in cc
-weight_le false b h = omega arith
-
-weight_one : (a : Bool) → a ≡ true → weight a ≡ 1
-unfolding weight
-weight_one true t = refl
-weight_one false t = cc
-
-weight_none : (a : Bool) → a ≡ false → weight a ≡ 0
-unfolding weight
-weight_none true t = cc
-weight_none false t = refl
-
-weight_few : (a : Bool) → weight a ≤ 1
-unfolding weight
-weight_few true = omega arith
-weight_few false = omega arith
-
--- how many spans pass a test
-pub count : (Span → Bool) → List Span → ℕ
-count f [] = 0
-count f (x ∷ xs) = weight (f x) + count f xs
-
-count_few : (f : Span → Bool) (xs : List Span) → count f xs ≤ length xs
-unfolding count
-count_few f [] = omega arith
-count_few f (x ∷ xs) = let rest = count_few f xs in let one = weight_few (f x) in omega arith
-
-count_le : (f g : Span → Bool) → ((x : Span) → g x ≡ true → f x ≡ true) → (xs : List Span) → count g xs ≤ count f xs
-unfolding count
-count_le f g h [] = omega arith
-count_le f g h (x ∷ xs) = let one = weight_le (g x) (f x) (h x) in let rest = count_le f g h xs in omega arith
-
--- where one passes the first test and not the second, fewer pass the second
-count_less : (f g : Span → Bool) → ((x : Span) → g x ≡ true → f x ≡ true) → (xs : List Span) (r : Span) → Contains xs r → f r ≡ true → g r ≡ false → count g xs + 1 ≤ count f xs
-unfolding count
-count_less f g h [] r there t n = absurd (found_none r there)
-count_less f g h (x ∷ xs) r there t n = elim (found_cases x xs r there) [
-  | inl same ↦
-      let one = weight_one (f x) (ap f same ∙ t) in
-      let none = weight_none (g x) (ap g same ∙ n) in
-      let rest = count_le f g h xs in
-      omega arith
-  | inr later ↦ let rest = count_less f g h xs r later t n in let one = weight_le (g x) (f x) (h x) in omega arith
+capped_few : (n : ℕ) → capped n < 4294967296
+capped_few n = elim (cases_Bool (nat_lt n 4294967296)) [
+  | inl t ↦ let lt = ltb-true n 4294967296 t in rw t (omega arith)
+  | inr f ↦ rw f (omega arith)
 ]
 
-abbrev pub comes_later : Option Span → Span → Bool
-comes_later None s = true
-comes_later (Some a) s = precedes a.first s.first
+capped_is : (n : ℕ) → n < 4294967296 → capped n ≡ n
+capped_is n lt = let t = lt-ltb n 4294967296 lt in rw t refl
 
-later_is : (after : Option Span) (s : Span) → IsLater after s → comes_later after s ≡ true
-later_is None s h = refl
-later_is (Some a) s h = h
+-- the place of a region's first key among the keys of numbers of 32 bits, from 1 on
+pub place : Option Span → ℕ
+place None = 0
+place (Some a) = a.first.z * 4294967296 + capped a.first.number + 1
 
-later_then : (after : Option Span) (span s : Span) → IsLater after span → precedes span.first s.first ≡ true → comes_later after s ≡ true
-later_then None span s h t = refl
-later_then (Some a) span s h t = precedes_trans a.first span.first s.first h t
+place_later : (after : Option Span) (span : Span) → IsLater after span → span.first.number < 2 ^ 32 → place after < place (Some span)
+unfolding place
+place_later None span later small = omega arith
+place_later (Some a) span later small =
+    let few = capped_few a.first.number in
+    let is = capped_is span.first.number small in
+    elim (before_parts a.first span.first later) [
+      | inl lt ↦ omega arith
+      | inr same ↦ let e = same.0 in let lt = same.1 in let own = capped_is a.first.number (omega arith) in omega arith
+    ]
 
-not_later : (b : Bool) → ¬ (IsTrue b) → b ≡ false
-not_later true h = absurd (h refl)
-not_later false h = refl
+place_within : (last : ℕ) (span : Span) → span.first.z ≤ last → place (Some span) ≤ (last + 1) * 4294967296
+unfolding place
+place_within last span le = let few = capped_few span.first.number in omega arith
 
--- fewer are later than an answer than are later than the one before it
-fewer_later : (spans : List Span) (after : Option Span) (span : Span) → Contains spans span → IsLater after span → count (comes_later (Some span)) spans + 1 ≤ count (comes_later after) spans
-fewer_later spans after span there later =
-    count_less (comes_later after) (comes_later (Some span)) (λ s t. later_then after span s later t) spans span there (later_is after span later)
-    (not_later (precedes span.first span.first) (not_before_self span.first))
-
--- how many of the regions that a tree tells of begin later than this one
+-- how many keys of the tree's space are later than a region's first one
 pub left_after : TreeView → Option Span → ℕ
-left_after t after = count (comes_later after) (spans_of t)
+left_after t after = (t.inner.index.last + 1) * 4294967296 - place after
+
+-- ---- what one answer is
+
+-- the later of a key and the least one of an address that isn't before its own has that address
+pub at_least_z : (from : Key) (z : ℕ) → from.z ≤ z → (at_least from z).z ≡ z
+at_least_z from z le = elim (cases_Bool (precedes (record { z = z; number = 0 }) from)) [
+  | inl t ↦ rw t (elim (before_parts (record { z = z; number = 0 }) from t) [
+    | inl lt ↦ absurd (omega arith)
+    | inr same ↦ sym same.0
+  ])
+  | inr f ↦ rw f refl
+]
+
+pub up_to : (kz kn z n : ℕ) → (kz < z) ⊎ ((kz ≡ z) × (kn < n)) → kz ≤ address_before z n
+up_to kz kn z zero (inl lt) = omega arith
+up_to kz kn z zero (inr same) = let lt = same.1 in absurd (omega arith)
+up_to kz kn z (suc n) (inl lt) = omega arith
+up_to kz kn z (suc n) (inr same) = let e = same.0 in omega arith
+
+ends_from : (last : ℕ) (key : Key) (next : Option Key) → IfSome next (IsBefore key) → key.z ≤ last → key.z ≤ end_before last next
+ends_from last key None before le = le
+ends_from last key (Some next) before le = up_to key.z key.number next.z next.number (before_parts key next before)
+
+pub begins_up_to : (key first : Key) → ¬ (IsBefore key first) → first.z ≤ key.z
+begins_up_to key first later = elim (cases_lt key.z first.z) [
+  | inl lt ↦ absurd (later (before_from key first (inl lt)))
+  | inr ge ↦ ge
+]
+
+-- a region that is given is one that the tree tells of, and meets the boxes
+given_met : (boxes : List Corners) (t : TreeView) (held : List (ℕ × List ℕ)) (from : Option Key) (span : Span)
+    → GivesFrom t.inner.index (pager_of t held) (λ from. LeastFrom (HoldsAny boxes) from.z) from (Some span) → IsRegionOf t span × Meets boxes span
+given_met boxes t held None span h = absurd h
+given_met boxes t held (Some from) span (key, (z, least, le, aim), seat, given, is) =
+    let key_z : key.z ≡ z = ap (λ (k : Key). k.z) aim ∙ at_least_z from z least.1 in
+    let first = begins_up_to key seat.first given.holds.from in
+    let begins : seat.first.z ≤ z = omega arith in
+    let within : key.z ≤ t.inner.index.last = omega arith in
+    let last = ends_from t.inner.index.last key seat.next given.holds.to within in
+    let ends : z ≤ end_before t.inner.index.last seat.next = omega arith in (
+      record { key = key; seat = seat; falls = (held, given); region_is = is },
+      subst (λ (r : Span). Meets boxes r) (sym is) (z, least.0, begins, ends),
+    )
 
 -- these are the first answers, and the last of them
 pub record HasAnswers (boxes : List Corners) (t : TreeView) (found : List Span) (after : Option Span) : Type 0 where
   pub answers : (more : List Span) → AreAnswers boxes t after more → AreAnswers boxes t None (found ++ more)
 
 module _ (boxes : List Corners) (t : TreeView) where
-  -- ---- one answer
-
   pub next_later : (after : Option Span) (span : Span) → GivesNext boxes t after (Some span) → IsRegionOf t span × IsLater after span × Meets boxes span
-  next_later after span gives = (record { there = gives.first.0 }, gives.first.1.0, gives.first.1.1)
+  next_later after span gives =
+      let met = given_met boxes t gives.held gives.given.0 span gives.given.2 in
+      (met.0, gives.found_after.later, met.1)
 
   -- fewer are left after it
   pub left_less : (after : Option Span) (span : Span) → GivesNext boxes t after (Some span) → left_after t (Some span) < left_after t after
   unfolding left_after
-  left_less after span gives = let fewer = fewer_later (spans_of t) after span gives.first.0 gives.first.1.0 in omega arith
+  left_less after span gives =
+      let later = place_later after span gives.found_after.later gives.found_after.number in
+      let within = place_within t.inner.index.last span gives.found_after.z in
+      omega arith
 
   -- ---- all answers
 
   -- they are regions that the tree tells of and that meet the boxes
   pub answers_there : (after : Option Span) (answers : List Span) → AreAnswers boxes t after answers → AllByRecursion (λ r. IsRegionOf t r × Meets boxes r) answers
   answers_there after [] are = tt
-  answers_there after (found ∷ more) (gives, rest) = ((record { there = gives.first.0 }, gives.first.1.1), answers_there (Some found) more rest)
+  answers_there after (found ∷ more) (gives, rest) = let next = next_later after found gives in ((next.0, next.2), answers_there (Some found) more rest)
 
   -- and later than the one after which they are asked for
   pub answers_later : (a : Span) (answers : List Span) → AreAnswers boxes t (Some a) answers → AllByRecursion (λ r. IsBefore a.first r.first) answers
   answers_later a [] are = tt
-  answers_later a (found ∷ more) (gives, rest) = (gives.first.1.0, all_later more (answers_later found more rest))
+  answers_later a (found ∷ more) (gives, rest) = (gives.found_after.later, all_later more (answers_later found more rest))
     where
       all_later : (rs : List Span) → AllByRecursion (λ r. IsBefore found.first r.first) rs → AllByRecursion (λ r. IsBefore a.first r.first) rs
       all_later [] all = tt
-      all_later (r ∷ rs) all = (before_trans a.first found.first r.first gives.first.1.0 all.0, all_later rs all.1)
+      all_later (r ∷ rs) all = (before_trans a.first found.first r.first gives.found_after.later all.0, all_later rs all.1)
 
   later_at : (a : Span) (rs : List Span) → AllByRecursion (λ r. IsBefore a.first r.first) rs → (j : ℕ) (b : Span) → slice_get rs j ≡ Some b → IsBefore a.first b.first
   later_at a [] all j b at = cc
@@ -143,20 +145,6 @@ module _ (boxes : List Corners) (t : TreeView) where
       let same : found ≡ a = cc in
       subst (λ (s : Span). IsBefore s.first b.first) same (later_at found more (answers_later found more rest) j b at_j)
   answers_up after (found ∷ more) (gives, rest) (suc i) (suc j) a b lt at_i at_j = answers_up (Some found) more rest i j a b (omega arith) at_i at_j
-
-  few_later : (after : Option Span) (answers : List Span) → AreAnswers boxes t after answers → length answers ≤ count (comes_later after) (spans_of t)
-  few_later after [] are = omega arith
-  few_later after (found ∷ more) (gives, rest) =
-      let fewer = fewer_later (spans_of t) after found gives.first.0 gives.first.1.0 in
-      let few = few_later (Some found) more rest in
-      omega arith
-
-  -- there are no more than regions
-  pub answers_few : (answers : List Span) → AreAnswers boxes t None answers → length answers ≤ length (spans_of t)
-  answers_few answers are =
-      let few = few_later None answers are in
-      let all = count_few (comes_later None) (spans_of t) in
-      omega arith
 
   -- ---- the answers so far
 

@@ -1,34 +1,39 @@
 -- The region that a key falls into, and what calls must answer.
-use Rattle.std.proofs.Common.{◌≡◌, ◌<◌, ◌^◌, ◌++◌, inl, inr, ℕ, suc, Bool, true, false, List, [], ◌∷◌, Some, Result, Ok, Err, IfErr, MatchResult, length, map, ◌∙◌, sym, ap, subst, refl, arith, nat_eq, slice_get, IfOk}
+use Rattle.std.proofs.Common.{◌≡◌, ◌≢◌, ◌<◌, ◌^◌, ◌++◌, inl, inr, ℕ, Bool, true, false, List, [], ◌∷◌, Result, Ok, Err, IfErr, MatchResult, length, map, ◌∙◌, sym, ap, subst, refl, arith, nat_eq, IfOk}
 use Rattle.std.proofs.lemmas.Bool.{cases_Bool, eqb-true}
 use Rattle.std.proofs.lemmas.List.{length-append, length-map}
+use Rattle.std.proofs.lemmas.List.Elements.{recursion_from_All}
 use Rattle.std.proofs.lemmas.Map.Steps.{length-le_from_distinct_below}
+use Rattle.std.proofs.lemmas.Option.{slice_get_within}
 use Rattle.std.specs.List.{AllByRecursion, list_any}
 use Rattle.std.specs.Result.{IsErrAnd, IsErrOf}
-use Rattle.ub_directory.specs.View.{SeatView}
-use Rattle.ub_page.specs.declared.entries.Entry.{Entry}
+use Rattle.ub_index.specs.Preparing.{HasFullWay}
+use Rattle.ub_index.specs.declared.seat.Seat.{Seat}
+use Rattle.ub_index_page.specs.declared.index.TheConstants.{MAX_LEVEL}
+use Rattle.ub_region.proofs.Laws.{all_append}
+use Rattle.ub_region.specs.Rows.{has_key}
 use Rattle.ub_store.specs.Facts.{IsHonest, page_count}
 use Rattle.ub_store.specs.declared.fault.StoreFault.{StoreFault}
-use Rattle.ub_region.specs.Rows.{has_key}
+use Rattle.ub_store.specs.declared.fault.StoreFault.TheVariants as store
 use Rattle.ub_table.specs.Region.{Region, key_of}
 use Rattle.ub_table.specs.declared.fault.PageFault.{PageFault}
 use Rattle.ub_table.specs.declared.fault.PageFault.TheVariants.{BadCount, BadOrder}
-use Rattle.ub_table.specs.declared.row.Row.{Row}
 use Rattle.ub_table.specs.declared.row.Key.{Key}
-use Rattle.ub_tree.specs.inner.Change.{IsOnSeat, IsSeatIn}
+use Rattle.ub_table.specs.declared.row.Row.{Row}
+use Rattle.ub_table.specs.declared.schema.Schema.{Schema}
+use Rattle.ub_tree.proofs.CallFacts.{falls_surely}
+use Rattle.ub_tree.proofs.StoredFacts.{IsSpelled}
 use Rattle.ub_tree.specs.Faults.{tree_fault}
-use Rattle.ub_tree.specs.Holding.{Answers, AnswersKey, AnswersRemoval, FallsInto, index_for}
+use Rattle.ub_tree.specs.Holding.{Answers, AnswersKey, AnswersRemoval, FallsInto, HasNoRoom}
+use Rattle.ub_tree.specs.Indexed.{reserved}
 use Rattle.ub_tree.specs.Opened.{IsPassing}
-use Rattle.ub_tree.specs.Placed.{Placed, entry_of}
+use Rattle.ub_tree.specs.Placed.{Placed}
 use Rattle.ub_tree.specs.Removal.{IsRemovalFault}
-use Rattle.ub_tree.specs.Spans.{first_keys}
-use Rattle.ub_tree.specs.View.{TreeView, IsSound}
+use Rattle.ub_tree.specs.Told.{FallsTo}
+use Rattle.ub_tree.specs.View.{TreeView, IsSound, region_count}
 use Rattle.ub_tree.specs.declared.fault.TreeFault.{TreeFault}
 use Rattle.ub_tree.specs.declared.fault.TreeFault.TheVariants.{Page}
-use Rattle.ub_tree.proofs.CloseFacts.{own_of}
-use Rattle.ub_tree.proofs.TreeFacts.{span_entry}
-use Rattle.ub_zaddr.specs.Address.{last_address}
-use Rattle.ub_store.specs.declared.fault.StoreFault.TheVariants as store
+use Rattle.ub_tree.specs.inner.Change.{IsOnSeat}
 
 each_below : (n q : ℕ) (xs : List ℕ) → AllByRecursion (λ m. m < n) xs → list_any (nat_eq q) xs ≡ true → q < n
 each_below n q [] all t = cc
@@ -37,34 +42,30 @@ each_below n q (x ∷ xs) all t = elim (cases_Bool (nat_eq q x)) [
   | inr f ↦ each_below n q xs all.1 (rw f at t)
 ]
 
+-- each region's page is there
+pages_there : (schema : Schema) (pages : List (List ℕ)) (ps : List Placed) → AllByRecursion (IsSpelled schema pages) ps → AllByRecursion (λ n. n < length pages) (map (λ p. p.page) ps)
+pages_there schema pages [] h = tt
+pages_there schema pages (p ∷ ps) h = (slice_get_within pages p.page _ h.0, pages_there schema pages ps h.1)
+
 -- the regions of a sound tree are fewer than the pages of its store
-pub never_full : (t : TreeView) → page_count t.store < 2 ^ 32 → length t.placed ≡ 4294967295 → ¬ (IsSound t)
+pub never_full : (t : TreeView) → page_count t.store < 2 ^ 32 → region_count t ≡ 4294967295 → ¬ (IsSound t)
 never_full t small many sound =
+    let pages = t.store.pages in
     let numbers = map (λ (p : Placed). p.page) t.placed in
-    let own = own_of t.schema t.placed t.inner.chain t.store.pages sound.placed_are in
-    let most = length-le_from_distinct_below ((0 ∷ t.inner.chain) ++ numbers) (length t.store.pages) own.own (λ q. each_below (length t.store.pages) q ((0 ∷ t.inner.chain) ++ numbers) own.within) in
-    let long = length-append (0 ∷ t.inner.chain) numbers in
+    let others = reserved t.inner.index pages in
+    let within = all_append (λ n. n < length pages) others numbers (recursion_from_All (λ n. n < length pages) others sound.placed_are.within)
+    (pages_there t.schema pages t.placed (recursion_from_All (IsSpelled t.schema pages) t.placed sound.placed_are.spelled)) in
+    let most = length-le_from_distinct_below (others ++ numbers) (length pages) sound.placed_are.own (λ q. each_below (length pages) q (others ++ numbers) within) in
+    let long = length-append others numbers in
     let mapped = length-map t.placed (λ (p : Placed). p.page) in
+    let count = sound.count_is in
     absurd (omega arith)
 
--- the region that a key falls into is that of the seat of its index
-pub on_seat : (t : TreeView) (key : Key) (page : ℕ) (region : Region) (seat : SeatView) → FallsInto t key page region → IsSeatIn t seat → seat.index ≡ index_for t key → IsOnSeat t seat region × (seat.page ≡ page)
-on_seat t key page region seat h stands is =
-    let entries = map entry_of t.placed in
-    let (e, at, first, number, next) = span_entry (last_address t.schema.dims) entries (index_for t key) h.span h.at in
-    let here : slice_get entries (index_for t key) ≡ Some (record { first = seat.first; page = seat.page }) = subst (λ (i : ℕ). slice_get entries i ≡ Some (record { first = seat.first; page = seat.page })) is stands.entry in
-    let whole : Entry = record { first = seat.first; page = seat.page } in
-    let same : e ≡ whole = cc in
-    let begins : seat.first ≡ h.span.first = sym (ap (λ (x : Entry). x.first) same) ∙ first in
-    let stays : seat.page ≡ h.span.page = sym (ap (λ (x : Entry). x.page) same) ∙ number in
-    let after : seat.next ≡ h.span.next = stands.next ∙ ap (λ (i : ℕ). slice_get (first_keys entries) (suc i)) is ∙ sym next in (
-      record {
-        is = h.taken.0;
-        held = rw (begins, after) h.taken.1;
-        page = rw stays h.taken.2;
-      },
-      stays ∙ h.page_is,
-    )
+-- the region that a key falls into is that of the seat to which it falls
+pub on_seat : (t : TreeView) (key : Key) (page : ℕ) (region : Region) (seat : Seat) → IsHonest t.store → FallsInto t key page region → FallsTo t key seat → IsOnSeat t seat region × (seat.page ≡ page)
+on_seat t key page region seat honest h falls =
+    subst (λ (s : Seat). IsOnSeat t s region × (s.page ≡ page)) (sym (falls_surely t key seat h.seat honest falls h.falls))
+    (record { is = h.taken.0; held = h.taken.1; page = h.taken.2 }, h.page_is)
 
 -- a read that failed, of a page that is there
 pub passing_read : (U : Type 0) (fault : StoreFault) → (IsErrOf {T = U} (Err fault) store.NoPage → ⊥) → (¬ (IsErrOf {T = U} (Err fault) store.BadSize)) → IsPassing (tree_fault fault)
@@ -85,6 +86,10 @@ passing_no_page : {A : Type 0} (r : Result A TreeFault) (e : TreeFault) (page : 
 passing_no_page (Ok x) e page fault is h same = is
 passing_no_page (Err f) e page fault is (inl memory) same = cc
 passing_no_page (Err f) e page fault is (inr device) same = cc
+
+passing_no_room : {A : Type 0} (r : Result A TreeFault) (e : TreeFault) → IsErrAnd r (λ x. x ≡ e) → IsPassing e → IsErrAnd r HasNoRoom
+passing_no_room (Ok x) e is h = absurd is
+passing_no_room (Err f) e is h = rw is (inr (inr h))
 
 passing_fault : {A : Type 0} (r : Result A TreeFault) (e : TreeFault) → IsErrAnd r (λ x. x ≡ e) → IsPassing e → IfErr r IsPassing
 passing_fault (Ok x) e is h = tt
@@ -111,10 +116,10 @@ no_answer (Ok x) e P is = absurd is
 no_answer (Err f) e P is = tt
 
 -- a seat was found, the tree is as it was, and the rows of its region are read where its page spells it
-module _ (a b : TreeView) (key : Key) (seat : SeatView) (same : b ≡ a) (stands : IsSeatIn a seat) (is : seat.index ≡ index_for a key) where
+module _ (a b : TreeView) (key : Key) (seat : Seat) (same : b ≡ a) (to : FallsTo a key seat) where
   falls_on : IsHonest a.store → (page : ℕ) (region : Region) → FallsInto a key page region → IsHonest b.store × IsOnSeat b seat region × (seat.page ≡ page)
   falls_on honest page region falls =
-      let on = on_seat a key page region seat falls stands is in
+      let on = on_seat a key page region seat honest falls to in
       (subst (λ (v : TreeView). IsHonest v.store) (sym same) honest, subst (λ (v : TreeView). IsOnSeat v seat region) (sym same) on.0, on.1)
 
   -- where it can't be read
@@ -122,8 +127,12 @@ module _ (a b : TreeView) (key : Key) (seat : SeatView) (same : b ≡ a) (stands
       → IsHonest a.store → AnswersKey a key r
   unread_key r e told taken honest page region falls =
       let on = falls_on honest page region falls in
-      let passing = taken on.0 region on.1 in
-      (λ has. passing_answers r e _ told passing, λ none full many. passing_answers r e _ told passing, λ none number fault same. absurd (passing_no_page r e number fault told passing same))
+      let passing = taken on.0 region on.1 in (
+        λ has. passing_answers r e _ told passing,
+        λ none full many. passing_answers r e _ told passing,
+        λ none number fault same. absurd (passing_no_page r e number fault told passing same),
+        λ none full few levels way. passing_no_room r e told passing,
+      )
 
   pub unread_removal : (r : Result Bool TreeFault) (e : TreeFault) → IsErrAnd r (λ x. x ≡ e) → (IsHonest b.store → (q : Region) → IsOnSeat b seat q → IsPassing e)
       → IsHonest a.store → AnswersRemoval a key r
@@ -137,19 +146,26 @@ module _ (a b : TreeView) (key : Key) (seat : SeatView) (same : b ≡ a) (stands
     key_is_there A number at there honest there_page region falls =
         let on = falls_on honest there_page region falls in
         let read = taken on.0 region on.1 in
-        let here : has_key a.schema.dims key region.rows ≡ true = rw (← read) there in
-        (λ has. inl (ap (λ (n : ℕ). Page n BadOrder) (at ∙ on.2)), λ none full many. absurd (let bad : true ≡ false = sym here ∙ none in cc), λ none page fault is. absurd (let bad : true ≡ false = sym here ∙ none in cc))
+        let here : has_key a.schema.dims key region.rows ≡ true = rw (← read) there in (
+          λ has. inl (ap (λ (n : ℕ). Page n BadOrder) (at ∙ on.2)),
+          λ none full many. absurd (let bad : true ≡ false = sym here ∙ none in cc),
+          λ none page fault is. absurd (let bad : true ≡ false = sym here ∙ none in cc),
+          λ none full few levels way. absurd (let bad : true ≡ false = sym here ∙ none in cc),
+        )
 
     pub key_isnt_there : {A : Type 0} (r : Result A TreeFault) → has_key a.schema.dims key rows ≡ false
-        → (length rows ≡ a.schema.page_rows → length a.placed ≡ 4294967295 → IsErrAnd r (λ x. x ≡ Page 0 BadCount))
-        → ((page : ℕ) (fault : PageFault) → r ≡ Err (Page page fault) → (length rows ≡ a.schema.page_rows) × (length a.placed ≡ 4294967295)) → IsHonest a.store → AnswersKey a key r
-    key_isnt_there r none most only honest number region falls =
+        → (length rows ≡ a.schema.page_rows → region_count a ≡ 4294967295 → IsErrAnd r (λ x. x ≡ Page 0 BadCount))
+        → ((page : ℕ) (fault : PageFault) → r ≡ Err (Page page fault) → (length rows ≡ a.schema.page_rows) × (region_count a ≡ 4294967295))
+        → (length rows ≡ a.schema.page_rows → region_count a ≢ 4294967295 → a.inner.index.levels ≡ MAX_LEVEL → HasFullWay a.inner.index a.store key → IsErrAnd r HasNoRoom)
+        → IsHonest a.store → AnswersKey a key r
+    key_isnt_there r none most only room honest number region falls =
         let on = falls_on honest number region falls in
         let read = taken on.0 region on.1 in
         let here : has_key a.schema.dims key region.rows ≡ false = rw (← read) none in (
           λ has. absurd (let bad : true ≡ false = sym has ∙ here in cc),
           λ free full many. fault_answers r (Page 0 BadCount) (most (ap length read ∙ full) many),
           λ free page fault is. let where_full = only page fault is in (sym (ap length read) ∙ where_full.0, where_full.1),
+          λ free full few levels way. room (ap length read ∙ full) few levels way,
         )
 
     pub removal_answers : (r : Result Bool TreeFault) → (has_key a.schema.dims key rows ≡ true → a.rows ≡ 0 → IsErrAnd r (λ x. x ≡ Page 0 BadCount))

@@ -1,7 +1,8 @@
 -- The laws of a sound tree, as specs/Laws.antt states them, and what else the proofs of crates above use.
-use Rattle.std.proofs.Common.{◌≡◌, ◌<◌, inl, inr, ℕ, zero, suc, List, [], ◌∷◌, ◌++◌, false, Some, None, map, drop, nat_eq, slice_get, sym, ap, refl, arith, ◌∙◌}
+use Rattle.std.proofs.Common.{◌≡◌, ◌<◌, ◌^◌, inl, inr, ℕ, zero, suc, List, [], ◌∷◌, false, Some, None, map, drop, nat_eq, slice_get, sym, ap, subst, length, refl, arith, ◌∙◌}
 use Rattle.std.proofs.lemmas.Bool.{cases_lt, cases_eq, eq-eqb}
-use Rattle.std.proofs.lemmas.Map.Keys.{apart_from_distinct, IsDistinct-tail}
+use Rattle.std.proofs.lemmas.List.{length-map}
+use Rattle.std.proofs.lemmas.Map.Keys.{apart_from_distinct}
 use Rattle.std.proofs.lemmas.Option.{slice_get_within, get_or_from_slice_get}
 use Rattle.std.specs.List.{IsDistinct}
 use Rattle.ub_region.proofs.Laws as lists
@@ -9,18 +10,27 @@ use Rattle.ub_region.specs.Regions.{firsts_of}
 use Rattle.ub_region.specs.Spans.{span_end}
 use Rattle.ub_table.specs.Region.{Region}
 use Rattle.ub_tree.proofs.AnswerFacts.{answers_up, next_later}
-use Rattle.ub_tree.proofs.WalkFacts.{answers_are_those}
-use Rattle.ub_tree.specs.Laws.{SpansAscend, PagesDiffer, SpansCoverTheSpace, RowsLieInSpans, RegionsAreTold, NextIsTheFirst, NextIsLater, AnswersAreThoseThatMeet, AnswersAreRegionsThatMeet, AnswersAscend}
+use Rattle.ub_tree.proofs.IndexedFacts.{contained_told, first_given, sound_index, spans_told, told_contained}
+use Rattle.ub_tree.proofs.WalkFacts.{answers_are_those, those_few}
+use Rattle.ub_bigmin.specs.Box.{Corners}
+use Rattle.ub_index.proofs.FillFacts.{filled_low_levels}
+use Rattle.ub_index.proofs.Numbers.{distinct_right}
+use Rattle.ub_index.specs.View.{entries_in}
+use Rattle.ub_index_page.specs.declared.index.TheConstants.{MAX_LEVEL}
+use Rattle.ub_tree.specs.Handing.{AreMetBy}
+use Rattle.ub_tree.specs.Laws.{SpansAscend, PagesDiffer, SpansCoverTheSpace, RowsLieInSpans, RegionsAreTold, NextIsTheFirst, NextIsLater, AnswersAreThoseThatMeet, AnswersAreRegionsThatMeet, AnswersAscend, GrownIsNotFull}
 use Rattle.ub_tree.specs.Placed.{Placed, entry_of, regions_in}
-use Rattle.ub_tree.specs.Spans.{first_keys, regions_of, Region as Span}
+use Rattle.ub_tree.specs.Indexed.{reserved}
+use Rattle.ub_tree.specs.Spans.{first_keys, regions_of, First, IsLater, Meets, Region as Span}
+use Rattle.ub_tree.specs.Told.{pager_of}
 use Rattle.ub_tree.specs.View.{TreeView, IsSound, regions, spans_of}
 use Rattle.ub_zaddr.specs.Address.{last_address}
 pub use Rattle.ub_tree.proofs.AnswerFacts.{HasAnswers, HasAnswers-none, HasAnswers-more, answers_ended, answers_later, answers_there, left_after, left_less}
-pub use Rattle.ub_tree.proofs.GrowFacts.{firsts_placed, new_values, numbered_row}
-pub use Rattle.ub_tree.proofs.MeetFacts.{before, contained_at, contains_at, is_later, later_from, met_few, spans_long, take_all, those_next, those_up_to}
+pub use Rattle.ub_tree.proofs.NewFacts.{new_values, numbered_row}
+pub use Rattle.ub_tree.proofs.TreeFacts.{firsts_placed}
+pub use Rattle.ub_tree.proofs.MeetFacts.{before, contained_at, contains_at, is_later, later_from, spans_long, take_all, those_next, those_up_to}
 pub use Rattle.ub_tree.proofs.ReadFacts.{IsTraced, Keeps, Keeps-by, Keeps-more, Keeps-none, begun_traced, given_before, memory_searches, read_fault_before, reads_by, reads_then, sound_fault, told_kept, traced_gives, traced_told, tree_reads, tree_searches, unchanged_trace, unchanged_traced, SearchesTree-regions, SearchesTree-sound, SearchesTree-trace}
 pub use Rattle.ub_directory.proofs.Laws.{region_first}
-use Rattle.ub_directory.specs.Inner.{reserved}
 
 -- the region of a span, with its page
 record HasSpan (last i : ℕ) (placed : List Placed) (span : Span) (p : Placed) : Type 0 where
@@ -63,10 +73,6 @@ spans_ascend t i j a b sound lt at_i at_j =
     let up = lists.first_keys_ascend t.schema t.next (regions t) i j p.region q.region sound.regions_are lt one.region_at other.region_at in
     rw (one.first, other.first) at up
 
-distinct_right : (xs ys : List ℕ) → IsDistinct nat_eq (xs ++ ys) → IsDistinct nat_eq ys
-distinct_right [] ys h = h
-distinct_right (x ∷ xs) ys h = distinct_right xs ys (IsDistinct-tail nat_eq x (xs ++ ys) h)
-
 -- different numbers stand at one index each
 one_index : (ns : List ℕ) (i j n : ℕ) → IsDistinct nat_eq ns → slice_get ns i ≡ Some n → slice_get ns j ≡ Some n → i ≡ j
 one_index ns i j n own at_i at_j = elim (cases_lt i j) [
@@ -94,7 +100,7 @@ page_at (q ∷ placed) (suc i) p at = page_at placed i p at
 -- two places of one page
 same_index : (t : TreeView) → IsSound t → (i j : ℕ) (p q : Placed) → slice_get t.placed i ≡ Some p → slice_get t.placed j ≡ Some q → p.page ≡ q.page → i ≡ j
 same_index t sound i j p q at_i at_j same =
-    let own = distinct_right (reserved t.inner) (map (λ (p : Placed). p.page) t.placed) sound.placed_are.own in
+    let own = distinct_right (reserved t.inner.index t.store.pages) (map (λ (p : Placed). p.page) t.placed) sound.placed_are.own in
     one_index (map (λ (p : Placed). p.page) t.placed) i j p.page own (page_at t.placed i p at_i) (page_at t.placed j q at_j ∙ ap (λ (n : ℕ). Some n) (sym same))
 
 pub pages_differ : PagesDiffer
@@ -132,20 +138,39 @@ rows_lie_in_spans t span r row sound there stands has =
     (omega arith, omega arith)
 
 pub regions_are_told : RegionsAreTold
-regions_are_told t span sound = (λ told. told.there, λ there. record { there = there })
+regions_are_told t span sound = (λ told. told_contained t sound span told, λ there. contained_told t sound span there)
 
 pub next_is_the_first : NextIsTheFirst
-next_is_the_first t boxes after found sound gives = gives.first
+next_is_the_first t boxes after found sound gives =
+    subst (λ (spans : List Span). First (λ r. IsLater after r × Meets boxes r) spans found) (spans_told t sound)
+    (first_given t.inner.index (pager_of t gives.held) (sound_index t sound) boxes after found gives.given)
 
 pub next_is_later : NextIsLater
 next_is_later t boxes after span gives = next_later boxes t after span gives
 
 pub answers_are_those_that_meet : AnswersAreThoseThatMeet
 answers_are_those_that_meet t boxes answers sound are =
-    answers_are_those boxes t (λ i j a b lt at_i at_j. spans_ascend t i j a b sound lt at_i at_j) answers are
+    answers_are_those boxes t (λ after found gives. next_is_the_first t boxes after found sound gives) (λ i j a b lt at_i at_j. spans_ascend t i j a b sound lt at_i at_j) answers are
+
+-- a walk over a sound tree has come to no more regions than it has
+pub met_few : (boxes : List Corners) (t : TreeView) (met : List Span) → IsSound t → AreMetBy boxes t met → length met < 2 ^ 32
+met_few boxes t met sound are =
+    let most = those_few (Meets boxes) (spans_of t) met (answers_are_those_that_meet t boxes met sound are) in
+    let long = spans_long (last_address t.schema.dims) t.placed in
+    let few = sound.few in
+    omega arith
 
 pub answers_are_regions_that_meet : AnswersAreRegionsThatMeet
 answers_are_regions_that_meet t boxes answers are = answers_there boxes t None answers are
 
 pub answers_ascend : AnswersAscend
 answers_ascend t boxes answers i j a b are lt at_i at_j = answers_up boxes t None answers are i j a b lt at_i at_j
+
+pub grown_is_not_full : GrownIsNotFull
+grown_is_not_full t sound grown full =
+    let entries = entries_in t.inner.index t.store in
+    let long : length entries ≡ length t.placed = ap length sound.indexed.entries_are ∙ length-map t.placed entry_of in
+    let few = sound.few in
+    let low : t.inner.index.levels < MAX_LEVEL = filled_low_levels t.inner.index t.store (sound_index t sound) grown (let less : length entries < 2 ^ 32 = omega arith in less) in
+    let same : t.inner.index.levels ≡ MAX_LEVEL = full.0 in
+    omega arith

@@ -1,5 +1,5 @@
 -- The regions that meet some boxes, one after the other: which one comes next, and which have come.
-use Rattle.std.proofs.Common.{◌≡◌, ◌<◌, ◌≤◌, ◌^◌, inl, inr, ℕ, zero, suc, List, [], ◌∷◌, ◌++◌, Option, Some, None, IfSome, Contains, length, map, take, ◌∙◌, sym, ap, refl, arith, subst, slice_get, append_assoc}
+use Rattle.std.proofs.Common.{◌≡◌, ◌<◌, ◌≤◌, inl, inr, ℕ, zero, suc, List, [], ◌∷◌, ◌++◌, Option, Some, None, IfSome, Contains, length, map, take, ◌∙◌, sym, ap, refl, arith, subst, slice_get, append_assoc}
 use Rattle.std.proofs.lemmas.Bool.{cases_lt, cases_eq}
 use Rattle.std.proofs.lemmas.Option.{slice_get_read, slice_get_within, get_or_from_slice_get, slice_get_cases}
 use Rattle.std.proofs.Math.Seq.{take-suc}
@@ -7,13 +7,12 @@ use Rattle.ub_bigmin.specs.Box.{Corners}
 use Rattle.ub_region.specs.Those.{AreThose}
 use Rattle.ub_table.proofs.Laws.{not_both_before, not_before_self}
 use Rattle.ub_table.specs.Keys.{IsBefore}
-use Rattle.ub_tree.proofs.AnswerFacts.{HasAnswers, HasAnswers-none, HasAnswers-more, answers_ended, answers_few, left_after, left_less}
+use Rattle.ub_tree.proofs.AnswerFacts.{HasAnswers, HasAnswers-none, HasAnswers-more, answers_ended, left_after, left_less}
 use Rattle.ub_tree.specs.Handing.{AreMetBy, Began, TakesThese}
 use Rattle.ub_tree.specs.Placed.{Placed, entry_of}
 use Rattle.ub_tree.specs.Spans.{IsLater, regions_of, Region as Span}
 use Rattle.ub_tree.specs.Told.{GivesNext}
-use Rattle.ub_tree.specs.View.{TreeView, IsSound}
-use Rattle.ub_zaddr.specs.Address.{last_address}
+use Rattle.ub_tree.specs.View.{TreeView}
 
 -- the span before the one at a place, if there is one
 abbrev pub before : ℕ → List Span → Option Span
@@ -145,14 +144,6 @@ module _ (boxes : List Corners) (t now : TreeView) (found : List Span) (after : 
   -- and fewer regions are left after it
   pub walks_down : (copied : Option Span) (span : Span) → copied ≡ after → GivesNext boxes now copied (Some span) → left_after t (Some span) < left_after t after
   walks_down copied span is gives = left_less boxes t after span (told (Some span) copied is gives)
-
--- a walk over a sound tree has come to no more regions than it has
-pub met_few : (boxes : List Corners) (t : TreeView) (met : List Span) → IsSound t → AreMetBy boxes t met → length met < 2 ^ 32
-met_few boxes t met sound are =
-    let most = answers_few boxes t met are in
-    let long = spans_long (last_address t.schema.dims) t.placed in
-    let few = sound.few in
-    omega arith
 
 -- ---- the sink
 

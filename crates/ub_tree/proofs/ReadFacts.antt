@@ -1,18 +1,23 @@
 -- What a tree keeps over several calls that read it.
-use Rattle.std.proofs.Common.{◌≡◌, ◌≢◌, ◌≤◌, ◌∙◌, ℕ, IsTrue, List, Option, Result, Ok, Err, IfErr, subst, sym, ap, refl}
-use Rattle.std.specs.List.{Contains}
+use Rattle.std.proofs.Common.{◌≡◌, ◌≢◌, ◌≤◌, ◌∙◌, inl, inr, ℕ, IsTrue, List, Option, Some, None, Result, Ok, Err, IfErr, subst, sym, ap, refl}
 use Rattle.std.specs.Result.{IsErrAnd}
-use Rattle.ub_bigmin.specs.Box.{Corners}
+use Rattle.ub_bigmin.specs.Box.{Corners, HoldsAny}
+use Rattle.ub_bigmin.specs.Extremes.{LeastFrom}
 use Rattle.ub_store.specs.declared.fault.StoreFault.TheVariants as store
+use Rattle.ub_index.specs.Searching.{Gives, GivesFrom, IsFrom, region_of}
+use Rattle.ub_index.specs.Index.{top}
+use Rattle.ub_index.specs.Way.{LeadsTo}
+use Rattle.ub_index.specs.declared.seat.Seat.{Seat}
 use Rattle.ub_store.specs.Facts.{IsPage, page_count}
 use Rattle.ub_store.specs.View.{Trace, emptied}
 use Rattle.ub_table.specs.declared.fault.PageFault.{PageFault}
-use Rattle.ub_table.specs.declared.schema.Schema.{Schema}
-use Rattle.ub_tree.specs.Effects.{IsReadFault, IsPageRefused, IsPageMissing, IsRegionRefused, raised_by}
+use Rattle.ub_table.specs.declared.row.Key.{Key}
+use Rattle.ub_tree.specs.Effects.{IsReadFault, IsIndexRefused, IsPageRefused, IsPageMissing, IsRegionRefused, IsStopped, raised_by}
+use Rattle.ub_tree.specs.Indexed.{Inner}
 use Rattle.ub_tree.specs.Reading.{IsGiven, ReadsTree, SearchesTree, counted, fault_of_tree}
-use Rattle.ub_tree.specs.Spans.{First, IsLater, Meets, Region}
-use Rattle.ub_tree.specs.Told.{GivesNext, IsRegionOf}
-use Rattle.ub_tree.specs.View.{TreeView, IsSound, KeepsRegions, KeepsTrace, spans_in, spans_of}
+use Rattle.ub_tree.specs.Spans.{Region}
+use Rattle.ub_tree.specs.Told.{GivesNext, HasOverlap, IsRegionOf, pager_of}
+use Rattle.ub_tree.specs.View.{TreeView, IsSound, KeepsRegions, KeepsTrace}
 use Rattle.ub_tree.specs.declared.fault.TreeFault.{TreeFault}
 use Rattle.ub_tree.specs.declared.fault.TreeFault.TheVariants.{Full, Page, Store, Failed as HasFailed, Memory}
 use Rattle.ub_tree.specs.declared.read_fault.ReadFault.{ReadFault}
@@ -32,8 +37,11 @@ retraced : (t : TreeView) (trace : Trace) → IsSound t → IsSound (record t { 
 retraced t trace h = record {
   working = h.working;
   honest = h.honest;
+  last_is = h.last_is;
+  indexed = h.indexed;
   regions_are = h.regions_are;
   placed_are = h.placed_are;
+  count_is = h.count_is;
   rows_are = h.rows_are;
   some_next = h.some_next;
   last_next = h.last_next;
@@ -60,20 +68,79 @@ unchanged_traced old new is = is ∙ ap (λ (t : TreeView). record old { trace =
 pub unchanged_trace : (old new : TreeView) → new ≡ old → KeepsTrace old new
 unchanged_trace old new is = ap (λ (t : TreeView). t.trace) is
 
+-- what is given isn't by the trace
+retraced_gives : (old : TreeView) (trace : Trace) (held : List (ℕ × List ℕ)) (key : Key) (seat : Seat) → Gives old.inner.index (pager_of (record old { trace = trace }) held) key seat
+    → Gives old.inner.index (pager_of old held) key seat
+retraced_gives old trace held key seat h = record { holds = h.holds; way = h.way }
+
+retraced_from : (old : TreeView) (trace : Trace) (held : List (ℕ × List ℕ)) (after : Option Region) (from : Option Key)
+    → IsFrom old.inner.index (pager_of (record old { trace = trace }) held) after from → IsFrom old.inner.index (pager_of old held) after from
+retraced_from old trace held None from h = h
+retraced_from old trace held (Some region) from (seat, given, next) = (seat, retraced_gives old trace held region.first seat given, next)
+
+retraced_found : (old : TreeView) (trace : Trace) (held : List (ℕ × List ℕ)) (To : Key → Option ℕ → Type 0) (from : Option Key) (found : Option Region)
+    → GivesFrom old.inner.index (pager_of (record old { trace = trace }) held) To from found → GivesFrom old.inner.index (pager_of old held) To from found
+retraced_found old trace held To from None h = h
+retraced_found old trace held To None (Some region) h = h
+retraced_found old trace held To (Some from) (Some region) (key, aim, seat, given, is) = (key, aim, seat, retraced_gives old trace held key seat given, is)
+
+retraced_overlap : (old : TreeView) (trace : Trace) → HasOverlap (record old { trace = trace }) → HasOverlap old
+retraced_overlap old trace h = record {
+  one = h.one;
+  other = h.other;
+  one_key = h.one_key;
+  other_key = h.other_key;
+  one_falls = (h.one_falls.0, retraced_gives old trace h.one_falls.0 h.one_key h.one h.one_falls.1);
+  other_falls = (h.other_falls.0, retraced_gives old trace h.other_falls.0 h.other_key h.other h.other_falls.1);
+  apart = h.apart;
+  common = h.common;
+  one_holds = h.one_holds;
+  other_holds = h.other_holds;
+}
+
+retraced_refused : (old : TreeView) (trace : Trace) (number : ℕ) (fault : PageFault) → IsIndexRefused (record old { trace = trace }) number fault → IsIndexRefused old number fault
+retraced_refused old trace number fault h honest = elim (h honest) [
+  | inl stops ↦ inl stops
+  | inr over ↦ inr (over.0, over.1, retraced_overlap old trace over.2)
+]
+
 -- a tree of which only the trace has changed tells of the same regions, and gives the same answers
 pub traced_told : (old new : TreeView) → IsTraced old new → (region : Region) → IsRegionOf new region → IsRegionOf old region
-traced_told old new is region told = record { there = subst (λ (t : TreeView). Contains (spans_of t) region) is told.there }
+traced_told old new is region told = retold_so new.trace (subst (λ (t : TreeView). IsRegionOf t region) is told)
+  where
+    retold_so : (trace : Trace) → IsRegionOf (record old { trace = trace }) region → IsRegionOf old region
+    retold_so trace h = record { key = h.key; seat = h.seat; falls = (h.falls.0, retraced_gives old trace h.falls.0 h.key h.seat h.falls.1); region_is = h.region_is }
 
--- and so does one that has the same regions
-pub told_kept : (old new : TreeView) → new.schema ≡ old.schema → new.placed ≡ old.placed → (region : Region) → IsRegionOf old region → IsRegionOf new region
-told_kept old new schema placed region told = record {
-  there = subst (λ (spans : List Region). Contains spans region)
-      (sym (ap (λ (s : Schema). spans_in s new.placed) schema ∙ ap (spans_in old.schema) placed)) told.there;
+-- and so does one that has the same pages and the same index
+pub told_kept : (old new : TreeView) → new.store.honest ≡ old.store.honest → new.store.pages ≡ old.store.pages → new.inner ≡ old.inner
+    → (region : Region) → IsRegionOf old region → IsRegionOf new region
+told_kept old new honesty pages inners region told = record {
+  key = told.key;
+  seat = told.seat;
+  falls = (
+    told.falls.0,
+    subst (λ (i : Inner). Gives i.index (pager_of new told.falls.0) told.key told.seat) (sym inners) (record {
+      holds = told.falls.1.holds;
+      way = λ honest. subst (λ (ps : List (List ℕ)). LeadsTo old.inner.index.last ps told.falls.0 told.key old.inner.index.levels (top old.inner.index.root) None
+          (record { first = told.seat.first; page = told.seat.page }) told.seat.next) (sym pages) (told.falls.1.way (sym honesty ∙ honest));
+    }),
+  );
+  region_is = told.region_is ∙ ap (λ (i : Inner). region_of i.index.last told.seat) (sym inners);
 }
 
 pub traced_gives : (old new : TreeView) → IsTraced old new → (boxes : List Corners) (after found : Option Region) → GivesNext boxes new after found → GivesNext boxes old after found
-traced_gives old new is boxes after found gives =
-    record { first = subst (λ (t : TreeView). First (λ r. IsLater after r × Meets boxes r) (spans_of t) found) is gives.first }
+traced_gives old new is boxes after found gives = given_so new.trace (subst (λ (t : TreeView). GivesNext boxes t after found) is gives)
+  where
+    given_so : (trace : Trace) → GivesNext boxes (record old { trace = trace }) after found → GivesNext boxes old after found
+    given_so trace h = record {
+      held = h.held;
+      given = (
+        h.given.0,
+        retraced_from old trace h.held after h.given.0 h.given.1,
+        retraced_found old trace h.held (λ from. LeastFrom (HoldsAny boxes) from.z) h.given.0 found h.given.2,
+      );
+      found_after = h.found_after;
+    }
 
 pub Keeps-none : (t : TreeView) → Keeps t t
 Keeps-none t = Keeps-by t t refl
@@ -84,17 +151,20 @@ Keeps-more a b c h k = Keeps-by a c (k.traced ∙ ap (λ (t : TreeView). record 
 -- ---- a call's fault, seen from before an earlier call that only read
 
 page_refused_before : (a b : TreeView) (number : ℕ) (fault : PageFault) → IsTraced a b → IsPageRefused b number fault → IsPageRefused a number fault
-page_refused_before a b number fault h (span, told, same, page, is, refused) = (
-  span,
-  traced_told a b h span told,
-  same,
-  page,
-  subst (λ (t : TreeView). IsPage t.store number page) h is,
-  subst (λ (t : TreeView). IsRegionRefused t.schema span.first span.next page fault) h refused,
-)
+page_refused_before a b number fault h (inl stops) = inl (retraced_refused a b.trace number fault (subst (λ (t : TreeView). IsIndexRefused t number fault) h stops))
+page_refused_before a b number fault h (inr (span, told, same, page, is, refused)) =
+    inr (
+      span,
+      traced_told a b h span told,
+      same,
+      page,
+      subst (λ (t : TreeView). IsPage t.store number page) h is,
+      subst (λ (t : TreeView). IsRegionRefused t.schema span.first span.next page fault) h refused,
+    )
 
 page_missing_before : (a b : TreeView) → IsTraced a b → IsPageMissing b → IsPageMissing a
-page_missing_before a b h (span, told, past) = (span, traced_told a b h span told, subst (λ (t : TreeView). page_count t.store ≤ span.page) h past)
+page_missing_before a b h (inl stops) = inl (subst (λ (t : TreeView). IsStopped t) h stops)
+page_missing_before a b h (inr (span, told, past)) = inr (span, traced_told a b h span told, subst (λ (t : TreeView). page_count t.store ≤ span.page) h past)
 
 pub read_fault_before : (a b : TreeView) (fault : TreeFault) → IsTraced a b → IsReadFault b fault → IsReadFault a fault
 read_fault_before a b Full h is = is
@@ -170,8 +240,11 @@ retold : (t : TreeView) (n : ℕ) → IsSound t → IsSound (record t { store = 
 retold t n h = record {
   working = h.working;
   honest = h.honest;
+  last_is = h.last_is;
+  indexed = h.indexed;
   regions_are = h.regions_are;
   placed_are = h.placed_are;
+  count_is = h.count_is;
   rows_are = h.rows_are;
   some_next = h.some_next;
   last_next = h.last_next;

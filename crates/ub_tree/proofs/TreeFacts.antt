@@ -5,8 +5,8 @@ use Rattle.std.proofs.lemmas.Option.{slice_get_read, slice_get_within, get_or_fr
 use Rattle.std.specs.List.{All, AllByRecursion, Contains}
 use Rattle.ub_zaddr.specs.Address.{last_address}
 use Rattle.ub_page.specs.Region.{region_on, region_page}
-use Rattle.ub_directory.specs.Spans.{IsSeat}
-use Rattle.ub_directory.specs.View.{SeatView}
+use Rattle.ub_index.specs.View.{IsSeatAt}
+use Rattle.ub_index.specs.declared.seat.Seat.{Seat}
 use Rattle.ub_page.specs.declared.entries.Entry.{Entry}
 use Rattle.ub_region.specs.Regions.{AreRegions, AreApart, firsts_of}
 use Rattle.ub_region.specs.Spans.{span_end}
@@ -148,18 +148,20 @@ pub held_before : (dims : ℕ) (first next : Key) (region : Region) (b : Bool) �
 held_before dims first next region b same tells = (λ t. (same, tells.0 t), λ h. tells.1 h.1)
 
 -- the region of a seat
-pub seat_within : (placed : List Placed) (seat : SeatView) → IsSeat (map entry_of placed) seat → seat.index < length placed
-seat_within placed seat h = (let lt = h.within in let long = length-map placed entry_of in omega arith)
+pub seat_within : (placed : List Placed) (i : ℕ) (seat : Seat) → IsSeatAt (map entry_of placed) i seat → i < length placed
+seat_within placed i seat h = (let lt = h.within in let long = length-map placed entry_of in omega arith)
 
-pub seat_placed : (placed : List Placed) (seat : SeatView) → IsSeat (map entry_of placed) seat → (p : Placed) × (slice_get placed seat.index ≡ Some p) × (p.page ≡ seat.page)
-seat_placed placed seat h = by_index placed seat.index h.entry
+pub seat_placed : (placed : List Placed) (i : ℕ) (seat : Seat) → IsSeatAt (map entry_of placed) i seat
+    → (p : Placed) × (slice_get placed i ≡ Some p) × (p.page ≡ seat.page) × (p.region.first ≡ seat.first)
+seat_placed placed i seat h = by_index placed i h.entry
   where
-    by_index : (ps : List Placed) (i : ℕ) → slice_get (map entry_of ps) i ≡ Some (record { first = seat.first; page = seat.page }) → (p : Placed) × (slice_get ps i ≡ Some p) × (p.page ≡ seat.page)
+    by_index : (ps : List Placed) (i : ℕ) → slice_get (map entry_of ps) i ≡ Some (record { first = seat.first; page = seat.page })
+        → (p : Placed) × (slice_get ps i ≡ Some p) × (p.page ≡ seat.page) × (p.region.first ≡ seat.first)
     by_index [] i at = cc
     by_index (p ∷ ps) zero at =
         let entry : Entry = record { first = seat.first; page = seat.page } in
         let same : entry_of p ≡ entry = cc in
-        (p, refl, ap (λ (e : Entry). e.page) same)
+        (p, refl, ap (λ (e : Entry). e.page) same, ap (λ (e : Entry). e.first) same)
     by_index (p ∷ ps) (suc i) at = by_index ps i at
 
 pub length-placed : (schema : Schema) (pages : List (List ℕ)) (entries : List Entry) → length (placed_of schema pages entries) ≡ length entries
@@ -192,3 +194,8 @@ rows_read schema pages entries index e page rows region p at at_page same on the
     let one : placed_at schema pages e ≡ p = cc in
     let read : slice_index_or pages e.page [] ≡ page = get_or_from_slice_get pages e.page page [] at_page in
     same ∙ ap (λ (r : Region). r.rows) on ∙ ap (λ (q : List ℕ). (region_on schema q).rows) (sym read) ∙ ap (λ (q : Placed). q.region.rows) one
+
+-- the first keys of a tree's entries are those of its regions
+pub firsts_placed : (placed : List Placed) → first_keys (map entry_of placed) ≡ firsts_of (regions_in placed)
+firsts_placed [] = refl
+firsts_placed (p ∷ placed) = ap (λ (ks : List Key). p.region.first ∷ ks) (firsts_placed placed)

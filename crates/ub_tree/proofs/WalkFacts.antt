@@ -1,13 +1,13 @@
 -- Answers, each the first one later than the answer before it, are the elements that have the property asked for.
-use Rattle.std.proofs.Common.{◌≡◌, ◌<◌, ◌≤◌, ◌+◌, ◌-◌, ◌↔◌, inl, inr, ℕ, zero, suc, List, [], ◌∷◌, Option, Some, None, drop, sym, ap, refl, arith, subst, slice_get, ◌∙◌}
+use Rattle.std.proofs.Common.{◌≡◌, ◌<◌, ◌≤◌, ◌+◌, ◌-◌, ◌↔◌, inl, inr, ℕ, zero, suc, List, [], ◌∷◌, Option, Some, None, length, drop, sym, ap, refl, arith, subst, slice_get, ◌∙◌}
 use Rattle.std.proofs.lemmas.Bool.{cases_lt, cases_eq}
 use Rattle.ub_bigmin.specs.Box.{Corners}
 use Rattle.ub_region.specs.Those.{AreThose}
 use Rattle.ub_table.proofs.Laws.{not_both_before, not_before_self}
 use Rattle.ub_table.specs.Keys.{IsBefore}
 use Rattle.ub_tree.proofs.MeetFacts.{contained_at, contains_at}
-use Rattle.ub_tree.specs.Spans.{IsLater, Meets, Region as Span}
-use Rattle.ub_tree.specs.Told.{AreAnswers}
+use Rattle.ub_tree.specs.Spans.{First, IsLater, Meets, Region as Span}
+use Rattle.ub_tree.specs.Told.{AreAnswers, GivesNext}
 use Rattle.ub_tree.specs.View.{TreeView, spans_of}
 
 module _ {X : Type 0} where
@@ -22,6 +22,12 @@ module _ {X : Type 0} where
     those_none [] never = refl
     those_none (x ∷ xs) never = inr (never 0 x refl, those_none xs (λ i y at. never (suc i) y at))
 
+    -- there are no more than elements
+    pub those_few : (xs those : List X) → AreThose P xs those → length those ≤ length xs
+    those_few [] those are = let long = ap length are in omega arith
+    those_few (x ∷ xs) those (inl (p, rest, is, more)) = let few = those_few xs rest more in let long = ap length is in omega arith
+    those_few (x ∷ xs) those (inr are) = let few = those_few xs those are.1 in omega arith
+
     -- where the first that has it stands at an index
     those_first : (xs : List X) (n : ℕ) (found : X) (more : List X) → slice_get xs n ≡ Some found → P found
         → ((m : ℕ) (x : X) → m < n → slice_get xs m ≡ Some x → ¬ (P x)) → AreThose P (drop (suc n) xs) more → AreThose P xs (found ∷ more)
@@ -32,8 +38,9 @@ module _ {X : Type 0} where
     those_first (x ∷ xs) (suc n) found more at has before rest =
         inr (before 0 x (omega arith) refl, those_first xs n found more at has (λ m y lt at_m. before (suc m) y (omega arith) at_m) rest)
 
--- of a tree whose first keys ascend
-module _ (boxes : List Corners) (t : TreeView) (up : (i j : ℕ) (a b : Span) → i < j → slice_get (spans_of t) i ≡ Some a → slice_get (spans_of t) j ≡ Some b → IsBefore a.first b.first) where
+-- of a tree that gives the first later region that meets the boxes, and whose first keys ascend
+module _ (boxes : List Corners) (t : TreeView) (firsts : (after found : Option Span) → GivesNext boxes t after found → First (λ r. IsLater after r × Meets boxes r) (spans_of t) found)
+    (up : (i j : ℕ) (a b : Span) → i < j → slice_get (spans_of t) i ≡ Some a → slice_get (spans_of t) j ≡ Some b → IsBefore a.first b.first) where
   -- later than the one at an index are those from the next index on
   later_from : (k i : ℕ) (a r : Span) → slice_get (spans_of t) k ≡ Some a → slice_get (spans_of t) i ≡ Some r → IsBefore a.first r.first ↔ (suc k ≤ i)
   later_from k i a r at_k at_i = (to, λ after. up k i a r (omega arith) at_k at_i)
@@ -54,9 +61,9 @@ module _ (boxes : List Corners) (t : TreeView) (up : (i j : ℕ) (a b : Span) �
       → AreAnswers boxes t after answers → AreThose (Meets boxes) (drop index (spans_of t)) answers
   answered [] after index later gives = those_none (Meets boxes) (drop index (spans_of t)) (λ i r at has.
       let at_i : slice_get (spans_of t) (index + i) ≡ Some r = sym (drop_get index i (spans_of t)) ∙ at in
-      gives.first r (contains_at (spans_of t) (index + i) r at_i) ((later (index + i) r at_i).1 (omega arith), has))
+      firsts after None gives r (contains_at (spans_of t) (index + i) r at_i) ((later (index + i) r at_i).1 (omega arith), has))
   answered (found ∷ more) after index later (gives, rest) =
-      let first = gives.first in
+      let first = firsts after (Some found) gives in
       let k : ℕ = first.0.0 in
       let at_k : slice_get (spans_of t) k ≡ Some found = contained_at (spans_of t) found first.0 in
       let from : index ≤ k = (later k found at_k).0 first.1.0 in

@@ -5,6 +5,7 @@ use Rattle.ub_store.specs.View.{untouched}
 use Rattle.ub_table.specs.Keys.{origin}
 use Rattle.ub_table.specs.Region.{Region}
 use Rattle.ub_table.specs.declared.schema.Schema.{Schema}
+use Rattle.ub_tree.specs.Grown.{IsOnlyGrown}
 use Rattle.ub_tree.specs.Placed.{Placed}
 use Rattle.ub_tree.specs.View.{TreeView, regions, IsSound}
 use Rattle.ub_tree.specs.declared.fault.TreeFault.{TreeFault}
@@ -16,13 +17,16 @@ abbrev pub StandsAt : List Placed → ℕ → Region → Type 0
 StandsAt placed page region = (p : Placed) × Contains placed p × (p.page ≡ page) × (p.region ≡ region)
 
 -- what creation over a store with these facts makes: a tree of this schema with no rows, on three pages, in one region that
--- begins with the least key of all; it counts as changed, so that closing it writes and syncs it
+-- begins with the least key of all, and an index of one level, which has only grown; it counts as changed, so that closing it writes
+-- and syncs it
 pub record IsCreated (store : StoreFacts) (schema : Schema) (t : TreeView) : Type 0 where
   pub schema_is : t.schema ≡ schema
   pub regions_are : IsHonest store → regions t ≡ record { first = origin; rows = [] } ∷ []
   pub sound : IsHonest store → IsSound t
   pub store_is : t.store ≡ record store { pages = t.store.pages; synced = t.store.synced }
   pub pages : page_count t.store ≡ 3
+  pub levels_are : t.inner.index.levels ≡ 1
+  pub grown : IsOnlyGrown t
   pub working : t.is_failed ≡ false
   pub changed : t.is_changed ≡ true
   pub rows_are : t.rows ≡ 0

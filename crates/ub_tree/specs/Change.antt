@@ -5,6 +5,7 @@ use Rattle.std.specs.List.{All}
 use Rattle.ub_region.specs.Regions.{AreTableRows, insert}
 use Rattle.ub_table.specs.Region.{HasRest}
 use Rattle.ub_table.specs.declared.row.Row.{Row}
+use Rattle.ub_tree.specs.Grown.{IsOnlyGrown}
 use Rattle.ub_tree.specs.View.{TreeView, IsSound, regions}
 
 -- a row of this number with these coordinates and measures
@@ -23,7 +24,8 @@ pub record Suits (dims measures : ℕ) (row : Row) : Type 0 where
   pub measures_rest : HasRest (pos 0) measures row.measures
   pub measures_words : All (λ x. FitsSigned w64 x) row.measures
 
--- a row was put into a sound tree, with the number that was next; the table gains that row as its last
+-- a row was put into a sound tree, with the number that was next; the table gains that row as its last; and where rows were
+-- only put in before, that is so still
 pub record IsInserted (row : Row) (old new : TreeView) : Type 0 where
   pub number : row.number ≡ old.next
   pub schema : new.schema ≡ old.schema
@@ -32,3 +34,4 @@ pub record IsInserted (row : Row) (old new : TreeView) : Type 0 where
   pub next : new.next ≡ old.next + 1
   pub rows : new.rows ≡ old.rows + 1
   pub sound : IsSound new
+  pub grown : IsOnlyGrown old → IsOnlyGrown new

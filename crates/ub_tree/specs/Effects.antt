@@ -1,7 +1,13 @@
 -- What the calls of a tree leave, in a few words: a call that searches, one that reads regions, one that changes the tree.
-use Rattle.std.specs.Prelude.{◌+◌, ◌≡◌, ◌<◌, ◌≤◌, ◌⊎◌, ℕ, true, IsTrue, Result, Ok, Err, IfErr, OnOk, slice_get, List, Option}
+use Rattle.std.specs.Prelude.{◌+◌, ◌≡◌, ◌<◌, ◌≤◌, ◌⊎◌, ℕ, true, IsTrue, Result, Ok, Err, IfErr, OnOk, List, Option, Some, None}
 use Rattle.std.specs.List.{Contains}
-use Rattle.ub_store.specs.Facts.{StoreFacts, IsHonest, IsPage, MayFlush, page_count, raised}
+use Rattle.ub_directory.specs.Writing.{Grows}
+use Rattle.ub_index.specs.Lowering.{IsDropFault}
+use Rattle.ub_index.specs.Preparing.{HasFullWay, NeedsPages}
+use Rattle.ub_index.specs.View.{Stops}
+use Rattle.ub_index.specs.declared.fault.IndexFault.TheVariants as index
+use Rattle.ub_index_page.specs.declared.index.TheConstants.{MAX_LEVEL}
+use Rattle.ub_store.specs.Facts.{StoreFacts, IsHonest, IsPage, page_count, raised}
 use Rattle.ub_store.specs.View as trace
 use Rattle.ub_store.specs.View.{Notes}
 use Rattle.ub_table.specs.declared.row.TheConstants.{MAX_ROW_NUMBER}
@@ -15,7 +21,7 @@ use Rattle.ub_table.specs.declared.schema.Schema.{Schema}
 use Rattle.ub_tree.specs.Others.{WritesOneRegion}
 use Rattle.ub_tree.specs.Tree.{IsHeldBy}
 use Rattle.ub_writing.specs.Marks.{HasMark, KeepsUnless}
-use Rattle.ub_tree.specs.Told.{IsRegionOf, KeepsTold}
+use Rattle.ub_tree.specs.Told.{HasOverlap, IsRegionOf, TellsStill}
 use Rattle.ub_tree.specs.View.{TreeView, IsSound, KeepsTrace, region_count}
 use Rattle.ub_tree.specs.declared.fault.TreeFault.{TreeFault}
 use Rattle.ub_tree.specs.declared.fault.TreeFault.TheVariants.{Full, Page, Store, Failed, Memory}
@@ -47,18 +53,34 @@ IsRegionRefused schema first next page fault =
     ⊎ ((fault ≡ OutOfRegion) × (region : Region) × IsRegion schema region × (page ≡ region_page schema region)
     × (¬ (IsHeldBy schema.dims first next region)))
 
--- the page of this number is refused, on which the tree tells of a region
+-- a way to some key stops at the page of this number, which is refused; or it is the root's, and two ways lead to seats that overlap. Over
+-- a sound tree neither comes, whichever pages are held
+abbrev pub IsIndexRefused : TreeView → ℕ → PageFault → Type 0
+IsIndexRefused t number fault =
+    IsHonest t.store → ((key : Key) × (held : List (ℕ × List ℕ)) × Stops t.inner.index t.store held key number (Some fault))
+    ⊎ ((number ≡ t.inner.index.root) × (fault ≡ OutOfRegion) × HasOverlap t)
+
+-- the page of this number is refused, on which the tree tells of a region, or on the way to one
 abbrev pub IsPageRefused : TreeView → ℕ → PageFault → Type 0
 IsPageRefused t number fault =
-    (span : Span) × IsRegionOf t span × (span.page ≡ number) × (page : List ℕ) × IsPage t.store number page
-    × IsRegionRefused t.schema span.first span.next page fault
+    IsIndexRefused t number fault
+    ⊎ ((span : Span) × IsRegionOf t span × (span.page ≡ number) × (page : List ℕ) × IsPage t.store number page
+    × IsRegionRefused t.schema span.first span.next page fault)
 
--- the tree tells of a region on a page that the store doesn't have
+-- a way to some key stops at a page that the store doesn't have
+abbrev pub IsStopped : TreeView → Type 0
+IsStopped t =
+    (n : ℕ) × (page_count t.store ≤ n)
+    × (IsHonest t.store → (key : Key) × (held : List (ℕ × List ℕ)) × Stops t.inner.index t.store held key n None)
+
+-- it does, or the tree tells of a region on such a page
 abbrev pub IsPageMissing : TreeView → Type 0
-IsPageMissing t = (span : Span) × IsRegionOf t span × (page_count t.store ≤ span.page)
+IsPageMissing t =
+    IsStopped t
+    ⊎ ((span : Span) × IsRegionOf t span × (page_count t.store ≤ span.page))
 
 -- what a call can answer that only reads: `Failed` where the tree has, the device's fault where the store can fail, and a fault
--- of a page of the directory's, or that there is none, only where the tree isn't sound
+-- of a page, or that there is none, only where the tree isn't sound
 abbrev pub IsReadFault : TreeView → TreeFault → Type 0
 IsReadFault old Full = ⊥
 IsReadFault old Failed = IsTrue old.is_failed
@@ -113,24 +135,30 @@ pub record IsMarkedFirst (old new : TreeView) : Type 0 where
   pub kept : KeepsUnless new.is_changed old.store new.store
   pub marked : IsSound old → new.is_changed ≡ true → HasMark old.schema new.store.pages
 
--- there are as many pages as a store can have
+-- the store has no room for the pages that another region can take: one for itself, and those that the index needs where it comes
+-- behind the one that some key falls to; it has no more levels than an index can have
 abbrev pub IsFull : TreeView → Type 0
-IsFull t = 4294967295 ≤ page_count t.store
+IsFull t =
+    (t.inner.index.levels ≤ MAX_LEVEL)
+    × (4294967295 < page_count t.store + 1 + (t.inner.index.levels + 1))
+    × (IsHonest t.store → (4294967295 < page_count t.store + 1)
+    ⊎ ((key : Key) × (n : ℕ) × NeedsPages t.inner.index t.store key n × (4294967295 < page_count t.store + 1 + n)))
+
+-- the index has as many levels as one can have, and each page on the way to some key is full
+abbrev pub IsIndexFull : TreeView → Type 0
+IsIndexFull t = (t.inner.index.levels ≡ MAX_LEVEL) × (IsHonest t.store → (key : Key) × HasFullWay t.inner.index t.store key)
 
 -- the store can have pages more after those that there were, which hold nothing of the tree; all else is as it was. What lasts
--- is what lasted before, or the pages that there are now
+-- is what lasted before, or the pages that there were
 pub record Leaves (old new : TreeView) : Type 0 where
   pub same : new ≡ record old { placed = new.placed; store = record old.store { pages = new.store.pages; synced = new.store.synced } }
-  pub told : KeepsTold old new
-  pub more : page_count old.store ≤ page_count new.store
-  pub pages : IsHonest old.store → (m : ℕ) → m < page_count old.store → slice_get new.store.pages m ≡ slice_get old.store.pages m
-  pub flushed : MayFlush old.store new.store
+  pub told : TellsStill old new
+  pub grows : Grows old.store new.store
   pub sound : IsSound old → (new.placed ≡ old.placed) × IsSound new
 
--- a write or an extension met this fault: the tree has failed, with the counts that it had
+-- a write or an extension met this fault: the tree has failed, with the root and the counts that it had
 pub record HasEnded (fault : TreeFault) (old new : TreeView) : Type 0 where
   pub same : new ≡ record old { placed = new.placed; is_changed = new.is_changed; is_failed = true; store = written_store {A = TreeFault} (Err fault) old.store new.store }
-  pub count : region_count new ≡ region_count old
   pub others : WritesOneRegion old new
 
 -- a read failed: nothing but the count of failed reads has changed
@@ -143,21 +171,36 @@ IsNumberTaken t number =
     (span : Span) × IsRegionOf t span × (span.page ≡ number)
     × (region : Region) × IsTakenIn t span region × (row : Row) × Contains region.rows row × (row.number ≡ t.next)
 
+-- an index that some key's region can't leave: the page of this number is refused then, or no region would be left
+abbrev pub IsDropRefused : TreeView → ℕ → PageFault → Type 0
+IsDropRefused t number fault = (key : Key) × IsDropFault t.inner.index t.store key (index.Page number fault)
+
+-- an index that some key's region can't leave, since the store has no page to which a root would give way
+abbrev pub IsDropMissing : TreeView → Type 0
+IsDropMissing t = (key : Key) × IsDropFault t.inner.index t.store key (index.Store store.NoPage)
+
+-- a change needs a page that the store doesn't have: one that it reads
+abbrev pub IsChangeMissing : TreeView → Type 0
+IsChangeMissing t = IsPageMissing t ⊎ IsDropMissing t
+
 -- which page a change refuses, and why: one that it reads; the first, where a row is there and none is counted, or a region
--- would be one more than can be counted; or that of the region that has the new row's key already
+-- would be one more than can be counted, or none would be; or that of the region that has the new row's key already
 abbrev pub IsChangeRefused : TreeView → ℕ → PageFault → Type 0
 IsChangeRefused t number fault =
-    IsPageRefused t number fault ⊎ ((number ≡ 0) × (fault ≡ BadCount) × ((t.rows ≡ 0) ⊎ (region_count t ≡ 4294967295)))
+    IsPageRefused t number fault ⊎ IsDropRefused t number fault
+    ⊎ ((number ≡ 0) × (fault ≡ BadCount) × ((t.rows ≡ 0) ⊎ ((region_count t ≡ 4294967295) ⊎ (region_count t ≡ 1))))
     ⊎ ((fault ≡ BadOrder) × IsNumberTaken t number)
 
--- what a call can answer that changes the tree, and what it leaves then
+-- what a call can answer that changes the tree, and what it leaves then; a store that isn't honest may have no page of a number that
+-- the index is to be written on
 abbrev pub IsLeft : TreeView → TreeView → TreeFault → Type 0
-IsLeft old new Full = (old.next ≡ MAX_ROW_NUMBER + 1) × (new ≡ old)
+IsLeft old new Full = ((old.next ≡ MAX_ROW_NUMBER + 1) ⊎ IsIndexFull old) × (new ≡ old)
 IsLeft old new Failed = IsTrue old.is_failed × (new ≡ old)
 IsLeft old new Memory = Leaves old new
 IsLeft old new (Page page fault) = (¬ (IsSound old)) × IsChangeRefused old page fault × (new ≡ old)
 IsLeft old new (Store store.Device) = IsTrue old.store.can_fail × (HasMissed old new ⊎ HasEnded (Store store.Device) old new)
-IsLeft old new (Store store.NoPage) = (¬ (IsSound old)) × IsPageMissing old × (new ≡ old)
+IsLeft old new (Store store.NoPage) =
+    (¬ (IsSound old)) × ((IsChangeMissing old × (new ≡ old)) ⊎ ((¬ (IsHonest old.store)) × HasEnded (Store store.NoPage) old new))
 IsLeft old new (Store store.BadSize) = IsFull old × Leaves old new
 IsLeft old new (Store store.Memory) = ⊥
 
@@ -167,7 +210,7 @@ Works old new = (new.is_failed ≡ old.is_failed) × (new.store ≡ record old.s
 
 -- a call that changes the tree: what it never touches, that it marks the table first, and what it leaves
 pub record Changes {A : Type 0} (old new : TreeView) (result : Result A TreeFault) : Type 0 where
-  pub frame : new ≡ record old { placed = new.placed; rows = new.rows; next = new.next; is_changed = new.is_changed; is_failed = new.is_failed; store = new.store }
+  pub frame : new ≡ record old { placed = new.placed; rows = new.rows; next = new.next; is_changed = new.is_changed; is_failed = new.is_failed; store = new.store; inner = new.inner }
   pub marked : IsMarkedFirst old new
   pub done : OnOk result (Works old new)
   pub left : IfErr result (IsLeft old new)

@@ -1,17 +1,18 @@
--- The faults of a store and of a directory, as those of a tree.
-use Rattle.ub_directory.specs.declared.fault.DirectoryFault.TheVariants as directory
-use Rattle.ub_directory.specs.declared.fault.DirectoryFault.{DirectoryFault}
+-- The faults of a store and of an index, as those of a tree.
+use Rattle.ub_index.specs.declared.fault.IndexFault.TheVariants as index
+use Rattle.ub_index.specs.declared.fault.IndexFault.{IndexFault}
 use Rattle.ub_store.specs.declared.fault.StoreFault.{StoreFault}
 use Rattle.ub_store.specs.declared.fault.StoreFault.TheVariants as store
 use Rattle.ub_tree.specs.declared.fault.TreeFault.{TreeFault}
-use Rattle.ub_tree.specs.declared.fault.TreeFault.TheVariants.{Memory, Page, Store}
+use Rattle.ub_tree.specs.declared.fault.TreeFault.TheVariants.{Full, Memory, Page, Store}
 
 -- a store's fault, as one of a tree
 abbrev pub tree_fault : StoreFault → TreeFault
 tree_fault store.Memory = Memory
 tree_fault fault = Store fault
 
--- a directory's fault, as one of a tree
-abbrev pub opening_fault : DirectoryFault → TreeFault
-opening_fault (directory.Page page fault) = Page page fault
-opening_fault (directory.Store fault) = tree_fault fault
+-- an index's fault, as one of a tree
+abbrev pub index_fault : IndexFault → TreeFault
+index_fault (index.Page page fault) = Page page fault
+index_fault (index.Store fault) = tree_fault fault
+index_fault index.Full = Full

@@ -9,6 +9,8 @@ use Rattle.ub_table.specs.Keys.{IsBefore}
 use Rattle.ub_table.specs.Region.{Region, key_of}
 use Rattle.ub_table.specs.declared.row.Row.{Row}
 use Rattle.ub_tree.specs.Calls.{StandsAt}
+use Rattle.ub_tree.specs.Effects.{IsIndexFull}
+use Rattle.ub_tree.specs.Grown.{IsOnlyGrown}
 use Rattle.ub_tree.specs.Spans.{First, IsLater, Meets, Region as Span}
 use Rattle.ub_tree.specs.Told.{AreAnswers, GivesNext, IsRegionOf}
 use Rattle.ub_tree.specs.View.{TreeView, IsSound, spans_of}
@@ -69,3 +71,7 @@ abbrev pub AnswersAscend : Type 0
 AnswersAscend = (t : TreeView) (boxes : List Corners) (answers : List Span) (i j : ℕ) (a b : Span)
     → AreAnswers boxes t None answers → i < j
     → slice_get answers i ≡ Some a → slice_get answers j ≡ Some b → IsBefore a.first b.first
+
+-- the index of a sound tree into which rows were only put isn't full: there would be more regions than can be counted
+abbrev pub GrownIsNotFull : Type 0
+GrownIsNotFull = (t : TreeView) → IsSound t → IsOnlyGrown t → ¬ (IsIndexFull t)

@@ -1,6 +1,8 @@
 pub mod Spans
 pub mod Placed
+pub mod Indexed
 pub mod View
+pub mod Grown
 pub mod Stored
 pub mod Told
 pub mod Effects

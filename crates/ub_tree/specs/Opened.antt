@@ -1,22 +1,38 @@
 -- Opening a store: which pages tell of a table, what is made of them, and why others are refused.
-use Rattle.std.specs.Prelude.{◌≡◌, ◌≤◌, ◌⊎◌, ℕ, false, IsTrue, List, map}
+use Rattle.std.specs.Prelude.{◌≡◌, ◌≤◌, ◌⊎◌, ℕ, false, IsTrue, List, Some, None, slice_get}
+use Rattle.ub_index.specs.Fitting.{IsUnfit}
+use Rattle.ub_index.specs.Index.{NamesFitting, top}
+use Rattle.ub_page.specs.Header.{IsHeader, IsHeaderFault, header_page}
 use Rattle.ub_page.specs.declared.header.Header.{Header}
-use Rattle.ub_store.specs.Facts.{StoreFacts, IsHonest, page_count}
+use Rattle.ub_store.specs.Facts.{StoreFacts, IsHonest, IsPage, page_count}
 use Rattle.ub_store.specs.View.{untouched}
 use Rattle.ub_table.specs.declared.fault.PageFault.TheVariants.{Unclean}
-use Rattle.ub_tree.specs.Placed.{entry_of}
+use Rattle.ub_table.specs.declared.fault.PageFault.{PageFault}
+use Rattle.ub_tree.specs.Stored.{index_of}
 use Rattle.ub_tree.specs.View.{TreeView, region_count}
 use Rattle.ub_tree.specs.declared.fault.TreeFault.{TreeFault}
 use Rattle.ub_tree.specs.declared.fault.TreeFault.TheVariants.{Page, Store, Memory}
-use Rattle.ub_store.specs.Facts as facts
 use Rattle.ub_store.specs.declared.fault.StoreFault.TheVariants as store
-use Rattle.ub_directory.specs.Reading.{IsDirectory, IsAskedFor, IsRefused}
+
+-- the first page of the store is this header, and it is clean
+pub record HasHeader (store : StoreFacts) (header : Header) : Type 0 where
+  pub spelled : IsPage store 0 (header_page header)
+  pub in_range : IsHeader header
+  pub clean : header.unclean ≡ false
+
+-- the pages tell of a table that can be opened: a clean header, and the root of an index, of the level that it tells
+pub record IsRooted (pages : List (List ℕ)) (header : Header) : Type 0 where
+  pub spelled : slice_get pages 0 ≡ Some (header_page header)
+  pub in_range : IsHeader header
+  pub clean : header.unclean ≡ false
+  pub root : NamesFitting (index_of header).last pages header.levels (top header.root) None
 
 -- what opening a store with these facts makes
 pub record IsOpened (store : StoreFacts) (t : TreeView) : Type 0 where
   pub header : Header
-  pub directory : IsHonest store → IsDirectory store.pages header t.inner.chain (map entry_of t.placed)
+  pub rooted : IsHonest store → IsRooted store.pages header
   pub schema_is : t.schema ≡ header.schema
+  pub index_is : t.inner.index ≡ index_of header
   pub count_is : region_count t ≡ header.regions
   pub rows_are : t.rows ≡ header.rows
   pub next_is : t.next ≡ header.next
@@ -25,13 +41,24 @@ pub record IsOpened (store : StoreFacts) (t : TreeView) : Type 0 where
   pub store_is : t.store ≡ store
   pub trace_is : t.trace ≡ untouched
 
+-- the page of this number is asked for: it is the first, or the one that the header tells as the root's
+abbrev pub IsAskedFor : StoreFacts → ℕ → Type 0
+IsAskedFor store n = (n ≡ 0) ⊎ ((header : Header) × HasHeader store header × (n ≡ header.root))
+
+-- this page is refused: as the header, or as the root of which that tells
+abbrev pub IsRefused : StoreFacts → ℕ → List ℕ → PageFault → Type 0
+IsRefused store n page fault =
+    ((n ≡ 0) × IsHeaderFault page fault)
+    ⊎ ((header : Header) × HasHeader store header × (n ≡ header.root)
+    × IsUnfit (index_of header).last page header.levels (top header.root) None fault)
+
 -- why opening is refused: for want of memory; the store failed in this call, which it then can; it has no page of a number that
 -- was asked for; or a page is refused
 abbrev pub IsOpenFault : StoreFacts → TreeFault → Type 0
 IsOpenFault old Memory = Unit {0}
 IsOpenFault old (Store store.Device) = IsTrue old.can_fail
 IsOpenFault old (Store store.NoPage) = (n : ℕ) × IsAskedFor old n × (page_count old ≤ n)
-IsOpenFault old (Page n fault) = (page : List ℕ) × facts.IsPage old n page × IsRefused old n page fault
+IsOpenFault old (Page n fault) = (page : List ℕ) × IsPage old n page × IsRefused old n page fault
 IsOpenFault old _ = ⊥
 
 -- why a table isn't opened that is marked as changed: for its header, for want of memory, or as the store failed

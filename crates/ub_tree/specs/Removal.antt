@@ -6,8 +6,8 @@ use Rattle.ub_store.specs.declared.fault.StoreFault.TheVariants as store
 use Rattle.ub_table.specs.declared.row.Key.{Key}
 use Rattle.ub_table.specs.declared.row.Row.{Row}
 use Rattle.ub_table.specs.declared.fault.PageFault.TheVariants.{BadCount}
-use Rattle.ub_tree.specs.Effects.{IsPageRefused}
-use Rattle.ub_tree.specs.View.{TreeView, IsSound, regions, tree_rows}
+use Rattle.ub_tree.specs.Effects.{IsDropRefused, IsPageRefused}
+use Rattle.ub_tree.specs.View.{TreeView, IsSound, region_count, regions, tree_rows}
 use Rattle.ub_tree.specs.declared.fault.TreeFault.{TreeFault}
 use Rattle.ub_tree.specs.declared.fault.TreeFault.TheVariants.{Full, Page, Store}
 
@@ -22,9 +22,11 @@ pub record IsRemoved (key : Key) (found : Bool) (old new : TreeView) : Type 0 wh
   pub sound : IsSound new
 
 -- what a removal doesn't answer: that there is no row number left, or no room for another page; and BadCount of the first page,
--- but where no row is counted, or that page is refused as a region's
+-- but where no row is counted, or one region alone, or that page is refused as one that it reads
 abbrev pub IsRemovalFault : TreeView → TreeFault → Type 0
 IsRemovalFault t Full = ⊥
 IsRemovalFault t (Store store.BadSize) = ⊥
-IsRemovalFault t (Page page fault) = IsPageRefused t page fault ⊎ ((page ≡ 0) × (fault ≡ BadCount) × (t.rows ≡ 0))
+IsRemovalFault t (Page page fault) =
+    IsPageRefused t page fault ⊎ IsDropRefused t page fault
+    ⊎ ((page ≡ 0) × (fault ≡ BadCount) × ((t.rows ≡ 0) ⊎ (region_count t ≡ 1)))
 IsRemovalFault t _ = Unit {0}

@@ -1,18 +1,18 @@
 -- A tree's parts, as contracts see them together.
-use Rattle.std.specs.Prelude.{◌+◌, ◌≡◌, ◌≤◌, ◌<◌, ◌^◌, ℕ, length, Bool, if◌then◌else◌, List, [], Option, IfSome}
+use Rattle.std.specs.Prelude.{◌+◌, ◌≡◌, ◌≤◌, ◌<◌, ◌^◌, ℕ, Bool, if◌then◌else◌, List, [], Option, IfSome}
 use Rattle.std.specs.List.{AllByRecursion}
 use Rattle.ub_table.specs.declared.row.TheConstants.{MAX_ROW_NUMBER}
 use Rattle.ub_zaddr.specs.Address.{last_address}
-use Rattle.ub_page.specs.declared.entries.Entry.{Entry}
+use Rattle.ub_index.specs.View.{IndexView}
 use Rattle.ub_store.specs.Facts.{StoreFacts}
 use Rattle.ub_store.specs.View.{PagerView}
 use Rattle.ub_table.specs.Keys.{IsBefore}
 use Rattle.ub_table.specs.Region.{Region, keys_of}
 use Rattle.ub_table.specs.declared.row.Key.{Key}
 use Rattle.ub_table.specs.declared.schema.Schema.{Schema}
-use Rattle.ub_tree.specs.Placed.{placed_of}
+use Rattle.ub_tree.specs.Indexed.{entries_on}
+use Rattle.ub_tree.specs.Placed.{Placed, placed_of}
 use Rattle.ub_tree.specs.View.{TreeView}
-use Rattle.ub_directory.specs.Spans.{ArePlaces}
 use Rattle.ub_writing.specs.Marks.{IsMarkOf}
 use Rattle.ub_writing.specs.declared.mark.Mark.{Mark}
 
@@ -20,26 +20,29 @@ use Rattle.ub_writing.specs.declared.mark.Mark.{Mark}
 abbrev pub known_pages : StoreFacts → List (List ℕ)
 known_pages facts = if facts.honest then facts.pages else []
 
-abbrev pub tree_view : Schema → List Entry → List ℕ → ℕ → ℕ → Bool → Bool → PagerView → TreeView
-tree_view schema entries chain next rows is_changed is_failed pager = record {
+-- the regions that an index tells on the pages of a store, each with the rows of its page
+abbrev pub placed_in : Schema → IndexView → StoreFacts → List Placed
+placed_in schema index store = placed_of schema (known_pages store) (entries_on index (known_pages store))
+
+abbrev pub tree_view : Schema → IndexView → ℕ → ℕ → ℕ → Bool → Bool → PagerView → TreeView
+tree_view schema index count next rows is_changed is_failed pager = record {
   schema = schema;
-  placed = placed_of schema (known_pages pager.store) entries;
+  placed = placed_in schema index pager.store;
   rows = rows;
   next = next;
   is_changed = is_changed;
   is_failed = is_failed;
   store = pager.store;
   trace = pager.trace;
-  inner = record { chain = chain };
+  inner = record { index = index; count = count };
 }
 
--- what is true of a tree's parts: its directory is one of its schema's space, with regions in order that can be counted, and has
--- a page; there are fewer rows than the next number, which is at most one above the last; its mark is one of its schema
-pub record IsTree (schema : Schema) (last : ℕ) (entries : List Entry) (chain : List ℕ) (next rows : ℕ) (mark : Mark) : Type 0 where
-  pub last_is : last ≡ last_address schema.dims
-  pub places : ArePlaces last entries
-  pub few : length entries < 2 ^ 32
-  pub some_chain : 1 ≤ length chain
+-- what is true of a tree's parts: its index is one of its schema's space; it counts a region at least, and no more than a header
+-- can; there are fewer rows than the next number, which is at most one above the last; its mark is one of its schema
+pub record IsTree (schema : Schema) (index : IndexView) (count next rows : ℕ) (mark : Mark) : Type 0 where
+  pub last_is : index.last ≡ last_address schema.dims
+  pub some : 1 ≤ count
+  pub few : count < 2 ^ 32
   pub fewer : rows < next
   pub last_next : next ≤ MAX_ROW_NUMBER + 1
   pub mark_is : IsMarkOf schema mark

@@ -13,11 +13,10 @@ use Rattle.ub_tree.specs.Spans as spans
 use Rattle.ub_tree.specs.Stored.{AreSoundPages}
 use Rattle.ub_writing.specs.Marks.{HasMark}
 use Rattle.ub_tree.specs.Spans.{Region as Span}
-use Rattle.ub_directory.specs.Inner.{Inner, reserved}
+use Rattle.ub_tree.specs.Indexed.{Inner, HasIndex, reserved}
 
 -- a tree: its schema; its regions in order; how many rows it counts; the next row number; whether it has changed since it was
--- opened, and whether it has failed; the facts of its store; which region pages were asked for; and what its directory keeps to
--- itself
+-- opened, and whether it has failed; the facts of its store; which region pages were asked for; and what it keeps of its index
 pub record TreeView : Type 0 where
   pub schema : Schema
   pub placed : List Placed
@@ -38,7 +37,7 @@ tree_rows t = rows_of (regions t)
 
 -- how many regions a tree counts: of a sound tree as many as it has
 abbrev pub region_count : TreeView → ℕ
-region_count t = length t.placed
+region_count t = t.inner.count
 
 -- the regions with their spans, in order
 abbrev pub spans_in : Schema → List Placed → List Span
@@ -47,14 +46,17 @@ spans_in schema placed = spans.regions_of (last_address schema.dims) (map entry_
 abbrev pub spans_of : TreeView → List Span
 spans_of t = spans_in t.schema t.placed
 
--- a tree is sound where it hasn't failed, its store is honest, each of its regions stands on a page of its own that spells it,
--- and its counts are those of its regions; until it is changed its pages are those of a closed table, and from then on the
--- first page marks it as changed
+-- a tree is sound where it hasn't failed, its store is honest, an index of its regions stands there, each of them stands on a page
+-- of its own that spells it, and its counts are those of its regions; until it is changed its pages are those of a closed table,
+-- and from then on the first page marks it as changed
 pub record IsSound (t : TreeView) : Type 0 where
   pub working : t.is_failed ≡ false
   pub honest : IsHonest t.store
+  pub last_is : t.inner.index.last ≡ last_address t.schema.dims
+  pub indexed : HasIndex t.inner.index t.store.pages (map entry_of t.placed)
   pub regions_are : AreRegions t.schema t.next (regions t)
-  pub placed_are : ArePlaced t.schema t.placed (reserved t.inner) t.store.pages
+  pub placed_are : ArePlaced t.schema t.placed (reserved t.inner.index t.store.pages) t.store.pages
+  pub count_is : region_count t ≡ length t.placed
   pub rows_are : t.rows ≡ length (tree_rows t)
   pub some_next : 1 ≤ t.next
   pub last_next : t.next ≤ MAX_ROW_NUMBER + 1

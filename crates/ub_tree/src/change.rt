@@ -1,31 +1,35 @@
 ghost use Rattle.std.specs.Int.{w64};
-ghost use Rattle.std.specs.Prelude.{FitsSigned, map, ◌≡◌, ◌≢◌, ◌+◌, ◌-◌, ◌↔◌, pos, replicate, ◌<◌, ◌≤◌, ◌⊎◌, ◌∷◌, ◌++◌, [], true, false, IsTrue, Some, Ok, Err, length, slice_get, IfOk, IfErr, IfSome, IsNone, IsSome, MatchResult, OnOk, List, option_copied};
+ghost use Rattle.std.specs.Prelude.{FitsSigned, ℕ, map, ◌≡◌, ◌≢◌, ◌+◌, ◌-◌, pos, replicate, ◌<◌, ◌≤◌, ◌++◌, ◌∷◌, [], true, false, IsTrue, Some, Err, length, slice_get, IfOk, IfErr, MatchResult, OnOk};
 ghost use Rattle.std.specs.List.{AllByRecursion, insert, list_any};
+ghost use Rattle.ub_index.specs.Changing.{AreOnce, Stand};
+ghost use Rattle.ub_index.specs.Making.{PutsSheets, changed};
+ghost use Rattle.ub_index.specs.Preparing.{IsWithinSeat};
+ghost use Rattle.ub_page.specs.Bytes.{padded};
+ghost use Rattle.ub_page.specs.Region.{region_page};
 ghost use Rattle.ub_region.specs.Rows.{insert_row};
 ghost use Rattle.ub_store.specs.Facts as facts;
-ghost use Rattle.ub_store.specs.Facts.{page_count, zero_page, Appends, MayFlush};
-ghost use Rattle.ub_store.specs.View.{SameTrace};
-ghost use Rattle.ub_table.specs.Keys.{AreKeysAscending, is_same};
-ghost use Rattle.ub_table.specs.Region.{Region, IsRegion, key_of, keys_of, measures_of};
+ghost use Rattle.ub_store.specs.Facts.{page_count};
+ghost use Rattle.ub_table.specs.Keys.{is_same};
+ghost use Rattle.ub_table.specs.Region.{Region, IsRegion, key_of, measures_of};
 ghost use Rattle.ub_tree.specs.Change as spec;
 ghost use Rattle.ub_tree.specs.Change.{IsInserted, Suits, numbered};
-ghost use Rattle.ub_tree.specs.inner.Change.{AreRowsAt, IsStored, IsSeatIn, IsSeatThere, IsElsewhereSame, IsOnSeat, IsReadAt, placed_with, IsSplitAt, CanStand, HasRoom, IsExtensionFault, IsStoreFault, PutsRows, StoresAt, StoresRows, Writes};
+ghost use Rattle.ub_tree.specs.inner.Change.{CanStand, GrowsTo, HasStopped, IsIndexFault, IsOnSeat, IsPut, IsReadAt, IsSeatIn, IsSeatOf, IsSeatThere, IsSplitAt, IsStored, KeepsGrown, PutsRows, StoresAt, StoresRows, Writes, WritesBoth, placed_with};
 ghost use Rattle.ub_tree.specs.Effects.{Searches, Changes};
-ghost use Rattle.ub_tree.specs.Holding.{AnswersKey, AnswersRow, CountsOut, index_for};
+ghost use Rattle.ub_tree.specs.Holding.{AnswersKey, AnswersRow, AnswersSeat, GrowsAt};
 ghost use Rattle.ub_tree.specs.Opened.{IsPassing};
-ghost use Rattle.ub_tree.specs.Others.{GrowsAt};
-ghost use Rattle.ub_tree.specs.Placed.{Placed, entry_of};
-ghost use Rattle.ub_writing.specs.Puts.{Puts};
-ghost use Rattle.ub_tree.specs.View.{IsSound, region_count, regions};
+ghost use Rattle.ub_tree.specs.Placed.{Placed};
+ghost use Rattle.ub_tree.specs.Told.{KeepsTold};
+ghost use Rattle.ub_tree.specs.View.{IsSound, region_count};
+ghost use Rattle.ub_writing.specs.Puts.{PutsTwo};
 
 use crate::fault::TreeFault;
 use crate::reading::take_region;
 use crate::room::{Drafts, Room, list_rows, new_room};
 use crate::tree::Tree;
-use ub_directory::Seat;
+use ub_index::{Change, Seat};
 use ub_page::{Draft, Page, RegionPage, write_region};
 use ub_region::{Halves, Rows, index_in, is_equal};
-use ub_store::{MAX_PAGES, PageStore, Pager, StoreFault};
+use ub_store::{MAX_PAGES, PageStore, StoreFault};
 use ub_table::{Key, MAX_ROW_NUMBER, PageFault, Row};
 use ub_writing::{write_page, write_pages};
 
@@ -52,16 +56,15 @@ impl<S: PageStore> Tree<S> {
         region: &mut RegionPage,
         rows: &mut Rows,
     ) -> Result<(), TreeFault>
-        requires { IsSeatIn self.old seat.now }
-        ensures few { OnOk result (length rows.new ≤ self.old.schema.page_rows) }
-        ensures at { OnOk result (AreRowsAt self.old.schema
-            (map entry_of self.old.placed) seat.now.index rows.new) }
-        ensures rows { facts.IsHonest self.old.store
-            → OnOk result ((p : Placed) → slice_get self.old.placed seat.now.index ≡ Some p
-            → rows.new ≡ p.region.rows) }
+        requires { IsSeatOf self.old seat.now }
+        ensures on { OnOk result (IsOnSeat self.old seat.now
+            (record { first = seat.now.first; rows = rows.new })) }
+        ensures there { OnOk result (seat.now.page < page_count self.old.store) }
+        ensures rows { (i : ℕ) (p : Placed) → facts.IsHonest self.old.store
+            → IsSeatIn self.old i seat.now → slice_get self.old.placed i ≡ Some p
+            → OnOk result (rows.new ≡ p.region.rows) }
         ensures taken { facts.IsHonest self.old.store → (r : Region)
             → IsOnSeat self.old seat.now r → MatchResult result (λ _. rows.new ≡ r.rows) IsPassing }
-        ensures there { OnOk result (seat.now.page < page_count self.old.store) }
         ensures effect { Searches self.old self.new result }
     {
         self.read_at(seat, region)?;
@@ -71,29 +74,23 @@ impl<S: PageStore> Tree<S> {
 
     // Reads the region of a seat. After a fault any region may stand there.
     fn read_at(&mut self, seat: &Seat, region: &mut RegionPage) -> Result<(), TreeFault>
-        requires { IsSeatIn self.old seat.now }
-        ensures begins { OnOk result ((region.new.dims ≡ self.old.schema.dims)
-            × (region.new.region.first ≡ seat.now.first)) }
-        ensures on { OnOk result (IsOnSeat self.old seat.now region.new.region) }
-        ensures few { OnOk result
-            (length region.new.region.rows ≤ self.old.schema.page_rows) }
-        ensures at { OnOk result (AreRowsAt self.old.schema
-            (map entry_of self.old.placed) seat.now.index region.new.region.rows) }
-        ensures rows { facts.IsHonest self.old.store
-            → OnOk result ((p : Placed) → slice_get self.old.placed seat.now.index ≡ Some p
-            → region.new.region.rows ≡ p.region.rows) }
+        requires { IsSeatOf self.old seat.now }
+        ensures read { OnOk result (IsReadAt self.old seat.now region.new) }
+        ensures there { OnOk result (seat.now.page < page_count self.old.store) }
+        ensures rows { (i : ℕ) (p : Placed) → facts.IsHonest self.old.store
+            → IsSeatIn self.old i seat.now → slice_get self.old.placed i ≡ Some p
+            → OnOk result (region.new.region.rows ≡ p.region.rows) }
         ensures taken { facts.IsHonest self.old.store → (r : Region)
             → IsOnSeat self.old seat.now r
             → MatchResult result (λ _. region.new.region ≡ r) IsPassing }
-        ensures there { OnOk result (seat.now.page < page_count self.old.store) }
         ensures effect { Searches self.old self.new result }
     {
-        let number = seat.page();
+        let number = seat.page;
         self.pager.bring(number)?;
         take_region(
             &self.schema,
-            &seat.first(),
-            seat.next(),
+            &seat.first,
+            seat.next,
             number,
             self.pager.cached(number),
             region,
@@ -111,34 +108,37 @@ impl<S: PageStore> Tree<S> {
         requires seat { IsSeatThere self.old seat.now }
         requires region { IsRegion self.old.schema
             (record { first = seat.now.first; rows = rows.now }) }
-        ensures same { OnOk result (IsElsewhereSame self.old self.new) }
-        ensures written { IsStored self.old → (p : Placed)
-            → slice_get self.old.placed seat.now.index ≡ Some p
-            → IsRegion self.old.schema (record { first = p.region.first; rows = rows.now })
-            → OnOk result (IsStored self.new
-            × (self.new.placed ≡ placed_with seat.now.index (record {
-              page = p.page;
-              region = record { first = p.region.first; rows = rows.now };
+        ensures same { OnOk result (IsPut self.old self.new) }
+        ensures written { (i : ℕ) → IsStored self.old → IsSeatIn self.old i seat.now
+            → OnOk result (IsStored self.new × (self.new.placed ≡ placed_with i (record {
+              page = seat.now.page;
+              region = record { first = seat.now.first; rows = rows.now };
             } ∷ []) self.old.placed)) }
-        ensures count { length self.new.placed ≡ length self.old.placed }
+        ensures told { OnOk result (KeepsTold self.old self.new) }
         ensures faults { IfErr result (λ fault. fault ≡ TreeFault.Store StoreFault.Device) }
-        ensures effect { Writes seat.now.index self.old self.new result }
+        ensures stays { self.old.is_changed ≡ true → self.new.is_changed ≡ true }
+        ensures effect { Writes seat.now self.old self.new result }
     {
-        write_region(&self.schema, seat.first(), rows, &mut drafts.page);
+        write_region(&self.schema, seat.first, rows, &mut drafts.page);
         self.put_page(seat, drafts.page.page())
     }
 
-    // Puts a page in the place of that of the region of a seat, and before it the mark, where it is
-    // due. After a fault the tree has failed.
+    // Puts a page, which spells a region, in the place of that of the region of a seat, and before it the mark, where it is due.
+    // After a fault the tree has failed.
     fn put_page(&mut self, seat: &Seat, page: &Page) -> Result<(), TreeFault>
-        requires { IsSeatThere self.old seat.now }
-        ensures same { OnOk result (IsElsewhereSame self.old self.new) }
+        requires seat { IsSeatThere self.old seat.now }
+        requires page { (r : Region) × IsRegion self.old.schema r
+            × (page.now ≡ region_page self.old.schema r) }
+        ensures same { OnOk result (IsPut self.old self.new) }
         ensures written { PutsRows seat.now page.now self.old self.new result }
-        ensures count { length self.new.placed ≡ length self.old.placed }
+        ensures told { OnOk result (KeepsTold self.old self.new) }
         ensures faults { IfErr result (λ fault. fault ≡ TreeFault.Store StoreFault.Device) }
-        ensures effect { Writes seat.now.index self.old self.new result }
+        ensures stays { self.old.is_changed ≡ true → self.new.is_changed ≡ true }
+        ensures effect { Writes seat.now self.old self.new result }
     {
-        match write_page(&mut self.pager, &mut self.mark, seat.page(), page) {
+        // Its contract tells the proof that the index doesn't stand on the first page.
+        let _root = self.index.root();
+        match write_page(&mut self.pager, &mut self.mark, seat.page, page) {
             Ok(()) => Ok(()),
             Err(fault) => {
                 self.is_failed = true;
@@ -147,11 +147,10 @@ impl<S: PageStore> Tree<S> {
         }
     }
 
-    // The refusal of a region more than the header can count. It never comes of a sound tree, whose
-    // regions have pages of their own.
-    fn uncounted(&self) -> TreeFault
+    // The refusal of a region more or fewer than a header can count.
+    pub(crate) fn uncounted(&self) -> TreeFault
         ensures fault { result ≡ TreeFault.Page 0 PageFault.BadCount }
-        ensures unsound { region_count self.now ≡ 4294967295 → ¬ (IsSound self.now) }
+        ensures many { region_count self.now ≡ 4294967295 → ¬ (IsSound self.now) }
     {
         // Its contract tells the proof how many pages there can be.
         let _pages = self.pager.pages();
@@ -161,10 +160,80 @@ impl<S: PageStore> Tree<S> {
         }
     }
 
-    // Puts these halves of the rows of the region of a seat on its page and on a new one. All that
-    // can be refused comes before the first page is written, and what the directory needs before the
-    // store has a page more. After a failure of the device that isn't the directory's the tree has
-    // failed.
+    // Gives the store the pages that a change needs. After a failure of the device the tree has failed.
+    fn grow(&mut self, change: &Change) -> Result<(), TreeFault>
+        ensures { GrowsTo (page_count self.old.store + (change.now.next - change.now.start))
+            self.old self.new result }
+    {
+        match change.grow(&mut self.pager) {
+            Ok(()) => Ok(()),
+            Err(StoreFault::Device) => {
+                self.is_failed = true;
+                Err(TreeFault::Store(StoreFault::Device))
+            }
+            Err(StoreFault::Memory) => Err(TreeFault::Memory),
+            Err(StoreFault::BadSize) => Err(TreeFault::Store(StoreFault::BadSize)),
+            Err(StoreFault::NoPage) => Err(TreeFault::Store(StoreFault::NoPage)),
+        }
+    }
+
+    // Puts the pages of the halves of a region: that of the new one, on the page of this number, and that of the seat. After a fault
+    // the tree has failed.
+    fn put_halves(&mut self, seat: &Seat, number: u32, drafts: &Drafts) -> Result<(), TreeFault>
+        requires seat { seat.now.page < page_count self.old.store }
+        requires there { number < page_count self.old.store }
+        ensures same { OnOk result (IsPut self.old self.new) }
+        ensures put { OnOk result (PutsTwo number (padded drafts.now.other) seat.now.page
+            (padded drafts.now.page)
+            self.old.store self.new.store) }
+        ensures effect { WritesBoth number seat.now self.old self.new result }
+    {
+        match write_pages(
+            &mut self.pager,
+            &mut self.mark,
+            (number, drafts.other.page()),
+            (seat.page, drafts.page.page()),
+        ) {
+            Ok(()) => Ok(()),
+            Err(fault) => {
+                self.is_failed = true;
+                Err(TreeFault::Store(fault))
+            }
+        }
+    }
+
+    // Puts the pages of the index that a change spells, and takes over its root. After a fault the tree has failed.
+    pub(crate) fn put_index(&mut self, change: &Change) -> Result<(), TreeFault>
+        ensures now { OnOk result (self.new ≡ record self.old {
+          placed = self.new.placed;
+          store = self.new.store;
+          inner = record self.old.inner {
+            index = changed self.old.inner.index change.now;
+          };
+        }) }
+        ensures marked { self.new.is_changed ≡ self.old.is_changed }
+        ensures stand { AreOnce change.now.sheets → facts.IsHonest self.old.store
+            → OnOk result (Stand self.new.store.pages change.now.sheets) }
+        ensures kept { PutsSheets change.now.sheets self.old.store self.new.store }
+        ensures works { OnOk result (self.new.store ≡ record self.old.store {
+          pages = self.new.store.pages;
+          synced = self.new.store.synced;
+        }) }
+        ensures stopped { IfErr result (λ fault. HasStopped fault self.old self.new
+            × IsIndexFault change.now self.old.store fault) }
+    {
+        match self.index.commit(&mut self.pager, change) {
+            Ok(()) => Ok(()),
+            Err(fault) => {
+                self.is_failed = true;
+                Err(TreeFault::Store(fault))
+            }
+        }
+    }
+
+    // Puts these halves of the rows of the region of a seat on its page and on a new one, and that into the index. All that can be
+    // refused comes before the first page is written, and before the store has a page more. After a failure of the device that comes
+    // later the tree has failed.
     fn split(
         &mut self,
         seat: &Seat,
@@ -172,51 +241,36 @@ impl<S: PageStore> Tree<S> {
         drafts: &mut Drafts,
     ) -> Result<(), TreeFault>
         requires seat { IsSeatThere self.old seat.now }
-        requires room { HasRoom seat.now.index halves.now.first self.old }
+        requires within { IsWithinSeat self.old.inner.index.last seat.now.first seat.now.next
+            halves.now.first }
         requires left { IsRegion self.old.schema
             (record { first = seat.now.first; rows = halves.now.left.now }) }
         requires right { IsRegion self.old.schema
             (record { first = halves.now.first; rows = halves.now.right.now }) }
-        ensures same { OnOk result (StoresAt seat.now.index self.old.schema.page_rows
+        ensures same { OnOk result (StoresAt seat.now self.old.schema.page_rows
             self.old self.new) }
-        ensures written { IsStored self.old → (p : Placed)
-            → slice_get self.old.placed seat.now.index ≡ Some p
-            → IsRegion self.old.schema (record { first = p.region.first; rows = halves.now.left.now })
-            → IsRegion self.old.schema
-            (record { first = halves.now.first; rows = halves.now.right.now })
-            → OnOk result (IsStored self.new
-            × IsSplitAt seat.now.index p (record {
+        ensures written { (i : ℕ) → IsStored self.old → IsSeatIn self.old i seat.now
+            → OnOk result (IsStored self.new × IsSplitAt i seat.now (record {
               left = halves.now.left.now;
               first = halves.now.first;
               right = halves.now.right.now;
-            }) self.old self.new) }
-        ensures counted { CountsOut (region_count self.old ≡ 4294967295) result }
+            }) self.old self.new × KeepsGrown self.old self.new) }
+        ensures counted { AnswersSeat (Unit {0}) self.old seat.now result }
         ensures effect { Changes self.old self.new result }
     {
-        if self.regions() == MAX_PAGES {
+        // Its contract tells the proof how many levels there can be.
+        let _root = self.index.root();
+        if self.count == MAX_PAGES {
             return Err(self.uncounted());
         }
-        write_region(&self.schema, seat.first(), halves.left, &mut drafts.page);
+        let change = self.prepare_add(seat, &halves.first)?;
+        write_region(&self.schema, seat.first, halves.left, &mut drafts.page);
         write_region(&self.schema, halves.first, halves.right, &mut drafts.other);
-        let adding = self
-            .directory
-            .prepare_add(&mut self.pager, seat, halves.first)?;
-        let number = add_page(&mut self.pager, &mut self.is_failed)?;
-        match write_pages(
-            &mut self.pager,
-            &mut self.mark,
-            (number, drafts.other.page()),
-            (seat.page(), drafts.page.page()),
-        ) {
-            Ok(()) => {
-                self.directory.commit_add(adding, number);
-                Ok(())
-            }
-            Err(cause) => {
-                self.is_failed = true;
-                Err(TreeFault::Store(cause))
-            }
-        }
+        self.grow(&change)?;
+        self.put_halves(seat, change.page(), drafts)?;
+        self.put_index(&change)?;
+        self.count += 1;
+        Ok(())
     }
 
     // Puts a row in among those of the region of a seat, which was read into this room, and puts
@@ -228,19 +282,19 @@ impl<S: PageStore> Tree<S> {
         row: &Row,
         room: &mut Room,
     ) -> Result<(), TreeFault>
-        requires seat { IsSeatThere self.old seat.now }
+        requires seat { IsSeatOf self.old seat.now × (seat.now.page < page_count self.old.store) }
         requires key { key.now ≡ key_of self.old.schema.dims row.now }
         requires read { IsReadAt self.old seat.now room.old.region }
         requires rows { CanStand self.old seat.now
             (insert_row self.old.schema.dims row.now room.old.region.region.rows) }
-        ensures same { OnOk result (StoresAt seat.now.index
+        ensures same { OnOk result (StoresAt seat.now
             (length room.old.region.region.rows) self.old self.new) }
-        ensures written { StoresRows seat.now.index
+        ensures written { StoresRows seat.now
             (insert_row self.old.schema.dims row.now room.old.region.region.rows)
             self.old self.new result }
-        ensures counted { CountsOut
-            ((length room.old.region.region.rows ≡ self.old.schema.page_rows)
-            × (region_count self.old ≡ 4294967295)) result }
+        ensures counted { AnswersSeat
+            (length room.old.region.region.rows ≡ self.old.schema.page_rows) self.old seat.now
+            result }
         ensures effect { Changes self.old self.new result }
     {
         let index = index_in(room.region.keys(), key);
@@ -266,11 +320,11 @@ impl<S: PageStore> Tree<S> {
         requires within { index ≤ length room.old.region.region.rows }
         requires rows { CanStand self.old seat.now
             (insert room.old.region.region.rows index row.now) }
-        ensures same { OnOk result (StoresAt seat.now.index self.old.schema.page_rows
+        ensures same { OnOk result (StoresAt seat.now self.old.schema.page_rows
             self.old self.new) }
-        ensures written { StoresRows seat.now.index
+        ensures written { StoresRows seat.now
             (insert room.old.region.region.rows index row.now) self.old self.new result }
-        ensures counted { CountsOut (region_count self.old ≡ 4294967295) result }
+        ensures counted { AnswersSeat (Unit {0}) self.old seat.now result }
         ensures effect { Changes self.old self.new result }
     {
         list_rows(&room.region, &mut room.rows);
@@ -283,11 +337,11 @@ impl<S: PageStore> Tree<S> {
 
     /// Puts a row in, with these coordinates and measures, and gives its number: one more than the last row got.
     ///
-    /// Full comes exactly where the last number is given. Failed comes where the tree has failed; Page where a page is
-    /// refused, as BadOrder where the region on it has the new row's key already, as BadCount on page 0 where a region more
-    /// is needed than can be counted; Memory where memory was refused; Store where the store failed in this call, has no such
-    /// page, or can have no more of them (BadSize). After Store with Device the tree may have failed; after another fault it
-    /// is as it was.
+    /// Full comes where the last number is given, and else only where another region is needed, and the index has 16 levels each page
+    /// of which on the way there is full. Failed comes where the tree has failed; Page where a page is refused, as BadOrder where the
+    /// region on it has the new row's key already, as BadCount on page 0 where a region more is needed than can be counted; Memory
+    /// where memory was refused; Store where the store failed in this call, has no such page, or can't have as many more as are needed
+    /// (BadSize). After Store with Device the tree may have failed; after another fault it is as it was.
     pub fn insert(&mut self, dims: &[u32], measures: &[i64]) -> Result<u32, TreeFault>
         requires dims { length dims.now ≡ self.old.schema.dims }
         requires measures { length measures.now ≡ measures_of self.old.schema }
@@ -297,8 +351,8 @@ impl<S: PageStore> Tree<S> {
         ensures number { IfOk result (λ n. n ≡ self.old.next) }
         ensures counted { OnOk result ((self.new.next ≡ self.old.next + 1)
             × (self.new.rows ≡ self.old.rows + 1) × (self.new.is_failed ≡ false)
-            × GrowsAt (index_for self.old (key_of self.old.schema.dims
-            (spec.row_of self.old.next dims.now measures.now))) self.old self.new) }
+            × GrowsAt (key_of self.old.schema.dims
+            (spec.row_of self.old.next dims.now measures.now)) self.old self.new) }
         ensures failed { IsTrue self.old.is_failed → result ≡ Err TreeFault.Failed }
         ensures refused { self.old.is_failed ≡ false → AnswersRow self.old
             (key_of self.old.schema.dims (spec.row_of self.old.next dims.now measures.now)) result }
@@ -317,8 +371,8 @@ impl<S: PageStore> Tree<S> {
         ensures number { IfOk result (λ n. n ≡ self.old.next) }
         ensures counted { OnOk result ((self.new.next ≡ self.old.next + 1)
             × (self.new.rows ≡ self.old.rows + 1) × (self.new.is_failed ≡ false)
-            × GrowsAt (index_for self.old (key_of self.old.schema.dims
-            (numbered self.old.next row.now))) self.old self.new) }
+            × GrowsAt (key_of self.old.schema.dims (numbered self.old.next row.now))
+            self.old self.new) }
         ensures failed { IsTrue self.old.is_failed → result ≡ Err TreeFault.Failed }
         ensures refused { self.old.is_failed ≡ false → AnswersRow self.old
             (key_of self.old.schema.dims (numbered self.old.next row.now)) result }
@@ -350,8 +404,7 @@ impl<S: PageStore> Tree<S> {
         ensures number { IfOk result (λ n. n ≡ self.old.next) }
         ensures counted { OnOk result ((self.new.next ≡ self.old.next + 1)
             × (self.new.rows ≡ self.old.rows + 1) × (self.new.is_failed ≡ false)
-            × GrowsAt (index_for self.old (key_of self.old.schema.dims row.now))
-            self.old self.new) }
+            × GrowsAt (key_of self.old.schema.dims row.now) self.old self.new) }
         ensures refused { facts.IsHonest self.old.store
             → AnswersKey self.old (key_of self.old.schema.dims row.now) result }
         ensures effect { Changes self.old self.new result }
@@ -361,7 +414,7 @@ impl<S: PageStore> Tree<S> {
         self.read_at(&seat, &mut room.region)?;
         if has_key(room.region.keys(), &key) {
             return Err(TreeFault::Page {
-                page: seat.page(),
+                page: seat.page,
                 fault: PageFault::BadOrder,
             });
         }
@@ -369,31 +422,6 @@ impl<S: PageStore> Tree<S> {
         self.next += 1;
         self.rows += 1;
         Ok(row.number)
-    }
-}
-
-// Adds a page of zeros for a tree, and gives its number. After a failure of the device the tree has failed.
-fn add_page<S: PageStore>(pager: &mut Pager<S>, is_failed: &mut bool) -> Result<u32, TreeFault>
-    ensures number { IfOk result (λ n. n ≡ page_count pager.old.store) }
-    ensures added { OnOk result (Appends zero_page pager.old.store pager.new.store) }
-    ensures flushed { OnOk result (MayFlush pager.old.store pager.new.store) }
-    ensures left { OnOk result (pager.new.store ≡ record pager.old.store {
-      pages = pager.new.store.pages;
-      synced = pager.new.store.synced;
-    }) }
-    ensures working { OnOk result (is_failed.new ≡ is_failed.old) }
-    ensures trace { SameTrace pager.old pager.new }
-    ensures stored { IfErr result IsStoreFault }
-    ensures refused { IfErr result
-        (IsExtensionFault is_failed.old is_failed.new pager.old pager.new) }
-{
-    match pager.extend() {
-        Ok(n) => Ok(n),
-        Err(StoreFault::Device) => {
-            *is_failed = true;
-            Err(TreeFault::Store(StoreFault::Device))
-        }
-        Err(fault) => Err(TreeFault::from(fault)),
     }
 }
 

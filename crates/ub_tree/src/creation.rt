@@ -1,8 +1,9 @@
-ghost use Rattle.std.specs.Prelude.{◌≡◌, ◌/◌, ◌<◌, [], ◌∷◌, Err, IfOk, IfErr, OnOk, OnErr};
+ghost use Rattle.std.specs.Prelude.{◌≡◌, Err, IfOk, IfErr, OnOk, OnErr};
+ghost use Rattle.ub_index.specs.Opening.{IsAlone};
+ghost use Rattle.ub_index.specs.View.{index_view};
 ghost use Rattle.ub_zaddr.specs.Address.{last_address};
 ghost use Rattle.ub_store.specs.Facts.{page_count, IsHonest};
 ghost use Rattle.ub_store.specs.View.{pager_view, untouched, SameTrace};
-ghost use Rattle.ub_table.specs.Keys.{origin};
 ghost use Rattle.ub_tree.specs.Calls.{IsCreated, IsCreateFault};
 ghost use Rattle.ub_tree.specs.Effects.{written_store};
 ghost use Rattle.ub_writing.specs.Creation.{IsUncreated, IsLaidOut};
@@ -11,7 +12,7 @@ use crate::fault::TreeFault;
 use crate::tree::Tree;
 use std::alloc::Global;
 use std::num::NonZeroUsize;
-use ub_directory::Directory;
+use ub_index::Index;
 use ub_store::{PageStore, Pager, Rejected};
 use ub_table::Schema;
 use ub_writing::{Mark, write_first_pages};
@@ -21,9 +22,8 @@ use ub_zaddr::last;
 const CACHE_PAGES: usize = 64;
 
 impl<S: PageStore> Tree<S> {
-    /// A tree of this schema with no rows, over a store that has no pages. It takes three: the header, marked unclean, the
-    /// page of the one region, and one for the directory, which is written when the tree is closed. The header is written
-    /// before any other page is taken.
+    /// A tree of this schema with no rows, over a store that has no pages. It takes three: the header, marked unclean, the page of the
+    /// one region, and that of the root of its index. The header is written before any other page is taken.
     ///
     /// Memory comes where memory was refused, Store with Device where the store failed in this call; the store is then
     /// handed back.
@@ -44,10 +44,11 @@ impl<S: PageStore> Tree<S> {
             Ok(pager) => pager,
             Err(refused) => return Err(refused),
         };
-        match lay_out(alloc, &mut pager, schema) {
-            Ok(directory) => Ok(Tree {
+        match lay_out(&mut pager, schema) {
+            Ok(index) => Ok(Tree {
                 schema: schema.copy(),
-                directory,
+                index,
+                count: 1,
                 next: 1,
                 rows: 0,
                 mark: Mark::Written,
@@ -80,19 +81,11 @@ pub fn pager_over<S: PageStore>(alloc: Global, store: S) -> Result<Pager<S>, Rej
     }
 }
 
-// The first pages of a table with no rows, and its directory: one region, on page 1.
-fn lay_out<S: PageStore>(
-    alloc: Global,
-    pager: &mut Pager<S>,
-    schema: &Schema,
-) -> Result<Directory, TreeFault>
+// The first pages of a table with no rows, and its index: of one region, on page 1.
+fn lay_out<S: PageStore>(pager: &mut Pager<S>, schema: &Schema) -> Result<Index, TreeFault>
     requires { page_count pager.old.store ≡ 0 }
-    ensures directory { IfOk result (λ made. made ≡ record {
-      entries = record { first = origin; page = 1 } ∷ [];
-      chain = 2 ∷ [];
-      last = last_address schema.now.dims;
-      room = made.room;
-    }) }
+    ensures index { IfOk result (λ index. (index ≡ index_view 2 1 (last_address schema.now.dims))
+        × (IsHonest pager.old.store → IsAlone index 1 pager.new.store)) }
     ensures count { OnOk result (page_count pager.new.store ≡ 3) }
     ensures pages { OnOk result (IsHonest pager.old.store
         → IsLaidOut schema.now pager.new.store.pages) }
@@ -102,7 +95,7 @@ fn lay_out<S: PageStore>(
     ensures left { pager.new.store ≡ written_store result pager.old.store pager.new.store }
     ensures refused { IfErr result (IsCreateFault pager.old.store) }
 {
-    let directory = Directory::create(alloc, last(schema.shape()), 1, 2)?;
     write_first_pages(pager, schema)?;
-    Ok(directory)
+    let index = Index::create(pager, 2, 1, last(schema.shape()))?;
+    Ok(index)
 }

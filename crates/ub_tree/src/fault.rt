@@ -1,13 +1,13 @@
 use std::alloc::AllocError;
 use thiserror::Error;
-use ub_directory::DirectoryFault;
+use ub_index::IndexFault;
 use ub_store::StoreFault;
 use ub_table::PageFault;
 
 /// Why a tree didn't do what it was asked.
 #[derive(Clone, Copy, PartialEq, Eq, Debug, Error)]
 pub enum TreeFault {
-    /// There is no row number left: the next would be 16777216.
+    /// There is no row number left: the next would be 16777216; or the index has 16 levels, and no room on the way to the row.
     #[error("Full")]
     Full,
     /// This page is refused, by its reader or because it doesn't fit the pages that name it.
@@ -39,17 +39,18 @@ impl From<StoreFault> for TreeFault {
     }
 }
 
-impl From<DirectoryFault> for TreeFault {
+impl From<IndexFault> for TreeFault {
     ghost use Rattle.std.specs.Prelude.{◌≡◌};
-    ghost use Rattle.ub_tree.specs.Faults.{opening_fault};
+    ghost use Rattle.ub_tree.specs.Faults.{index_fault};
 
-    ghost from_gives = { λ fault e. e ≡ opening_fault fault };
+    ghost from_gives = { λ fault e. e ≡ index_fault fault };
 
-    /// The directory's fault, or Memory.
-    fn from(fault: DirectoryFault) -> TreeFault {
+    /// The index's fault, or Memory.
+    fn from(fault: IndexFault) -> TreeFault {
         match fault {
-            DirectoryFault::Page { page, fault } => TreeFault::Page { page, fault },
-            DirectoryFault::Store(fault) => TreeFault::from(fault),
+            IndexFault::Page { page, fault } => TreeFault::Page { page, fault },
+            IndexFault::Store(fault) => TreeFault::from(fault),
+            IndexFault::Full => TreeFault::Full,
         }
     }
 }

@@ -1,4 +1,4 @@
-ghost use Rattle.ub_tree.specs.Laws.{SpansAscend, PagesDiffer, SpansCoverTheSpace, RowsLieInSpans, RegionsAreTold, NextIsTheFirst, NextIsLater, AnswersAreThoseThatMeet, AnswersAreRegionsThatMeet, AnswersAscend};
+ghost use Rattle.ub_tree.specs.Laws.{SpansAscend, PagesDiffer, SpansCoverTheSpace, RowsLieInSpans, RegionsAreTold, NextIsTheFirst, NextIsLater, AnswersAreThoseThatMeet, AnswersAreRegionsThatMeet, AnswersAscend, GrownIsNotFull};
 
 // Each function here does nothing, and its clause is a law of the definitions in specs/. So the law is proved, and is read
 // beside the code.
@@ -52,4 +52,9 @@ pub fn answers_are_regions_that_meet()
 /// Over any tree, of two such answers the later one begins with the later key, so that none comes twice.
 pub fn answers_ascend()
     ensures { AnswersAscend }
+{}
+
+/// The index of a sound tree into which rows were only put, and none taken out, isn't full.
+pub fn grown_is_not_full()
+    ensures { GrownIsNotFull }
 {}

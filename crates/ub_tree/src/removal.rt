@@ -1,38 +1,29 @@
-ghost use Rattle.std.specs.Prelude.{◌≡◌, ◌+◌, ◌-◌, ◌<◌, ◌≤◌, false, true, IsTrue, Err, Some, length, slice_get, is_some, map, IfOk, IfErr, IfSome, MatchOption, OnOk, IsErrOf};
-ghost use Rattle.std.specs.List.{remove, AllByRecursion};
+ghost use Rattle.std.specs.Prelude.{◌≡◌, ◌+◌, ◌-◌, ◌<◌, ℕ, true, false, IsTrue, Err, Some, is_some, IfOk, IfErr, IfSome, MatchOption, OnOk};
+ghost use Rattle.std.specs.List.{AllByRecursion};
+ghost use Rattle.ub_index.specs.Searching.{key_before};
 ghost use Rattle.ub_region.specs.Joins.{JoinsNext, JoinsBefore, put_rows};
 ghost use Rattle.ub_region.specs.Regions.{settle};
 ghost use Rattle.ub_store.specs.Facts as facts;
-ghost use Rattle.ub_table.specs.Region.{Region, IsRegion};
-ghost use Rattle.ub_tree.specs.inner.Change.{AreRowsAt, IsStored, IsSeatIn, IsSeatThere, JoinsAt, TakesAt};
+ghost use Rattle.ub_store.specs.Facts.{page_count};
+ghost use Rattle.ub_table.specs.Region.{IsRegion};
+ghost use Rattle.ub_table.specs.declared.row.Key as key;
+ghost use Rattle.ub_tree.specs.inner.Change.{AreRowsFrom, IsSeatIn, IsSeatOf, IsSeatThere, IsStored, JoinsAt, TakesAt};
 ghost use Rattle.ub_tree.specs.Effects.{Searches, Changes};
-ghost use Rattle.ub_tree.specs.Holding.{AnswersRemoval, index_for};
-ghost use Rattle.ub_tree.specs.Others.{ShrinksAt};
-ghost use Rattle.ub_tree.specs.Placed.{entry_of};
+ghost use Rattle.ub_tree.specs.Holding.{AnswersRemoval, ShrinksAt};
 ghost use Rattle.ub_tree.specs.Removal.{IsRemoved, IsRemovalFault};
+ghost use Rattle.ub_tree.specs.Told.{FallsTo};
 ghost use Rattle.ub_tree.specs.View.{IsSound, regions};
 
 use crate::fault::TreeFault;
 use crate::room::{Drafts, Room};
 use crate::tree::Tree;
-use ub_directory::{Dropping, Seat};
+use ub_index::Seat;
 use ub_store::PageStore;
 use ub_table::{Key, PageFault, Row};
 
 impl<S: PageStore> Tree<S> {
-    // Takes a region out of the directory for which all is ready. Its page stays in the store.
-    fn forget(&mut self, dropping: Dropping)
-        requires { (1 ≤ dropping.index) × (dropping.index < length self.old.placed) }
-        ensures same { self.new ≡ record self.old {
-          placed = remove self.old.placed dropping.index;
-        } }
-        ensures stored { IsStored self.old → IsStored self.new }
-    {
-        self.directory.commit_drop(dropping);
-    }
-
-    // Puts rows on the page of the region of a seat, among them those of the next region, which is
-    // then no more. After a fault the tree has failed.
+    // Puts rows on the page of the region of a seat, among them those of the next region, which is then no more. After a fault of a
+    // write the tree has failed.
     fn join_at(
         &mut self,
         seat: &Seat,
@@ -41,37 +32,44 @@ impl<S: PageStore> Tree<S> {
         drafts: &mut Drafts,
     ) -> Result<(), TreeFault>
         requires seat { IsSeatThere self.old seat.now }
-        requires next { IsSeatIn self.old next.now × (next.now.index ≡ seat.now.index + 1) }
+        requires next { IsSeatOf self.old next.now × (seat.now.next ≡ Some next.now.first) }
         requires region { IsRegion self.old.schema
             (record { first = seat.now.first; rows = rows.now }) }
-        ensures same { OnOk result (JoinsAt seat.now.index self.old self.new) }
-        ensures written { IsStored self.old
+        ensures same { OnOk result (JoinsAt seat.now self.old self.new) }
+        ensures written { (i : ℕ) → IsStored self.old → IsSeatIn self.old i seat.now
+            → IsSeatIn self.old (i + 1) next.now
             → AllByRecursion (IsRegion self.old.schema)
-            (put_rows seat.now.index true rows.now (regions self.old))
+            (put_rows i true rows.now (regions self.old))
             → OnOk result (IsStored self.new
-            × (regions self.new ≡ put_rows seat.now.index true rows.now (regions self.old))) }
+            × (regions self.new ≡ put_rows i true rows.now (regions self.old))) }
         ensures effect { Changes self.old self.new result }
         ensures faults { IfErr result (IsRemovalFault self.old) }
+        ensures stays { self.old.is_changed ≡ true → self.new.is_changed ≡ true }
     {
-        let dropping = self.prepare_drop(next)?;
+        if self.count == 1 {
+            return Err(self.uncounted());
+        }
+        let change = self.prepare_drop(next)?;
         self.rewrite(seat, rows, drafts)?;
-        self.forget(dropping);
+        self.put_index(&change)?;
+        self.count -= 1;
         Ok(())
     }
 
     // Takes over the rows of the region after that of a seat, if there is one and a page holds them
     // together with these, and then gives its seat.
     fn join_next(&mut self, seat: &Seat, room: &mut Room) -> Result<Option<Seat>, TreeFault>
-        requires seat { IsSeatIn self.old seat.now }
-        requires rows { AreRowsAt self.old.schema (map entry_of self.old.placed) seat.now.index
-            room.old.rows }
+        requires seat { IsSeatOf self.old seat.now }
+        requires rows { AreRowsFrom self.old.schema seat.now.first seat.now.next room.old.rows }
         ensures rows { IfOk result (λ found. MatchOption found (room.new.rows ≡ room.old.rows)
             (λ _. IsRegion self.old.schema
             (record { first = seat.now.first; rows = room.new.rows }))) }
-        ensures next { IfOk result (λ found. IfSome found (λ next.
-            IsSeatIn self.old next × (next.index ≡ seat.now.index + 1))) }
-        ensures joined { facts.IsHonest self.old.store
-            → IfOk result (λ found. JoinsNext self.old.schema.page_rows seat.now.index
+        ensures found { IfOk result (λ found. IfSome found (λ next.
+            IsSeatOf self.old next × (seat.now.next ≡ Some next.first))) }
+        ensures next { (i : ℕ) → IsStored self.old → IsSeatIn self.old i seat.now
+            → IfOk result (λ found. IfSome found (IsSeatIn self.old (i + 1))) }
+        ensures joined { (i : ℕ) → IsStored self.old → IsSeatIn self.old i seat.now
+            → IfOk result (λ found. JoinsNext self.old.schema.page_rows i
             room.old.rows room.new.rows (is_some found) (regions self.old)) }
         ensures effect { Searches self.old self.new result }
     {
@@ -90,16 +88,22 @@ impl<S: PageStore> Tree<S> {
     // Puts the rows of the region before that of a seat before these, if there is one and a page
     // holds them together, and then gives its seat.
     fn join_before(&mut self, seat: &Seat, room: &mut Room) -> Result<Option<Seat>, TreeFault>
-        requires seat { IsSeatIn self.old seat.now }
-        requires rows { AreRowsAt self.old.schema (map entry_of self.old.placed) seat.now.index
-            room.old.rows }
+        requires seat { IsSeatOf self.old seat.now }
+        requires rows { AreRowsFrom self.old.schema seat.now.first seat.now.next room.old.rows }
         ensures rows { IfOk result (λ found. MatchOption found (room.new.rows ≡ room.old.rows)
             (λ before. IsRegion self.old.schema
             (record { first = before.first; rows = room.new.rows }))) }
-        ensures before { IfOk result (λ found. IfSome found (λ before.
-            IsSeatThere self.old before × (seat.now.index ≡ before.index + 1))) }
-        ensures joined { facts.IsHonest self.old.store
-            → IfOk result (λ found. JoinsBefore self.old.schema.page_rows seat.now.index
+        ensures there { IfOk result (λ found. IfSome found (IsSeatThere self.old)) }
+        ensures ends { IfOk result (λ found. IfSome found
+            (λ before. before.next ≡ Some seat.now.first)) }
+        ensures falls { IfOk result (λ found. IfSome found (λ before. (k : key.Key)
+            × (key_before seat.now.first.z seat.now.first.number ≡ Some k)
+            × FallsTo self.old k before)) }
+        ensures before { (i : ℕ) → IsStored self.old → IsSeatIn self.old i seat.now
+            → IfOk result (λ found. IfSome found (λ before. (j : ℕ) × (i ≡ j + 1)
+            × IsSeatIn self.old j before)) }
+        ensures joined { (i : ℕ) → IsStored self.old → IsSeatIn self.old i seat.now
+            → IfOk result (λ found. JoinsBefore self.old.schema.page_rows i
             room.old.rows room.new.rows (is_some found) (regions self.old)) }
         ensures effect { Searches self.old self.new result }
     {
@@ -119,18 +123,16 @@ impl<S: PageStore> Tree<S> {
     // those of the next region, or else of the one before, where a page holds both.
     fn settle(&mut self, seat: &Seat, room: &mut Room) -> Result<(), TreeFault>
         requires seat { IsSeatThere self.old seat.now }
-        requires rows { AreRowsAt self.old.schema (map entry_of self.old.placed) seat.now.index
-            room.old.rows }
-        ensures same { OnOk result (TakesAt seat.now.index self.old self.new) }
-        ensures written { IsStored self.old
+        requires rows { AreRowsFrom self.old.schema seat.now.first seat.now.next room.old.rows }
+        ensures same { OnOk result (TakesAt seat.now self.old self.new) }
+        ensures written { (i : ℕ) → IsStored self.old → IsSeatIn self.old i seat.now
             → AllByRecursion (IsRegion self.old.schema)
-            (settle self.old.schema.page_rows seat.now.index
-            (put_rows seat.now.index false room.old.rows (regions self.old)))
-            → OnOk result (IsStored self.new
-            × (regions self.new ≡ settle self.old.schema.page_rows seat.now.index
-            (put_rows seat.now.index false room.old.rows (regions self.old)))) }
+            (settle self.old.schema.page_rows i (put_rows i false room.old.rows (regions self.old)))
+            → OnOk result (IsStored self.new × (regions self.new ≡
+            settle self.old.schema.page_rows i (put_rows i false room.old.rows (regions self.old)))) }
         ensures effect { Changes self.old self.new result }
         ensures faults { IfErr result (IsRemovalFault self.old) }
+        ensures stays { self.old.is_changed ≡ true → self.new.is_changed ≡ true }
     {
         if !room.rows.are_few(self.schema.page_rows()) {
             return self.rewrite(seat, room.rows.as_slice(), &mut room.drafts);
@@ -148,21 +150,23 @@ impl<S: PageStore> Tree<S> {
     /// that is left with fewer than half the rows of a page is joined with the next one, or else with the one before, where
     /// their rows fit on one page.
     ///
-    /// Failed comes where the tree has failed, Page where a page is refused or there is such a row though none is counted,
-    /// Memory where memory was refused, and Store where the store failed in this call or has no such page. After Store with
-    /// Device the tree may have failed; after another fault it is as it was.
+    /// Failed comes where the tree has failed; Page where a page is refused, or as BadCount on page 0 where there is such a row though
+    /// none is counted, or a region would go and one alone is counted; Memory where memory was refused; Store where the store failed in
+    /// this call or has no such page. After Store with Device the tree may have failed; after another fault it is as it was. Once a
+    /// table is marked as changed it stays so.
     pub fn remove(&mut self, key: Key) -> Result<bool, TreeFault>
         ensures removed { IsSound self.old
             → IfOk result (λ found. IsRemoved key found self.old self.new) }
         ensures untouched { IfOk result (λ found. found ≡ false → self.new ≡ self.old) }
         ensures counted { IfOk result (λ found. found ≡ true → (self.new.next ≡ self.old.next)
             × (self.new.rows + 1 ≡ self.old.rows)
-            × ShrinksAt (index_for self.old key) self.old self.new) }
+            × ShrinksAt key self.old self.new) }
         ensures failed { IsTrue self.old.is_failed → result ≡ Err TreeFault.Failed }
         ensures refused { self.old.is_failed ≡ false → facts.IsHonest self.old.store
             → AnswersRemoval self.old key result }
         ensures effect { Changes self.old self.new result }
         ensures faults { IfErr result (IsRemovalFault self.old) }
+        ensures stays { self.old.is_changed ≡ true → self.new.is_changed ≡ true }
     {
         if self.is_failed {
             return Err(TreeFault::Failed);
@@ -181,10 +185,11 @@ impl<S: PageStore> Tree<S> {
         ensures untouched { IfOk result (λ found. found ≡ false → self.new ≡ self.old) }
         ensures counted { IfOk result (λ found. found ≡ true → (self.new.next ≡ self.old.next)
             × (self.new.rows + 1 ≡ self.old.rows)
-            × ShrinksAt (index_for self.old key.now) self.old self.new) }
+            × ShrinksAt key.now self.old self.new) }
         ensures refused { facts.IsHonest self.old.store → AnswersRemoval self.old key.now result }
         ensures effect { Changes self.old self.new result }
         ensures faults { IfErr result (IsRemovalFault self.old) }
+        ensures stays { self.old.is_changed ≡ true → self.new.is_changed ≡ true }
     {
         let seat = self.seat_of(key)?;
         self.rows_at(&seat, &mut room.region, &mut room.rows)?;

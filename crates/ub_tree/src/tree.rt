@@ -14,7 +14,8 @@ use crate::room::Room;
 use std::alloc::Global;
 use std::marker::Model;
 use ub_bigmin::ZBox;
-use ub_directory::{Directory, Region};
+use ub_directory::Region;
+use ub_index::Index;
 use ub_page::RegionPage;
 use ub_store::{PageStore, Pager};
 use ub_table::Schema;
@@ -23,12 +24,14 @@ use ub_writing::Mark;
 /// A UB-tree (Bayer 1997) over a store of pages: the rows of a table in regions, each on a page, in the order of their
 /// addresses.
 ///
-/// The directory, which tells where each region begins and its page, is kept in memory, and in the store once the tree is
-/// closed. After a write, an extension or a sync that failed the tree does no more: every call that could fail answers Failed.
+/// The index, which tells where each region begins and its page, stands in the store, and is read as calls come to its pages.
+/// After a write, an extension or a sync that failed the tree does no more: every call that could fail answers Failed.
 #[derive(Drop)]
 pub struct Tree<S: PageStore> {
     pub(crate) schema: Schema,
-    pub(crate) directory: Directory,
+    pub(crate) index: Index,
+    // How many regions there are.
+    pub(crate) count: u32,
     // The number that the next row gets.
     pub(crate) next: u32,
     pub(crate) rows: u32,
@@ -49,9 +52,9 @@ impl<S: PageStore> Model for Tree<S> {
 
     ghost Value = { TreeView };
 
-    ghost view = { λ t. tree_view t.schema t.directory.entries t.directory.chain t.next t.rows (is_written t.mark) t.is_failed t.pager };
+    ghost view = { λ t. tree_view t.schema t.index t.count t.next t.rows (is_written t.mark) t.is_failed t.pager };
 
-    ghost invariant = { λ t. IsTree t.schema t.directory.last t.directory.entries t.directory.chain t.next t.rows t.mark };
+    ghost invariant = { λ t. IsTree t.schema t.index t.count t.next t.rows t.mark };
 }
 
 impl<S: PageStore> Tree<S> {
@@ -67,7 +70,7 @@ impl<S: PageStore> Tree<S> {
         ensures count { result ≡ region_count self.now }
         ensures placed { IsSound self.now → result ≡ length self.now.placed }
     {
-        self.directory.count() as u32
+        self.count
     }
 
     /// How many rows there are.
@@ -112,7 +115,7 @@ impl<S: PageStore> Tree<S> {
         if self.has_failed() {
             return Err(TreeFault::Failed);
         }
-        let found = self.directory.seek(&mut self.pager, z, after)?;
+        let found = self.index.seek(&mut self.pager, z, after)?;
         Ok(found)
     }
 
@@ -135,7 +138,7 @@ impl<S: PageStore> Tree<S> {
         if self.has_failed() {
             return Err(TreeFault::Failed);
         }
-        let found = self.directory.next_meeting(&mut self.pager, boxes, after)?;
+        let found = self.index.next_meeting(&mut self.pager, boxes, after)?;
         Ok(found)
     }
 

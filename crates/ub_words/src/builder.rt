@@ -76,7 +76,7 @@ Status:
   0  all statements were answered
   1  a statement was refused, and the others were run
   2  wrong arguments
-  3  TABLE isn't a table file, or is damaged
+  3  TABLE isn't a table file, is damaged, or was made by an older ubq, as ! OldFormat page 0: load its CSV file anew
   4  a file or the output failed
   5  memory was refused";
 

@@ -1,11 +1,10 @@
 ghost use Rattle.std.specs.Prelude.{◌≡◌, true};
 ghost use Rattle.ub_page.specs.Header.{AreInRange, numbers_of};
 
-use ub_directory::levels_of;
 use ub_page::Header;
 use ub_table::Schema;
 
-/// The header of a new table, which marks it as changed: one region, and a directory that begins on page 2.
+/// The header of a new table, which marks it as changed: one region, and an index of one level, the root of which is page 2.
 pub fn first_header(schema: &Schema) -> Header
     ensures numbers { AreInRange (numbers_of result) }
     ensures unclean { result.unclean ≡ true }
@@ -17,7 +16,7 @@ pub fn first_header(schema: &Schema) -> Header
         rows: 0,
         regions: 1,
         root: 2,
-        levels: levels_of(1) as u32,
+        levels: 1,
         unclean: true,
     }
 }

@@ -1,20 +1,20 @@
 // In which order the pages of a table go out.
 //
-// A table: first the header, marked as changed, and then the page of its one region.
+// A table: first the header, marked as changed, and then the page of its one region; that of the index's root, which names it, is the
+// tree's to put.
 // A change: first the header, marked as changed, unless it is marked already: a table of which any other page was written is not
 // opened until it is closed again. Where a region is split, the page of the new region comes next, and then that of the old one,
-// which holds all their rows until it is written; where two are joined, the page that takes the rows of both.
-// Closing: the pages of the directory, the last one first, so that none names one that does not stand yet; a sync; the clean header;
-// and a sync. So the header that lasts names a directory that lasts.
+// which holds all their rows until it is written; where two are joined, the page that takes the rows of both. Those of the index come
+// after them, put by `ub_index`, so that none of them names a page that does not stand yet.
+// Closing: a sync; the clean header; and a sync. So what the header that lasts tells of lasts.
 
-ghost use Rattle.std.specs.Prelude.{ℕ, List, ◌≡◌, ◌⊎◌, ◌+◌, ◌^◌, ◌<◌, ◌≤◌, [], ◌∷◌, length, slice_get, Some, IfErr, OnOk, OnErr, IsErrOf};
+ghost use Rattle.std.specs.Prelude.{◌≡◌, ◌⊎◌, ◌<◌, ◌≤◌, [], ◌∷◌, false, IfErr, OnOk, OnErr, IsErrOf};
 ghost use Rattle.ub_page.specs.Header.{AreInRange, IsHeader, header_page, numbers_of};
 ghost use Rattle.ub_page.specs.Region.{region_on, region_page};
 ghost use Rattle.ub_store.specs.Facts.{page_count, IsHonest, WritesAt};
 ghost use Rattle.ub_store.specs.View.{SameTrace};
-ghost use Rattle.ub_directory.specs.Chain.{levels_for, AreOwn};
-ghost use Rattle.ub_directory.specs.Writing.{KeepsBut, IsSaved, IsSaveFault, WritesStore, put_store};
-ghost use Rattle.ub_writing.specs.Closing.{IsClosed, IsUnclosed};
+ghost use Rattle.ub_directory.specs.Writing.{WritesStore, put_store};
+ghost use Rattle.ub_writing.specs.Closing.{IsClosed, IsSaveFault, IsSaved, IsUnclosed};
 ghost use Rattle.ub_writing.specs.Creation.{IsLaidOut, IsLayoutFault, IsUncreated, empty_region};
 ghost use Rattle.ub_table.specs.declared.schema.Schema.{Schema};
 ghost use Rattle.ub_writing.specs.Marks.{IsMarkOf, Marks};
@@ -23,10 +23,10 @@ ghost use Rattle.ub_writing.specs.declared.mark.Mark.TheVariants.{Written};
 
 use crate::header::first_header;
 use crate::mark::Mark;
-use ub_directory::{Directory, ORIGIN, levels_of};
+use ub_directory::ORIGIN;
 use ub_page::{Draft, Header, Page, write_header, write_region};
 use ub_store::{PageStore, Pager, StoreFault};
-use ub_table::{MAX_ROW_NUMBER, Schema};
+use ub_table::Schema;
 
 /// Three pages: first the header, marked unclean, and then the empty region, and one of zeros.
 ///
@@ -117,60 +117,21 @@ pub fn write_page<S: PageStore>(
     pager.put(n, page)
 }
 
-/// Writes the directory, on its pages and on new ones, and then a clean header, each followed by a sync.
+/// Makes what was put last, and then writes this header, which is clean, and makes that last too.
 ///
-/// Memory comes where memory was refused, Device where the store failed in this call, BadSize where it has room for no more
-/// pages, and NoPage where it hasn't the pages that the directory stood on.
-pub fn write_table<S: PageStore>(
-    pager: &mut Pager<S>,
-    directory: Directory,
-    schema: Schema,
-    next: u32,
-    rows: u32,
-) -> Result<(), StoreFault>
-    requires few { length directory.entries < 2 ^ 32 }
-    requires counts { (rows < next) × (next ≤ MAX_ROW_NUMBER + 1) }
-    ensures closed { (numbers : List ℕ) → IsHonest pager.old.store
-        → AreOwn (page_count pager.old.store) directory.chain numbers
-        → OnOk result (IsClosed schema next rows numbers directory.entries pager.old.store
-        pager.new.store) }
-    ensures left { (numbers : List ℕ) → IsHonest pager.old.store
-        → AreOwn (page_count pager.old.store) directory.chain numbers
-        → OnErr result (IsUnclosed numbers directory.entries pager.old.store pager.new.store) }
-    ensures saved { OnOk result (IsSaved (length directory.entries)
-        (length directory.chain) pager.old.store pager.new.store) }
+/// Device comes where the store failed in this call, and NoPage where it has no page.
+pub fn write_table<S: PageStore>(pager: &mut Pager<S>, header: &Header) -> Result<(), StoreFault>
+    requires range { AreInRange (numbers_of header.now) }
+    requires clean { header.now.unclean ≡ false }
+    ensures closed { IsHonest pager.old.store
+        → OnOk result (IsClosed header.now pager.old.store pager.new.store) }
+    ensures left { IsHonest pager.old.store
+        → OnErr result (IsUnclosed pager.old.store pager.new.store) }
+    ensures saved { OnOk result (IsSaved pager.old.store pager.new.store) }
     ensures same { pager.new.store ≡ put_store result pager.old.store pager.new.store }
-    ensures refused { IfErr result (IsSaveFault (levels_for (length directory.entries)) directory.chain
-        pager.old.store) }
+    ensures refused { IfErr result (IsSaveFault pager.old.store) }
 {
-    let regions = directory.count();
-    let root = directory.write(pager)?;
-    let header = Header {
-        schema,
-        next,
-        rows,
-        regions: regions as u32,
-        root,
-        levels: levels_of(regions) as u32,
-        unclean: false,
-    };
-    write_clean(pager, &header)?;
-    Ok(())
-}
-
-// Writes the header, once what was written before lasts.
-fn write_clean<S: PageStore>(pager: &mut Pager<S>, header: &Header) -> Result<(), StoreFault>
-    requires { AreInRange (numbers_of header.now) }
-    ensures header { IsHeader header.now }
-    ensures written { IsHonest pager.old.store
-        → OnOk result (slice_get pager.new.store.pages 0 ≡ Some (header_page header.now)) }
-    ensures synced { OnOk result (pager.new.store.synced ≡ pager.new.store.pages) }
-    ensures kept { KeepsBut (0 ∷ []) pager.old.store pager.new.store }
-    ensures effect { WritesStore pager.old.store pager.new.store result }
-    ensures missing { IsErrOf result StoreFault.NoPage → page_count pager.old.store ≡ 0 }
-    ensures faults { IfErr result (λ fault. (fault ≡ StoreFault.Device)
-        ⊎ (fault ≡ StoreFault.NoPage)) }
-{
+    pager.sync()?;
     put_header(pager, header)?;
     pager.sync()
 }

@@ -15,6 +15,7 @@ use Rattle.ub_region.specs.Regions.{AreTableRows}
 use Rattle.ub_store.specs.Facts.{StoreFacts, IsHonest}
 use Rattle.ub_table.specs.declared.row.Row.{Row}
 use Rattle.ub_table.specs.declared.schema.Schema.{Schema}
+use Rattle.ub_tree.specs.Grown.{IsOnlyGrown}
 use Rattle.ub_tree.specs.View.{TreeView, IsSound, region_count, regions}
 
 abbrev pub Source : Type 0
@@ -32,13 +33,14 @@ pub record IsAt (text : List ℕ) (taken : List (List (List ℕ))) (rdr : Reader
   pub source : source_of bytes_of rdr ≡ Some rest
   pub reached : Reached default_config st.StartRecord (strip_bom text) taken (reader_state rdr) rest
 
--- the tree is sound, and its table has these rows, which were put in one after the other
+-- the tree is sound, and its table has these rows, which were put in one after the other, and none was taken out
 pub record HoldsRows (dims c : ℕ) (rows : List Row) (t : TreeView) : Type 0 where
   pub sound : IsSound t
   pub regions_are : regions t ≡ loaded_regions dims c rows
   pub table : AreTableRows (regions t) rows
   pub next : t.next ≡ length rows + 1
   pub few : region_count t ≤ t.next
+  pub grown : IsOnlyGrown t
 
 -- the header has been read, with nothing wrong in it, and it makes this schema
 pub record IsHeaded (text : List ℕ) (dims page_rows : ℕ) (name : List ℕ) (schema : Schema) (rdr : Reader Source) : Type 0 where

@@ -1,158 +1,227 @@
 -- What the steps of a change of one region do to a tree, and what they need.
-use Rattle.std.specs.Prelude.{IfSome, ◌≡◌, ◌+◌, ◌<◌, ◌≤◌, ◌++◌, ℕ, suc, Bool, true, false, List, [], ◌∷◌, Some, IsTrue, Result, Err, IfErr, OnOk, length, map, take, drop, slice_get}
-use Rattle.std.specs.Bool.{nat_eq}
-use Rattle.std.specs.List.{AllByRecursion, IsDistinct, insert as insert_at}
+use Rattle.std.specs.Prelude.{IfSome, ◌≡◌, ◌≢◌, ◌+◌, ◌<◌, ◌≤◌, ◌++◌, ◌⊎◌, ℕ, suc, true, false, List, [], ◌∷◌, Option, IsTrue, Result, Err, IfErr, OnOk, length, map, take, drop}
+use Rattle.std.specs.List.{AllByRecursion}
+use Rattle.ub_directory.specs.Writing.{Grows}
+use Rattle.ub_index.specs.Changed.{Replaces}
+use Rattle.ub_index.specs.Changing.{IsOutside}
+use Rattle.ub_index.specs.Filling.{KeepsFilled}
+use Rattle.ub_index.specs.Making.{IsPutFault}
+use Rattle.ub_index.specs.Preparing.{ChangeView, IsWithinSeat, MakesIndex, TakesNeeded, added_at, entry_at}
+use Rattle.ub_index.specs.View.{IsSeatAt, entries_in}
+use Rattle.ub_index.specs.declared.seat.Seat.{Seat}
+use Rattle.ub_index.specs.declared.sheet.Sheet.{Sheet}
+use Rattle.ub_page.specs.Region.{RegionView, region_page}
 use Rattle.ub_region.specs.Regions.{split_region}
 use Rattle.ub_region.specs.Rows.{Halves, split}
-use Rattle.ub_zaddr.specs.Address.{last_address}
-use Rattle.ub_tree.specs.Spans.{ArePlaces, first_keys}
-use Rattle.ub_store.specs.Facts.{IsHonest, IsPage, page_count}
-use Rattle.ub_store.specs.View.{PagerView}
-use Rattle.ub_page.specs.Region.{RegionView, region_page}
-use Rattle.ub_page.specs.declared.entries.Entry.{Entry}
-use Rattle.ub_table.specs.Keys.{AreKeysAscending, IsBefore}
+use Rattle.ub_store.specs.Facts.{StoreFacts, IsHonest, IsPage, page_count}
+use Rattle.ub_store.specs.declared.fault.StoreFault.TheVariants as store
+use Rattle.ub_table.specs.Keys.{IsBefore, origin}
 use Rattle.ub_table.specs.Region.{Region, IsRegion, keys_of}
 use Rattle.ub_table.specs.declared.row.Key.{Key}
 use Rattle.ub_table.specs.declared.row.Row.{Row}
 use Rattle.ub_table.specs.declared.schema.Schema.{Schema}
-use Rattle.ub_tree.specs.Effects.{written_store, IsMarkedFirst, Changes}
-use Rattle.ub_tree.specs.Others.{AddsEntry, DropsEntry, KeepsAllBut, KeepsEntries, ShrinksAt, WritesOneRegion}
+use Rattle.ub_tree.specs.Effects.{HasEnded, IsChangeMissing, IsChangeRefused, IsFull, IsIndexFull, IsReadFault, Leaves, read_store, written_store, IsMarkedFirst}
+use Rattle.ub_tree.specs.Grown.{IsOnlyGrown}
+use Rattle.ub_tree.specs.Holding.{IsSeatOrBefore}
+use Rattle.ub_tree.specs.Indexed.{HasIndex, reserved}
+use Rattle.ub_tree.specs.Others.{AddsEntry, DropsEntry, KeepsEntries, KeepsOthers, WritesIndex, WritesPage}
 use Rattle.ub_tree.specs.Placed.{Placed, ArePlaced, entry_of}
-use Rattle.ub_tree.specs.Tree.{IsHeldBy, tree_view}
-use Rattle.ub_tree.specs.View.{TreeView, regions}
+use Rattle.ub_tree.specs.Told.{FallsTo}
+use Rattle.ub_tree.specs.Tree.{IsHeldBy}
+use Rattle.ub_tree.specs.View.{TreeView, IsSound, region_count, regions}
 use Rattle.ub_tree.specs.declared.fault.TreeFault.{TreeFault}
-use Rattle.ub_tree.specs.declared.fault.TreeFault.TheVariants.{Memory, Store}
-use Rattle.ub_store.specs.declared.fault.StoreFault.TheVariants as store
-use Rattle.ub_directory.specs.Inner.{reserved}
-use Rattle.ub_directory.specs.Spans.{IsSeat}
-use Rattle.ub_directory.specs.View.{SeatView}
+use Rattle.ub_tree.specs.declared.fault.TreeFault.TheVariants.{Full, Memory, Page, Store}
+use Rattle.ub_writing.specs.Marks.{HasMark, KeepsUnless}
 
--- the pages of a tree that works, over an honest store: each of its regions stands on a page of its own that spells it
+-- the pages of a tree that works, over an honest store: its index stands on them, and each of its regions on a page of its own that
+-- spells it, as many as it counts
 pub record IsStored (t : TreeView) : Type 0 where
   pub working : t.is_failed ≡ false
   pub honest : IsHonest t.store
-  pub placed_are : ArePlaced t.schema t.placed (reserved t.inner) t.store.pages
+  pub indexed : HasIndex t.inner.index t.store.pages (map entry_of t.placed)
+  pub placed_are : ArePlaced t.schema t.placed (reserved t.inner.index t.store.pages) t.store.pages
+  pub count_is : region_count t ≡ length t.placed
 
 -- the tree is as it was but for its pages, and is marked as changed
-abbrev pub IsElsewhereSame : TreeView → TreeView → Type 0
-IsElsewhereSame old new = new ≡ record old { placed = new.placed; store = new.store; is_changed = true }
+abbrev pub IsPut : TreeView → TreeView → Type 0
+IsPut old new = new ≡ record old { placed = new.placed; store = new.store; is_changed = true }
 
--- the same, and the region at an index, which had so many rows, was written anew; it was split where its page was full
-pub record StoresAt (index count : ℕ) (old new : TreeView) : Type 0 where
+-- the same but for where its index stands, and how many regions it counts
+abbrev pub IsElsewhereSame : TreeView → TreeView → Type 0
+IsElsewhereSame old new = new ≡ record old { placed = new.placed; store = new.store; is_changed = true; inner = new.inner }
+
+-- the same, and the region of a seat, which had so many rows, was written anew; it was split where its page was full
+pub record StoresAt (seat : Seat) (count : ℕ) (old new : TreeView) : Type 0 where
   pub same : IsElsewhereSame old new
-  pub others : KeepsAllBut index old new
-  pub full : count ≡ old.schema.page_rows → AddsEntry index old new
+  pub others : (WritesPage seat.page old new × KeepsEntries old new) ⊎ (WritesIndex seat.page old new × AddsEntry seat.first old new)
+  pub full : count ≡ old.schema.page_rows → AddsEntry seat.first old new
   pub spare : count < old.schema.page_rows → KeepsEntries old new
 
--- the same, and the region at an index was written anew, with the rows of the next one, which is no more
-pub record JoinsAt (index : ℕ) (old new : TreeView) : Type 0 where
+-- the same, and the region of a seat was written anew, with the rows of the next one, which is no more
+pub record JoinsAt (seat : Seat) (old new : TreeView) : Type 0 where
   pub same : IsElsewhereSame old new
-  pub others : KeepsAllBut index old new
-  pub dropped : DropsEntry index old new
+  pub others : WritesIndex seat.page old new
+  pub dropped : DropsEntry old new
 
--- the same, and a row was taken out of the region at an index
-pub record TakesAt (index : ℕ) (old new : TreeView) : Type 0 where
+-- the same, and a row was taken out of the region of a seat
+pub record TakesAt (seat : Seat) (old new : TreeView) : Type 0 where
   pub same : IsElsewhereSame old new
-  pub shrunk : ShrinksAt index old new
+  pub shrunk : (WritesPage seat.page old new × KeepsEntries old new)
+      ⊎ ((first : Seat) × IsSeatOrBefore old seat first × WritesIndex first.page old new × DropsEntry old new)
 
 -- in place of the region at an index stand these
 abbrev pub placed_with : ℕ → List Placed → List Placed → List Placed
 placed_with index news placed = take index placed ++ news ++ drop (suc index) placed
 
--- a write met this fault: the tree has failed, with the directory and the counts that it had
+-- a write or an extension met this fault: the tree has failed, with the root and the counts that it had
 pub record HasStopped (fault : TreeFault) (old new : TreeView) : Type 0 where
   pub same : new ≡ record old { placed = new.placed; is_changed = new.is_changed; is_failed = true; store = written_store {A = TreeFault} (Err fault) old.store new.store }
-  pub entries : map entry_of new.placed ≡ map entry_of old.placed
 
 -- what a call within that only writes can answer, and what it leaves then
 abbrev pub IsWriteFault : TreeView → TreeView → TreeFault → Type 0
 IsWriteFault old new (Store store.Device) = IsTrue old.store.can_fail × HasStopped (Store store.Device) old new
 IsWriteFault old new _ = ⊥
 
--- a call within that only writes, and of the regions' pages only that of the region at an index
-pub record Writes {A : Type 0} (index : ℕ) (old new : TreeView) (result : Result A TreeFault) : Type 0 where
+-- a call within that only writes, and of the pages but the first only that of the region of a seat
+pub record Writes {A : Type 0} (seat : Seat) (old new : TreeView) (result : Result A TreeFault) : Type 0 where
   pub frame : new ≡ record old { placed = new.placed; is_changed = new.is_changed; is_failed = new.is_failed; store = written_store result old.store new.store }
   pub marked : IsMarkedFirst old new
   pub done : OnOk result (new.is_failed ≡ old.is_failed)
   pub faults : IfErr result (IsWriteFault old new)
-  pub others : WritesOneRegion old new
-  pub entries : KeepsEntries old new
-  pub kept : KeepsAllBut index old new
+  pub kept : WritesPage seat.page old new
+  pub count : page_count new.store ≡ page_count old.store
 
--- where the page spells rows, they are those of the region of the seat now
-abbrev pub PutsRows : {A : Type 0} → SeatView → List ℕ → TreeView → TreeView → Result A TreeFault → Type 0
-PutsRows seat page old new result =
-    IsStored old → (p : Placed) (rows : List Row) → slice_get old.placed seat.index ≡ Some p → IsRegion old.schema (record { first = p.region.first; rows = rows })
-    → page ≡ region_page old.schema (record { first = seat.first; rows = rows })
-    → OnOk result (IsStored new × (new.placed ≡ placed_with seat.index (record { page = p.page; region = record { first = p.region.first; rows = rows } } ∷ []) old.placed))
+-- the seat of a region that the tree tells of
+abbrev pub IsSeatOf : TreeView → Seat → Type 0
+IsSeatOf t seat = (key : Key) × FallsTo t key seat
 
--- a fault of the store
-abbrev pub IsStoreFault : TreeFault → Type 0
-IsStoreFault Memory = Unit {0}
-IsStoreFault (Store fault) = Unit {0}
-IsStoreFault _ = ⊥
-
--- what an extension of the store can answer a tree, and what it leaves of it then, whatever its other parts are
-abbrev pub IsExtensionFault : Bool → Bool → PagerView → PagerView → TreeFault → Type 0
-IsExtensionFault was now old new fault =
-    (schema : Schema) (entries : List Entry) (chain : List ℕ) (next rows : ℕ) (changed : Bool)
-    → Changes {A = TreeFault} (tree_view schema entries chain next rows changed was old) (tree_view schema entries chain next rows changed now new) (Err fault)
-
--- no page of the tree has this number
-abbrev pub IsFresh : ℕ → TreeView → Type 0
-IsFresh n t = IsDistinct nat_eq (n ∷ (reserved t.inner ++ map (λ p. p.page) t.placed))
-
--- the seat of a region of the tree
-abbrev pub IsSeatIn : TreeView → SeatView → Type 0
-IsSeatIn t seat = IsSeat (map entry_of t.placed) seat
+-- the seat of the region of this index
+abbrev pub IsSeatIn : TreeView → ℕ → Seat → Type 0
+IsSeatIn t i seat = IsSeatAt (map entry_of t.placed) i seat
 
 -- the page of a seat's region spells this one, in its place
-pub record IsOnSeat (t : TreeView) (seat : SeatView) (region : Region) : Type 0 where
+pub record IsOnSeat (t : TreeView) (seat : Seat) (region : Region) : Type 0 where
   pub is : IsRegion t.schema region
   pub held : IsHeldBy t.schema.dims seat.first seat.next region
   pub page : IsPage t.store seat.page (region_page t.schema region)
 
--- the region of a seat was read: its rows are in order, and no more than a page holds
-pub record IsReadAt (t : TreeView) (seat : SeatView) (page : RegionView) : Type 0 where
+-- the seat of a region that the tree tells of, which stands there in its place
+pub record IsSeatThere (t : TreeView) (seat : Seat) : Type 0 where
+  pub seat_is : IsSeatOf t seat
+  pub there : seat.page < page_count t.store
+  pub region : Region
+  pub on : IsOnSeat t seat region
+
+-- where the page spells rows, they are those of the region of the seat now
+abbrev pub PutsRows : {A : Type 0} → Seat → List ℕ → TreeView → TreeView → Result A TreeFault → Type 0
+PutsRows seat page old new result =
+    (i : ℕ) (rows : List Row) → IsStored old → IsSeatIn old i seat → IsRegion old.schema (record { first = seat.first; rows = rows })
+    → page ≡ region_page old.schema (record { first = seat.first; rows = rows })
+    → OnOk result (IsStored new × (new.placed ≡ placed_with i (record { page = seat.page; region = record { first = seat.first; rows = rows } } ∷ []) old.placed))
+
+-- the region of a seat was read
+pub record IsReadAt (t : TreeView) (seat : Seat) (page : RegionView) : Type 0 where
   pub dims : page.dims ≡ t.schema.dims
-  pub first : page.region.first ≡ seat.first
-  pub few : length page.region.rows ≤ t.schema.page_rows
-  pub ascending : AreKeysAscending (keys_of t.schema.dims page.region.rows)
+  pub on : IsOnSeat t seat page.region
 
--- the seat of a region, and the store has its page
-abbrev pub IsSeatThere : TreeView → SeatView → Type 0
-IsSeatThere t seat = IsSeatIn t seat × (seat.page < page_count t.store)
+-- the rows are those of a region which begins with this key, and they stand before the next one
+abbrev pub AreRowsFrom : Schema → Key → Option Key → List Row → Type 0
+AreRowsFrom schema first next rows =
+    IsRegion schema (record { first = first; rows = rows })
+    × IfSome next (λ end. AllByRecursion (λ key. IsBefore key end) (keys_of schema.dims rows))
 
--- the rows are those of a region which begins as that at an index does, and they stand before the next region
-abbrev pub AreRowsAt : Schema → List Entry → ℕ → List Row → Type 0
-AreRowsAt schema entries index rows =
-    (entry : Entry) → slice_get entries index ≡ Some entry → IsRegion schema (record { first = entry.first; rows = rows })
-    × IfSome (slice_get (first_keys entries) (suc index)) (λ next. AllByRecursion (λ key. IsBefore key next) (keys_of schema.dims rows))
+-- each page that is spelled is one of the index, which the store has, or one that the change brings
+pub record IsSpelledAt (t : TreeView) (from : ℕ) (change : ChangeView) (sheet : Sheet) : Type 0 where
+  pub own : (n : ℕ) → n < page_count t.store → IsOutside n (reserved t.inner.index t.store.pages) → ¬ (n ≡ sheet.number)
+  pub there : (sheet.number < page_count t.store) ⊎ ((from ≤ sheet.number) × (sheet.number < change.next))
 
--- a region can begin with this key after that at an index
-abbrev pub HasRoom : ℕ → Key → TreeView → Type 0
-HasRoom index first t = (page : ℕ) → ArePlaces (last_address t.schema.dims) (insert_at (map entry_of t.placed) (index + 1) (record { first = first; page = page }))
+-- what is prepared for a region that comes behind that of a seat, with this first key
+pub record IsAddReady (t : TreeView) (seat : Seat) (first : Key) (change : ChangeView) : Type 0 where
+  pub start : change.start ≡ page_count t.store
+  pub some : page_count t.store + 1 ≤ change.next
+  pub few : change.next ≤ page_count t.store + 1 + (t.inner.index.levels + 1)
+  pub needed : IsHonest t.store → TakesNeeded t.inner.index t.store seat.first change
+  pub spelled : IsHonest t.store → AllByRecursion (IsSpelledAt t (page_count t.store + 1) change) change.sheets
+  pub makes : (i : ℕ) → IsStored t → IsSeatIn t i seat → IsWithinSeat t.inner.index.last seat.first seat.next first
+      → MakesIndex t.inner.index t.store (page_count t.store + 1) change
+      (Replaces (entry_at seat) (entry_at seat ∷ added_at first t.store ∷ []) (entries_in t.inner.index t.store))
+  pub fills : (i : ℕ) → IsStored t → IsSeatIn t i seat → IsWithinSeat t.inner.index.last seat.first seat.next first
+      → KeepsFilled t.inner.index t.store change
+
+-- what is prepared for the region of a seat that goes
+pub record IsDropReady (t : TreeView) (seat : Seat) (change : ChangeView) : Type 0 where
+  pub spelled : IsHonest t.store → AllByRecursion (IsSpelledAt t (page_count t.store) change) change.sheets
+  pub next : IsHonest t.store → change.next ≡ page_count t.store
+  pub makes : (i : ℕ) → IsStored t → IsSeatIn t i seat → IsBefore origin seat.first
+      → MakesIndex t.inner.index t.store (page_count t.store) change (Replaces (entry_at seat) [] (entries_in t.inner.index t.store))
+
+-- why a change of the index isn't prepared: as a search, or a change, is refused
+abbrev pub IsReadyFault : TreeView → TreeFault → Type 0
+IsReadyFault t Full = IsIndexFull t
+IsReadyFault t (Page page fault) = (¬ (IsSound t)) × IsChangeRefused t page fault
+IsReadyFault t (Store store.BadSize) = IsFull t
+IsReadyFault t (Store store.NoPage) = (¬ (IsSound t)) × IsChangeMissing t
+IsReadyFault t fault = IsReadFault t fault
+
+-- a call that prepares a change: with the device's fault the store has one failed read more, and else nothing has changed
+pub record MakesReady {A : Type 0} (old new : TreeView) (result : Result A TreeFault) : Type 0 where
+  pub same : new ≡ record old { store = read_store result old.store }
+  pub faults : IfErr result (IsReadyFault old)
+
+-- what a call that gives the store pages, up to this count, leaves where it is refused
+abbrev pub IsGrowthLeft : ℕ → TreeView → TreeView → TreeFault → Type 0
+IsGrowthLeft count old new Memory = Leaves old new
+IsGrowthLeft count old new (Store store.Device) = IsTrue old.store.can_fail × HasEnded (Store store.Device) old new
+IsGrowthLeft count old new (Store store.BadSize) = (4294967295 < count) × Leaves old new
+IsGrowthLeft count old new _ = ⊥
+
+-- a call within that gives the store pages, up to this count
+pub record GrowsTo {A : Type 0} (count : ℕ) (old new : TreeView) (result : Result A TreeFault) : Type 0 where
+  pub frame : new ≡ record old { placed = new.placed; is_failed = new.is_failed; store = written_store result old.store new.store }
+  pub grows : Grows old.store new.store
+  pub done : OnOk result ((new.is_failed ≡ old.is_failed) × (page_count new.store ≡ count))
+  pub left : IfErr result (IsGrowthLeft count old new)
+
+-- a call within that only writes, and of the pages but the first only that of this number and that of a seat's region; a table that was
+-- marked as changed, or is now, has the mark on its first page
+pub record WritesBoth {A : Type 0} (number : ℕ) (seat : Seat) (old new : TreeView) (result : Result A TreeFault) : Type 0 where
+  pub frame : new ≡ record old { placed = new.placed; is_changed = new.is_changed; is_failed = new.is_failed; store = written_store result old.store new.store }
+  pub kept : KeepsUnless new.is_changed old.store new.store
+  pub marked : number ≢ 0 → seat.page ≢ 0 → IsHonest old.store → (old.is_changed ≡ true → HasMark old.schema old.store.pages) → new.is_changed ≡ true → HasMark old.schema new.store.pages
+  pub done : OnOk result (new.is_failed ≡ old.is_failed)
+  pub faults : IfErr result (IsWriteFault old new)
+  pub others : KeepsOthers (0 ∷ number ∷ seat.page ∷ []) old.store new.store
+
+-- why the pages that a change spells aren't put: the store failed, which it then can; or it has no page of that number
+abbrev pub IsIndexFault : ChangeView → StoreFacts → TreeFault → Type 0
+IsIndexFault change old (Store fault) = IsPutFault change.sheets old fault
+IsIndexFault change old _ = ⊥
+
+-- where rows were only put in before, that is so still
+abbrev pub KeepsGrown : TreeView → TreeView → Type 0
+KeepsGrown old new = IsOnlyGrown old → IsOnlyGrown new
 
 -- in place of the region at an index stand two, the second on a page of its own
-abbrev pub IsSplitAt : ℕ → Placed → Halves → TreeView → TreeView → Type 0
-IsSplitAt index p halves old new =
-    (n : ℕ) × (new.placed ≡ placed_with index (record { page = p.page; region = record { first = p.region.first; rows = halves.left } } ∷ record { page = n; region = record { first = halves.first; rows = halves.right } } ∷ []) old.placed)
+abbrev pub IsSplitAt : ℕ → Seat → Halves → TreeView → TreeView → Type 0
+IsSplitAt index seat halves old new =
+    (n : ℕ) × (new.placed ≡ placed_with index (record { page = seat.page; region = record { first = seat.first; rows = halves.left } } ∷ record { page = n; region = record { first = halves.first; rows = halves.right } } ∷ []) old.placed)
 
 -- what becomes of a region that begins with this key, of these rows
 abbrev pub split_of : Schema → Key → List Row → List Region
 split_of schema first rows = split_region schema.dims schema.page_rows (record { first = first; rows = rows })
 
--- rows that can stand in place of those of the region of a seat: they make a region, or two, and the second has room there
-pub record CanStand (t : TreeView) (seat : SeatView) (rows : List Row) : Type 0 where
+-- rows that can stand in place of those of the region of a seat: they make a region, or two, and the second begins there
+pub record CanStand (t : TreeView) (seat : Seat) (rows : List Row) : Type 0 where
   pub each : AllByRecursion (IsRegion t.schema) (split_of t.schema seat.first rows)
-  pub room : t.schema.page_rows < length rows → HasRoom seat.index (split t.schema.dims t.schema.page_rows rows).first t
+  pub within : t.schema.page_rows < length rows → IsWithinSeat t.inner.index.last seat.first seat.next (split t.schema.dims t.schema.page_rows rows).first
 
 -- in place of the region at an index these
 abbrev pub regions_with : ℕ → List Region → List Region → List Region
 regions_with index news regions = take index regions ++ news ++ drop (suc index) regions
 
--- the region at an index has these rows now, or it and a new one have them, where they are more than a page holds
-abbrev pub StoresRows : {A : Type 0} → ℕ → List Row → TreeView → TreeView → Result A TreeFault → Type 0
-StoresRows index rows old new result =
-    IsStored old → (p : Placed) → slice_get old.placed index ≡ Some p → AllByRecursion (IsRegion old.schema) (split_of old.schema p.region.first rows)
-    → OnOk result (IsStored new × (regions new ≡ regions_with index (split_of old.schema p.region.first rows) (regions old)))
+-- the region of a seat has these rows now, or it and a new one have them, where they are more than a page holds; and where rows were
+-- only put in before, that is so still
+abbrev pub StoresRows : {A : Type 0} → Seat → List Row → TreeView → TreeView → Result A TreeFault → Type 0
+StoresRows seat rows old new result =
+    (i : ℕ) → IsStored old → IsSeatIn old i seat → AllByRecursion (IsRegion old.schema) (split_of old.schema seat.first rows)
+    → OnOk result (IsStored new × (regions new ≡ regions_with i (split_of old.schema seat.first rows) (regions old)) × KeepsGrown old new)

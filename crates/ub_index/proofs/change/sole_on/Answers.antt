@@ -5,4 +5,4 @@ use Rattle.ub_index.proofs.change.sole_on.Goals as goal
 
 pub returns-else-u16_at-eq1 : goal.returns-else-u16_at-eq1
 returns-else-u16_at-eq1 c =
-    sole_none (number_at 2 2 c.args.page.now) c.args.page.now (subst (λ (n : ℕ). n ≢ 1) c.u16_at.ensures c.if-u16_at-eq1.false)
+    record { sole = sole_none (number_at 2 2 c.args.page.now) c.args.page.now (subst (λ (n : ℕ). n ≢ 1) c.u16_at.ensures c.if-u16_at-eq1.false); some = tt }

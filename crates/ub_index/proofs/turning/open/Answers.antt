@@ -8,6 +8,9 @@ opened_at-requires-clause-few g c =
     few_count c.cached-page.result.now c.args.last c.args.level c.in-Ok.head.count c.args.place.now.entry c.args.place.now.next (ap (λ (h : Head). h.count) c.in-Ok.ensures.head)
     c.in-Ok.ensures.found.is.is
 
+pub opened_at-requires-clause-rows : goal.opened_at-requires-clause-rows
+opened_at-requires-clause-rows g c = (c.args.last, c.in-Ok.ensures.found.is.is.entries)
+
 pub returns-in_ok-opened_at-in-Ok-clause-opened : goal.returns-in_ok-opened_at-in-Ok-clause-opened
 returns-in_ok-opened_at-in-Ok-clause-opened g c = λ honest.
     opens_page c.args.pager.now.store.pages c.args.last c.args.key.now c.args.level c.args.place.now.entry c.args.place.now.next

@@ -19,8 +19,8 @@ returns-in_err-row-clause-refused g c =
     let width : length c.columns-width.result.now ≡ length s.columns = ap length (c.columns-width.ensures.columns ∙ ap (λ (t : Schema). t.columns) c.schema-2.ensures) in
     let bad : content_refusal s.dims (length s.columns) (c.args.number, fields_of c.args.fields.now) ≡ Some c.in_err-row.field-0.0 = rw (dims, width) at c.in_err-row.ensures.refused in
     rw (p.1, p.2)
-    (inr (told_first _ _ _ c.in_err-row.field-0.0 (content_is_of_text s.dims (length s.columns) (c.args.number, fields_of c.args.fields.now) c.in_err-row.field-0.0 bad)
-    (record_with_bad_content s.dims (length s.columns) (c.args.number, fields_of c.args.fields.now) c.in_err-row.field-0.0 bad)))
+    (inr (inr (told_first _ _ _ c.in_err-row.field-0.0 (content_is_of_text s.dims (length s.columns) (c.args.number, fields_of c.args.fields.now) c.in_err-row.field-0.0 bad)
+    (record_with_bad_content s.dims (length s.columns) (c.args.number, fields_of c.args.fields.now) c.in_err-row.field-0.0 bad))))
 
 pub put_row-requires-clause-values : goal.put_row-requires-clause-values
 put_row-requires-clause-values g c =

@@ -9,4 +9,4 @@ returns-clause-inserted g c sound next =
     subst (λ (row : Row). IsInserted row c.args.tree.now c.insert_row.new.self) (numbered_again c.args.tree.now.next c.args.row.now next) (c.in_ok-insert_row.ensures.inserted sound)
 
 pub returns-clause-grown : goal.returns-clause-grown
-returns-clause-grown g c = few_more _ c.args.tree.now c.insert_row.new.self c.in_ok-insert_row.ensures.counted.3.entries
+returns-clause-grown g c = few_more _ c.args.tree.now c.insert_row.new.self c.in_ok-insert_row.ensures.counted.3

@@ -23,12 +23,12 @@ returns-in-Ok g c = record {
   left = g.F.Store.PageStore.facts c.in-Ok.store;
   back = c.put_back.ensures;
   closes = record {
-    store_is = store_closed {A = Unit {0}} tt c.args.tree (g.F.Store.PageStore.facts c.in-Ok.store) (λ changed. (c.in-Ok.ensures.saved changed).same) c.in-Ok.ensures.unchanged c.in-Ok.ensures.failed;
+    store_is = store_closed {A = Unit {0}} tt c.args.tree (g.F.Store.PageStore.facts c.in-Ok.store) (λ changed. (c.in-Ok.ensures.table changed).0.same) c.in-Ok.ensures.unchanged c.in-Ok.ensures.failed;
     closed = c.in-Ok.ensures.closed;
-    synced = λ changed. (c.in-Ok.ensures.saved changed).synced;
+    synced = λ changed. (c.in-Ok.ensures.table changed).0.synced;
     unchanged = λ changed failed. (refl, c.in-Ok.ensures.unchanged changed failed);
     failed = λ failed. absurd (c.in-Ok.ensures.failed failed);
-    unclosed = λ sound. tt;
+    unclosed = λ honest. tt;
     refused = tt;
   };
 }

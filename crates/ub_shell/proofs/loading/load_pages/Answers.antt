@@ -1,6 +1,5 @@
-use Rattle.std.proofs.Common.{◌∙◌, ap, inr, refl}
-use Rattle.ub_load.specs.Refusals.{fault_of_tree}
-use Rattle.ub_shell.proofs.FileFacts.{unclosed_fault}
+use Rattle.std.proofs.Common.{refl}
+use Rattle.ub_shell.proofs.FileFacts.{never_unclosed}
 use Rattle.ub_shell.proofs.loading.load_pages.Goals as goal
 
 pub returns-in-Ok-clause-loaded : goal.returns-in-Ok-clause-loaded
@@ -17,9 +16,4 @@ returns-in-Ok-clause-loaded c =
 pub returns-in-Err-clause-refused : goal.returns-in-Err-clause-refused
 returns-in-Err-clause-refused c =
     let loaded = rw c.as_bytes.ensures.value at (c.in_ok-tree.ensures.loaded refl) in
-    let refused = unclosed_fault c.new.result c.in_ok-tree.tree loaded c.in_ok-tree.ensures.working c.in-Err.refused.fault c.in-Err.ensures.refused in
-    inr (record {
-      tree = c.in_ok-tree.tree;
-      loaded = loaded;
-      refused = c.from.ensures ∙ ap fault_of_tree refused;
-    })
+    absurd (never_unclosed c.new.result c.in_ok-tree.tree loaded c.in_ok-tree.ensures.working c.in-Err.refused.fault c.in-Err.ensures.refused)

@@ -1,4 +1,4 @@
-use Rattle.std.proofs.Common.{arith, ◌≡◌, ◌∙◌, List, ap, subst, sym}
+use Rattle.std.proofs.Common.{arith, ◌≡◌, ◌≤◌, ◌∙◌, ℕ, IfSome, List, Option, ap, subst, sym}
 use Rattle.ub_index.specs.Lowering.{entries_then, sole_page}
 use Rattle.ub_index.specs.Preparing.{ChangeView}
 use Rattle.ub_index.specs.declared.sheet.Sheet.{Sheet}
@@ -15,6 +15,7 @@ loop-levels-preserved g c =
       high = omega (arith, c.loop-levels.invariant.high);
       store = ap (λ (p : PagerView). p.store) c.in_ok-page.ensures.effect.same ∙ c.loop-levels.invariant.store;
       trace = ap (λ (p : PagerView). p.trace) c.in_ok-page.ensures.effect.same ∙ c.loop-levels.invariant.trace;
+      some = subst (λ (o : Option ℕ). IfSome o (λ n. 1 ≤ n)) c.in-Some.is c.in_ok-page.ensures.some;
       lowers = λ honest.
           let sheets = ap (λ (v : ChangeView). v.sheets) c.self.view_is in
           let sole = c.in_ok-page.ensures.sole (subst (λ (s : StoreFacts). IsHonest s) (sym stores) honest) in

@@ -9,6 +9,7 @@ invariant-loop-levels g l = record {
   high : l.levels ≤ 16;
   store : l.pager.store ≡ l.initial.pager.store;
   trace : l.pager.trace ≡ l.initial.pager.trace;
+  some : 1 ≤ l.root;
   lowers : IsHonest l.initial.pager.store → Lowers l.fn.self.sheets l.initial.pager.store.pages l.fn.self.root l.fn.self.levels l.root l.levels;
 }
 

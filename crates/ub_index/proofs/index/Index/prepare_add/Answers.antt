@@ -1,12 +1,13 @@
 use Rattle.std.proofs.Common.{◌+◌, [], ◌∷◌, Some, IfOk, refl, rules}
 use Rattle.ub_index.specs.Changed.{Replaces}
 use Rattle.ub_index.specs.Changing.{so_far}
+use Rattle.ub_index.specs.Filling.{KeepsFilled}
 use Rattle.ub_index.specs.Preparing.{ChangeView, IsPrepared, MakesIndex, TakesNeeded, added_at, entry_at}
 use Rattle.ub_index.specs.View.{entries_in}
 use Rattle.ub_store.specs.Facts.{page_count}
 use Rattle.ub_index.proofs.FoundFacts.{if_ok}
 use Rattle.ub_index.proofs.FullFacts.{takes_needed}
-use Rattle.ub_index.proofs.ReadyFacts.{ready_added}
+use Rattle.ub_index.proofs.ReadyFacts.{fills_added, ready_added}
 use Rattle.ub_index.proofs.index.Index.prepare_add.Goals as goal
 
 pub returns-clause-ready : goal.returns-clause-ready
@@ -37,4 +38,19 @@ returns-clause-takes g c = λ honest.
     (λ (change : ChangeView) made.
     takes_needed c.args.self.now c.args.pager.now.store c.args.seat.now.first (added_at c.args.first.now c.args.pager.now.store) (page_count c.args.pager.now.store)
     (so_far [] (page_count c.args.pager.now.store + 1)) made.0 made.1 change refl (search rules) made.2 made.3)
+    prepared
+
+pub returns-clause-fills : goal.returns-clause-fills
+returns-clause-fills g c = λ i is own at within.
+    let store = c.args.pager.now.store in
+    let honest = is.honest in
+    let prepared : IfOk c.prepare.result
+    (IsPrepared c.args.self.now c.args.pager.now.store c.args.seat.now.first (Some (added_at c.args.first.now c.args.pager.now.store)) (page_count c.args.pager.now.store)
+    (so_far [] (page_count c.args.pager.now.store + 1))) = search (rules, honest) in
+    if_ok c.prepare.result
+    (IsPrepared c.args.self.now c.args.pager.now.store c.args.seat.now.first (Some (added_at c.args.first.now c.args.pager.now.store)) (page_count c.args.pager.now.store)
+    (so_far [] (page_count c.args.pager.now.store + 1)))
+    (KeepsFilled c.args.self.now c.args.pager.now.store)
+    (λ (change : ChangeView) made.
+    fills_added c.args.self.now c.args.pager.now.store i c.args.seat.now c.args.first.now change c.prepare.ensures.bounds.0 c.prepare.ensures.bounds.1 (search rules) is own at within made)
     prepared

@@ -22,7 +22,7 @@ returns-clause-ready g c = λ i is own at later.
     (λ change. MakesIndex c.args.self.now c.args.pager.now.store (page_count c.args.pager.now.store) change (Replaces (entry_at c.args.seat.now) [] (entries_in c.args.self.now c.args.pager.now.store)))
     (λ (change : ChangeView) lowered.
     dropped_makes c.args.self.now c.args.pager.now.store i c.args.seat.now c.in_ok-change.ensures.bounds.0 c.in_ok-change.ensures.bounds.1 (search rules) is own at later c.in_ok-change.change
-    change first.0 first.1 first.2 first.3 lowered)
+    first.0 first.1 first.2 first.3 change lowered)
     lowers
 
 pub returns-clause-low : goal.returns-clause-low
@@ -36,7 +36,7 @@ returns-clause-low g c = λ i is own at later.
     (λ change. (change.next ≡ change.start) × MakesLow c.args.self.now c.args.pager.now.store change)
     (λ (change : ChangeView) lowered.
     dropped_low c.args.self.now c.args.pager.now.store i c.args.seat.now c.in_ok-change.ensures.bounds.0 c.in_ok-change.ensures.bounds.1 (search rules) is own at later c.in_ok-change.change
-    change first.0 first.1 first.2 first.3 lowered)
+    first.0 first.1 first.2 first.3 change lowered)
     lowers
 
 pub returns-clause-effect : goal.returns-clause-effect

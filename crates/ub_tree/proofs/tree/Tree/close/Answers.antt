@@ -1,40 +1,32 @@
-use Rattle.std.proofs.Common.{List, ap, rules, subst, sym}
-use Rattle.ub_page.specs.declared.entries.Entry.{Entry}
-use Rattle.ub_writing.specs.Closing.{IsClosed}
-use Rattle.ub_tree.specs.Tree.{known_pages}
-use Rattle.ub_tree.proofs.TreeFacts.{entries_back}
+use Rattle.std.proofs.Common.{◌∙◌, ℕ, ap, false, subst, sym}
 use Rattle.ub_store.specs.Facts.{StoreFacts}
-use Rattle.ub_tree.proofs.CloseFacts.{sound_pages, sound_unclosed, close_refused}
+use Rattle.ub_tree.proofs.ClosingFacts.{close_refused, sound_pages, unchanged_pages}
+use Rattle.ub_tree.specs.Tree.{tree_view}
+use Rattle.ub_writing.specs.Closing.{IsClosed}
 use Rattle.ub_writing.specs.Marks.{is_written}
 use Rattle.ub_tree.proofs.tree.Tree.close.Goals as goal
+
+pub returns-then-not-is_written-clause-closed : goal.returns-then-not-is_written-clause-closed
+returns-then-not-is_written-clause-closed g c =
+    let t = c.self.inside in
+    rw (← c.self.view_is)
+    (unchanged_pages (tree_view t.schema t.index t.count t.next t.rows (is_written t.mark) t.is_failed t.pager) (g.S.PageStore.facts c.into_store-then-not-is_written.result)
+    c.into_store-then-not-is_written.ensures (sym c.is_written.ensures ∙ c.if-not-is_written.true))
 
 pub returns-in-Ok-clause-closed : goal.returns-in-Ok-clause-closed
 returns-in-Ok-clause-closed g c =
     let t = c.self.inside in
+    let new = c.write_table.new.pager.store in
+    let saved = c.in-Ok.ensures.saved in
     rw (c.into_store-in-Ok.ensures, ← c.self.view_is)
-    (sound_pages t.schema t.directory.entries t.directory.chain t.next t.rows (is_written t.mark) t.is_failed t.pager c.write_table.new.pager.store (ap (λ (s : StoreFacts). s.honest) c.write_table.ensures.same) c.in-Ok.ensures.closed)
-
-pub returns-clause-first : goal.returns-clause-first
-returns-clause-first g c =
-    let t = c.self.inside in
-    rw (c.into_store-in-Err.ensures, ← c.self.view_is)
-    (sound_unclosed t.schema t.directory.entries t.directory.chain t.next t.rows (is_written t.mark) t.is_failed t.pager c.write_table.new.pager.store c.in-Err.ensures.left)
+    (λ sound. sound_pages (tree_view t.schema t.index t.count t.next t.rows (is_written t.mark) t.is_failed t.pager) new
+    (ap (λ (s : StoreFacts). s.honest) saved.same) saved.count
+    (subst (λ (r : ℕ × ℕ). IsClosed (record { schema = t.schema; next = t.next; rows = t.rows; regions = t.count; root = r.0; levels = r.1; unclean = false }) t.pager.store new)
+    c.root-root.ensures.root (c.in-Ok.ensures.closed sound.honest))
+    sound)
 
 pub returns-clause-refused : goal.returns-clause-refused
 returns-clause-refused g c =
     let t = c.self.inside in
     rw (c.from.ensures, ← c.self.view_is)
-    (close_refused t.schema t.directory.entries t.directory.chain t.next t.rows (is_written t.mark) t.is_failed t.pager c.in-Err.fault c.in-Err.ensures.refused)
-
-pub returns-in-Ok-clause-unchanged : goal.returns-in-Ok-clause-unchanged
-returns-in-Ok-clause-unchanged g c = search rules
-
-pub returns-clause-unchanged : goal.returns-clause-unchanged
-returns-clause-unchanged g c = search rules
-
-pub returns-in-Ok-clause-table : goal.returns-in-Ok-clause-table
-returns-in-Ok-clause-table g c =
-    let t = c.self.inside in
-    rw (c.into_store-in-Ok.ensures, ← c.self.view_is) (λ changed numbers honest own.
-    subst (λ (es : List Entry). IsClosed t.schema t.next t.rows numbers es t.pager.store c.write_table.new.pager.store) (sym (entries_back t.schema (known_pages t.pager.store) t.directory.entries))
-    (c.in-Ok.ensures.closed numbers honest own))
+    (close_refused (tree_view t.schema t.index t.count t.next t.rows (is_written t.mark) t.is_failed t.pager) c.in-Err.fault c.in-Err.ensures.refused)

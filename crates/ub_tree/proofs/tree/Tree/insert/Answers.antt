@@ -1,12 +1,11 @@
-use Rattle.std.proofs.Common.{◌≡◌, ◌+◌, ◌∙◌, OnOk, false, ap, arith, subst}
+use Rattle.std.proofs.Common.{◌≡◌, ◌∙◌, false, ap, arith, subst}
 use Rattle.ub_table.specs.Region.{key_of, measures_of}
 use Rattle.ub_table.specs.declared.row.Row.{Row}
 use Rattle.ub_table.specs.declared.schema.Schema.{Schema}
 use Rattle.ub_tree.specs.Change.{numbered, row_of}
-use Rattle.ub_tree.specs.Holding.{AnswersRow, index_for}
-use Rattle.ub_tree.specs.Others.{GrowsAt}
+use Rattle.ub_tree.specs.Holding.{AnswersRow}
 use Rattle.ub_tree.specs.View.{TreeView}
-use Rattle.ub_tree.proofs.GrowFacts.{inserted_as, new_values, words_of}
+use Rattle.ub_tree.proofs.NewFacts.{new_values, words_of}
 use Rattle.ub_tree.proofs.tree.Tree.insert.Goals as goal
 
 pub insert_row-requires : goal.insert_row-requires
@@ -16,18 +15,6 @@ insert_row-requires g c =
     let covers = s.counts.covers_dims in
     rw c.row_of-row.ensures.row (new_values s.dims (measures_of s) c.self.inside.next c.args.dims.now c.args.measures.now c.requires.dims c.requires.measures s.counts.few_dims (omega arith)
     (words_of c.args.dims.now c.type_inv.dims) c.row_of-row.ensures.words)
-
-pub returns-clause-inserted : goal.returns-clause-inserted
-returns-clause-inserted g c = λ sound.
-    let is = c.row_of-row.ensures.row ∙ ap (λ (v : TreeView). row_of v.next c.args.dims.now c.args.measures.now) c.self.view_is in
-    inserted_as c.insert_row.result c.row_of-row.result c.args.dims.now c.args.measures.now c.args.self.now c.insert_row.new.self is (c.insert_row.ensures.inserted sound) c.insert_row.ensures.number
-
-pub returns-clause-counted : goal.returns-clause-counted
-returns-clause-counted g c =
-    let a = c.args.self.now in
-    let b = c.insert_row.new.self in
-    let is = c.row_of-row.ensures.row ∙ ap (λ (v : TreeView). row_of v.next c.args.dims.now c.args.measures.now) c.self.view_is in
-    subst (λ (row : Row). OnOk c.insert_row.result ((b.next ≡ a.next + 1) × (b.rows ≡ a.rows + 1) × (b.is_failed ≡ false) × GrowsAt (index_for a (key_of a.schema.dims (numbered a.next row))) a b)) is c.insert_row.ensures.counted
 
 pub returns-clause-refused : goal.returns-clause-refused
 returns-clause-refused g c =

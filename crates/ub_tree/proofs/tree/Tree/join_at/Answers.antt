@@ -1,67 +1,110 @@
-use Rattle.std.proofs.Common.{◌≡◌, ◌+◌, ℕ, List, [], ◌∷◌, Some, Ok, ◌∙◌, sym, ap, arith, length, subst, slice_get}
-use Rattle.std.specs.List.{remove}
-use Rattle.ub_directory.specs.View.{DroppingView}
+use Rattle.std.proofs.Common.{◌≡◌, ◌+◌, ◌-◌, ◌≤◌, true, ◌∙◌, Ok, inl, inr, sym, ap, subst, refl}
+use Rattle.ub_region.specs.Joins.{put_rows}
 use Rattle.ub_table.specs.Region.{IsRegion}
-use Rattle.ub_tree.specs.inner.Change.{IsStored, placed_with}
-use Rattle.std.proofs.lemmas.List.{length-map}
-use Rattle.ub_tree.specs.View.{TreeView}
-use Rattle.ub_tree.specs.Placed.{Placed, entry_of}
-use Rattle.ub_tree.proofs.CallFacts.{same_there}
-use Rattle.ub_tree.proofs.ChangedFacts.{joined_at}
-use Rattle.ub_tree.proofs.ShrinkFacts.{rewritten_joined}
-use Rattle.ub_tree.proofs.WriteFacts.{changed_by, changes_by, counted_anew, searched_by, then_changed}
+use Rattle.ub_table.specs.declared.fault.PageFault.TheVariants.{BadCount}
+use Rattle.ub_tree.specs.Tree.{placed_in, tree_view}
+use Rattle.ub_tree.specs.View.{TreeView, region_count, regions}
+use Rattle.ub_tree.specs.declared.fault.TreeFault.TheVariants.{Page}
+use Rattle.ub_tree.specs.inner.Change.{IsDropReady, IsSeatIn, IsSeatOf, IsSeatThere, IsStored, JoinsAt}
+use Rattle.ub_tree.proofs.EffectFacts.{changes_by, ready_by, then_changed, unchanged}
+use Rattle.ub_tree.proofs.JoinFacts.{alone_not_sound, behind_first, index_failed, joined_at, joined_effect, joined_written}
+use Rattle.ub_writing.specs.Marks.{is_written}
 use Rattle.ub_tree.proofs.tree.Tree.join_at.Goals as goal
 
-pub returns-in_err-dropping-clause-effect : goal.returns-in_err-dropping-clause-effect
-returns-in_err-dropping-clause-effect g c =
-    searched_by c.from_residual.result c.in_err-dropping.field-0.0 c.args.self.now c.prepare_drop.new.self c.from_residual.ensures.1 c.in_err-dropping.ensures.effect
-
-pub rewrite-requires-clause-seat : goal.rewrite-requires-clause-seat
-rewrite-requires-clause-seat g c = same_there c.args.self.now c.prepare_drop.new.self c.args.seat.now c.in_ok-dropping.ensures.effect.same c.requires.seat
-
-pub forget-requires : goal.forget-requires
-forget-requires g c =
+pub returns-then-self-eq1-clause-effect : goal.returns-then-self-eq1-clause-effect
+returns-then-self-eq1-clause-effect g c =
     let a = c.args.self.now in
-    let lt = c.requires.next.0.within in
-    let long = length-map a.placed entry_of in
-    let count = c.rewrite.ensures.count in
-    let same = ap (λ (v : TreeView). length v.placed) c.in_ok-dropping.ensures.effect.same in
-    let after = c.requires.next.1 in
-    rw c.in_ok-dropping.ensures.dropping (omega arith, omega arith)
+    let one : region_count a ≡ 1 = sym (ap (λ (v : TreeView). region_count v) c.self.view_is) ∙ c.if-self-eq1.true in
+    rw c.uncounted.ensures.fault
+    (unchanged (Page 0 BadCount) a (alone_not_sound a c.args.seat.now c.args.next.now one c.requires.seat.seat_is c.requires.next.1, inr (inr (inl (refl, refl, inr (inr one)))), refl))
 
-pub returns-clause-written : goal.returns-clause-written
-returns-clause-written g c = λ stored.
-    let a = c.args.self.now in
-    let mid = c.rewrite.new.self in
-    let rows = c.args.rows.now in
-    let i = c.args.seat.now.index in
-    let lt = c.requires.seat.0.within in
-    let long = length-map a.placed entry_of in
-    let written = subst (λ (v : TreeView). IsStored v → (p : Placed) → slice_get v.placed i ≡ Some p → IsRegion v.schema (record { first = p.region.first; rows = rows })
-    → IsStored mid × (mid.placed ≡ placed_with i (record { page = p.page; region = record { first = p.region.first; rows = rows } } ∷ []) v.placed)) c.in_ok-dropping.ensures.effect.same c.in_ok-rewrite.ensures.written in
-    let index : c.in_ok-dropping.dropping.index ≡ i + 1 = ap (λ (d : DroppingView). d.index) c.in_ok-dropping.ensures.dropping ∙ c.requires.next.1 in
-    rewritten_joined a mid i rows (omega arith) c.forget.new.self (written stored)
-    (ap (λ (v : TreeView). v.placed) c.forget.ensures.same ∙ ap (λ (n : ℕ). remove mid.placed n) index) c.forget.ensures.stored
+pub prepare_drop-requires-clause-behind : goal.prepare_drop-requires-clause-behind
+prepare_drop-requires-clause-behind g c = behind_first c.args.self.now c.args.seat.now c.args.next.now c.requires.seat.seat_is c.requires.next.1
+
+pub prepare_drop-requires-clause-more : goal.prepare_drop-requires-clause-more
+prepare_drop-requires-clause-more g c = λ one. c.if-self-eq1.false (ap (λ (v : TreeView). region_count v) c.self.view_is ∙ one)
+
+pub returns-in_err-change-clause-effect : goal.returns-in_err-change-clause-effect
+returns-in_err-change-clause-effect g c =
+    ready_by c.from_residual.result c.in_err-change.field-0.0 c.args.self.now c.prepare_drop.new.self c.from_residual.ensures.1 c.in_err-change.ensures.effect
 
 pub returns-in_err-rewrite-clause-effect : goal.returns-in_err-rewrite-clause-effect
 returns-in_err-rewrite-clause-effect g c =
-    then_changed c.from_residual-in_err-rewrite.result c.args.self.now c.prepare_drop.new.self c.rewrite.new.self c.in_ok-dropping.ensures.effect.same
-    (changes_by c.from_residual-in_err-rewrite.result c.in_err-rewrite.field-0.0 c.args.seat.now.index c.prepare_drop.new.self c.rewrite.new.self c.from_residual-in_err-rewrite.ensures.1 c.in_err-rewrite.ensures.effect)
+    let b = c.prepare_drop.new.self in
+    let same = c.in_ok-change.ensures.effect.same in
+    let of = subst (λ (v : TreeView). IsSeatOf v c.args.seat.now) (sym same) c.requires.seat.seat_is in
+    then_changed c.from_residual-in_err-rewrite.result c.args.self.now b c.rewrite.new.self same
+    (changes_by b c.rewrite.new.self c.args.seat.now of c.from_residual-in_err-rewrite.result c.in_err-rewrite.field-0.0 c.from_residual-in_err-rewrite.ensures.1 c.in_err-rewrite.ensures.effect)
 
-pub returns-clause-effect : goal.returns-clause-effect
-returns-clause-effect g c =
-    let mid = c.rewrite.new.self in
-    then_changed (Ok tt) c.args.self.now c.prepare_drop.new.self c.forget.new.self c.in_ok-dropping.ensures.effect.same
-    (counted_anew {T = Unit {0}} {U = Unit {0}} tt tt c.prepare_drop.new.self mid c.forget.new.self c.forget.new.self.placed mid.rows mid.next
-    (c.forget.ensures.same ∙ ap (λ (ps : List Placed). record mid { placed = ps }) (sym (ap (λ (v : TreeView). v.placed) c.forget.ensures.same)))
-    (changed_by {T = Unit {0}} (Ok tt) c.args.seat.now.index c.prepare_drop.new.self mid c.in_ok-rewrite.ensures.effect))
+pub returns-in_err-put_index-clause-effect : goal.returns-in_err-put_index-clause-effect
+returns-in_err-put_index-clause-effect g c =
+    let b = c.prepare_drop.new.self in
+    let seat = c.args.seat.now in
+    let next = c.args.next.now in
+    let change = c.in_ok-change.change in
+    let same = c.in_ok-change.ensures.effect.same in
+    let there = subst (λ (v : TreeView). IsSeatThere v seat) (sym same) c.requires.seat in
+    let of_next = subst (λ (v : TreeView). IsSeatOf v next) (sym same) c.requires.next.0 in
+    let ready = subst (λ (v : TreeView). IsDropReady v next change) (sym same) c.in_ok-change.ensures.ready in
+    then_changed c.from_residual-in_err-put_index.result c.args.self.now b c.put_index.new.self same
+    (index_failed b c.rewrite.new.self c.put_index.new.self seat next change there of_next c.requires.next.1 ready c.in_ok-rewrite.ensures.same c.in_ok-rewrite.ensures.effect c.put_index.ensures.kept
+    c.from_residual-in_err-put_index.result c.in_err-put_index.field-0.0 c.from_residual-in_err-put_index.ensures.1 c.put_index.ensures.marked c.in_err-put_index.ensures.stopped.0 c.in_err-put_index.ensures.stopped.1)
 
 pub returns-clause-same : goal.returns-clause-same
 returns-clause-same g c =
-    joined_at c.args.seat.now.index c.args.self.now c.prepare_drop.new.self c.rewrite.new.self c.forget.new.self c.in_ok-dropping.dropping.index c.in_ok-dropping.ensures.effect.same
-    (ap (λ (d : DroppingView). d.index) c.in_ok-dropping.ensures.dropping ∙ c.requires.next.1)
-    c.in_ok-rewrite.ensures.same c.in_ok-rewrite.ensures.effect.entries c.in_ok-rewrite.ensures.effect.kept c.forget.ensures.same
+    let b = c.prepare_drop.new.self in
+    let seat = c.args.seat.now in
+    let next = c.args.next.now in
+    let change = c.in_ok-change.change in
+    let same = c.in_ok-change.ensures.effect.same in
+    let there = subst (λ (v : TreeView). IsSeatThere v seat) (sym same) c.requires.seat in
+    let of_next = subst (λ (v : TreeView). IsSeatOf v next) (sym same) c.requires.next.0 in
+    let ready = subst (λ (v : TreeView). IsDropReady v next change) (sym same) c.in_ok-change.ensures.ready in
+    let u = c.self-2.inside in
+    let d : TreeView = tree_view u.schema u.index (u.count - 1) u.next u.rows (is_written u.mark) u.is_failed u.pager in
+    let is = ap (λ (v : TreeView). record v { inner = record v.inner { count = v.inner.count - 1 } }) c.self-2.view_is in
+    let some : 1 ≤ region_count b = subst (λ (v : TreeView). 1 ≤ region_count v) (c.self.view_is ∙ sym same) c.self.invariant.some in
+    subst (λ (v : TreeView). JoinsAt seat v d) same
+    (joined_at b c.rewrite.new.self c.put_index.new.self seat next change there of_next c.requires.next.1 ready c.in_ok-rewrite.ensures.same c.in_ok-rewrite.ensures.effect c.put_index.ensures.kept
+    d c.in_ok-put_index.ensures.now is some)
 
-pub rewrite-requires-clause-region : goal.rewrite-requires-clause-region
-rewrite-requires-clause-region g c =
-    subst (λ (v : TreeView). IsRegion v.schema (record { first = c.args.seat.now.first; rows = c.args.rows.now })) (sym c.in_ok-dropping.ensures.effect.same) c.requires.region
+pub returns-clause-written : goal.returns-clause-written
+returns-clause-written g c = λ i stored at at_next each.
+    let a = c.args.self.now in
+    let b = c.prepare_drop.new.self in
+    let seat = c.args.seat.now in
+    let next = c.args.next.now in
+    let rows = c.args.rows.now in
+    let change = c.in_ok-change.change in
+    let same = c.in_ok-change.ensures.effect.same in
+    let there = subst (λ (v : TreeView). IsSeatThere v seat) (sym same) c.requires.seat in
+    let of_next = subst (λ (v : TreeView). IsSeatOf v next) (sym same) c.requires.next.0 in
+    let ready = subst (λ (v : TreeView). IsDropReady v next change) (sym same) c.in_ok-change.ensures.ready in
+    let u = c.self-2.inside in
+    let d : TreeView = tree_view u.schema u.index (u.count - 1) u.next u.rows (is_written u.mark) u.is_failed u.pager in
+    let is = ap (λ (v : TreeView). record v { inner = record v.inner { count = v.inner.count - 1 } }) c.self-2.view_is in
+    let viewed : b.placed ≡ placed_in b.schema b.inner.index b.store = subst (λ (v : TreeView). v.placed ≡ placed_in v.schema v.inner.index v.store) (c.self.view_is ∙ sym same) refl in
+    let stored_b = subst IsStored (sym same) stored in
+    let at_b = subst (λ (v : TreeView). IsSeatIn v i seat) (sym same) at in
+    let at_next_b = subst (λ (v : TreeView). IsSeatIn v (i + 1) next) (sym same) at_next in
+    let good = subst (λ (v : TreeView). IsRegion v.schema (record { first = seat.first; rows = rows })) (sym same) c.requires.region in
+    subst (λ (v : TreeView). IsStored d × (regions d ≡ put_rows i true rows (regions v))) same
+    (joined_written b c.rewrite.new.self c.put_index.new.self seat next change there of_next c.requires.next.1 ready c.in_ok-rewrite.ensures.same c.in_ok-rewrite.ensures.effect c.put_index.ensures.kept
+    d c.in_ok-put_index.ensures.now is i rows viewed refl c.in_ok-put_index.ensures.works stored_b at_b at_next_b good (c.in_ok-rewrite.ensures.written i stored_b at_b) c.in_ok-put_index.ensures.stand)
+
+pub returns-clause-effect : goal.returns-clause-effect
+returns-clause-effect g c =
+    let b = c.prepare_drop.new.self in
+    let seat = c.args.seat.now in
+    let next = c.args.next.now in
+    let change = c.in_ok-change.change in
+    let same = c.in_ok-change.ensures.effect.same in
+    let there = subst (λ (v : TreeView). IsSeatThere v seat) (sym same) c.requires.seat in
+    let of_next = subst (λ (v : TreeView). IsSeatOf v next) (sym same) c.requires.next.0 in
+    let ready = subst (λ (v : TreeView). IsDropReady v next change) (sym same) c.in_ok-change.ensures.ready in
+    let u = c.self-2.inside in
+    let d : TreeView = tree_view u.schema u.index (u.count - 1) u.next u.rows (is_written u.mark) u.is_failed u.pager in
+    let is = ap (λ (v : TreeView). record v { inner = record v.inner { count = v.inner.count - 1 } }) c.self-2.view_is in
+    then_changed (Ok tt) c.args.self.now b d same
+    (joined_effect b c.rewrite.new.self c.put_index.new.self seat next change there of_next c.requires.next.1 ready c.in_ok-rewrite.ensures.same c.in_ok-rewrite.ensures.effect c.put_index.ensures.kept
+    d c.in_ok-put_index.ensures.now is tt c.in_ok-put_index.ensures.works)

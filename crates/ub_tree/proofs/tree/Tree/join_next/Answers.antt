@@ -1,34 +1,31 @@
-use Rattle.std.proofs.Common.{◌≡◌, ◌+◌, ◌++◌, ◌∙◌, suc, ap, arith, length, map, subst, sym}
+use Rattle.std.proofs.Common.{◌≡◌, ◌+◌, ◌∙◌, suc, ap, arith, length, subst, sym}
 use Rattle.std.proofs.lemmas.Bool.{leb-true}
 use Rattle.std.proofs.lemmas.List.{length-map}
-use Rattle.ub_table.specs.Region.{IsRegion}
-use Rattle.ub_tree.proofs.CallFacts.{same_seat}
-use Rattle.ub_tree.proofs.RoomFacts.{next_region, viewed_places}
-use Rattle.ub_tree.proofs.ShrinkFacts.{join_last, joins_next, length-regions}
-use Rattle.ub_tree.proofs.TreeFacts.{seat_within}
-use Rattle.ub_tree.specs.inner.Change.{AreRowsAt}
+use Rattle.ub_tree.proofs.RoomFacts.{next_region, rows_on}
+use Rattle.ub_tree.proofs.RemovalFacts.{joins_next}
+use Rattle.ub_tree.proofs.ShrinkFacts.{join_last, length-regions}
 use Rattle.ub_tree.specs.Placed.{entry_of}
 use Rattle.ub_tree.specs.View.{TreeView, regions}
-use Rattle.ub_writing.specs.Marks.{is_written}
+use Rattle.ub_tree.specs.inner.Change.{IsOnSeat}
 use Rattle.ub_tree.proofs.tree.Tree.join_next.Goals.{then-join, else-join}
 use Rattle.ub_tree.proofs.tree.Tree.join_next.Goals as goal
 
 pub returns-in-None-clause-joined : goal.returns-in-None-clause-joined
-returns-in-None-clause-joined g c = λ honest.
+returns-in-None-clause-joined g c = λ i stored at.
     let a = c.args.self.now in
-    let last = rw c.in-None.is at c.in_ok-next.ensures.after in
+    let last = rw c.in-None.is at (c.in_ok-next.ensures.after i stored at) in
     let mapped = length-map a.placed entry_of in
-    let long : length a.placed ≡ suc c.args.seat.now.index = omega arith in
-    join_last a.schema.page_rows c.args.seat.now.index c.args.room.now.rows (regions a) (length-regions a.placed ∙ long)
+    let long : length a.placed ≡ suc i = omega arith in
+    join_last a.schema.page_rows i c.args.room.now.rows (regions a) (length-regions a.placed ∙ long)
 
 pub returns-clause-joined : goal.returns-clause-joined
-returns-clause-joined g c = λ honest.
+returns-clause-joined g c = λ i stored at.
     let a = c.args.self.now in
     let next = c.in-Some.next in
-    let stands = rw c.in-Some.is at c.in_ok-next.ensures.after in
+    let stands = rw c.in-Some.is at (c.in_ok-next.ensures.after i stored at) in
     let count = c.page_rows.ensures.page_rows ∙ ap (λ (v : TreeView). v.schema.page_rows) c.self.view_is in
-    let joined = joins_next a c.seat_after.new.self c.rows_at.new.self c.args.seat.now.index next.index c.args.room.now.rows c.join.new.self c.rows_at.new.rows c.join.result c.page_rows.result
-    c.in_ok-next.ensures.effect.same c.in_ok-rows_at.ensures.effect.same stands.1 (seat_within a.placed next stands.0) c.in_ok-rows_at.ensures.rows count c.join.ensures.fit c.join.ensures.rows honest in
+    let joined = joins_next a c.seat_after.new.self c.rows_at.new.self i next c.args.room.now.rows c.join.new.self c.rows_at.new.rows c.join.result c.page_rows.result
+    c.in_ok-next.ensures.effect.same c.in_ok-rows_at.ensures.effect.same stands c.in_ok-rows_at.ensures.rows count c.join.ensures.fit c.join.ensures.rows stored.honest in
     elim c.if-join.branch [
       | then-join w ↦ rw w.result-is (rw w.if-join.true at joined)
       | else-join w ↦ rw w.result-is (rw w.if-join.false at joined)
@@ -36,24 +33,23 @@ returns-clause-joined g c = λ honest.
 
 pub returns-clause-rows : goal.returns-clause-rows
 returns-clause-rows g c =
-    let t = c.self.inside in
     let a = c.args.self.now in
+    let s = c.seat_after.new.self in
     let m = c.rows_at.new.self in
     let seat = c.args.seat.now in
     let next = c.in-Some.next in
     let rows = c.args.room.now.rows in
     let more = c.rows_at.new.rows in
-    let same : m ≡ a = c.in_ok-rows_at.ensures.effect.same ∙ c.in_ok-next.ensures.effect.same in
-    let stands = rw c.in-Some.is at c.in_ok-next.ensures.after in
-    let count : c.page_rows.result ≡ m.schema.page_rows = c.page_rows.ensures.page_rows ∙ ap (λ (v : TreeView). v.schema.page_rows) c.self.view_is in
-    let places = viewed_places t.schema t.directory.entries t.directory.chain t.next t.rows (is_written t.mark) t.is_failed t.pager t.directory.last m c.self.view_is c.self.invariant.last_is c.self.invariant.places in
-    let read = subst (λ (v : TreeView). AreRowsAt v.schema (map entry_of v.placed) next.index more) (sym c.in_ok-rows_at.ensures.effect.same) c.in_ok-rows_at.ensures.at in
-    let had = subst (λ (v : TreeView). AreRowsAt v.schema (map entry_of v.placed) seat.index rows) (sym same) c.requires.rows in
-    let made = next_region m seat next rows more places (same_seat a m seat same c.requires.seat) (same_seat a m next same stands.0) stands.1 had read in
+    let one = c.in_ok-next.ensures.effect.same in
+    let two = c.in_ok-rows_at.ensures.effect.same in
+    let begins = rw c.in-Some.is at c.in_ok-next.ensures.begins in
+    let count : c.page_rows.result ≡ a.schema.page_rows = c.page_rows.ensures.page_rows ∙ ap (λ (v : TreeView). v.schema.page_rows) (c.self.view_is ∙ two ∙ one) in
+    let on = subst (λ (v : TreeView). IsOnSeat v next (record { first = next.first; rows = more })) one c.in_ok-rows_at.ensures.on in
+    let made = next_region a c.requires.seat.0 seat next rows more c.requires.seat.1 begins c.requires.rows (rows_on a next (record { first = next.first; rows = more }) on) in
     elim c.if-join.branch [
       | then-join w ↦
           let fit = leb-true (length rows + length more) c.page_rows.result (sym c.join.ensures.fit ∙ w.if-join.true) in
           let good = made (omega arith) in
-          rw w.result-is (rw (rw w.if-join.true at c.join.ensures.rows) (subst (λ (v : TreeView). IsRegion v.schema (record { first = seat.first; rows = rows ++ more })) same good))
+          rw w.result-is (rw (rw w.if-join.true at c.join.ensures.rows) good)
       | else-join w ↦ rw w.result-is (rw w.if-join.false at c.join.ensures.rows)
     ]

@@ -2,7 +2,7 @@ use Rattle.std.proofs.Common.{subst, sym}
 use Rattle.ub_store.specs.Facts.{IsHonest}
 use Rattle.ub_tree.specs.Holding.{AnswersRemoval}
 use Rattle.ub_tree.specs.View.{TreeView}
-use Rattle.ub_tree.proofs.WriteFacts.{searched_by}
+use Rattle.ub_tree.proofs.EffectFacts.{searched_by}
 use Rattle.ub_tree.proofs.tree.Tree.remove.Goals as goal
 
 pub returns-in_err-room-clause-effect : goal.returns-in_err-room-clause-effect

@@ -1,22 +1,17 @@
-use Rattle.std.proofs.Common.{◌≡◌, ◌<◌, ◌-◌, ◌^◌, ◌∙◌, ap, sym, subst, length, arith, true, false, refl, inl, inr, map, Ok, Err, Bool, ℕ, Some, slice_get}
+use Rattle.std.proofs.Common.{◌≡◌, ◌<◌, ◌-◌, ◌^◌, ◌∙◌, ap, sym, subst, arith, true, false, refl, inl, inr, Ok, Err, Bool, ℕ}
 use Rattle.ub_region.specs.Rows.{has_key, remove_row}
 use Rattle.ub_table.specs.declared.fault.PageFault.TheVariants.{BadCount}
 use Rattle.ub_tree.specs.declared.fault.TreeFault.TheVariants.{Page}
 use Rattle.ub_tree.specs.Effects.{Changes}
-use Rattle.ub_store.specs.Facts.{IsHonest}
-use Rattle.ub_tree.proofs.RoomFacts.{rows_without}
-use Rattle.ub_tree.specs.inner.Change.{AreRowsAt}
-use Rattle.ub_tree.specs.Placed.{Placed, entry_of}
-use Rattle.ub_tree.specs.Tree.{known_pages, tree_view}
-use Rattle.ub_tree.specs.View.{TreeView}
-use Rattle.ub_tree.proofs.ShrinkFacts.{holder, none_removed, some_counted, shrunk}
-use Rattle.ub_tree.specs.Others.{ShrinksAt}
-use Rattle.ub_tree.proofs.ChangedFacts.{shrinks_by}
-use Rattle.ub_tree.proofs.CallFacts.{same_seat, same_there}
+use Rattle.ub_tree.specs.Tree.{tree_view}
+use Rattle.ub_tree.specs.View.{TreeView, region_count}
+use Rattle.ub_tree.specs.inner.Change.{IsOnSeat, IsSeatOf, IsSeatThere}
+use Rattle.ub_tree.proofs.EffectFacts.{counted_anew, left_by, nothing_changed, searched_by, then_changed, unchanged}
 use Rattle.ub_tree.proofs.HoldingFacts.{no_answer, removal_answers, removal_fault, unread_removal}
-use Rattle.ub_tree.proofs.TreeFacts.{length-placed}
-use Rattle.ub_tree.proofs.WriteFacts.{counted_anew, left_by, nothing_changed, searched_by, then_changed, unchanged}
+use Rattle.ub_tree.proofs.RemovalFacts.{holder, none_removed, read_there, searched_removal, shrinks_by, shrunk, some_counted, unled_removal}
+use Rattle.ub_tree.proofs.RoomFacts.{rows_on, rows_without}
 use Rattle.ub_writing.specs.Marks.{is_written}
+use Rattle.ub_zaddr.specs.Address.{last_address}
 use Rattle.ub_tree.proofs.tree.Tree.remove_within.Goals as goal
 
 pub returns-then-not-remove-clause-removed : goal.returns-then-not-remove-clause-removed
@@ -24,39 +19,54 @@ returns-then-not-remove-clause-removed g c =
     let a = c.args.self.now in
     let b = c.rows_at.new.self in
     let key = c.args.key.now in
+    let seat = c.in_ok-seat.seat in
     let rows = c.rows_at.new.rows in
     let same : b ≡ a = c.in_ok-rows_at.ensures.effect.same ∙ c.in_ok-seat.ensures.effect.same in
-    let read = subst (λ (v : TreeView). IsHonest v.store → (p : Placed) → slice_get v.placed c.in_ok-seat.seat.index ≡ Some p → rows ≡ p.region.rows) c.in_ok-seat.ensures.effect.same c.in_ok-rows_at.ensures.rows in
-    let held = holder a key c.in_ok-seat.seat rows c.in_ok-seat.ensures.seat c.in_ok-seat.ensures.index read in
+    let held = holder a c.seat_of.new.self key seat rows c.in_ok-seat.ensures.effect.same c.in_ok-seat.ensures.seat c.in_ok-rows_at.ensures.rows in
     let dims : c.shape.result ≡ a.schema.dims = c.shape.ensures ∙ ap (λ (v : TreeView). v.schema.dims) (c.self.view_is ∙ same) in
     let found : has_key a.schema.dims key rows ≡ false = rw (← dims) (sym c.remove.ensures.found ∙ c.if-not-remove.true) in
-    none_removed a b key c.in_ok-seat.seat.index rows held same found
+    none_removed a b key seat rows held same found
 
 pub returns-then-self-eq0-clause-effect : goal.returns-then-self-eq0-clause-effect
 returns-then-self-eq0-clause-effect g c =
     let a = c.args.self.now in
     let b = c.rows_at.new.self in
     let key = c.args.key.now in
+    let seat = c.in_ok-seat.seat in
     let rows = c.rows_at.new.rows in
     let same : b ≡ a = c.in_ok-rows_at.ensures.effect.same ∙ c.in_ok-seat.ensures.effect.same in
-    let read = subst (λ (v : TreeView). IsHonest v.store → (p : Placed) → slice_get v.placed c.in_ok-seat.seat.index ≡ Some p → rows ≡ p.region.rows) c.in_ok-seat.ensures.effect.same c.in_ok-rows_at.ensures.rows in
-    let held = holder a key c.in_ok-seat.seat rows c.in_ok-seat.ensures.seat c.in_ok-seat.ensures.index read in
+    let held = holder a c.seat_of.new.self key seat rows c.in_ok-seat.ensures.effect.same c.in_ok-seat.ensures.seat c.in_ok-rows_at.ensures.rows in
     let dims : c.shape.result ≡ a.schema.dims = c.shape.ensures ∙ ap (λ (v : TreeView). v.schema.dims) (c.self.view_is ∙ same) in
     let found : has_key a.schema.dims key rows ≡ true = rw (← dims) (sym c.remove.ensures.found ∙ c.if-not-remove.false) in
     let none : a.rows ≡ 0 = sym (ap (λ (v : TreeView). v.rows) (c.self.view_is ∙ same)) ∙ c.if-self-eq0.true in
-    subst (λ (v : TreeView). Changes {A = Bool} a v _) (sym same) (unchanged (Page 0 BadCount) a (some_counted a key c.in_ok-seat.seat.index rows held found none, inr (inl (refl, refl, inl none)), refl))
+    subst (λ (v : TreeView). Changes {A = Bool} a v _) (sym same) (unchanged (Page 0 BadCount) a (some_counted a key seat rows held found none, inr (inr (inl (refl, refl, inl none))), refl))
 
 pub returns-in_err-seat-clause-effect : goal.returns-in_err-seat-clause-effect
 returns-in_err-seat-clause-effect g c =
     searched_by c.from_residual.result c.in_err-seat.field-0.0 c.args.self.now c.seat_of.new.self c.from_residual.ensures.1 c.in_err-seat.ensures.effect
 
+pub returns-in_err-seat-clause-refused : goal.returns-in_err-seat-clause-refused
+returns-in_err-seat-clause-refused g c =
+    unled_removal c.args.self.now c.args.key.now c.from_residual.result c.in_err-seat.field-0.0 c.from_residual.ensures.1 c.in_err-seat.ensures.led
+
 pub rows_at-requires : goal.rows_at-requires
-rows_at-requires g c = same_seat c.args.self.now c.seat_of.new.self c.in_ok-seat.seat c.in_ok-seat.ensures.effect.same c.in_ok-seat.ensures.seat
+rows_at-requires g c = subst (λ (v : TreeView). IsSeatOf v c.in_ok-seat.seat) (sym c.in_ok-seat.ensures.effect.same) (c.args.key.now, c.in_ok-seat.ensures.falls)
 
 pub settle-requires-clause-seat : goal.settle-requires-clause-seat
 settle-requires-clause-seat g c =
-    same_there c.seat_of.new.self c.rows_at.new.self c.in_ok-seat.seat c.in_ok-rows_at.ensures.effect.same
-    (same_seat c.args.self.now c.seat_of.new.self c.in_ok-seat.seat c.in_ok-seat.ensures.effect.same c.in_ok-seat.ensures.seat, c.in_ok-rows_at.ensures.there)
+    subst (λ (v : TreeView). IsSeatThere v c.in_ok-seat.seat) (sym c.in_ok-rows_at.ensures.effect.same)
+    (read_there c.args.self.now c.seat_of.new.self c.args.key.now c.in_ok-seat.seat c.rows_at.new.rows c.in_ok-seat.ensures.effect.same c.in_ok-seat.ensures.falls c.in_ok-rows_at.ensures.there
+    c.in_ok-rows_at.ensures.on)
+
+pub settle-requires-clause-rows : goal.settle-requires-clause-rows
+settle-requires-clause-rows g c =
+    let s = c.seat_of.new.self in
+    let b = c.rows_at.new.self in
+    let seat = c.in_ok-seat.seat in
+    let dims : c.shape.result ≡ b.schema.dims = c.shape.ensures ∙ ap (λ (v : TreeView). v.schema.dims) c.self.view_is in
+    let on = subst (λ (v : TreeView). IsOnSeat v seat (record { first = seat.first; rows = c.rows_at.new.rows })) (sym c.in_ok-rows_at.ensures.effect.same) c.in_ok-rows_at.ensures.on in
+    let are = rows_on b seat (record { first = seat.first; rows = c.rows_at.new.rows }) on in
+    rw (c.remove.ensures.rows, dims) (rows_without b.schema seat.first seat.next c.args.key.now c.rows_at.new.rows are)
 
 pub returns-in_err-rows_at-clause-effect : goal.returns-in_err-rows_at-clause-effect
 returns-in_err-rows_at-clause-effect g c =
@@ -75,41 +85,34 @@ pub returns-clause-effect : goal.returns-clause-effect
 returns-clause-effect g c =
     let u = c.self-2.inside in
     let mid = c.settle.new.self in
-    let d : TreeView = tree_view u.schema u.directory.entries u.directory.chain u.next (u.rows - 1) (is_written u.mark) u.is_failed u.pager in
-    counted_anew {T = Unit {0}} {U = Bool} tt _ c.args.self.now mid d mid.placed (mid.rows - 1) mid.next (ap (λ (v : TreeView). record v { rows = v.rows - 1 }) c.self-2.view_is)
+    let d : TreeView = tree_view u.schema u.index u.count u.next (u.rows - 1) (is_written u.mark) u.is_failed u.pager in
+    counted_anew {T = Unit {0}} {U = Bool} tt _ c.args.self.now mid d (mid.rows - 1) mid.next (ap (λ (v : TreeView). record v { rows = v.rows - 1 }) c.self-2.view_is)
     (then_changed {T = Unit {0}} _ c.args.self.now c.rows_at.new.self mid (c.in_ok-rows_at.ensures.effect.same ∙ c.in_ok-seat.ensures.effect.same) c.in_ok-settle.ensures.effect)
-
-pub settle-requires-clause-rows : goal.settle-requires-clause-rows
-settle-requires-clause-rows g c =
-    let b = c.rows_at.new.self in
-    let dims : c.shape.result ≡ b.schema.dims = c.shape.ensures ∙ ap (λ (v : TreeView). v.schema.dims) c.self.view_is in
-    let are = subst (λ (v : TreeView). AreRowsAt v.schema (map entry_of v.placed) c.in_ok-seat.seat.index c.rows_at.new.rows) (sym c.in_ok-rows_at.ensures.effect.same) c.in_ok-rows_at.ensures.at in
-    rw (c.remove.ensures.rows, dims) (rows_without b.schema (map entry_of b.placed) c.in_ok-seat.seat.index c.args.key.now c.rows_at.new.rows are)
 
 pub returns-clause-removed : goal.returns-clause-removed
 returns-clause-removed g c =
     let a = c.args.self.now in
     let b = c.rows_at.new.self in
     let key = c.args.key.now in
+    let seat = c.in_ok-seat.seat in
     let rows = c.rows_at.new.rows in
     let same : b ≡ a = c.in_ok-rows_at.ensures.effect.same ∙ c.in_ok-seat.ensures.effect.same in
-    let read = subst (λ (v : TreeView). IsHonest v.store → (p : Placed) → slice_get v.placed c.in_ok-seat.seat.index ≡ Some p → rows ≡ p.region.rows) c.in_ok-seat.ensures.effect.same c.in_ok-rows_at.ensures.rows in
-    let held = holder a key c.in_ok-seat.seat rows c.in_ok-seat.ensures.seat c.in_ok-seat.ensures.index read in
+    let held = holder a c.seat_of.new.self key seat rows c.in_ok-seat.ensures.effect.same c.in_ok-seat.ensures.seat c.in_ok-rows_at.ensures.rows in
     let dims_b : c.shape.result ≡ b.schema.dims = c.shape.ensures ∙ ap (λ (v : TreeView). v.schema.dims) c.self.view_is in
     let dims : c.shape.result ≡ a.schema.dims = c.shape.ensures ∙ ap (λ (v : TreeView). v.schema.dims) (c.self.view_is ∙ same) in
     let found : has_key a.schema.dims key rows ≡ true = rw (← dims) (sym c.remove.ensures.found ∙ c.if-not-remove.false) in
     let left : c.remove.new.self ≡ remove_row b.schema.dims key rows = c.remove.ensures.rows ∙ ap (λ (d : ℕ). remove_row d key rows) dims_b in
     let after = c.settle.new.self in
     let u = c.self-2.inside in
-    let d : TreeView = tree_view u.schema u.directory.entries u.directory.chain u.next (u.rows - 1) (is_written u.mark) u.is_failed u.pager in
-    let few : length after.placed < 2 ^ 32 = (let most = c.self-2.invariant.few in subst (λ (v : TreeView). length v.placed < 2 ^ 32) c.self-2.view_is
-    (let long = length-placed u.schema (known_pages u.pager.store) u.directory.entries in omega arith)) in
-    shrunk a b after d key c.in_ok-seat.seat.index rows held same found c.in_ok-settle.ensures.same.same c.in_ok-settle.ensures.effect.marked.marked few
+    let d : TreeView = tree_view u.schema u.index u.count u.next (u.rows - 1) (is_written u.mark) u.is_failed u.pager in
+    let last = subst (λ (v : TreeView). v.inner.index.last ≡ last_address v.schema.dims) c.self-2.view_is c.self-2.invariant.last_is in
+    let few = subst (λ (v : TreeView). region_count v < 2 ^ 32) c.self-2.view_is c.self-2.invariant.few in
+    shrunk a b after d key seat rows held same found c.in_ok-settle.ensures.same.same c.in_ok-settle.ensures.effect.marked.marked last few
     (ap (λ (v : TreeView). record v { rows = v.rows - 1 }) c.self-2.view_is) (rw left at c.in_ok-settle.ensures.written)
 
 pub returns-in_err-rows_at-clause-refused : goal.returns-in_err-rows_at-clause-refused
 returns-in_err-rows_at-clause-refused g c =
-    unread_removal c.args.self.now c.seat_of.new.self c.args.key.now c.in_ok-seat.seat c.in_ok-seat.ensures.effect.same c.in_ok-seat.ensures.seat c.in_ok-seat.ensures.index
+    unread_removal c.args.self.now c.seat_of.new.self c.args.key.now c.in_ok-seat.seat c.in_ok-seat.ensures.effect.same c.in_ok-seat.ensures.falls
     c.from_residual-in_err-rows_at.result c.in_err-rows_at.field-0.0 c.from_residual-in_err-rows_at.ensures.1 c.in_err-rows_at.ensures.taken
 
 pub returns-then-not-remove-clause-refused : goal.returns-then-not-remove-clause-refused
@@ -119,7 +122,7 @@ returns-then-not-remove-clause-refused g c =
     let rows = c.rows_at.new.rows in
     let dims : c.shape.result ≡ a.schema.dims = c.shape.ensures ∙ ap (λ (v : TreeView). v.schema.dims) (c.self.view_is ∙ same) in
     let found : has_key a.schema.dims c.args.key.now rows ≡ false = rw (← dims) (sym c.remove.ensures.found ∙ c.if-not-remove.true) in
-    removal_answers a c.seat_of.new.self c.args.key.now c.in_ok-seat.seat c.in_ok-seat.ensures.effect.same c.in_ok-seat.ensures.seat c.in_ok-seat.ensures.index rows c.in_ok-rows_at.ensures.taken
+    removal_answers a c.seat_of.new.self c.args.key.now c.in_ok-seat.seat c.in_ok-seat.ensures.effect.same c.in_ok-seat.ensures.falls rows c.in_ok-rows_at.ensures.taken
     (Ok false) (λ has zero. absurd (let bad : true ≡ false = sym has ∙ found in cc)) (λ free. tt) (sym found)
 
 pub returns-then-self-eq0-clause-refused : goal.returns-then-self-eq0-clause-refused
@@ -129,7 +132,7 @@ returns-then-self-eq0-clause-refused g c =
     let rows = c.rows_at.new.rows in
     let dims : c.shape.result ≡ a.schema.dims = c.shape.ensures ∙ ap (λ (v : TreeView). v.schema.dims) (c.self.view_is ∙ same) in
     let found : has_key a.schema.dims c.args.key.now rows ≡ true = rw (← dims) (sym c.remove.ensures.found ∙ c.if-not-remove.false) in
-    removal_answers a c.seat_of.new.self c.args.key.now c.in_ok-seat.seat c.in_ok-seat.ensures.effect.same c.in_ok-seat.ensures.seat c.in_ok-seat.ensures.index rows c.in_ok-rows_at.ensures.taken
+    removal_answers a c.seat_of.new.self c.args.key.now c.in_ok-seat.seat c.in_ok-seat.ensures.effect.same c.in_ok-seat.ensures.falls rows c.in_ok-rows_at.ensures.taken
     (Err (Page 0 BadCount)) (λ has zero. refl) (λ free. absurd (let bad : true ≡ false = sym found ∙ free in cc)) tt
 
 pub returns-in_err-settle-clause-refused : goal.returns-in_err-settle-clause-refused
@@ -141,7 +144,7 @@ returns-in_err-settle-clause-refused g c =
     let some = c.if-self-eq0.false in
     let counts = ap (λ (v : TreeView). v.rows) (c.self.view_is ∙ same) in
     let found : has_key a.schema.dims c.args.key.now rows ≡ true = rw (← dims) (sym c.remove.ensures.found ∙ c.if-not-remove.false) in
-    removal_answers a c.seat_of.new.self c.args.key.now c.in_ok-seat.seat c.in_ok-seat.ensures.effect.same c.in_ok-seat.ensures.seat c.in_ok-seat.ensures.index rows c.in_ok-rows_at.ensures.taken
+    removal_answers a c.seat_of.new.self c.args.key.now c.in_ok-seat.seat c.in_ok-seat.ensures.effect.same c.in_ok-seat.ensures.falls rows c.in_ok-rows_at.ensures.taken
     c.from_residual-in_err-settle.result (λ has zero. absurd (omega arith)) (λ free. absurd (let bad : true ≡ false = sym found ∙ free in cc))
     (no_answer c.from_residual-in_err-settle.result c.in_err-settle.field-0.0 _ c.from_residual-in_err-settle.ensures.1)
 
@@ -154,7 +157,7 @@ returns-clause-refused g c =
     let some = c.if-self-eq0.false in
     let counts = ap (λ (v : TreeView). v.rows) (c.self.view_is ∙ same) in
     let found : has_key a.schema.dims c.args.key.now rows ≡ true = rw (← dims) (sym c.remove.ensures.found ∙ c.if-not-remove.false) in
-    removal_answers a c.seat_of.new.self c.args.key.now c.in_ok-seat.seat c.in_ok-seat.ensures.effect.same c.in_ok-seat.ensures.seat c.in_ok-seat.ensures.index rows c.in_ok-rows_at.ensures.taken
+    removal_answers a c.seat_of.new.self c.args.key.now c.in_ok-seat.seat c.in_ok-seat.ensures.effect.same c.in_ok-seat.ensures.falls rows c.in_ok-rows_at.ensures.taken
     (Ok true) (λ has zero. absurd (omega arith)) (λ free. tt) (sym found)
 
 pub returns-clause-counted : goal.returns-clause-counted
@@ -163,18 +166,23 @@ returns-clause-counted g c = λ _.
     let same : c.rows_at.new.self ≡ a = c.in_ok-rows_at.ensures.effect.same ∙ c.in_ok-seat.ensures.effect.same in
     let after = c.settle.new.self in
     let u = c.self-2.inside in
-    let d : TreeView = tree_view u.schema u.directory.entries u.directory.chain u.next (u.rows - 1) (is_written u.mark) u.is_failed u.pager in
-    let shrinks = shrinks_by a c.rows_at.new.self after d same (ap (λ (v : TreeView). v.placed) c.self-2.view_is) (ap (λ (v : TreeView). v.store) c.self-2.view_is) c.in_ok-seat.seat.index c.in_ok-settle.ensures.same.shrunk in
+    let d : TreeView = tree_view u.schema u.index u.count u.next (u.rows - 1) (is_written u.mark) u.is_failed u.pager in
     let stored = c.in_ok-settle.ensures.same.same in
     let rows : u.rows ≡ a.rows = ap (λ (v : TreeView). v.rows) c.self-2.view_is ∙ ap (λ (v : TreeView). v.rows) stored ∙ ap (λ (v : TreeView). v.rows) same in
     let some = c.if-self-eq0.false in
     let counts = ap (λ (v : TreeView). v.rows) (c.self.view_is ∙ same) in (
       ap (λ (v : TreeView). v.next) c.self-2.view_is ∙ ap (λ (v : TreeView). v.next) stored ∙ ap (λ (v : TreeView). v.next) same,
       omega arith,
-      subst (λ (i : ℕ). ShrinksAt i a d) c.in_ok-seat.ensures.index shrinks,
+      shrinks_by a c.rows_at.new.self after d c.args.key.now c.in_ok-seat.seat (after.rows - 1) same (ap (λ (v : TreeView). record v { rows = v.rows - 1 }) c.self-2.view_is) c.in_ok-seat.ensures.falls
+          c.in_ok-settle.ensures.same,
     )
 
 pub returns-in_err-settle-clause-faults : goal.returns-in_err-settle-clause-faults
 returns-in_err-settle-clause-faults g c =
     removal_fault c.from_residual-in_err-settle.result c.in_err-settle.field-0.0 c.args.self.now c.rows_at.new.self c.from_residual-in_err-settle.ensures.1
     (c.in_ok-rows_at.ensures.effect.same ∙ c.in_ok-seat.ensures.effect.same) c.in_err-settle.ensures.faults
+
+pub returns-in_err-rows_at-clause-faults : goal.returns-in_err-rows_at-clause-faults
+returns-in_err-rows_at-clause-faults g c =
+    searched_removal c.from_residual-in_err-rows_at.result c.in_err-rows_at.field-0.0 c.args.self.now c.seat_of.new.self c.from_residual-in_err-rows_at.ensures.1
+    c.in_ok-seat.ensures.effect.same c.in_err-rows_at.ensures.effect.faults

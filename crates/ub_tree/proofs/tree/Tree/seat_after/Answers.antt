@@ -1,29 +1,33 @@
-use Rattle.std.proofs.Common.{List, Option, subst, sym}
-use Rattle.ub_directory.specs.Spans.{IsSeatAfter}
-use Rattle.ub_directory.specs.View.{SeatView}
-use Rattle.ub_page.specs.declared.entries.Entry.{Entry}
-use Rattle.ub_tree.proofs.CallFacts.{entries_are, seated, searched_there, search_refused}
+use Rattle.std.proofs.Common.{◌<◌, ◌^◌, inl, inr, Option, subst, sym}
+use Rattle.ub_index.specs.declared.seat.Seat.{Seat}
+use Rattle.ub_tree.proofs.CallFacts.{last_small}
+use Rattle.ub_tree.proofs.NeighbourFacts.{given_next, next_begins, search_apart}
+use Rattle.ub_tree.proofs.SearchFacts.{search_refused}
+use Rattle.ub_tree.specs.Told.{HasOverlap}
+use Rattle.ub_tree.specs.Tree.{tree_view}
+use Rattle.ub_tree.specs.View.{TreeView}
+use Rattle.ub_tree.specs.inner.Change.{IsSeatOf}
 use Rattle.ub_writing.specs.Marks.{is_written}
 use Rattle.ub_tree.proofs.tree.Tree.seat_after.Goals as goal
 
-pub after-requires : goal.after-requires
-after-requires g c =
+pub returns-in_err-next-clause-effect : goal.returns-in_err-next-clause-effect
+returns-in_err-next-clause-effect g c =
     let t = c.self.inside in
-    seated t.schema t.directory.entries t.directory.chain t.next t.rows (is_written t.mark) t.is_failed t.pager c.args.self.now c.args.seat.now c.self.view_is c.requires
+    let small = subst (λ n. n < 2 ^ 128) (sym c.self.invariant.last_is) (last_small t.schema.dims t.schema.counts.few_dims) in
+    rw (← c.self.view_is) (search_refused t.schema t.index t.count t.next t.rows (is_written t.mark) t.is_failed t.pager c.after.new.pager _ (Option Seat) c.from_residual.result c.in_err-next.field-0.0 small
+    c.from_residual.ensures.1 c.in_err-next.ensures.effect)
 
-pub returns-clause-after : goal.returns-clause-after
-returns-clause-after g c =
+pub returns-else-begins_at-clause-effect : goal.returns-else-begins_at-clause-effect
+returns-else-begins_at-clause-effect g c =
     let t = c.self.inside in
-    let same = entries_are t.schema t.directory.entries t.directory.chain t.next t.rows (is_written t.mark) t.is_failed t.pager c.args.self.now c.self.view_is in
-    subst (λ (es : List Entry). IsSeatAfter es c.args.seat.now c.in_ok-after.after) (sym same) c.in_ok-after.ensures.after
-
-pub returns-in_err-after-clause-effect : goal.returns-in_err-after-clause-effect
-returns-in_err-after-clause-effect g c =
-    let t = c.self.inside in
-    rw (← c.self.view_is) (search_refused t.schema t.directory.entries t.directory.chain t.next t.rows (is_written t.mark) t.is_failed t.pager c.after.new.pager (Option SeatView) c.from_residual.result c.in_err-after.field-0.0
-    c.from_residual.ensures.1 c.in_err-after.ensures.effect)
-
-pub returns-clause-effect : goal.returns-clause-effect
-returns-clause-effect g c =
-    let t = c.self.inside in
-    rw (← c.self.view_is) (searched_there t.schema t.directory.entries t.directory.chain t.next t.rows (is_written t.mark) t.is_failed t.pager c.after.new.pager (Option SeatView) _ c.in_ok-after.after c.in_ok-after.ensures.effect)
+    let small = subst (λ n. n < 2 ^ 128) (sym c.self.invariant.last_is) (last_small t.schema.dims t.schema.counts.few_dims) in
+    let v : TreeView = tree_view t.schema t.index t.count t.next t.rows (is_written t.mark) t.is_failed t.pager in
+    let told = subst (λ (x : TreeView). IsSeatOf x c.args.seat.now) (sym c.self.view_is) c.requires in
+    let given = given_next v t.pager.cached c.args.seat.now.next c.in-Some.next (rw c.in-Some.is at c.in_ok-next.ensures.given) in
+    let over : HasOverlap v =
+    elim (next_begins v told.0 given.0 c.args.seat.now c.in-Some.next told.1 given.1 given.2) [
+      | inl same ↦ let no = c.if-begins_at.ensures.1 same in cc
+      | inr over ↦ over
+    ] in
+    rw (← c.self.view_is) (search_apart t.schema t.index t.count t.next t.rows (is_written t.mark) t.is_failed t.pager c.after.new.pager _ (Option Seat) c.in_ok-next.field-0 c.apart.result
+    c.in_ok-next.ensures.effect c.apart.ensures small over)

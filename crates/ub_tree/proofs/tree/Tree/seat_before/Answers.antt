@@ -1,29 +1,38 @@
-use Rattle.std.proofs.Common.{List, Option, subst, sym}
-use Rattle.ub_directory.specs.Spans.{IsSeatBefore}
-use Rattle.ub_directory.specs.View.{SeatView}
-use Rattle.ub_page.specs.declared.entries.Entry.{Entry}
-use Rattle.ub_tree.proofs.CallFacts.{entries_are, seated, searched_there, search_refused}
+use Rattle.std.proofs.Common.{◌<◌, ◌^◌, inl, inr, Option, subst, sym}
+use Rattle.ub_index.specs.Searching.{key_before}
+use Rattle.ub_index.specs.declared.seat.Seat.{Seat}
+use Rattle.ub_table.specs.declared.row.Key.{Key}
+use Rattle.ub_tree.proofs.CallFacts.{last_small}
+use Rattle.ub_tree.proofs.NeighbourFacts.{before_ends, few_of, given_next, search_apart}
+use Rattle.ub_tree.proofs.SearchFacts.{search_refused}
+use Rattle.ub_tree.specs.Told.{HasOverlap}
+use Rattle.ub_tree.specs.Tree.{tree_view}
+use Rattle.ub_tree.specs.View.{TreeView}
+use Rattle.ub_tree.specs.inner.Change.{IsSeatOf}
 use Rattle.ub_writing.specs.Marks.{is_written}
 use Rattle.ub_tree.proofs.tree.Tree.seat_before.Goals as goal
-
-pub before-requires : goal.before-requires
-before-requires g c =
-    let t = c.self.inside in
-    seated t.schema t.directory.entries t.directory.chain t.next t.rows (is_written t.mark) t.is_failed t.pager c.args.self.now c.args.seat.now c.self.view_is c.requires
-
-pub returns-clause-before : goal.returns-clause-before
-returns-clause-before g c =
-    let t = c.self.inside in
-    let same = entries_are t.schema t.directory.entries t.directory.chain t.next t.rows (is_written t.mark) t.is_failed t.pager c.args.self.now c.self.view_is in
-    subst (λ (es : List Entry). IsSeatBefore es c.args.seat.now c.in_ok-before.before) (sym same) c.in_ok-before.ensures.before
 
 pub returns-in_err-before-clause-effect : goal.returns-in_err-before-clause-effect
 returns-in_err-before-clause-effect g c =
     let t = c.self.inside in
-    rw (← c.self.view_is) (search_refused t.schema t.directory.entries t.directory.chain t.next t.rows (is_written t.mark) t.is_failed t.pager c.before-2.new.pager (Option SeatView) c.from_residual.result c.in_err-before.field-0.0
+    let small = subst (λ n. n < 2 ^ 128) (sym c.self.invariant.last_is) (last_small t.schema.dims t.schema.counts.few_dims) in
+    rw (← c.self.view_is) (search_refused t.schema t.index t.count t.next t.rows (is_written t.mark) t.is_failed t.pager c.before-2.new.pager _ (Option Seat) c.from_residual.result c.in_err-before.field-0.0 small
     c.from_residual.ensures.1 c.in_err-before.ensures.effect)
 
-pub returns-clause-effect : goal.returns-clause-effect
-returns-clause-effect g c =
+pub returns-else-begins_at-clause-effect : goal.returns-else-begins_at-clause-effect
+returns-else-begins_at-clause-effect g c =
     let t = c.self.inside in
-    rw (← c.self.view_is) (searched_there t.schema t.directory.entries t.directory.chain t.next t.rows (is_written t.mark) t.is_failed t.pager c.before-2.new.pager (Option SeatView) _ c.in_ok-before.before c.in_ok-before.ensures.effect)
+    let seat = c.args.seat.now in
+    let before = c.in-Some.before in
+    let small = subst (λ n. n < 2 ^ 128) (sym c.self.invariant.last_is) (last_small t.schema.dims t.schema.counts.few_dims) in
+    let v : TreeView = tree_view t.schema t.index t.count t.next t.rows (is_written t.mark) t.is_failed t.pager in
+    let told = subst (λ (x : TreeView). IsSeatOf x seat) (sym c.self.view_is) c.requires in
+    let given = given_next v t.pager.cached (key_before seat.first.z seat.first.number) before (rw c.in-Some.is at c.in_ok-before.ensures.given) in
+    let few = few_of (λ (k : Key). k.number) before.next c.number_in-number.result c.number_in-number.type_inv c.number_in-number.ensures in
+    let over : HasOverlap v =
+    elim (before_ends v told.0 given.0 seat before told.1 given.1 given.2 few) [
+      | inl same ↦ let no = c.if-begins_at.ensures.1 same in cc
+      | inr over ↦ over
+    ] in
+    rw (← c.self.view_is) (search_apart t.schema t.index t.count t.next t.rows (is_written t.mark) t.is_failed t.pager c.before-2.new.pager _ (Option Seat) c.in_ok-before.field-0 c.apart.result
+    c.in_ok-before.ensures.effect c.apart.ensures small over)

@@ -1,32 +1,52 @@
-use Rattle.std.proofs.Common.{◌≡◌, List, subst, sym}
-use Rattle.ub_directory.specs.Spans.{IsSeat}
-use Rattle.ub_directory.specs.View.{SeatView}
+use Rattle.std.proofs.Common.{◌≡◌, ◌<◌, ◌^◌, List, subst, sym}
+use Rattle.ub_index.specs.Searching.{Gives, IsWayFault}
+use Rattle.ub_index.specs.View.{IsIndexOn, IsSeatAt, entries_in}
+use Rattle.ub_index.specs.declared.seat.Seat.{Seat}
 use Rattle.ub_page.specs.declared.entries.Entry.{Entry}
 use Rattle.ub_region.specs.Regions.{index_holding}
-use Rattle.ub_tree.proofs.CallFacts.{entries_are, searched_there, search_refused}
+use Rattle.ub_tree.proofs.CallFacts.{last_small, one_seat, seat_refused, stored_on}
+use Rattle.ub_tree.proofs.SearchFacts.{search_refused, searched_there}
 use Rattle.ub_tree.specs.Spans.{first_keys}
+use Rattle.ub_tree.specs.Told.{FallsTo, pager_of}
+use Rattle.ub_tree.specs.View.{TreeView}
 use Rattle.ub_writing.specs.Marks.{is_written}
 use Rattle.ub_tree.proofs.tree.Tree.seat_of.Goals as goal
 
-pub returns-clause-seat : goal.returns-clause-seat
-returns-clause-seat g c =
-    let t = c.self.inside in
-    let same = entries_are t.schema t.directory.entries t.directory.chain t.next t.rows (is_written t.mark) t.is_failed t.pager c.args.self.now c.self.view_is in
-    subst (λ (es : List Entry). IsSeat es c.in_ok-seat.seat) (sym same) c.in_ok-seat.ensures.seat
+pub returns-clause-falls : goal.returns-clause-falls
+returns-clause-falls g c = subst (λ (v : TreeView). FallsTo v c.args.key.now c.in_ok-seat.seat) c.self.view_is (c.self.inside.pager.cached, c.in_ok-seat.ensures.given)
 
-pub returns-clause-index : goal.returns-clause-index
-returns-clause-index g c =
-    let t = c.self.inside in
-    let same = entries_are t.schema t.directory.entries t.directory.chain t.next t.rows (is_written t.mark) t.is_failed t.pager c.args.self.now c.self.view_is in
-    subst (λ (es : List Entry). c.in_ok-seat.seat.index ≡ index_holding c.args.key.now (first_keys es)) (sym same) c.in_ok-seat.ensures.index
+pub returns-clause-seat : goal.returns-clause-seat
+returns-clause-seat g c = λ stored.
+    let t = c.args.self.now in
+    let key = c.args.key.now in
+    let told = subst (λ (v : TreeView). IsIndexOn v.inner.index v.store → IsSeatAt (entries_in v.inner.index v.store) (index_holding key (first_keys (entries_in v.inner.index v.store))) c.in_ok-seat.seat)
+    c.self.view_is c.in_ok-seat.ensures.seat in
+    subst (λ (es : List Entry). IsSeatAt es (index_holding key (first_keys es)) c.in_ok-seat.seat) stored.indexed.entries_are (told (stored_on t stored))
+
+pub returns-clause-led : goal.returns-clause-led
+returns-clause-led g c = λ seat honest falls.
+    let t = c.args.self.now in
+    let held = c.self.inside.pager.cached in
+    let given = subst (λ (v : TreeView). Gives v.inner.index (pager_of v held) c.args.key.now c.in_ok-seat.seat) c.self.view_is c.in_ok-seat.ensures.given in
+    one_seat t.inner.index (pager_of t held) c.args.key.now c.in_ok-seat.seat seat honest given falls
+
+pub returns-in_err-seat-clause-led : goal.returns-in_err-seat-clause-led
+returns-in_err-seat-clause-led g c = λ seat honest falls.
+    let t = c.args.self.now in
+    let i = c.self.inside in
+    let small = subst (λ n. n < 2 ^ 128) (sym c.self.invariant.last_is) (last_small i.schema.dims i.schema.counts.few_dims) in
+    let near = subst (λ (v : TreeView). v.inner.index.last < 2 ^ 128) c.self.view_is small in
+    let fault = subst (λ (v : TreeView). IsWayFault v.inner.index (pager_of v i.pager.cached) (λ k. k ≡ c.args.key.now) c.in_err-seat.field-0.0) c.self.view_is c.in_err-seat.ensures.effect.faults in
+    seat_refused t.inner.index (pager_of t i.pager.cached) c.args.key.now seat c.from_residual.result c.in_err-seat.field-0.0 near honest falls c.from_residual.ensures.1 fault
 
 pub returns-in_err-seat-clause-effect : goal.returns-in_err-seat-clause-effect
 returns-in_err-seat-clause-effect g c =
     let t = c.self.inside in
-    rw (← c.self.view_is) (search_refused t.schema t.directory.entries t.directory.chain t.next t.rows (is_written t.mark) t.is_failed t.pager c.seat_of.new.pager SeatView c.from_residual.result c.in_err-seat.field-0.0
+    let small = subst (λ n. n < 2 ^ 128) (sym c.self.invariant.last_is) (last_small t.schema.dims t.schema.counts.few_dims) in
+    rw (← c.self.view_is) (search_refused t.schema t.index t.count t.next t.rows (is_written t.mark) t.is_failed t.pager c.seat_of.new.pager _ Seat c.from_residual.result c.in_err-seat.field-0.0 small
     c.from_residual.ensures.1 c.in_err-seat.ensures.effect)
 
 pub returns-clause-effect : goal.returns-clause-effect
 returns-clause-effect g c =
     let t = c.self.inside in
-    rw (← c.self.view_is) (searched_there t.schema t.directory.entries t.directory.chain t.next t.rows (is_written t.mark) t.is_failed t.pager c.seat_of.new.pager SeatView _ c.in_ok-seat.seat c.in_ok-seat.ensures.effect)
+    rw (← c.self.view_is) (searched_there t.schema t.index t.count t.next t.rows (is_written t.mark) t.is_failed t.pager c.seat_of.new.pager _ Seat _ c.in_ok-seat.seat c.in_ok-seat.ensures.effect)

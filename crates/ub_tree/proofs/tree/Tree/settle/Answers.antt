@@ -1,24 +1,51 @@
-use Rattle.std.proofs.Common.{◌≡◌, ◌-◌, ◌/◌, ◌∙◌, ℕ, inl, inr, refl, ap, sym, subst, arith, length, map, nat_lt, true, false, IfErr, OnOk}
-use Rattle.std.specs.List.{AllByRecursion}
-use Rattle.ub_region.specs.Joins.{put_rows}
-use Rattle.ub_table.specs.Region.{IsRegion}
-use Rattle.ub_tree.specs.inner.Change.{AreRowsAt, IsStored}
-use Rattle.ub_tree.specs.Placed.{entry_of}
-use Rattle.ub_tree.specs.Removal.{IsRemovalFault}
-use Rattle.ub_tree.specs.View.{TreeView, regions}
-use Rattle.ub_tree.proofs.ChangedFacts.{taken_alone, taken_joined}
-use Rattle.ub_tree.proofs.RoomFacts.{region_at}
-use Rattle.ub_tree.proofs.ShrinkFacts.{settled_large, settled_alone, settled_before}
-use Rattle.ub_tree.proofs.TreeFacts.{seat_within}
-use Rattle.ub_tree.proofs.WriteFacts.{changed_by, searched_by, then_changed}
+use Rattle.std.proofs.Common.{◌≡◌, ◌/◌, ◌∙◌, inl, inr, refl, ap, sym, subst, length, nat_lt, true, false}
+use Rattle.ub_tree.specs.Holding.{IsSeatOrBefore}
+use Rattle.ub_tree.specs.View.{TreeView}
+use Rattle.ub_tree.specs.inner.Change.{IsSeatOf}
+use Rattle.ub_tree.proofs.EffectFacts.{changed_by, searched_by, then_changed}
+use Rattle.ub_tree.proofs.RemovalFacts.{searched_removal, settled_alone, settled_before, settled_large, settled_next, taken_alone, taken_joined}
 use Rattle.ub_tree.proofs.tree.Tree.settle.Goals as goal
 
 pub returns-then-not-are_few-clause-written : goal.returns-then-not-are_few-clause-written
-returns-then-not-are_few-clause-written g c = λ stored.
+returns-then-not-are_few-clause-written g c = λ i stored at each.
     let a = c.args.self.now in
     let count : c.page_rows.result ≡ a.schema.page_rows = c.page_rows.ensures.page_rows ∙ ap (λ (v : TreeView). v.schema.page_rows) c.self.view_is in
     let large : nat_lt (length c.args.room.now.rows) (a.schema.page_rows / 2) ≡ false = rw (← count) (sym c.are_few.ensures ∙ c.if-not-are_few.true) in
-    settled_large a c.rewrite.new.self c.rewrite.result c.args.seat.now.index c.args.room.now.rows (seat_within a.placed c.args.seat.now c.requires.seat.0) large (rw c.as_slice.ensures.rows at c.rewrite.ensures.written stored)
+    settled_large a i c.args.seat.now c.args.room.now.rows stored at c.rewrite.new.self c.rewrite.result large (rw c.as_slice.ensures.rows at c.rewrite.ensures.written)
+
+pub returns-in-Some-clause-written : goal.returns-in-Some-clause-written
+returns-in-Some-clause-written g c = λ i stored at each.
+    let a = c.args.self.now in
+    let count : c.page_rows.result ≡ a.schema.page_rows = c.page_rows.ensures.page_rows ∙ ap (λ (v : TreeView). v.schema.page_rows) c.self.view_is in
+    let few : nat_lt (length c.args.room.now.rows) (a.schema.page_rows / 2) ≡ true = rw (← count) (sym c.are_few.ensures ∙ c.if-not-are_few.false) in
+    settled_next a i c.args.seat.now c.args.room.now.rows stored at c.join_next.new.self c.join_at.new.self c.join_at.result c.in-Some.next c.join_next.new.room.rows few c.in_ok-next.ensures.effect.same
+    (rw c.in-Some.is at (c.in_ok-next.ensures.joined i stored at)) (rw c.in-Some.is at (c.in_ok-next.ensures.next i stored at)) (rw c.as_slice-in-Some.ensures.rows at c.join_at.ensures.written) each
+
+pub returns-in-Some-2-clause-written : goal.returns-in-Some-2-clause-written
+returns-in-Some-2-clause-written g c = λ i stored at each.
+    let a = c.args.self.now in
+    let count : c.page_rows.result ≡ a.schema.page_rows = c.page_rows.ensures.page_rows ∙ ap (λ (v : TreeView). v.schema.page_rows) c.self.view_is in
+    let few : nat_lt (length c.args.room.now.rows) (a.schema.page_rows / 2) ≡ true = rw (← count) (sym c.are_few.ensures ∙ c.if-not-are_few.false) in
+    settled_before a i c.args.seat.now c.args.room.now.rows stored at c.join_next.new.self c.join_before.new.self c.join_at-in-Some-2.new.self c.join_at-in-Some-2.result c.in-Some-2.before
+    c.join_next.new.room.rows c.join_before.new.room.rows few c.in_ok-next.ensures.effect.same c.in_ok-before.ensures.effect.same
+    (rw c.in_default.is at (c.in_ok-next.ensures.joined i stored at)) (rw c.in-Some-2.is at c.in_ok-before.ensures.joined) (rw c.in-Some-2.is at c.in_ok-before.ensures.before)
+    (rw c.as_slice-in-Some-2.ensures.rows at c.join_at-in-Some-2.ensures.written) each
+
+pub returns-clause-written : goal.returns-clause-written
+returns-clause-written g c = λ i stored at each.
+    let a = c.args.self.now in
+    let count : c.page_rows.result ≡ a.schema.page_rows = c.page_rows.ensures.page_rows ∙ ap (λ (v : TreeView). v.schema.page_rows) c.self.view_is in
+    let few : nat_lt (length c.args.room.now.rows) (a.schema.page_rows / 2) ≡ true = rw (← count) (sym c.are_few.ensures ∙ c.if-not-are_few.false) in
+    settled_alone a i c.args.seat.now c.args.room.now.rows stored at c.join_next.new.self c.join_before.new.self c.rewrite-2.new.self c.rewrite-2.result c.join_next.new.room.rows c.join_before.new.room.rows
+    few c.in_ok-next.ensures.effect.same c.in_ok-before.ensures.effect.same (rw c.in_default.is at (c.in_ok-next.ensures.joined i stored at)) (rw c.in_default-2.is at c.in_ok-before.ensures.joined)
+    (rw c.as_slice-2.ensures.rows at c.rewrite-2.ensures.written)
+
+pub returns-then-not-are_few-clause-effect : goal.returns-then-not-are_few-clause-effect
+returns-then-not-are_few-clause-effect g c = changed_by c.args.self.now c.rewrite.new.self c.args.seat.now c.requires.seat.seat_is c.rewrite.result c.rewrite.ensures.effect
+
+pub returns-in_err-next-clause-effect : goal.returns-in_err-next-clause-effect
+returns-in_err-next-clause-effect g c =
+    searched_by c.from_residual.result c.in_err-next.field-0.0 c.args.self.now c.join_next.new.self c.from_residual.ensures.1 c.in_err-next.ensures.effect
 
 pub returns-in-Some-clause-effect : goal.returns-in-Some-clause-effect
 returns-in-Some-clause-effect g c = then_changed c.join_at.result c.args.self.now c.join_next.new.self c.join_at.new.self c.in_ok-next.ensures.effect.same c.join_at.ensures.effect
@@ -27,35 +54,12 @@ pub returns-in-Some-2-clause-effect : goal.returns-in-Some-2-clause-effect
 returns-in-Some-2-clause-effect g c =
     then_changed c.join_at-in-Some-2.result c.args.self.now c.join_before.new.self c.join_at-in-Some-2.new.self (c.in_ok-before.ensures.effect.same ∙ c.in_ok-next.ensures.effect.same) c.join_at-in-Some-2.ensures.effect
 
-pub returns-in-Some-2-clause-written : goal.returns-in-Some-2-clause-written
-returns-in-Some-2-clause-written g c =
-    let a = c.args.self.now in
-    let d = c.join_at-in-Some-2.new.self in
-    let count : c.page_rows.result ≡ a.schema.page_rows = c.page_rows.ensures.page_rows ∙ ap (λ (v : TreeView). v.schema.page_rows) c.self.view_is in
-    let few : nat_lt (length c.args.room.now.rows) (a.schema.page_rows / 2) ≡ true = rw (← count) (sym c.are_few.ensures ∙ c.if-not-are_few.false) in
-    let stands = rw c.in-Some-2.is at c.in_ok-before.ensures.before in
-    let after = stands.1 in
-    let index : c.in-Some-2.before.index ≡ c.args.seat.now.index - 1 = omega arith in
-    let new = c.join_before.new.room.rows in
-    let b = c.join_before.new.self in
-    let written = subst (λ (n : ℕ). IsStored b → AllByRecursion (IsRegion b.schema) (put_rows n true new (regions b))
-    → OnOk c.join_at-in-Some-2.result (IsStored d × (regions d ≡ put_rows n true new (regions b)))) index (rw c.as_slice-in-Some-2.ensures.rows at c.join_at-in-Some-2.ensures.written) in
-    settled_before a c.join_next.new.self b d c.join_at-in-Some-2.result c.args.seat.now.index c.args.room.now.rows c.join_next.new.room.rows new (seat_within a.placed c.args.seat.now c.requires.seat.0) few
-    c.in_ok-next.ensures.effect.same c.in_ok-before.ensures.effect.same (rw c.in_default.is at c.in_ok-next.ensures.joined) (rw c.in-Some-2.is at c.in_ok-before.ensures.joined) written
-
-pub returns-clause-written : goal.returns-clause-written
-returns-clause-written g c =
-    let a = c.args.self.now in
-    let count : c.page_rows.result ≡ a.schema.page_rows = c.page_rows.ensures.page_rows ∙ ap (λ (v : TreeView). v.schema.page_rows) c.self.view_is in
-    let few : nat_lt (length c.args.room.now.rows) (a.schema.page_rows / 2) ≡ true = rw (← count) (sym c.are_few.ensures ∙ c.if-not-are_few.false) in
-    settled_alone a c.join_next.new.self c.join_before.new.self c.rewrite-2.new.self c.rewrite-2.result c.args.seat.now.index c.args.room.now.rows c.join_next.new.room.rows c.join_before.new.room.rows
-    (seat_within a.placed c.args.seat.now c.requires.seat.0) few c.in_ok-next.ensures.effect.same c.in_ok-before.ensures.effect.same
-    (rw c.in_default.is at c.in_ok-next.ensures.joined) (rw c.in_default-2.is at c.in_ok-before.ensures.joined) (rw c.as_slice-2.ensures.rows at c.rewrite-2.ensures.written)
-
 pub returns-clause-effect : goal.returns-clause-effect
 returns-clause-effect g c =
-    then_changed c.rewrite-2.result c.args.self.now c.join_before.new.self c.rewrite-2.new.self (c.in_ok-before.ensures.effect.same ∙ c.in_ok-next.ensures.effect.same)
-    (changed_by c.rewrite-2.result c.args.seat.now.index c.join_before.new.self c.rewrite-2.new.self c.rewrite-2.ensures.effect)
+    let same = c.in_ok-before.ensures.effect.same ∙ c.in_ok-next.ensures.effect.same in
+    let of = subst (λ (v : TreeView). IsSeatOf v c.args.seat.now) (sym same) c.requires.seat.seat_is in
+    then_changed c.rewrite-2.result c.args.self.now c.join_before.new.self c.rewrite-2.new.self same
+    (changed_by c.join_before.new.self c.rewrite-2.new.self c.args.seat.now of c.rewrite-2.result c.rewrite-2.ensures.effect)
 
 pub returns-in_err-before-clause-effect : goal.returns-in_err-before-clause-effect
 returns-in_err-before-clause-effect g c =
@@ -64,57 +68,25 @@ returns-in_err-before-clause-effect g c =
 
 pub returns-then-not-are_few-clause-same : goal.returns-then-not-are_few-clause-same
 returns-then-not-are_few-clause-same g c =
-    taken_alone c.rewrite.result c.args.self.now c.args.self.now c.rewrite.new.self refl c.args.seat.now.index c.rewrite.ensures.same c.rewrite.ensures.effect
+    taken_alone c.rewrite.result c.args.self.now c.args.self.now c.rewrite.new.self refl c.args.seat.now c.rewrite.ensures.same c.rewrite.ensures.told c.rewrite.ensures.effect
 
 pub returns-in-Some-clause-same : goal.returns-in-Some-clause-same
 returns-in-Some-clause-same g c =
-    taken_joined c.join_at.result c.args.self.now c.join_next.new.self c.join_at.new.self c.in_ok-next.ensures.effect.same c.args.seat.now.index c.args.seat.now.index (inl refl) c.join_at.ensures.same
+    taken_joined c.join_at.result c.args.self.now c.join_next.new.self c.join_at.new.self c.in_ok-next.ensures.effect.same c.args.seat.now c.args.seat.now (inl refl) c.join_at.ensures.same
 
 pub returns-in-Some-2-clause-same : goal.returns-in-Some-2-clause-same
 returns-in-Some-2-clause-same g c =
-    let stands = rw c.in-Some-2.is at c.in_ok-before.ensures.before in
+    let falls = rw c.in-Some-2.is at c.in_ok-before.ensures.falls in
+    let falls_a = subst (λ (v : TreeView). IsSeatOrBefore v c.args.seat.now c.in-Some-2.before) c.in_ok-next.ensures.effect.same (inr falls) in
     taken_joined c.join_at-in-Some-2.result c.args.self.now c.join_before.new.self c.join_at-in-Some-2.new.self (c.in_ok-before.ensures.effect.same ∙ c.in_ok-next.ensures.effect.same)
-    c.args.seat.now.index c.in-Some-2.before.index (inr (sym stands.1)) c.join_at-in-Some-2.ensures.same
+    c.args.seat.now c.in-Some-2.before falls_a c.join_at-in-Some-2.ensures.same
 
 pub returns-clause-same : goal.returns-clause-same
 returns-clause-same g c =
-    taken_alone c.rewrite-2.result c.args.self.now c.join_before.new.self c.rewrite-2.new.self (c.in_ok-before.ensures.effect.same ∙ c.in_ok-next.ensures.effect.same) c.args.seat.now.index
-    c.rewrite-2.ensures.same c.rewrite-2.ensures.effect
+    taken_alone c.rewrite-2.result c.args.self.now c.join_before.new.self c.rewrite-2.new.self (c.in_ok-before.ensures.effect.same ∙ c.in_ok-next.ensures.effect.same) c.args.seat.now
+    c.rewrite-2.ensures.same c.rewrite-2.ensures.told c.rewrite-2.ensures.effect
 
-pub rewrite-requires-clause-region : goal.rewrite-requires-clause-region
-rewrite-requires-clause-region g c = rw c.as_slice.ensures.rows (region_at c.args.self.now c.args.seat.now c.args.room.now.rows c.requires.seat.0 c.requires.rows)
-
-pub join_at-requires-clause-region : goal.join_at-requires-clause-region
-join_at-requires-clause-region g c =
-    let good = rw c.in-Some.is at c.in_ok-next.ensures.rows in
-    rw c.as_slice-in-Some.ensures.rows
-    (subst (λ (v : TreeView). IsRegion v.schema (record { first = c.args.seat.now.first; rows = c.join_next.new.room.rows })) (sym c.in_ok-next.ensures.effect.same) good)
-
-pub join_before-requires-clause-rows : goal.join_before-requires-clause-rows
-join_before-requires-clause-rows g c =
-    let index = c.args.seat.now.index in
-    let still = rw c.in_default.is at c.in_ok-next.ensures.rows in
-    rw still (subst (λ (v : TreeView). AreRowsAt v.schema (map entry_of v.placed) index c.args.room.now.rows) (sym c.in_ok-next.ensures.effect.same) c.requires.rows)
-
-pub join_at-requires-in-Some-2-clause-region : goal.join_at-requires-in-Some-2-clause-region
-join_at-requires-in-Some-2-clause-region g c =
-    let good = rw c.in-Some-2.is at c.in_ok-before.ensures.rows in
-    rw c.as_slice-in-Some-2.ensures.rows
-    (subst (λ (v : TreeView). IsRegion v.schema (record { first = c.in-Some-2.before.first; rows = c.join_before.new.room.rows })) (sym c.in_ok-before.ensures.effect.same) good)
-
-pub rewrite-requires-2-clause-region : goal.rewrite-requires-2-clause-region
-rewrite-requires-2-clause-region g c =
-    let same = c.in_ok-before.ensures.effect.same ∙ c.in_ok-next.ensures.effect.same in
-    let still = rw c.in_default.is at c.in_ok-next.ensures.rows in
-    let stays = rw c.in_default-2.is at c.in_ok-before.ensures.rows in
-    let good = region_at c.args.self.now c.args.seat.now c.args.room.now.rows c.requires.seat.0 c.requires.rows in
-    rw (c.as_slice-2.ensures.rows, stays, still)
-    (subst (λ (v : TreeView). IsRegion v.schema (record { first = c.args.seat.now.first; rows = c.args.room.now.rows })) (sym same) good)
-
-pub returns-in-Some-clause-faults : goal.returns-in-Some-clause-faults
-returns-in-Some-clause-faults g c =
-    subst (λ (v : TreeView). IfErr c.join_at.result (IsRemovalFault v)) c.in_ok-next.ensures.effect.same c.join_at.ensures.faults
-
-pub returns-in-Some-2-clause-faults : goal.returns-in-Some-2-clause-faults
-returns-in-Some-2-clause-faults g c =
-    subst (λ (v : TreeView). IfErr c.join_at-in-Some-2.result (IsRemovalFault v)) (c.in_ok-before.ensures.effect.same ∙ c.in_ok-next.ensures.effect.same) c.join_at-in-Some-2.ensures.faults
+pub returns-in_err-before-clause-faults : goal.returns-in_err-before-clause-faults
+returns-in_err-before-clause-faults g c =
+    searched_removal c.from_residual-in_err-before.result c.in_err-before.field-0.0 c.args.self.now c.join_next.new.self c.from_residual-in_err-before.ensures.1
+    c.in_ok-next.ensures.effect.same c.in_err-before.ensures.effect.faults

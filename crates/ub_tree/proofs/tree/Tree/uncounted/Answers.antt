@@ -4,7 +4,7 @@ use Rattle.ub_tree.specs.View.{TreeView}
 use Rattle.ub_tree.proofs.HoldingFacts.{never_full}
 use Rattle.ub_tree.proofs.tree.Tree.uncounted.Goals as goal
 
-pub returns-clause-unsound : goal.returns-clause-unsound
-returns-clause-unsound g c =
+pub returns-clause-many : goal.returns-clause-many
+returns-clause-many g c =
     let small : page_count c.self.inside.pager.store < 2 ^ 32 = (let fits = c.pages-pages.type_inv in let same = c.pages-pages.ensures in omega arith) in
     never_full c.args.self.now (subst (λ (v : TreeView). page_count v.store < 2 ^ 32) c.self.view_is small)

@@ -1,0 +1,201 @@
+// The table of five rows on other pages, made by hand, byte for byte: its regions are on pages 1, 3 and 2, and the root of its index
+// is on page 4. It is opened, asked, changed, and closed, and the root stays there.
+use crate::samples::{Sheet, page_of, plane};
+use crate::trial::{Answer, DONE, NO_STEPS, Step, goes};
+use ub_page::{Entry, Page};
+use ub_table::{Key, Row};
+
+const LAST: u128 = 18_446_744_073_709_551_615;
+
+// The regions that begin with the addresses 0, 10 and 13.
+const FIRST: Sheet = Sheet::Region(
+    0,
+    &[
+        Row {
+            number: 1,
+            dims: [1, 1, 0, 0],
+            measures: [10, 0, 0, 0],
+        },
+        Row {
+            number: 4,
+            dims: [0, 2, 0, 0],
+            measures: [7, 0, 0, 0],
+        },
+    ],
+);
+
+const SECOND: Sheet = Sheet::Region(
+    10,
+    &[Row {
+        number: 3,
+        dims: [3, 0, 0, 0],
+        measures: [5, 0, 0, 0],
+    }],
+);
+
+const THIRD: Sheet = Sheet::Region(
+    13,
+    &[
+        Row {
+            number: 2,
+            dims: [2, 3, 0, 0],
+            measures: [20, 0, 0, 0],
+        },
+        Row {
+            number: 5,
+            dims: [2, 3, 0, 0],
+            measures: [1, 0, 0, 0],
+        },
+    ],
+);
+
+// The root that names them.
+const ROOT: Sheet = Sheet::Index(
+    1,
+    &[
+        Entry {
+            first: Key { z: 0, number: 0 },
+            page: 1,
+        },
+        Entry {
+            first: Key { z: 10, number: 0 },
+            page: 3,
+        },
+        Entry {
+            first: Key { z: 13, number: 0 },
+            page: 2,
+        },
+    ],
+);
+
+const HAND_MADE: [Sheet; 5] = [Sheet::Rooted(6, 5, 3, 4, 1), FIRST, THIRD, SECOND, ROOT];
+
+// With a sixth row, at (3, 3), whose address is 15: the third region is split, and the new one is on page 5.
+const GROWN: [Sheet; 6] = [
+    Sheet::Rooted(7, 6, 4, 4, 1),
+    FIRST,
+    THIRD,
+    SECOND,
+    Sheet::Index(
+        1,
+        &[
+            Entry {
+                first: Key { z: 0, number: 0 },
+                page: 1,
+            },
+            Entry {
+                first: Key { z: 10, number: 0 },
+                page: 3,
+            },
+            Entry {
+                first: Key { z: 13, number: 0 },
+                page: 2,
+            },
+            Entry {
+                first: Key { z: 15, number: 0 },
+                page: 5,
+            },
+        ],
+    ),
+    Sheet::Region(
+        15,
+        &[Row {
+            number: 6,
+            dims: [3, 3, 0, 0],
+            measures: [0, 0, 0, 0],
+        }],
+    ),
+];
+
+// Without it: its region is joined with the one before, and its page stays, though nothing names it.
+const JOINED: [Sheet; 6] = [
+    Sheet::Rooted(7, 5, 3, 4, 1),
+    FIRST,
+    THIRD,
+    SECOND,
+    ROOT,
+    Sheet::Region(
+        15,
+        &[Row {
+            number: 6,
+            dims: [3, 3, 0, 0],
+            measures: [0, 0, 0, 0],
+        }],
+    ),
+];
+
+// The header's bytes before the zeros: its kind, version 2, clean, two dimensions, a measure, two rows a page; the next number, the
+// rows, the regions, the root and its level; and the names t, x, y and m, each in 33 bytes.
+static HEADER_HEAD: [u8; 32] = [
+    0x55, 0x42, 0x54, 0x52, 2, 0, 2, 1, 2, 0, 0, 0, 0, 0, 0, 6, 0, 0, 0, 5, 0, 0, 0, 3, 0, 0, 0, 4,
+    0, 0, 0, 1,
+];
+
+static NAMES: [u8; 4] = [0x74, 0x78, 0x79, 0x6d];
+
+// The root's bytes before the zeros: its kind, its level, its count; and of each entry the address, the number and the page.
+static ROOT_HEAD: [u8; 88] = [
+    0x49, 1, 0, 3, 0, 0, 0, 0, 0, 0, 0, 0, 0, 0, 0, 0, //
+    0, 0, 0, 0, 0, 0, 0, 0, 0, 0, 0, 0, 0, 0, 0, 0, 0, 0, 0, 0, 0, 0, 0, 1, //
+    0, 0, 0, 0, 0, 0, 0, 0, 0, 0, 0, 0, 0, 0, 0, 10, 0, 0, 0, 0, 0, 0, 0, 3, //
+    0, 0, 0, 0, 0, 0, 0, 0, 0, 0, 0, 0, 0, 0, 0, 13, 0, 0, 0, 0, 0, 0, 0, 2,
+];
+
+// The header, byte for byte.
+fn header_bytes() -> Page {
+    let mut page = [0; 4096];
+    page[..32].copy_from_slice(&HEADER_HEAD);
+    for i in 0..4usize {
+        page[32 + 33 * i] = 1;
+        page[33 + 33 * i] = NAMES[i];
+    }
+    page
+}
+
+// The root, byte for byte.
+fn root_bytes() -> Page {
+    let mut page = [0; 4096];
+    page[..88].copy_from_slice(&ROOT_HEAD);
+    page
+}
+
+// Whether the header and the root that are held against the store have these bytes.
+fn is_spelled() -> bool {
+    match plane() {
+        Ok(schema) => {
+            page_of(&schema, &HAND_MADE[0]) == header_bytes()
+                && page_of(&schema, &HAND_MADE[4]) == root_bytes()
+        }
+        Err(_) => false,
+    }
+}
+
+static STEPS: [(Step, Answer); 21] = [
+    (Step::Store(0, &HAND_MADE), DONE),
+    (Step::Open, DONE),
+    (Step::Count, Ok([5, 3, 0, 0])),
+    (Step::Walk, Ok([3, 0, 13, 3])),
+    (Step::Span(0), Ok([0, 9, 1, 4])),
+    (Step::Span(12), Ok([10, 12, 3, 3])),
+    (Step::Span(LAST), Ok([13, LAST, 2, 5])),
+    (Step::Close, DONE),
+    (Step::Holds(&HAND_MADE), Ok([5, 0, 0, 0])),
+    (Step::Pages, Ok([5, 0, 0, 0])),
+    (Step::Open, DONE),
+    (Step::Put(3, 3, 0), Ok([6, 0, 0, 0])),
+    (Step::Close, DONE),
+    (Step::Holds(&GROWN), Ok([6, 0, 0, 0])),
+    (Step::Open, DONE),
+    (Step::Remove(15, 6), Ok([1, 0, 0, 0])),
+    (Step::Close, DONE),
+    (Step::Holds(&JOINED), Ok([6, 0, 0, 0])),
+    (Step::Pages, Ok([6, 0, 0, 0])),
+    (Step::Open, DONE),
+    (Step::Walk, Ok([3, 0, 13, 3])),
+];
+
+#[test]
+fn a_root_on_another_page_stays_there(rt: HostRuntime) {
+    assert!(rt; is_spelled());
+    goes(&rt, rt.alloc(), &STEPS, &NO_STEPS);
+}

@@ -1,0 +1,34 @@
+use Rattle.std.proofs.Common.{rules}
+use Rattle.ub_page.specs.Header.{numbers_of}
+use Rattle.ub_page.proofs.HeaderFacts.{written}
+use Rattle.ub_page.proofs.header.spell.Goals as goal
+
+pub returns-clause-page : goal.returns-clause-page
+returns-clause-page c =
+    rw (
+      c.put_names.ensures.bytes,
+      c.put_name.ensures.bytes,
+      c.put_u32-6.ensures.bytes,
+      c.put_u32-5.ensures.bytes,
+      c.put_u32-4.ensures.bytes,
+      c.put_u32-3.ensures.bytes,
+      c.put_u32-2.ensures.bytes,
+      c.put_u24.ensures.bytes,
+      c.put_u8-5.ensures.bytes,
+      c.put_u8-4.ensures.bytes,
+      c.put_u8-3.ensures.bytes,
+      c.put_u8-2.ensures.bytes,
+      c.put_u8.ensures.bytes,
+      c.put_u32.ensures.bytes,
+      c.clear.ensures,
+    )
+    (rw (c.state_of.ensures, c.dims.ensures.dims, c.measures.ensures.measures, c.page_rows.ensures.page_rows, c.name.ensures, c.columns.ensures.columns)
+    (written c.args.version (numbers_of c.args.header.now) c.args.header.now.schema.name c.args.header.now.schema.columns))
+
+pub returns-clause-header : goal.returns-clause-header
+returns-clause-header c = record {
+  numbers = c.requires;
+  regions = search rules;
+  root = search rules;
+  names = (rw c.name.ensures at c.put_name.ensures.name, rw c.columns.ensures.columns at c.put_names.ensures.names);
+}

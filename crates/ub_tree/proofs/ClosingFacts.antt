@@ -1,0 +1,103 @@
+-- What a tree is once it was closed.
+use Rattle.std.proofs.Common.{◌≡◌, ◌≢◌, ◌<◌, ◌∙◌, ◌++◌, ℕ, false, List, [], ◌∷◌, None, length, map, nat_eq, sym, ap, subst, refl, arith}
+use Rattle.std.proofs.lemmas.List.Elements.{All-from_recursion, recursion_from_All}
+use Rattle.std.specs.List.{All, AllByRecursion, IsDistinct}
+use Rattle.ub_index.proofs.Changes.{kept_index, kept_under}
+use Rattle.ub_index.proofs.Numbers.{distinct_first, kept_pages}
+use Rattle.ub_index.specs.Changed.{PagesStay}
+use Rattle.ub_index.specs.Index.{pages_under, top}
+use Rattle.ub_index.specs.View.{IndexView, index_view}
+use Rattle.ub_region.proofs.Laws.{all_left, all_right}
+use Rattle.ub_store.specs.Facts.{StoreFacts, IsHonest, page_count}
+use Rattle.ub_store.specs.declared.fault.StoreFault.{StoreFault}
+use Rattle.ub_store.specs.declared.fault.StoreFault.TheVariants as store
+use Rattle.ub_tree.proofs.StoredFacts.{IsSpelled}
+use Rattle.ub_tree.specs.Closing.{IsCloseFault, header_of}
+use Rattle.ub_tree.specs.Faults.{tree_fault}
+use Rattle.ub_tree.specs.Indexed.{HasIndex, reserved}
+use Rattle.ub_tree.specs.Placed.{Placed, ArePlaced, entry_of}
+use Rattle.ub_tree.specs.Stored.{AreSoundPages, index_of}
+use Rattle.ub_tree.specs.View.{TreeView, IsSound}
+use Rattle.ub_writing.specs.Closing.{IsClosed, IsSaveFault}
+
+-- a tree that wasn't changed has the pages of a closed table
+pub unchanged_pages : (t : TreeView) (new : StoreFacts) → new ≡ t.store → t.is_changed ≡ false → IsSound t → IsHonest new × AreSoundPages new.pages t.schema t.placed t.next
+unchanged_pages t new same unwritten sound = subst (λ (s : StoreFacts). IsHonest s × AreSoundPages s.pages t.schema t.placed t.next) (sym same) (sound.honest, sound.closed unwritten)
+
+-- and so has one that was written
+module _ (t : TreeView) (new : StoreFacts) (honest : new.honest ≡ t.store.honest) (count : page_count new ≡ page_count t.store)
+    (closed : IsClosed (header_of t) t.store new) (sound : IsSound t) where
+  abbrev index : IndexView
+  index = t.inner.index
+
+  abbrev pages : List (List ℕ)
+  pages = t.store.pages
+
+  abbrev chain : List ℕ
+  chain = pages_under pages index.levels (top index.root)
+
+  abbrev numbers : List ℕ
+  numbers = map (λ (p : Placed). p.page) t.placed
+
+  not_first : AllByRecursion (λ n. 0 ≢ n) (chain ++ numbers)
+  not_first = distinct_first 0 (chain ++ numbers) sound.placed_are.own
+
+  each_stays : (ns : List ℕ) → AllByRecursion (λ n. 0 ≢ n) ns → PagesStay pages new.pages ns
+  each_stays [] h = tt
+  each_stays (n ∷ ns) h = (closed.kept n (λ e. h.0 (sym e)), each_stays ns h.1)
+
+  stay : PagesStay pages new.pages chain
+  stay = each_stays chain (all_left (λ n. 0 ≢ n) chain numbers not_first)
+
+  each_spelled : (ps : List Placed) → AllByRecursion (λ n. 0 ≢ n) (map (λ (p : Placed). p.page) ps) → AllByRecursion (IsSpelled t.schema pages) ps → AllByRecursion (IsSpelled t.schema new.pages) ps
+  each_spelled [] h spelled = tt
+  each_spelled (p ∷ ps) h spelled = (closed.kept p.page (λ e. h.0 (sym e)) ∙ spelled.0, each_spelled ps h.1 spelled.1)
+
+  same_reserved : reserved index new.pages ≡ reserved index pages
+  same_reserved = ap (λ (ns : List ℕ). 0 ∷ ns) (kept_pages pages new.pages index.levels (top index.root) stay)
+
+  indexed : HasIndex index new.pages (map entry_of t.placed)
+  indexed = record {
+    some = sound.indexed.some;
+    under_it = kept_index index.last pages new.pages index.levels (top index.root) None stay sound.indexed.under_it;
+    entries_are = kept_under pages new.pages index.levels (top index.root) stay ∙ sound.indexed.entries_are;
+  }
+
+  placed_are : ArePlaced t.schema t.placed (reserved index new.pages) new.pages
+  placed_are = record {
+    spelled = All-from_recursion (IsSpelled t.schema new.pages) t.placed
+        (each_spelled t.placed (all_right (λ n. 0 ≢ n) chain numbers not_first) (recursion_from_All (IsSpelled t.schema pages) t.placed sound.placed_are.spelled));
+    own = subst (λ (ns : List ℕ). IsDistinct nat_eq (ns ++ numbers)) (sym same_reserved) sound.placed_are.own;
+    within = subst (All (λ n. n < length new.pages)) (sym same_reserved) (subst (λ (long : ℕ). All (λ n. n < long) (reserved index pages)) (sym count) sound.placed_are.within);
+  }
+
+  index_is : index_of (header_of t) ≡ index
+  index_is = ap (λ (last : ℕ). index_view index.root index.levels last) (sym sound.last_is)
+
+  pub sound_pages : IsHonest new × AreSoundPages new.pages t.schema t.placed t.next
+  sound_pages = (
+    honest ∙ sound.honest,
+    record {
+      header = header_of t;
+      spelled = closed.spelled;
+      in_range = closed.in_range;
+      clean = refl;
+      schema_is = refl;
+      next_is = refl;
+      rows_are = sound.rows_are;
+      regions_are = sound.count_is;
+      indexed = subst (λ (i : IndexView). HasIndex i new.pages (map entry_of t.placed)) (sym index_is) indexed;
+      well_formed = sound.regions_are;
+      placed_are = subst (λ (i : IndexView). ArePlaced t.schema t.placed (reserved i new.pages) new.pages) (sym index_is) placed_are;
+    },
+  )
+
+-- why closing is refused: a sound tree's store has a first page
+pub close_refused : (t : TreeView) (fault : StoreFault) → IsSaveFault t.store fault → IsCloseFault t (tree_fault fault)
+close_refused t store.Device h = h
+close_refused t store.BadSize h = absurd h
+close_refused t store.Memory h = absurd h
+close_refused t store.NoPage h = λ sound.
+    let within = recursion_from_All (λ n. n < length t.store.pages) (reserved t.inner.index t.store.pages) sound.placed_are.within in
+    let some : 0 < length t.store.pages = within.0 in
+    absurd (omega arith)

@@ -1,0 +1,188 @@
+-- What a call leaves that calls others: a search, a refusal or a write, as a change.
+use Rattle.std.proofs.Common.{◌≡◌, ◌≢◌, ◌<◌, ◌∙◌, ◌++◌, inl, inr, ◌⊎◌, ℕ, true, List, [], ◌∷◌, Ok, Err, Result, IfErr, OnOk, sym, ap, subst, refl, arith}
+use Rattle.std.specs.Result.{IsErrAnd}
+use Rattle.ub_index.specs.Changing.{IsOutside, IsUnspelled}
+use Rattle.ub_index.specs.Index.{pages_under, top}
+use Rattle.ub_index.specs.Making.{PutsSheets, SameButSheets}
+use Rattle.ub_index.specs.Searching.{region_of}
+use Rattle.ub_index.specs.declared.sheet.Sheet.{Sheet}
+use Rattle.ub_index.specs.declared.seat.Seat.{Seat}
+use Rattle.ub_region.proofs.Laws.{all_left, all_right}
+use Rattle.ub_store.specs.Facts.{StoreFacts, IsHonest, page_count}
+use Rattle.ub_store.specs.declared.fault.StoreFault.TheVariants as store
+use Rattle.ub_tree.specs.Effects.{Changes, HasEnded, IsLeft, IsMarkedFirst, Leaves, Searches, Works, read_store, written_store}
+use Rattle.ub_tree.specs.Others.{AreOthersKept, KeepsOthers, WritesIndex, WritesOneRegion, WritesPage}
+use Rattle.ub_tree.specs.View.{TreeView, IsSound}
+use Rattle.ub_tree.specs.declared.fault.TreeFault.{TreeFault}
+use Rattle.ub_tree.specs.declared.fault.TreeFault.TheVariants.{Full, Page, Store, Failed as HasFailed, Memory}
+use Rattle.ub_writing.specs.Marks.{is_written}
+use Rattle.ub_writing.specs.declared.mark.Mark.{Mark}
+use Rattle.ub_writing.specs.declared.mark.Mark.TheVariants.{Written}
+use Rattle.ub_tree.specs.inner.Change.{HasStopped, IsSeatOf, IsStored, IsWriteFault, MakesReady, Writes}
+
+-- a sound tree is stored
+pub sound_stored : (t : TreeView) → IsSound t → IsStored t
+sound_stored t sound = record { working = sound.working; honest = sound.honest; indexed = sound.indexed; placed_are = sound.placed_are; count_is = sound.count_is }
+
+-- the mark of a tree that is as it was
+same_marked : (a : TreeView) → IsMarkedFirst a a
+same_marked a = record { kept = λ honest unmarked m first lt. refl; marked = λ sound e. sound.marked e }
+
+pub same_leaves : (a : TreeView) → Leaves a a
+same_leaves a = record {
+  same = refl;
+  told = record { count = refl; told = λ region told. told };
+  grows = record { more = omega arith; kept = λ honest m lt. refl; lasting = λ honest. inl refl };
+  sound = λ sound. (refl, sound);
+}
+
+-- a refusal after which all is as it was
+pub unchanged : {T : Type 0} (e : TreeFault) (a : TreeView) → IsLeft a a e → Changes {A = T} a a (Err e)
+unchanged e a left = record { frame = refl; marked = same_marked a; done = tt; left = left }
+
+-- the same refusal of another call
+pub left_by : {T U : Type 0} (r : Result T TreeFault) (e : TreeFault) (a c : TreeView) → IsErrAnd r (λ x. x ≡ e) → Changes {A = U} a c (Err e) → Changes a c r
+left_by (Ok x) e a c is h = absurd is
+left_by (Err f) e a c is h = rw is (record { frame = h.frame; marked = h.marked; done = tt; left = h.left })
+
+-- a call that was refused, and left all but the count of failed reads
+read_left : {T : Type 0} (r : Result T TreeFault) (e : TreeFault) (a c : TreeView) → IsErrAnd r (λ x. x ≡ e) → c ≡ record a { store = read_store {A = TreeFault} (Err e) a.store } → IsLeft a c e → Changes a c r
+read_left (Ok x) e a c is same left = absurd is
+read_left (Err f) e a c is same left =
+    let frame : c ≡ record a { placed = c.placed; rows = c.rows; next = c.next; is_changed = c.is_changed; is_failed = c.is_failed; store = c.store; inner = c.inner } =
+    same ∙ ap (λ (v : TreeView). record a { placed = v.placed; rows = v.rows; next = v.next; is_changed = v.is_changed; is_failed = v.is_failed; store = v.store; inner = v.inner }) (sym same) in
+    rw is (record {
+      frame = frame;
+      marked = subst (λ (v : TreeView). IsMarkedFirst a v) (sym same) (record { kept = λ honest unmarked m first lt. refl; marked = λ sound e. sound.marked e });
+      done = tt;
+      left = left;
+    })
+
+-- a search that was refused, as a change
+searched_left : (e : TreeFault) (a c : TreeView) → Searches {A = TreeFault} a c (Err e) → IsLeft a c e
+searched_left Full a c h = absurd h.faults
+searched_left HasFailed a c h = (h.faults, h.same)
+searched_left Memory a c h = subst (λ (v : TreeView). Leaves a v) (sym h.same) (same_leaves a)
+searched_left (Page page fault) a c h = (h.faults.0, inl h.faults.1, h.same)
+searched_left (Store store.Device) a c h = (h.faults, inl h.same)
+searched_left (Store store.NoPage) a c h = (h.faults.0, inl (inl h.faults.1, h.same))
+searched_left (Store store.BadSize) a c h = absurd h.faults
+searched_left (Store store.Memory) a c h = absurd h.faults
+
+pub searched_by : {T U : Type 0} (r : Result T TreeFault) (e : TreeFault) (a c : TreeView) → IsErrAnd r (λ x. x ≡ e) → Searches {A = U} a c (Err e) → Changes a c r
+searched_by r e a c is h = read_left r e a c is h.same (searched_left e a c (record { same = h.same; faults = h.faults }))
+
+-- a change of the index that wasn't made ready
+ready_left : (e : TreeFault) (a c : TreeView) → MakesReady {A = TreeFault} a c (Err e) → IsLeft a c e
+ready_left Full a c h = (inr h.faults, h.same)
+ready_left HasFailed a c h = (h.faults, h.same)
+ready_left Memory a c h = subst (λ (v : TreeView). Leaves a v) (sym h.same) (same_leaves a)
+ready_left (Page page fault) a c h = (h.faults.0, h.faults.1, h.same)
+ready_left (Store store.Device) a c h = (h.faults, inl h.same)
+ready_left (Store store.NoPage) a c h = (h.faults.0, inl (h.faults.1, h.same))
+ready_left (Store store.BadSize) a c h = (h.faults, subst (λ (v : TreeView). Leaves a v) (sym h.same) (same_leaves a))
+ready_left (Store store.Memory) a c h = absurd h.faults
+
+pub ready_by : {T U : Type 0} (r : Result T TreeFault) (e : TreeFault) (a c : TreeView) → IsErrAnd r (λ x. x ≡ e) → MakesReady {A = U} a c (Err e) → Changes a c r
+ready_by r e a c is h = read_left r e a c is h.same (ready_left e a c (record { same = h.same; faults = h.faults }))
+
+-- a change after a search
+pub then_changed : {T : Type 0} (r : Result T TreeFault) (a b c : TreeView) → b ≡ a → Changes b c r → Changes a c r
+then_changed r a b c same h = subst (λ (v : TreeView). Changes v c r) same h
+
+-- nothing was changed
+pub nothing_changed : {T : Type 0} (x : T) (a b : TreeView) → b ≡ a → Changes a b (Ok x)
+nothing_changed x a b same = subst (λ (v : TreeView). Changes a v (Ok x)) (sym same) (record { frame = refl; marked = same_marked a; done = (refl, refl); left = tt })
+
+-- a change after which rows are counted
+pub counted_anew : {T U : Type 0} (x : T) (y : U) (a mid d : TreeView) (rows next : ℕ) → d ≡ record mid { rows = rows; next = next } → Changes {A = T} a mid (Ok x) → Changes {A = U} a d (Ok y)
+counted_anew x y a mid d rows next is h = record {
+  frame = is ∙ ap (λ (v : TreeView). record v { rows = rows; next = next }) h.frame
+      ∙ ap (λ (v : TreeView). record a { placed = v.placed; rows = v.rows; next = v.next; is_changed = v.is_changed; is_failed = v.is_failed; store = v.store; inner = v.inner }) (sym is);
+  marked = subst (λ (v : TreeView). IsMarkedFirst a v) (sym is) (record { kept = h.marked.kept; marked = h.marked.marked });
+  done = subst (λ (v : TreeView). Works a v) (sym is) h.done;
+  left = tt;
+}
+
+-- where the page of one region was written, it may as well have been those of the index
+pub writes_wider : (chain : List ℕ) (page : ℕ) (a c : StoreFacts) → KeepsOthers (0 ∷ page ∷ []) a c → KeepsOthers ((0 ∷ chain) ++ page ∷ []) a c
+writes_wider chain page a c h = record {
+  kept = λ honest m out lt. h.kept honest m (fewer m out) lt;
+  lasting = λ honest. by_case (h.lasting honest);
+}
+  where
+    fewer : (m : ℕ) → IsOutside m ((0 ∷ chain) ++ page ∷ []) → IsOutside m (0 ∷ page ∷ [])
+    fewer m out = (out.0, all_right (λ n. m ≢ n) (0 ∷ chain) (page ∷ []) out)
+
+    by_case : (c.synced ≡ a.synced) ⊎ AreOthersKept (0 ∷ page ∷ []) a.pages c.synced → (c.synced ≡ a.synced) ⊎ AreOthersKept ((0 ∷ chain) ++ page ∷ []) a.pages c.synced
+    by_case (inl same) = inl same
+    by_case (inr kept) = inr (λ m out lt. kept m (fewer m out) lt)
+
+-- pages of these numbers were written, and then those of a change of the index, each of which is one of the index
+pub writes_both : (chain : List ℕ) (page : ℕ) (sheets : List Sheet) (a mid new : StoreFacts) → KeepsOthers (0 ∷ page ∷ []) a mid → PutsSheets sheets mid new → (IsHonest a → IsHonest mid)
+    → (IsHonest a → (m : ℕ) → m < page_count a → IsOutside m (0 ∷ chain) → IsUnspelled m sheets) → KeepsOthers ((0 ∷ chain) ++ page ∷ []) a new
+writes_both chain page sheets a mid new h puts honest_mid free = record {
+  kept = λ honest m out lt. puts.others (honest_mid honest) m (free honest m lt (all_left (λ n. m ≢ n) (0 ∷ chain) (page ∷ []) out)) ∙ (writes_wider chain page a mid h).kept honest m out lt;
+  lasting = λ honest. by_puts honest (puts.lasting (honest_mid honest));
+}
+  where
+    wide : KeepsOthers ((0 ∷ chain) ++ page ∷ []) a mid
+    wide = writes_wider chain page a mid h
+
+    by_mid : new.synced ≡ mid.synced → (mid.synced ≡ a.synced) ⊎ AreOthersKept ((0 ∷ chain) ++ page ∷ []) a.pages mid.synced → (new.synced ≡ a.synced) ⊎ AreOthersKept ((0 ∷ chain) ++ page ∷ []) a.pages new.synced
+    by_mid same (inl was) = inl (same ∙ was)
+    by_mid same (inr kept) = inr (subst (λ (ps : List (List ℕ)). AreOthersKept ((0 ∷ chain) ++ page ∷ []) a.pages ps) (sym same) kept)
+
+    by_puts : IsHonest a → (new.synced ≡ mid.synced) ⊎ SameButSheets sheets mid.pages new.synced → (new.synced ≡ a.synced) ⊎ AreOthersKept ((0 ∷ chain) ++ page ∷ []) a.pages new.synced
+    by_puts honest (inl same) = by_mid same (wide.lasting honest)
+    by_puts honest (inr put) = inr (λ m out lt. put.others m (free honest m lt (all_left (λ n. m ≢ n) (0 ∷ chain) (page ∷ []) out)) ∙ wide.kept honest m out lt)
+
+-- the page is that of a region of which the tree tells
+pub writes_told : (a c : TreeView) (seat : Seat) → IsSeatOf a seat → WritesIndex seat.page a c → WritesOneRegion a c
+writes_told a c seat of h = (
+  seat.page,
+  inr (region_of a.inner.index.last seat, record { key = of.0; seat = seat; falls = of.1; region_is = refl }, refl),
+  h,
+)
+
+-- a call that only writes is a change
+module _ (a c : TreeView) (seat : Seat) (of : IsSeatOf a seat) where
+  ended : (fault : TreeFault) → HasStopped fault a c → WritesPage seat.page a c → HasEnded fault a c
+  ended fault h kept = record {
+    same = h.same;
+    others = writes_told a c seat of (writes_wider (pages_under a.store.pages a.inner.index.levels (top a.inner.index.root)) seat.page a.store c.store kept);
+  }
+
+  wrote_left : (fault : TreeFault) → IsWriteFault a c fault → WritesPage seat.page a c → IsLeft a c fault
+  wrote_left Full h kept = absurd h
+  wrote_left HasFailed h kept = absurd h
+  wrote_left Memory h kept = absurd h
+  wrote_left (Page page fault) h kept = absurd h
+  wrote_left (Store store.Device) h kept = (h.0, inr (ended (Store store.Device) h.1 kept))
+  wrote_left (Store store.NoPage) h kept = absurd h
+  wrote_left (Store store.BadSize) h kept = absurd h
+  wrote_left (Store store.Memory) h kept = absurd h
+
+  all_left_by : {T : Type 0} (r : Result T TreeFault) → IfErr r (IsWriteFault a c) → WritesPage seat.page a c → IfErr r (IsLeft a c)
+  all_left_by (Ok x) faults kept = tt
+  all_left_by (Err e) faults kept = wrote_left e faults kept
+
+  all_done : {T : Type 0} (r : Result T TreeFault) → OnOk r (c.is_failed ≡ a.is_failed) → c.store ≡ written_store r a.store c.store → OnOk r (Works a c)
+  all_done (Ok x) done same = (done, same)
+  all_done (Err e) done same = tt
+
+  pub changed_by : {T : Type 0} (r : Result T TreeFault) → Writes seat a c r → Changes a c r
+  changed_by r w = record {
+    frame = w.frame ∙ ap (λ (v : TreeView). record a { placed = c.placed; rows = v.rows; next = v.next; is_changed = c.is_changed; is_failed = c.is_failed; store = v.store; inner = v.inner }) (sym w.frame);
+    marked = w.marked;
+    done = all_done r w.done (ap (λ (v : TreeView). v.store) w.frame);
+    left = all_left_by r w.faults w.kept;
+  }
+
+  pub changes_by : {T U : Type 0} (r : Result T TreeFault) (e : TreeFault) → IsErrAnd r (λ x. x ≡ e) → Writes {A = U} seat a c (Err e) → Changes a c r
+  changes_by r e is w = left_by r e a c is (changed_by {T = TreeFault} (Err e) (record { frame = w.frame; marked = w.marked; done = tt; faults = w.faults; kept = w.kept; count = w.count }))
+
+-- a mark that was written stays so
+pub mark_stays : (was now : Mark) → (now ≡ was) ⊎ (now ≡ Written) → is_written was ≡ true → is_written now ≡ true
+mark_stays was now (inl same) is = ap is_written same ∙ is
+mark_stays was now (inr written) is = ap is_written written

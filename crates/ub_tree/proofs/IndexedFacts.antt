@@ -1,0 +1,100 @@
+-- What the index of a tree tells of its regions.
+use Rattle.std.proofs.Common.{◌≡◌, ◌∙◌, ◌++◌, ℕ, zero, suc, List, [], ◌∷◌, Option, Some, map, drop, nat_eq, sym, ap, subst, refl, slice_get}
+use Rattle.std.proofs.lemmas.Option.{slice_get_within}
+use Rattle.std.specs.List.{Contains, IsDistinct}
+use Rattle.ub_bigmin.specs.Box.{Corners, HoldsAny}
+use Rattle.ub_bigmin.specs.Extremes.{LeastFrom}
+use Rattle.ub_directory.proofs.Laws.{region_is, region_with}
+use Rattle.ub_directory.specs.Spans.{First, IsLater, Meets, first_keys, regions_of}
+use Rattle.ub_directory.specs.declared.region.Region.{Region as Span}
+use Rattle.ub_index.proofs.FoundFacts.{meeting_given}
+use Rattle.ub_index.proofs.LeadFacts.{led_to, ways_hold}
+use Rattle.ub_index.proofs.WayFacts.{seat_is}
+use Rattle.ub_index.specs.Preparing.{IsReachedOnce}
+use Rattle.ub_index.specs.Searching.{GivesAfter, end_before, region_of}
+use Rattle.ub_index.specs.View.{IndexView, IsIndexOn, IsSeatAt, entries_in}
+use Rattle.ub_index.specs.declared.seat.Seat.{Seat}
+use Rattle.ub_page.specs.declared.entries.Entry.{Entry}
+use Rattle.ub_region.specs.Regions.{index_holding}
+use Rattle.ub_region.specs.Spans.{span_end}
+use Rattle.ub_store.specs.Facts.{StoreFacts, IsHonest}
+use Rattle.ub_store.specs.View.{PagerView}
+use Rattle.ub_table.specs.declared.row.Key.{Key}
+use Rattle.ub_index.proofs.Numbers.{distinct_left}
+use Rattle.ub_tree.proofs.TreeFacts.{span_entry}
+use Rattle.ub_tree.proofs.MeetFacts.{contained_at as contained, contains_at}
+use Rattle.ub_tree.specs.Indexed.{HasIndex, reserved}
+use Rattle.ub_tree.specs.Placed.{entry_of}
+use Rattle.ub_tree.specs.Told.{FallsSurely, FallsTo, IsRegionOf}
+use Rattle.ub_tree.specs.View.{TreeView, IsSound, spans_of}
+use Rattle.ub_tree.specs.inner.Change.{IsSeatIn}
+use Rattle.ub_zaddr.specs.Address.{last_address}
+
+-- the index of a tree stands on its store
+pub index_on : (index : IndexView) (store : StoreFacts) (entries : List Entry) → IsHonest store → HasIndex index store.pages entries → IsIndexOn index store
+index_on index store entries honest h = record { honest = honest; some = h.some; under_it = h.under_it }
+
+-- each of its pages is reached once
+pub reached_once : (index : IndexView) (store : StoreFacts) (numbers : List ℕ) → IsDistinct nat_eq (reserved index store.pages ++ numbers) → IsReachedOnce index store
+reached_once index store numbers own = distinct_left (reserved index store.pages) numbers own
+
+-- the region of a seat among the regions
+pub seat_region : (last : ℕ) (entries : List Entry) (i : ℕ) (seat : Seat) → IsSeatAt entries i seat → slice_get (regions_of last entries) i ≡ Some (region_of last seat)
+seat_region last entries i seat at =
+    region_is last entries i (record { first = seat.first; page = seat.page }) at.entry
+    ∙ (ap (λ (to : ℕ). Some (region_with to (slice_get (first_keys entries) (suc i)) (record { first = seat.first; page = seat.page }))) (end_is entries (suc i) ∙ ap (end_before last) (sym at.next))
+    ∙ ap (λ (next : Option Key). Some (region_with (end_before last seat.next) next (record { first = seat.first; page = seat.page }))) (sym at.next))
+  where
+    end_is : (es : List Entry) (j : ℕ) → span_end last (first_keys (drop j es)) ≡ end_before last (slice_get (first_keys es) j)
+    end_is [] zero = refl
+    end_is [] (suc j) = refl
+    end_is (e ∷ es) zero = refl
+    end_is (e ∷ es) (suc j) = end_is es j
+
+-- what is given after a region is the first later one of the index that meets the boxes
+pub first_given : (index : IndexView) (old : PagerView) → IsIndexOn index old.store → (boxes : List Corners) (after found : Option Span)
+    → GivesAfter index old (λ from. LeastFrom (HoldsAny boxes) from.z) after found
+    → First (λ r. IsLater after r × Meets boxes r) (regions_of index.last (entries_in index old.store)) found
+first_given index old is boxes after found given = meeting_given index old is after (record { ref_ptr = (0, 0); now = boxes }) found given
+
+module _ (t : TreeView) (sound : IsSound t) where
+  pub sound_index : IsIndexOn t.inner.index t.store
+  sound_index = index_on t.inner.index t.store (map entry_of t.placed) sound.honest sound.indexed
+
+  pub spans_told : regions_of t.inner.index.last (entries_in t.inner.index t.store) ≡ spans_of t
+  spans_told = ap (λ (last : ℕ). regions_of last (entries_in t.inner.index t.store)) sound.last_is ∙ ap (regions_of (last_address t.schema.dims)) sound.indexed.entries_are
+
+  -- the seat to which a key falls is that of the region which holds it
+  pub seat_of_key : (key : Key) (seat : Seat) → FallsTo t key seat → IsSeatIn t (index_holding key (first_keys (map entry_of t.placed))) seat
+  seat_of_key key seat falls =
+      subst (λ (es : List Entry). IsSeatAt es (index_holding key (first_keys es)) seat) sound.indexed.entries_are (seat_is t.inner.index t.store falls.0 key seat sound_index (falls.1.way sound.honest))
+
+  -- and to each seat its own first key falls, on a way on which each page fits
+  pub first_falls : (i : ℕ) (seat : Seat) → IsSeatIn t i seat → FallsSurely t seat.first seat
+  first_falls i seat at =
+      let leads = led_to t.inner.index t.store [] i seat sound_index (subst (λ (es : List Entry). IsSeatAt es i seat) (sym sound.indexed.entries_are) at) in
+      let holds = ways_hold t.inner.index t.store seat.first seat leads in
+      record { holds = holds.1; way = λ honest. leads }
+
+  pub told_contained : (span : Span) → IsRegionOf t span → Contains (spans_of t) span
+  told_contained span told =
+      let i = index_holding told.key (first_keys (map entry_of t.placed)) in
+      let at = seat_region t.inner.index.last (map entry_of t.placed) i told.seat (seat_of_key told.key told.seat told.falls) in
+      let here : slice_get (spans_of t) i ≡ Some span =
+      ap (λ (last : ℕ). slice_get (regions_of last (map entry_of t.placed)) i) (sym sound.last_is) ∙ (at ∙ ap (λ (r : Span). Some r) (sym told.region_is)) in
+      contains_at (spans_of t) i span here
+
+  pub contained_told : (span : Span) → Contains (spans_of t) span → IsRegionOf t span
+  contained_told span there =
+      let i = there.0 in
+      let at : slice_get (spans_of t) i ≡ Some span = contained (spans_of t) span there in
+      let (e, entry_at, first, page, next) = span_entry (last_address t.schema.dims) (map entry_of t.placed) i span at in
+      let seat : Seat = record { first = e.first; page = e.page; next = slice_get (first_keys (map entry_of t.placed)) (suc i) } in
+      let seated : IsSeatIn t i seat = seat_there (map entry_of t.placed) i e entry_at in
+      let own = seat_region t.inner.index.last (map entry_of t.placed) i seat seated in
+      let whole : slice_get (regions_of t.inner.index.last (map entry_of t.placed)) i ≡ Some span = ap (λ (last : ℕ). slice_get (regions_of last (map entry_of t.placed)) i) sound.last_is ∙ at in
+      record { key = seat.first; seat = seat; falls = ([], first_falls i seat seated); region_is = (let both = sym whole ∙ own in cc) }
+    where
+      seat_there : (entries : List Entry) (i : ℕ) (e : Entry) → slice_get entries i ≡ Some e
+          → IsSeatAt entries i (record { first = e.first; page = e.page; next = slice_get (first_keys entries) (suc i) })
+      seat_there entries i e at = record { within = slice_get_within entries i e at; entry = at; next = refl }

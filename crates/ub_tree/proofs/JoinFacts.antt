@@ -1,0 +1,262 @@
+-- A tree of which two neighbouring regions were joined into the first: the change of its index was made ready, the first one's page was put,
+-- and then the pages that the change spells.
+use Rattle.std.proofs.Common.{◌≡◌, ◌≢◌, ◌<◌, ◌≤◌, ◌+◌, ◌-◌, ◌∙◌, ◌++◌, inl, inr, ◌⊎◌, ℕ, suc, true, false, List, [], ◌∷◌, None, Some, Ok, Err, Result, IfErr, IsTrue, length, map, sym, ap, subst, arith, slice_get}
+use Rattle.std.proofs.lemmas.Bool.{cases_lt}
+use Rattle.std.proofs.lemmas.List.{length-map}
+use Rattle.std.proofs.lemmas.Option.{slice_get_past}
+use Rattle.std.specs.Result.{IsErrAnd}
+use Rattle.ub_index.proofs.Numbers.{distinct_first, distinct_left}
+use Rattle.ub_index.specs.Changed.{Replaces}
+use Rattle.ub_index.specs.Changing.{AreOnce, IsOutside, IsUnspelled, Stand}
+use Rattle.ub_index.specs.Index.{pages_under, top}
+use Rattle.ub_index.specs.Lowering.{IsDropFault}
+use Rattle.ub_index.specs.Making.{IsPutFault, PutsSheets, changed}
+use Rattle.ub_index.specs.Preparing.{ChangeView, MakesIndex, entry_at}
+use Rattle.ub_index.specs.View.{IndexView, entries_in}
+use Rattle.ub_index.specs.declared.fault.IndexFault.{IndexFault}
+use Rattle.ub_index.specs.declared.fault.IndexFault.TheVariants as index
+use Rattle.ub_index.specs.declared.seat.Seat.{Seat}
+use Rattle.ub_index.specs.declared.sheet.Sheet.{Sheet}
+use Rattle.ub_page.specs.declared.entries.Entry.{Entry}
+use Rattle.ub_region.proofs.Laws.{all_more}
+use Rattle.ub_region.specs.Joins.{put_rows}
+use Rattle.ub_region.specs.Regions.{index_holding}
+use Rattle.ub_store.specs.Facts.{StoreFacts, IsHonest, page_count}
+use Rattle.ub_store.specs.declared.fault.StoreFault.TheVariants as store
+use Rattle.ub_table.proofs.Laws.{before_from, before_parts}
+use Rattle.ub_table.specs.Keys.{IsBefore, origin}
+use Rattle.ub_table.specs.Region.{IsRegion}
+use Rattle.ub_table.specs.declared.row.Key.{Key}
+use Rattle.ub_table.specs.declared.row.Row.{Row}
+use Rattle.ub_table.specs.declared.schema.Schema.{Schema}
+use Rattle.ub_tree.proofs.DropFacts.{dropped_are, dropped_indexed, dropped_long, dropped_placed, dropped_regions}
+use Rattle.ub_tree.proofs.EffectFacts.{left_by, sound_stored, writes_both, writes_told}
+use Rattle.ub_tree.proofs.IndexedFacts.{seat_of_key}
+use Rattle.ub_tree.proofs.PutFacts.{view_placed}
+use Rattle.ub_tree.proofs.RoomFacts.{begins_before}
+use Rattle.ub_tree.proofs.TreeFacts.{each_get}
+use Rattle.ub_tree.specs.Effects.{Changes, HasEnded, IsLeft, written_store}
+use Rattle.ub_tree.specs.Faults.{index_fault}
+use Rattle.ub_tree.specs.Indexed.{HasIndex, Inner, entries_on, reserved}
+use Rattle.ub_tree.specs.Others.{AreOthersKept, KeepsOthers, WritesIndex}
+use Rattle.ub_tree.specs.Placed.{Placed, ArePlaced, entry_of, placed_of, regions_in}
+use Rattle.ub_tree.specs.Removal.{IsRemovalFault}
+use Rattle.ub_tree.specs.Spans.{first_keys}
+use Rattle.ub_tree.specs.Tree.{placed_in}
+use Rattle.ub_tree.specs.View.{TreeView, IsSound, region_count, regions}
+use Rattle.ub_tree.specs.declared.fault.TreeFault.{TreeFault}
+use Rattle.ub_tree.specs.declared.fault.TreeFault.TheVariants.{Full, Page, Store, Failed as HasFailed, Memory}
+use Rattle.ub_tree.specs.inner.Change.{HasStopped, IsDropReady, IsElsewhereSame, IsIndexFault, IsPut, IsSeatIn, IsSeatOf, IsSeatThere, IsSpelledAt, IsStored, JoinsAt, Writes, placed_with}
+use Rattle.ub_writing.specs.Marks.{HasMark}
+
+-- a key after another one is after the least of all
+after_origin : (key later : Key) → IsBefore key later → IsBefore origin later
+after_origin key later before = by_parts (before_parts key later before)
+  where
+    by_parts : (key.z < later.z) ⊎ ((key.z ≡ later.z) × (key.number < later.number)) → IsBefore origin later
+    by_parts (inl lt) = before_from origin later (inl (let low : 0 < later.z = omega arith in low))
+    by_parts (inr same) = elim (cases_lt 0 later.z) [
+      | inl lt ↦ before_from origin later (inl lt)
+      | inr le ↦ let less = same.1 in before_from origin later (inr (let zero : 0 ≡ later.z = omega arith in zero, let low : 0 < later.number = omega arith in low))
+    ]
+
+-- a region that comes after another one isn't the first
+pub behind_first : (t : TreeView) (seat next : Seat) → IsSeatOf t seat → seat.next ≡ Some next.first → IsBefore origin next.first
+behind_first t seat next of begins = after_origin seat.first next.first (begins_before t of.0 seat next.first of.1 begins)
+
+-- a sound tree of which two neighbours are known has more than one region
+pub alone_not_sound : (t : TreeView) (seat next : Seat) → region_count t ≡ 1 → IsSeatOf t seat → seat.next ≡ Some next.first → ¬ (IsSound t)
+alone_not_sound t seat next one of begins sound =
+    let i = index_holding of.0 (first_keys (map entry_of t.placed)) in
+    let at = seat_of_key t sound of.0 seat of.1 in
+    let within = at.within in
+    let long = length-map t.placed entry_of in
+    let keys = length-map (map entry_of t.placed) (λ (e : Entry). e.first) in
+    let count = sound.count_is in
+    let none : slice_get (first_keys (map entry_of t.placed)) (suc i) ≡ None = slice_get_past (first_keys (map entry_of t.placed)) (suc i) (omega arith) in
+    let bad : None ≡ Some next.first = sym none ∙ sym at.next ∙ begins in
+    cc
+
+module _ (b mid n : TreeView) (seat next : Seat) (change : ChangeView) (there : IsSeatThere b seat) (of_next : IsSeatOf b next) (begins : seat.next ≡ Some next.first)
+    (ready : IsDropReady b next change) (put : IsPut b mid) (wrote : Writes {A = Unit {0}} seat b mid (Ok tt)) (puts : PutsSheets change.sheets mid.store n.store) where
+  abbrev chain : List ℕ
+  chain = pages_under b.store.pages b.inner.index.levels (top b.inner.index.root)
+
+  free : IsHonest b.store → (m : ℕ) → m < page_count b.store → IsOutside m (0 ∷ chain) → IsUnspelled m change.sheets
+  free honest m lt out = all_more (IsSpelledAt b (page_count b.store) change) (λ (s : Sheet). m ≢ s.number) (λ s h. h.own m lt out) change.sheets (ready.spelled honest)
+
+  honest_mid : IsHonest b.store → IsHonest mid.store
+  honest_mid honest = ap (λ (v : TreeView). v.store.honest) wrote.frame ∙ honest
+
+  later : IsBefore origin next.first
+  later = behind_first b seat next there.seat_is begins
+
+  -- the first page is none of those that are spelled
+  zero_free : IsSound b → IsUnspelled 0 change.sheets
+  zero_free sound =
+      let makes = ready.makes (index_holding of_next.0 (first_keys (map entry_of b.placed))) (sound_stored b sound) (seat_of_key b sound of_next.0 next of_next.1) later in
+      let far = there.there in
+      makes.own 0 (inl (omega arith), distinct_first 0 chain (distinct_left (0 ∷ chain) (map (λ (p : Placed). p.page) b.placed) sound.placed_are.own))
+
+  written_others : WritesIndex seat.page b n
+  written_others = writes_both chain seat.page change.sheets b.store mid.store n.store wrote.kept puts honest_mid free
+
+  -- the mark stands
+  mark_then : IsSound b → HasMark b.schema n.store.pages
+  mark_then sound =
+      let had = wrote.marked.marked sound (ap (λ (v : TreeView). v.is_changed) put) in
+      (had.0, had.1, puts.others (honest_mid sound.honest) 0 (zero_free sound) ∙ had.2)
+
+  -- the pages of the index weren't put
+  ended : (fault : TreeFault) → HasStopped fault mid n → HasEnded fault b n
+  ended fault h = record {
+    same = h.same
+        ∙ ap (λ (v : TreeView). record v { placed = n.placed; is_changed = n.is_changed; is_failed = true; store = written_store {A = TreeFault} (Err fault) v.store n.store }) wrote.frame;
+    others = writes_told b n seat there.seat_is written_others;
+  }
+
+  no_page_missing : IsPutFault change.sheets mid.store store.NoPage → ¬ (IsHonest b.store)
+  no_page_missing (k, sheet, at, past) honest =
+      let is = each_get (IsSpelledAt b (page_count b.store) change) change.sheets k sheet (ready.spelled honest) at in
+      let none = ready.next honest in
+      let count = wrote.count in
+      elim is.there [
+        | inl lt ↦ absurd (omega arith)
+        | inr more ↦ let least = more.0 in let most = more.1 in absurd (omega arith)
+      ]
+
+  index_left : (fault : TreeFault) → HasStopped fault mid n → IsIndexFault change mid.store fault → IsLeft b n fault
+  index_left Full stopped h = absurd h
+  index_left HasFailed stopped h = absurd h
+  index_left Memory stopped h = absurd h
+  index_left (Page page fault) stopped h = absurd h
+  index_left (Store store.Device) stopped h = (subst (λ (v : TreeView). IsTrue v.store.can_fail) wrote.frame h, inr (ended (Store store.Device) stopped))
+  index_left (Store store.NoPage) stopped h = ((λ sound. no_page_missing h sound.honest), inr (no_page_missing h, ended (Store store.NoPage) stopped))
+  index_left (Store store.BadSize) stopped h = absurd h
+  index_left (Store store.Memory) stopped h = absurd h
+
+  pub index_failed : {T : Type 0} (r : Result T TreeFault) (fault : TreeFault) → IsErrAnd r (λ x. x ≡ fault) → n.is_changed ≡ mid.is_changed → HasStopped fault mid n → IsIndexFault change mid.store fault
+      → Changes b n r
+  index_failed r fault is kept stopped h =
+      let e = (ended fault stopped).same in
+      let now : n.is_changed ≡ true = kept ∙ ap (λ (v : TreeView). v.is_changed) put in
+      left_by {U = TreeFault} r fault b n is (record {
+        frame = e ∙ ap (λ (v : TreeView). record b { placed = v.placed; rows = v.rows; next = v.next; is_changed = v.is_changed; is_failed = v.is_failed; store = v.store; inner = v.inner }) (sym e);
+        marked = record { kept = λ honest unmarked m first lt. absurd (let bad : true ≡ false = sym now ∙ unmarked in cc); marked = λ sound _. mark_then sound };
+        done = tt;
+        left = index_left fault stopped h;
+      })
+
+  -- they were, and a region fewer is counted
+  module _ (d : TreeView) (now : n ≡ record mid { placed = n.placed; store = n.store; inner = record mid.inner { index = changed mid.inner.index change } })
+      (is : d ≡ record n { inner = record n.inner { count = n.inner.count - 1 } }) where
+    abbrev inner_then : Inner
+    inner_then = record { index = changed b.inner.index change; count = b.inner.count - 1 }
+
+    whole : d ≡ record b { placed = n.placed; store = n.store; is_changed = true; inner = inner_then }
+    whole =
+        is ∙ ap (λ (v : TreeView). record v { inner = record v.inner { count = v.inner.count - 1 } }) now
+        ∙ ap (λ (v : TreeView). record v { placed = n.placed; store = n.store; inner = record { index = changed v.inner.index change; count = v.inner.count - 1 } }) put
+
+    store_is : d.store ≡ n.store
+    store_is = ap (λ (v : TreeView). v.store) is
+
+    elsewhere : IsElsewhereSame b d
+    elsewhere = whole ∙ ap (λ (v : TreeView). record b { placed = v.placed; store = v.store; is_changed = true; inner = v.inner }) (sym whole)
+
+    pub joined_at : 1 ≤ region_count b → JoinsAt seat b d
+    joined_at some = record {
+      same = elsewhere;
+      others = subst (λ (s : StoreFacts). KeepsOthers (reserved b.inner.index b.store.pages ++ seat.page ∷ []) b.store s) (sym store_is) written_others;
+      dropped = (
+        (let count = ap (λ (v : TreeView). v.inner.count) whole in omega arith),
+        ap page_count store_is ∙ puts.count ∙ wrote.count,
+      );
+    }
+
+    pub joined_effect : {T : Type 0} (x : T) → n.store ≡ record mid.store { pages = n.store.pages; synced = n.store.synced } → Changes b d (Ok x)
+    joined_effect x works = record {
+      frame = elsewhere ∙ ap (λ (v : TreeView). record b { placed = v.placed; rows = v.rows; next = v.next; is_changed = v.is_changed; is_failed = v.is_failed; store = v.store; inner = v.inner }) (sym elsewhere);
+      marked = record {
+        kept = λ honest unmarked m first lt. absurd (let bad : true ≡ false = sym (ap (λ (v : TreeView). v.is_changed) whole) ∙ unmarked in cc);
+        marked = λ sound _. subst (λ (s : StoreFacts). HasMark b.schema s.pages) (sym store_is) (mark_then sound);
+      };
+      done = (
+        ap (λ (v : TreeView). v.is_failed) whole,
+        store_is ∙ works ∙ ap (λ (v : TreeView). record v.store { pages = n.store.pages; synced = n.store.synced }) wrote.frame
+            ∙ ap (λ (s : StoreFacts). record b.store { pages = s.pages; synced = s.synced }) (sym store_is),
+      );
+      left = tt;
+    }
+
+    pub joined_written : (i : ℕ) (rows : List Row) → b.placed ≡ placed_in b.schema b.inner.index b.store → d.placed ≡ placed_in d.schema d.inner.index d.store
+        → n.store ≡ record mid.store { pages = n.store.pages; synced = n.store.synced }
+        → IsStored b → IsSeatIn b i seat → IsSeatIn b (i + 1) next → IsRegion b.schema (record { first = seat.first; rows = rows })
+        → IsStored mid × (mid.placed ≡ placed_with i (record { page = seat.page; region = record { first = seat.first; rows = rows } } ∷ []) b.placed)
+        → (AreOnce change.sheets → IsHonest mid.store → Stand n.store.pages change.sheets)
+        → IsStored d × (regions d ≡ put_rows i true rows (regions b))
+    joined_written i rows viewed viewed_then works stored at at_next good rewritten stand = (
+      subst IsStored (sym as_told) (record {
+        working = stored.working;
+        honest = honest_n;
+        indexed = dropped_indexed b.schema b.inner.index b.store mid.store n.store b.placed mid.placed stored.honest viewed_pages stored.indexed stored.placed_are i seat next at at_next rows good
+            rewritten.0.honest others_mid wrote.count indexed_mid are_mid rewritten.1 change makes honest_n puts stands_then;
+        placed_are = dropped_are b.schema b.inner.index b.store mid.store n.store b.placed mid.placed stored.honest viewed_pages stored.indexed stored.placed_are i seat next at at_next rows good
+            rewritten.0.honest others_mid wrote.count indexed_mid are_mid rewritten.1 change makes honest_n puts stands_then;
+        count_is = (let less = long in let count = rewritten.0.count_is in let same = ap (λ (v : TreeView). v.inner.count) put in omega arith);
+      }),
+      ap regions_in placed_then
+          ∙ dropped_regions b.schema b.inner.index b.store mid.store n.store b.placed mid.placed stored.honest viewed_pages stored.indexed stored.placed_are i seat next at at_next rows good
+          rewritten.0.honest others_mid wrote.count indexed_mid are_mid rewritten.1 change makes honest_n puts stands_then,
+    )
+      where
+        viewed_pages : b.placed ≡ placed_of b.schema b.store.pages (entries_on b.inner.index b.store.pages)
+        viewed_pages = viewed ∙ view_placed b.schema b.inner.index b.store stored.honest
+
+        others_mid : AreOthersKept (0 ∷ seat.page ∷ []) b.store.pages mid.store.pages
+        others_mid = wrote.kept.kept stored.honest
+
+        index_is : mid.inner.index ≡ b.inner.index
+        index_is = ap (λ (v : TreeView). v.inner.index) put
+
+        indexed_mid : HasIndex b.inner.index mid.store.pages (map entry_of mid.placed)
+        indexed_mid = subst (λ (index : IndexView). HasIndex index mid.store.pages (map entry_of mid.placed)) index_is rewritten.0.indexed
+
+        are_mid : ArePlaced b.schema mid.placed (reserved b.inner.index mid.store.pages) mid.store.pages
+        are_mid = subst (λ (index : IndexView). ArePlaced b.schema mid.placed (reserved index mid.store.pages) mid.store.pages) index_is
+            (subst (λ (s : Schema). ArePlaced s mid.placed (reserved mid.inner.index mid.store.pages) mid.store.pages) (ap (λ (v : TreeView). v.schema) put) rewritten.0.placed_are)
+
+        makes : MakesIndex b.inner.index b.store (page_count b.store) change (Replaces (entry_at next) [] (entries_in b.inner.index b.store))
+        makes = ready.makes (i + 1) stored at_next later
+
+        honest_n : IsHonest n.store
+        honest_n = ap (λ (s : StoreFacts). s.honest) works ∙ rewritten.0.honest
+
+        stands_then : Stand n.store.pages change.sheets
+        stands_then = stand makes.once rewritten.0.honest
+
+        placed_then : d.placed ≡ placed_with (i + 1) [] mid.placed
+        placed_then =
+            viewed_then ∙ ap (λ (v : TreeView). placed_in v.schema v.inner.index v.store) whole ∙ view_placed b.schema (changed b.inner.index change) n.store honest_n
+            ∙ dropped_placed b.schema b.inner.index b.store mid.store n.store b.placed mid.placed stored.honest viewed_pages stored.indexed stored.placed_are i seat next at at_next rows good
+            rewritten.0.honest others_mid wrote.count indexed_mid are_mid rewritten.1 change makes honest_n puts stands_then
+
+        long : length (placed_with (i + 1) [] mid.placed) + 1 ≡ length mid.placed
+        long = dropped_long b.schema b.inner.index b.store mid.store n.store b.placed mid.placed stored.honest viewed_pages stored.indexed stored.placed_are i seat next at at_next rows good
+            rewritten.0.honest others_mid wrote.count indexed_mid are_mid rewritten.1 change makes honest_n puts stands_then
+
+        as_told : d ≡ record b { placed = placed_with (i + 1) [] mid.placed; store = n.store; is_changed = true; inner = inner_then }
+        as_told = whole ∙ ap (λ (ps : List Placed). record b { placed = ps; store = n.store; is_changed = true; inner = inner_then }) (sym (ap (λ (v : TreeView). v.placed) whole) ∙ placed_then)
+
+-- a region that doesn't leave the index, as a removal answers it: it is never for want of pages or levels
+pub drop_removal : {T : Type 0} (t : TreeView) (key : Key) (r : Result T TreeFault) (e : IndexFault) → IsErrAnd r (λ x. x ≡ index_fault e) → IsDropFault t.inner.index t.store key e → IfErr r (IsRemovalFault t)
+drop_removal t key (Ok x) e is h = absurd is
+drop_removal t key (Err f) e is h = rw is (by_fault e h)
+  where
+    by_fault : (e : IndexFault) → IsDropFault t.inner.index t.store key e → IsRemovalFault t (index_fault e)
+    by_fault (index.Page n fault) h = inr (inl (key, h))
+    by_fault index.Full h = absurd h.0
+    by_fault (index.Store store.Memory) h = tt
+    by_fault (index.Store store.Device) h = tt
+    by_fault (index.Store store.NoPage) h = tt
+    by_fault (index.Store store.BadSize) h = absurd h.0

@@ -1,0 +1,155 @@
+-- The seats beside a seat, over any pages: where what is found isn't its neighbour, two seats overlap.
+use Rattle.std.proofs.Common.{◌≡◌, ◌<◌, ◌^◌, ◌∙◌, ◌⊎◌, inl, inr, ℕ, zero, suc, List, Bool, Option, Some, None, IfSome, Ok, Err, ap, sym, subst, refl, arith}
+use Rattle.std.proofs.lemmas.Bool.{cases_lt}
+use Rattle.ub_index.proofs.KeyFacts.{le_before}
+use Rattle.ub_index.specs.Searching.{GivesAny, GoesDown, key_before}
+use Rattle.ub_index.specs.View.{IndexView}
+use Rattle.ub_index.specs.declared.seat.Seat.{Seat}
+use Rattle.ub_store.specs.View.{PagerView}
+use Rattle.ub_table.proofs.Laws.{before_from, before_parts, before_trans, not_before_self}
+use Rattle.ub_table.specs.Keys.{IsBefore}
+use Rattle.ub_table.specs.declared.fault.PageFault.TheVariants.{OutOfRegion}
+use Rattle.ub_table.specs.declared.row.Key.{Key}
+use Rattle.ub_table.specs.declared.schema.Schema.{Schema}
+use Rattle.ub_tree.proofs.SearchFacts.{index_not_refused, not_empty, overlaps}
+use Rattle.ub_tree.specs.Effects.{IsIndexRefused, IsReadFault, Searches}
+use Rattle.ub_tree.specs.Told.{FallsTo, HasOverlap, pager_of}
+use Rattle.ub_tree.specs.Tree.{tree_view}
+use Rattle.ub_tree.specs.View.{TreeView}
+use Rattle.ub_tree.specs.declared.fault.TreeFault.{TreeFault}
+use Rattle.ub_tree.specs.declared.fault.TreeFault.TheVariants.{Page}
+
+key_with : ℕ → ℕ → Key
+key_with z number = record { z = z; number = number }
+
+-- of two keys that aren't one, and of which the first isn't before the second, the second is before the first
+same_or_later : (a b : Key) → ¬ (IsBefore a b) → (a ≡ b) ⊎ IsBefore b a
+unfolding key_with
+same_or_later a b h = elim (cases_lt a.z b.z) [
+  | inl lt ↦ absurd (h (before_from a b (inl lt)))
+  | inr ge ↦ elim (cases_lt b.z a.z) [
+    | inl gt ↦ inr (before_from b a (inl gt))
+    | inr le ↦
+        let same_z : a.z ≡ b.z = omega arith in
+        elim (cases_lt a.number b.number) [
+          | inl lt ↦ absurd (h (before_from a b (inr (same_z, lt))))
+          | inr more ↦ elim (cases_lt b.number a.number) [
+            | inl gt ↦ inr (before_from b a (inr (sym same_z, gt)))
+            | inr less ↦
+                let same_number : a.number ≡ b.number = omega arith in
+                inl (ap (λ (z : ℕ). key_with z a.number) same_z ∙ ap (λ (n : ℕ). key_with b.z n) same_number)
+          ]
+        ]
+  ]
+]
+
+-- what follows the first key of a seat, which another seat holds, is where that seat begins; or the two overlap
+pub next_begins : (t : TreeView) (key next_key : Key) (seat next : Seat) → FallsTo t key seat → seat.next ≡ Some next_key → FallsTo t next_key next → (seat.next ≡ Some next.first) ⊎ HasOverlap t
+next_begins t key next_key seat next falls next_is next_falls = elim (same_or_later next_key next.first next_falls.1.holds.from) [
+  | inl same ↦ inl (next_is ∙ ap (λ (k : Key). Some k) same)
+  | inr later ↦
+      let within = not_empty key seat.first seat.next falls.1.holds in
+      let sooner : IsBefore seat.first next_key = subst (λ (o : Option Key). IfSome o (IsBefore seat.first)) next_is within in
+      inr (overlaps t key next_key seat next falls next_falls
+      (λ one. not_before_self next_key (subst (λ (o : Option Key). IfSome o (IsBefore next_key)) (sym (ap (λ (s : Seat). s.next) one) ∙ next_is) next_falls.1.holds.to))
+      within (subst (λ (o : Option Key). IfSome o (IsBefore next.first)) (sym next_is) later) (before_end next.next next_falls.1.holds.to sooner)
+      (not_empty next_key next.first next.next next_falls.1.holds))
+]
+  where
+    before_end : (o : Option Key) → IfSome o (IsBefore next_key) → IsBefore seat.first next_key → IfSome o (IsBefore seat.first)
+    before_end None h k = tt
+    before_end (Some end) h k = before_trans seat.first next_key end k h
+
+-- the greatest key before one of 32 bits: no key of 32 bits lies between
+greatest_before : (z n : ℕ) (key : Key) → key_before z n ≡ Some key
+    → IsBefore key (record { z = z; number = n }) × ((end : Key) → end.number < 2 ^ 32 → IsBefore end (record { z = z; number = n }) → ¬ (IsBefore key end))
+greatest_before zero zero key h = cc
+greatest_before (suc z) zero key h =
+    let same : record { z = z; number = 4294967295 } ≡ key = cc in
+    subst (λ (k : Key). IsBefore k (record { z = suc z; number = 0 }) × ((end : Key) → end.number < 2 ^ 32 → IsBefore end (record { z = suc z; number = 0 }) → ¬ (IsBefore k end))) same
+    (before_from (record { z = z; number = 4294967295 }) (record { z = suc z; number = 0 }) (inl (omega arith)), between)
+  where
+    between : (end : Key) → end.number < 2 ^ 32 → IsBefore end (record { z = suc z; number = 0 }) → ¬ (IsBefore (record { z = z; number = 4294967295 }) end)
+    between end le up down = elim (before_parts end (record { z = suc z; number = 0 }) up) [
+      | inl lt ↦ elim (before_parts (record { z = z; number = 4294967295 }) end down) [
+        | inl gt ↦ omega arith
+        | inr both ↦ let far = both.1 in omega arith
+      ]
+      | inr both ↦ let none = both.1 in omega arith
+    ]
+greatest_before z (suc n) key h =
+    let same : record { z = z; number = n } ≡ key = cc in
+    subst (λ (k : Key). IsBefore k (record { z = z; number = suc n }) × ((end : Key) → end.number < 2 ^ 32 → IsBefore end (record { z = z; number = suc n }) → ¬ (IsBefore k end))) same
+    (before_from (record { z = z; number = n }) (record { z = z; number = suc n }) (inr (refl, omega arith)), between)
+  where
+    between : (end : Key) → end.number < 2 ^ 32 → IsBefore end (record { z = z; number = suc n }) → ¬ (IsBefore (record { z = z; number = n }) end)
+    between end le up down = elim (before_parts end (record { z = z; number = suc n }) up) [
+      | inl lt ↦ elim (before_parts (record { z = z; number = n }) end down) [
+        | inl gt ↦ omega arith
+        | inr both ↦ let e = both.0 in omega arith
+      ]
+      | inr same ↦ elim (before_parts (record { z = z; number = n }) end down) [
+        | inl gt ↦ let e = same.0 in omega arith
+        | inr both ↦ let a = same.1 in let b = both.1 in omega arith
+      ]
+    ]
+
+-- the seat that holds the greatest key before that with which another seat begins ends there; or the two overlap
+pub before_ends : (t : TreeView) (key before_key : Key) (seat before : Seat) → FallsTo t key seat → key_before seat.first.z seat.first.number ≡ Some before_key → FallsTo t before_key before
+    → IfSome before.next (λ k. k.number < 2 ^ 32) → (before.next ≡ Some seat.first) ⊎ HasOverlap t
+before_ends t key before_key seat before falls before_is before_falls small = by_next before.next refl small before_falls.1.holds.to
+  where
+    greatest : IsBefore before_key seat.first × ((end : Key) → end.number < 2 ^ 32 → IsBefore end seat.first → ¬ (IsBefore before_key end))
+    greatest = greatest_before seat.first.z seat.first.number before_key before_is
+
+    sooner : IsBefore before.first seat.first
+    sooner = le_before before.first before_key seat.first before_falls.1.holds.from greatest.0
+
+    within : IfSome seat.next (IsBefore seat.first)
+    within = not_empty key seat.first seat.next falls.1.holds
+
+    before_end : (o : Option Key) → IfSome o (IsBefore seat.first) → IfSome o (IsBefore before.first)
+    before_end None h = tt
+    before_end (Some end) h = before_trans before.first seat.first end sooner h
+
+    over : IfSome before.next (IsBefore seat.first) → HasOverlap t
+    over later =
+        overlaps t before_key key before seat before_falls falls
+        (λ one. not_before_self seat.first (subst (λ (k : Key). IsBefore k seat.first) (ap (λ (s : Seat). s.first) one) sooner))
+        (not_empty before_key before.first before.next before_falls.1.holds) later (before_end seat.next within) within
+
+    by_next : (o : Option Key) → before.next ≡ o → IfSome o (λ k. k.number < 2 ^ 32) → IfSome o (IsBefore before_key) → (before.next ≡ Some seat.first) ⊎ HasOverlap t
+    by_next None is few to = inr (over (subst (λ (o : Option Key). IfSome o (IsBefore seat.first)) (sym is) tt))
+    by_next (Some end) is few to = elim (same_or_later end seat.first (λ down. greatest.1 end few down to)) [
+      | inl same ↦ inl (is ∙ ap (λ (k : Key). Some k) same)
+      | inr later ↦ inr (over (subst (λ (o : Option Key). IfSome o (IsBefore seat.first)) (sym is) later))
+    ]
+
+-- which refuses the root's page
+pub apart_fault : (t : TreeView) → t.inner.index.last < 2 ^ 128 → HasOverlap t → IsReadFault t (Page t.inner.index.root OutOfRegion)
+apart_fault t small over =
+    let refused : IsIndexRefused t t.inner.index.root OutOfRegion = λ honest. inr (refl, refl, over) in
+    ((λ sound. index_not_refused t t.inner.index.root OutOfRegion small sound refused), inl refused)
+
+-- what is given for a key that there may be
+pub given_next : (t : TreeView) (held : List (ℕ × List ℕ)) (sought : Option Key) (seat : Seat) → GivesAny t.inner.index (pager_of t held) sought (Some seat) → (key : Key) × (sought ≡ Some key) × FallsTo t key seat
+given_next t held None seat h = cc
+given_next t held (Some key) seat h = (key, refl, (held, h))
+
+-- a refusal that follows a search
+module _ (schema : Schema) (i : IndexView) (count next rows : ℕ) (changed failed : Bool) (old new : PagerView) (Sought : Key → Type 0) where
+  abbrev before : TreeView
+  before = tree_view schema i count next rows changed failed old
+
+  pub search_apart : {T : Type 0} (U : Type 0) (y : U) (fault : TreeFault) → GoesDown {A = U} Sought i old new (Ok y) → fault ≡ Page i.root OutOfRegion → i.last < 2 ^ 128 → HasOverlap before
+      → Searches {A = T} before (tree_view schema i count next rows changed failed new) (Err fault)
+  search_apart {T} U y fault h is small over =
+      subst (λ (f : TreeFault). Searches {A = T} before (tree_view schema i count next rows changed failed new) (Err f)) (sym is) (record {
+        same = ap (λ (p : PagerView). tree_view schema i count next rows changed failed p) h.same;
+        faults = apart_fault before small over;
+      })
+
+-- a number of 32 bits that is one's
+pub few_of : {A : Type 0} (number : A → ℕ) (o : Option A) (n : ℕ) → n < 4294967296 → IfSome o (λ x. n ≡ number x) → IfSome o (λ x. number x < 2 ^ 32)
+few_of number None n lt is = tt
+few_of number (Some x) n lt is = omega arith

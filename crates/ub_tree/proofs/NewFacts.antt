@@ -1,0 +1,68 @@
+-- A new row: its values, as they come, and its number.
+use Rattle.std.proofs.Common.{◌≡◌, ◌<◌, ◌≤◌, ◌-◌, ◌^◌, ℕ, ℤ, pos, zero, suc, List, [], ◌∷◌, ◌++◌, Some, Ok, Err, Result, OnOk, length, take, replicate, ◌∙◌, sym, ap, subst, arith, rules, slice_get, slice_set, get_or, Fits, w32}
+use Rattle.std.proofs.lemmas.Grind.{get_or_default_zero}
+use Rattle.std.proofs.lemmas.List.{length-append, length-replicate}
+use Rattle.std.proofs.lemmas.List.Elements.{All-append, All-from_recursion}
+use Rattle.std.proofs.Math.Facts.{Fits-lt-pow}
+use Rattle.std.proofs.Math.Seq.{drop-append_seam}
+use Rattle.std.specs.Prelude.{FitsSigned, IfOk}
+use Rattle.std.specs.Int.{w64}
+use Rattle.std.specs.List.{All, AllByRecursion}
+use Rattle.ub_table.specs.Region.{HasRest, IsNumbered, IsRow}
+use Rattle.ub_table.specs.declared.row.Row.{Row}
+use Rattle.ub_tree.specs.Change.{IsInserted, Suits, numbered, row_of}
+use Rattle.ub_tree.specs.View.{TreeView}
+use Rattle.ub_tree.specs.declared.fault.TreeFault.{TreeFault}
+
+all_same : {X : Type 0} (P : X → Type 0) (x : X) (n : ℕ) → P x → AllByRecursion P (replicate n x)
+all_same P x zero h = tt
+all_same P x (suc n) h = (h, all_same P x n h)
+
+rest_of : {X : Type 0} (x : X) (used : ℕ) (xs : List X) → length xs ≡ used → used ≤ 4 → HasRest x used (xs ++ replicate (4 - length xs) x)
+rest_of x used xs long few = (
+  length-append xs (replicate (4 - length xs) x) ∙ (let rest = length-replicate (4 - length xs) x in omega arith),
+  rw (← long) (drop-append_seam xs (replicate (4 - length xs) x)),
+)
+
+pub new_values : (dims measures n : ℕ) (ds : List ℕ) (ms : List ℤ) → length ds ≡ dims → length ms ≡ measures → dims ≤ 4 → measures ≤ 4
+    → All (λ x. x < 2 ^ 32) ds → AllByRecursion (λ x. FitsSigned w64 x) ms → Suits dims measures (row_of n ds ms)
+new_values dims measures n ds ms long_dims long_measures few_dims few_measures words signed = record {
+  dims_rest = rest_of 0 dims ds long_dims few_dims;
+  dims_words = All-append (λ x. x < 2 ^ 32) ds (replicate (4 - length ds) 0) words (All-from_recursion (λ x. x < 2 ^ 32) (replicate (4 - length ds) 0) (all_same (λ x. x < 2 ^ 32) 0 (4 - length ds) (omega arith)));
+  measures_rest = rest_of (pos 0) measures ms long_measures few_measures;
+  measures_words = All-append (λ x. FitsSigned w64 x) ms (replicate (4 - length ms) (pos 0)) (All-from_recursion (λ x. FitsSigned w64 x) ms signed)
+      (All-from_recursion (λ x. FitsSigned w64 x) (replicate (4 - length ms) (pos 0)) (all_same (λ x. FitsSigned w64 x) (pos 0) (4 - length ms) zero_fits));
+}
+  where
+    zero_fits : FitsSigned w64 (pos 0)
+    zero_fits = search rules
+
+-- values that suit, with a number that a row has, are a row
+pub numbered_row : (dims measures : ℕ) (row : Row) → Suits dims measures row → IsNumbered row → IsRow dims measures row
+numbered_row _ _ row suits number = record {
+  number = number;
+  dims_rest = suits.dims_rest;
+  dims_words = suits.dims_words;
+  measures_rest = suits.measures_rest;
+  measures_words = suits.measures_words;
+}
+
+-- what is said of the row that is kept, said of its values
+pub inserted_as : (r : Result ℕ TreeFault) (row : Row) (ds : List ℕ) (ms : List ℤ) (a b : TreeView) → row ≡ row_of a.next ds ms → OnOk r (IsInserted (numbered a.next row) a b) → IfOk r (λ n. n ≡ a.next)
+    → IfOk r (λ n. IsInserted (row_of n ds ms) a b)
+inserted_as (Err e) row ds ms a b is h number = tt
+inserted_as (Ok n) row ds ms a b is h number = rw number (subst (λ (x : Row). IsInserted (numbered a.next x) a b) is h)
+
+pub words_of : (xs : List ℕ) → ((i : ℕ) → Fits w32 (get_or xs i 0)) → All (λ x. x < 2 ^ 32) xs
+words_of xs fits k d lt = let fit = fits k in rw (get_or_default_zero xs k d lt) (Fits-lt-pow fit)
+
+-- measures put one after the other in the place of zeros
+pub filled_next : (ms : List ℤ) (i left : ℕ) (x : ℤ) → slice_get ms i ≡ Some x → slice_set (take i ms ++ replicate (suc left) (pos 0)) i x ≡ take (suc i) ms ++ replicate left (pos 0)
+filled_next [] i left x at = cc
+filled_next (m ∷ ms) zero left x at = let same : m ≡ x = cc in ap (λ (y : ℤ). y ∷ replicate left (pos 0)) (sym same)
+filled_next (m ∷ ms) (suc i) left x at = ap (λ (ys : List ℤ). m ∷ ys) (filled_next ms i left x at)
+
+pub measured_next : (ms : List ℤ) (i : ℕ) (x : ℤ) → slice_get ms i ≡ Some x → FitsSigned w64 x → AllByRecursion (λ y. FitsSigned w64 y) (take i ms) → AllByRecursion (λ y. FitsSigned w64 y) (take (suc i) ms)
+measured_next [] i x at fits all = cc
+measured_next (m ∷ ms) zero x at fits all = let same : m ≡ x = cc in (subst (λ (y : ℤ). FitsSigned w64 y) (sym same) fits, tt)
+measured_next (m ∷ ms) (suc i) x at fits all = (all.0, measured_next ms i x at fits all.1)

@@ -1,0 +1,294 @@
+-- What the parting of a region leaves: the store grew, the pages of both halves were put, and then those that the change of the index
+-- spells.
+use Rattle.std.proofs.Common.{◌≡◌, ◌≢◌, ◌<◌, ◌≤◌, ◌+◌, ◌-◌, ◌∙◌, ◌++◌, inl, inr, ◌⊎◌, ℕ, zero, suc, Some, Bool, true, false, List, [], ◌∷◌, Ok, Err, Result, map, sym, ap, subst, refl, arith, slice_get}
+use Rattle.std.specs.List.{AllByRecursion}
+use Rattle.std.specs.Result.{IsErrAnd}
+use Rattle.ub_index.proofs.Numbers.{distinct_first, distinct_left}
+use Rattle.ub_index.specs.Changing.{IsOutside, IsUnspelled}
+use Rattle.ub_index.specs.Index.{pages_under, top}
+use Rattle.ub_index.specs.Making.{IsPutFault, PutsSheets}
+use Rattle.ub_index.specs.Preparing.{ChangeView, IsWithinSeat, NeedsPages, entry_at}
+use Rattle.ub_index.specs.declared.seat.Seat.{Seat}
+use Rattle.ub_index.specs.declared.sheet.Sheet.{Sheet}
+use Rattle.ub_index_page.specs.declared.index.TheConstants.{MAX_LEVEL}
+use Rattle.ub_region.proofs.Laws.{all_more, all_right}
+use Rattle.ub_page.specs.Header.{header_page}
+use Rattle.ub_page.specs.declared.entries.Entry.{Entry}
+use Rattle.ub_region.specs.Regions.{index_holding}
+use Rattle.ub_store.specs.Facts.{StoreFacts, IsHonest, page_count}
+use Rattle.ub_store.specs.declared.fault.StoreFault.TheVariants as store
+use Rattle.ub_table.specs.declared.fault.PageFault.{PageFault}
+use Rattle.ub_table.specs.declared.row.Key.{Key}
+use Rattle.ub_table.specs.declared.schema.Schema.{Schema}
+use Rattle.ub_tree.proofs.EffectFacts.{left_by, sound_stored, writes_both, writes_told, writes_wider}
+use Rattle.ub_tree.proofs.IndexedFacts.{seat_of_key}
+use Rattle.ub_tree.proofs.TreeFacts.{each_get}
+use Rattle.ub_tree.specs.Effects.{Changes, HasEnded, IsLeft, IsMarkedFirst, written_store}
+use Rattle.ub_tree.specs.Holding.{AnswersSeat, HasNoRoom}
+use Rattle.ub_tree.specs.Indexed.{Inner}
+use Rattle.ub_tree.specs.Others.{AddsEntry, AreOthersKept, KeepsOthers, WritesIndex}
+use Rattle.ub_tree.specs.Placed.{Placed, entry_of}
+use Rattle.ub_tree.specs.Spans.{first_keys}
+use Rattle.ub_tree.specs.Told.{FallsSurely}
+use Rattle.ub_tree.specs.View.{TreeView, IsSound, region_count}
+use Rattle.ub_tree.specs.declared.fault.TreeFault.{TreeFault}
+use Rattle.ub_tree.specs.declared.fault.TreeFault.TheVariants.{Full, Page, Store, Failed as HasFailed, Memory}
+use Rattle.ub_tree.specs.inner.Change.{GrowsTo, HasStopped, IsAddReady, IsIndexFault, IsPut, IsSeatOf, IsSpelledAt, IsWriteFault, StoresAt, WritesBoth}
+use Rattle.ub_writing.specs.Marks.{HasMark, IsMarkOf, Marks, PutsMark, first_page, is_written}
+use Rattle.ub_writing.specs.declared.mark.Mark.{Mark}
+use Rattle.ub_writing.specs.declared.mark.Mark.TheVariants.{Due, Written}
+
+-- what a write did that marked the table, where it wasn't marked
+pub marks_then : (schema : Schema) (was now : Mark) (numbers : List ℕ) (old new : StoreFacts) → IsMarkOf schema was → Marks numbers was now old new → AllByRecursion (λ n. n ≢ 0) numbers → IsHonest old
+    → (is_written was ≡ true → HasMark schema old.pages) → is_written now ≡ true → HasMark schema new.pages
+marks_then schema was now numbers old new mark marks own honest had now_is = by_mark was mark had (marks.first honest own now_is)
+  where
+    by_mark : (m : Mark) → IsMarkOf schema m → (is_written m ≡ true → HasMark schema old.pages) → PutsMark (first_page m) old new → HasMark schema new.pages
+    by_mark Written mark had puts = let h = had refl in (h.0, h.1, puts ∙ h.2)
+    by_mark (Due header) mark had puts = (header_page header, (header, mark, refl), puts)
+
+-- where no room was found, no page was refused
+no_page_told : (e : TreeFault) (page : ℕ) (fault : PageFault) → HasNoRoom e → e ≡ Page page fault → ⊥
+no_page_told e page fault (inl full) same = cc
+no_page_told e page fault (inr (inl size)) same = cc
+no_page_told e page fault (inr (inr (inl memory))) same = cc
+no_page_told e page fault (inr (inr (inr device))) same = cc
+
+-- what a parting answers for which the index can't be made ready
+pub unready_answers : {A : Type 0} (t : TreeView) (seat : Seat) (r : Result A TreeFault) (e : TreeFault) → IsErrAnd r (λ x. x ≡ e) → region_count t ≢ 4294967295
+    → (IsHonest t.store → FallsSurely t seat.first seat → HasNoRoom e) → AnswersSeat (Unit {0}) t seat r
+unready_answers t seat (Ok x) e is few led = absurd is
+unready_answers t seat (Err f) e is few led = (
+  λ full many. absurd (few many),
+  λ honest falls page fault told.
+      let same : f ≡ Page page fault = cc in
+      absurd (no_page_told e page fault (led honest falls) (sym is ∙ same)),
+  λ honest falls full fewer levels way. rw is (led honest falls),
+)
+
+-- the page of an entry is among those of the regions
+page_at : (placed : List Placed) (i : ℕ) (e : Entry) → slice_get (map entry_of placed) i ≡ Some e → slice_get (map (λ (p : Placed). p.page) placed) i ≡ Some e.page
+page_at [] i e at = cc
+page_at (p ∷ placed) zero e at = let same : entry_of p ≡ e = cc in ap (λ (x : Entry). Some x.page) same
+page_at (p ∷ placed) (suc i) e at = page_at placed i e at
+
+module _ (a g h : TreeView) (seat : Seat) (of : IsSeatOf a seat) (first : Key) (change : ChangeView) (number : ℕ) (there : seat.page < page_count a.store)
+    (within : IsWithinSeat a.inner.index.last seat.first seat.next first) (ready : IsAddReady a seat first change) (number_is : number ≡ change.start)
+    (grew : GrowsTo {A = Unit {0}} (page_count a.store + (change.next - change.start)) a g (Ok tt)) where
+  abbrev chain : List ℕ
+  chain = pages_under a.store.pages a.inner.index.levels (top a.inner.index.root)
+
+  grown_is : g ≡ record a { placed = g.placed; store = written_store {A = Unit {0}} (Ok tt) a.store g.store }
+  grown_is = grew.frame ∙ ap (λ (b : Bool). record a { placed = g.placed; is_failed = b; store = written_store {A = Unit {0}} (Ok tt) a.store g.store }) grew.done.0
+
+  number_at : number ≡ page_count a.store
+  number_at = number_is ∙ ready.start
+
+  honest_grown : IsHonest a.store → IsHonest g.store
+  honest_grown honest = ap (λ (v : TreeView). v.store.honest) grown_is ∙ honest
+
+  free : IsHonest a.store → (m : ℕ) → m < page_count a.store → IsOutside m (0 ∷ chain) → IsUnspelled m change.sheets
+  free honest m lt out = all_more (IsSpelledAt a (page_count a.store + 1) change) (λ (s : Sheet). m ≢ s.number) (λ s x. x.own m lt out) change.sheets (ready.spelled honest)
+
+  -- the first page is none of those that are spelled
+  zero_free : IsSound a → IsUnspelled 0 change.sheets
+  zero_free sound =
+      let makes = ready.makes (index_holding of.0 (first_keys (map entry_of a.placed))) (sound_stored a sound) (seat_of_key a sound of.0 seat of.1) within in
+      makes.own 0 (inl (omega arith), distinct_first 0 chain (distinct_left (0 ∷ chain) (map (λ (p : Placed). p.page) a.placed) sound.placed_are.own))
+
+  -- of a sound tree no region stands on the first page
+  some_page : IsSound a → seat.page ≢ 0
+  some_page sound e =
+      let at = seat_of_key a sound of.0 seat of.1 in
+      each_get (λ n. 0 ≢ n) (map (λ (p : Placed). p.page) a.placed) (index_holding of.0 (first_keys (map entry_of a.placed))) seat.page
+      (all_right (λ n. 0 ≢ n) chain (map (λ (p : Placed). p.page) a.placed) (distinct_first 0 (chain ++ map (λ (p : Placed). p.page) a.placed) sound.placed_are.own))
+      (page_at a.placed (index_holding of.0 (first_keys (map entry_of a.placed))) (entry_at seat) at.entry) (sym e)
+
+  -- a table that was marked as changed is so still, once the store has grown
+  marked_grown : IsSound a → g.is_changed ≡ true → HasMark g.schema g.store.pages
+  marked_grown sound changed =
+      let had = sound.marked (sym (ap (λ (v : TreeView). v.is_changed) grown_is) ∙ changed) in
+      subst (λ (s : Schema). HasMark s g.store.pages) (sym (ap (λ (v : TreeView). v.schema) grown_is))
+      (had.0, had.1, grew.grows.kept sound.honest 0 (omega arith) ∙ had.2)
+
+  module _ {A : Type 0} (r : Result A TreeFault) (wrote : WritesBoth number seat g h r) where
+    halves_kept : KeepsOthers (0 ∷ seat.page ∷ []) a.store h.store
+    halves_kept = record {
+      kept = λ honest m out lt.
+          let more = grew.grows.more in
+          wrote.others.kept (honest_grown honest) m (out.0, ((λ e. absurd (let at = number_at in omega arith)), out.1)) (omega arith) ∙ grew.grows.kept honest m lt;
+      lasting = λ honest. by_case honest (wrote.others.lasting (honest_grown honest));
+    }
+      where
+        by_grown : h.store.synced ≡ g.store.synced → (g.store.synced ≡ a.store.synced) ⊎ ((m : ℕ) → m < page_count a.store → slice_get g.store.synced m ≡ slice_get a.store.pages m)
+            → (h.store.synced ≡ a.store.synced) ⊎ AreOthersKept (0 ∷ seat.page ∷ []) a.store.pages h.store.synced
+        by_grown same (inl was) = inl (same ∙ was)
+        by_grown same (inr kept) = inr (λ m out lt. ap (λ (ps : List (List ℕ)). slice_get ps m) same ∙ kept m lt)
+
+        by_case : IsHonest a.store → (h.store.synced ≡ g.store.synced) ⊎ AreOthersKept (0 ∷ number ∷ seat.page ∷ []) g.store.pages h.store.synced
+            → (h.store.synced ≡ a.store.synced) ⊎ AreOthersKept (0 ∷ seat.page ∷ []) a.store.pages h.store.synced
+        by_case honest (inl same) = by_grown same (grew.grows.lasting honest)
+        by_case honest (inr kept) =
+            inr (λ m out lt. (let more = grew.grows.more in kept m (out.0, ((λ e. absurd (let at = number_at in omega arith)), out.1)) (omega arith) ∙ grew.grows.kept honest m lt))
+
+    halves_marked : IsSound a → h.is_changed ≡ true → HasMark a.schema h.store.pages
+    halves_marked sound changed =
+        subst (λ (s : Schema). HasMark s h.store.pages) (ap (λ (v : TreeView). v.schema) grown_is)
+        (wrote.marked (λ e. absurd (let at = number_at in omega arith)) (some_page sound) (honest_grown sound.honest) (marked_grown sound) changed)
+
+    pub halves_first : IsMarkedFirst a h
+    halves_first = record {
+      kept = λ honest unmarked m some lt.
+          let more = grew.grows.more in
+          wrote.kept (honest_grown honest) unmarked m some (omega arith) ∙ grew.grows.kept honest m lt;
+      marked = halves_marked;
+    }
+
+  -- the pages of the halves weren't put
+  halves_left : (e : TreeFault) → WritesBoth {A = TreeFault} number seat g h (Err e) → IsWriteFault g h e → IsLeft a h e
+  halves_left Full wrote x = absurd x
+  halves_left HasFailed wrote x = absurd x
+  halves_left Memory wrote x = absurd x
+  halves_left (Page page fault) wrote x = absurd x
+  halves_left (Store store.Device) wrote x = (
+    sym (ap (λ (v : TreeView). v.store.can_fail) grown_is) ∙ x.0,
+    inr (record {
+      same = x.1.same
+          ∙ ap (λ (v : TreeView). record v { placed = h.placed; is_changed = h.is_changed; is_failed = true; store = written_store {A = TreeFault} (Err (Store store.Device)) v.store h.store }) grown_is;
+      others = writes_told a h seat of (writes_wider chain seat.page a.store h.store (halves_kept {A = TreeFault} (Err (Store store.Device)) wrote));
+    }),
+  )
+  halves_left (Store store.NoPage) wrote x = absurd x
+  halves_left (Store store.BadSize) wrote x = absurd x
+  halves_left (Store store.Memory) wrote x = absurd x
+
+  pub halves_refused : {T U : Type 0} (r : Result T TreeFault) (e : TreeFault) → IsErrAnd r (λ x. x ≡ e) → WritesBoth {A = U} number seat g h (Err e) → Changes a h r
+  halves_refused {T} {U} r e is w =
+      let wrote : WritesBoth {A = TreeFault} number seat g h (Err e) = record { frame = w.frame; kept = w.kept; marked = w.marked; done = tt; faults = w.faults; others = w.others } in
+      let whole = w.frame ∙ ap (λ (v : TreeView). record v { placed = h.placed; is_changed = h.is_changed; is_failed = h.is_failed; store = written_store {A = U} (Err e) v.store h.store }) grown_is in
+      left_by {U = TreeFault} r e a h is (record {
+        frame = whole ∙ ap (λ (v : TreeView). record a { placed = v.placed; rows = v.rows; next = v.next; is_changed = v.is_changed; is_failed = v.is_failed; store = v.store; inner = v.inner }) (sym whole);
+        marked = halves_first {A = TreeFault} (Err e) wrote;
+        done = tt;
+        left = halves_left e wrote w.faults;
+      })
+
+  -- the halves were put, and then the pages of the index
+  module _ (n : TreeView) (wrote : WritesBoth {A = Unit {0}} number seat g h (Ok tt)) (put : IsPut g h) (halves_count : page_count h.store ≡ page_count g.store) (puts : PutsSheets change.sheets h.store n.store) where
+    halves_is : h ≡ record a { placed = h.placed; is_changed = true; store = written_store {A = Unit {0}} (Ok tt) a.store h.store }
+    halves_is =
+        put
+        ∙ ap (λ (s : StoreFacts). record g { placed = h.placed; is_changed = true; store = s }) (ap (λ (v : TreeView). v.store) wrote.frame)
+        ∙ ap (λ (v : TreeView). record v { placed = h.placed; is_changed = true; store = written_store {A = Unit {0}} (Ok tt) v.store h.store }) grown_is
+
+    honest_put : IsHonest a.store → IsHonest h.store
+    honest_put honest = ap (λ (v : TreeView). v.store.honest) halves_is ∙ honest
+
+    put_others : WritesIndex seat.page a n
+    put_others = writes_both chain seat.page change.sheets a.store h.store n.store (halves_kept {A = Unit {0}} (Ok tt) wrote) puts honest_put free
+
+    -- the mark stands
+    mark_then : IsSound a → HasMark a.schema n.store.pages
+    mark_then sound =
+        let had = halves_marked {A = Unit {0}} (Ok tt) wrote sound (ap (λ (v : TreeView). v.is_changed) halves_is) in
+        (had.0, had.1, puts.others (honest_put sound.honest) 0 (zero_free sound) ∙ had.2)
+
+    marked_now : n.is_changed ≡ true → IsMarkedFirst a n
+    marked_now now = record {
+      kept = λ honest unmarked m some lt. absurd (let bad : true ≡ false = sym now ∙ unmarked in cc);
+      marked = λ sound changed. mark_then sound;
+    }
+
+    put_ended : (fault : TreeFault) → HasStopped fault h n → HasEnded fault a n
+    put_ended fault x = record {
+      same = x.same
+          ∙ ap (λ (v : TreeView). record v { placed = n.placed; is_changed = n.is_changed; is_failed = true; store = written_store {A = TreeFault} (Err fault) v.store n.store }) halves_is;
+      others = writes_told a n seat of put_others;
+    }
+
+    no_page_missing : IsPutFault change.sheets h.store store.NoPage → ¬ (IsHonest a.store)
+    no_page_missing (k, sheet, at, past) honest =
+        let is = each_get (IsSpelledAt a (page_count a.store + 1) change) change.sheets k sheet (ready.spelled honest) at in
+        let grown : page_count g.store ≡ page_count a.store + (change.next - change.start) = grew.done.1 in
+        let start = ready.start in
+        let some = ready.some in
+        let count : page_count h.store ≡ page_count g.store = halves_count in
+        elim is.there [
+          | inl lt ↦ absurd (omega arith)
+          | inr more ↦ let most = more.1 in absurd (omega arith)
+        ]
+
+    put_left : (e : TreeFault) → HasStopped e h n → IsIndexFault change h.store e → IsLeft a n e
+    put_left Full stopped x = absurd x
+    put_left HasFailed stopped x = absurd x
+    put_left Memory stopped x = absurd x
+    put_left (Page page fault) stopped x = absurd x
+    put_left (Store store.Device) stopped x = (sym (ap (λ (v : TreeView). v.store.can_fail) halves_is) ∙ x, inr (put_ended (Store store.Device) stopped))
+    put_left (Store store.NoPage) stopped x = (λ sound. no_page_missing x sound.honest, inr (no_page_missing x, put_ended (Store store.NoPage) stopped))
+    put_left (Store store.BadSize) stopped x = absurd x
+    put_left (Store store.Memory) stopped x = absurd x
+
+    pub index_refused : {T : Type 0} (r : Result T TreeFault) (e : TreeFault) → IsErrAnd r (λ x. x ≡ e) → n.is_changed ≡ h.is_changed → HasStopped e h n × IsIndexFault change h.store e → Changes a n r
+    index_refused r e is kept stopped =
+        let ended = put_ended e stopped.0 in
+        left_by {U = TreeFault} r e a n is (record {
+          frame = ended.same ∙ ap (λ (v : TreeView). record a { placed = n.placed; rows = v.rows; next = v.next; is_changed = n.is_changed; is_failed = v.is_failed; store = v.store; inner = v.inner }) (sym ended.same);
+          marked = marked_now (kept ∙ ap (λ (v : TreeView). v.is_changed) halves_is);
+          done = tt;
+          left = put_left e stopped.0 stopped.1;
+        })
+
+    -- all were put, and one region more is counted
+    module _ (d : TreeView) (inner : Inner) (n_is : n ≡ record h { placed = n.placed; store = n.store; inner = inner }) (count_is : inner.count ≡ a.inner.count)
+        (works : n.store ≡ written_store {A = Unit {0}} (Ok tt) h.store n.store) (d_is : d ≡ record n { inner = record n.inner { count = n.inner.count + 1 } }) (high : a.inner.index.levels ≤ MAX_LEVEL) where
+      abbrev inner_then : Inner
+      inner_then = record inner { count = inner.count + 1 }
+
+      then_is : d ≡ record a { placed = n.placed; is_changed = true; store = n.store; inner = inner_then }
+      then_is =
+          d_is
+          ∙ ap (λ (v : TreeView). record v { inner = record v.inner { count = v.inner.count + 1 } }) n_is
+          ∙ ap (λ (v : TreeView). record v { placed = n.placed; store = n.store; inner = inner_then }) halves_is
+
+      stores : n.store ≡ written_store {A = Unit {0}} (Ok tt) a.store n.store
+      stores = works ∙ ap (λ (v : TreeView). written_store {A = Unit {0}} (Ok tt) v.store n.store) halves_is
+
+      needs : IsHonest a.store → NeedsPages a.inner.index a.store seat.first (change.next - (page_count a.store + 1))
+      needs honest =
+          let only = (ready.needed honest).only in
+          let same : only.0 ≡ change.next - (page_count a.store + 1) = (let is = only.2 in omega arith) in
+          subst (NeedsPages a.inner.index a.store seat.first) same only.1
+
+      adds : AddsEntry seat.first a d
+      adds = (
+        ap (λ (v : TreeView). region_count v) then_is ∙ ap (λ (k : ℕ). k + 1) count_is,
+        change.next - (page_count a.store + 1),
+        (let all : page_count d.store ≡ page_count n.store = ap (λ (v : TreeView). page_count v.store) then_is in
+            let put_count = puts.count in
+            let both = halves_count in
+            let grown : page_count g.store ≡ page_count a.store + (change.next - change.start) = grew.done.1 in
+            let start = ready.start in
+            let some = ready.some in
+            omega arith),
+        (let few = ready.few in omega arith),
+        needs,
+      )
+
+      pub parts_at : StoresAt seat a.schema.page_rows a d
+      parts_at = record {
+        same = then_is ∙ ap (λ (v : TreeView). record a { placed = v.placed; store = v.store; is_changed = true; inner = v.inner }) (sym then_is);
+        others = inr (subst (λ (v : TreeView). WritesIndex seat.page a v) (sym d_is) (record { kept = put_others.kept; lasting = put_others.lasting }), adds);
+        full = λ full. adds;
+        spare = λ less. absurd (omega arith);
+      }
+
+      pub parts_effect : Changes {A = Unit {0}} a d (Ok tt)
+      parts_effect = record {
+        frame = then_is ∙ ap (λ (v : TreeView). record a { placed = v.placed; rows = v.rows; next = v.next; is_changed = v.is_changed; is_failed = v.is_failed; store = v.store; inner = v.inner }) (sym then_is);
+        marked = subst (λ (v : TreeView). IsMarkedFirst a v) (sym then_is) (record {
+          kept = λ honest unmarked m some lt. absurd (let bad : true ≡ false = unmarked in cc);
+          marked = λ sound changed. mark_then sound;
+        });
+        done = (ap (λ (v : TreeView). v.is_failed) then_is, ap (λ (v : TreeView). v.store) then_is ∙ (stores ∙ ap (λ (v : TreeView). written_store {A = Unit {0}} (Ok tt) a.store v.store) (sym then_is)));
+        left = tt;
+      }

@@ -1,0 +1,293 @@
+-- What putting the page of a region leaves of a tree: its index, and the regions, each on its page.
+use Rattle.std.proofs.Common.{◌≡◌, ◌≢◌, ◌<◌, ◌≤◌, ◌∙◌, ◌++◌, ◌^◌, ◌⊎◌, inl, inr, ℕ, zero, suc, Bool, List, [], ◌∷◌, Option, Some, None, length, map, take, drop, nat_eq, sym, ap, subst, refl, arith, slice_get, append_assoc}
+use Rattle.std.proofs.lemmas.Bool.{cases_eq}
+use Rattle.std.proofs.lemmas.List.{map-append, take-map, drop-map, length-map}
+use Rattle.std.proofs.lemmas.List.Elements.{recursion_from_All}
+use Rattle.std.proofs.lemmas.Option.{slice_get_within}
+use Rattle.std.specs.List.{All, AllByRecursion, IsDistinct}
+use Rattle.ub_index.proofs.Changes.{kept_index, kept_under, same_page, same_entries as under_same}
+use Rattle.ub_index.proofs.HeldFacts.{ends_of}
+use Rattle.ub_index.proofs.Numbers.{distinct_apart, distinct_first, kept_pages}
+use Rattle.ub_index.specs.Changed.{PagesStay}
+use Rattle.ub_index.specs.Changing.{IsOutside}
+use Rattle.ub_index.specs.Fitting.{FallsTo, FitsAtEnds, IsHeld, NamesTaken}
+use Rattle.ub_index.specs.Index.{Fits, page_in, pages_under, top}
+use Rattle.ub_index.specs.Preparing.{entry_at}
+use Rattle.ub_index.specs.Standing.{region_pages}
+use Rattle.ub_index.specs.View.{IndexView, IsSeatAt}
+use Rattle.ub_index.specs.Way.{LeadsTo}
+use Rattle.ub_index.specs.declared.seat.Seat.{Seat}
+use Rattle.ub_index_page.specs.Index.{IsIndexKind}
+use Rattle.ub_page.proofs.PageLaws.{region_parts}
+use Rattle.ub_page.specs.Region.{region_page}
+use Rattle.ub_page.specs.declared.entries.Entry.{Entry}
+use Rattle.ub_region.proofs.Laws.{all_left, all_right}
+use Rattle.ub_store.specs.Facts.{StoreFacts, IsHonest, IsPage}
+use Rattle.ub_store.specs.View.{PagerView}
+use Rattle.ub_table.specs.Region.{Region, IsRegion}
+use Rattle.ub_table.specs.declared.row.Key.{Key}
+use Rattle.ub_table.specs.declared.row.Row.{Row}
+use Rattle.ub_table.specs.declared.schema.Schema.{Schema}
+use Rattle.ub_tree.proofs.IndexedFacts.{seat_of_key}
+use Rattle.ub_tree.proofs.SearchFacts.{known_is}
+use Rattle.ub_tree.proofs.SplitFacts.{apart_after_two, apart_before_two, pages_by}
+use Rattle.ub_tree.proofs.StoredFacts.{IsKept, IsSpelled, IsTold, parted, placed_changed, spelled_changed}
+use Rattle.ub_tree.proofs.TreeFacts.{entries_back, placed_at}
+use Rattle.ub_tree.specs.Indexed.{HasIndex, entries_on, reserved}
+use Rattle.ub_tree.specs.Placed.{Placed, ArePlaced, entry_of, placed_of}
+use Rattle.ub_tree.specs.Spans.{Region as Span}
+use Rattle.ub_tree.specs.Told.{IsRegionOf, KeepsTold}
+use Rattle.ub_tree.specs.Tree.{placed_in, tree_view}
+use Rattle.ub_tree.specs.View.{TreeView, IsSound}
+use Rattle.ub_tree.specs.inner.Change.{IsSeatIn, IsSeatOf, IsSeatThere, IsStored, placed_with}
+use Rattle.ub_writing.specs.Puts.{Puts}
+
+-- on an honest store the regions are those that its pages tell
+pub view_placed : (schema : Schema) (index : IndexView) (store : StoreFacts) → IsHonest store → placed_in schema index store ≡ placed_of schema store.pages (entries_on index store.pages)
+view_placed schema index store honest = ap (λ (known : List (List ℕ)). placed_of schema known (entries_on index known)) (known_is store honest)
+
+-- the page of an entry is among those of the regions
+pub page_at : (placed : List Placed) (i : ℕ) (e : Entry) → slice_get (map entry_of placed) i ≡ Some e → slice_get (map (λ p. p.page) placed) i ≡ Some e.page
+page_at [] i e at = cc
+page_at (p ∷ placed) zero e at = let same : entry_of p ≡ e = cc in ap (λ (x : Entry). Some x.page) same
+page_at (p ∷ placed) (suc i) e at = page_at placed i e at
+
+outside_at : (n q : ℕ) (ns : List ℕ) (i : ℕ) → slice_get ns i ≡ Some q → IsOutside n ns → n ≢ q
+outside_at n q [] i at h = cc
+outside_at n q (m ∷ ns) zero at h = λ e. (let same : m ≡ q = cc in h.0 (e ∙ sym same))
+outside_at n q (m ∷ ns) (suc i) at h = outside_at n q ns i at h.1
+
+-- a page of a region was put, and perhaps the first: the others are as they were
+module _ (schema : Schema) (index : IndexView) (pages new : List (List ℕ)) (placed : List Placed) (viewed : placed ≡ placed_of schema pages (entries_on index pages))
+    (indexed : HasIndex index pages (map entry_of placed)) (placed_are : ArePlaced schema placed (reserved index pages) pages)
+    (i : ℕ) (seat : Seat) (at : IsSeatAt (map entry_of placed) i seat) (rows : List Row)
+    (others : (m : ℕ) → m ≢ 0 → m ≢ seat.page → slice_get new m ≡ slice_get pages m) (count : length new ≡ length pages)
+    (told : IsTold schema new (record { page = seat.page; region = record { first = seat.first; rows = rows } })) where
+  abbrev chain : List ℕ
+  chain = pages_under pages index.levels (top index.root)
+
+  abbrev entries : List Entry
+  entries = entries_on index pages
+
+  abbrev news : List Placed
+  news = record { page = seat.page; region = record { first = seat.first; rows = rows } } ∷ []
+
+  abbrev before : List Entry
+  before = take i entries
+
+  abbrev after : List Entry
+  after = drop (suc i) entries
+
+  numbers_are : region_pages entries ≡ map (λ p. p.page) placed
+  numbers_are = ap region_pages indexed.entries_are ∙ pages_by placed
+
+  -- the pages of the index stay
+  each_stays : (ns : List ℕ) → AllByRecursion (λ n. 0 ≢ n) ns → AllByRecursion (λ n. IsOutside n (map (λ p. p.page) placed)) ns → PagesStay pages new ns
+  each_stays [] first apart = tt
+  each_stays (n ∷ ns) first apart =
+      let page = page_at placed i (entry_at seat) at.entry in
+      (others n (λ e. first.0 (sym e)) (outside_at n seat.page (map (λ p. p.page) placed) i page apart.0), each_stays ns first.1 apart.1)
+
+  stay : PagesStay pages new chain
+  stay = each_stays chain (all_left (λ n. 0 ≢ n) chain (map (λ p. p.page) placed) (distinct_first 0 (chain ++ map (λ p. p.page) placed) placed_are.own))
+      (distinct_apart (0 ∷ chain) (map (λ p. p.page) placed) placed_are.own).1
+
+  same_entries : entries_on index new ≡ entries
+  same_entries = kept_under pages new index.levels (top index.root) stay
+
+  same_reserved : reserved index new ≡ reserved index pages
+  same_reserved = ap (λ (ns : List ℕ). 0 ∷ ns) (kept_pages pages new index.levels (top index.root) stay)
+
+  at_entries : IsSeatAt entries i seat
+  at_entries = subst (λ (es : List Entry). IsSeatAt es i seat) (sym indexed.entries_are) at
+
+  whole : before ++ entry_at seat ∷ after ≡ entries
+  whole = parted entries i (entry_at seat) at_entries.entry
+
+  pages_parts : region_pages entries ≡ region_pages before ++ seat.page ∷ region_pages after
+  pages_parts = ap region_pages (sym whole) ∙ map-append (λ (e : Entry). e.page) before (entry_at seat ∷ after)
+
+  spelled : AllByRecursion (IsSpelled schema pages) placed
+  spelled = recursion_from_All (IsSpelled schema pages) placed placed_are.spelled
+
+  own_parts : IsDistinct nat_eq ((0 ∷ chain) ++ (region_pages before ++ seat.page ∷ region_pages after))
+  own_parts = subst (λ (ns : List ℕ). IsDistinct nat_eq ((0 ∷ chain) ++ ns)) (sym numbers_are ∙ pages_parts) placed_are.own
+
+  pages_there : (ps : List Placed) → AllByRecursion (IsSpelled schema pages) ps → AllByRecursion (λ n. n < length pages) (map (λ p. p.page) ps)
+  pages_there [] h = tt
+  pages_there (p ∷ ps) h = (slice_get_within pages p.page _ h.0, pages_there ps h.1)
+
+  less : AllByRecursion (λ n. n < length pages) (region_pages before ++ seat.page ∷ region_pages after)
+  less = subst (AllByRecursion (λ n. n < length pages)) (sym numbers_are ∙ pages_parts) (pages_there placed spelled)
+
+  kept_each : (es : List Entry) → AllByRecursion (λ n. IsOutside n (0 ∷ seat.page ∷ [])) (region_pages es) → AllByRecursion (IsKept pages new) es
+  kept_each [] apart = tt
+  kept_each (e ∷ es) apart = (others e.page apart.0.0 apart.0.1.0, kept_each es apart.1)
+
+  kept_before : AllByRecursion (IsKept pages new) before
+  kept_before = kept_each before (apart_before_two chain (region_pages before) (region_pages after) seat.page (length pages) own_parts less)
+
+  kept_after : AllByRecursion (IsKept pages new) after
+  kept_after = kept_each after (apart_after_two chain (region_pages before) (region_pages after) seat.page (length pages) own_parts less)
+
+  parts : placed_of schema pages before ++ placed_at schema pages (entry_at seat) ∷ placed_of schema pages after ≡ placed
+  parts = sym (map-append (placed_at schema pages) before (entry_at seat ∷ after)) ∙ ap (placed_of schema pages) whole ∙ sym viewed
+
+  spelled_parts : AllByRecursion (IsSpelled schema pages) (placed_of schema pages before ++ placed_at schema pages (entry_at seat) ∷ placed_of schema pages after)
+  spelled_parts = subst (AllByRecursion (IsSpelled schema pages)) (sym parts) spelled
+
+  parts_new : placed_of schema pages before ++ news ++ placed_of schema pages after ≡ placed_with i news placed
+  parts_new =
+      ap (λ (ps : List Placed). ps ++ news ++ placed_of schema pages after) (sym (take-map (placed_at schema pages) i entries))
+      ∙ ap (λ (ps : List Placed). take i (placed_of schema pages entries) ++ news ++ ps) (sym (drop-map (placed_at schema pages) (suc i) entries))
+      ∙ ap (placed_with i news) (sym viewed)
+
+  -- the regions then
+  pub put_placed : placed_of schema new (entries_on index new) ≡ placed_with i news placed
+  put_placed =
+      ap (placed_of schema new) (same_entries ∙ sym whole ∙ sym (append_assoc before (map entry_of news) after))
+      ∙ placed_changed schema pages new before after news kept_before kept_after (told, tt)
+      ∙ parts_new
+
+  pub put_indexed : HasIndex index new (map entry_of (placed_with i news placed))
+  put_indexed = record {
+    some = indexed.some;
+    under_it = kept_index index.last pages new index.levels (top index.root) None stay indexed.under_it;
+    entries_are = sym (entries_back schema new (entries_on index new)) ∙ ap (map entry_of) put_placed;
+  }
+
+  pub put_are : ArePlaced schema (placed_with i news placed) (reserved index new) new
+  put_are = record {
+    spelled = subst (All (IsSpelled schema new)) parts_new
+        (spelled_changed schema pages new before after news kept_before kept_after (told, tt)
+        (all_left (IsSpelled schema pages) (placed_of schema pages before) (placed_at schema pages (entry_at seat) ∷ placed_of schema pages after) spelled_parts)
+        (all_right (IsSpelled schema pages) (placed_of schema pages before) (placed_at schema pages (entry_at seat) ∷ placed_of schema pages after) spelled_parts).1);
+    own = subst (λ (ns : List ℕ). IsDistinct nat_eq (reserved index new ++ ns)) (sym numbers_are ∙ ap region_pages (sym same_entries) ∙ ap region_pages put_indexed.entries_are ∙ pages_by (placed_with i news placed))
+        (subst (λ (ns : List ℕ). IsDistinct nat_eq (ns ++ map (λ p. p.page) placed)) (sym same_reserved) placed_are.own);
+    within = subst (All (λ n. n < length new)) (sym same_reserved) (subst (λ (long : ℕ). All (λ n. n < long) (reserved index pages)) (sym count) placed_are.within);
+  }
+
+  -- as many as before
+  pub put_long : length (placed_with i news placed) ≡ length placed
+  put_long =
+      sym (length-map (placed_with i news placed) entry_of)
+      ∙ ap length (sym put_indexed.entries_are ∙ same_entries ∙ indexed.entries_are)
+      ∙ length-map placed entry_of
+
+-- the same of a tree, where the page spells rows of the region of the seat
+pub put_rows : (schema : Schema) (index : IndexView) (count next rows : ℕ) (changed now failed : Bool) (old new : PagerView) (i : ℕ) (seat : Seat) (page : List ℕ) (own : List Row)
+    → Puts seat.page page old.store new.store → IsHonest new.store → IsStored (tree_view schema index count next rows changed failed old) → IsSeatIn (tree_view schema index count next rows changed failed old) i seat
+    → IsRegion schema (record { first = seat.first; rows = own }) → page ≡ region_page schema (record { first = seat.first; rows = own })
+    → IsStored (tree_view schema index count next rows now failed new)
+    × (placed_in schema index new.store ≡ placed_with i (record { page = seat.page; region = record { first = seat.first; rows = own } } ∷ []) (placed_in schema index old.store))
+put_rows schema index count next rows changed now failed old new i seat page own puts honest stored at good spells =
+    let region : Region = record { first = seat.first; rows = own } in
+    let told : IsTold schema new.store.pages (record { page = seat.page; region = region }) =
+    (puts.written stored.honest ∙ ap (λ (q : List ℕ). Some q) spells, (region_parts schema region (region_page schema region) good refl).on) in
+    let viewed = view_placed schema index old.store stored.honest in
+    let others = puts.others stored.honest in
+    let placed = placed_in schema index old.store in
+    let is = view_placed schema index new.store honest ∙ put_placed schema index old.store.pages new.store.pages placed viewed stored.indexed stored.placed_are i seat at own others puts.count told in (
+      record {
+        working = stored.working;
+        honest = honest;
+        indexed = subst (λ (ps : List Placed). HasIndex index new.store.pages (map entry_of ps)) (sym is)
+            (put_indexed schema index old.store.pages new.store.pages placed viewed stored.indexed stored.placed_are i seat at own others puts.count told);
+        placed_are = subst (λ (ps : List Placed). ArePlaced schema ps (reserved index new.store.pages) new.store.pages) (sym is)
+            (put_are schema index old.store.pages new.store.pages placed viewed stored.indexed stored.placed_are i seat at own others puts.count told);
+        count_is = stored.count_is ∙ sym (put_long schema index old.store.pages new.store.pages placed viewed stored.indexed stored.placed_are i seat at own others puts.count told) ∙ ap length (sym is);
+      },
+      is,
+    )
+
+-- each page but the first that is one of an index by its first byte is as it was
+abbrev pub KeepsKinds : List (List ℕ) → List (List ℕ) → Type 0
+KeepsKinds old new = (n : ℕ) (page : List ℕ) → 1 ≤ n → slice_get old n ≡ Some page → IsIndexKind page → slice_get new n ≡ slice_get old n
+
+-- then each way leads where it led, whichever pages are held: none goes over the first page
+module _ (last : ℕ) (small : last < 256 ^ 16) (old new : List (List ℕ)) (keeps : KeepsKinds old new) (held : List (ℕ × List ℕ)) (key : Key) where
+  kind_of : (level : ℕ) (entry : Entry) (end : Option Key) → NamesTaken last old held level entry end → IsIndexKind (page_in old entry.page)
+  kind_of level entry end named = elim named.fits [
+    | inl fits ↦ (ends_of last (page_in old entry.page) level entry end small fits).kind
+    | inr ends ↦ ends.1.kind
+  ]
+
+  pub still_taken : (level : ℕ) (entry : Entry) (end : Option Key) (found : Entry) (next : Option Key) → 1 ≤ entry.page → LeadsTo last old held key level entry end found next
+      → LeadsTo last new held key level entry end found next
+  still_taken zero entry end found next some leads = leads
+  still_taken (suc level) entry end found next some (named, below, beyond, falls, leads) =
+      let same = keeps entry.page (page_in old entry.page) some named.there (kind_of (suc level) entry end named) in
+      let page = same_page old new entry.page same in (
+        record {
+          there = same ∙ (named.there ∙ ap (λ (p : List ℕ). Some p) (sym page));
+          fits = subst (λ (p : List ℕ). Fits last p (suc level) entry end ⊎ (IsHeld held entry.page × FitsAtEnds p (suc level) entry end)) (sym page) named.fits;
+        },
+        below,
+        beyond,
+        subst (λ (xs : List Entry). FallsTo key xs end below beyond) (sym (under_same old new entry.page same)) falls,
+        still_taken level below beyond found next falls.some leads,
+      )
+
+-- where those pages stay, the tree tells of the same regions
+module _ (schema : Schema) (index : IndexView) (count next rows : ℕ) (was now failed now_failed : Bool) (old new : PagerView) (some : 1 ≤ index.root) (small : index.last < 2 ^ 128) where
+  pub told_still : (IsHonest new.store → IsHonest old.store) → (IsHonest old.store → KeepsKinds old.store.pages new.store.pages)
+      → (region : Span) → IsRegionOf (tree_view schema index count next rows was failed old) region → IsRegionOf (tree_view schema index count next rows now now_failed new) region
+  told_still honest keeps region is =
+      let held = is.falls.0 in
+      let room : index.last < 256 ^ 16 = (let less : index.last < 2 ^ 128 = small in omega arith) in
+      record {
+        key = is.key;
+        seat = is.seat;
+        falls = (
+          held,
+          record {
+            holds = is.falls.1.holds;
+            way = λ honest_new.
+                let honest_old = honest honest_new in
+                still_taken index.last room old.store.pages new.store.pages (keeps honest_old) held is.key index.levels (top index.root) None (entry_at is.seat) is.seat.next some (is.falls.1.way honest_old);
+          },
+        );
+        region_is = is.region_is;
+      }
+
+-- a page that is put where one stood that spells a region takes none of an index away
+put_keeps : (schema : Schema) (pages new : List (List ℕ)) (n : ℕ) (region : Region) → IsRegion schema region → slice_get pages n ≡ Some (region_page schema region)
+    → ((m : ℕ) → m ≢ 0 → m ≢ n → slice_get new m ≡ slice_get pages m) → KeepsKinds pages new
+put_keeps schema pages new n region is at others m page some there index = elim (cases_eq m n) [
+  | inl same ↦
+      let here : page ≡ region_page schema region = (let e : slice_get pages n ≡ Some page = ap (slice_get pages) (sym same) ∙ there in cc) in
+      let kind = (region_parts schema region page is here).kind in
+      let bad = sym kind ∙ index in
+      absurd (omega arith)
+  | inr apart ↦ others m (λ e. absurd (omega arith)) apart
+]
+
+pub told_put : (schema : Schema) (index : IndexView) (count next rows : ℕ) (was now failed : Bool) (old new : PagerView) (n : ℕ) (region after : Region) → 1 ≤ index.root → index.last < 2 ^ 128
+    → IsRegion schema region → IsRegion schema after → IsPage old.store n (region_page schema region) → new.store.honest ≡ old.store.honest → Puts n (region_page schema after) old.store new.store
+    → KeepsTold (tree_view schema index count next rows was failed old) (tree_view schema index count next rows now failed new)
+told_put schema index count next rows was now failed old new n region after some small is is_after stood same puts = record {
+  count = refl;
+  told = λ span. (
+    λ told. told_still schema index count next rows was now failed failed old new some small (λ h. sym same ∙ h)
+        (λ honest. put_keeps schema old.store.pages new.store.pages n region is (stood honest) (puts.others honest)) span told,
+    λ told. told_still schema index count next rows now was failed failed new old some small (λ h. same ∙ h)
+        (λ honest_new. let honest = sym same ∙ honest_new in put_keeps schema new.store.pages old.store.pages n after is_after (puts.written honest) (λ m first apart. sym (puts.others honest m first apart))) span told,
+  );
+}
+
+-- no region of a sound tree stands on the first page
+pub own_seat : (t : TreeView) (seat : Seat) → IsSound t → IsSeatOf t seat → seat.page ≢ 0
+own_seat t seat sound told =
+    let numbers = map (λ (p : Placed). p.page) t.placed in
+    let chain = pages_under t.store.pages t.inner.index.levels (top t.inner.index.root) in
+    let at = seat_of_key t sound told.0 seat told.1 in
+    let apart = all_right (λ n. 0 ≢ n) chain numbers (distinct_first 0 (chain ++ numbers) sound.placed_are.own) in
+    λ e. outside_at 0 seat.page numbers _ (page_at t.placed _ (entry_at seat) at.entry) apart (sym e)
+
+-- a page that spells a region is put on the page of a seat where one stands
+pub told_there : (schema : Schema) (index : IndexView) (count next rows : ℕ) (was now failed : Bool) (old new : PagerView) (seat : Seat) (page : List ℕ) → 1 ≤ index.root → index.last < 2 ^ 128
+    → IsSeatThere (tree_view schema index count next rows was failed old) seat → (r : Region) → IsRegion schema r → page ≡ region_page schema r → new.store.honest ≡ old.store.honest
+    → Puts seat.page page old.store new.store → KeepsTold (tree_view schema index count next rows was failed old) (tree_view schema index count next rows now failed new)
+told_there schema index count next rows was now failed old new seat page some small there r is spells same puts =
+    told_put schema index count next rows was now failed old new seat.page there.region r some small there.on.is is there.on.page same
+    (subst (λ (q : List ℕ). Puts seat.page q old.store new.store) spells puts)

@@ -1,0 +1,199 @@
+-- What a call that reads a region answers, and why it is refused.
+use Rattle.std.proofs.Common.{◌⊎◌, inl, inr, ◌≡◌, ℕ, suc, Bool, IsTrue, List, Option, Some, IfSome, Result, Ok, Err, IfErr, IsOk, OnOk, ap, sym, subst, refl, slice_get, map, ◌≤◌, ◌<◌, ◌∙◌, arith}
+use Rattle.std.specs.List.{AllByRecursion}
+use Rattle.std.specs.Result.{IsErrAnd, IsErrOf}
+use Rattle.ub_index.specs.Searching.{region_of}
+use Rattle.ub_index.specs.View.{IndexView}
+use Rattle.ub_index.specs.declared.seat.Seat.{Seat}
+use Rattle.ub_page.specs.Region.{region_page}
+use Rattle.ub_region.specs.Regions.{firsts_of, index_holding}
+use Rattle.ub_store.specs.Facts.{StoreFacts, IsPage, Reads, page_count, counted as counted_there}
+use Rattle.ub_store.specs.View.{PagerView, SameTrace}
+use Rattle.ub_store.specs.declared.fault.StoreFault.{StoreFault}
+use Rattle.ub_store.specs.declared.fault.StoreFault.TheVariants as store
+use Rattle.ub_table.specs.Keys.{IsBefore}
+use Rattle.ub_table.specs.Region.{Region, IsRegion, keys_of}
+use Rattle.ub_table.specs.declared.fault.PageFault.{PageFault}
+use Rattle.ub_table.specs.declared.row.Key.{Key}
+use Rattle.ub_table.specs.declared.schema.Schema.{Schema}
+use Rattle.ub_tree.proofs.IndexedFacts.{seat_of_key}
+use Rattle.ub_tree.proofs.TreeFacts.{all_get, apart_next, each_get, firsts_placed, region_get, seat_placed}
+use Rattle.ub_tree.specs.Effects.{IsPageMissing, IsPageRefused, IsReadFault, IsRegionRefused, IsSpanFault, IsTakenIn, Searches, read_store}
+use Rattle.ub_tree.specs.Faults.{tree_fault}
+use Rattle.ub_tree.specs.Placed.{entry_of}
+use Rattle.ub_tree.specs.Spans.{first_keys, Region as Span}
+use Rattle.ub_tree.specs.Told.{IsRegionOf}
+use Rattle.ub_tree.specs.Tree.{IsHeldBy, tree_view}
+use Rattle.ub_tree.specs.View.{TreeView, IsSound, regions}
+use Rattle.ub_tree.specs.declared.fault.TreeFault.{TreeFault}
+use Rattle.ub_tree.specs.declared.fault.TreeFault.TheVariants.{Failed, Page}
+use Rattle.ub_tree.specs.inner.Change.{IsOnSeat, IsSeatIn, IsSeatOf, IsSeatThere}
+
+-- a page of a store that was read is one of the store before
+pub page_still : {A : Type 0} (result : Result A StoreFault) (old new : StoreFacts) (n : ℕ) (page : List ℕ) → Reads old new result → IsPage new n page → IsPage old n page
+page_still result old new n page reads is = subst (λ (s : StoreFacts). IsPage s n page) reads.same is
+
+pub on_ok_by : {T E : Type 0} (r : Result T E) {P : Type 0} → P → OnOk r P
+on_ok_by (Ok x) p = p
+on_ok_by (Err e) p = tt
+
+-- the region of a seat, as the tree tells of it
+pub seat_told : (t : TreeView) (seat : Seat) → IsSeatOf t seat → IsRegionOf t (region_of t.inner.index.last seat)
+seat_told t seat told = record { key = told.0; seat = seat; falls = told.1; region_is = refl }
+
+-- so it is told of a page that was refused, or isn't there
+pub refused_there : (t : TreeView) (seat : Seat) (page : List ℕ) (fault : PageFault) → IsSeatOf t seat → IsPage t.store seat.page page → IsRegionRefused t.schema seat.first seat.next page fault
+    → IsPageRefused t seat.page fault
+refused_there t seat page fault told is refused = inr (region_of t.inner.index.last seat, seat_told t seat told, refl, page, is, refused)
+
+pub missing_there : (t : TreeView) (seat : Seat) → IsSeatOf t seat → page_count t.store ≤ seat.page → IsPageMissing t
+missing_there t seat told past = inr (region_of t.inner.index.last seat, seat_told t seat told, past)
+
+-- what stands on the page of a seat is taken in
+pub taken_on : (t : TreeView) (seat : Seat) (region : Region) → IsOnSeat t seat region → IsTakenIn t (region_of t.inner.index.last seat) region
+taken_on t seat region on = (on.is, on.held, on.page)
+
+-- on a sound tree a region stands on the page of each seat
+pub sound_on : (t : TreeView) (i : ℕ) (seat : Seat) → IsSound t → IsSeatIn t i seat → (r : Region) × IsOnSeat t seat r
+sound_on t i seat sound at =
+    let (p, there, page, first) = seat_placed t.placed i seat at in
+    let region = region_get t.placed i p there in
+    let each = each_get (IsRegion t.schema) (regions t) i p.region sound.regions_are.each region in
+    let apart = apart_next t.schema.dims (regions t) i p.region sound.regions_are.apart region in
+    let spelled = all_get (λ q. slice_get t.store.pages q.page ≡ Some (region_page t.schema q.region)) t.placed i p sound.placed_are.spelled there in
+    let next : seat.next ≡ slice_get (firsts_of (regions t)) (suc i) = at.next ∙ ap (λ (ks : List Key). slice_get ks (suc i)) (firsts_placed t.placed) in (
+      p.region,
+      record {
+        is = each;
+        held = (first, subst (λ (o : Option Key). IfSome o (λ end. AllByRecursion (λ key. IsBefore key end) (keys_of t.schema.dims p.region.rows))) (sym next) apart);
+        page = λ honest. ap (slice_get t.store.pages) (sym page) ∙ spelled;
+      },
+    )
+
+pub sound_seat : (t : TreeView) (seat : Seat) → IsSound t → IsSeatOf t seat → (r : Region) × IsOnSeat t seat r
+sound_seat t seat sound told = sound_on t (index_holding told.0 (first_keys (map entry_of t.placed))) seat sound (seat_of_key t sound told.0 seat told.1)
+
+-- a fault of a page of this number, of which this is known
+abbrev pub IsTold : ℕ → (PageFault → Type 0) → TreeFault → Type 0
+IsTold number Q fault = (of_page : PageFault) × (fault ≡ Page number of_page) × Q of_page
+
+pub page_refused : {T : Type 0} (Q : PageFault → Type 0) (r : Result T TreeFault) (number : ℕ) (old : TreeView) → IfErr r (IsTold number Q)
+    → (IsSound old → IsOk r) → ((f : PageFault) → Q f → IsPageRefused old number f) → IfErr r (IsReadFault old)
+page_refused Q (Ok x) number old is good told = tt
+page_refused Q (Err e) number old is good told = rw is.1 ((λ sound. let bad = good sound in cc), told is.0 is.2)
+
+pub span_refused : {T : Type 0} (Q : PageFault → Type 0) (r : Result T TreeFault) (span : Span) (old : TreeView) → IfErr r (IsTold span.page Q)
+    → ((f : PageFault) → Q f → IsSpanFault span old (Page span.page f)) → IfErr r (IsSpanFault span old)
+span_refused Q (Ok x) span old is told = tt
+span_refused Q (Err e) span old is told = rw is.1 (told is.0 is.2)
+
+pub span_unread : {T : Type 0} (U : Type 0) (r : Result T TreeFault) (fault : StoreFault) (span : Span) (old : TreeView) → IsErrAnd r (λ e. e ≡ tree_fault fault)
+    → (IsErrOf {T = U} (Err fault) store.Device → IsTrue old.store.can_fail) → (IsErrOf {T = U} (Err fault) store.NoPage → page_count old.store ≤ span.page)
+    → (¬ (IsErrOf {T = U} (Err fault) store.BadSize)) → IfErr r (IsSpanFault span old)
+span_unread U (Ok x) fault span old is device missing size = tt
+span_unread U (Err e) fault span old is device missing size = rw is (by_fault fault device missing size)
+  where
+    by_fault : (fault : StoreFault) → (IsErrOf {T = U} (Err fault) store.Device → IsTrue old.store.can_fail) → (IsErrOf {T = U} (Err fault) store.NoPage → page_count old.store ≤ span.page)
+        → (¬ (IsErrOf {T = U} (Err fault) store.BadSize)) → IsSpanFault span old (tree_fault fault)
+    by_fault store.Device device missing size = device refl
+    by_fault store.NoPage device missing size = missing refl
+    by_fault store.Memory device missing size = tt
+    by_fault store.BadSize device missing size = size refl
+
+-- neither the store's faults nor those of a page say that the tree has failed
+pub never_failed : {T : Type 0} (r : Result T TreeFault) (fault : StoreFault) (old new : TreeView) → IsErrAnd r (λ e. e ≡ tree_fault fault) → r ≡ Err Failed → new ≡ old
+never_failed (Ok x) fault old new is failed = absurd is
+never_failed (Err e) store.Device old new is failed = cc
+never_failed (Err e) store.NoPage old new is failed = cc
+never_failed (Err e) store.Memory old new is failed = cc
+never_failed (Err e) store.BadSize old new is failed = cc
+
+pub told_failed : {T : Type 0} (Q : PageFault → Type 0) (r : Result T TreeFault) (number : ℕ) (old new : TreeView) → IfErr r (IsTold number Q) → r ≡ Err Failed → new ≡ old
+told_failed Q (Ok x) number old new is failed = cc
+told_failed Q (Err e) number old new is failed = let told = is.1 in cc
+
+-- what a page told is taken in
+pub taken_in : {T : Type 0} (t : TreeView) (r : Result T TreeFault) (span : Span) (region : Region) (page : List ℕ)
+    → OnOk r (IsRegion t.schema region × (page ≡ region_page t.schema region)) → OnOk r (IsHeldBy t.schema.dims span.first span.next region) → IsPage t.store span.page page
+    → OnOk r (IsTakenIn t span region)
+taken_in t (Ok x) span region page found held is = (found.0, held, subst (λ (p : List ℕ). IsPage t.store span.page p) found.1 is)
+taken_in t (Err e) span region page found held is = tt
+
+module _ {U : Type 0} (old : TreeView) where
+  fault_refused : (fault : StoreFault) → (IsErrOf {T = U} (Err fault) store.Device → IsTrue old.store.can_fail) → (IsErrOf {T = U} (Err fault) store.NoPage → (¬ (IsSound old)) × IsPageMissing old)
+      → (¬ (IsErrOf {T = U} (Err fault) store.BadSize)) → IsReadFault old (tree_fault fault)
+  fault_refused store.Device device missing size = device refl
+  fault_refused store.NoPage device missing size = missing refl
+  fault_refused store.Memory device missing size = tt
+  fault_refused store.BadSize device missing size = size refl
+
+  pub store_refused : {T : Type 0} (r : Result T TreeFault) (fault : StoreFault) → IsErrAnd r (λ e. e ≡ tree_fault fault)
+      → (IsErrOf {T = U} (Err fault) store.Device → IsTrue old.store.can_fail) → (IsErrOf {T = U} (Err fault) store.NoPage → (¬ (IsSound old)) × IsPageMissing old)
+      → (¬ (IsErrOf {T = U} (Err fault) store.BadSize)) → IfErr r (IsReadFault old)
+  store_refused (Ok x) fault is device missing size = tt
+  store_refused (Err e) fault is device missing size = rw is (fault_refused fault device missing size)
+
+-- a store that a call read, by the fault of the store and by that of the tree
+pub read_there : {T : Type 0} (r : Result T TreeFault) (U : Type 0) (fault : StoreFault) (old new : StoreFacts) → IsErrAnd r (λ e. e ≡ tree_fault fault)
+    → new ≡ record old { failed_reads = counted_there {A = U} (Err fault) old.failed_reads } → new ≡ read_store r old
+read_there (Ok x) U fault old new is same = absurd is
+read_there (Err e) U store.Device old new is same = rw is same
+read_there (Err e) U store.NoPage old new is same = rw is same
+read_there (Err e) U store.Memory old new is same = rw is same
+read_there (Err e) U store.BadSize old new is same = rw is same
+
+-- nor was one that was read and then refused its page
+pub read_page : {T : Type 0} (Q : PageFault → Type 0) (r : Result T TreeFault) (number : ℕ) (old new : StoreFacts) → IfErr r (IsTold number Q) → new ≡ old → new ≡ read_store r old
+read_page Q (Ok x) number old new is same = same
+read_page Q (Err e) number old new is same = rw is.1 same
+
+pub read_page_by : {T : Type 0} (Q : PageFault → Type 0) (r : Result T TreeFault) (e : TreeFault) (number : ℕ) (old new : StoreFacts) → IsErrAnd r (λ x. x ≡ e) → IsTold number Q e → new ≡ old
+    → new ≡ read_store r old
+read_page_by Q (Ok x) e number old new is by same = same
+read_page_by Q (Err f) e number old new is by same = rw (is, by.1) same
+
+-- a tree whose store was read alone
+pub read_tree : {T : Type 0} (r : Result T TreeFault) (schema : Schema) (index : IndexView) (count next rows : ℕ) (changed failed : Bool) (old new : PagerView) → new.store ≡ read_store r old.store
+    → tree_view schema index count next rows changed failed new
+    ≡ record (tree_view schema index count next rows changed failed old) { store = read_store r old.store; trace = new.trace }
+read_tree r schema index count next rows changed failed old new same = rw same refl
+
+pub searched_tree : {T : Type 0} (r : Result T TreeFault) (schema : Schema) (index : IndexView) (count next rows : ℕ) (changed failed : Bool) (old new : PagerView) → new.store ≡ read_store r old.store
+    → SameTrace old new
+    → tree_view schema index count next rows changed failed new ≡ record (tree_view schema index count next rows changed failed old) { store = read_store r old.store }
+searched_tree r schema index count next rows changed failed old new same trace = rw (same, trace) refl
+
+-- a write whose page is there is refused where its store fails, and never else
+pub only_device : {U : Type 0} (fault : StoreFault) → (fault ≡ store.Device) ⊎ (fault ≡ store.NoPage) → (IsErrOf {T = U} (Err fault) store.NoPage → ⊥) → fault ≡ store.Device
+only_device fault (inl e) missing = e
+only_device fault (inr e) missing = absurd (missing (rw e refl))
+
+pub page_refused_by : {T : Type 0} (Q : PageFault → Type 0) (r : Result T TreeFault) (e : TreeFault) (number : ℕ) (old : TreeView) → IsErrAnd r (λ x. x ≡ e)
+    → IsTold number Q e → ¬ (IsSound old) → ((f : PageFault) → Q f → IsPageRefused old number f) → IfErr r (IsReadFault old)
+page_refused_by Q (Ok x) e number old is by never told = tt
+page_refused_by Q (Err f) e number old is by never told = rw (is, by.1) (never, told by.0 by.2)
+
+-- a write finds no page only where none is
+pub past_page : (count page : ℕ) → page < count → (count ≡ 0) ⊎ (count ≤ page) → ⊥
+past_page count page there (inl none) = omega arith
+past_page count page there (inr past) = omega arith
+
+pub past_pages : (count number page : ℕ) → number < count → page < count → (count ≡ 0) ⊎ (count ≤ number) ⊎ (count ≤ page) → ⊥
+past_pages count number page there also (inl none) = omega arith
+past_pages count number page there also (inr (inl past)) = omega arith
+past_pages count number page there also (inr (inr past)) = omega arith
+
+-- a seat of a tree that is as it was
+pub same_there : (a b : TreeView) (seat : Seat) → b ≡ a → IsSeatThere a seat → IsSeatThere b seat
+same_there a b seat same h = subst (λ (v : TreeView). IsSeatThere v seat) (sym same) h
+
+-- a search after one that changed nothing, and the answers of searches as those of others
+pub then_searched : {T : Type 0} (r : Result T TreeFault) (a b c : TreeView) → b ≡ a → Searches b c r → Searches a c r
+then_searched r a b c same h = subst (λ (v : TreeView). Searches v c r) same h
+
+pub still_searched : {T U : Type 0} (x : T) (y : U) (a c : TreeView) → Searches {A = U} a c (Ok y) → Searches {A = T} a c (Ok x)
+still_searched x y a c h = record { same = h.same; faults = tt }
+
+pub missed_by : {T U : Type 0} (r : Result T TreeFault) (e : TreeFault) (a c : TreeView) → IsErrAnd r (λ x. x ≡ e) → Searches {A = U} a c (Err e) → Searches a c r
+missed_by (Ok x) e a c is h = absurd is
+missed_by (Err f) e a c is h = rw is (record { same = h.same; faults = h.faults })

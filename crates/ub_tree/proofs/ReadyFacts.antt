@@ -1,0 +1,240 @@
+-- A change of the index of a tree, made ready: why it isn't, and which pages it spells.
+use Rattle.std.proofs.Common.{◌≡◌, ◌≢◌, ◌≤◌, ◌<◌, ◌+◌, ◌^◌, ◌∙◌, ◌⊎◌, inl, inr, ℕ, zero, suc, Bool, List, [], ◌∷◌, ◌++◌, Option, Some, None, Result, Ok, Err, IfErr, length, ap, sym, subst, refl, arith}
+use Rattle.std.proofs.lemmas.List.{append-nil, length-map}
+use Rattle.std.specs.List.{AllByRecursion, flat_map}
+use Rattle.std.specs.Result.{IsErrAnd}
+use Rattle.ub_index.proofs.FullFacts.{mended_few}
+use Rattle.ub_index.proofs.KeyFacts.{le_before}
+use Rattle.ub_index.specs.Changing.{IsAtMostOne, Mends, Spelled, Spreads, Turns, named_as, so_far}
+use Rattle.ub_index.specs.Index.{entries_of, pages_under, top, under}
+use Rattle.ub_index.specs.Lowering.{IsDropFault, IsDropped, IsLowerFault, IsRootRefused}
+use Rattle.ub_index.specs.Preparing.{ChangeView, IsChangeFault, IsPrepared, Settles, change_view, entry_at}
+use Rattle.ub_index.specs.Searching.{Gives, store_after}
+use Rattle.ub_index.specs.View.{IndexView}
+use Rattle.ub_index.specs.declared.fault.IndexFault.{IndexFault}
+use Rattle.ub_index.specs.declared.fault.IndexFault.TheVariants as index
+use Rattle.ub_index.specs.declared.seat.Seat.{Seat}
+use Rattle.ub_index.specs.declared.told.Told.{Told}
+use Rattle.ub_index.specs.declared.told.Told.TheVariants.{Same, Gone, One, Two}
+use Rattle.ub_index_page.specs.declared.index.TheConstants.{MAX_LEVEL}
+use Rattle.ub_page.specs.declared.entries.Entry.{Entry}
+use Rattle.ub_region.proofs.Laws.{all_append, all_more}
+use Rattle.ub_store.specs.Facts.{StoreFacts, IsHonest, page_count}
+use Rattle.ub_store.specs.View.{PagerView}
+use Rattle.ub_store.specs.declared.fault.StoreFault.TheVariants as store
+use Rattle.ub_table.proofs.Laws.{not_before_origin}
+use Rattle.ub_table.specs.Keys.{IsBefore, origin}
+use Rattle.ub_table.specs.declared.fault.PageFault.{PageFault}
+use Rattle.ub_table.specs.declared.row.Key.{Key}
+use Rattle.ub_table.specs.declared.schema.Schema.{Schema}
+use Rattle.ub_tree.proofs.RoomFacts.{begins_before}
+use Rattle.ub_tree.proofs.SearchFacts.{index_not_refused, no_stop, stores_alike}
+use Rattle.ub_tree.proofs.WayFacts.{IsSpelledOf, Spells, led_not_stopped, never_gone, spells}
+use Rattle.ub_tree.specs.Effects.{IsIndexRefused}
+use Rattle.ub_tree.specs.Faults.{index_fault}
+use Rattle.ub_tree.specs.Holding.{HasNoRoom}
+use Rattle.ub_tree.specs.Placed.{entry_of}
+use Rattle.ub_tree.specs.Told.{FallsTo}
+use Rattle.ub_tree.specs.Tree.{tree_view}
+use Rattle.ub_tree.specs.View.{TreeView, IsSound, region_count}
+use Rattle.ub_tree.specs.declared.fault.TreeFault.{TreeFault}
+use Rattle.ub_tree.specs.inner.Change.{IsReadyFault, IsSpelledAt, MakesReady}
+
+-- where the way to a key leads to a seat, a region comes behind it, unless there is no room
+pub change_room : (i : IndexView) (old : PagerView) (key : Key) (seat : Seat) → i.last < 2 ^ 128 → IsHonest old.store → Gives i (record old { cached = [] }) key seat
+    → (added : Entry) (from : Spelled) (e : IndexFault) → IsChangeFault i old.store key (Some added) from e → HasNoRoom (index_fault e)
+change_room i old key seat small honest given added from (index.Page n fault) h = elim (h honest) [
+  | inl stops ↦ absurd (led_not_stopped i.last old.store.pages [] key small i.levels (top i.root) None (entry_at seat) seat.next n (Some fault) (given.way honest) stops)
+  | inr gone ↦ absurd (never_gone i.last old.store.pages key added i.levels (top i.root) None from gone.2 gone.3)
+]
+change_room i old key seat small honest given added from index.Full h = inl refl
+change_room i old key seat small honest given added from (index.Store store.Memory) h = inr (inr (inl refl))
+change_room i old key seat small honest given added from (index.Store store.Device) h = inr (inr (inr refl))
+change_room i old key seat small honest given added from (index.Store store.BadSize) h = inr (inl refl)
+change_room i old key seat small honest given added from (index.Store store.NoPage) h =
+    absurd (led_not_stopped i.last old.store.pages [] key small i.levels (top i.root) None (entry_at seat) seat.next h.0 None (given.way honest) (h.2 honest))
+
+pub room_err : {T : Type 0} (r : Result T TreeFault) (e : IndexFault) → IsErrAnd r (λ x. x ≡ index_fault e) → HasNoRoom (index_fault e) → IfErr r HasNoRoom
+room_err (Ok x) e is h = tt
+room_err (Err f) e is h = rw is h
+
+-- why a region isn't made ready to come
+pub add_fault : (t : TreeView) (key : Key) (added : Entry) → t.inner.index.last < 2 ^ 128 → t.inner.index.levels ≤ MAX_LEVEL → (e : IndexFault)
+    → IsChangeFault t.inner.index t.store key (Some added) (so_far [] (page_count t.store + 1)) e → IsReadyFault t (index_fault e)
+add_fault t key added small high (index.Page n fault) h =
+    let refused : IsIndexRefused t n fault = λ honest. (elim (h honest) [
+      | inl stops ↦ inl (key, [], stops)
+      | inr gone ↦ absurd (never_gone t.inner.index.last t.store.pages key added t.inner.index.levels (top t.inner.index.root) None _ gone.2 gone.3)
+    ]) in
+    ((λ sound. index_not_refused t n fault small sound refused), inl (inl refused))
+add_fault t key added small high index.Full h = (h.0, λ honest. (key, (h.1 honest).0))
+add_fault t key added small high (index.Store store.Memory) h = tt
+add_fault t key added small high (index.Store store.Device) h = h
+add_fault t key added small high (index.Store store.BadSize) h = (
+  high,
+  h.0,
+  λ honest. (elim h.1 [
+    | inl past ↦ inl past
+    | inr needs ↦ let w = needs honest in inr (key, w.0, w.1, w.2)
+  ]),
+)
+add_fault t key added small high (index.Store store.NoPage) h = ((λ sound. no_stop t [] key h.0 None small sound (h.2 sound.honest)), inl (inl (h.0, h.1, λ honest. (key, [], h.2 honest))))
+
+-- a call that doesn't make a change ready, as one of the tree
+module _ (schema : Schema) (i : IndexView) (count next rows : ℕ) (changed failed : Bool) (old new : PagerView) where
+  abbrev before : TreeView
+  before = tree_view schema i count next rows changed failed old
+
+  abbrev after : TreeView
+  after = tree_view schema i count next rows changed failed new
+
+  pub not_ready : {T : Type 0} (U : Type 0) (r : Result T TreeFault) (e : IndexFault) → IsErrAnd r (λ x. x ≡ index_fault e)
+      → new ≡ record old { store = store_after {A = U} (Err e) old.store; cached = new.cached } → IsReadyFault before (index_fault e) → MakesReady before after r
+  not_ready U (Ok x) e is same fault = absurd is
+  not_ready {T} U (Err f) e is same fault = rw is (record {
+    same = ap (λ (p : PagerView). tree_view schema i count next rows changed failed p) same
+        ∙ ap (λ (s : StoreFacts). record before { store = s }) (stores_alike T U e old.store);
+    faults = fault;
+  })
+
+-- each page that is spelled is one of the index, or new
+module _ (t : TreeView) (from : ℕ) (far : page_count t.store ≤ from) (start root levels : ℕ) (middle : Spelled) (change : ChangeView)
+    (s : Spells t.store.pages (pages_under t.store.pages t.inner.index.levels (top t.inner.index.root)) (so_far [] from) middle) where
+  abbrev numbers : List ℕ
+  numbers = pages_under t.store.pages t.inner.index.levels (top t.inner.index.root)
+
+  spelled_to : (other : ChangeView) → middle.next ≤ other.next → AllByRecursion (IsSpelledAt t from other) middle.sheets
+  spelled_to other up =
+      subst (AllByRecursion (IsSpelledAt t from other)) (sym s.sheets_are)
+      (all_more (IsSpelledOf t.store.pages numbers from middle.next) (IsSpelledAt t from other) (λ sheet h. record {
+        own = λ n lt out. h.own n lt out.1;
+        there = (elim h.there [
+          | inl near ↦ inl near
+          | inr new ↦ let less = new.1 in inr (new.0, omega arith)
+        ]);
+      }) s.sheets s.each)
+
+  same_root : change ≡ change_view middle start root levels → AllByRecursion (IsSpelledAt t from change) change.sheets
+  same_root is = subst (λ (c : ChangeView). AllByRecursion (IsSpelledAt t from c) c.sheets) (sym is) (spelled_to (change_view middle start root levels) (omega arith))
+
+  pub all_spelled : (told : Told) → Settles root levels told start middle change → AllByRecursion (IsSpelledAt t from change) change.sheets
+  all_spelled Same h = same_root h
+  all_spelled Gone h = absurd h
+  all_spelled (One other) h = same_root h
+  all_spelled (Two left right) h =
+      let grown : from ≤ middle.next = s.grown in
+      subst (λ (c : ChangeView). AllByRecursion (IsSpelledAt t from c) c.sheets) (sym h.2)
+      (all_append (IsSpelledAt t from _) middle.sheets _ (spelled_to _ (omega arith)) (
+        record {
+          own = λ n lt out e. absurd (omega arith);
+          there = inr (grown, omega arith);
+        },
+        tt,
+      ))
+
+-- a region's entry that goes needs no page more
+spread_narrow : (level : ℕ) (entry : Entry) (entries : List Entry) (from to : Spelled) (told : Told) → length entries ≤ 170 → Spreads level entry entries from to told
+    → IsAtMostOne told × (to.next ≡ from.next)
+spread_narrow level entry entries from to Same few h = (tt, ap (λ (s : Spelled). s.next) h.2)
+spread_narrow level entry entries from to Gone few h = (tt, ap (λ (s : Spelled). s.next) h.1)
+spread_narrow level entry entries from to (One other) few h = (tt, ap (λ (s : Spelled). s.next) h.3)
+spread_narrow level entry entries from to (Two left right) few h = let full = h.0 in absurd (omega arith)
+
+pub narrow : (last : ℕ) (old : List (List ℕ)) (key : Key) (level : ℕ) (entry : Entry) (end : Option Key) (from to : Spelled) (told : Told)
+    → Turns last old key None level entry end from to told → IsAtMostOne told × (to.next ≡ from.next)
+narrow last old key zero entry end from to told (told_is, same) = (subst (λ (t : Told). IsAtMostOne t) (sym told_is) tt, ap (λ (s : Spelled). s.next) same)
+narrow last old key (suc level) entry end from to told (named, below, next, falls, middle, news, turns, mends) =
+    let in_it = narrow last old key level below next from middle news turns in
+    let few : length (falls.before ++ (below ∷ falls.after)) ≤ 170 = subst (λ (xs : List Entry). length xs ≤ 170) falls.parts named.fits.is.is.few in
+    let up = by_news news in_it.0 mends few in
+    (up.0, up.1 ∙ in_it.1)
+  where
+    by_news : (t : Told) → IsAtMostOne t → Mends (suc level) entry falls.before below falls.after t middle to told → length (falls.before ++ (below ∷ falls.after)) ≤ 170
+        → IsAtMostOne told × (to.next ≡ middle.next)
+    by_news Same n m few = (subst (λ (t : Told). IsAtMostOne t) (sym m.0) tt, ap (λ (s : Spelled). s.next) m.1)
+    by_news Gone n m few = spread_narrow (suc level) entry (falls.before ++ (named_as Gone below ++ falls.after)) middle to told (mended_few falls.before below falls.after Gone n few) m
+    by_news (One other) n m few =
+        spread_narrow (suc level) entry (falls.before ++ (named_as (One other) below ++ falls.after)) middle to told (mended_few falls.before below falls.after (One other) n few) m
+    by_news (Two left right) n m few = absurd n
+
+-- and where nothing is left, there was one region alone
+pub gone_alone : (last : ℕ) (old : List (List ℕ)) (key : Key) (level : ℕ) (entry : Entry) (end : Option Key) (from to : Spelled)
+    → Turns last old key None level entry end from to Gone → length (under old level entry) ≡ 1
+gone_alone last old key zero entry end from to h = refl
+gone_alone last old key (suc level) entry end from to (named, below, next, falls, middle, news, turns, mends) =
+    by_news (λ h. gone_alone last old key level below next from middle h) news turns mends
+  where
+    nothing : (xs : List Entry) (y : Entry) (ys : List Entry) → xs ++ (y ∷ ys) ≡ [] → ⊥
+    nothing [] y ys e = cc
+    nothing (x ∷ xs) y ys e = cc
+
+    by_parts : (xs ys : List Entry) → xs ++ ys ≡ [] → entries_of old entry.page ≡ xs ++ (below ∷ ys) → length (under old level below) ≡ 1 → length (under old (suc level) entry) ≡ 1
+    by_parts [] [] e parts one =
+        ap (λ (es : List Entry). length (flat_map (under old level) es)) parts ∙ (ap length (append-nil (under old level below)) ∙ one)
+    by_parts [] (y ∷ ys) e parts one = cc
+    by_parts (x ∷ xs) ys e parts one = cc
+
+    by_news : (Turns last old key None level below next from middle Gone → length (under old level below) ≡ 1) → (t : Told) → Turns last old key None level below next from middle t
+        → Mends (suc level) entry falls.before below falls.after t middle to Gone → length (under old (suc level) entry) ≡ 1
+    by_news lower Same h m = let bad = m.0 in cc
+    by_news lower Gone h m = by_parts falls.before falls.after m.0 falls.parts (lower h)
+    by_news lower (One other) h m = absurd (nothing falls.before other falls.after m.0)
+    by_news lower (Two left right) h m = absurd (nothing falls.before left (right ∷ falls.after) m.0)
+
+-- what is made ready for a region that goes
+pub drop_next : (index : IndexView) (store : StoreFacts) (key : Key) (change : ChangeView) → IsDropped index store key change → change.next ≡ page_count store
+drop_next index store key change (first, (middle, told, turns, settles), lowers) =
+    let in_it = narrow index.last store.pages key index.levels (top index.root) None (so_far [] (page_count store)) middle told turns in
+    ap (λ (c : ChangeView). c.next) lowers.same ∙ (settled told in_it.0 settles ∙ in_it.1)
+  where
+    settled : (t : Told) → IsAtMostOne t → Settles index.root index.levels t (page_count store) middle first → first.next ≡ middle.next
+    settled Same n h = ap (λ (c : ChangeView). c.next) h
+    settled Gone n h = absurd h
+    settled (One other) n h = ap (λ (c : ChangeView). c.next) h
+    settled (Two left right) n h = absurd n
+
+pub drop_spelled : (t : TreeView) (key : Key) (change : ChangeView) → IsDropped t.inner.index t.store key change → AllByRecursion (IsSpelledAt t (page_count t.store) change) change.sheets
+drop_spelled t key change (first, (middle, told, turns, settles), lowers) =
+    let all = all_spelled t (page_count t.store) (omega arith) (page_count t.store) t.inner.index.root t.inner.index.levels middle first
+    (spells t.inner.index.last t.store.pages key None t.inner.index.levels (top t.inner.index.root) None (so_far [] (page_count t.store)) middle told (omega arith) turns) told settles in
+    subst (λ (c : ChangeView). AllByRecursion (IsSpelledAt t (page_count t.store) c) c.sheets) (sym lowers.same)
+    (all_more (IsSpelledAt t (page_count t.store) first) (IsSpelledAt t (page_count t.store) (record first { root = change.root; levels = change.levels }))
+    (λ sheet h. record { own = h.own; there = h.there }) first.sheets all)
+
+-- why a region isn't made ready to go, on a tree that counts more regions than one: what is left to show is that on a sound tree each
+-- root is taken to which another one gives way
+pub drop_fault : (t : TreeView) (key : Key) → t.inner.index.last < 2 ^ 128 → region_count t ≢ 1
+    → (taken : IsSound t → (first : ChangeView) (n : ℕ) (fault : Option PageFault)
+    → IsPrepared t.inner.index t.store key None (page_count t.store) (so_far [] (page_count t.store)) first → ¬ (IsRootRefused t.inner.index.last t.store.pages first n fault))
+    → (e : IndexFault) → IsDropFault t.inner.index t.store key e → IsReadyFault t (index_fault e)
+drop_fault t key small more taken (index.Page n fault) (grows, why) = ((λ sound. never sound why), inr (inl (key, (grows, why))))
+  where
+    alone : IsSound t → length (under t.store.pages t.inner.index.levels (top t.inner.index.root)) ≡ 1 → ⊥
+    alone sound one = more (sound.count_is ∙ (sym (length-map t.placed entry_of) ∙ (ap length (sym sound.indexed.entries_are) ∙ one)))
+
+    never : IsSound t → IsChangeFault t.inner.index t.store key None (so_far [] (page_count t.store)) (index.Page n fault)
+        ⊎ ((first : ChangeView) × (IsHonest t.store → IsPrepared t.inner.index t.store key None (page_count t.store) (so_far [] (page_count t.store)) first)
+        × IsLowerFault t.inner.index.last t.store first (index.Page n fault)) → ⊥
+    never sound (inl change) = elim (change sound.honest) [
+      | inl stops ↦ no_stop t [] key n (Some fault) small sound stops
+      | inr gone ↦ alone sound (gone_alone t.inner.index.last t.store.pages key t.inner.index.levels (top t.inner.index.root) None _ gone.2 gone.3)
+    ]
+    never sound (inr lower) = taken sound lower.0 n (Some fault) (lower.1 sound.honest) (lower.2 sound.honest)
+drop_fault t key small more taken index.Full h = absurd h.0
+drop_fault t key small more taken (index.Store store.Memory) h = tt
+drop_fault t key small more taken (index.Store store.Device) h = elim h.1 [
+  | inl can ↦ can
+  | inr lower ↦ lower.2
+]
+drop_fault t key small more taken (index.Store store.BadSize) h = absurd h.0
+drop_fault t key small more taken (index.Store store.NoPage) (grows, why) = ((λ sound. never sound why), inr (key, (grows, why)))
+  where
+    never : IsSound t → IsChangeFault t.inner.index t.store key None (so_far [] (page_count t.store)) (index.Store store.NoPage)
+        ⊎ ((first : ChangeView) × (IsHonest t.store → IsPrepared t.inner.index t.store key None (page_count t.store) (so_far [] (page_count t.store)) first)
+        × IsLowerFault t.inner.index.last t.store first (index.Store store.NoPage)) → ⊥
+    never sound (inl change) = no_stop t [] key change.0 None small sound (change.2 sound.honest)
+    never sound (inr lower) = taken sound lower.0 lower.2.0 None (lower.1 sound.honest) (lower.2.2 sound.honest)
+
+-- a region that comes after another one isn't the first
+pub behind_origin : (t : TreeView) (key : Key) (seat : Seat) (next : Key) → FallsTo t key seat → seat.next ≡ Some next → IsBefore origin next
+behind_origin t key seat next falls is = le_before origin seat.first next (not_before_origin seat.first) (begins_before t key seat next falls is)

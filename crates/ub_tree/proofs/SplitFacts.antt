@@ -1,0 +1,225 @@
+-- What becomes of the regions of a tree, each on its page, where a change of its index is made: one region was parted, or taken into
+-- the one before it.
+use Rattle.std.proofs.Common.{◌≡◌, ◌≢◌, ◌<◌, ◌≤◌, ◌∙◌, ℕ, zero, suc, List, [], ◌∷◌, ◌++◌, None, length, map, take, drop, nat_eq, sym, ap, subst, refl, arith, slice_get, append_assoc}
+use Rattle.std.proofs.lemmas.List.{map-append, take-map, drop-map}
+use Rattle.std.proofs.lemmas.List.Elements.{All-from_recursion, recursion_from_All}
+use Rattle.std.proofs.lemmas.Option.{slice_get_within}
+use Rattle.std.specs.List.{All, AllByRecursion, IsDistinct}
+use Rattle.ub_directory.specs.Writing.{Grows}
+use Rattle.ub_index.proofs.MadeFacts.{made}
+use Rattle.ub_index.proofs.Numbers.{distinct_apart, distinct_first, distinct_right, within_store}
+use Rattle.ub_index.proofs.OwnFacts.{foreign_regions, replaced_at}
+use Rattle.ub_index.proofs.StandFacts.{are_places}
+use Rattle.ub_index.specs.Changed.{Replaces}
+use Rattle.ub_index.specs.Changing.{IsOutside, Stand}
+use Rattle.ub_index.specs.Index.{pages_under, top}
+use Rattle.ub_index.specs.Making.{IsCommitted, PutsSheets, StayOutside, changed}
+use Rattle.ub_index.specs.Preparing.{ChangeView, IsForeign, MakesIndex, entry_at}
+use Rattle.ub_index.specs.Standing.{AreOwnPages, AreRegionsThere, region_pages}
+use Rattle.ub_index.specs.View.{IndexView, IsIndexOn, IsSeatAt, entries_in}
+use Rattle.ub_index.specs.declared.seat.Seat.{Seat}
+use Rattle.ub_page.specs.declared.entries.Entry.{Entry}
+use Rattle.ub_region.proofs.Laws.{all_left, all_more, all_right}
+use Rattle.ub_store.specs.Facts.{StoreFacts, IsHonest, page_count}
+use Rattle.ub_table.specs.declared.schema.Schema.{Schema}
+use Rattle.ub_tree.proofs.IndexedFacts.{index_on}
+use Rattle.ub_tree.proofs.StoredFacts.{IsKept, IsSpelled, IsTold, parted, placed_changed, spelled_changed}
+use Rattle.ub_tree.proofs.TreeFacts.{entries_back, placed_at}
+use Rattle.ub_tree.specs.Indexed.{HasIndex, entries_on, reserved}
+use Rattle.ub_tree.specs.Placed.{Placed, ArePlaced, entry_of, placed_of}
+use Rattle.ub_tree.specs.inner.Change.{placed_with}
+
+-- the pages of the regions, by their entries
+pub pages_by : (placed : List Placed) → region_pages (map entry_of placed) ≡ map (λ p. p.page) placed
+pages_by [] = refl
+pages_by (p ∷ placed) = ap (λ (ns : List ℕ). p.page ∷ ns) (pages_by placed)
+
+-- the other regions' pages are none of these: the first, the region's, and one that the store hadn't
+module _ (chain before after : List ℕ) (page count : ℕ) (own : IsDistinct nat_eq ((0 ∷ chain) ++ (before ++ page ∷ after))) (less : AllByRecursion (λ n. n < count) (before ++ page ∷ after)) where
+  in_right : IsDistinct nat_eq (before ++ page ∷ after)
+  in_right = distinct_right (0 ∷ chain) (before ++ page ∷ after) own
+
+  not_first : AllByRecursion (λ n. 0 ≢ n) (before ++ page ∷ after)
+  not_first = all_right (λ n. 0 ≢ n) chain (before ++ page ∷ after) (distinct_first 0 (chain ++ (before ++ page ∷ after)) own)
+
+  each_apart : (ns : List ℕ) → AllByRecursion (λ n. 0 ≢ n) ns → AllByRecursion (λ n. n < count) ns → AllByRecursion (λ n. n ≢ page) ns
+      → AllByRecursion (λ n. IsOutside n (0 ∷ count ∷ page ∷ [])) ns
+  each_apart [] first lt other = tt
+  each_apart (n ∷ ns) first lt other =
+      ((λ e. first.0 (sym e), (λ e. (let less_so = lt.0 in absurd (omega arith)), (other.0, tt))), each_apart ns first.1 lt.1 other.1)
+
+  each_first : (ns : List ℕ) → AllByRecursion (λ n. IsOutside n (0 ∷ count ∷ page ∷ [])) ns → AllByRecursion (λ n. IsOutside n (0 ∷ page ∷ [])) ns
+  each_first [] h = tt
+  each_first (n ∷ ns) h = ((h.0.0, (h.0.1.1.0, tt)), each_first ns h.1)
+
+  not_page_before : AllByRecursion (λ n. n ≢ page) before
+  not_page_before = all_more (λ n. IsOutside n (page ∷ after)) (λ n. n ≢ page) (λ n h. h.0) before (distinct_apart before (page ∷ after) in_right)
+
+  not_page_after : AllByRecursion (λ n. n ≢ page) after
+  not_page_after = all_more (λ n. page ≢ n) (λ n. n ≢ page) (λ n h e. h (sym e)) after (distinct_first page after (distinct_right before (page ∷ after) in_right))
+
+  pub apart_before : AllByRecursion (λ n. IsOutside n (0 ∷ count ∷ page ∷ [])) before
+  apart_before = each_apart before (all_left (λ n. 0 ≢ n) before (page ∷ after) not_first) (all_left (λ n. n < count) before (page ∷ after) less) not_page_before
+
+  pub apart_after : AllByRecursion (λ n. IsOutside n (0 ∷ count ∷ page ∷ [])) after
+  apart_after = each_apart after (all_right (λ n. 0 ≢ n) before (page ∷ after) not_first).1 (all_right (λ n. n < count) before (page ∷ after) less).1 not_page_after
+
+  -- the same where the store got no page
+  pub apart_before_two : AllByRecursion (λ n. IsOutside n (0 ∷ page ∷ [])) before
+  apart_before_two = each_first before apart_before
+
+  pub apart_after_two : AllByRecursion (λ n. IsOutside n (0 ∷ page ∷ [])) after
+  apart_after_two = each_first after apart_after
+
+-- an index over a store, and the regions that it tells, each on its page
+module _ (schema : Schema) (index : IndexView) (a : StoreFacts) (placed : List Placed) (honest : IsHonest a) (viewed : placed ≡ placed_of schema a.pages (entries_on index a.pages))
+    (indexed : HasIndex index a.pages (map entry_of placed)) (placed_are : ArePlaced schema placed (reserved index a.pages) a.pages) where
+  pub is : IsIndexOn index a
+  is = index_on index a (map entry_of placed) honest indexed
+
+  abbrev entries : List Entry
+  entries = entries_in index a
+
+  entries_are : entries ≡ map entry_of placed
+  entries_are = indexed.entries_are
+
+  numbers_are : region_pages entries ≡ map (λ p. p.page) placed
+  numbers_are = ap region_pages entries_are ∙ pages_by placed
+
+  pub own : AreOwnPages index a
+  own = subst (λ (ns : List ℕ). IsDistinct nat_eq (reserved index a.pages ++ ns)) (sym numbers_are) placed_are.own
+
+  spelled : AllByRecursion (IsSpelled schema a.pages) placed
+  spelled = recursion_from_All (IsSpelled schema a.pages) placed placed_are.spelled
+
+  pub there : AreRegionsThere index a
+  there = subst (AllByRecursion (λ n. n < page_count a)) (sym numbers_are) (each_there placed spelled)
+    where
+      each_there : (ps : List Placed) → AllByRecursion (IsSpelled schema a.pages) ps → AllByRecursion (λ n. n < page_count a) (map (λ p. p.page) ps)
+      each_there [] h = tt
+      each_there (p ∷ ps) h = (slice_get_within a.pages p.page _ h.0, each_there ps h.1)
+
+  -- the spelled regions, by their entries
+  spelled_entries : AllByRecursion (IsSpelled schema a.pages) (placed_of schema a.pages entries)
+  spelled_entries = subst (AllByRecursion (IsSpelled schema a.pages)) viewed spelled
+
+  -- what is known of the page of a seat, and of those of the other regions, where a change is made
+  module _ (from : ℕ) (far : page_count a ≤ from) (change : ChangeView) (i : ℕ) (seat : Seat) (at : IsSeatAt (map entry_of placed) i seat) where
+    at_of : IsSeatAt entries i seat
+    at_of = subst (λ (es : List Entry). IsSeatAt es i seat) (sym entries_are) at
+
+    parts_of : region_pages entries ≡ region_pages (take i entries) ++ seat.page ∷ region_pages (drop (suc i) entries)
+    parts_of = ap region_pages (sym (parted entries i (entry_at seat) at_of.entry)) ∙ map-append (λ (e : Entry). e.page) (take i entries) (entry_at seat ∷ drop (suc i) entries)
+
+    pub seat_foreign : IsForeign index a from change seat.page
+    seat_foreign = (all_right (IsForeign index a from change) (region_pages (take i entries)) (seat.page ∷ region_pages (drop (suc i) entries))
+        (subst (AllByRecursion (IsForeign index a from change)) parts_of (foreign_regions index a is own there from change far).0.1)).0
+
+    own_parts : IsDistinct nat_eq ((0 ∷ pages_under a.pages index.levels (top index.root)) ++ (region_pages (take i entries) ++ seat.page ∷ region_pages (drop (suc i) entries)))
+    own_parts = subst (λ (ns : List ℕ). IsDistinct nat_eq (reserved index a.pages ++ ns)) parts_of own
+
+    less_parts : AllByRecursion (λ n. n < page_count a) (region_pages (take i entries) ++ seat.page ∷ region_pages (drop (suc i) entries))
+    less_parts = subst (AllByRecursion (λ n. n < page_count a)) parts_of there
+
+    pub before_regions : AllByRecursion (λ n. IsOutside n (0 ∷ page_count a ∷ seat.page ∷ [])) (region_pages (take i entries))
+    before_regions = apart_before (pages_under a.pages index.levels (top index.root)) (region_pages (take i entries)) (region_pages (drop (suc i) entries)) seat.page (page_count a) own_parts less_parts
+
+    pub after_regions : AllByRecursion (λ n. IsOutside n (0 ∷ page_count a ∷ seat.page ∷ [])) (region_pages (drop (suc i) entries))
+    after_regions = apart_after (pages_under a.pages index.levels (top index.root)) (region_pages (take i entries)) (region_pages (drop (suc i) entries)) seat.page (page_count a) own_parts less_parts
+
+  -- a change of the index of which this is known, made over a store that had grown, on which some pages were put
+  module _ (from : ℕ) (far : page_count a ≤ from) (change : ChangeView) (i : ℕ) (seat : Seat) (at : IsSeatAt (map entry_of placed) i seat) (fs : List Entry)
+      (makes : MakesIndex index a from change (Replaces (entry_at seat) fs (entries_in index a)))
+      (grown filled new : StoreFacts) (grows : Grows a grown) (honest_filled : IsHonest filled) (honest_new : IsHonest new)
+      (numbers : List ℕ) (others : StayOutside numbers grown.pages filled.pages) (foreign : AllByRecursion (IsForeign index a from change) numbers)
+      (puts : PutsSheets change.sheets filled new) (stand : Stand new.pages change.sheets) where
+    pub committed : IsCommitted index a from change (entry_at seat) fs filled new
+    committed = made index a grown filled new from change (entry_at seat) fs numbers is makes grows others foreign honest_filled honest_new puts stand
+
+    at_entries : IsSeatAt entries i seat
+    at_entries = subst (λ (es : List Entry). IsSeatAt es i seat) (sym entries_are) at
+
+    pub new_entries : entries_in (changed index change) new ≡ take i entries ++ (fs ++ drop (suc i) entries)
+    new_entries = replaced_at index.last entries (entries_in (changed index change) new) i seat fs (are_places index a is).0 at_entries committed.entries_are
+
+    -- the page of a region that none of those is was kept
+    kept_page : (n : ℕ) → n < page_count a → IsForeign index a from change n → IsOutside n numbers → slice_get new.pages n ≡ slice_get a.pages n
+    kept_page n lt free apart = committed.kept n free ∙ (others n apart ∙ grows.kept honest n lt)
+
+    kept_each : (es : List Entry) → AllByRecursion (λ n. n < page_count a) (region_pages es) → AllByRecursion (IsForeign index a from change) (region_pages es)
+        → AllByRecursion (λ n. IsOutside n numbers) (region_pages es) → AllByRecursion (IsKept a.pages new.pages) es
+    kept_each [] less free apart = tt
+    kept_each (e ∷ es) less free apart = (kept_page e.page less.0 free.0 apart.0, kept_each es less.1 free.1 apart.1)
+
+    whole : take i entries ++ entry_at seat ∷ drop (suc i) entries ≡ entries
+    whole = parted entries i (entry_at seat) at_entries.entry
+
+    abbrev before : List Entry
+    before = take i entries
+
+    abbrev after : List Entry
+    after = drop (suc i) entries
+
+    pages_parts : region_pages entries ≡ region_pages before ++ seat.page ∷ region_pages after
+    pages_parts = ap region_pages (sym whole) ∙ map-append (λ (e : Entry). e.page) before (entry_at seat ∷ after)
+
+    less : AllByRecursion (λ n. n < page_count a) (region_pages before ++ seat.page ∷ region_pages after)
+    less = subst (AllByRecursion (λ n. n < page_count a)) pages_parts there
+
+    free : AllByRecursion (IsForeign index a from change) (region_pages before ++ seat.page ∷ region_pages after)
+    free = subst (AllByRecursion (IsForeign index a from change)) pages_parts (foreign_regions index a is own there from change far).0.1
+
+    module _ (apart_before : AllByRecursion (λ n. IsOutside n numbers) (region_pages before)) (apart_after : AllByRecursion (λ n. IsOutside n numbers) (region_pages after))
+        (news : List Placed) (told : AllByRecursion (IsTold schema new.pages) news) (fs_are : fs ≡ map entry_of news) (own_new : AreOwnPages (changed index change) new) where
+      kept_before : AllByRecursion (IsKept a.pages new.pages) before
+      kept_before = kept_each before (all_left (λ n. n < page_count a) (region_pages before) (seat.page ∷ region_pages after) less)
+          (all_left (IsForeign index a from change) (region_pages before) (seat.page ∷ region_pages after) free) apart_before
+
+      kept_after : AllByRecursion (IsKept a.pages new.pages) after
+      kept_after = kept_each after (all_right (λ n. n < page_count a) (region_pages before) (seat.page ∷ region_pages after) less).1
+          (all_right (IsForeign index a from change) (region_pages before) (seat.page ∷ region_pages after) free).1 apart_after
+
+      parts : placed_of schema a.pages before ++ placed_at schema a.pages (entry_at seat) ∷ placed_of schema a.pages after ≡ placed_of schema a.pages entries
+      parts = sym (map-append (placed_at schema a.pages) before (entry_at seat ∷ after)) ∙ ap (placed_of schema a.pages) whole
+
+      spelled_parts : AllByRecursion (IsSpelled schema a.pages) (placed_of schema a.pages before ++ placed_at schema a.pages (entry_at seat) ∷ placed_of schema a.pages after)
+      spelled_parts = subst (AllByRecursion (IsSpelled schema a.pages)) (sym parts) spelled_entries
+
+      parts_new : placed_of schema a.pages before ++ news ++ placed_of schema a.pages after ≡ placed_with i news placed
+      parts_new =
+          ap (λ (ps : List Placed). ps ++ news ++ placed_of schema a.pages after) (sym (take-map (placed_at schema a.pages) i entries))
+          ∙ ap (λ (ps : List Placed). take i (placed_of schema a.pages entries) ++ news ++ ps) (sym (drop-map (placed_at schema a.pages) (suc i) entries))
+          ∙ ap (placed_with i news) (sym viewed)
+
+      -- the regions then, as the index tells them
+      pub new_placed : placed_of schema new.pages (entries_in (changed index change) new) ≡ placed_with i news placed
+      new_placed =
+          ap (placed_of schema new.pages) (new_entries ∙ ap (λ (xs : List Entry). before ++ (xs ++ after)) fs_are ∙ sym (append_assoc before (map entry_of news) after))
+          ∙ placed_changed schema a.pages new.pages before after news kept_before kept_after told
+          ∙ parts_new
+
+      pub new_indexed : HasIndex (changed index change) new.pages (map entry_of (placed_with i news placed))
+      new_indexed = record {
+        some = committed.is.some;
+        under_it = committed.is.under_it;
+        entries_are = sym (entries_back schema new.pages (entries_in (changed index change) new)) ∙ ap (map entry_of) new_placed;
+      }
+
+      pub new_are : ArePlaced schema (placed_with i news placed) (reserved (changed index change) new.pages) new.pages
+      new_are = record {
+        spelled = subst (All (IsSpelled schema new.pages)) parts_new
+            (spelled_changed schema a.pages new.pages before after news kept_before kept_after told
+            (all_left (IsSpelled schema a.pages) (placed_of schema a.pages before) (placed_at schema a.pages (entry_at seat) ∷ placed_of schema a.pages after) spelled_parts)
+            (all_right (IsSpelled schema a.pages) (placed_of schema a.pages before) (placed_at schema a.pages (entry_at seat) ∷ placed_of schema a.pages after) spelled_parts).1);
+        own = subst (λ (ns : List ℕ). IsDistinct nat_eq (reserved (changed index change) new.pages ++ ns))
+            (ap region_pages new_indexed.entries_are ∙ pages_by (placed_with i news placed)) own_new;
+        within = All-from_recursion (λ n. n < length new.pages) (reserved (changed index change) new.pages)
+            (some_page, within_store index.last new.pages change.levels (top change.root) None committed.is.under_it);
+      }
+        where
+          by_level : (level : ℕ) → 1 ≤ level → AllByRecursion (λ n. n < length new.pages) (pages_under new.pages level (top change.root)) → 0 < length new.pages
+          by_level zero some h = absurd (omega arith)
+          by_level (suc level) some h = let lt = h.0 in omega arith
+
+          some_page : 0 < length new.pages
+          some_page = by_level change.levels committed.is.some (within_store index.last new.pages change.levels (top change.root) None committed.is.under_it)

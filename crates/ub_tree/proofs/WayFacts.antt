@@ -1,0 +1,332 @@
+-- Ways down the index of a tree, over any pages: to which they lead, what becomes of them where a region's page is put anew, and
+-- which pages a change of the index spells.
+use Rattle.std.proofs.Common.{◌≡◌, ◌≢◌, ◌≤◌, ◌<◌, ◌+◌, ◌^◌, ◌∙◌, ◌⊎◌, inl, inr, ℕ, zero, suc, List, [], ◌∷◌, ◌++◌, Option, Some, None, IfSome, length, take, drop, ap, sym, subst, refl, arith, slice_get, append_assoc}
+use Rattle.std.proofs.lemmas.List.{length-append, append-nil}
+use Rattle.std.proofs.lemmas.Option.{slice_get_within}
+use Rattle.std.specs.List.{AllByRecursion, flat_map}
+use Rattle.ub_index.proofs.Changes.{kept_named, same_entries, same_page}
+use Rattle.ub_index.proofs.HeldFacts.{ends_of, in_full, taken_of, unfit_of}
+use Rattle.ub_index.proofs.KeyFacts.{before_le}
+use Rattle.ub_index.proofs.Lists.{ascend_right}
+use Rattle.ub_index.proofs.WaysFacts.{compare, first_up_to}
+use Rattle.ub_index_page.proofs.Laws.{node_not_refused}
+use Rattle.ub_index.specs.Changing.{IsOutside, Mends, Spelled, Spreads, Turns, sheet_of, so_far}
+use Rattle.ub_index.specs.Fitting.{FallsTo, FitsAtEnds, IsHeld, IsNotTaken, IsUnfit, IsUnfitAtEnds, NamesTaken}
+use Rattle.ub_index.specs.Index.{AscendTo, Fits, IsIndexPage, NamesFitting, entries_of, first_or, page_in, pages_under}
+use Rattle.ub_index.specs.Way.{LeadsTo, StopsAt}
+use Rattle.ub_index.specs.declared.sheet.Sheet.{Sheet}
+use Rattle.ub_index.specs.declared.told.Told.{Told}
+use Rattle.ub_index.specs.declared.told.Told.TheVariants.{Same, Gone, One, Two}
+use Rattle.ub_page.proofs.PageLaws.{region_parts}
+use Rattle.ub_page.specs.Entries.{IsEntry}
+use Rattle.ub_page.specs.Region.{region_page}
+use Rattle.ub_page.specs.declared.entries.Entry.{Entry}
+use Rattle.ub_region.proofs.Laws.{all_right}
+use Rattle.ub_table.specs.Keys.{IsBefore}
+use Rattle.ub_index_page.specs.Index.{IsIndexFault, IsIndexKind, node_on}
+use Rattle.ub_table.specs.Region.{Region, IsRegion}
+use Rattle.ub_table.specs.declared.fault.PageFault.TheVariants.{BadCount, OutOfRegion, WrongKind}
+use Rattle.ub_table.specs.declared.fault.PageFault.{PageFault}
+use Rattle.ub_table.specs.declared.row.Key.{Key}
+use Rattle.ub_table.specs.declared.schema.Schema.{Schema}
+
+-- what is before the first of entries in order is before each
+later_than : (key : Key) (m : List Entry) (x : Entry) (a : List Entry) (end : Option Key) → AscendTo (m ++ (x ∷ a)) end → IfSome (first_or (m ++ (x ∷ a)) None) (IsBefore key)
+    → IsBefore key x.first
+later_than key [] x a end up h = h
+later_than key (y ∷ m) x a end up h = before_le key y.first x.first h (first_up_to (y ∷ m) x a end up y.first refl)
+
+-- the first of entries doesn't stand behind one of them
+not_behind : (b : List Entry) (x : Entry) (m : List Entry) (y : Entry) (a : List Entry) → b ++ (x ∷ (m ++ (y ∷ a))) ≡ y ∷ a → ⊥
+not_behind b x m y a e =
+    let long = ap length e in
+    omega (arith, length-append b (x ∷ (m ++ (y ∷ a))), length-append m (y ∷ a))
+
+-- a key falls to one of entries in order
+module _ (key : Key) (entries : List Entry) (end : Option Key) (ascends : AscendTo entries end) where
+  apart : (a : Entry) (o : Option Key) (falls : FallsTo key entries end a o) (b : Entry) (p : Option Key) (other : FallsTo key entries end b p)
+      → (m : List Entry) → falls.after ≡ m ++ (b ∷ other.after) → ⊥
+  apart a o falls b p other m behind =
+      let up : AscendTo (a ∷ falls.after) end = ascend_right falls.before (a ∷ falls.after) end (subst (λ (xs : List Entry). AscendTo xs end) falls.parts ascends) in
+      let sooner : IsBefore key b.first =
+      later_than key m b other.after end (subst (λ (xs : List Entry). AscendTo xs end) behind up.1) (subst (λ (xs : List Entry). IfSome (first_or xs None) (IsBefore key)) behind falls.to) in
+      elim other.from [
+        | inl none ↦
+            not_behind falls.before a m b other.after
+            (ap (λ (xs : List Entry). falls.before ++ (a ∷ xs)) (sym behind) ∙ (sym falls.parts ∙ (other.parts ∙ ap (λ (xs : List Entry). xs ++ (b ∷ other.after)) none)))
+        | inr later ↦ later sooner
+      ]
+
+  pub falls_once : (a : Entry) (o : Option Key) (falls : FallsTo key entries end a o) (b : Entry) (p : Option Key) (other : FallsTo key entries end b p) → (a ≡ b) × (o ≡ p)
+  falls_once a o falls b p other =
+      elim (compare falls.before a falls.after other.before b other.after (sym falls.parts ∙ other.parts)) [
+        | inl same ↦ (same.0, falls.next_is ∙ (ap (λ (xs : List Entry). first_or xs end) same.1 ∙ sym other.next_is))
+        | inr apart_so ↦ elim apart_so [
+          | inl behind ↦ absurd (apart a o falls b p other behind.0 behind.1)
+          | inr ahead ↦ absurd (apart b p other a o falls ahead.0 ahead.1)
+        ]
+      ]
+
+-- a page that fits isn't refused
+misfit_or_fault : (last : ℕ) (page : List ℕ) (level : ℕ) (entry : Entry) (end : Option Key) (fault : PageFault) → Fits last page level entry end
+    → IsUnfit last page level entry end fault → IsIndexFault last page fault
+misfit_or_fault last page level entry end BadCount fits (inl h) = h
+misfit_or_fault last page level entry end BadCount fits (inr h) = absurd (h.1 fits.level_is)
+misfit_or_fault last page level entry end OutOfRegion fits h = absurd (h.2 fits)
+misfit_or_fault last page level entry end fault fits h = h
+
+named_not_refused : (last : ℕ) → last < 2 ^ 128 → (pages : List (List ℕ)) (held : List (ℕ × List ℕ)) (level : ℕ) (entry : Entry) (end : Option Key) (fault : Option PageFault)
+    → NamesFitting last pages level entry end → ¬ (IsNotTaken last pages held level entry end fault)
+named_not_refused last small pages held level entry end None h far = let near = slice_get_within pages entry.page (page_in pages entry.page) h.there in omega arith
+named_not_refused last small pages held level entry end (Some fault) h refused =
+    node_not_refused (node_on (page_in pages entry.page)) (page_in pages entry.page) last small h.fits.is.is h.fits.is.spelled fault
+    (misfit_or_fault last (page_in pages entry.page) level entry end fault h.fits (by_fault refused.1))
+  where
+    by_fault : IsUnfit last (page_in pages entry.page) level entry end fault ⊎ (IsHeld held entry.page × IsUnfitAtEnds (page_in pages entry.page) level entry end fault)
+        → IsUnfit last (page_in pages entry.page) level entry end fault
+    by_fault (inl unfit) = unfit
+    by_fault (inr ends) = unfit_of last (page_in pages entry.page) level entry end fault h.fits.is ends.1
+
+-- a way on which each page fits, and another way to the same key, whichever pages are held on that one
+module _ (last : ℕ) (pages : List (List ℕ)) (held : List (ℕ × List ℕ)) (key : Key) where
+  -- it is taken
+  pub taken_whole : (level : ℕ) (entry : Entry) (end : Option Key) (found : Entry) (next : Option Key) → LeadsTo last pages [] key level entry end found next
+      → LeadsTo last pages held key level entry end found next
+  taken_whole zero entry end found next leads = leads
+  taken_whole (suc level) entry end found next (named, below, beyond, falls, leads) =
+      (taken_of last pages held (suc level) entry end (in_full last pages (suc level) entry end named), below, beyond, falls, taken_whole level below beyond found next leads)
+
+  -- both lead to one entry
+  pub one_end : (level : ℕ) (entry : Entry) (end : Option Key) (found : Entry) (next : Option Key) (other : Entry) (after : Option Key)
+      → LeadsTo last pages [] key level entry end found next → LeadsTo last pages held key level entry end other after → (other ≡ found) × (after ≡ next)
+  one_end zero entry end found next other after leads h = (h.0 ∙ sym leads.0, h.1 ∙ sym leads.1)
+  one_end (suc level) entry end found next other after (named, below, beyond, falls, leads) (named2, below2, beyond2, falls2, leads2) =
+      let same = falls_once key (entries_of pages entry.page) end (in_full last pages (suc level) entry end named).fits.ascends below2 beyond2 falls2 below beyond falls in
+      let there : LeadsTo last pages held key level below beyond other after =
+      subst (λ (o : Option Key). LeadsTo last pages held key level below o other after) same.1 (subst (λ (e : Entry). LeadsTo last pages held key level e beyond2 other after) same.0 leads2) in
+      one_end level below beyond found next other after leads there
+
+  -- and the other one doesn't stop
+  pub led_not_stopped : last < 2 ^ 128 → (level : ℕ) (entry : Entry) (end : Option Key) (found : Entry) (next : Option Key) (n : ℕ) (fault : Option PageFault)
+      → LeadsTo last pages [] key level entry end found next → ¬ (StopsAt last pages held key level entry end n fault)
+  led_not_stopped small zero entry end found next n fault leads stops = stops
+  led_not_stopped small (suc level) entry end found next n fault (named, below, beyond, falls, leads) (inl here) =
+      named_not_refused last small pages held (suc level) entry end fault (in_full last pages (suc level) entry end named) here.1
+  led_not_stopped small (suc level) entry end found next n fault (named, below, beyond, falls, leads) (inr (named2, below2, beyond2, falls2, stops)) =
+      let same = falls_once key (entries_of pages entry.page) end (in_full last pages (suc level) entry end named).fits.ascends below2 beyond2 falls2 below beyond falls in
+      let there : StopsAt last pages held key level below beyond n fault =
+      subst (λ (o : Option Key). StopsAt last pages held key level below o n fault) same.1 (subst (λ (e : Entry). StopsAt last pages held key level e beyond2 n fault) same.0 stops) in
+      led_not_stopped small level below beyond found next n fault leads there
+
+-- no page of an index has this number
+abbrev pub IsNoIndexPage : ℕ → List (List ℕ) → ℕ → Type 0
+IsNoIndexPage last pages n = (page : List ℕ) → slice_get pages n ≡ Some page → ¬ (IsIndexPage last page)
+
+-- each page but the first is as it was, or was none of an index
+abbrev pub KeepsIndexPages : ℕ → List (List ℕ) → List (List ℕ) → Type 0
+KeepsIndexPages last old new = (n : ℕ) → 1 ≤ n → (slice_get new n ≡ slice_get old n) ⊎ IsNoIndexPage last old n
+
+-- a way on which each page fits leads where it led, where the pages of the index stay
+module _ (last : ℕ) (old new : List (List ℕ)) (keeps : KeepsIndexPages last old new) (key : Key) where
+  stays : (level : ℕ) (entry : Entry) (end : Option Key) → 1 ≤ entry.page → NamesFitting last old level entry end → slice_get new entry.page ≡ slice_get old entry.page
+  stays level entry end some named = elim (keeps entry.page some) [
+    | inl same ↦ same
+    | inr none ↦ absurd (none (page_in old entry.page) named.there named.fits.is)
+  ]
+
+  -- no entry of an index names the first page
+  some_below : (level : ℕ) (entry : Entry) (end : Option Key) (below : Entry) (beyond : Option Key) → NamesFitting last old level entry end → (falls : FallsTo key (entries_of old entry.page) end below beyond)
+      → 1 ≤ below.page
+  some_below level entry end below beyond named falls =
+      (all_right (IsEntry last) falls.before (below ∷ falls.after) (subst (AllByRecursion (IsEntry last)) falls.parts named.fits.is.is.entries)).0.some_page
+
+  pub still_leads : (level : ℕ) (entry : Entry) (end : Option Key) (found : Entry) (next : Option Key) → 1 ≤ entry.page → LeadsTo last old [] key level entry end found next
+      → LeadsTo last new [] key level entry end found next
+  still_leads zero entry end found next some leads = leads
+  still_leads (suc level) entry end found next some (named, below, beyond, falls, leads) =
+      let full = in_full last old (suc level) entry end named in
+      let same = stays (suc level) entry end some full in (
+        taken_of last new [] (suc level) entry end (kept_named last old new (suc level) entry end same full),
+        below,
+        beyond,
+        subst (λ (xs : List Entry). FallsTo key xs end below beyond) (sym (same_entries old new entry.page same)) falls,
+        still_leads level below beyond found next (some_below (suc level) entry end below beyond full falls) leads,
+      )
+
+-- each page but the first that is of an index by its first byte is as it was
+abbrev pub KeepsIndexKinds : List (List ℕ) → List (List ℕ) → Type 0
+KeepsIndexKinds old new = (n : ℕ) (page : List ℕ) → 1 ≤ n → slice_get old n ≡ Some page → IsIndexKind page → slice_get new n ≡ slice_get old n
+
+-- then each way leads where it led, whichever pages are held
+module _ (last : ℕ) (small : last < 256 ^ 16) (old new : List (List ℕ)) (keeps : KeepsIndexKinds old new) (held : List (ℕ × List ℕ)) (key : Key) where
+  kind_of : (level : ℕ) (entry : Entry) (end : Option Key) → NamesTaken last old held level entry end → IsIndexKind (page_in old entry.page)
+  kind_of level entry end named = elim named.fits [
+    | inl fits ↦ (ends_of last (page_in old entry.page) level entry end small fits).kind
+    | inr ends ↦ ends.1.kind
+  ]
+
+  pub still_led : (level : ℕ) (entry : Entry) (end : Option Key) (found : Entry) (next : Option Key) → 1 ≤ entry.page → LeadsTo last old held key level entry end found next
+      → LeadsTo last new held key level entry end found next
+  still_led zero entry end found next some leads = leads
+  still_led (suc level) entry end found next some (named, below, beyond, falls, leads) =
+      let same = keeps entry.page (page_in old entry.page) some named.there (kind_of (suc level) entry end named) in
+      let page = same_page old new entry.page same in (
+        record {
+          there = same ∙ (named.there ∙ ap (λ (p : List ℕ). Some p) (sym page));
+          fits = subst (λ (p : List ℕ). Fits last p (suc level) entry end ⊎ (IsHeld held entry.page × FitsAtEnds p (suc level) entry end)) (sym page) named.fits;
+        },
+        below,
+        beyond,
+        subst (λ (xs : List Entry). FallsTo key xs end below beyond) (sym (same_entries old new entry.page same)) falls,
+        still_led level below beyond found next falls.some leads,
+      )
+
+-- the page of a region is none of an index
+pub region_no_index : (last : ℕ) → last < 2 ^ 128 → (schema : Schema) (region : Region) → IsRegion schema region → ¬ (IsIndexPage last (region_page schema region))
+region_no_index last small schema region is h =
+    let page = region_page schema region in
+    let kind = (region_parts schema region page is refl).kind in
+    node_not_refused (node_on page) page last small h.is h.spelled WrongKind (λ other. let e = sym kind ∙ other in absurd (omega arith))
+
+-- nor is it so by its first byte
+pub region_no_kind : (schema : Schema) (region : Region) → IsRegion schema region → ¬ (IsIndexKind (region_page schema region))
+region_no_kind schema region is other =
+    let kind = (region_parts schema region (region_page schema region) is refl).kind in
+    let e = sym kind ∙ other in
+    absurd (omega arith)
+
+-- where another region comes, what an entry leads to doesn't go
+pub never_gone : (last : ℕ) (pages : List (List ℕ)) (key : Key) (added : Entry) (level : ℕ) (entry : Entry) (end : Option Key) (old new : Spelled)
+    → ¬ (Turns last pages key (Some added) level entry end old new Gone)
+never_gone last pages key added zero entry end old new h = let bad = h.0 in cc
+never_gone last pages key added (suc level) entry end old new (named, below, next, falls, middle, news, turns, mends) =
+    by_news (never_gone last pages key added level below next old middle) news turns mends
+  where
+    some_middle : (xs : List Entry) (y : Entry) (ys : List Entry) → xs ++ (y ∷ ys) ≡ [] → ⊥
+    some_middle [] y ys e = cc
+    some_middle (x ∷ xs) y ys e = cc
+
+    by_news : (¬ (Turns last pages key (Some added) level below next old middle Gone)) → (news : Told) → Turns last pages key (Some added) level below next old middle news
+        → Mends (suc level) entry falls.before below falls.after news middle new Gone → ⊥
+    by_news lower Same turns m = let bad = m.0 in cc
+    by_news lower Gone turns m = lower turns
+    by_news lower (One other) turns m = some_middle falls.before other falls.after m.0
+    by_news lower (Two left right) turns m = some_middle falls.before left (right ∷ falls.after) m.0
+
+-- which numbers a change spells: pages of the index that the store has, and new ones
+pub record IsSpelledOf (pages : List (List ℕ)) (numbers : List ℕ) (from to : ℕ) (sheet : Sheet) : Type 0 where
+  pub own : (n : ℕ) → n < length pages → IsOutside n numbers → n ≢ sheet.number
+  pub there : (sheet.number < length pages) ⊎ ((from ≤ sheet.number) × (sheet.number < to))
+
+pub record Spells (pages : List (List ℕ)) (numbers : List ℕ) (old new : Spelled) : Type 0 where
+  pub sheets : List Sheet
+  pub sheets_are : new.sheets ≡ old.sheets ++ sheets
+  pub grown : old.next ≤ new.next
+  pub each : AllByRecursion (IsSpelledOf pages numbers old.next new.next) sheets
+
+each_as : (P Q : Sheet → Type 0) → ((s : Sheet) → P s → Q s) → (sheets : List Sheet) → AllByRecursion P sheets → AllByRecursion Q sheets
+each_as P Q f [] h = tt
+each_as P Q f (s ∷ sheets) h = (f s h.0, each_as P Q f sheets h.1)
+
+each_join : (P : Sheet → Type 0) (xs ys : List Sheet) → AllByRecursion P xs → AllByRecursion P ys → AllByRecursion P (xs ++ ys)
+each_join P [] ys h k = k
+each_join P (x ∷ xs) ys h k = (h.0, each_join P xs ys h.1 k)
+
+outside_left : (n : ℕ) (xs ys : List ℕ) → IsOutside n (xs ++ ys) → IsOutside n xs
+outside_left n [] ys h = tt
+outside_left n (x ∷ xs) ys h = (h.0, outside_left n xs ys h.1)
+
+outside_right : (n : ℕ) (xs ys : List ℕ) → IsOutside n (xs ++ ys) → IsOutside n ys
+outside_right n [] ys h = h
+outside_right n (x ∷ xs) ys h = outside_right n xs ys h.1
+
+-- the pages below one of some entries are among those below all of them
+outside_one : (f : Entry → List ℕ) (n : ℕ) (before : List Entry) (x : Entry) (after : List Entry) → IsOutside n (flat_map f (before ++ (x ∷ after))) → IsOutside n (f x)
+outside_one f n [] x after h = outside_left n (f x) (flat_map f after) h
+outside_one f n (y ∷ before) x after h = outside_one f n before x after (outside_right n (f y) (flat_map f (before ++ (x ∷ after))) h)
+
+-- one step up: what is spelled below, and what the page of an entry becomes
+module _ (last : ℕ) (pages : List (List ℕ)) (key : Key) (level : ℕ) (entry : Entry) (end : Option Key) (old new middle : Spelled) (below : Entry) (next : Option Key)
+    (named : NamesFitting last pages (suc level) entry end) (falls : FallsTo key (entries_of pages entry.page) end below next) (far : length pages ≤ old.next)
+    (lower : Spells pages (pages_under pages level below) old middle) where
+  abbrev numbers : List ℕ
+  numbers = pages_under pages (suc level) entry
+
+  near : entry.page < length pages
+  near = slice_get_within pages entry.page (page_in pages entry.page) named.there
+
+  outside_below : (n : ℕ) → IsOutside n numbers → IsOutside n (pages_under pages level below)
+  outside_below n h =
+      outside_one (pages_under pages level) n falls.before below falls.after
+      (subst (λ (xs : List Entry). IsOutside n (flat_map (pages_under pages level) xs)) falls.parts h.1)
+
+  wider : (to : ℕ) → middle.next ≤ to → (s : Sheet) → IsSpelledOf pages (pages_under pages level below) old.next middle.next s → IsSpelledOf pages numbers old.next to s
+  wider to up s h = record {
+    own = λ n lt out. h.own n lt (outside_below n out);
+    there = (elim h.there [
+      | inl lt ↦ inl lt
+      | inr new_one ↦ let up_to = new_one.1 in inr (new_one.0, omega arith)
+    ]);
+  }
+
+  all_wider : (to : ℕ) → middle.next ≤ to → AllByRecursion (IsSpelledOf pages numbers old.next to) lower.sheets
+  all_wider to up =
+      each_as (IsSpelledOf pages (pages_under pages level below) old.next middle.next) (IsSpelledOf pages numbers old.next to) (wider to up) lower.sheets lower.each
+
+  here : (to : ℕ) (page : List ℕ) → IsSpelledOf pages numbers old.next to (record { number = entry.page; page = page })
+  here to page = record { own = λ n lt out. out.0; there = inl near }
+
+  fresh : (to : ℕ) (page : List ℕ) → middle.next < to → IsSpelledOf pages numbers old.next to (record { number = middle.next; page = page })
+  fresh to page up =
+      let more = lower.grown in
+      record { own = λ n lt out e. absurd (omega arith); there = inr (more, up) }
+
+  -- what was spelled below, and then these
+  then_these : (more : List Sheet) → new.sheets ≡ middle.sheets ++ more → middle.next ≤ new.next → AllByRecursion (IsSpelledOf pages numbers old.next new.next) more
+      → Spells pages numbers old new
+  then_these more are up each =
+      let grown = lower.grown in
+      record {
+        sheets = lower.sheets ++ more;
+        sheets_are = are ∙ ap (λ (xs : List Sheet). xs ++ more) lower.sheets_are ∙ append_assoc old.sheets lower.sheets more;
+        grown = omega arith;
+        each = each_join (IsSpelledOf pages numbers old.next new.next) lower.sheets more (all_wider new.next up) each;
+      }
+
+  unchanged : new ≡ middle → Spells pages numbers old new
+  unchanged same =
+      let next_is = ap (λ (s : Spelled). s.next) same in
+      then_these [] (ap (λ (s : Spelled). s.sheets) same ∙ sym (append-nil middle.sheets)) (omega arith) tt
+
+  one_page : (entries : List Entry) → new ≡ so_far (middle.sheets ++ sheet_of entry.page (suc level) entries ∷ []) middle.next → Spells pages numbers old new
+  one_page entries is =
+      let next_is : new.next ≡ middle.next = ap (λ (s : Spelled). s.next) is in
+      then_these (sheet_of entry.page (suc level) entries ∷ []) (ap (λ (s : Spelled). s.sheets) is) (omega arith) (here new.next _, tt)
+
+  by_told : (entries : List Entry) (told : Told) → Spreads (suc level) entry entries middle new told → Spells pages numbers old new
+  by_told entries Same m = one_page entries m.2
+  by_told entries Gone m = unchanged m.1
+  by_told entries (One other) m = one_page entries m.3
+  by_told entries (Two left right) m =
+      let is = m.4 in
+      let next_is : new.next ≡ middle.next + 1 = ap (λ (s : Spelled). s.next) is in
+      then_these (sheet_of middle.next (suc level) (drop 86 entries) ∷ sheet_of entry.page (suc level) (take 86 entries) ∷ []) (ap (λ (s : Spelled). s.sheets) is) (omega arith)
+      (fresh new.next _ (omega arith), (here new.next _, tt))
+
+  spells_up : (news told : Told) → Mends (suc level) entry falls.before below falls.after news middle new told → Spells pages numbers old new
+  spells_up Same told m = unchanged m.1
+  spells_up Gone told m = by_told _ told m
+  spells_up (One other) told m = by_told _ told m
+  spells_up (Two left right) told m = by_told _ told m
+
+module _ (last : ℕ) (pages : List (List ℕ)) (key : Key) (added : Option Entry) where
+  pub spells : (level : ℕ) (entry : Entry) (end : Option Key) (old new : Spelled) (told : Told) → length pages ≤ old.next → Turns last pages key added level entry end old new told
+      → Spells pages (pages_under pages level entry) old new
+  spells zero entry end old new told far h = record {
+    sheets = [];
+    sheets_are = ap (λ (s : Spelled). s.sheets) h.1 ∙ sym (append-nil old.sheets);
+    grown = (let same = ap (λ (s : Spelled). s.next) h.1 in omega arith);
+    each = tt;
+  }
+  spells (suc level) entry end old new told far (named, below, next, falls, middle, news, turns, mends) =
+      spells_up last pages key level entry end old new middle below next named falls far (spells level below next old middle news far turns) news told mends

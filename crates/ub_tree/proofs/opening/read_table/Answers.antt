@@ -1,0 +1,26 @@
+use Rattle.std.proofs.Common.{◌∙◌, Err, ℕ, ap, subst}
+use Rattle.ub_index.specs.Opening.{IsPassing, IsRooted, Opens}
+use Rattle.ub_index.specs.View.{index_view}
+use Rattle.ub_index.specs.declared.index.Index.{Index}
+use Rattle.ub_store.specs.Facts.{IsHonest}
+use Rattle.ub_tree.proofs.OpeningFacts.{root_passes, root_refused}
+use Rattle.ub_zaddr.specs.Address.{last_address}
+use Rattle.ub_tree.proofs.opening.read_table.Goals as goal
+
+pub returns-in_err-index-clause-exact : goal.returns-in_err-index-clause-exact
+returns-in_err-index-clause-exact g c =
+    let h = c.in_ok-header.header in
+    let mid = c.read_first.new.pager in
+    let exact = subst (λ (last : ℕ). IsHonest mid.store → IsRooted (index_view h.root h.levels last) mid.store → IsPassing c.in_err-index.field-0.0)
+    (c.last-last.ensures ∙ ap last_address c.shape.ensures) c.in_err-index.ensures.exact in
+    root_passes c.args.pager.now mid c.open.new.pager h c.in_ok-header.ensures.effect c.in_ok-header.ensures.header c.in_err-index.field-0.0 c.from_residual-in_err-index.result
+    c.from_residual-in_err-index.ensures.1 exact
+
+pub returns-in_err-index-clause-effect : goal.returns-in_err-index-clause-effect
+returns-in_err-index-clause-effect g c =
+    let h = c.in_ok-header.header in
+    let mid = c.read_first.new.pager in
+    let effect = subst (λ (last : ℕ). Opens {A = Index} (index_view h.root h.levels last) mid c.open.new.pager (Err c.in_err-index.field-0.0))
+    (c.last-last.ensures ∙ ap last_address c.shape.ensures) c.in_err-index.ensures.effect in
+    root_refused c.args.pager.now mid c.open.new.pager h c.in_ok-header.ensures.effect c.in_ok-header.ensures.header c.in_err-index.field-0.0 Index c.from_residual-in_err-index.result
+    c.from_residual-in_err-index.ensures.1 effect
