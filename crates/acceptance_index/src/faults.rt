@@ -174,7 +174,7 @@ fn made_at_last(
 // How often it failed in all, where its call of this number fails.
 fn failures(alloc: Global, pager: &mut Tried, asked: &Asked, due: u64) -> Option<u32> {
     let (root, levels, last) = asked.index;
-    let mut index = Index::new(root, levels.max(1).min(16), last);
+    let mut index = Index::new(root.max(1), levels.max(1).min(16), last);
     match prepared_at_last(alloc, &index, pager, asked) {
         Some((change, failed)) => {
             match made_at_last(&mut index, pager, &change, asked, due) {

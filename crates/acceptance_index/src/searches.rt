@@ -240,7 +240,7 @@ fn is_index(alloc: Global, pages: &[Spelled], levels: u32) -> bool {
     let Some(mut pager) = stored(alloc, pages, 0) else {
         return false;
     };
-    let index = Index::new(pages.len().min(6) as u32, levels.max(1).min(3), 63);
+    let index = Index::new(pages.len().clamp(1, 6) as u32, levels.max(1).min(3), 63);
     finds_each(&index, &mut pager, FLAT)
         && has_neighbours(&index, &mut pager, FLAT)
         && meets_each(&index, &mut pager)
