@@ -3,12 +3,12 @@ use std::alloc::{AllocError, Global};
 use std::test::Fail;
 use ub_lexer::{Token, TokenKind, lex};
 use ub_syntax::{
-    Aggregate, Condition, Item, OrderKey, Selection, Symbol, Syntax, Verdict, build, recognise,
-    symbol_of, too_many,
+    Aggregate, Condition, Insertion, Item, Literal, OrderKey, Selection, Sentence, Symbol, Syntax,
+    Value, Verdict, build, recognise, symbol_of, too_many,
 };
 
 // The syntax of a source of one statement, if it is one within the limits.
-fn syntax_of(alloc: Global, source: &[u8]) -> Result<Option<Syntax>, AllocError> {
+fn sentence_of(alloc: Global, source: &[u8]) -> Result<Option<Sentence>, AllocError> {
     let tokens = lex(alloc, source)?;
     let tokens = tokens.as_slice();
     if tokens.is_empty() || recognise(alloc, source, tokens)? != Verdict::Statement {
@@ -20,12 +20,66 @@ fn syntax_of(alloc: Global, source: &[u8]) -> Result<Option<Syntax>, AllocError>
     }
 }
 
+// The same, if it is a SELECT.
+fn syntax_of(alloc: Global, source: &[u8]) -> Result<Option<Syntax>, AllocError> {
+    match sentence_of(alloc, source)? {
+        Some(Sentence::Select(syntax)) => Ok(Some(syntax)),
+        _ => Ok(None),
+    }
+}
+
 fn word(from: usize, to: usize) -> Token {
     Token {
         kind: TokenKind::Word,
         from,
         to,
     }
+}
+
+fn number(from: usize, to: usize) -> Token {
+    Token {
+        kind: TokenKind::Number,
+        from,
+        to,
+    }
+}
+
+// Whether it is that of INSERT INTO t VALUES (10, -2).
+fn is_insert(insertion: &Insertion) -> bool {
+    let values = [
+        Value {
+            first: number(22, 24),
+            literal: Literal {
+                is_negative: false,
+                digits: number(22, 24),
+            },
+        },
+        Value {
+            first: Token {
+                kind: TokenKind::Minus,
+                from: 26,
+                to: 27,
+            },
+            literal: Literal {
+                is_negative: true,
+                digits: number(27, 28),
+            },
+        },
+    ];
+    insertion.table == word(12, 13)
+        && insertion.values.as_slice() == values.as_slice()
+        && insertion.close.from == 28
+}
+
+// Whether it is that of DELETE FROM t, with a condition or without one.
+fn is_delete(syntax: &Syntax, has_filter: bool) -> bool {
+    !syntax.is_explained
+        && matches!(&syntax.selection, Selection::All(delete) if *delete == word(0, 6))
+        && syntax.table == word(12, 13)
+        && syntax.filter.is_some() == has_filter
+        && syntax.group.as_slice().is_empty()
+        && syntax.order.as_slice().is_empty()
+        && syntax.limit.is_none()
 }
 
 // Whether it is that of EXPLAIN SELECT * FROM t.
@@ -98,6 +152,61 @@ fn reads_each_list(rt: HostRuntime) -> Result<(), Fail> {
     let source = b"SELECT COUNT(*), SUM(m) FROM t GROUP BY x, y ORDER BY x DESC, COUNT(*) LIMIT 5";
     let syntax = syntax_of(rt.alloc(), source)?.expect(&rt, "a statement");
     assert!(rt; has_lists(&syntax));
+    Ok(())
+}
+
+#[test]
+fn reads_an_insert(rt: HostRuntime) -> Result<(), Fail> {
+    let sentence = sentence_of(rt.alloc(), b"INSERT INTO t VALUES (10, -2)")?;
+    assert!(rt; matches!(&sentence, Some(Sentence::Insert(insertion)) if is_insert(insertion)));
+    Ok(())
+}
+
+#[test]
+fn reads_a_delete(rt: HostRuntime) -> Result<(), Fail> {
+    let all = sentence_of(rt.alloc(), b"delete from t")?;
+    assert!(rt; matches!(&all, Some(Sentence::Delete(syntax)) if is_delete(syntax, false)));
+    let some = sentence_of(rt.alloc(), b"DELETE FROM t WHERE x = 1 OR NOT y = 2")?;
+    assert!(rt; matches!(&some, Some(Sentence::Delete(syntax)) if is_delete(syntax, true)));
+    Ok(())
+}
+
+// The verdict on a source of one statement, if it has a token.
+fn verdict_on(alloc: Global, source: &[u8]) -> Result<Option<Verdict>, AllocError> {
+    let tokens = lex(alloc, source)?;
+    let tokens = tokens.as_slice();
+    if tokens.is_empty() {
+        return Ok(None);
+    }
+    Ok(Some(recognise(alloc, source, tokens)?))
+}
+
+// What an INSERT and a DELETE don't have is refused where it stands.
+#[test]
+fn refuses_other_changes(rt: HostRuntime) -> Result<(), Fail> {
+    let cases: [(&[u8], usize); 9] = [
+        (b"EXPLAIN DELETE FROM t", 8),
+        (b"EXPLAIN INSERT INTO t VALUES (1)", 8),
+        (b"DELETE FROM t GROUP BY x", 14),
+        (b"DELETE FROM t LIMIT 1", 14),
+        (b"DELETE FROM t WHERE x = 1 ORDER BY x", 26),
+        (b"INSERT INTO t VALUES ()", 22),
+        (b"INSERT INTO t VALUES (1, )", 25),
+        (b"INSERT INTO t VALUES (1", 23),
+        (b"INSERT INTO t VALUES (1), (2)", 24),
+    ];
+    for (source, at) in &cases {
+        assert!(rt; verdict_on(rt.alloc(), source)? == Some(Verdict::Syntax { at: *at }));
+    }
+    Ok(())
+}
+
+// The values of an INSERT have no limit.
+#[test]
+fn limits_no_values(rt: HostRuntime) -> Result<(), Fail> {
+    let source = b"INSERT INTO t VALUES (1,2,3,4,5,6,7,8,9,10)";
+    let tokens = lex(rt.alloc(), source)?;
+    assert!(rt; too_many(source, tokens.as_slice()).is_none());
     Ok(())
 }
 

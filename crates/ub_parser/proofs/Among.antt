@@ -1,19 +1,21 @@
 -- The names and numbers of a statement's syntax are tokens of the statement.
 use Rattle.std.proofs.Common.{◌≡◌, ℕ, zero, suc, List, [], ◌∷◌, ◌++◌, Option, Some, None, All, refl, arith, inl, inr}
-use Rattle.std.proofs.lemmas.List.Elements.{All-nil, All-append}
+use Rattle.std.proofs.lemmas.List.Elements.{All-nil, All-cons, All-append}
 use Rattle.std.specs.List.{fold}
 use Rattle.std.specs.Option.{option_to_list}
 use Rattle.ub_lexer.specs.declared.token.Token.{Token}
-use Rattle.ub_syntax.specs.Grammar.{Lexeme, symbol_of, IsToken, AreJoined, IsChain, IsOptional, IsLiteral, IsComparison, IsDisjunction, IsOperand, IsItem, IsSelection, IsKey, IsFilter, IsGroup, IsOrder, IsLimit, IsStatement}
+use Rattle.ub_syntax.specs.Grammar.{Lexeme, symbol_of, IsToken, AreJoined, IsChain, IsOptional, IsLiteral, IsComparison, IsDisjunction, IsOperand, IsItem, IsSelection, IsKey, IsFilter, IsGroup, IsOrder, IsLimit, IsSelect, IsValue, IsInsert, IsDelete}
 use Rattle.ub_syntax.specs.Tree.{Select, Shape, both, either, neither, compares, between}
 use Rattle.ub_syntax.specs.declared.symbol.Symbol.{Symbol}
 use Rattle.ub_syntax.specs.declared.symbol.Symbol.TheVariants as symbol
+use Rattle.ub_syntax.specs.declared.syntax.Insertion.{Insertion}
 use Rattle.ub_syntax.specs.declared.syntax.Item.{Item}
 use Rattle.ub_syntax.specs.declared.syntax.Item.TheVariants.{Column, Count, Aggregate}
 use Rattle.ub_syntax.specs.declared.syntax.Literal.{Literal}
 use Rattle.ub_syntax.specs.declared.syntax.OrderKey.{OrderKey}
 use Rattle.ub_syntax.specs.declared.syntax.Selection.{Selection}
 use Rattle.ub_syntax.specs.declared.syntax.Selection.TheVariants.{All as Star, Listed}
+use Rattle.ub_syntax.specs.declared.syntax.Value.{Value}
 use Rattle.ub_syntax.specs.Limits.{listed, compared, comparisons, key_items}
 use Rattle.ub_parser.specs.Refusals.{item_names, names_in, names}
 use Rattle.ub_parser.specs.Spans.{compared_numbers, filter_numbers, numbers}
@@ -171,9 +173,9 @@ module _ (P R : Token → Type 0) where
   limit_good ls None is good = All-nil R
   limit_good ls (Some number) is good = all_one R number (number_good is.1 number is.4 (back is.0 is.1 ls is.2 good))
 
-  -- of a statement whose lexemes are good, the names have P, the table's too, and the numbers R
-  pub statement_good : (n : ℕ) (ls : List Lexeme) (s : Select) → IsStatement n ls s → Are ls → All P (names s) × All R (numbers s) × P s.table
-  statement_good n ls s is good =
+  -- of a SELECT whose lexemes are good, the names have P, the table's too, and the numbers R
+  pub select_good : (n : ℕ) (ls : List Lexeme) (s : Select) → IsSelect n ls s → Are ls → All P (names s) × All R (numbers s) × P s.table
+  select_good n ls s is good =
       let a = back is.explain _ ls is.parts good in
       let b = back is.select _ _ refl a in
       let c = back is.items _ _ refl b in
@@ -190,4 +192,33 @@ module _ (P R : Token → Type 0) where
         All-append P (names_in (listed s.selection)) _ items (All-append P (comparisons s.filter) _ filter.0 (All-append P s.group _ group order)),
         All-append R (filter_numbers s.filter) _ filter.1 limit,
         name_good is.name s.table is.name_is (front is.name _ _ refl d),
+      )
+
+  -- the same of a DELETE
+  pub delete_good : (n : ℕ) (ls : List Lexeme) (s : Select) → IsDelete n ls s → Are ls → All P (names s) × All R (numbers s) × P s.table
+  delete_good n ls s is good =
+      let a = back is.delete _ ls is.parts good in
+      let b = back is.from _ _ refl a in
+      let c = back is.name is.filter _ refl b in
+      let filter = filter_good n is.filter is.condition is.filter_is c in
+      let table = name_good is.name is.table is.name_is (front is.name is.filter _ refl b) in
+      rw is.rows (All-append P (comparisons is.condition) [] filter.0 (All-nil P), All-append R (filter_numbers is.condition) [] filter.1 (All-nil R), table)
+
+  value_good : (ls : List Lexeme) (v : Value) → IsValue ls v → Are ls → R v.literal.digits
+  value_good ls v is good = literal_good ls v.literal is.4 good
+
+  values_good : (xs : List Value) → Each (λ (v : Value). R v.literal.digits) xs → All (λ (v : Value). R v.literal.digits) xs
+  values_good [] h = All-nil (λ (v : Value). R v.literal.digits)
+  values_good (x ∷ xs) h = All-cons (λ (v : Value). R v.literal.digits) x xs h.0 (values_good xs h.1)
+
+  -- and of an INSERT, whose names are its table's alone
+  pub insert_good : (ls : List Lexeme) (i : Insertion) → IsInsert ls i → Are ls → P i.table × All (λ v. R v.literal.digits) i.values
+  insert_good ls i is good =
+      let a = back is.insert _ ls is.parts good in
+      let b = back is.into _ _ refl a in
+      let c = back is.name _ _ refl b in
+      let d = back is.word _ _ refl c in
+      let e = back is.left _ _ refl d in (
+        name_good is.name i.table is.name_is (front is.name _ _ refl b),
+        values_good i.values (joined_good (λ (v : Value). R v.literal.digits) symbol.Comma IsValue value_good is.values i.values is.values_are (front is.values is.close _ refl e)),
       )

@@ -3,13 +3,13 @@ use Rattle.std.proofs.Common.{◌≡◌, ◌<◌, ℕ, zero, suc, List, [], ◌�
 use Rattle.ub_lexer.specs.declared.token.Token.{Token}
 use Rattle.ub_lexer.specs.declared.token.TokenKind.TheVariants as kind
 use Rattle.ub_syntax.specs.Grammar.{lexemes, IsStatement}
-use Rattle.ub_syntax.specs.Limits.{past_limits}
+use Rattle.ub_syntax.specs.Limits.{past_limits_of}
 use Rattle.ub_syntax.specs.Stop.{IsRefusedAt, IsTooDeepAt}
-use Rattle.ub_syntax.specs.Tree.{Select}
+use Rattle.ub_syntax.specs.Tree.{Stated, selects, inserts, deletes}
 use Rattle.ub_syntax.proofs.Laws.{deep_alone, deep_no_statement}
-use Rattle.ub_parser.specs.Refusals.{IsFirst, IsTooLarge, IsMisfit, IsFault, IsFirstMisfit, IsFirstFault, rank}
+use Rattle.ub_parser.specs.Refusals.{IsFirst, IsTooLarge, IsStatedMisfit, IsFault, IsFirstStatedMisfit, IsFirstFault, rank}
 use Rattle.ub_parser.specs.declared.fault.SqlFault.{SqlFault}
-use Rattle.ub_parser.specs.declared.fault.SqlFault.TheVariants.{BadByte, Syntax, NumberTooLarge, TooDeep, TooMany, UnknownTable, UnknownColumn, NotGrouped, NotSelected, Memory}
+use Rattle.ub_parser.specs.declared.fault.SqlFault.TheVariants.{BadByte, Syntax, NumberTooLarge, TooDeep, TooMany, UnknownTable, UnknownColumn, NotGrouped, NotSelected, ValueCount, ValueRange, Memory}
 use Rattle.ub_table.specs.declared.schema.Schema.{Schema}
 
 -- where P holds of none, there is no first
@@ -50,6 +50,8 @@ module _ (source : List ℕ) (schema : Schema) (tokens : List Token) where
   above_bad (UnknownColumn at) h = omega arith
   above_bad (NotGrouped at) h = omega arith
   above_bad (NotSelected at) h = omega arith
+  above_bad (ValueCount at) h = omega arith
+  above_bad (ValueRange at) h = omega arith
   above_bad Memory h = omega arith
 
   pub bad_first : (at : ℕ) → Holds (BadByte at) → IsFirstFault source schema tokens (BadByte at)
@@ -65,6 +67,8 @@ module _ (source : List ℕ) (schema : Schema) (tokens : List Token) where
   above_syntax none (UnknownColumn at) h = absurd (omega arith)
   above_syntax none (NotGrouped at) h = absurd (omega arith)
   above_syntax none (NotSelected at) h = absurd (omega arith)
+  above_syntax none (ValueCount at) h = absurd (omega arith)
+  above_syntax none (ValueRange at) h = absurd (omega arith)
   above_syntax none Memory h = absurd (omega arith)
 
   pub syntax_first : NoBad → (at : ℕ) → IsRefusedAt 64 (lexemes source tokens) at → IsFirstFault source schema tokens (Syntax at)
@@ -80,6 +84,8 @@ module _ (source : List ℕ) (schema : Schema) (tokens : List Token) where
   above_large none syntax (UnknownColumn at) h = absurd (omega arith)
   above_large none syntax (NotGrouped at) h = absurd (omega arith)
   above_large none syntax (NotSelected at) h = absurd (omega arith)
+  above_large none syntax (ValueCount at) h = absurd (omega arith)
+  above_large none syntax (ValueRange at) h = absurd (omega arith)
   above_large none syntax Memory h = absurd (omega arith)
 
   pub large_first : NoBad → NoSyntax → (at : ℕ) → Holds (NumberTooLarge at) → IsFirstFault source schema tokens (NumberTooLarge at)
@@ -95,12 +101,14 @@ module _ (source : List ℕ) (schema : Schema) (tokens : List Token) where
   above_deep none syntax large (UnknownColumn at) h = absurd (omega arith)
   above_deep none syntax large (NotGrouped at) h = absurd (omega arith)
   above_deep none syntax large (NotSelected at) h = absurd (omega arith)
+  above_deep none syntax large (ValueCount at) h = absurd (omega arith)
+  above_deep none syntax large (ValueRange at) h = absurd (omega arith)
   above_deep none syntax large Memory h = absurd (omega arith)
 
   pub no_syntax_if_deep : (at : ℕ) → IsTooDeepAt 64 (lexemes source tokens) at → NoSyntax
   no_syntax_if_deep at deep = λ other is. deep_alone 64 (lexemes source tokens) at other deep is
 
-  pub no_syntax_if_statement : (s : Select) → IsStatement 64 (lexemes source tokens) s → NoSyntax
+  pub no_syntax_if_statement : (s : Stated) → IsStatement 64 (lexemes source tokens) s → NoSyntax
   no_syntax_if_statement s is = λ at refused. refused.0 s is
 
   pub deep_first : NoBad → NoLarge → (at : ℕ) → IsTooDeepAt 64 (lexemes source tokens) at → IsFirstFault source schema tokens (TooDeep at)
@@ -116,18 +124,55 @@ module _ (source : List ℕ) (schema : Schema) (tokens : List Token) where
   above_many none syntax large deep (UnknownColumn at) h = absurd (omega arith)
   above_many none syntax large deep (NotGrouped at) h = absurd (omega arith)
   above_many none syntax large deep (NotSelected at) h = absurd (omega arith)
+  above_many none syntax large deep (ValueCount at) h = absurd (omega arith)
+  above_many none syntax large deep (ValueRange at) h = absurd (omega arith)
   above_many none syntax large deep Memory h = absurd (omega arith)
 
-  pub many_first : NoBad → NoLarge → (s : Select) → IsStatement 64 (lexemes source tokens) s → (t : Token) → slice_get (past_limits s) 0 ≡ Some t
+  -- a token past the limits is a misfit
+  past_misfit : (s : Stated) (t : Token) → slice_get (past_limits_of s) 0 ≡ Some t → IsStatedMisfit source schema s (TooMany t.from)
+  past_misfit (selects s) t past = (t, past, refl)
+  past_misfit (inserts i) t past = cc
+  past_misfit (deletes s) t past = (t, past, refl)
+
+  -- and a misfit is none of the first four kinds, nor want of memory
+  abbrev Never : SqlFault → Type 0
+  Never fault = (s : Stated) → ¬ (IsStatedMisfit source schema s fault)
+
+  never_bad : (at : ℕ) → Never (BadByte at)
+  never_bad at (selects s) h = h
+  never_bad at (inserts i) h = h
+  never_bad at (deletes s) h = h
+
+  never_syntax : (at : ℕ) → Never (Syntax at)
+  never_syntax at (selects s) h = h
+  never_syntax at (inserts i) h = h
+  never_syntax at (deletes s) h = h
+
+  never_large : (at : ℕ) → Never (NumberTooLarge at)
+  never_large at (selects s) h = h
+  never_large at (inserts i) h = h
+  never_large at (deletes s) h = h
+
+  never_deep : (at : ℕ) → Never (TooDeep at)
+  never_deep at (selects s) h = h
+  never_deep at (inserts i) h = h
+  never_deep at (deletes s) h = h
+
+  never_memory : Never Memory
+  never_memory (selects s) h = h
+  never_memory (inserts i) h = h
+  never_memory (deletes s) h = h
+
+  pub many_first : NoBad → NoLarge → (s : Stated) → IsStatement 64 (lexemes source tokens) s → (t : Token) → slice_get (past_limits_of s) 0 ≡ Some t
       → IsFirstFault source schema tokens (TooMany t.from)
   many_first none large s is t past = (
-    (s, is, (t, past, refl)),
+    (s, is, past_misfit s t past),
     above_many none (no_syntax_if_statement s is) large (λ at deep. deep_no_statement 64 (lexemes source tokens) at s deep is),
   )
 
   -- of a statement whose only syntax is this one: a fault is a misfit of that
-  fault_fits : (s : Select) → NoBad → NoLarge → IsStatement 64 (lexemes source tokens) s → ((t : Select) → IsStatement 64 (lexemes source tokens) t → s ≡ t)
-      → (fault : SqlFault) → Holds fault → IsMisfit source schema s fault
+  fault_fits : (s : Stated) → NoBad → NoLarge → IsStatement 64 (lexemes source tokens) s → ((t : Stated) → IsStatement 64 (lexemes source tokens) t → s ≡ t)
+      → (fault : SqlFault) → Holds fault → IsStatedMisfit source schema s fault
   fault_fits s none large is only (BadByte at) h = absurd (no_bad none at h)
   fault_fits s none large is only (Syntax at) h = absurd (h.0 s is)
   fault_fits s none large is only (NumberTooLarge at) h = absurd (no_large large at h)
@@ -137,26 +182,30 @@ module _ (source : List ℕ) (schema : Schema) (tokens : List Token) where
   fault_fits s none large is only (UnknownColumn at) h = let same = only h.0 h.1 in rw same h.2
   fault_fits s none large is only (NotGrouped at) h = let same = only h.0 h.1 in rw same h.2
   fault_fits s none large is only (NotSelected at) h = let same = only h.0 h.1 in rw same h.2
-  fault_fits s none large is only Memory h = absurd h.2
+  fault_fits s none large is only (ValueCount at) h = let same = only h.0 h.1 in rw same h.2
+  fault_fits s none large is only (ValueRange at) h = let same = only h.0 h.1 in rw same h.2
+  fault_fits s none large is only Memory h = absurd (never_memory h.0 h.2)
 
-  pub fits : (s : Select) → NoBad → NoLarge → IsStatement 64 (lexemes source tokens) s → ((t : Select) → IsStatement 64 (lexemes source tokens) t → s ≡ t)
-      → ((fault : SqlFault) → ¬ (IsMisfit source schema s fault)) → (fault : SqlFault) → ¬ (Holds fault)
+  pub fits : (s : Stated) → NoBad → NoLarge → IsStatement 64 (lexemes source tokens) s → ((t : Stated) → IsStatement 64 (lexemes source tokens) t → s ≡ t)
+      → ((fault : SqlFault) → ¬ (IsStatedMisfit source schema s fault)) → (fault : SqlFault) → ¬ (Holds fault)
   fits s none large is only misfits fault h = misfits fault (fault_fits s none large is only fault h)
 
   -- a misfit is a fault
-  misfit_holds : (s : Select) → IsStatement 64 (lexemes source tokens) s → (fault : SqlFault) → IsMisfit source schema s fault → Holds fault
-  misfit_holds s is (BadByte at) h = absurd h
-  misfit_holds s is (Syntax at) h = absurd h
-  misfit_holds s is (NumberTooLarge at) h = absurd h
-  misfit_holds s is (TooDeep at) h = absurd h
+  misfit_holds : (s : Stated) → IsStatement 64 (lexemes source tokens) s → (fault : SqlFault) → IsStatedMisfit source schema s fault → Holds fault
+  misfit_holds s is (BadByte at) h = absurd (never_bad at s h)
+  misfit_holds s is (Syntax at) h = absurd (never_syntax at s h)
+  misfit_holds s is (NumberTooLarge at) h = absurd (never_large at s h)
+  misfit_holds s is (TooDeep at) h = absurd (never_deep at s h)
   misfit_holds s is (TooMany at) h = (s, is, h)
   misfit_holds s is (UnknownTable at) h = (s, is, h)
   misfit_holds s is (UnknownColumn at) h = (s, is, h)
   misfit_holds s is (NotGrouped at) h = (s, is, h)
   misfit_holds s is (NotSelected at) h = (s, is, h)
-  misfit_holds s is Memory h = absurd h
+  misfit_holds s is (ValueCount at) h = (s, is, h)
+  misfit_holds s is (ValueRange at) h = (s, is, h)
+  misfit_holds s is Memory h = absurd (never_memory s h)
 
-  pub misfit_first : (s : Select) → NoBad → NoLarge → IsStatement 64 (lexemes source tokens) s → ((t : Select) → IsStatement 64 (lexemes source tokens) t → s ≡ t)
-      → (fault : SqlFault) → IsFirstMisfit source schema s fault → IsFirstFault source schema tokens fault
+  pub misfit_first : (s : Stated) → NoBad → NoLarge → IsStatement 64 (lexemes source tokens) s → ((t : Stated) → IsStatement 64 (lexemes source tokens) t → s ≡ t)
+      → (fault : SqlFault) → IsFirstStatedMisfit source schema s fault → IsFirstFault source schema tokens fault
   misfit_first s none large is only fault h =
       (misfit_holds s is fault h.0, λ other less holds. h.1 other less (fault_fits s none large is only other holds))

@@ -8,5 +8,7 @@ mod FaultFacts
 mod OneFault
 mod GroupFacts
 mod ParseFacts
+mod ValueFacts
 mod MisfitFacts
 mod PosedFacts
+mod StatedFacts

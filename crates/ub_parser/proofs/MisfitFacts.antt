@@ -1,4 +1,4 @@
--- The five misfits of a statement, and which of them is the first.
+-- The five misfits of a SELECT, and which of them is the first.
 use Rattle.std.proofs.Common.{◌≡◌, ◌≢◌, ◌↔◌, ◌<◌, ℕ, Bool, false, IsTrue, List, [], Option, Some, None, slice_get, Contains, refl, sym, ap, ◌∙◌, arith}
 use Rattle.std.specs.List.{All, position_from}
 use Rattle.std.specs.Str.{bytes_eq}
@@ -11,7 +11,7 @@ use Rattle.ub_parser.specs.Known.{IsNamed, IsUnknown}
 use Rattle.ub_syntax.specs.Limits.{first_token, key_items, past_limits}
 use Rattle.ub_parser.specs.Refusals.{IsFirst, IsFirstMisfit, IsGrouping, IsMisfit, IsNotGrouped, IsUnselected, names, rank}
 use Rattle.ub_parser.specs.declared.fault.SqlFault.{SqlFault}
-use Rattle.ub_parser.specs.declared.fault.SqlFault.TheVariants.{BadByte, Syntax, NumberTooLarge, TooDeep, TooMany, UnknownTable, UnknownColumn, NotGrouped, NotSelected, Memory}
+use Rattle.ub_parser.specs.declared.fault.SqlFault.TheVariants.{BadByte, Syntax, NumberTooLarge, TooDeep, TooMany, UnknownTable, UnknownColumn, NotGrouped, NotSelected, ValueCount, ValueRange, Memory}
 use Rattle.ub_parser.proofs.FirstFacts.{fails}
 use Rattle.ub_parser.proofs.GroupFacts.{no_first}
 use Rattle.ub_parser.proofs.PlaceFacts.{found}
@@ -45,6 +45,8 @@ module _ (source : List ℕ) (schema : Schema) (s : Select) where
   below n many table column grouped selected (UnknownColumn at) lt h = column lt at h
   below n many table column grouped selected (NotGrouped at) lt h = grouped lt at h
   below n many table column grouped selected (NotSelected at) lt h = selected lt at h
+  below n many table column grouped selected (ValueCount at) lt h = h
+  below n many table column grouped selected (ValueRange at) lt h = h
   below n many table column grouped selected Memory lt h = h
 
   pub no_many : past_limits s ≡ [] → No (λ at. TooMany at)
@@ -88,7 +90,7 @@ module _ (source : List ℕ) (schema : Schema) (s : Select) where
   first_selected known grouped key at first same =
       ((key, first, same), beyond 9 known (λ lt. grouped) (λ lt. absurd (omega arith)))
 
-  rank_small : (fault : SqlFault) → rank fault < 11
+  rank_small : (fault : SqlFault) → rank fault < 13
   rank_small (BadByte at) = omega arith
   rank_small (Syntax at) = omega arith
   rank_small (NumberTooLarge at) = omega arith
@@ -98,7 +100,9 @@ module _ (source : List ℕ) (schema : Schema) (s : Select) where
   rank_small (UnknownColumn at) = omega arith
   rank_small (NotGrouped at) = omega arith
   rank_small (NotSelected at) = omega arith
+  rank_small (ValueCount at) = omega arith
+  rank_small (ValueRange at) = omega arith
   rank_small Memory = omega arith
 
   pub no_misfit : IsNamed source schema s → No (λ at. NotGrouped at) → No (λ at. NotSelected at) → (fault : SqlFault) → ¬ IsMisfit source schema s fault
-  no_misfit known grouped selected fault = beyond 11 known (λ lt. grouped) (λ lt. selected) fault (rank_small fault)
+  no_misfit known grouped selected fault = beyond 13 known (λ lt. grouped) (λ lt. selected) fault (rank_small fault)

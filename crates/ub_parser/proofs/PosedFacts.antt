@@ -15,7 +15,7 @@ use Rattle.ub_query.specs.Posed.{IsOver, IsLiteral, AreLiterals, IsPosedConditio
 use Rattle.ub_query.specs.contracts.query.ItemPartialEq.TheImpl.{eq-value}
 use Rattle.ub_query.specs.declared.query.Item.{Item as Asked}
 use Rattle.ub_query.specs.declared.query.SortKey.{SortKey}
-use Rattle.ub_syntax.specs.Grammar.{Lexeme, AreJoined, IsChain, IsComparison, IsDisjunction, IsOperand, IsOptional, IsFilter, IsSelection, IsStatement}
+use Rattle.ub_syntax.specs.Grammar.{Lexeme, AreJoined, IsChain, IsComparison, IsDisjunction, IsOperand, IsOptional, IsFilter, IsSelection}
 use Rattle.ub_syntax.specs.Limits.{compared, comparisons, first_token, key_items, listed, past_limits}
 use Rattle.ub_syntax.specs.Tree.{Select, Shape, both, either, neither, compares, between}
 use Rattle.ub_syntax.specs.declared.symbol.Symbol.{Symbol}
@@ -210,11 +210,14 @@ module _ (source : List ℕ) (schema : Schema) (s : Select) (none : (fault : Sql
       rw (length-map, length-enumerate_from 0 schema.columns) (omega arith)
   few_listed (Listed items) e = rw length-map (few_images first_token 8 items e)
 
-  some_listed : (ls : List Lexeme) (selection : Selection) → IsSelection ls selection → 1 ≤ length (items_of source schema selection)
-  some_listed ls (Star star) is =
+  pub some_columns : (star : Token) → 1 ≤ length (items_of source schema (Star star))
+  some_columns star =
       let a = schema.counts.covers_dims in
       let b = schema.counts.some_dims in
       rw (length-map, length-enumerate_from 0 schema.columns) (omega arith)
+
+  pub some_listed : (ls : List Lexeme) (selection : Selection) → IsSelection ls selection → 1 ≤ length (items_of source schema selection)
+  some_listed ls (Star star) is = some_columns star
   some_listed ls (Listed []) is = absurd is
   some_listed ls (Listed (x ∷ xs)) is = omega arith
 
@@ -244,13 +247,13 @@ module _ (source : List ℕ) (schema : Schema) (s : Select) (none : (fault : Sql
   limit_fits None h = tt
   limit_fits (Some t) h = h.1
 
-  pub posed : (ls : List Lexeme) → IsStatement 64 ls s → IfSome s.filter (λ c. IsKnown source schema c) → IfSome s.limit (λ t. IsNumber source t)
+  pub posed : (ls : List Lexeme) → IsOptional (IsFilter 64) ls s.filter → 1 ≤ length (items_of source schema s.selection) → IfSome s.filter (λ c. IsKnown source schema c) → IfSome s.limit (λ t. IsNumber source t)
       → IsAskedOver (length schema.columns) (sense_of source schema s) → IsPosed (length schema.columns) (sense_of source schema s)
-  posed ls is known number over = record {
+  posed ls filter_is some known number over = record {
     items = over.items;
-    some_items = some_listed is.items s.selection is.items_are;
+    some_items = some;
     few_items = few_listed s.selection (left_empty (drop 8 (map first_token (listed s.selection))) _ none_past);
-    filter = filter_posed source schema 64 is.filter s.filter (omega arith) is.filter_is known over.filter few_comparisons;
+    filter = filter_posed source schema 64 ls s.filter (omega arith) filter_is known over.filter few_comparisons;
     group = over.group;
     few_groups = few_groups;
     order = over.order;

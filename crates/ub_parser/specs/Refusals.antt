@@ -1,6 +1,6 @@
--- Why a statement is refused: nine conditions, the first of which is told.
-use Rattle.std.specs.Prelude.{◌≡◌, ◌≢◌, ◌<◌, ◌⊎◌, ℕ, List, [], ◌∷◌, ◌++◌, map, Some, slice_get, Contains}
-use Rattle.std.specs.List.{All}
+-- Why a statement is refused: eleven conditions, the first of which is told.
+use Rattle.std.specs.Prelude.{◌≡◌, ◌≢◌, ◌<◌, ◌⊎◌, ℕ, false, List, [], ◌∷◌, ◌++◌, map, drop, length, Some, slice_get, Contains}
+use Rattle.std.specs.List.{All, enumerate_from}
 use Rattle.ub_lexer.specs.Tokens.{text_of}
 use Rattle.ub_lexer.specs.declared.token.Token.{Token}
 use Rattle.ub_lexer.specs.declared.token.TokenKind.TheVariants as kind
@@ -8,14 +8,17 @@ use Rattle.ub_query.specs.Posed.{greatest_number}
 use Rattle.ub_syntax.specs.Grammar.{lexemes, IsStatement}
 use Rattle.ub_syntax.specs.Limits.{first_token, listed, comparisons, key_items, past_limits}
 use Rattle.ub_syntax.specs.Stop.{IsRefusedAt, IsTooDeepAt}
-use Rattle.ub_syntax.specs.Tree.{Select}
+use Rattle.ub_syntax.specs.Tree.{Select, Stated, selects, inserts, deletes}
+use Rattle.ub_syntax.specs.declared.syntax.Insertion.{Insertion}
 use Rattle.ub_syntax.specs.declared.syntax.Item.{Item}
 use Rattle.ub_syntax.specs.declared.syntax.Item.TheVariants.{Column, Count, Aggregate}
 use Rattle.ub_syntax.specs.declared.syntax.Selection.{Selection}
 use Rattle.ub_syntax.specs.declared.syntax.Selection.TheVariants.{All as Star, Listed}
-use Rattle.ub_parser.specs.Sense.{item_of, number_of}
+use Rattle.ub_syntax.specs.declared.syntax.Value.{Value}
+use Rattle.ub_parser.specs.Sense.{item_of, number_of, value_of}
 use Rattle.ub_parser.specs.declared.fault.SqlFault.{SqlFault}
-use Rattle.ub_parser.specs.declared.fault.SqlFault.TheVariants.{BadByte, Syntax, NumberTooLarge, TooDeep, TooMany, UnknownTable, UnknownColumn, NotGrouped, NotSelected, Memory}
+use Rattle.ub_parser.specs.declared.fault.SqlFault.TheVariants.{BadByte, Syntax, NumberTooLarge, TooDeep, TooMany, UnknownTable, UnknownColumn, NotGrouped, NotSelected, ValueCount, ValueRange, Memory}
+use Rattle.ub_table.specs.Value.{fits}
 use Rattle.ub_table.specs.declared.schema.Schema.{Schema}
 
 -- the first of some things of which P holds
@@ -63,7 +66,7 @@ abbrev pub IsNotGrouped : List ℕ → Select → Selection → Token → Type 0
 IsNotGrouped source s (Star star) t = t ≡ star
 IsNotGrouped source s (Listed items) t = (item : Item) × IsFirst (IsUngrouped source s) items item × (t ≡ first_token item)
 
--- the refusals of a statement whose syntax this is, each with the token where it is seen
+-- the refusals of a SELECT, or of a DELETE of the rows that it asks for, each with the token where it is seen
 abbrev pub IsMisfit : List ℕ → Schema → Select → SqlFault → Type 0
 IsMisfit source schema s (TooMany at) = (t : Token) × (slice_get (past_limits s) 0 ≡ Some t) × (at ≡ t.from)
 IsMisfit source schema s (UnknownTable at) = (text_of source s.table ≢ schema.name) × (at ≡ s.table.from)
@@ -74,13 +77,40 @@ IsMisfit source schema s (NotSelected at) =
     (key : Item) × IsFirst (IsUnselected source schema s) (key_items s.order) key × (at ≡ (first_token key).from)
 IsMisfit source schema s _ = ⊥
 
+-- the token with which the first of these values begins, or this one where there is none
+abbrev pub begins : List Value → Token → Token
+begins [] close = close
+begins (v ∷ values) close = v.first
+
+-- where an INSERT has not as many values as there are columns: the first value too many, or else the `)`
+abbrev pub miscounted : Schema → Insertion → Token
+miscounted schema i = begins (drop (length schema.columns) i.values) i.close
+
+-- the value stands in the place of a column, which can't hold it
+abbrev pub IsUnfit : List ℕ → Schema → ℕ × Value → Type 0
+IsUnfit source schema v = (v.0 < length schema.columns) × (fits schema v.0 (value_of source v.1.literal) ≡ false)
+
+-- the refusals of an INSERT
+abbrev pub IsInsertMisfit : List ℕ → Schema → Insertion → SqlFault → Type 0
+IsInsertMisfit source schema i (UnknownTable at) = (text_of source i.table ≢ schema.name) × (at ≡ i.table.from)
+IsInsertMisfit source schema i (ValueCount at) = (length i.values ≢ length schema.columns) × (at ≡ (miscounted schema i).from)
+IsInsertMisfit source schema i (ValueRange at) =
+    (v : ℕ × Value) × IsFirst (IsUnfit source schema) (enumerate_from 0 i.values) v × (at ≡ v.1.first.from)
+IsInsertMisfit source schema i _ = ⊥
+
+-- the refusals of a statement whose syntax this is
+abbrev pub IsStatedMisfit : List ℕ → Schema → Stated → SqlFault → Type 0
+IsStatedMisfit source schema (selects s) fault = IsMisfit source schema s fault
+IsStatedMisfit source schema (inserts i) fault = IsInsertMisfit source schema i fault
+IsStatedMisfit source schema (deletes s) fault = IsMisfit source schema s fault
+
 -- the conditions, each with the offset where it is seen
 abbrev pub IsFault : List ℕ → Schema → List Token → SqlFault → Type 0
 IsFault source schema tokens (BadByte at) = (t : Token) × IsFirst (λ t. t.kind ≡ kind.Bad) tokens t × (at ≡ t.from)
 IsFault source schema tokens (Syntax at) = IsRefusedAt 64 (lexemes source tokens) at
 IsFault source schema tokens (NumberTooLarge at) = (t : Token) × IsFirst (IsTooLarge source) tokens t × (at ≡ t.from)
 IsFault source schema tokens (TooDeep at) = IsTooDeepAt 64 (lexemes source tokens) at
-IsFault source schema tokens fault = (s : Select) × IsStatement 64 (lexemes source tokens) s × IsMisfit source schema s fault
+IsFault source schema tokens fault = (s : Stated) × IsStatement 64 (lexemes source tokens) s × IsStatedMisfit source schema s fault
 
 -- the order in which they are told
 abbrev pub rank : SqlFault → ℕ
@@ -93,12 +123,24 @@ rank (UnknownTable at) = 6
 rank (UnknownColumn at) = 7
 rank (NotGrouped at) = 8
 rank (NotSelected at) = 9
-rank Memory = 10
+rank (ValueCount at) = 10
+rank (ValueRange at) = 11
+rank Memory = 12
 
 -- the first misfit of a syntax
 abbrev pub IsFirstMisfit : List ℕ → Schema → Select → SqlFault → Type 0
 IsFirstMisfit source schema s fault =
     IsMisfit source schema s fault × ((other : SqlFault) → rank other < rank fault → ¬ IsMisfit source schema s other)
+
+-- the same of an INSERT
+abbrev pub IsFirstInsertMisfit : List ℕ → Schema → Insertion → SqlFault → Type 0
+IsFirstInsertMisfit source schema i fault =
+    IsInsertMisfit source schema i fault × ((other : SqlFault) → rank other < rank fault → ¬ IsInsertMisfit source schema i other)
+
+-- and of a statement
+abbrev pub IsFirstStatedMisfit : List ℕ → Schema → Stated → SqlFault → Type 0
+IsFirstStatedMisfit source schema s fault =
+    IsStatedMisfit source schema s fault × ((other : SqlFault) → rank other < rank fault → ¬ IsStatedMisfit source schema s other)
 
 -- the first fault of a statement
 abbrev pub IsFirstFault : List ℕ → Schema → List Token → SqlFault → Type 0

@@ -7,6 +7,7 @@ use Rattle.std.specs.Str.Parse.{digits_value}
 use Rattle.ub_lexer.specs.Tokens.{text_of}
 use Rattle.ub_lexer.specs.declared.token.Token.{Token}
 use Rattle.ub_syntax.specs.Tree.{Select}
+use Rattle.ub_syntax.specs.declared.syntax.Insertion.{Insertion}
 use Rattle.ub_syntax.specs.Tree as syntax
 use Rattle.ub_syntax.specs.declared.syntax.Item.TheVariants as item
 use Rattle.ub_syntax.specs.declared.syntax.Item.{Item as Spelled}
@@ -69,3 +70,7 @@ sense_of source schema s = record {
   order = map (key_of source schema) s.order;
   limit = option_map (number_of source) s.limit;
 }
+
+-- the values that an INSERT gives to the columns, in order
+abbrev pub values_of : List ℕ → Insertion → List ℤ
+values_of source i = map (λ v. value_of source v.literal) i.values

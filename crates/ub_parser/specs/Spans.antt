@@ -7,6 +7,7 @@ use Rattle.ub_lexer.specs.Tokens.{text_of}
 use Rattle.ub_lexer.specs.declared.token.Token.{Token}
 use Rattle.ub_lexer.specs.declared.token.TokenKind.TheVariants as kind
 use Rattle.ub_syntax.specs.Tree.{Select, Shape, both, either, neither, compares, between}
+use Rattle.ub_syntax.specs.declared.syntax.Insertion.{Insertion}
 use Rattle.ub_query.specs.Posed.{greatest_number}
 use Rattle.ub_parser.specs.Refusals.{names}
 use Rattle.ub_parser.specs.Sense.{number_of}
@@ -47,3 +48,8 @@ numbers s = filter_numbers s.filter ++ option_to_list s.limit
 pub record AreWritten (source : List ℕ) (s : Select) : Type 0 where
   pub names_are : All (λ t. IsWithin source t) (names s)
   pub numbers_are : All (λ t. IsNumber source t) (numbers s)
+
+-- the table's name of an INSERT lies in the source, and its numbers are digits of what may be written
+pub record IsInsertWritten (source : List ℕ) (i : Insertion) : Type 0 where
+  pub table_is : IsWithin source i.table
+  pub numbers_are : All (λ v. IsNumber source v.literal.digits) i.values

@@ -70,8 +70,8 @@ pub(crate) fn misgrouped(
     None
 }
 
-// Whether the token is another name than the table's, case included.
-fn is_unknown_table(source: &[u8], schema: &Schema, table: &Token) -> bool
+/// Whether the token is another name than the table's, case included.
+pub(crate) fn is_unknown_table(source: &[u8], schema: &Schema, table: &Token) -> bool
     requires { IsWithin source.now table.now }
     ensures { IsTrue result ↔ (text_of source.now table.now ≢ schema.now.name) }
 {

@@ -23,7 +23,7 @@ pub enum SqlFault {
     /// There are more than 64 comparisons, 8 items, 8 group columns or 8 order keys: the first token past a limit.
     #[error("TooMany at {at}")]
     TooMany { at: usize },
-    /// The name after FROM is not the table's.
+    /// The name after FROM or INTO is not the table's.
     #[error("UnknownTable at {at}")]
     UnknownTable { at: usize },
     /// Another name is no column: the first such.
@@ -35,6 +35,12 @@ pub enum SqlFault {
     /// In a query with groups, the first order key that is none of the items; in another, the first that is an aggregate.
     #[error("NotSelected at {at}")]
     NotSelected { at: usize },
+    /// An INSERT has not one value for each column: the first value too many, or else the `)` after the values.
+    #[error("ValueCount at {at}")]
+    ValueCount { at: usize },
+    /// A value of an INSERT is none that its column can hold: the first such.
+    #[error("ValueRange at {at}")]
+    ValueRange { at: usize },
     /// Memory was refused.
     #[error("Memory")]
     Memory,

@@ -18,6 +18,7 @@ mod sense;
 pub mod statement;
 mod text;
 mod tokens;
+mod values;
 
 pub use fault::SqlFault;
 pub use parser::parse;

@@ -1,5 +1,5 @@
 // What the syntax of a statement asks: names become columns, digits become numbers.
-ghost use Rattle.std.specs.Prelude.{◌≡◌, ◌<◌, length, map, MatchOption, IfOk, IfSome, Contains};
+ghost use Rattle.std.specs.Prelude.{◌≡◌, ◌<◌, true, length, map, MatchOption, IfOk, IfSome, Contains};
 ghost use Rattle.std.specs.List.{All, position_from};
 ghost use Rattle.std.specs.Option.{option_map};
 ghost use Rattle.std.specs.Str.{bytes_eq};
@@ -14,12 +14,13 @@ ghost use Rattle.ub_parser.specs.Known.{IsAskedOver};
 ghost use Rattle.ub_query.specs.Posed.{IsItemOver, IsOver};
 ghost use Rattle.ub_query.specs.Shape.{asked, shape};
 ghost use Rattle.ub_parser.specs.Spans.{AreWritten, IsNumber};
+ghost use Rattle.ub_table.specs.Value.{fits_measure};
 
 use crate::text::{number, text};
 use std::alloc::{AllocError, Global};
 use ub_lexer::Token;
 use ub_query::{Cond, Item, Items, Query, SortKey};
-use ub_syntax::{Condition, Literal, OrderKey, Selection, Syntax};
+use ub_syntax::{Condition, Insertion, Literal, OrderKey, Selection, Syntax};
 use ub_table::{Name, Schema};
 
 /// The place, from 0, of the first of the names that is this text.
@@ -39,7 +40,7 @@ fn column(source: &[u8], schema: &Schema, token: &Token) -> usize
 }
 
 /// The number that a literal writes.
-fn value(source: &[u8], literal: &Literal) -> i128
+pub(crate) fn value(source: &[u8], literal: &Literal) -> i128
     requires { IsNumber source.now literal.now.digits }
     ensures { result ≡ spec.value_of source.now literal.now }
 {
@@ -233,7 +234,29 @@ fn limit(source: &[u8], limit: &Option<Token>) -> Option<u64>
     }
 }
 
-/// What the syntax of a statement asks of a table of the schema.
+/// The values that an INSERT gives to the columns, in order.
+///
+/// # Errors
+///
+/// `AllocError` where memory runs out.
+pub(crate) fn values(
+    alloc: Global,
+    source: &[u8],
+    insertion: &Insertion,
+) -> Result<Vec<i64>, AllocError>
+    requires numbers { All (λ v. IsNumber source.now v.literal.digits) insertion.now.values }
+    requires fit { All (λ v. fits_measure (spec.value_of source.now v.literal) ≡ true)
+        insertion.now.values }
+    ensures { IfOk result (λ values. values.items ≡ spec.values_of source.now insertion.now) }
+{
+    let mut values = Vec::new(alloc);
+    for literal in insertion.values.as_slice() {
+        values.push(i64::try_from(value(source, &literal.literal)).unwrap())?;
+    }
+    Ok(values)
+}
+
+/// What the syntax of a SELECT asks of a table of the schema.
 ///
 /// # Errors
 ///

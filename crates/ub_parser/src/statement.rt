@@ -1,4 +1,4 @@
-use ub_query::Query;
+use ub_query::{Items, Query};
 
 /// A statement of a script.
 #[derive(Drop)]
@@ -7,4 +7,8 @@ pub enum Statement {
     Select(Query),
     /// Asks how the query would be answered.
     Explain(Query),
+    /// Puts in a row of these values, one for each column, each of which its column can hold.
+    Insert(Items<i64>),
+    /// Takes out the rows that the query selects, which asks for `*` and nothing else but its condition.
+    Delete(Query),
 }

@@ -3,7 +3,7 @@ use Rattle.std.specs.Prelude.{◌≡◌, ℕ, Bool, true, false, List, [], ◌�
 use Rattle.std.specs.Fmt.{signed_decimal}
 use Rattle.std.specs.List.{flat_map, join_with_byte, sum_by}
 use Rattle.ub_parser.specs.declared.fault.SqlFault.{SqlFault}
-use Rattle.ub_parser.specs.declared.fault.SqlFault.TheVariants.{BadByte, Syntax, NumberTooLarge, TooDeep, TooMany, UnknownTable, UnknownColumn, NotGrouped, NotSelected, Memory}
+use Rattle.ub_parser.specs.declared.fault.SqlFault.TheVariants.{BadByte, Syntax, NumberTooLarge, TooDeep, TooMany, UnknownTable, UnknownColumn, NotGrouped, NotSelected, ValueCount, ValueRange, Memory}
 use Rattle.ub_plan.specs.Explained.{IsExplained}
 use Rattle.ub_planning.specs.Plan.{plan_of}
 use Rattle.ub_planning.specs.Visits.{Span, AreVisits}
@@ -49,6 +49,8 @@ refused_text (UnknownTable at) = refusal_text (codes "UnknownTable") at
 refused_text (UnknownColumn at) = refusal_text (codes "UnknownColumn") at
 refused_text (NotGrouped at) = refusal_text (codes "NotGrouped") at
 refused_text (NotSelected at) = refusal_text (codes "NotSelected") at
+refused_text (ValueCount at) = refusal_text (codes "ValueCount") at
+refused_text (ValueRange at) = refusal_text (codes "ValueRange") at
 refused_text Memory = []
 
 -- what is done for a statement: its text is written, so many region pages are fetched, and it may be refused

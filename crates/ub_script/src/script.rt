@@ -3,13 +3,12 @@ ghost use Rattle.ub_lexer.specs.Tokens.{AreSpelled};
 ghost use Rattle.ub_load.specs.LoadedTable.{records_of};
 ghost use Rattle.ub_load.specs.Refusals.{first_refusal};
 ghost use Rattle.ub_load.specs.declared.fault.LoadFault.{LoadFault};
-ghost use Rattle.ub_parser.specs.Outcome.{told};
 ghost use Rattle.ub_planning.specs.Plan.{plan_of};
 ghost use Rattle.ub_query.specs.Posed.{IsPosed};
 ghost use Rattle.ub_query.specs.Shape.{asked};
 ghost use Rattle.ub_table.specs.Schema.{AreTableNumbers};
 ghost use Rattle.ub_tree.specs.declared.fault.TreeFault.{TreeFault};
-ghost use Rattle.ub_script.specs.Basis.{IsAskedReply, IsReply, AreSomeOf};
+ghost use Rattle.ub_script.specs.Basis.{IsAskedReply, AreSomeOf};
 ghost use Rattle.ub_script.specs.Output.{Takes};
 ghost use Rattle.ub_script.specs.Run.{IsAnswer, IsEnded, IsRange, FirstAt, EndedAt, IsWhole, IsStopped, IsCutOff, Ran, IsRun, IsDone, IsBegun, IsBroken};
 ghost use Rattle.ub_script.specs.Faults.{Runs, failures_after};
@@ -194,40 +193,38 @@ fn answer_to<S: PageStore>(
     ensures effect { Runs tree.old tree.new result }
 {
     match parse(alloc, source, tokens, tree.schema()) {
-        Ok(statement) => answer_accepted(alloc, tree, &statement),
+        Ok(Statement::Select(query)) => answer_asked(alloc, tree, false, &query),
+        Ok(Statement::Explain(query)) => answer_asked(alloc, tree, true, &query),
+        // Not run yet, and so told as what the grammar doesn't have.
+        Ok(Statement::Insert(_) | Statement::Delete(_)) => {
+            refusal(alloc, SqlFault::Syntax { at: tokens[0].from })
+        }
         Err(fault) => refusal(alloc, fault),
     }
 }
 
-// Makes the text of an accepted statement: a query is answered, or explained, by its plan.
-fn answer_accepted<S: PageStore>(
+// Makes the text of a query that is accepted: it is answered, or explained, by its plan.
+fn answer_asked<S: PageStore>(
     alloc: Global,
     tree: &mut Tree<S>,
-    statement: &Statement,
+    is_explained: bool,
+    query: &Query,
 ) -> Result<Answer, RunFault>
-    requires { IsPosed (length tree.old.schema.columns) (told statement.now).asked }
+    requires { IsPosed (length tree.old.schema.columns) (asked query.now) }
     ensures answer { OnEach tree.old (λ basis. IfOk result (λ a.
-        Makes (IsReply basis (Ok (told statement.now))) a.text.items a.is_refused
+        Makes (IsAskedReply is_explained basis (asked query.now)) a.text.items a.is_refused
         tree.old.trace.fetches tree.new.trace.fetches)) }
     ensures stopped { OnEach tree.old (λ basis. OnErr result
-        (Fetches (AreSomeOf (told statement.now).is_explained basis (told statement.now).asked)
+        (Fetches (AreSomeOf is_explained basis (asked query.now))
         tree.old.trace.fetches tree.new.trace.fetches)) }
     ensures no_write { ¬ (IsErrOf result RunFault.Write) }
     ensures effect { Runs tree.old tree.new result }
 {
-    let plan = plan(alloc, query_of(statement), tree.schema())?;
-    match statement {
-        Statement::Select(query) => answer_query(alloc, tree, query, &plan),
-        Statement::Explain(_) => explain_query(alloc, tree, &plan),
-    }
-}
-
-// The query that a statement asks, or asks about.
-fn query_of(statement: &Statement) -> &Query
-    ensures { asked result.now ≡ (told statement.now).asked }
-{
-    match statement {
-        Statement::Select(query) | Statement::Explain(query) => query,
+    let plan = plan(alloc, query, tree.schema())?;
+    if is_explained {
+        explain_query(alloc, tree, &plan)
+    } else {
+        answer_query(alloc, tree, query, &plan)
     }
 }
 

@@ -28,6 +28,8 @@ pub fn refused_text(alloc: Global, fault: &SqlFault) -> Result<Vec<u8>, AllocErr
         SqlFault::UnknownColumn { at } => refusal_text(alloc, "UnknownColumn", *at),
         SqlFault::NotGrouped { at } => refusal_text(alloc, "NotGrouped", *at),
         SqlFault::NotSelected { at } => refusal_text(alloc, "NotSelected", *at),
+        SqlFault::ValueCount { at } => refusal_text(alloc, "ValueCount", *at),
+        SqlFault::ValueRange { at } => refusal_text(alloc, "ValueRange", *at),
         SqlFault::Memory => Ok(Vec::new(alloc)),
     }
 }

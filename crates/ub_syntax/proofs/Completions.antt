@@ -29,6 +29,8 @@ some fixed.Select = lexeme kind.Word (codes "SELECT")
 some fixed.From = lexeme kind.Word (codes "FROM")
 some fixed.By = lexeme kind.Word (codes "BY")
 some fixed.And = lexeme kind.Word (codes "AND")
+some fixed.Into = lexeme kind.Word (codes "INTO")
+some fixed.Values = lexeme kind.Word (codes "VALUES")
 some fixed.Name = lexeme kind.Word (codes "x")
 some fixed.Number = lexeme kind.Number (codes "1")
 some fixed.Open = lexeme kind.OpenParenthesis (codes "(")
@@ -41,6 +43,8 @@ some_is fixed.Select = refl
 some_is fixed.From = refl
 some_is fixed.By = refl
 some_is fixed.And = refl
+some_is fixed.Into = refl
+some_is fixed.Values = refl
 some_is fixed.Name = refl
 some_is fixed.Number = refl
 some_is fixed.Open = refl
@@ -62,6 +66,8 @@ taken fixed.Select = refl
 taken fixed.From = refl
 taken fixed.By = refl
 taken fixed.And = refl
+taken fixed.Into = refl
+taken fixed.Values = refl
 taken fixed.Name = refl
 taken fixed.Number = refl
 taken fixed.Open = refl
@@ -109,6 +115,14 @@ items_done n =
     first (some fixed.Star ∷ []) (by_step symbol.Star refl (this fixed.Star))
     (first (some fixed.From ∷ []) ((token_drives n fixed.From).moves (goal.Token fixed.Name ∷ []) rest.AfterTable) (table_done n))
 
+value_done : (n : ℕ) → Done n (config [] rest.AfterValue)
+value_done n = first (some fixed.Close ∷ []) (by_step symbol.Close refl (this fixed.Close)) (here n rest.End refl)
+
+values_done : (n : ℕ) → Done n (config [] rest.Values)
+values_done n =
+    first (some fixed.Open ∷ []) (by_step symbol.Open refl (this fixed.Open))
+    (first (some fixed.Number ∷ []) ((literal_drives n).moves [] rest.AfterValue) (value_done n))
+
 rest_done : (n : ℕ) (r : Rest) → Done n (config [] r)
 rest_done n rest.Start = first (some fixed.Select ∷ []) (by_step symbol.Select refl (this fixed.Select)) (items_done n)
 rest_done n rest.Items = items_done n
@@ -118,6 +132,10 @@ rest_done n rest.AfterOperand = here n rest.AfterOperand refl
 rest_done n rest.AfterGroup = here n rest.AfterGroup refl
 rest_done n rest.AfterKey = here n rest.AfterKey refl
 rest_done n rest.AfterDirection = here n rest.AfterDirection refl
+rest_done n rest.Values = values_done n
+rest_done n rest.AfterValue = value_done n
+rest_done n rest.AfterDeleted = here n rest.AfterDeleted refl
+rest_done n rest.AfterCondition = here n rest.AfterCondition refl
 rest_done n rest.End = here n rest.End refl
 
 done : (n : ℕ) (goals : List Goal) (r : Rest) → Done n (config goals r)

@@ -1,20 +1,23 @@
 -- The tokens that are one too many, counted mark by mark, are those past the limits of the syntax.
-use Rattle.std.proofs.Common.{◌≡◌, ◌<◌, ◌≤◌, ◌+◌, arith, ℕ, zero, suc, List, [], ◌∷◌, ◌++◌, length, map, drop, get_or, slice_get, Option, Some, None, refl, sym, ap, ◌∙◌, append_assoc}
+use Rattle.std.proofs.Common.{◌≡◌, ◌≢◌, ◌<◌, ◌≤◌, ◌+◌, arith, ℕ, zero, suc, List, [], ◌∷◌, ◌++◌, length, map, drop, get_or, slice_get, Option, Some, None, refl, sym, ap, ◌∙◌, append_assoc}
 use Rattle.std.proofs.lemmas.List.{append-nil, length-map, drop_all, drop-map, drop_more}
 use Rattle.std.specs.Option.{option_to_list}
 use Rattle.std.proofs.lemmas.List.Elements.{All-get_or}
 use Rattle.ub_lexer.specs.Text.{IsSpelling}
 use Rattle.ub_lexer.specs.Tokens.{text_of, AreSpelled}
 use Rattle.ub_lexer.specs.declared.token.Token.{Token}
-use Rattle.ub_syntax.specs.Grammar.{Lexeme, lexemes, symbol_of, IsStatement}
-use Rattle.ub_syntax.specs.Limits.{first_token, listed, comparisons, key_items, past_limits}
+use Rattle.ub_syntax.specs.Grammar.{Lexeme, lexemes, symbol_of, IsDelete, IsStatement}
+use Rattle.ub_syntax.specs.Limits.{first_token, listed, comparisons, key_items, past_limits, past_limits_of}
 use Rattle.ub_syntax.specs.Marks.{seen, marks_after, marks, less, past}
-use Rattle.ub_syntax.specs.Tree.{Select}
+use Rattle.ub_syntax.specs.Reading.{first_symbol}
+use Rattle.ub_syntax.specs.Tree.{Select, Stated, selects, inserts, deletes}
 use Rattle.ub_syntax.specs.declared.limits.Mark.{Mark}
 use Rattle.ub_syntax.specs.declared.limits.Mark.TheVariants.{Next, Column}
 use Rattle.ub_syntax.specs.declared.symbol.Symbol.{Symbol}
+use Rattle.ub_syntax.specs.declared.symbol.Symbol.TheVariants.{Insert}
+use Rattle.ub_syntax.proofs.Firsts.{insert_first, select_no_insert, delete_no_insert}
 use Rattle.ub_syntax.proofs.Parts.{spelled_rest}
-use Rattle.ub_syntax.proofs.Marking.{list_marks, statement_marks, marks_of}
+use Rattle.ub_syntax.proofs.Marking.{list_marks, statement_marks, marks_of, marks_of_delete}
 
 -- the first, past a limit, and the others past one less
 drop_none : {A : Type 0} (n : ℕ) → ◌≡◌ {A = List A} (drop n []) []
@@ -68,6 +71,20 @@ statement_past p s =
     a.1 ∙ ap (λ (ts : List Token). ts ++ past a.0 64 (map Column columns ++ (list_marks s.group ++ list_marks keys))) (dropped_twice items)
     ∙ ap (λ (ts : List Token). drop 8 items ++ ts)
     (b.1 ∙ ap (λ (ts : List Token). drop 64 columns ++ ts) (c.1 ∙ ap (λ (ts : List Token). drop 8 s.group ++ ts) last))
+
+delete_past : (ls : List Lexeme) (s : Select) (is : IsDelete 64 ls s) → past 8 64 (map Column (comparisons s.filter)) ≡ past_limits s
+delete_past ls s is =
+    let columns = comparisons s.filter in
+    let b = column_past 8 64 columns [] in
+    let counted : past 8 64 (map Column columns) ≡ drop 64 columns ++ [] = ap (past 8 64) (sym (append-nil (map Column columns))) ∙ b.1 in
+    let same : past_limits s ≡ drop 64 columns ++ [] = rw is.rows refl in
+    counted ∙ sym same
+
+-- the tokens of a statement that are one too many, but of an INSERT
+marked : (ls : List Lexeme) (s : Stated) → first_symbol ls ≢ Some Insert → IsStatement 64 ls s → past 8 64 (marks ls) ≡ past_limits_of s
+marked ls (selects s) other is = ap (past 8 64) (marks_of 64 ls s is) ∙ statement_past 8 s
+marked ls (inserts i) other is = absurd (other (insert_first ls i is))
+marked ls (deletes s) other is = ap (past 8 64) (marks_of_delete 64 ls s is) ∙ delete_past ls s is
 
 abbrev pub lexeme : List ℕ → Token → Lexeme
 lexeme source t = record { token = t; text = text_of source t }
@@ -123,21 +140,22 @@ pub counted_told : (source : List ℕ) (tokens others : List Token) (i : ℕ) (p
     (told : Option Token) (t : Token) (new_parts new_columns : ℕ) → Counted source tokens others i previous symbol parts columns → i < length others → next ≡ get_or others i d
     → next_symbol ≡ symbol_of (lexeme source next)
     → ((ms : List Mark) → past parts columns (option_to_list (seen symbol previous next_symbol next) ++ ms) ≡ option_to_list told ++ past new_parts new_columns ms)
-    → told ≡ Some t → (s : Select) → IsStatement 64 (lexemes source tokens) s → Some t ≡ slice_get (past_limits s) 0
-counted_told source tokens others i previous symbol parts columns d next next_symbol told t new_parts new_columns h below e is step tells s is_statement =
+    → told ≡ Some t → first_symbol (lexemes source tokens) ≢ Some Insert → (s : Stated) → IsStatement 64 (lexemes source tokens) s → Some t ≡ slice_get (past_limits_of s) 0
+counted_told source tokens others i previous symbol parts columns d next next_symbol told t new_parts new_columns h below e is step tells other s is_statement =
     let there = counted_step source tokens others i previous symbol parts columns d next next_symbol told new_parts new_columns h below e is step in
     let all = past new_parts new_columns (marks_after (lexeme source next) (drop (i + 1) (lexemes source others))) in
-    let same : past_limits s ≡ t ∷ all =
-    sym (ap (past 8 64) (marks_of 64 (lexemes source tokens) s is_statement) ∙ statement_past 8 s) ∙ there ∙ ap (λ (o : Option Token). option_to_list o ++ all) tells in
+    let same : past_limits_of s ≡ t ∷ all =
+    sym (marked (lexemes source tokens) s other is_statement) ∙ there ∙ ap (λ (o : Option Token). option_to_list o ++ all) tells in
     sym (ap (λ (us : List Token). slice_get us 0) same)
 
 -- nothing is one too many where all was counted
 pub counted_all : (source : List ℕ) (tokens others : List Token) (i : ℕ) (previous : Token) (symbol : Symbol) (parts columns : ℕ) → length others ≤ i
-    → Counted source tokens others i previous symbol parts columns → (s : Select) → IsStatement 64 (lexemes source tokens) s → None ≡ slice_get (past_limits s) 0
-counted_all source tokens others i previous symbol parts columns all h s is =
+    → Counted source tokens others i previous symbol parts columns → first_symbol (lexemes source tokens) ≢ Some Insert
+    → (s : Stated) → IsStatement 64 (lexemes source tokens) s → None ≡ slice_get (past_limits_of s) 0
+counted_all source tokens others i previous symbol parts columns all h other s is =
     let ended : drop i (lexemes source others) ≡ [] = drop_all i (lexemes source others) (rw length-map all) in
     let none : past 8 64 (marks (lexemes source tokens)) ≡ [] = h.same ∙ ap (λ (ls : List Lexeme). past parts columns (marks_after (lexeme source previous) ls)) ended in
-    let same : past_limits s ≡ [] = sym (ap (past 8 64) (marks_of 64 (lexemes source tokens) s is) ∙ statement_past 8 s) ∙ none in
+    let same : past_limits_of s ≡ [] = sym (marked (lexemes source tokens) s other is) ∙ none in
     sym (ap (λ (ts : List Token). slice_get ts 0) same)
 
 -- a token after the first lies in the source
@@ -148,3 +166,14 @@ span_of source tokens others first i d e spelled below =
     let at = All-get_or P others i d below (spelled_rest source tokens others first e spelled) in
     let a = at.0 in
     (omega arith, at.1)
+
+-- the first symbol of the tokens
+pub first_of : (source : List ℕ) (tokens others : List Token) (first : Token) (s : Symbol) → tokens ≡ first ∷ others → s ≡ symbol_of (lexeme source first)
+    → first_symbol (lexemes source tokens) ≡ Some s
+first_of source tokens others first s e is = ap (λ (ts : List Token). first_symbol (lexemes source ts)) e ∙ ap Some (sym is)
+
+-- an INSERT has nothing that is one too many
+pub insert_told : (ls : List Lexeme) (s : Stated) → first_symbol ls ≡ Some Insert → IsStatement 64 ls s → None ≡ slice_get (past_limits_of s) 0
+insert_told ls (selects s) first is = absurd (select_no_insert ls s is first)
+insert_told ls (inserts i) first is = refl
+insert_told ls (deletes s) first is = absurd (delete_no_insert ls s is first)

@@ -1,7 +1,7 @@
 -- The machine with a greater depth does the same, but for a refusal of depth.
 use Rattle.std.proofs.Common.{◌≡◌, ◌≢◌, ◌⊎◌, ℕ, zero, suc, ◌+◌, Bool, true, false, List, [], ◌∷◌, map, Result, Ok, Err, refl, ap, ◌∙◌, inl, inr, arith, if◌then◌else◌}
 use Rattle.ub_syntax.specs.Grammar.{Lexeme, symbol_of}
-use Rattle.ub_syntax.specs.Machine.{Config, config, if_ok, and_then, is_fixed, item, comparison, literal, inner, operand, nested, expand, turn_to, begin, items, after_item, after_table, after_operand, after_group, after_direction, after_key, follow, config_of, step, reads}
+use Rattle.ub_syntax.specs.Machine.{Config, config, if_ok, and_then, is_fixed, item, comparison, literal, inner, operand, nested, expand, turn_to, begin, items, after_item, after_table, after_operand, after_group, after_direction, after_key, values, after_value, after_deleted, after_condition, follow, config_of, step, reads}
 use Rattle.ub_syntax.specs.declared.symbol.Symbol.{Symbol}
 use Rattle.ub_syntax.specs.declared.symbol.Symbol.TheVariants as symbol
 use Rattle.ub_syntax.specs.declared.machine.Goal.{Goal}
@@ -102,6 +102,22 @@ after_direction_raise : (k : ℕ) (s : Symbol) → after_direction s ≡ if_ok (
 after_direction_raise k symbol.Comma = refl
 after_direction_raise k _ = refl
 
+values_raise : (k : ℕ) (s : Symbol) → values s ≡ if_ok (raise_turn k) (values s)
+values_raise k symbol.Open = refl
+values_raise k _ = refl
+
+after_value_raise : (k : ℕ) (s : Symbol) → after_value s ≡ if_ok (raise_turn k) (after_value s)
+after_value_raise k symbol.Comma = refl
+after_value_raise k _ = refl
+
+after_deleted_raise : (k n : ℕ) (s : Symbol) → after_deleted (n + k) s ≡ if_ok (raise_turn k) (after_deleted n s)
+after_deleted_raise k n symbol.Where = refl
+after_deleted_raise k n _ = refl
+
+after_condition_raise : (k n : ℕ) (s : Symbol) → after_condition (n + k) s ≡ if_ok (raise_turn k) (after_condition n s)
+after_condition_raise k n symbol.And = refl
+after_condition_raise k n _ = refl
+
 follow_raise : (k n : ℕ) (r : Rest) (s : Symbol) → follow (n + k) r s ≡ if_ok (raise_turn k) (follow n r s)
 follow_raise k n rest.Start s = begin_raise k s
 follow_raise k n rest.Items s = items_raise k s
@@ -111,6 +127,10 @@ follow_raise k n rest.AfterOperand s = after_operand_raise k n s
 follow_raise k n rest.AfterGroup s = after_group_raise k s
 follow_raise k n rest.AfterKey s = after_key_raise k s
 follow_raise k n rest.AfterDirection s = after_direction_raise k s
+follow_raise k n rest.Values s = values_raise k s
+follow_raise k n rest.AfterValue s = after_value_raise k s
+follow_raise k n rest.AfterDeleted s = after_deleted_raise k n s
+follow_raise k n rest.AfterCondition s = after_condition_raise k n s
 follow_raise k n rest.End s = refl
 
 config_raise : (k : ℕ) (row : Row) (goals : List Goal) (r : Rest)
@@ -199,6 +219,26 @@ never n rest.AfterDirection s = after_direction_never s
     after_direction_never : (s : Symbol) → after_direction s ≢ Err TooDeep
     after_direction_never symbol.Comma = λ e. cc
     after_direction_never _ = λ e. cc
+never n rest.Values s = values_never s
+  where
+    values_never : (s : Symbol) → values s ≢ Err TooDeep
+    values_never symbol.Open = λ e. cc
+    values_never _ = λ e. cc
+never n rest.AfterValue s = after_value_never s
+  where
+    after_value_never : (s : Symbol) → after_value s ≢ Err TooDeep
+    after_value_never symbol.Comma = λ e. cc
+    after_value_never _ = λ e. cc
+never n rest.AfterDeleted s = after_deleted_never n s
+  where
+    after_deleted_never : (n : ℕ) (s : Symbol) → after_deleted n s ≢ Err TooDeep
+    after_deleted_never n symbol.Where = λ e. cc
+    after_deleted_never n _ = λ e. cc
+never n rest.AfterCondition s = after_condition_never n s
+  where
+    after_condition_never : (n : ℕ) (s : Symbol) → after_condition n s ≢ Err TooDeep
+    after_condition_never n symbol.And = λ e. cc
+    after_condition_never n _ = λ e. cc
 never n rest.End s = λ e. cc
 
 abbrev Opens : Symbol → Type 0

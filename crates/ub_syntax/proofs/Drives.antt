@@ -41,7 +41,7 @@ drives_first {n} g s row e is others = record {
 pub drives_only : {n : ℕ} (g : Goal) (s : Symbol) {word : List Lexeme} → expand g s ≡ Ok Nothing → Is s word → Drives n (g ∷ []) word
 drives_only {n} g s e is = record { moves = λ goals r. by_step s (expanded n g s Nothing goals r e) is }
 
-literal_drives : (n : ℕ) (ls : List Lexeme) (v : Literal) → IsLiteral ls v → Drives n (goal.Literal ∷ []) ls
+pub literal_drives : (n : ℕ) (ls : List Lexeme) (v : Literal) → IsLiteral ls v → Drives n (goal.Literal ∷ []) ls
 literal_drives n ls v (inl h) = drives_only goal.Literal symbol.Number refl (is_of _ h.1)
 literal_drives n ls v (inr h) =
     drives_over h.3

@@ -4,9 +4,12 @@ pub mod Equal
 pub mod Chains
 pub mod Operands
 pub mod Clauses
+pub mod Firsts
+pub mod Changes
 pub mod Statements
 pub mod Moves
 pub mod Drives
+pub mod ChangeDrives
 pub mod StatementDrives
 pub mod GoalsSound
 pub mod StatementSound
@@ -15,5 +18,6 @@ pub mod Depths
 pub mod Verdicts
 pub mod Marking
 pub mod Counting
+pub mod Inserts
 pub mod OneVerdict
 pub mod Laws

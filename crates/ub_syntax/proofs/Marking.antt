@@ -3,7 +3,7 @@ use Rattle.std.proofs.Common.{◌≡◌, ℕ, zero, suc, Bool, true, false, List
 use Rattle.std.proofs.lemmas.List.{append-nil}
 use Rattle.std.specs.List.{fold}
 use Rattle.ub_lexer.specs.declared.token.Token.{Token}
-use Rattle.ub_syntax.specs.Grammar.{Lexeme, symbol_of, IsToken, Is, AreJoined, IsChain, IsOptional, IsLiteral, IsComparison, IsDisjunction, IsOperand, IsItem, IsSelection, IsKey, IsFilter, IsGroup, IsOrder, IsLimit, IsExplain, IsStatement}
+use Rattle.ub_syntax.specs.Grammar.{Lexeme, symbol_of, IsToken, Is, AreJoined, IsChain, IsOptional, IsLiteral, IsComparison, IsDisjunction, IsOperand, IsItem, IsSelection, IsKey, IsFilter, IsGroup, IsOrder, IsLimit, IsExplain, IsSelect, IsDelete}
 use Rattle.ub_syntax.specs.Limits.{first_token, listed, compared, comparisons, key_items}
 use Rattle.ub_syntax.specs.Marks.{is_sign, mark_after, marks}
 use Rattle.ub_syntax.specs.Tree.{Select, Shape, both, either, neither, compares, between}
@@ -259,13 +259,13 @@ explain_makes : (ls : List Lexeme) (b : Bool) → IsExplain ls b → Makes ls []
 explain_makes ls b (inl is) = over is.1 nothing
 explain_makes ls b (inr is) = one symbol.Explain is.1 refl (λ t. refl)
 
--- the marks of a statement
+-- the marks of a SELECT
 abbrev pub statement_marks : Select → List Mark
 statement_marks s =
     First ∷ (map Next (drop 1 (map first_token (listed s.selection))) ++ (map Column (comparisons s.filter)
     ++ (list_marks s.group ++ list_marks (map first_token (key_items s.order)))))
 
-pub statement_makes : (n : ℕ) (ls : List Lexeme) (s : Select) → IsStatement n ls s → Makes ls (statement_marks s)
+pub statement_makes : (n : ℕ) (ls : List Lexeme) (s : Select) → IsSelect n ls s → Makes ls (statement_marks s)
 statement_makes n ls s is =
     let selection = selection_makes is.items s.selection is.items_are in
     let begin = before symbol.Select First is.select_is refl refl selection.1 selection.2 in
@@ -277,6 +277,17 @@ statement_makes n ls s is =
     let tail = is.from ++ (is.name ++ (is.filter ++ (is.group ++ (is.order ++ is.limit)))) in
     over is.parts (go (explain_makes is.explain s.is_explained is.explain_is) (over (sym (append_assoc is.select is.items tail)) both))
 
--- of the whole of a statement
-pub marks_of : (n : ℕ) (ls : List Lexeme) (s : Select) → IsStatement n ls s → marks ls ≡ statement_marks s
+-- of the whole of a SELECT
+pub marks_of : (n : ℕ) (ls : List Lexeme) (s : Select) → IsSelect n ls s → marks ls ≡ statement_marks s
 marks_of n ls s is = ap marks (sym (append-nil ls)) ∙ (statement_makes n ls s is).all [] refl ∙ append-nil (statement_marks s)
+
+delete_makes : (n : ℕ) (ls : List Lexeme) (s : Select) (is : IsDelete n ls s) → Makes ls (map Column (comparisons is.condition))
+delete_makes n ls s is =
+    let table = go (one symbol.From is.from_is refl (λ t. refl)) (go (name_makes is.name is.table is.name_is).0 (filter_makes n is.filter is.condition is.filter_is)) in
+    over is.parts (go (one symbol.Delete (is_of symbol.Delete is.delete is.word is.delete_is) refl (λ t. refl)) table)
+
+-- of the whole of a DELETE
+pub marks_of_delete : (n : ℕ) (ls : List Lexeme) (s : Select) → IsDelete n ls s → marks ls ≡ map Column (comparisons s.filter)
+marks_of_delete n ls s is =
+    ap marks (sym (append-nil ls)) ∙ (delete_makes n ls s is).all [] refl ∙ append-nil (map Column (comparisons is.condition))
+    ∙ ap (λ (r : Select). map Column (comparisons r.filter)) (sym is.rows)

@@ -4,7 +4,7 @@ use Rattle.std.proofs.lemmas.List.{take-append-drop, append-nil}
 use Rattle.std.proofs.lemmas.Bool.Decides.{leb_tells}
 use Rattle.ub_syntax.specs.Grammar.{Lexeme, IsStatement}
 use Rattle.ub_syntax.specs.Stop.{Begins, IsStop, IsRefusedAt, IsTooDeepAt}
-use Rattle.ub_syntax.specs.Tree.{Select}
+use Rattle.ub_syntax.specs.Tree.{Stated}
 use Rattle.ub_syntax.specs.Verdicts.{IsVerdict}
 use Rattle.ub_syntax.specs.declared.recogniser.Verdict.{Verdict}
 use Rattle.ub_syntax.specs.declared.recogniser.Verdict.TheVariants as verdict
@@ -16,7 +16,7 @@ begins_front n a b h = (b ++ h.0, h.1, rw (append_assoc a b h.0) at h.2)
 begins_take : (n k : ℕ) (ls : List Lexeme) → Begins n ls → Begins n (take k ls)
 begins_take n k ls h = begins_front n (take k ls) (drop k ls) (rw (sym (take-append-drop k ls)) at h)
 
-statement_begins : (n : ℕ) (ls : List Lexeme) (s : Select) → IsStatement n ls s → Begins n ls
+statement_begins : (n : ℕ) (ls : List Lexeme) (s : Stated) → IsStatement n ls s → Begins n ls
 statement_begins n ls s is = ([], s, rw (sym (append-nil ls)) at is)
 
 -- two stops are at one place
@@ -56,7 +56,7 @@ deep_alone n ls at other (i, s, deep, e) (none, inl (j, t, stop, not_deep, f)) =
 deep_alone n ls at other (i, s, deep, e) (none, inr (last, l, begins, f)) = no_stop n ls i s deep.is_stop begins
 
 -- nor is it a statement
-pub deep_no_statement : (n : ℕ) (ls : List Lexeme) (at : ℕ) (s : Select) → IsTooDeepAt n ls at → IsStatement n ls s → ⊥
+pub deep_no_statement : (n : ℕ) (ls : List Lexeme) (at : ℕ) (s : Stated) → IsTooDeepAt n ls at → IsStatement n ls s → ⊥
 deep_no_statement n ls at s deep is = no_stop n ls deep.0 deep.1 deep.2.is_stop (statement_begins n ls s is)
 
 pub one_depth : (n : ℕ) (ls : List Lexeme) (a b : ℕ) → IsTooDeepAt n ls a → IsTooDeepAt n ls b → a ≡ b

@@ -2,8 +2,8 @@
 use Rattle.std.proofs.Common.{◌≡◌, ◌≢◌, ◌⊎◌, ℕ, List, [], ◌∷◌, ◌++◌, Bool, true, Option, Some, None, Result, refl, sym, ap, ◌∙◌, append_assoc, inl, inr, subst}
 use Rattle.std.proofs.lemmas.List.{append-nil}
 use Rattle.ub_lexer.specs.declared.token.Token.{Token}
-use Rattle.ub_syntax.specs.Grammar.{Lexeme, symbol_of, Is, IsToken, AreJoined, IsOperand, IsItem, IsSelection, IsKey, IsOptional, IsFilter, IsGroup, IsOrder, IsLimit, IsExplain, IsStatement}
-use Rattle.ub_syntax.specs.Tree.{Shape, Select}
+use Rattle.ub_syntax.specs.Grammar.{Lexeme, symbol_of, Is, IsToken, AreJoined, IsOperand, IsItem, IsSelection, IsKey, IsOptional, IsFilter, IsGroup, IsOrder, IsLimit, IsExplain, IsSelect, IsStatement}
+use Rattle.ub_syntax.specs.Tree.{Shape, Select, Stated, selects, inserts, deletes}
 use Rattle.ub_syntax.specs.Machine.{Config, config, goals_of, if_ok, and_then, follow, turn_to, config_of, step, reads, start, may_end}
 use Rattle.ub_syntax.specs.declared.symbol.Symbol.{Symbol}
 use Rattle.ub_syntax.specs.declared.symbol.Symbol.TheVariants as symbol
@@ -22,6 +22,7 @@ use Rattle.ub_syntax.specs.declared.machine.Turn.{Turn}
 use Rattle.ub_syntax.specs.declared.machine.Refusal.{Refusal}
 use Rattle.ub_syntax.proofs.Moves.{Moves, stay, go, over, by_step, is_of, joined_moves}
 use Rattle.ub_syntax.proofs.Drives.{drives_only, item_drives, operand_drives, disjunction_moves}
+use Rattle.ub_syntax.proofs.ChangeDrives.{insert_moves, delete_moves}
 
 -- a state after which the statement may end or go on with LIMIT
 record CanLimit (n : ℕ) (r : Rest) : Type 0 where
@@ -186,8 +187,8 @@ selection_moves n items from (Listed xs) h is =
       by_step symbol.From refl is,
     )
 
-pub statement_moves : (n : ℕ) (ls : List Lexeme) (s : Select) → IsStatement n ls s → (e : Rest) × (may_end e ≡ true) × Moves n start (config [] e) ls
-statement_moves n ls s h =
+select_moves : (n : ℕ) (ls : List Lexeme) (s : Select) → IsSelect n ls s → (e : Rest) × (may_end e ≡ true) × Moves n start (config [] e) ls
+select_moves n ls s h =
     let head = head_moves n h.explain h.select s.is_explained h.explain_is h.select_is in
     let selection = selection_moves n h.items h.from s.selection h.items_are h.from_is in
     let filter = filter_moves n h.filter s.filter h.filter_is in
@@ -200,3 +201,8 @@ statement_moves n ls s h =
       limit.1,
       over h.parts (go head.1 (go head.2 (go selection.1 (go selection.2 (go name (go filter.2 (go group.2 (go order.2 limit.2)))))))),
     )
+
+pub statement_moves : (n : ℕ) (ls : List Lexeme) (s : Stated) → IsStatement n ls s → (e : Rest) × (may_end e ≡ true) × Moves n start (config [] e) ls
+statement_moves n ls (selects s) h = select_moves n ls s h
+statement_moves n ls (inserts i) h = insert_moves n ls i h
+statement_moves n ls (deletes s) h = delete_moves n ls s h

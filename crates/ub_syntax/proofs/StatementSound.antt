@@ -2,12 +2,14 @@
 use Rattle.std.proofs.Common.{◌≡◌, ◌⊎◌, ℕ, List, [], ◌∷◌, ◌++◌, Bool, true, false, Option, Some, None, Result, Ok, Err, refl, sym, ap, ◌∙◌, append_assoc, inl, inr, subst}
 use Rattle.std.proofs.lemmas.List.{append-nil}
 use Rattle.ub_lexer.specs.declared.token.Token.{Token}
-use Rattle.ub_syntax.specs.Grammar.{Lexeme, symbol_of, Is, IsToken, AreJoined, IsCondition, IsOperand, IsItem, IsSelection, IsKey, IsOptional, IsFilter, IsGroup, IsOrder, IsLimit, IsExplain, IsStatement}
-use Rattle.ub_syntax.specs.Tree.{Shape, Select}
-use Rattle.ub_syntax.specs.Machine.{Config, config, goals_of, if_ok, and_then, expand, turn_to, begin, items, item, after_item, limit, order, group, after_table, after_operand, after_group, after_direction, after_key, follow, config_of, reads, start, may_end, can_end}
+use Rattle.ub_syntax.specs.Grammar.{Lexeme, symbol_of, Is, IsToken, AreJoined, IsCondition, IsOperand, IsItem, IsSelection, IsKey, IsLiteral, IsOptional, IsFilter, IsGroup, IsOrder, IsLimit, IsExplain, IsSelect, IsValue, IsStatement}
+use Rattle.ub_syntax.specs.Tree.{Shape, Select, rows_of, Stated, selects, inserts, deletes}
+use Rattle.ub_syntax.specs.Machine.{Config, config, goals_of, if_ok, and_then, expand, turn_to, begin, items, item, after_item, limit, order, group, after_table, after_operand, after_group, after_direction, after_key, values, after_value, after_deleted, after_condition, follow, config_of, reads, start, may_end, can_end}
 use Rattle.ub_syntax.specs.declared.symbol.Symbol.{Symbol}
 use Rattle.ub_syntax.specs.declared.symbol.Symbol.TheVariants as symbol
 use Rattle.ub_syntax.specs.declared.syntax.Item.{Item}
+use Rattle.ub_syntax.specs.declared.syntax.Literal.{Literal}
+use Rattle.ub_syntax.specs.declared.syntax.Value.{Value}
 use Rattle.ub_syntax.specs.declared.syntax.Selection.{Selection}
 use Rattle.ub_syntax.specs.declared.syntax.Selection.TheVariants.{All, Listed}
 use Rattle.ub_syntax.specs.declared.syntax.OrderKey.{OrderKey}
@@ -17,10 +19,10 @@ use Rattle.ub_syntax.specs.declared.machine.Goal.TheVariants as goal
 use Rattle.ub_syntax.specs.declared.machine.Rest.{Rest}
 use Rattle.ub_syntax.specs.declared.machine.Rest.TheVariants as rest
 use Rattle.ub_syntax.specs.declared.machine.Row.{Row}
-use Rattle.ub_syntax.specs.declared.machine.Row.TheVariants.{Nothing, One, Two}
+use Rattle.ub_syntax.specs.declared.machine.Row.TheVariants.{Nothing, One, Two, Three}
 use Rattle.ub_syntax.specs.declared.machine.Turn.{Turn}
 use Rattle.ub_syntax.specs.declared.machine.Refusal.{Refusal}
-use Rattle.ub_syntax.proofs.GoalsSound.{StandAll, split, joined_more, lone, condition_more, one, two, alone, item_stands, goal_stands}
+use Rattle.ub_syntax.proofs.GoalsSound.{StandAll, split, joined_more, lone, condition_more, one, two, three, alone, item_stands, goal_stands}
 
 -- the fronts of a statement, part by part: up to SELECT
 record Head (ls : List Lexeme) : Type 0 where
@@ -85,8 +87,8 @@ regrouped : (ls ordered limit grouped order filtered group tabled filter head it
 regrouped ls ordered limit grouped order filtered group tabled filter head items from name explain select e1 e2 e3 e4 e5 e6 =
     rw (e1, e2, e3, e4, e5, e6) (simp append_assoc)
 
-statement : (n : ℕ) (ls : List Lexeme) → Limited n ls → (s : Select) × IsStatement n ls s
-statement n ls h =
+select : (n : ℕ) (ls : List Lexeme) → Limited n ls → (s : Select) × IsSelect n ls s
+select n ls h =
     let o = h.ordered_is in
     let g = o.grouped_is in
     let f = g.filtered_is in
@@ -126,13 +128,13 @@ record Listing (ls : List Lexeme) : Type 0 where
   pub head_is : Head head
   pub items_are : AreJoined symbol.Comma IsItem items xs
 
-record Conditioned (n : ℕ) (ls : List Lexeme) : Type 0 where
+record Conditioned (Before : List Lexeme → Type 0) (n : ℕ) (ls : List Lexeme) : Type 0 where
   pub tabled : List Lexeme
   pub word : List Lexeme
   pub list : List Lexeme
   pub condition : Shape
   pub parts : ls ≡ tabled ++ (word ++ list)
-  pub tabled_is : Tabled tabled
+  pub tabled_is : Before tabled
   pub word_is : Is symbol.Where word
   pub condition_is : IsCondition n list condition
 
@@ -166,21 +168,61 @@ record Directing (n : ℕ) (ls : List Lexeme) : Type 0 where
   pub direct : (direction : List Lexeme) → (Is symbol.Ascending direction ⊎ Is symbol.Descending direction)
       → (keys : List OrderKey) × AreJoined symbol.Comma IsKey (ordering.list ++ direction) keys
 
+-- an INSERT up to VALUES
+record Begun (ls : List Lexeme) : Type 0 where
+  pub insert : List Lexeme
+  pub into : List Lexeme
+  pub name : List Lexeme
+  pub word : List Lexeme
+  pub table : Token
+  pub parts : ls ≡ insert ++ (into ++ (name ++ word))
+  pub insert_is : Is symbol.Insert insert
+  pub into_is : Is symbol.Into into
+  pub name_is : IsToken symbol.Name name table
+  pub word_is : Is symbol.Values word
+
+-- up to a value
+record Valuing (ls : List Lexeme) : Type 0 where
+  pub begun : List Lexeme
+  pub left : List Lexeme
+  pub list : List Lexeme
+  pub xs : List Value
+  pub parts : ls ≡ begun ++ (left ++ list)
+  pub begun_is : Begun begun
+  pub left_is : Is symbol.Open left
+  pub values_are : AreJoined symbol.Comma IsValue list xs
+
+-- a DELETE up to its table's name
+record Deleting (ls : List Lexeme) : Type 0 where
+  pub delete : List Lexeme
+  pub from : List Lexeme
+  pub name : List Lexeme
+  pub word : Token
+  pub table : Token
+  pub parts : ls ≡ delete ++ (from ++ name)
+  pub delete_is : IsToken symbol.Delete delete word
+  pub from_is : Is symbol.From from
+  pub name_is : IsToken symbol.Name name table
+
 abbrev AtRest : ℕ → Rest → List Lexeme → Type 0
 AtRest n rest.Start ls = ls ≡ []
 AtRest n rest.Items ls = Head ls
 AtRest n rest.AfterItem ls = Listing ls
 AtRest n rest.AfterTable ls = Tabled ls
-AtRest n rest.AfterOperand ls = Conditioned n ls
+AtRest n rest.AfterOperand ls = Conditioned Tabled n ls
 AtRest n rest.AfterGroup ls = Grouping n ls
 AtRest n rest.AfterKey ls = Directing n ls
 AtRest n rest.AfterDirection ls = Ordering n ls
-AtRest n rest.End ls = Limited n ls
+AtRest n rest.Values ls = Begun ls
+AtRest n rest.AfterValue ls = Valuing ls
+AtRest n rest.AfterDeleted ls = Deleting ls
+AtRest n rest.AfterCondition ls = Conditioned Deleting n ls
+AtRest n rest.End ls = (s : Stated) × IsStatement n ls s
 
 filtered_of_table : (n : ℕ) (ls : List Lexeme) → Tabled ls → Filtered n ls
 filtered_of_table n ls h = record { tabled = ls; filter = []; condition = None; parts = sym (append-nil ls); tabled_is = h; filter_is = refl }
 
-filtered_of_condition : (n : ℕ) (ls : List Lexeme) → Conditioned n ls → Filtered n ls
+filtered_of_condition : (n : ℕ) (ls : List Lexeme) → Conditioned Tabled n ls → Filtered n ls
 filtered_of_condition n ls h = record {
   tabled = h.tabled;
   filter = h.word ++ h.list;
@@ -229,17 +271,87 @@ ordered_of_keys n ls h = record {
 limited_of_ordered : (n : ℕ) (ls : List Lexeme) → Ordered n ls → Limited n ls
 limited_of_ordered n ls h = record { ordered = ls; limit = []; number = None; parts = sym (append-nil ls); ordered_is = h; limit_is = refl }
 
+selected : (n : ℕ) (ls : List Lexeme) → Limited n ls → (s : Stated) × IsStatement n ls s
+selected n ls h = let s = select n ls h in (selects s.0, s.1)
+
+ordered_ends : (n : ℕ) (ls : List Lexeme) → Ordered n ls → (s : Stated) × IsStatement n ls s
+ordered_ends n ls h = selected n ls (limited_of_ordered n ls h)
+
+filtered_ends : (n : ℕ) (ls : List Lexeme) → Filtered n ls → (s : Stated) × IsStatement n ls s
+filtered_ends n ls h = ordered_ends n ls (ordered_of_grouped n ls (grouped_of_filtered n ls h))
+
+deleted_parts : (ls tabled filter delete from name : List Lexeme) → ls ≡ tabled ++ filter → tabled ≡ delete ++ (from ++ name) → ls ≡ delete ++ (from ++ (name ++ filter))
+deleted_parts ls tabled filter delete from name e1 e2 = rw (e1, e2) (simp append_assoc)
+
+-- a DELETE and its condition, which may be missing
+deleted : (n : ℕ) (ls tabled filter : List Lexeme) (condition : Option Shape) → ls ≡ tabled ++ filter → Deleting tabled → IsOptional (IsFilter n) filter condition
+    → (s : Stated) × IsStatement n ls s
+deleted n ls tabled filter condition e d f = (
+  deletes (rows_of d.word d.table condition),
+  record {
+    delete = d.delete;
+    from = d.from;
+    name = d.name;
+    filter = filter;
+    word = d.word;
+    table = d.table;
+    condition = condition;
+    parts = deleted_parts ls tabled filter d.delete d.from d.name e d.parts;
+    delete_is = d.delete_is;
+    from_is = d.from_is;
+    name_is = d.name_is;
+    filter_is = f;
+    rows = refl;
+  },
+)
+
+inserted_parts : (ls begun left list close insert into name word : List Lexeme) → ls ≡ begun ++ (left ++ (list ++ close)) → begun ≡ insert ++ (into ++ (name ++ word))
+    → ls ≡ insert ++ (into ++ (name ++ (word ++ (left ++ (list ++ close)))))
+inserted_parts ls begun left list close insert into name word e1 e2 = rw (e1, e2) (simp append_assoc)
+
+-- an INSERT with the `)` after its values
+inserted : (n : ℕ) (ls front close : List Lexeme) (token : Token) → ls ≡ front ++ close → Valuing front → IsToken symbol.Close close token
+    → (s : Stated) × IsStatement n ls s
+inserted n ls front close token e v is =
+    let b = v.begun_is in
+    let whole : ls ≡ v.begun ++ (v.left ++ (v.list ++ close)) =
+    rw (e, v.parts) (simp append_assoc) in (
+      inserts (record { table = b.table; values = v.xs; close = token }),
+      record {
+        insert = b.insert;
+        into = b.into;
+        name = b.name;
+        word = b.word;
+        left = v.left;
+        values = v.list;
+        close = close;
+        parts = inserted_parts ls v.begun v.left v.list close b.insert b.into b.name b.word whole b.parts;
+        insert_is = b.insert_is;
+        into_is = b.into_is;
+        name_is = b.name_is;
+        word_is = b.word_is;
+        left_is = v.left_is;
+        values_are = v.values_are;
+        close_is = is;
+      },
+    )
+
 -- where the machine may end
-limited : (n : ℕ) (r : Rest) (ls : List Lexeme) → AtRest n r ls → may_end r ≡ true → Limited n ls
-limited n rest.Start ls h e = cc
-limited n rest.Items ls h e = cc
-limited n rest.AfterItem ls h e = cc
-limited n rest.AfterTable ls h e = limited_of_ordered n ls (ordered_of_grouped n ls (grouped_of_filtered n ls (filtered_of_table n ls h)))
-limited n rest.AfterOperand ls h e = limited_of_ordered n ls (ordered_of_grouped n ls (grouped_of_filtered n ls (filtered_of_condition n ls h)))
-limited n rest.AfterGroup ls h e = limited_of_ordered n ls (ordered_of_grouped n ls (grouped_of_names n ls h))
-limited n rest.AfterKey ls h e = limited_of_ordered n ls (ordered_of_keys n ls h.ordering)
-limited n rest.AfterDirection ls h e = limited_of_ordered n ls (ordered_of_keys n ls h)
-limited n rest.End ls h e = h
+ended : (n : ℕ) (r : Rest) (ls : List Lexeme) → AtRest n r ls → may_end r ≡ true → (s : Stated) × IsStatement n ls s
+ended n rest.Start ls h e = cc
+ended n rest.Items ls h e = cc
+ended n rest.AfterItem ls h e = cc
+ended n rest.AfterTable ls h e = filtered_ends n ls (filtered_of_table n ls h)
+ended n rest.AfterOperand ls h e = filtered_ends n ls (filtered_of_condition n ls h)
+ended n rest.AfterGroup ls h e = ordered_ends n ls (ordered_of_grouped n ls (grouped_of_names n ls h))
+ended n rest.AfterKey ls h e = ordered_ends n ls (ordered_of_keys n ls h.ordering)
+ended n rest.AfterDirection ls h e = ordered_ends n ls (ordered_of_keys n ls h)
+ended n rest.Values ls h e = cc
+ended n rest.AfterValue ls h e = cc
+ended n rest.AfterDeleted ls h e = deleted n ls ls [] None (sym (append-nil ls)) h refl
+ended n rest.AfterCondition ls h e =
+    deleted n ls h.tabled (h.word ++ h.list) (Some h.condition) h.parts h.tabled_is (h.word, h.list, refl, h.word_is, h.condition_is)
+ended n rest.End ls h e = h
 
 -- what a turn leads to, where it is this one
 turned : (n : ℕ) (row : Row) (r : Rest) (turn : Turn) (ls all : List Lexeme) → turn_to row r ≡ Ok turn → StandAll (goals_of turn.row) ls
@@ -262,14 +374,14 @@ limit_turns : (n : ℕ) (s : Symbol) (l : Lexeme) (turn : Turn) (front ls : List
 limit_turns n symbol.Limit l turn front ls is e h known =
     turned n (One (goal.Token fixed.Number)) rest.End turn ls (front ++ (l ∷ ls)) e h
     (λ stands. let number = one (goal.Token fixed.Number) ls stands in
-    record {
+    selected n (front ++ (l ∷ ls)) (record {
       ordered = front;
       limit = l ∷ ls;
       number = Some number.0.token;
       parts = refl;
       ordered_is = known;
       limit_is = (l ∷ [], ls, refl, (l, refl, is), (number.0, number.1, number.2, refl));
-    })
+    }))
 limit_turns n _ l turn front ls is e h known = cc
 
 key_alone : (ls : List Lexeme) (x : Item) → IsItem ls x → (k : OrderKey) × IsKey ls k
@@ -403,9 +515,9 @@ names_turn n symbol.Comma l turn front ls is e h known =
     })
 names_turn n s l turn front ls is e h known = order_turns n s l turn front ls is e h (grouped_of_names n front known)
 
-joint_turns : (n : ℕ) (l : Lexeme) (front ls : List Lexeme) → (Is symbol.And (l ∷ []) ⊎ Is symbol.Or (l ∷ [])) → StandAll (goal.Operand n ∷ []) ls
-    → Conditioned n front → Conditioned n (front ++ (l ∷ ls))
-joint_turns n l front ls is stands known =
+joint_turns : (Before : List Lexeme → Type 0) (n : ℕ) (l : Lexeme) (front ls : List Lexeme) → (Is symbol.And (l ∷ []) ⊎ Is symbol.Or (l ∷ []))
+    → StandAll (goal.Operand n ∷ []) ls → Conditioned Before n front → Conditioned Before n (front ++ (l ∷ ls))
+joint_turns Before n l front ls is stands known =
     let x = one (goal.Operand n) ls stands in
     let c = condition_more n known.list (l ∷ []) ls known.condition x.0 known.condition_is is x.1 in
     record {
@@ -419,19 +531,9 @@ joint_turns n l front ls is stands known =
       condition_is = c.1;
     }
 
-operand_turns : (n : ℕ) (s : Symbol) (l : Lexeme) (turn : Turn) (front ls : List Lexeme) → symbol_of l ≡ s → after_operand n s ≡ Ok turn → StandAll (goals_of turn.row) ls
-    → Conditioned n front → AtRest n turn.rest (front ++ (l ∷ ls))
-operand_turns n symbol.And l turn front ls is e h known =
-    turned n (One (goal.Operand n)) rest.AfterOperand turn ls (front ++ (l ∷ ls)) e h (λ stands. joint_turns n l front ls (inl (l, refl, is)) stands known)
-operand_turns n symbol.Or l turn front ls is e h known =
-    turned n (One (goal.Operand n)) rest.AfterOperand turn ls (front ++ (l ∷ ls)) e h (λ stands. joint_turns n l front ls (inr (l, refl, is)) stands known)
-operand_turns n s l turn front ls is e h known = group_turns n s l turn front ls is e h (filtered_of_condition n front known)
-
-table_turns : (n : ℕ) (s : Symbol) (l : Lexeme) (turn : Turn) (front ls : List Lexeme) → symbol_of l ≡ s → after_table n s ≡ Ok turn → StandAll (goals_of turn.row) ls
-    → Tabled front → AtRest n turn.rest (front ++ (l ∷ ls))
-table_turns n symbol.Where l turn front ls is e h known =
-    turned n (One (goal.Operand n)) rest.AfterOperand turn ls (front ++ (l ∷ ls)) e h
-    (λ stands.
+where_turns : (Before : List Lexeme → Type 0) (n : ℕ) (l : Lexeme) (front ls : List Lexeme) → symbol_of l ≡ symbol.Where → StandAll (goal.Operand n ∷ []) ls
+    → Before front → Conditioned Before n (front ++ (l ∷ ls))
+where_turns Before n l front ls is stands known =
     let x = one (goal.Operand n) ls stands in
     record {
       tabled = front;
@@ -442,7 +544,20 @@ table_turns n symbol.Where l turn front ls is e h known =
       tabled_is = known;
       word_is = (l, refl, is);
       condition_is = lone (IsOperand n) ls x.0 x.1;
-    })
+    }
+
+operand_turns : (n : ℕ) (s : Symbol) (l : Lexeme) (turn : Turn) (front ls : List Lexeme) → symbol_of l ≡ s → after_operand n s ≡ Ok turn → StandAll (goals_of turn.row) ls
+    → Conditioned Tabled n front → AtRest n turn.rest (front ++ (l ∷ ls))
+operand_turns n symbol.And l turn front ls is e h known =
+    turned n (One (goal.Operand n)) rest.AfterOperand turn ls (front ++ (l ∷ ls)) e h (λ stands. joint_turns Tabled n l front ls (inl (l, refl, is)) stands known)
+operand_turns n symbol.Or l turn front ls is e h known =
+    turned n (One (goal.Operand n)) rest.AfterOperand turn ls (front ++ (l ∷ ls)) e h (λ stands. joint_turns Tabled n l front ls (inr (l, refl, is)) stands known)
+operand_turns n s l turn front ls is e h known = group_turns n s l turn front ls is e h (filtered_of_condition n front known)
+
+table_turns : (n : ℕ) (s : Symbol) (l : Lexeme) (turn : Turn) (front ls : List Lexeme) → symbol_of l ≡ s → after_table n s ≡ Ok turn → StandAll (goals_of turn.row) ls
+    → Tabled front → AtRest n turn.rest (front ++ (l ∷ ls))
+table_turns n symbol.Where l turn front ls is e h known =
+    turned n (One (goal.Operand n)) rest.AfterOperand turn ls (front ++ (l ∷ ls)) e h (λ stands. where_turns Tabled n l front ls is stands known)
 table_turns n s l turn front ls is e h known = group_turns n s l turn front ls is e h (filtered_of_table n front known)
 
 item_turns : (n : ℕ) (s : Symbol) (l : Lexeme) (turn : Turn) (front ls : List Lexeme) → symbol_of l ≡ s → after_item s ≡ Ok turn → StandAll (goals_of turn.row) ls
@@ -536,7 +651,94 @@ begin_turns n symbol.Select l turn front ls is e h known =
       explain_is = inl (refl, refl);
       select_is = is_alone symbol.Select l ls is none;
     })
+begin_turns n symbol.Insert l turn front ls is e h known =
+    turned n (Three (goal.Token fixed.Into) (goal.Token fixed.Name) (goal.Token fixed.Values)) rest.Values turn ls (front ++ (l ∷ ls)) e h
+    (λ stands.
+    let p = three (goal.Token fixed.Into) (goal.Token fixed.Name) (goal.Token fixed.Values) ls stands in
+    let name = p.5 in
+    record {
+      insert = l ∷ [];
+      into = p.0;
+      name = p.1;
+      word = p.2;
+      table = name.0.token;
+      parts = ap (λ (k : List Lexeme). k ++ (l ∷ ls)) known ∙ ap (λ (k : List Lexeme). l ∷ k) p.3;
+      insert_is = (l, refl, is);
+      into_is = p.4;
+      name_is = (name.0, name.1, name.2, refl);
+      word_is = p.6;
+    })
+begin_turns n symbol.Delete l turn front ls is e h known =
+    turned n (Two (goal.Token fixed.From) (goal.Token fixed.Name)) rest.AfterDeleted turn ls (front ++ (l ∷ ls)) e h
+    (λ stands.
+    let p = two (goal.Token fixed.From) (goal.Token fixed.Name) ls stands in
+    let name = p.4 in
+    record {
+      delete = l ∷ [];
+      from = p.0;
+      name = p.1;
+      word = l.token;
+      table = name.0.token;
+      parts = ap (λ (k : List Lexeme). k ++ (l ∷ ls)) known ∙ ap (λ (k : List Lexeme). l ∷ k) p.2;
+      delete_is = alone symbol.Delete l [] is refl;
+      from_is = p.3;
+      name_is = (name.0, name.1, name.2, refl);
+    })
 begin_turns n _ l turn front ls is e h known = cc
+
+-- a literal with its first token
+value_of : (ls : List Lexeme) (v : Literal) → IsLiteral ls v → (x : Value) × IsValue ls x
+value_of ls v (inl h) = let is = h.1 in (record { first = is.0.token; literal = v }, (is.0, [], is.1, refl, inl h))
+value_of ls v (inr h) =
+    let minus = h.4 in
+    let whole : ls ≡ minus.0 ∷ h.2 = h.3 ∙ ap (λ (k : List Lexeme). k ++ h.2) minus.1 in
+    (record { first = minus.0.token; literal = v }, (minus.0, h.2, whole, refl, inr h))
+
+values_turn : (n : ℕ) (s : Symbol) (l : Lexeme) (turn : Turn) (front ls : List Lexeme) → symbol_of l ≡ s → values s ≡ Ok turn → StandAll (goals_of turn.row) ls
+    → Begun front → AtRest n turn.rest (front ++ (l ∷ ls))
+values_turn n symbol.Open l turn front ls is e h known =
+    turned n (One goal.Literal) rest.AfterValue turn ls (front ++ (l ∷ ls)) e h
+    (λ stands.
+    let v = one goal.Literal ls stands in
+    let x = value_of ls v.0 v.1 in
+    record { begun = front; left = l ∷ []; list = ls; xs = x.0 ∷ []; parts = refl; begun_is = known; left_is = (l, refl, is); values_are = x.1 })
+values_turn n _ l turn front ls is e h known = cc
+
+value_turns : (n : ℕ) (s : Symbol) (l : Lexeme) (turn : Turn) (front ls : List Lexeme) → symbol_of l ≡ s → after_value s ≡ Ok turn → StandAll (goals_of turn.row) ls
+    → Valuing front → AtRest n turn.rest (front ++ (l ∷ ls))
+value_turns n symbol.Comma l turn front ls is e h known =
+    turned n (One goal.Literal) rest.AfterValue turn ls (front ++ (l ∷ ls)) e h
+    (λ stands.
+    let v = one goal.Literal ls stands in
+    let x = value_of ls v.0 v.1 in
+    record {
+      begun = known.begun;
+      left = known.left;
+      list = known.list ++ (l ∷ ls);
+      xs = known.xs ++ x.0 ∷ [];
+      parts = further3 front known.begun known.left known.list (l ∷ ls) known.parts;
+      begun_is = known.begun_is;
+      left_is = known.left_is;
+      values_are = joined_more symbol.Comma IsValue known.list known.xs (l ∷ []) ls x.0 known.values_are (l, refl, is) x.1;
+    })
+value_turns n symbol.Close l turn front ls is e h known =
+    turned n Nothing rest.End turn ls (front ++ (l ∷ ls)) e h
+    (λ none. inserted n (front ++ (l ∷ ls)) front (l ∷ ls) l.token refl known (alone symbol.Close l ls is none))
+value_turns n _ l turn front ls is e h known = cc
+
+deleted_turns : (n : ℕ) (s : Symbol) (l : Lexeme) (turn : Turn) (front ls : List Lexeme) → symbol_of l ≡ s → after_deleted n s ≡ Ok turn → StandAll (goals_of turn.row) ls
+    → Deleting front → AtRest n turn.rest (front ++ (l ∷ ls))
+deleted_turns n symbol.Where l turn front ls is e h known =
+    turned n (One (goal.Operand n)) rest.AfterCondition turn ls (front ++ (l ∷ ls)) e h (λ stands. where_turns Deleting n l front ls is stands known)
+deleted_turns n _ l turn front ls is e h known = cc
+
+condition_turns : (n : ℕ) (s : Symbol) (l : Lexeme) (turn : Turn) (front ls : List Lexeme) → symbol_of l ≡ s → after_condition n s ≡ Ok turn → StandAll (goals_of turn.row) ls
+    → Conditioned Deleting n front → AtRest n turn.rest (front ++ (l ∷ ls))
+condition_turns n symbol.And l turn front ls is e h known =
+    turned n (One (goal.Operand n)) rest.AfterCondition turn ls (front ++ (l ∷ ls)) e h (λ stands. joint_turns Deleting n l front ls (inl (l, refl, is)) stands known)
+condition_turns n symbol.Or l turn front ls is e h known =
+    turned n (One (goal.Operand n)) rest.AfterCondition turn ls (front ++ (l ∷ ls)) e h (λ stands. joint_turns Deleting n l front ls (inr (l, refl, is)) stands known)
+condition_turns n _ l turn front ls is e h known = cc
 
 turns : (n : ℕ) (r : Rest) (l : Lexeme) (turn : Turn) (front ls : List Lexeme) → follow n r (symbol_of l) ≡ Ok turn → StandAll (goals_of turn.row) ls
     → AtRest n r front → AtRest n turn.rest (front ++ (l ∷ ls))
@@ -548,11 +750,15 @@ turns n rest.AfterOperand l turn front ls e h known = operand_turns n (symbol_of
 turns n rest.AfterGroup l turn front ls e h known = names_turn n (symbol_of l) l turn front ls refl e h known
 turns n rest.AfterKey l turn front ls e h known = key_turns n (symbol_of l) l turn front ls refl e h known
 turns n rest.AfterDirection l turn front ls e h known = direction_turns n (symbol_of l) l turn front ls refl e h known
+turns n rest.Values l turn front ls e h known = values_turn n (symbol_of l) l turn front ls refl e h known
+turns n rest.AfterValue l turn front ls e h known = value_turns n (symbol_of l) l turn front ls refl e h known
+turns n rest.AfterDeleted l turn front ls e h known = deleted_turns n (symbol_of l) l turn front ls refl e h known
+turns n rest.AfterCondition l turn front ls e h known = condition_turns n (symbol_of l) l turn front ls refl e h known
 turns n rest.End l turn front ls e h known = cc
 
 -- the lexemes end a statement where such an end is to come
 abbrev Completes : ℕ → Rest → List Lexeme → Type 0
-Completes n r ls = (front : List Lexeme) → AtRest n r front → (s : Select) × IsStatement n (front ++ ls) s
+Completes n r ls = (front : List Lexeme) → AtRest n r front → (s : Stated) × IsStatement n (front ++ ls) s
 
 completes : (n : ℕ) (r : Rest) (l : Lexeme) (turn : Turn) (a b ls : List Lexeme) → follow n r (symbol_of l) ≡ Ok turn → StandAll (goals_of turn.row) a
     → ls ≡ a ++ b → Completes n turn.rest b → Completes n r (l ∷ ls)
@@ -597,7 +803,7 @@ accepts n [] r [] d e ends =
       refl,
       refl,
       λ front known.
-          statement n (front ++ []) (subst (Limited n) (sym (append-nil front)) (limited n r front known here)),
+          ended n r (front ++ []) (subst (AtRest n r) (sym (append-nil front)) known) here,
     )
 accepts n (g ∷ goals) r [] d e ends =
     let same : config (g ∷ goals) r ≡ d = cc in
@@ -614,7 +820,7 @@ accepts n (g ∷ goals) r (l ∷ ls) d e ends =
     by_goal n g goals r l w.0 ls w.1 (accepts n (goals_of w.0 ++ goals) r ls d more ends)
 
 -- lexemes after which the machine may end are a statement
-pub accepted : (n : ℕ) (ls : List Lexeme) (d : Config) → reads n start ls ≡ Ok d → can_end d ≡ true → (s : Select) × IsStatement n ls s
+pub accepted : (n : ℕ) (ls : List Lexeme) (d : Config) → reads n start ls ≡ Ok d → can_end d ≡ true → (s : Stated) × IsStatement n ls s
 accepted n ls d e ends =
     let a = accepts n [] rest.Start ls d e ends in
     let s = a.4 [] refl in

@@ -1,8 +1,8 @@
--- How a whole statement is read.
+-- How a whole SELECT is read.
 use Rattle.std.proofs.Common.{◌≡◌, ◌≢◌, ◌⊎◌, inl, inr, ℕ, Bool, List, [], ◌∷◌, ◌++◌, Option, Some, None, refl, sym, ap, ◌∙◌}
 use Rattle.std.proofs.lemmas.List.{append-nil}
 use Rattle.ub_lexer.specs.declared.token.Token.{Token}
-use Rattle.ub_syntax.specs.Grammar.{Lexeme, IsSelection, IsOptional, IsFilter, IsGroup, IsOrder, IsLimit, IsExplain, IsStatement}
+use Rattle.ub_syntax.specs.Grammar.{Lexeme, IsSelection, IsOptional, IsFilter, IsGroup, IsOrder, IsLimit, IsExplain, IsSelect}
 use Rattle.ub_syntax.specs.Reading.{first_symbol, NotFirst, Reads, Advances, Accepts}
 use Rattle.ub_syntax.specs.Tree.{Shape, Select}
 use Rattle.ub_syntax.specs.declared.symbol.Symbol.{Symbol}
@@ -63,7 +63,7 @@ same_select : (a : Bool) (b : Selection) (c : Token) (d : Option Shape) (e : Lis
     → ◌≡◌ {A = Select} (record { is_explained = a; selection = b; table = c; filter = d; group = e; order = f; limit = g }) s
 same_select a b c d e f g s p q r t u v w = rw (p, q, r, t, u, v, w) refl
 
-pub statement_reads : (n : ℕ) (old a b c d e f g h new : List Lexeme) (is_explained : Bool) (select from table : Token)
+pub select_reads : (n : ℕ) (old a b c d e f g h new : List Lexeme) (is_explained : Bool) (select from table : Token)
     (selection : Selection) (filter : Option Shape) (group : List Token) (order : List OrderKey) (limit : Option Token)
     → Accepts symbol.Explain old is_explained a → Advances a select b → Reads IsSelection (symbol.Comma ∷ []) b selection c
     → Advances c from d → Advances d table e
@@ -71,9 +71,9 @@ pub statement_reads : (n : ℕ) (old a b c d e f g h new : List Lexeme) (is_expl
     → Reads IsGroup (symbol.Group ∷ symbol.Comma ∷ []) f group g
     → Reads IsOrder (symbol.Order ∷ symbol.Comma ∷ symbol.Descending ∷ symbol.Ascending ∷ []) g order h
     → Reads (IsOptional IsLimit) (symbol.Limit ∷ []) h limit new
-    → (s : Select) → IsStatement n old s
+    → (s : Select) → IsSelect n old s
     → ◌≡◌ {A = Select} (record { is_explained = is_explained; selection = selection; table = table; filter = filter; group = group; order = order; limit = limit }) s
-statement_reads n old a b c d e f g h new is_explained select from table selection filter group order limit E A S B C F G O L s is =
+select_reads n old a b c d e f g h new is_explained select from table selection filter group order limit E A S B C F G O L s is =
     let after_name : List Lexeme = is.filter ++ (is.group ++ (is.order ++ is.limit)) in
     let after_items : List Lexeme = is.from ++ (is.name ++ after_name) in
     let first = first_is symbol.Select is.select (is.items ++ after_items) _ is.select_is refl in

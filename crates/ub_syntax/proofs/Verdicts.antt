@@ -11,7 +11,7 @@ use Rattle.ub_lexer.specs.Tokens.{text_of}
 use Rattle.ub_lexer.specs.declared.token.Token.{Token}
 use Rattle.ub_syntax.specs.Symbols as of
 use Rattle.ub_syntax.specs.declared.symbol.Symbol.{Symbol}
-use Rattle.ub_syntax.specs.Tree.{Select}
+use Rattle.ub_syntax.specs.Tree.{Stated}
 use Rattle.ub_syntax.specs.Grammar.{Lexeme, lexemes, symbol_of, IsStatement}
 use Rattle.ub_syntax.specs.Stop.{Begins, IsStop, IsTooDeep}
 use Rattle.ub_syntax.specs.Verdicts.{IsVerdict, refused_at}
@@ -64,7 +64,7 @@ front n ls h =
 not_front : (n : ℕ) (ls : List Lexeme) (f : Refusal) → reads n start ls ≡ Err f → ¬ Begins n ls
 not_front n ls f e h = let g = (front n ls h).1 in cc
 
-no_statement : (n : ℕ) (ls : List Lexeme) (k : ℕ) → ¬ Begins n (take k ls) → (s : Select) → ¬ IsStatement n ls s
+no_statement : (n : ℕ) (ls : List Lexeme) (k : ℕ) → ¬ Begins n (take k ls) → (s : Stated) → ¬ IsStatement n ls s
 no_statement n ls k h s is = h (drop k ls, s, subst (λ (xs : List Lexeme). IsStatement n xs s) (sym (take-append-drop k ls)) is)
 
 stop : (n : ℕ) (ls : List Lexeme) (i : ℕ) (l : Lexeme) (c : Config) (f : Refusal) → Ran n ls i c → slice_get ls i ≡ Some l → step n c (symbol_of l) ≡ Err f

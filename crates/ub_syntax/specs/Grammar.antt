@@ -1,19 +1,22 @@
--- Which lists of lexemes are statements, and the syntax of each (SQL's SELECT, the part of it that docs/SQL.md states).
+-- Which lists of lexemes are statements, and the syntax of each (SQL's SELECT, INSERT and DELETE, the part of them that
+-- docs/SQL.md states).
 -- In parts: a list of lexemes is what the grammar says where it is cut into parts that are.
 use Rattle.std.specs.Prelude.{◌≡◌, ℕ, zero, suc, ◌⊎◌, Bool, true, false, List, [], ◌∷◌, ◌++◌, map, Option, Some, None}
 use Rattle.std.specs.List.{fold}
 use Rattle.ub_lexer.specs.declared.token.Token.{Token}
 use Rattle.ub_lexer.specs.Tokens.{text_of}
 use Rattle.ub_syntax.specs.Symbols as of
-use Rattle.ub_syntax.specs.Tree.{Shape, both, either, neither, compares, between, Select}
+use Rattle.ub_syntax.specs.Tree.{Shape, both, either, neither, compares, between, Select, rows_of, Stated, selects, inserts, deletes}
 use Rattle.ub_syntax.specs.declared.symbol.Symbol.{Symbol}
 use Rattle.ub_syntax.specs.declared.symbol.Symbol.TheVariants as symbol
+use Rattle.ub_syntax.specs.declared.syntax.Insertion.{Insertion}
 use Rattle.ub_syntax.specs.declared.syntax.Item.{Item}
 use Rattle.ub_syntax.specs.declared.syntax.Item.TheVariants.{Column, Count, Aggregate}
 use Rattle.ub_syntax.specs.declared.syntax.Literal.{Literal}
 use Rattle.ub_syntax.specs.declared.syntax.OrderKey.{OrderKey}
 use Rattle.ub_syntax.specs.declared.syntax.Selection.{Selection}
 use Rattle.ub_syntax.specs.declared.syntax.Selection.TheVariants.{All, Listed}
+use Rattle.ub_syntax.specs.declared.syntax.Value.{Value}
 
 -- a token and its text
 pub record Lexeme : Type 0 where
@@ -139,9 +142,9 @@ IsLimit ls number = (word digits : List Lexeme) × (ls ≡ word ++ digits) × Is
 abbrev pub IsExplain : List Lexeme → Bool → Type 0
 IsExplain ls is_explained = ((is_explained ≡ false) × (ls ≡ [])) ⊎ ((is_explained ≡ true) × Is symbol.Explain ls)
 
--- statement: [EXPLAIN] SELECT items FROM name [WHERE condition] [GROUP BY names] [ORDER BY keys] [LIMIT Number],
+-- select: [EXPLAIN] SELECT items FROM name [WHERE condition] [GROUP BY names] [ORDER BY keys] [LIMIT Number],
 -- with at most so many parentheses and NOTs round any place of its condition
-pub record IsStatement (n : ℕ) (ls : List Lexeme) (s : Select) : Type 0 where
+pub record IsSelect (n : ℕ) (ls : List Lexeme) (s : Select) : Type 0 where
   pub explain : List Lexeme
   pub select : List Lexeme
   pub items : List Lexeme
@@ -161,3 +164,47 @@ pub record IsStatement (n : ℕ) (ls : List Lexeme) (s : Select) : Type 0 where
   pub group_is : IsGroup group s.group
   pub order_is : IsOrder order s.order
   pub limit_is : IsOptional IsLimit limit s.limit
+
+-- value: literal, which begins with this token
+abbrev pub IsValue : List Lexeme → Value → Type 0
+IsValue ls v = (head : Lexeme) × (tail : List Lexeme) × (ls ≡ head ∷ tail) × (head.token ≡ v.first) × IsLiteral ls v.literal
+
+-- insert: INSERT INTO name VALUES ( values )
+pub record IsInsert (ls : List Lexeme) (i : Insertion) : Type 0 where
+  pub insert : List Lexeme
+  pub into : List Lexeme
+  pub name : List Lexeme
+  pub word : List Lexeme
+  pub left : List Lexeme
+  pub values : List Lexeme
+  pub close : List Lexeme
+  pub parts : ls ≡ insert ++ (into ++ (name ++ (word ++ (left ++ (values ++ close)))))
+  pub insert_is : Is symbol.Insert insert
+  pub into_is : Is symbol.Into into
+  pub name_is : IsToken symbol.Name name i.table
+  pub word_is : Is symbol.Values word
+  pub left_is : Is symbol.Open left
+  pub values_are : AreJoined symbol.Comma IsValue values i.values
+  pub close_is : IsToken symbol.Close close i.close
+
+-- delete: DELETE FROM name [WHERE condition], with at most so many parentheses and NOTs round any place of its condition
+pub record IsDelete (n : ℕ) (ls : List Lexeme) (s : Select) : Type 0 where
+  pub delete : List Lexeme
+  pub from : List Lexeme
+  pub name : List Lexeme
+  pub filter : List Lexeme
+  pub word : Token
+  pub table : Token
+  pub condition : Option Shape
+  pub parts : ls ≡ delete ++ (from ++ (name ++ filter))
+  pub delete_is : IsToken symbol.Delete delete word
+  pub from_is : Is symbol.From from
+  pub name_is : IsToken symbol.Name name table
+  pub filter_is : IsOptional (IsFilter n) filter condition
+  pub rows : s ≡ rows_of word table condition
+
+-- statement: select, insert or delete
+abbrev pub IsStatement : ℕ → List Lexeme → Stated → Type 0
+IsStatement n ls (selects s) = IsSelect n ls s
+IsStatement n ls (inserts i) = IsInsert ls i
+IsStatement n ls (deletes s) = IsDelete n ls s

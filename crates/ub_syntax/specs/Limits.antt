@@ -1,7 +1,7 @@
 -- How many parts of each kind a statement may have.
 use Rattle.std.specs.Prelude.{List, [], ◌∷◌, ◌++◌, map, drop, Option, Some, None}
 use Rattle.ub_lexer.specs.declared.token.Token.{Token}
-use Rattle.ub_syntax.specs.Tree.{Select, Shape, both, either, neither, compares, between}
+use Rattle.ub_syntax.specs.Tree.{Select, Stated, selects, inserts, deletes, Shape, both, either, neither, compares, between}
 use Rattle.ub_syntax.specs.declared.syntax.Item.{Item}
 use Rattle.ub_syntax.specs.declared.syntax.Item.TheVariants.{Column, Count, Aggregate}
 use Rattle.ub_syntax.specs.declared.syntax.OrderKey.{OrderKey}
@@ -39,3 +39,9 @@ abbrev pub past_limits : Select → List Token
 past_limits s =
     drop 8 (map first_token (listed s.selection)) ++ (drop 64 (comparisons s.filter)
     ++ (drop 8 s.group ++ drop 8 (map first_token (key_items s.order))))
+
+-- the same of a statement; an INSERT may have any number of values
+abbrev pub past_limits_of : Stated → List Token
+past_limits_of (selects s) = past_limits s
+past_limits_of (inserts i) = []
+past_limits_of (deletes s) = past_limits s

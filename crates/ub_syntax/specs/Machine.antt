@@ -51,6 +51,8 @@ is_fixed fixed.Select symbol.Select = true
 is_fixed fixed.From symbol.From = true
 is_fixed fixed.By symbol.By = true
 is_fixed fixed.And symbol.And = true
+is_fixed fixed.Into symbol.Into = true
+is_fixed fixed.Values symbol.Values = true
 is_fixed fixed.Name symbol.Name = true
 is_fixed fixed.Number symbol.Number = true
 is_fixed fixed.Open symbol.Open = true
@@ -110,6 +112,8 @@ turn_to row rest = Ok (record { row = row; rest = rest })
 abbrev pub begin : Symbol → Result Turn Refusal
 begin symbol.Explain = turn_to (One (goal.Token fixed.Select)) rest.Items
 begin symbol.Select = turn_to Nothing rest.Items
+begin symbol.Insert = turn_to (Three (goal.Token fixed.Into) (goal.Token fixed.Name) (goal.Token fixed.Values)) rest.Values
+begin symbol.Delete = turn_to (Two (goal.Token fixed.From) (goal.Token fixed.Name)) rest.AfterDeleted
 begin _ = Err Syntax
 
 abbrev pub items : Symbol → Result Turn Refusal
@@ -155,6 +159,24 @@ after_key symbol.Ascending = turn_to Nothing rest.AfterDirection
 after_key symbol.Descending = turn_to Nothing rest.AfterDirection
 after_key s = after_direction s
 
+abbrev pub values : Symbol → Result Turn Refusal
+values symbol.Open = turn_to (One goal.Literal) rest.AfterValue
+values _ = Err Syntax
+
+abbrev pub after_value : Symbol → Result Turn Refusal
+after_value symbol.Comma = turn_to (One goal.Literal) rest.AfterValue
+after_value symbol.Close = turn_to Nothing rest.End
+after_value _ = Err Syntax
+
+abbrev pub after_deleted : ℕ → Symbol → Result Turn Refusal
+after_deleted n symbol.Where = turn_to (One (goal.Operand n)) rest.AfterCondition
+after_deleted n _ = Err Syntax
+
+abbrev pub after_condition : ℕ → Symbol → Result Turn Refusal
+after_condition n symbol.And = turn_to (One (goal.Operand n)) rest.AfterCondition
+after_condition n symbol.Or = turn_to (One (goal.Operand n)) rest.AfterCondition
+after_condition n _ = Err Syntax
+
 -- with at most so many parentheses and NOTs round a place
 abbrev pub follow : ℕ → Rest → Symbol → Result Turn Refusal
 follow n rest.Start s = begin s
@@ -165,6 +187,10 @@ follow n rest.AfterOperand s = after_operand n s
 follow n rest.AfterGroup s = after_group s
 follow n rest.AfterKey s = after_key s
 follow n rest.AfterDirection s = after_direction s
+follow n rest.Values s = values s
+follow n rest.AfterValue s = after_value s
+follow n rest.AfterDeleted s = after_deleted n s
+follow n rest.AfterCondition s = after_condition n s
 follow n rest.End s = Err Syntax
 
 -- the next goal takes the symbol, or else the end of the statement
@@ -198,6 +224,8 @@ abbrev pub may_end : Rest → Bool
 may_end rest.Start = false
 may_end rest.Items = false
 may_end rest.AfterItem = false
+may_end rest.Values = false
+may_end rest.AfterValue = false
 may_end _ = true
 
 -- no goal is to come, and the statement may end

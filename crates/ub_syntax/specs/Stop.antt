@@ -1,12 +1,12 @@
 -- Where the tokens of a refused statement stop being the front of one.
 use Rattle.std.specs.Prelude.{◌≡◌, ℕ, suc, ◌-◌, ◌⊎◌, List, ◌++◌, length, take, Some, slice_get}
-use Rattle.ub_syntax.specs.Tree.{Select}
+use Rattle.ub_syntax.specs.Tree.{Stated}
 use Rattle.ub_syntax.specs.Grammar.{Lexeme, symbol_of, IsStatement}
 use Rattle.ub_syntax.specs.declared.symbol.Symbol.TheVariants as symbol
 
 -- some statement with at most so many parentheses and NOTs round a place begins with these lexemes
 abbrev pub Begins : ℕ → List Lexeme → Type 0
-Begins n ls = (rest : List Lexeme) × (s : Select) × IsStatement n (ls ++ rest) s
+Begins n ls = (rest : List Lexeme) × (s : Stated) × IsStatement n (ls ++ rest) s
 
 -- the lexeme at a place is the first such that no statement begins with those up to it and with it
 pub record IsStop (n : ℕ) (ls : List Lexeme) (place : ℕ) (stop : Lexeme) : Type 0 where
@@ -25,7 +25,7 @@ pub record IsTooDeep (n : ℕ) (ls : List Lexeme) (place : ℕ) (stop : Lexeme) 
 -- lexeme ends there
 abbrev pub IsRefusedAt : ℕ → List Lexeme → ℕ → Type 0
 IsRefusedAt n ls at =
-    ((s : Select) → ¬ IsStatement n ls s)
+    ((s : Stated) → ¬ IsStatement n ls s)
     × (((place : ℕ) × (stop : Lexeme) × IsStop n ls place stop × (¬ IsTooDeep n ls place stop) × (at ≡ stop.token.from))
     ⊎ ((last : Lexeme) × (slice_get ls (length ls - 1) ≡ Some last) × Begins n ls × (at ≡ last.token.to)))
 

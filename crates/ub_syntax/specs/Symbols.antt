@@ -5,10 +5,10 @@ use Rattle.ub_lexer.specs.declared.token.TokenKind.TheVariants as kind
 use Rattle.ub_query.specs.declared.condition.Operator.TheVariants.{Equal, NotEqual, Less, AtMost, Greater, AtLeast}
 use Rattle.ub_query.specs.declared.query.Aggregate.TheVariants as aggregate
 use Rattle.ub_syntax.specs.declared.symbol.Symbol.{Symbol}
-use Rattle.ub_syntax.specs.declared.symbol.Symbol.TheVariants.{Select, Explain, From, Where, And, Or, Not, Between, Group, Order, By, Ascending, Descending, Limit, Count, Aggregate, Name, Number, Comma, Open, Close, Star, Operator, Minus, Other}
+use Rattle.ub_syntax.specs.declared.symbol.Symbol.TheVariants.{Select, Explain, From, Where, And, Or, Not, Between, Group, Order, By, Ascending, Descending, Limit, Insert, Into, Values, Delete, Count, Aggregate, Name, Number, Comma, Open, Close, Star, Operator, Minus, Other}
 use Rattle.ub_table.specs.Name.{is_word}
 
--- the words of the language and what each is; those of the last line are kept for later
+-- the words of the language and what each is
 unfoldable pub keywords : List (List ℕ × Symbol)
 keywords =
     (codes "SELECT", Select) ∷ (codes "EXPLAIN", Explain) ∷ (codes "FROM", From) ∷ (codes "WHERE", Where)
@@ -16,7 +16,7 @@ keywords =
     ∷ (codes "GROUP", Group) ∷ (codes "ORDER", Order) ∷ (codes "BY", By) ∷ (codes "ASC", Ascending) ∷ (codes "DESC", Descending)
     ∷ (codes "LIMIT", Limit) ∷ (codes "COUNT", Count)
     ∷ (codes "SUM", Aggregate aggregate.Sum) ∷ (codes "MIN", Aggregate aggregate.Min) ∷ (codes "MAX", Aggregate aggregate.Max)
-    ∷ (codes "INSERT", Other) ∷ (codes "INTO", Other) ∷ (codes "VALUES", Other) ∷ (codes "DELETE", Other) ∷ []
+    ∷ (codes "INSERT", Insert) ∷ (codes "INTO", Into) ∷ (codes "VALUES", Values) ∷ (codes "DELETE", Delete) ∷ []
 
 -- the symbol of the first of the words that the text is in any mix of cases, else a name
 abbrev pub symbol_among : List (List ℕ × Symbol) → List ℕ → Symbol

@@ -1,14 +1,17 @@
-ghost use Rattle.std.specs.Prelude.{◌≡◌, ◌↔◌, ◌≤◌, [], ◌∷◌, length, IfOk};
+ghost use Rattle.std.specs.Prelude.{◌≡◌, ◌↔◌, ◌≤◌, List, [], ◌∷◌, length, IfOk};
 ghost use Rattle.std.specs.Option.{option_map};
 ghost use Rattle.ub_lexer.specs.Tokens.{AreSpelled};
-ghost use Rattle.ub_syntax.specs.Grammar.{lexemes, AreJoined, IsToken, IsLiteral, IsComparison, IsOperand, IsCondition, IsItem, IsSelection, IsKey, IsOptional, IsFilter, IsGroup, IsOrder, IsLimit, IsStatement, IsChain};
-ghost use Rattle.ub_syntax.specs.Limits.{past_limits};
+ghost use Rattle.ub_syntax.specs.Grammar.{lexemes, AreJoined, IsToken, IsLiteral, IsComparison, IsOperand, IsCondition, IsItem, IsSelection, IsKey, IsOptional, IsFilter, IsGroup, IsOrder, IsLimit, IsSelect, IsValue, IsInsert, IsDelete, IsStatement, IsChain, Lexeme};
+ghost use Rattle.ub_syntax.specs.Limits.{past_limits_of};
 ghost use Rattle.ub_syntax.specs.Reading.{first_symbol, Reads, Advances, Accepts};
 ghost use Rattle.ub_query.specs.declared.condition.Operator.{Operator};
-ghost use Rattle.ub_syntax.specs.Tree.{Select, shape, select_of, both};
+ghost use Rattle.ub_syntax.specs.Tree.{Select, Stated, shape, select_of, stated_of, both};
+ghost use Rattle.ub_syntax.specs.declared.syntax.Insertion.{Insertion};
 
 use crate::symbol::{Symbol, symbol_of};
-use crate::syntax::{Condition, Item, Literal, OrderKey, Selection, Syntax};
+use crate::syntax::{
+    Condition, Insertion, Item, Literal, OrderKey, Selection, Sentence, Syntax, Value,
+};
 use std::alloc::{AllocError, Global};
 use std::marker::Model;
 use ub_lexer::{Token, TokenKind};
@@ -52,6 +55,16 @@ impl<'a> Reader<'a> {
         match self.left.first() {
             Some(token) => Some(symbol_of(self.source, token)),
             None => None,
+        }
+    }
+
+    // The next token, which stays.
+    fn peek(&self) -> Token
+        ensures { (l : Lexeme) (ls : List Lexeme) → self.now ≡ l ∷ ls → result ≡ l.token }
+    {
+        match self.left.first() {
+            Some(token) => *token,
+            None => NO_TOKEN,
         }
     }
 
@@ -313,9 +326,33 @@ impl<'a> Reader<'a> {
         Some(number)
     }
 
-    // The whole statement, which is all that is left.
-    fn statement(&mut self, alloc: Global) -> Result<Syntax, AllocError>
-        ensures { (s : Select) → IsStatement 64 self.old s → IfOk result (λ r. select_of r ≡ s) }
+    // A number, with the token where it begins.
+    fn value(&mut self) -> Value
+        ensures reads { Reads IsValue [] self.old result self.new }
+        ensures shorter { length self.new ≤ length self.old }
+    {
+        let first = self.peek();
+        let literal = self.literal();
+        Value { first, literal }
+    }
+
+    // Numbers with commas between them.
+    fn values(&mut self, alloc: Global) -> Result<Vec<Value>, AllocError>
+        ensures { IfOk result
+            (λ v. Reads (AreJoined Symbol.Comma IsValue) (Symbol.Comma ∷ []) self.old v.items
+            self.new) }
+    {
+        let mut values = Vec::new(alloc);
+        values.push(self.value())?;
+        'joined: while self.accept(Symbol::Comma) {
+            values.push(self.value())?;
+        }
+        Ok(values)
+    }
+
+    // A SELECT, which is all that is left.
+    fn select(&mut self, alloc: Global) -> Result<Syntax, AllocError>
+        ensures { (s : Select) → IsSelect 64 self.old s → IfOk result (λ r. select_of r ≡ s) }
     {
         let is_explained = self.accept(Symbol::Explain);
         self.advance();
@@ -336,19 +373,73 @@ impl<'a> Reader<'a> {
             limit,
         })
     }
+
+    // An INSERT, which is all that is left.
+    fn insertion(&mut self, alloc: Global) -> Result<Insertion, AllocError>
+        ensures { (i : Insertion) → IsInsert self.old i → IfOk result (λ r. r ≡ i) }
+    {
+        self.advance();
+        self.advance();
+        let table = self.advance();
+        self.advance();
+        self.advance();
+        let values = self.values(alloc)?;
+        let close = self.advance();
+        Ok(Insertion {
+            table,
+            values: Items::new(values),
+            close,
+        })
+    }
+
+    // A DELETE, which is all that is left.
+    fn deletion(&mut self, alloc: Global) -> Result<Syntax, AllocError>
+        ensures { (s : Select) → IsDelete 64 self.old s → IfOk result (λ r. select_of r ≡ s) }
+    {
+        let word = self.advance();
+        self.advance();
+        let table = self.advance();
+        let filter = self.filter(alloc)?;
+        Ok(Syntax {
+            is_explained: false,
+            selection: Selection::All(word),
+            table,
+            filter,
+            group: Items::new(Vec::new(alloc)),
+            order: Items::new(Vec::new(alloc)),
+            limit: None,
+        })
+    }
+
+    // The whole statement, which is all that is left.
+    fn statement(&mut self, alloc: Global) -> Result<Sentence, AllocError>
+        ensures { (s : Stated) → IsStatement 64 self.old s → IfOk result (λ r. stated_of r ≡ s) }
+    {
+        let first = self.symbol();
+        if first == Some(Symbol::Insert) {
+            let insertion = self.insertion(alloc)?;
+            return Ok(Sentence::Insert(insertion));
+        }
+        if first == Some(Symbol::Delete) {
+            let deletion = self.deletion(alloc)?;
+            return Ok(Sentence::Delete(deletion));
+        }
+        let select = self.select(alloc)?;
+        Ok(Sentence::Select(select))
+    }
 }
 
 /// The syntax of the statement that the tokens are, with at most 64 parentheses and NOTs round a place of its condition
 /// (the caller's condition, which `recognise` tells) and at most 64 comparisons in it (another one, which `too_many` tells),
 /// so that its tree is at most 128 high. There is no other syntax: tokens are one statement at most. `AllocError` only
 /// where memory is refused.
-pub fn build(alloc: Global, source: &[u8], tokens: &[Token]) -> Result<Syntax, AllocError>
+pub fn build(alloc: Global, source: &[u8], tokens: &[Token]) -> Result<Sentence, AllocError>
     requires spelled { AreSpelled source.now tokens.now }
-    requires statement { (s : Select) × IsStatement 64 (lexemes source.now tokens.now) s }
-    requires few { (s : Select) → IsStatement 64 (lexemes source.now tokens.now) s → past_limits s
-        ≡ [] }
-    ensures { (s : Select) → IsStatement 64 (lexemes source.now tokens.now) s
-        → IfOk result (λ r. select_of r ≡ s) }
+    requires statement { (s : Stated) × IsStatement 64 (lexemes source.now tokens.now) s }
+    requires few { (s : Stated) → IsStatement 64 (lexemes source.now tokens.now) s
+        → past_limits_of s ≡ [] }
+    ensures { (s : Stated) → IsStatement 64 (lexemes source.now tokens.now) s
+        → IfOk result (λ r. stated_of r ≡ s) }
 {
     let mut reader = Reader {
         source,

@@ -16,5 +16,7 @@ pub use builder::build;
 pub use limits::too_many;
 pub use recogniser::{Verdict, recognise};
 pub use symbol::{Symbol, symbol_of};
-pub use syntax::{Condition, Item, Literal, OrderKey, Selection, Syntax};
+pub use syntax::{
+    Condition, Insertion, Item, Literal, OrderKey, Selection, Sentence, Syntax, Value,
+};
 pub use ub_query::{Aggregate, Items, Operator};

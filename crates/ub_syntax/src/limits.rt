@@ -3,9 +3,9 @@ ghost use Rattle.std.specs.Prelude.{◌≡◌, ◌++◌, ◌∷◌, [], List, dr
 ghost use Rattle.std.specs.Option.{option_to_list};
 ghost use Rattle.ub_lexer.specs.Tokens.{AreSpelled};
 ghost use Rattle.ub_syntax.specs.Grammar.{lexemes, Lexeme, symbol_of, IsStatement};
-ghost use Rattle.ub_syntax.specs.Limits.{past_limits};
+ghost use Rattle.ub_syntax.specs.Limits.{past_limits_of};
 ghost use Rattle.ub_syntax.specs.Marks as spec;
-ghost use Rattle.ub_syntax.specs.Tree.{Select};
+ghost use Rattle.ub_syntax.specs.Tree.{Stated};
 ghost use Rattle.ub_syntax.specs.declared.limits.Mark.{Mark};
 
 use crate::symbol::{Symbol, symbol_of};
@@ -100,16 +100,22 @@ fn seen(before: Symbol, previous: Token, symbol: Symbol, token: Token) -> Option
 }
 
 /// The first token at which the statement that the tokens are has more than 8 items, 64 comparisons, 8 group columns or 8
-/// order keys. One look at each token, whatever the condition's depth, and no memory. Of other tokens nothing is said.
+/// order keys; an INSERT has none. One look at each token, whatever the condition's depth, and no memory. Of other tokens
+/// nothing is said.
 pub fn too_many(source: &[u8], tokens: &[Token]) -> Option<Token>
     requires { AreSpelled source.now tokens.now }
-    ensures { (s : Select) → IsStatement 64 (lexemes source.now tokens.now) s
-        → result ≡ slice_get (past_limits s) 0 }
+    ensures { (s : Stated) → IsStatement 64 (lexemes source.now tokens.now) s
+        → result ≡ slice_get (past_limits_of s) 0 }
 {
     let (first, others) = tokens.split_first()?;
+    let symbol = symbol_of(source, first);
+    // The values of an INSERT have commas between them, and no limit.
+    if symbol == Symbol::Insert {
+        return None;
+    }
     let mut counter = Counter {
         previous: *first,
-        symbol: symbol_of(source, first),
+        symbol,
         parts: MOST_PARTS,
         comparisons: MOST_COMPARISONS,
     };

@@ -15,6 +15,8 @@ pub enum Fixed {
     From,
     By,
     And,
+    Into,
+    Values,
     Name,
     Number,
     Open,
@@ -51,6 +53,13 @@ pub enum Rest {
     /// What follows an item after ORDER BY.
     AfterKey,
     AfterDirection,
+    /// What follows VALUES.
+    Values,
+    AfterValue,
+    /// What follows the table's name in a DELETE.
+    AfterDeleted,
+    /// What follows an operand of a DELETE.
+    AfterCondition,
     End,
 }
 
@@ -153,7 +162,10 @@ impl Machine {
 fn can_end(rest: Rest) -> bool
     ensures { result ≡ spec.may_end rest }
 {
-    !matches!(rest, Rest::Start | Rest::Items | Rest::AfterItem)
+    !matches!(
+        rest,
+        Rest::Start | Rest::Items | Rest::AfterItem | Rest::Values | Rest::AfterValue
+    )
 }
 
 // What comes after the symbol, which the next goal takes, or else the end of the statement.
@@ -201,6 +213,8 @@ fn is_fixed(fixed: Fixed, symbol: Symbol) -> bool
         Fixed::From => matches!(symbol, Symbol::From),
         Fixed::By => matches!(symbol, Symbol::By),
         Fixed::And => matches!(symbol, Symbol::And),
+        Fixed::Into => matches!(symbol, Symbol::Into),
+        Fixed::Values => matches!(symbol, Symbol::Values),
         Fixed::Name => matches!(symbol, Symbol::Name),
         Fixed::Number => matches!(symbol, Symbol::Number),
         Fixed::Open => matches!(symbol, Symbol::Open),
@@ -296,6 +310,10 @@ fn follow(rest: Rest, symbol: Symbol) -> Result<Turn, Refusal>
         Rest::AfterGroup => after_group(symbol),
         Rest::AfterKey => after_key(symbol),
         Rest::AfterDirection => after_direction(symbol),
+        Rest::Values => values(symbol),
+        Rest::AfterValue => after_value(symbol),
+        Rest::AfterDeleted => after_deleted(symbol),
+        Rest::AfterCondition => after_condition(symbol),
         Rest::End => Err(Refusal::Syntax),
     }
 }
@@ -311,6 +329,18 @@ fn start(symbol: Symbol) -> Result<Turn, Refusal>
         Symbol::Select => Ok(Turn {
             row: Row::Nothing,
             rest: Rest::Items,
+        }),
+        Symbol::Insert => Ok(Turn {
+            row: Row::Three(
+                Goal::Token(Fixed::Into),
+                Goal::Token(Fixed::Name),
+                Goal::Token(Fixed::Values),
+            ),
+            rest: Rest::Values,
+        }),
+        Symbol::Delete => Ok(Turn {
+            row: Row::Two(Goal::Token(Fixed::From), Goal::Token(Fixed::Name)),
+            rest: Rest::AfterDeleted,
         }),
         _ => Err(Refusal::Syntax),
     }
@@ -438,6 +468,58 @@ fn limit(symbol: Symbol) -> Result<Turn, Refusal>
         Symbol::Limit => Ok(Turn {
             row: Row::One(Goal::Token(Fixed::Number)),
             rest: Rest::End,
+        }),
+        _ => Err(Refusal::Syntax),
+    }
+}
+
+fn values(symbol: Symbol) -> Result<Turn, Refusal>
+    ensures { result ≡ spec.values symbol }
+{
+    match symbol {
+        Symbol::Open => Ok(Turn {
+            row: Row::One(Goal::Literal),
+            rest: Rest::AfterValue,
+        }),
+        _ => Err(Refusal::Syntax),
+    }
+}
+
+fn after_value(symbol: Symbol) -> Result<Turn, Refusal>
+    ensures { result ≡ spec.after_value symbol }
+{
+    match symbol {
+        Symbol::Comma => Ok(Turn {
+            row: Row::One(Goal::Literal),
+            rest: Rest::AfterValue,
+        }),
+        Symbol::Close => Ok(Turn {
+            row: Row::Nothing,
+            rest: Rest::End,
+        }),
+        _ => Err(Refusal::Syntax),
+    }
+}
+
+fn after_deleted(symbol: Symbol) -> Result<Turn, Refusal>
+    ensures { result ≡ spec.after_deleted 64 symbol }
+{
+    match symbol {
+        Symbol::Where => Ok(Turn {
+            row: Row::One(Goal::Operand(NESTING)),
+            rest: Rest::AfterCondition,
+        }),
+        _ => Err(Refusal::Syntax),
+    }
+}
+
+fn after_condition(symbol: Symbol) -> Result<Turn, Refusal>
+    ensures { result ≡ spec.after_condition 64 symbol }
+{
+    match symbol {
+        Symbol::And | Symbol::Or => Ok(Turn {
+            row: Row::One(Goal::Operand(NESTING)),
+            rest: Rest::AfterCondition,
         }),
         _ => Err(Refusal::Syntax),
     }

@@ -23,6 +23,10 @@ pub enum Symbol {
     Ascending,
     Descending,
     Limit,
+    Insert,
+    Into,
+    Values,
+    Delete,
     Count,
     /// SUM, MIN or MAX.
     Aggregate(Aggregate),
@@ -36,7 +40,7 @@ pub enum Symbol {
     /// A sign of comparison.
     Operator(Operator),
     Minus,
-    /// A token that stands in no statement: a keyword that is kept for later, a semicolon, or a bad byte.
+    /// A token that stands in no statement: a semicolon or a bad byte.
     Other,
 }
 
@@ -60,10 +64,10 @@ const KEYWORDS: [(&str, Symbol); 22] = [
     ("SUM", Symbol::Aggregate(Aggregate::Sum)),
     ("MIN", Symbol::Aggregate(Aggregate::Min)),
     ("MAX", Symbol::Aggregate(Aggregate::Max)),
-    ("INSERT", Symbol::Other),
-    ("INTO", Symbol::Other),
-    ("VALUES", Symbol::Other),
-    ("DELETE", Symbol::Other),
+    ("INSERT", Symbol::Insert),
+    ("INTO", Symbol::Into),
+    ("VALUES", Symbol::Values),
+    ("DELETE", Symbol::Delete),
 ];
 
 /// The symbol that a token of the source is: a word's is that of the keyword which it is in any mix of cases, or `Name`.

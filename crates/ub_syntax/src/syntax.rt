@@ -1,8 +1,17 @@
 use ub_lexer::Token;
 use ub_query::{Aggregate, Items, Operator};
 
-/// The syntax of one statement, a SELECT that EXPLAIN may stand before. Its names and numbers are the tokens that spell
-/// them.
+/// The syntax of one statement.
+#[derive(Drop)]
+pub enum Sentence {
+    Select(Syntax),
+    Insert(Insertion),
+    /// A DELETE has the syntax of a SELECT of the rows that it takes out: of `*`, for which its first token stands, with its
+    /// condition and nothing else.
+    Delete(Syntax),
+}
+
+/// The syntax of a SELECT that EXPLAIN may stand before. Its names and numbers are the tokens that spell them.
 #[derive(Drop)]
 pub struct Syntax {
     /// Whether EXPLAIN stands before it.
@@ -44,6 +53,25 @@ pub enum Item {
 pub struct OrderKey {
     pub item: Item,
     pub is_descending: bool,
+}
+
+/// The syntax of an INSERT.
+#[derive(Drop)]
+pub struct Insertion {
+    /// The name after INTO.
+    pub table: Token,
+    /// What stands in the parentheses after VALUES.
+    pub values: Items<Value>,
+    /// The `)` after them.
+    pub close: Token,
+}
+
+/// A whole number of an INSERT.
+#[derive(Clone, Copy, PartialEq, Eq, Debug)]
+pub struct Value {
+    /// The token with which it begins: its `-`, if it has one, else the digits.
+    pub first: Token,
+    pub literal: Literal,
 }
 
 /// A whole number with its sign.

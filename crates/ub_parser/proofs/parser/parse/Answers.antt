@@ -28,7 +28,7 @@ returns-in-Some-number_too_large c =
     let none = no_bad_told c.args.source.now c.args.schema.now c.args.tokens.now c.bad_byte.result c.in_default.is c.bad_byte.ensures in
     let syntax = no_syntax_told c.args.source.now c.args.schema.now c.args.tokens.now c.in_ok-verdict.verdict c.in_ok-verdict.ensures.verdict c.in_default-verdict.not-Syntax in
     let first = large_told c.args.source.now c.args.schema.now c.args.tokens.now c.number_too_large.result c.in-Some-number_too_large.fault none syntax c.in-Some-number_too_large.is c.number_too_large.ensures in
-    record { accepted = tt; only = nothing_accepted c.args.source.now c.args.schema.now c.args.tokens.now _ first; refused = inr first; only_fault = only_grammar c.args.source.now c.args.schema.now c.args.tokens.now _ (large_low c.args.source.now c.args.schema.now c.args.tokens.now c.number_too_large.result c.in-Some-number_too_large.fault c.in-Some-number_too_large.is c.number_too_large.ensures) first; posed = tt }
+    record { accepted = tt; only = nothing_accepted c.args.source.now c.args.schema.now c.args.tokens.now _ first; refused = inr first; only_fault = only_grammar c.args.source.now c.args.schema.now c.args.tokens.now _ (large_low c.args.source.now c.args.schema.now c.args.tokens.now c.number_too_large.result c.in-Some-number_too_large.fault c.in-Some-number_too_large.is c.number_too_large.ensures) first; given = tt }
 
 -- src/parser.rt:48:9
 pub returns-in-TooDeep : goal.returns-in-TooDeep
@@ -36,7 +36,7 @@ returns-in-TooDeep c =
     let none = no_bad_told c.args.source.now c.args.schema.now c.args.tokens.now c.bad_byte.result c.in_default.is c.bad_byte.ensures in
     let large = no_large_told c.args.source.now c.args.schema.now c.args.tokens.now c.number_too_large.result c.in_default-number_too_large.is c.number_too_large.ensures in
     let first = deep_first c.args.source.now c.args.schema.now c.args.tokens.now none large c.in-TooDeep.at (rw c.in-TooDeep.is at c.in_ok-verdict.ensures.verdict) in
-    record { accepted = tt; only = nothing_accepted c.args.source.now c.args.schema.now c.args.tokens.now _ first; refused = inr first; only_fault = only_grammar c.args.source.now c.args.schema.now c.args.tokens.now _ (omega arith) first; posed = tt }
+    record { accepted = tt; only = nothing_accepted c.args.source.now c.args.schema.now c.args.tokens.now _ first; refused = inr first; only_fault = only_grammar c.args.source.now c.args.schema.now c.args.tokens.now _ (omega arith) first; given = tt }
 
 pub returns-in-Some-clause-only_fault : goal.returns-in-Some-clause-only_fault
 returns-in-Some-clause-only_fault c =
@@ -61,7 +61,7 @@ returns-in-Some-too_many c =
       only = nothing_accepted c.args.source.now c.args.schema.now c.args.tokens.now _ first;
       refused = inr first;
       only_fault = only_many c.args.source.now c.args.schema.now c.args.tokens.now c.too_many.result _ c.too_many.ensures first;
-      posed = tt;
+      given = tt;
     }
 
 pub sense-requires : goal.sense-requires

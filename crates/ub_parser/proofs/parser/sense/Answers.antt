@@ -1,117 +1,68 @@
-use Rattle.std.proofs.Common.{◌∙◌, ◌↔◌, IsTrue, inr, length, sym, subst}
-use Rattle.ub_query.specs.Posed.{IsGroupQuery, IsPosed}
+-- What was built is the one statement that the tokens are.
+use Rattle.std.proofs.Common.{◌∙◌, sym, ap, inr}
+use Rattle.ub_syntax.specs.Tree.{select_of, selects, inserts, deletes}
+use Rattle.ub_syntax.specs.declared.syntax.Sentence.TheVariants as sentence
+use Rattle.ub_parser.specs.Outcome.{Told, command, asks, puts, takes}
 use Rattle.ub_query.specs.Shape.{Asked}
-use Rattle.ub_syntax.specs.Grammar.{lexemes}
-use Rattle.ub_parser.specs.Known.{IsAskedOver}
-use Rattle.ub_parser.proofs.GroupFacts.{tells_grouping}
-use Rattle.ub_parser.proofs.KnownFacts.{are_columns, known_filter, known_limit}
-use Rattle.ub_parser.proofs.PosedFacts.{posed}
-use Rattle.ub_syntax.specs.Tree.{select_of}
-use Rattle.ub_parser.specs.Outcome.{told}
-use Rattle.ub_parser.proofs.FaultFacts.{fits, misfit_first}
-use Rattle.ub_parser.proofs.ParseFacts.{nothing_accepted, is_statement, are_written, table_within, accepted_only, only_misfit}
+use Rattle.ub_parser.proofs.StatedFacts.{select_written, select_table, delete_written, delete_table, insert_written, select_posed, delete_posed, delete_rows, built_select, built_insert, built_delete, built_one, refused_first, refused_only, refused_one, accepted_so, accepted_one}
+use Rattle.ub_parser.proofs.ValueFacts.{all_measures, all_given}
 use Rattle.ub_parser.proofs.parser.sense.Goals as goal
 
-pub unknown_name-requires-clause-table : goal.unknown_name-requires-clause-table
-unknown_name-requires-clause-table c =
-    let is = is_statement c.args.source.now c.args.schema.now c.args.tokens.now (select_of c.in_ok-syntax.syntax) c.in_ok-syntax.ensures c.requires.statement in
-    table_within c.args.source.now c.args.schema.now c.args.tokens.now (select_of c.in_ok-syntax.syntax) c.requires.spelled c.requires.numbers is
+pub selected-requires-clause-table : goal.selected-requires-clause-table
+selected-requires-clause-table c =
+    let is = built_select c.args.source.now c.args.schema.now c.args.tokens.now c.in_ok-sentence.sentence c.in_ok-sentence.ensures c.requires.statement c.in-Select.syntax c.in-Select.is in
+    select_table c.args.source.now c.args.schema.now c.args.tokens.now c.requires.spelled c.requires.numbers (select_of c.in-Select.syntax) is
 
-pub unknown_name-requires-clause-names : goal.unknown_name-requires-clause-names
-unknown_name-requires-clause-names c =
-    let is = is_statement c.args.source.now c.args.schema.now c.args.tokens.now (select_of c.in_ok-syntax.syntax) c.in_ok-syntax.ensures c.requires.statement in
-    (are_written c.args.source.now c.args.schema.now c.args.tokens.now (select_of c.in_ok-syntax.syntax) c.requires.spelled c.requires.numbers is).names_are
+pub selected-requires-clause-written : goal.selected-requires-clause-written
+selected-requires-clause-written c =
+    let is = built_select c.args.source.now c.args.schema.now c.args.tokens.now c.in_ok-sentence.sentence c.in_ok-sentence.ensures c.requires.statement c.in-Select.syntax c.in-Select.is in
+    select_written c.args.source.now c.args.schema.now c.args.tokens.now c.requires.spelled c.requires.numbers (select_of c.in-Select.syntax) is
 
-pub returns-in-Some-clause-refused : goal.returns-in-Some-clause-refused
-returns-in-Some-clause-refused c =
-    let is = is_statement c.args.source.now c.args.schema.now c.args.tokens.now (select_of c.in_ok-syntax.syntax) c.in_ok-syntax.ensures c.requires.statement in
-    inr (misfit_first c.args.source.now c.args.schema.now c.args.tokens.now (select_of c.in_ok-syntax.syntax) c.requires.bytes c.requires.numbers is c.in_ok-syntax.ensures
-    c.in-Some.fault c.in-Some.ensures.first)
+pub selected-requires-clause-few : goal.selected-requires-clause-few
+selected-requires-clause-few c =
+    c.requires.few (selects (select_of c.in-Select.syntax))
+    (built_select c.args.source.now c.args.schema.now c.args.tokens.now c.in_ok-sentence.sentence c.in_ok-sentence.ensures c.requires.statement c.in-Select.syntax c.in-Select.is)
 
-pub returns-in-Some-misgrouped-clause-refused : goal.returns-in-Some-misgrouped-clause-refused
-returns-in-Some-misgrouped-clause-refused c =
-    let is = is_statement c.args.source.now c.args.schema.now c.args.tokens.now (select_of c.in_ok-syntax.syntax) c.in_ok-syntax.ensures c.requires.statement in
-    inr (misfit_first c.args.source.now c.args.schema.now c.args.tokens.now (select_of c.in_ok-syntax.syntax) c.requires.bytes c.requires.numbers is c.in_ok-syntax.ensures
-    c.in-Some-misgrouped.fault c.in-Some-misgrouped.ensures)
+pub returns-in_ok-query-in-Select-clause-accepted : goal.returns-in_ok-query-in-Select-clause-accepted
+returns-in_ok-query-in-Select-clause-accepted c =
+    let is = built_select c.args.source.now c.args.schema.now c.args.tokens.now c.in_ok-sentence.sentence c.in_ok-sentence.ensures c.requires.statement c.in-Select.syntax c.in-Select.is in
+    let one = built_one c.args.source.now c.args.schema.now c.args.tokens.now c.in_ok-sentence.sentence c.in_ok-sentence.ensures c.requires.statement (sentence.Select c.in-Select.syntax) c.in-Select.is in
+    accepted_so c.args.source.now c.args.schema.now c.args.tokens.now c.requires.bytes c.requires.numbers (selects (select_of c.in-Select.syntax)) is one
+    c.in_ok-query.ensures.fits (command c.statement.result) (c.statement.ensures ∙ ap (λ (q : Asked). asks (record { is_explained = c.in-Select.syntax.is_explained; asked = q })) c.in_ok-query.ensures.asked)
+
+pub returns-in_ok-query-in-Select-clause-only : goal.returns-in_ok-query-in-Select-clause-only
+returns-in_ok-query-in-Select-clause-only c =
+    let is = built_select c.args.source.now c.args.schema.now c.args.tokens.now c.in_ok-sentence.sentence c.in_ok-sentence.ensures c.requires.statement c.in-Select.syntax c.in-Select.is in
+    let one = built_one c.args.source.now c.args.schema.now c.args.tokens.now c.in_ok-sentence.sentence c.in_ok-sentence.ensures c.requires.statement (sentence.Select c.in-Select.syntax) c.in-Select.is in
+    accepted_one c.args.source.now c.args.schema.now c.args.tokens.now c.requires.bytes c.requires.numbers (selects (select_of c.in-Select.syntax)) is one
+    (command c.statement.result) (c.statement.ensures ∙ ap (λ (q : Asked). asks (record { is_explained = c.in-Select.syntax.is_explained; asked = q })) c.in_ok-query.ensures.asked)
+
+pub returns-in_ok-query-in-Select-clause-given : goal.returns-in_ok-query-in-Select-clause-given
+returns-in_ok-query-in-Select-clause-given c =
+    let is = built_select c.args.source.now c.args.schema.now c.args.tokens.now c.in_ok-sentence.sentence c.in_ok-sentence.ensures c.requires.statement c.in-Select.syntax c.in-Select.is in
+    rw c.statement.ensures
+    (select_posed c.args.source.now c.args.schema.now c.args.tokens.now c.requires.spelled c.requires.numbers (select_of c.in-Select.syntax)
+    c.in_ok-query.ensures.fits c.in_ok-query.ensures.known _ c.in_ok-query.ensures.asked c.in_ok-query.ensures.over is)
+
+pub misvalued-requires : goal.misvalued-requires
+misvalued-requires c =
+    let is = built_insert c.args.source.now c.args.schema.now c.args.tokens.now c.in_ok-sentence.sentence c.in_ok-sentence.ensures c.requires.statement c.in-Insert.insertion c.in-Insert.is in
+    insert_written c.args.source.now c.args.schema.now c.args.tokens.now c.requires.spelled c.requires.numbers c.in-Insert.insertion is
 
 pub returns-in-Some-clause-only : goal.returns-in-Some-clause-only
 returns-in-Some-clause-only c =
-    let is = is_statement c.args.source.now c.args.schema.now c.args.tokens.now (select_of c.in_ok-syntax.syntax) c.in_ok-syntax.ensures c.requires.statement in
-    nothing_accepted c.args.source.now c.args.schema.now c.args.tokens.now c.in-Some.fault
-    (misfit_first c.args.source.now c.args.schema.now c.args.tokens.now (select_of c.in_ok-syntax.syntax) c.requires.bytes c.requires.numbers is c.in_ok-syntax.ensures
-    c.in-Some.fault c.in-Some.ensures.first)
+    let is = built_insert c.args.source.now c.args.schema.now c.args.tokens.now c.in_ok-sentence.sentence c.in_ok-sentence.ensures c.requires.statement c.in-Insert.insertion c.in-Insert.is in
+    let one = built_one c.args.source.now c.args.schema.now c.args.tokens.now c.in_ok-sentence.sentence c.in_ok-sentence.ensures c.requires.statement (sentence.Insert c.in-Insert.insertion) c.in-Insert.is in
+    refused_only c.args.source.now c.args.schema.now c.args.tokens.now c.requires.bytes c.requires.numbers (inserts c.in-Insert.insertion) is one c.in-Some.fault (inr c.in-Some.ensures.first)
 
-pub returns-in-Some-misgrouped-clause-only : goal.returns-in-Some-misgrouped-clause-only
-returns-in-Some-misgrouped-clause-only c =
-    let is = is_statement c.args.source.now c.args.schema.now c.args.tokens.now (select_of c.in_ok-syntax.syntax) c.in_ok-syntax.ensures c.requires.statement in
-    nothing_accepted c.args.source.now c.args.schema.now c.args.tokens.now c.in-Some-misgrouped.fault
-    (misfit_first c.args.source.now c.args.schema.now c.args.tokens.now (select_of c.in_ok-syntax.syntax) c.requires.bytes c.requires.numbers is c.in_ok-syntax.ensures
-    c.in-Some-misgrouped.fault c.in-Some-misgrouped.ensures)
-
-pub query-requires-clause-written : goal.query-requires-clause-written
-query-requires-clause-written c =
-    let is = is_statement c.args.source.now c.args.schema.now c.args.tokens.now (select_of c.in_ok-syntax.syntax) c.in_ok-syntax.ensures c.requires.statement in
-    are_written c.args.source.now c.args.schema.now c.args.tokens.now (select_of c.in_ok-syntax.syntax) c.requires.spelled c.requires.numbers is
-
-pub returns-clause-accepted : goal.returns-clause-accepted
-returns-clause-accepted c =
-    let is = is_statement c.args.source.now c.args.schema.now c.args.tokens.now (select_of c.in_ok-syntax.syntax) c.in_ok-syntax.ensures c.requires.statement in
-    record {
-      syntax = select_of c.in_ok-syntax.syntax;
-      is = is;
-      fits = fits c.args.source.now c.args.schema.now c.args.tokens.now (select_of c.in_ok-syntax.syntax) c.requires.bytes c.requires.numbers is c.in_ok-syntax.ensures c.in_default-misgrouped.ensures;
-      explained = c.statement.ensures.explained;
-      asks = c.statement.ensures.asked ∙ c.in_ok-query.ensures.asked;
-    }
-
-pub returns-clause-only : goal.returns-clause-only
-returns-clause-only c = λ t accepted.
-    accepted_only c.args.source.now c.args.schema.now c.args.tokens.now (select_of c.in_ok-syntax.syntax) c.in_ok-syntax.ensures (told c.statement.result) t accepted
-    c.statement.ensures.explained (c.statement.ensures.asked ∙ c.in_ok-query.ensures.asked)
+pub returns-in-Some-clause-refused : goal.returns-in-Some-clause-refused
+returns-in-Some-clause-refused c =
+    let is = built_insert c.args.source.now c.args.schema.now c.args.tokens.now c.in_ok-sentence.sentence c.in_ok-sentence.ensures c.requires.statement c.in-Insert.insertion c.in-Insert.is in
+    let one = built_one c.args.source.now c.args.schema.now c.args.tokens.now c.in_ok-sentence.sentence c.in_ok-sentence.ensures c.requires.statement (sentence.Insert c.in-Insert.insertion) c.in-Insert.is in
+    refused_first c.args.source.now c.args.schema.now c.args.tokens.now c.requires.bytes c.requires.numbers (inserts c.in-Insert.insertion) is one c.in-Some.fault (inr c.in-Some.ensures.first)
 
 pub returns-in-Some-clause-only_fault : goal.returns-in-Some-clause-only_fault
 returns-in-Some-clause-only_fault c =
-    let is = is_statement c.args.source.now c.args.schema.now c.args.tokens.now (select_of c.in_ok-syntax.syntax) c.in_ok-syntax.ensures c.requires.statement in
-    only_misfit c.args.source.now c.args.schema.now c.args.tokens.now (select_of c.in_ok-syntax.syntax) c.in_ok-syntax.ensures c.in-Some.fault
-    (misfit_first c.args.source.now c.args.schema.now c.args.tokens.now (select_of c.in_ok-syntax.syntax) c.requires.bytes c.requires.numbers is c.in_ok-syntax.ensures
-    c.in-Some.fault c.in-Some.ensures.first)
-
-pub returns-in-Some-misgrouped-clause-only_fault : goal.returns-in-Some-misgrouped-clause-only_fault
-returns-in-Some-misgrouped-clause-only_fault c =
-    let is = is_statement c.args.source.now c.args.schema.now c.args.tokens.now (select_of c.in_ok-syntax.syntax) c.in_ok-syntax.ensures c.requires.statement in
-    only_misfit c.args.source.now c.args.schema.now c.args.tokens.now (select_of c.in_ok-syntax.syntax) c.in_ok-syntax.ensures c.in-Some-misgrouped.fault
-    (misfit_first c.args.source.now c.args.schema.now c.args.tokens.now (select_of c.in_ok-syntax.syntax) c.requires.bytes c.requires.numbers is c.in_ok-syntax.ensures
-    c.in-Some-misgrouped.fault c.in-Some-misgrouped.ensures)
-
-pub unknown_name-requires-clause-few : goal.unknown_name-requires-clause-few
-unknown_name-requires-clause-few c =
-    c.requires.few (select_of c.in_ok-syntax.syntax)
-    (is_statement c.args.source.now c.args.schema.now c.args.tokens.now (select_of c.in_ok-syntax.syntax) c.in_ok-syntax.ensures c.requires.statement)
-
-pub returns-clause-posed : goal.returns-clause-posed
-returns-clause-posed c =
-    let source = c.args.source.now in
-    let schema = c.args.schema.now in
-    let s = select_of c.in_ok-syntax.syntax in
-    let is = is_statement source schema c.args.tokens.now s c.in_ok-syntax.ensures c.requires.statement in
-    let written = are_written source schema c.args.tokens.now s c.requires.spelled c.requires.numbers is in
-    let known = known_filter source schema s written (are_columns source schema s written c.in_default.ensures.known) in
-    let over = subst (λ (x : Asked). IsAskedOver (length schema.columns) x) c.in_ok-query.ensures.asked c.in_ok-query.ensures.over in
-    subst (λ (x : Asked). IsPosed (length schema.columns) x) (sym (c.statement.ensures.asked ∙ c.in_ok-query.ensures.asked))
-    (posed source schema s c.in_default-misgrouped.ensures (lexemes source c.args.tokens.now) is known (known_limit source schema s written) over)
-
-pub misgrouped-requires-clause-names : goal.misgrouped-requires-clause-names
-misgrouped-requires-clause-names c =
-    let source = c.args.source.now in
-    let schema = c.args.schema.now in
-    let s = select_of c.in_ok-syntax.syntax in
-    let is = is_statement source schema c.args.tokens.now s c.in_ok-syntax.ensures c.requires.statement in
-    are_columns source schema s (are_written source schema c.args.tokens.now s c.requires.spelled c.requires.numbers is) c.in_default.ensures.known
-
-pub misgrouped-requires-clause-named : goal.misgrouped-requires-clause-named
-misgrouped-requires-clause-named c = c.in_default.ensures.first
-
-pub misgrouped-requires-clause-groups : goal.misgrouped-requires-clause-groups
-misgrouped-requires-clause-groups c =
-    tells_grouping c.args.source.now c.args.schema.now (select_of c.in_ok-syntax.syntax) c.has_groups.result
-    (subst (λ (x : Asked). IsTrue c.has_groups.result ↔ IsGroupQuery x) c.in_ok-query.ensures.asked c.has_groups.ensures.groups)
+    let is = built_insert c.args.source.now c.args.schema.now c.args.tokens.now c.in_ok-sentence.sentence c.in_ok-sentence.ensures c.requires.statement c.in-Insert.insertion c.in-Insert.is in
+    let one = built_one c.args.source.now c.args.schema.now c.args.tokens.now c.in_ok-sentence.sentence c.in_ok-sentence.ensures c.requires.statement (sentence.Insert c.in-Insert.insertion) c.in-Insert.is in
+    refused_one c.args.source.now c.args.schema.now c.args.tokens.now c.requires.bytes c.requires.numbers (inserts c.in-Insert.insertion) is one c.in-Some.fault (inr c.in-Some.ensures.first)

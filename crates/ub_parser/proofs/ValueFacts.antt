@@ -1,0 +1,162 @@
+-- The three misfits of an INSERT, and which of them is the first.
+use Rattle.std.proofs.Common.{◌≡◌, ◌≢◌, ◌↔◌, ◌<◌, ◌≤◌, ◌+◌, ℕ, zero, suc, ℤ, Bool, true, false, IsTrue, List, [], ◌∷◌, length, map, drop, take, get_or, Some, None, slice_get, refl, sym, ap, subst, arith}
+use Rattle.std.proofs.lemmas.List.Elements.{All-cons, All-from_get_or, All-get_or, All-head, All-nil, All-tail}
+use Rattle.std.proofs.lemmas.List.FromFn.{get_or-enumerate_from, length-enumerate_from}
+use Rattle.std.specs.List.{All, enumerate_from}
+use Rattle.ub_lexer.specs.Tokens.{text_of}
+use Rattle.ub_lexer.specs.declared.token.Token.{Token}
+use Rattle.ub_syntax.specs.declared.syntax.Insertion.{Insertion}
+use Rattle.ub_syntax.specs.declared.syntax.Value.{Value}
+use Rattle.ub_parser.specs.Refusals.{IsFirst, IsUnfit, IsInsertMisfit, IsFirstInsertMisfit, begins, miscounted, rank}
+use Rattle.ub_parser.specs.Sense.{value_of, values_of}
+use Rattle.ub_parser.specs.declared.fault.SqlFault.{SqlFault}
+use Rattle.ub_parser.specs.declared.fault.SqlFault.TheVariants.{BadByte, Syntax, NumberTooLarge, TooDeep, TooMany, UnknownTable, UnknownColumn, NotGrouped, NotSelected, ValueCount, ValueRange, Memory}
+use Rattle.ub_parser.proofs.FirstFacts.{fails, first_at, none_more, none_at_all}
+use Rattle.ub_parser.proofs.GroupFacts.{no_first}
+use Rattle.ub_table.proofs.Laws.{fits_some_measure}
+use Rattle.ub_table.specs.Value.{fits, fits_measure}
+use Rattle.ub_table.specs.declared.schema.Schema.{Schema}
+
+-- the first of the values after so many
+pub begins_some : (n : ℕ) (vs : List Value) (close : Token) (v : Value) → slice_get vs n ≡ Some v → v.first ≡ begins (drop n vs) close
+begins_some n [] close v e = cc
+begins_some zero (x ∷ vs) close v e = let same : v ≡ x = cc in ap (λ (y : Value). y.first) same
+begins_some (suc n) (x ∷ vs) close v e = begins_some n vs close v e
+
+pub begins_none : (n : ℕ) (vs : List Value) (close : Token) → slice_get vs n ≡ None → close ≡ begins (drop n vs) close
+begins_none zero [] close e = refl
+begins_none (suc n) [] close e = refl
+begins_none zero (x ∷ vs) close e = cc
+begins_none (suc n) (x ∷ vs) close e = begins_none n vs close e
+
+-- a search that goes over the values in order finds the first that its column can't hold
+module _ (source : List ℕ) (schema : Schema) (vs : List Value) (k : ℕ) (d : Value) where
+  here : k < length vs → get_or (enumerate_from 0 vs) k (0, d) ≡ (k, get_or vs k d)
+  here lt = get_or-enumerate_from 0 vs k (0, d) lt
+
+  below_all : k < length vs → k < length (enumerate_from 0 vs)
+  below_all lt = let e = length-enumerate_from 0 vs in omega arith
+
+  pub unfit_at : k < length vs → All (λ v. ¬ IsUnfit source schema v) (take k (enumerate_from 0 vs)) → IsUnfit source schema (k, get_or vs k d)
+      → IsFirst (λ v. IsUnfit source schema v) (enumerate_from 0 vs) (k, get_or vs k d)
+  unfit_at lt none unfit =
+      let there : IsUnfit source schema (get_or (enumerate_from 0 vs) k (0, d)) = subst (λ (v : ℕ × Value). IsUnfit source schema v) (sym (here lt)) unfit in
+      subst (λ (v : ℕ × Value). IsFirst (λ v. IsUnfit source schema v) (enumerate_from 0 vs) v) (here lt)
+      (first_at (λ (v : ℕ × Value). IsUnfit source schema v) (enumerate_from 0 vs) k (0, d) (below_all lt) none there)
+
+  pub fits_more : k < length vs → All (λ v. ¬ IsUnfit source schema v) (take k (enumerate_from 0 vs)) → ¬ IsUnfit source schema (k, get_or vs k d)
+      → All (λ v. ¬ IsUnfit source schema v) (take (k + 1) (enumerate_from 0 vs))
+  fits_more lt none fit =
+      none_more (λ (v : ℕ × Value). IsUnfit source schema v) (enumerate_from 0 vs) k (0, d) (below_all lt) none
+      (λ unfit. fit (subst (λ (v : ℕ × Value). IsUnfit source schema v) (here lt) unfit))
+
+pub fits_all : (source : List ℕ) (schema : Schema) (vs : List Value) (k : ℕ) → length vs ≤ k → All (λ v. ¬ IsUnfit source schema v) (take k (enumerate_from 0 vs))
+    → All (λ v. ¬ IsUnfit source schema v) (enumerate_from 0 vs)
+fits_all source schema vs k le none =
+    let e = length-enumerate_from 0 vs in
+    none_at_all (λ (v : ℕ × Value). IsUnfit source schema v) (enumerate_from 0 vs) k (omega arith) none
+
+module _ (source : List ℕ) (schema : Schema) (i : Insertion) where
+  abbrev No : (ℕ → SqlFault) → Type 0
+  No kind = (at : ℕ) → ¬ IsInsertMisfit source schema i (kind at)
+
+  below : (n : ℕ) → (6 < n → No (λ at. UnknownTable at)) → (10 < n → No (λ at. ValueCount at)) → (11 < n → No (λ at. ValueRange at))
+      → (other : SqlFault) → rank other < n → ¬ IsInsertMisfit source schema i other
+  below n table count range (BadByte at) lt h = h
+  below n table count range (Syntax at) lt h = h
+  below n table count range (NumberTooLarge at) lt h = h
+  below n table count range (TooDeep at) lt h = h
+  below n table count range (TooMany at) lt h = h
+  below n table count range (UnknownTable at) lt h = table lt at h
+  below n table count range (UnknownColumn at) lt h = h
+  below n table count range (NotGrouped at) lt h = h
+  below n table count range (NotSelected at) lt h = h
+  below n table count range (ValueCount at) lt h = count lt at h
+  below n table count range (ValueRange at) lt h = range lt at h
+  below n table count range Memory lt h = h
+
+  -- each kind of misfit is the first where there is none of those before it
+  pub first_table : text_of source i.table ≢ schema.name → IsFirstInsertMisfit source schema i (UnknownTable i.table.from)
+  first_table other = ((other, refl), below 6 (λ lt. absurd (omega arith)) (λ lt. absurd (omega arith)) (λ lt. absurd (omega arith)))
+
+  pub no_table : (r : Bool) → (IsTrue r ↔ (text_of source i.table ≢ schema.name)) → r ≡ false → No (λ at. UnknownTable at)
+  no_table r tells is at h = fails r (text_of source i.table ≢ schema.name) tells is h.0
+
+  pub first_count : No (λ at. UnknownTable at) → length i.values ≢ length schema.columns → (t : Token) → t ≡ miscounted schema i
+      → IsFirstInsertMisfit source schema i (ValueCount t.from)
+  first_count table other t is = ((other, ap (λ (u : Token). u.from) is), below 10 (λ lt. table) (λ lt. absurd (omega arith)) (λ lt. absurd (omega arith)))
+
+  pub no_count : length i.values ≡ length schema.columns → No (λ at. ValueCount at)
+  no_count same at h = h.0 same
+
+  pub first_range : No (λ at. UnknownTable at) → No (λ at. ValueCount at) → (column : ℕ) (v : Value)
+      → IsFirst (λ x. IsUnfit source schema x) (enumerate_from 0 i.values) (column, v) → IsFirstInsertMisfit source schema i (ValueRange v.first.from)
+  first_range table count column v first = (((column, v), first, refl), below 11 (λ lt. table) (λ lt. count) (λ lt. absurd (omega arith)))
+
+  rank_small : (fault : SqlFault) → rank fault < 13
+  rank_small (BadByte at) = omega arith
+  rank_small (Syntax at) = omega arith
+  rank_small (NumberTooLarge at) = omega arith
+  rank_small (TooDeep at) = omega arith
+  rank_small (TooMany at) = omega arith
+  rank_small (UnknownTable at) = omega arith
+  rank_small (UnknownColumn at) = omega arith
+  rank_small (NotGrouped at) = omega arith
+  rank_small (NotSelected at) = omega arith
+  rank_small (ValueCount at) = omega arith
+  rank_small (ValueRange at) = omega arith
+  rank_small Memory = omega arith
+
+  pub no_misfit : No (λ at. UnknownTable at) → No (λ at. ValueCount at) → All (λ v. ¬ IsUnfit source schema v) (enumerate_from 0 i.values)
+      → (fault : SqlFault) → ¬ IsInsertMisfit source schema i fault
+  no_misfit table count all fault =
+      below 13 (λ lt. table) (λ lt. count) (λ lt at h. no_first (λ (v : ℕ × Value). IsUnfit source schema v) (enumerate_from 0 i.values) h.0 all h.1) fault (rank_small fault)
+
+  -- where there is none, each column can hold its value
+  a_value : Value
+  a_value = record { first = i.close; literal = record { is_negative = false; digits = i.close } }
+
+  pub all_fit : length i.values ≡ length schema.columns → All (λ v. ¬ IsUnfit source schema v) (enumerate_from 0 i.values)
+      → All (λ v. fits schema v.0 (value_of source v.1.literal) ≡ true) (enumerate_from 0 i.values)
+  all_fit same none =
+      let d : ℕ × Value = (0, a_value) in
+      All-from_get_or (λ (v : ℕ × Value). fits schema v.0 (value_of source v.1.literal) ≡ true) (enumerate_from 0 i.values) d
+      (λ k lt.
+      let there : k < length i.values = let e = length-enumerate_from 0 i.values in omega arith in
+      let v = get_or i.values k a_value in
+      let at : get_or (enumerate_from 0 i.values) k d ≡ (k, v) = get_or-enumerate_from 0 i.values k d there in
+      let no : ¬ IsUnfit source schema (k, v) =
+      subst (λ (x : ℕ × Value). ¬ IsUnfit source schema x) at (All-get_or (λ (x : ℕ × Value). ¬ IsUnfit source schema x) (enumerate_from 0 i.values) k d lt none) in
+      subst (λ (x : ℕ × Value). fits schema x.0 (value_of source x.1.literal) ≡ true) (sym at) (must (fits schema k (value_of source v.literal)) (λ unfit. no (omega arith, unfit))))
+    where
+      must : (b : Bool) → ¬ (b ≡ false) → b ≡ true
+      must true h = refl
+      must false h = absurd (h refl)
+
+  -- so a measure could hold it
+  pub all_measures : All (λ v. fits schema v.0 (value_of source v.1.literal) ≡ true) (enumerate_from 0 i.values)
+      → All (λ v. fits_measure (value_of source v.literal) ≡ true) i.values
+  all_measures fit =
+      All-from_get_or (λ (v : Value). fits_measure (value_of source v.literal) ≡ true) i.values a_value
+      (λ k lt.
+      let d : ℕ × Value = (0, a_value) in
+      let v = get_or i.values k a_value in
+      let at : get_or (enumerate_from 0 i.values) k d ≡ (k, v) = get_or-enumerate_from 0 i.values k d lt in
+      let longer : k < length (enumerate_from 0 i.values) = let e = length-enumerate_from 0 i.values in omega arith in
+      let here : fits schema k (value_of source v.literal) ≡ true =
+      subst (λ (x : ℕ × Value). fits schema x.0 (value_of source x.1.literal) ≡ true) at
+      (All-get_or (λ (x : ℕ × Value). fits schema x.0 (value_of source x.1.literal) ≡ true) (enumerate_from 0 i.values) k d longer fit) in
+      fits_some_measure schema.dims k (value_of source v.literal) here)
+
+  -- and the numbers may be given
+  pub all_given : All (λ v. fits schema v.0 (value_of source v.1.literal) ≡ true) (enumerate_from 0 i.values)
+      → All (λ v. fits schema v.0 v.1 ≡ true) (enumerate_from 0 (values_of source i))
+  all_given fit = numbered 0 i.values fit
+    where
+      numbered : (n : ℕ) (vs : List Value) → All (λ v. fits schema v.0 (value_of source v.1.literal) ≡ true) (enumerate_from n vs)
+          → All (λ v. fits schema v.0 v.1 ≡ true) (enumerate_from n (map (λ v. value_of source v.literal) vs))
+      numbered n [] h = All-nil (λ (v : ℕ × ℤ). fits schema v.0 v.1 ≡ true)
+      numbered n (v ∷ vs) h =
+          All-cons (λ (v : ℕ × ℤ). fits schema v.0 v.1 ≡ true) (n, value_of source v.literal) _
+          (All-head (λ (x : ℕ × Value). fits schema x.0 (value_of source x.1.literal) ≡ true) (n, v) _ h)
+          (numbered (n + 1) vs (All-tail (λ (x : ℕ × Value). fits schema x.0 (value_of source x.1.literal) ≡ true) (n, v) _ h))
