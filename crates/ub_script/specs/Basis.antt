@@ -1,48 +1,105 @@
 -- What the replies to the statements of a script rest on: the table of a sound tree, or what any tree shows, sound or not.
-use Rattle.std.specs.Prelude.{◌≡◌, ◌≤◌, ℕ, Bool, true, false, List, Ok, Err}
+use Rattle.std.specs.Prelude.{◌≡◌, ◌≤◌, ℕ, ℤ, Bool, true, false, List, Result, Ok, Err, take}
+use Rattle.ub_exec.specs.Stand.{Stand, IsStand, IsStandOf, selected_of, without_rows}
+use Rattle.ub_parser.specs.Outcome.{Command, asks, puts, takes}
 use Rattle.ub_query.specs.Shape.{Asked}
-use Rattle.ub_region.specs.Regions.{AreTableRows}
+use Rattle.ub_script.specs.Changes.{HasPutIn, HasTakenOut, IsFormedDelete, IsFormedInsert, IsTableDelete, IsTableInsert}
+use Rattle.ub_script.specs.Faults.{IsGiven, fault_of_read, fault_of_tree}
 use Rattle.ub_script.specs.Formed.{IsFormedReply, IsSameBut}
 use Rattle.ub_script.specs.Script.{Outcome}
 use Rattle.ub_script.specs.Text.{Reply, reply, refused_text, IsTableReply}
-use Rattle.ub_table.specs.Region.{Region}
-use Rattle.ub_table.specs.Table.{Table}
+use Rattle.ub_script.specs.declared.fault.RunFault.{RunFault}
+use Rattle.ub_script.specs.declared.fault.RunFault.TheVariants.{Memory}
 use Rattle.ub_table.specs.declared.schema.Schema.{Schema}
-use Rattle.ub_tree.specs.View.{TreeView, IsSound, regions}
+use Rattle.ub_tree.specs.View.{TreeView}
+use Rattle.ub_tree.specs.declared.fault.TreeFault.{TreeFault}
+use Rattle.ub_tree.specs.declared.read_fault.ReadFault.{ReadFault}
 
--- a table in these regions; or any tree
+-- where a table stands; or any tree
 pub data Basis : Type 0 where
-  on_table : Table → List Region → Basis
+  on_stand : Stand → Basis
   over_any : TreeView → Basis
 
 abbrev pub schema_of : Basis → Schema
-schema_of (on_table table in_regions) = table.schema
+schema_of (on_stand s) = s.table.schema
 schema_of (over_any seen) = seen.schema
 
--- the table of a sound tree
-pub record IsTableOf (t : TreeView) (table : Table) : Type 0 where
-  pub sound : IsSound t
-  pub schema_is : table.schema ≡ t.schema
-  pub rows_are : AreTableRows (regions t) table.rows
+-- the regions of the table are its own
+abbrev pub Stands : Basis → Type 0
+Stands (on_stand s) = IsStand s
+Stands (over_any seen) = Unit {0}
 
--- what replies over a tree rest on: where it is sound, on its table in its regions; and always on what it shows
+-- what replies over a tree rest on: where it is sound, on where its table stands; and always on what it shows
 abbrev pub IsBasisOf : TreeView → Basis → Type 0
-IsBasisOf t (on_table table in_regions) = IsTableOf t table × (in_regions ≡ regions t)
+IsBasisOf t (on_stand s) = IsStandOf t s
 IsBasisOf t (over_any seen) = IsSameBut seen t
+
+-- where the table of a tree stands after a fault, unless the tree has failed: of such a one nothing is said
+abbrev pub IsRestOf : TreeView → Basis → Type 0
+IsRestOf t (on_stand s) = t.is_failed ≡ false → IsStandOf t s
+IsRestOf t (over_any seen) = Unit {0}
+
+-- ---- the replies, each with what the next one rests on
 
 -- the reply to a query that is explained, or answered
 abbrev pub IsAskedReply : Bool → Basis → Asked → Reply → Type 0
-IsAskedReply is_explained (on_table table in_regions) q r = IsTableReply is_explained table in_regions q r
+IsAskedReply is_explained (on_stand s) q r = IsTableReply is_explained s.table s.regions q r
 IsAskedReply is_explained (over_any seen) q r = IsFormedReply is_explained seen q r
 
--- the reply to a statement with this outcome; for a refused one no page is fetched
-abbrev pub IsReply : Basis → Outcome → Reply → Type 0
-IsReply basis (Ok t) r = IsAskedReply t.is_explained basis t.asked r
-IsReply basis (Err fault) r = r ≡ reply (refused_text fault) 0 true
+-- the reply to an INSERT
+abbrev pub IsInsertReply : Basis → List ℤ → Reply → Basis → Type 0
+IsInsertReply (on_stand s) values r now = (after : Stand) × IsTableInsert s values r after × (now ≡ on_stand after)
+IsInsertReply (over_any seen) values r now = (after : TreeView) × IsFormedInsert seen values r after × (now ≡ over_any after)
+
+-- the reply to a DELETE
+abbrev pub IsDeleteReply : Basis → Asked → Reply → Basis → Type 0
+IsDeleteReply (on_stand s) q r now = (after : Stand) × IsTableDelete s q r after × (now ≡ on_stand after)
+IsDeleteReply (over_any seen) q r now = (after : TreeView) × IsFormedDelete seen q r after × (now ≡ over_any after)
+
+-- the reply to a statement with this outcome; for a refused one no page is fetched, and nothing is changed
+abbrev pub IsReply : Basis → Outcome → Reply → Basis → Type 0
+IsReply basis (Ok (asks t)) r now = IsAskedReply t.is_explained basis t.asked r × (r.changed ≡ 0) × (now ≡ basis)
+IsReply basis (Ok (puts values)) r now = IsInsertReply basis values r now
+IsReply basis (Ok (takes q)) r now = IsDeleteReply basis q r now
+IsReply basis (Err fault) r now = (r ≡ reply (refused_text fault) 0 true 0) × (now ≡ basis)
+
+-- ---- the ends by a fault, each with what is left
 
 -- so many pages can have been fetched for a query that has no reply: on a table some of those of a reply, or none; over any tree
 -- none for an EXPLAIN
 abbrev pub AreSomeOf : Bool → Basis → Asked → ℕ → Type 0
-AreSomeOf is_explained (on_table table in_regions) q pages =
-    1 ≤ pages → (r : Reply) × IsTableReply is_explained table in_regions q r × (pages ≤ r.pages)
+AreSomeOf is_explained (on_stand s) q pages =
+    1 ≤ pages → (r : Reply) × IsTableReply is_explained s.table s.regions q r × (pages ≤ r.pages)
 AreSomeOf is_explained (over_any seen) q pages = 1 ≤ pages → is_explained ≡ false
+
+-- an INSERT was ended by a fault: the table is as it was; over any tree, memory was refused before it, or the tree refused
+abbrev pub IsInsertEnd : Basis → List ℤ → RunFault → Basis → Type 0
+IsInsertEnd (on_stand s) values fault now = now ≡ on_stand s
+IsInsertEnd (over_any seen) values fault now =
+    ((fault ≡ Memory) × (now ≡ over_any seen))
+    ⊎ ((after : TreeView) × (of_tree : TreeFault) × HasPutIn seen values (Err of_tree) after × (fault ≡ fault_of_tree of_tree)
+    × (now ≡ over_any after))
+
+-- a DELETE with this answer is ended by a fault: by its own, or memory was refused for its line
+abbrev pub IsEndOf : Result ℕ ReadFault → RunFault → Type 0
+IsEndOf (Ok count) fault = fault ≡ Memory
+IsEndOf (Err of_tree) fault = fault ≡ fault_of_read of_tree
+
+-- a DELETE was ended by a fault: of the rows for which it asks the first ones by number are gone, or none; over any tree, memory was
+-- refused before it or after it, or the tree refused
+abbrev pub IsDeleteEnd : Basis → Asked → RunFault → Basis → Type 0
+IsDeleteEnd (on_stand s) q fault now = (j : ℕ) × (now ≡ on_stand (without_rows (take j (selected_of q s)) s))
+IsDeleteEnd (over_any seen) q fault now =
+    ((fault ≡ Memory) × (now ≡ over_any seen))
+    ⊎ ((after : TreeView) × (told : Result ℕ ReadFault) × HasTakenOut seen q told after × IsEndOf told fault × (now ≡ over_any after))
+
+-- a query was ended by a fault: over any tree by one that its reading calls answer
+abbrev pub IsAskedEnd : Basis → RunFault → Basis → Type 0
+IsAskedEnd (on_stand s) fault now = now ≡ on_stand s
+IsAskedEnd (over_any seen) fault now = IsGiven seen fault × (now ≡ over_any seen)
+
+-- a statement that is accepted was ended by a fault, so many pages were fetched for it, and this is left
+abbrev pub IsCommandEnd : Basis → Command → RunFault → ℕ → Basis → Type 0
+IsCommandEnd basis (asks t) fault pages now = AreSomeOf t.is_explained basis t.asked pages × IsAskedEnd basis fault now
+IsCommandEnd basis (puts values) fault pages now = (pages ≡ 0) × IsInsertEnd basis values fault now
+IsCommandEnd basis (takes q) fault pages now = AreSomeOf false basis q pages × IsDeleteEnd basis q fault now

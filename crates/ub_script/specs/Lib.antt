@@ -3,6 +3,7 @@ pub mod Faults
 pub mod Script
 pub mod Text
 pub mod Formed
+pub mod Changes
 pub mod Basis
 pub mod Run
 pub mod Loop

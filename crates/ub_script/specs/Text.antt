@@ -53,14 +53,24 @@ refused_text (ValueCount at) = refusal_text (codes "ValueCount") at
 refused_text (ValueRange at) = refusal_text (codes "ValueRange") at
 refused_text Memory = []
 
--- what is done for a statement: its text is written, so many region pages are fetched, and it may be refused
+-- which number the row got that was put in
+unfoldable pub inserted_text : ℕ → List ℕ
+inserted_text number = codes "-- inserted " ++ decimal number ++ 10 ∷ []
+
+-- how many rows were taken out
+unfoldable pub deleted_text : ℕ → List ℕ
+deleted_text count = codes "-- deleted " ++ decimal count ++ 10 ∷ []
+
+-- what is done for a statement: its text is written, so many region pages are fetched, it may be refused, and so many rows are
+-- put in or taken out
 pub record Reply : Type 0 where
   pub text : List ℕ
   pub pages : ℕ
   pub is_refused : Bool
+  pub changed : ℕ
 
-abbrev pub reply : List ℕ → ℕ → Bool → Reply
-reply text pages is_refused = record { text = text; pages = pages; is_refused = is_refused }
+abbrev pub reply : List ℕ → ℕ → Bool → ℕ → Reply
+reply text pages is_refused changed = record { text = text; pages = pages; is_refused = is_refused; changed = changed }
 
 -- so many regions of a table are visited by the plan of a query, and so many pages are fetched for it
 pub record ArePages (schema : Schema) (regions : List Region) (q : Asked) (pages : ℕ) : Type 0 where
@@ -87,7 +97,8 @@ abbrev pub IsTableReply : Bool → Table → List Region → Asked → Reply →
 IsTableReply true table regions q r = IsExplainReply table regions q r
 IsTableReply false table regions q r = IsQueryReply table regions q r
 
--- of several replies the texts, one after the other, the number of pages, and how many of them are refused
+-- of several replies the texts, one after the other, the number of pages, how many of them are refused, and how many rows they
+-- change
 abbrev pub texts_of : List Reply → List ℕ
 texts_of replies = flat_map (λ r. r.text) replies
 
@@ -96,3 +107,6 @@ pages_of replies = sum_by (λ r. r.pages) replies
 
 abbrev pub refused_in : List Reply → ℕ
 refused_in replies = count_by (λ r. r.is_refused) replies
+
+abbrev pub changed_by : List Reply → ℕ
+changed_by replies = sum_by (λ r. r.changed) replies

@@ -1,6 +1,6 @@
 ghost use Rattle.std.specs.Prelude.{◌≡◌};
 ghost use Rattle.ub_script.specs.declared.fault.RunFault.TheVariants.{Memory, Write};
-ghost use Rattle.ub_script.specs.Faults.{fault_of_load, fault_of_read};
+ghost use Rattle.ub_script.specs.Faults.{fault_of_load, fault_of_read, fault_of_tree};
 
 use crate::output::OutFault;
 use std::alloc::AllocError;
@@ -51,6 +51,17 @@ impl From<ReadFault> for RunFault {
         match fault {
             ReadFault::Memory => RunFault::Memory,
             ReadFault::Tree(fault) => RunFault::Tree(fault),
+        }
+    }
+}
+
+impl From<TreeFault> for RunFault {
+    ghost from_gives = { λ tree fault. fault ≡ fault_of_tree tree };
+
+    fn from(fault: TreeFault) -> RunFault {
+        match fault {
+            TreeFault::Memory => RunFault::Memory,
+            fault => RunFault::Tree(fault),
         }
     }
 }

@@ -1,19 +1,15 @@
-ghost use Rattle.ub_script.specs.Laws.{SoundTreesHaveOneTable, QueriesFetchOneNumberOfPages, OutcomesHaveOneReply, StatementsHaveOneReplyEach, ScriptsHaveOneEnd, ScriptsHaveOneSummary, CutTextsAreAFront, StoppedTextsAreAFront, StoppedTextsAreWhole};
+ghost use Rattle.ub_script.specs.Laws.{QueriesFetchOneNumberOfPages, OutcomesHaveOneReply, StatementsHaveOneReplyEach, ScriptsHaveOneEnd, ScriptsHaveOneSummary, CutTextsAreAFront, StoppedTextsAreAFront, StoppedTextsAreWhole, UnchangedTablesStay};
 
 // Each function here does nothing, and its clause is a law of the definitions in specs/. So the law is proved, and is read
 // beside the code.
-
-/// A sound tree has a table, and no other.
-pub fn sound_trees_have_one_table()
-    ensures { SoundTreesHaveOneTable }
-{}
 
 /// For a query one number of pages is fetched.
 pub fn queries_fetch_one_number_of_pages()
     ensures { QueriesFetchOneNumberOfPages }
 {}
 
-/// To a statement there is one reply: what it is told says every byte of its text, and how many pages are fetched.
+/// To a statement there is one reply: what it is told says every byte of its text, how many pages are fetched, and what it
+/// makes of the table.
 pub fn outcomes_have_one_reply()
     ensures { OutcomesHaveOneReply }
 {}
@@ -23,7 +19,8 @@ pub fn statements_have_one_reply_each()
     ensures { StatementsHaveOneReplyEach }
 {}
 
-/// A script that is run to its end writes one text, fetches one number of pages, and has one summary.
+/// A script that is run to its end writes one text, fetches one number of pages, has one summary, and leaves the table in one
+/// way.
 pub fn scripts_have_one_end()
     ensures { ScriptsHaveOneEnd }
 {}
@@ -48,4 +45,9 @@ pub fn stopped_texts_are_a_front()
 /// What stands then are the whole texts of the first statements.
 pub fn stopped_texts_are_whole()
     ensures { StoppedTextsAreWhole }
+{}
+
+/// Statements that put in no row and take out none leave a table as it was, and any tree but for its trace.
+pub fn unchanged_tables_stay()
+    ensures { UnchangedTablesStay }
 {}

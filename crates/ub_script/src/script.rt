@@ -7,15 +7,18 @@ ghost use Rattle.ub_planning.specs.Plan.{plan_of};
 ghost use Rattle.ub_query.specs.Posed.{IsPosed};
 ghost use Rattle.ub_query.specs.Shape.{asked};
 ghost use Rattle.ub_table.specs.Schema.{AreTableNumbers};
+ghost use Rattle.ub_store.specs.declared.fault.StoreFault.{StoreFault};
 ghost use Rattle.ub_tree.specs.declared.fault.TreeFault.{TreeFault};
-ghost use Rattle.ub_script.specs.Basis.{IsAskedReply, AreSomeOf};
+ghost use Rattle.ub_script.specs.Basis.{IsAskedReply, AreSomeOf, IsBasisOf, IsRestOf};
 ghost use Rattle.ub_script.specs.Output.{Takes};
 ghost use Rattle.ub_script.specs.Run.{IsAnswer, IsEnded, IsRange, FirstAt, EndedAt, IsWhole, IsStopped, IsCutOff, Ran, IsRun, IsDone, IsBegun, IsBroken};
-ghost use Rattle.ub_script.specs.Faults.{Runs, failures_after};
-ghost use Rattle.ub_script.specs.Loop.{OnEach, Makes, Fetches, IsAnswerAt, IsCutAt};
+ghost use Rattle.ub_script.specs.Faults.{Runs, RunsReading, failures_after};
+ghost use Rattle.ub_script.specs.Loop.{OnEach, Makes, Fetches, IsAnswerAt, IsCutAt, Replies, Stops};
+ghost use Rattle.ub_script.specs.Script.{AreAsking, IsAsking};
 ghost use Rattle.ub_script.specs.Text.{refused_text};
 ghost use Rattle.ub_script.specs.declared.script.Summary.{Summary};
 
+use crate::changing::{delete_rows, insert_row};
 use crate::fault::RunFault;
 use crate::output::{Out, put_all};
 use crate::text::{answer_text, refused_text};
@@ -39,8 +42,9 @@ pub struct Summary {
 /// one after the other, and counts the statements.
 ///
 /// `Load` where the text is no table, and then nothing is written. `Write` where the output fails. `Memory` where memory
-/// is refused, and then nothing is written of the statement that needed it. `Tree` never, since a store in memory doesn't
-/// fail.
+/// is refused, and `Tree` with `Full` where an INSERT finds no number left, or with `BadSize` where the store has no room
+/// for another page: then nothing is written of the statement that needed it. No other fault of a tree comes, since a store
+/// in memory doesn't fail.
 pub fn try_text<W: Out>(
     alloc: Global,
     text: &[u8],
@@ -67,25 +71,35 @@ pub fn try_text<W: Out>(
 
     // Nothing is written, or the texts of the first statements and no more.
     ensures memory { IsErrOf result RunFault.Memory → (W.facts out.new ≡ W.facts out.old)
-        ⊎ Takes (IsBegun text.now dims page_rows name.now script.now) false
+        ⊎ Takes (IsBegun text.now dims page_rows name.now script.now RunFault.Memory) false
         (W.facts out.old) (W.facts out.new) }
     ensures of_tree { (fault : TreeFault) → result ≡ Err (RunFault.Load (LoadFault.Tree fault))
         → fault ≡ TreeFault.Full }
-    ensures tree { (fault : TreeFault) → ¬ (result ≡ Err (RunFault.Tree fault)) }
+
+    // The texts of the first statements are written, and no more.
+    ensures tree { (fault : TreeFault) → result ≡ Err (RunFault.Tree fault)
+        → ((fault ≡ TreeFault.Full) ⊎ (fault ≡ TreeFault.Store StoreFault.BadSize))
+        × Takes (IsBegun text.now dims page_rows name.now script.now (RunFault.Tree fault)) false
+        (W.facts out.old) (W.facts out.new) }
 {
     let mut tree = load(alloc, text, dims, page_rows, name, MemStore::new(alloc))?;
     run(alloc, &mut tree, script, out)
 }
 
-/// Runs a script on a tree: writes the text of each statement, whole, one after the other, and counts the statements. For each
-/// query that is answered the regions that its plan visits are read anew. The tree is read and no more.
+/// Runs a script on a tree: writes the text of each statement, whole, one after the other, and counts the statements. Each
+/// statement runs on the table that those before it left: an INSERT puts in a row, a DELETE takes out those that it selects, and
+/// for each query that is answered the regions that its plan visits are read anew. A script that only asks reads the tree and no
+/// more.
 ///
 /// Over any tree, also over one that isn't sound, each text is whole and in form, and where a query is answered each page that
-/// was read for it was taken in. Over a sound tree the texts say what the queries mean on its table.
+/// was read for it was taken in. Over a sound tree the texts say what the statements mean on its table, and it is left as they
+/// say.
 ///
-/// `Tree` where the tree refused a statement that asks it, on a sound tree only where its store failed in this call, and
-/// `Memory` where memory is refused: then nothing is written of the statement that needed it. `Write` where the output fails:
-/// then a front of a text stands, and nothing is written after it. `Load` never.
+/// `Tree` where the tree refused a statement: on a sound tree only where its store failed in this call, an INSERT finds no number
+/// left or no room in the index (`Full`), or the store can't have another page (`BadSize`). `Memory` where memory is refused. Then
+/// nothing is written of the statement that needed it, and the table is as the statements before it left it, but that a DELETE may
+/// have taken out the first of its rows by number; of a tree that has failed nothing is said. `Write` where the output fails: then
+/// that statement was done, a front of its text stands, and nothing is written after it. `Load` never.
 pub fn run<S: PageStore, W: Out>(
     alloc: Global,
     tree: &mut Tree<S>,
@@ -111,17 +125,19 @@ fn run_statements<S: PageStore, W: Out>(
     requires spelled { AreSpelled source.now tokens.now }
     requires ranges { All (λ range. IsRange tokens.now range) ranges.now }
     ensures done { OnEach tree.old (λ basis. IfOk result (λ summary.
-        Ran (IsWhole (FirstAt basis source.now tokens.now ranges.now) summary) false
-        (W.facts out.old) (W.facts out.new) tree.old.trace.fetches tree.new.trace.fetches)) }
+        Ran (IsWhole (FirstAt basis source.now tokens.now ranges.now) summary) (IsBasisOf tree.new)
+        false (W.facts out.old) (W.facts out.new) tree.old.trace.fetches tree.new.trace.fetches)) }
     ensures write { OnEach tree.old (λ basis. IsErrOf result RunFault.Write
-        → Ran (IsCutOff (FirstAt basis source.now tokens.now ranges.now)) true
-        (W.facts out.old) (W.facts out.new) tree.old.trace.fetches tree.new.trace.fetches) }
+        → Ran (IsCutOff (FirstAt basis source.now tokens.now ranges.now)) (IsBasisOf tree.new)
+        true (W.facts out.old) (W.facts out.new) tree.old.trace.fetches tree.new.trace.fetches) }
     ensures begun { OnEach tree.old (λ basis. IfErr result (λ fault. fault ≢ RunFault.Write
-        → Ran (IsStopped (EndedAt basis source.now tokens.now ranges.now fault)) false
-        (W.facts out.old) (W.facts out.new) tree.old.trace.fetches tree.new.trace.fetches)) }
+        → Ran (IsStopped (EndedAt basis source.now tokens.now ranges.now fault)) (IsRestOf tree.new)
+        false (W.facts out.old) (W.facts out.new) tree.old.trace.fetches tree.new.trace.fetches)) }
     ensures failures { (W.facts out.new).failures
         ≡ failures_after result (W.facts out.old).failures }
     ensures effect { Runs tree.old tree.new result }
+    ensures asked { AreAsking tree.old.schema source.now tokens.now ranges.now
+        → RunsReading tree.old tree.new result }
 {
     let mut refused = 0u64;
     for range in ranges {
@@ -147,19 +163,21 @@ fn run_statement<S: PageStore, W: Out>(
     requires spelled { AreSpelled source.now tokens.now }
     requires range { IsRange tokens.now range }
     ensures done { OnEach tree.old (λ basis. IfOk result (λ is_refused.
-        Ran (IsAnswerAt basis source.now tokens.now range is_refused) false
+        Ran (IsAnswerAt basis source.now tokens.now range is_refused) (IsBasisOf tree.new) false
         (W.facts out.old) (W.facts out.new) tree.old.trace.fetches tree.new.trace.fetches)) }
     ensures write { OnEach tree.old (λ basis. IsErrOf result RunFault.Write
-        → Ran (IsCutAt basis source.now tokens.now range) true
+        → Ran (IsCutAt basis source.now tokens.now range) (IsBasisOf tree.new) true
         (W.facts out.old) (W.facts out.new) tree.old.trace.fetches tree.new.trace.fetches) }
     ensures begun { IfErr result (λ fault. fault ≢ RunFault.Write
         → W.facts out.new ≡ W.facts out.old) }
     ensures stopped { OnEach tree.old (λ basis. IfErr result (λ fault. fault ≢ RunFault.Write
-        → Fetches (IsEnded basis source.now (slice_range tokens.now range.0 range.1) fault)
-        tree.old.trace.fetches tree.new.trace.fetches)) }
+        → Stops (IsEnded basis source.now (slice_range tokens.now range.0 range.1) fault)
+        tree.old tree.new)) }
     ensures failures { (W.facts out.new).failures
         ≡ failures_after result (W.facts out.old).failures }
     ensures effect { Runs tree.old tree.new result }
+    ensures asked { IsAsking tree.old.schema source.now (slice_range tokens.now range.0 range.1)
+        → RunsReading tree.old tree.new result }
 {
     let (from, to) = range;
     let answer = answer_to(alloc, tree, source, &tokens[from..to])?;
@@ -169,12 +187,12 @@ fn run_statement<S: PageStore, W: Out>(
 
 // What a statement writes, and whether it is refused.
 #[derive(Drop)]
-struct Answer {
-    text: Vec<u8>,
-    is_refused: bool,
+pub(crate) struct Answer {
+    pub(crate) text: Vec<u8>,
+    pub(crate) is_refused: bool,
 }
 
-// Parses the statement of these tokens, and makes its text.
+// Parses the statement of these tokens, does what it says, and makes its text.
 fn answer_to<S: PageStore>(
     alloc: Global,
     tree: &mut Tree<S>,
@@ -184,21 +202,20 @@ fn answer_to<S: PageStore>(
     requires some { 0 < length tokens.now }
     requires spelled { AreSpelled source.now tokens.now }
     ensures answer { OnEach tree.old (λ basis. IfOk result (λ a.
-        Makes (IsAnswer basis source.now tokens.now) a.text.items a.is_refused
-        tree.old.trace.fetches tree.new.trace.fetches)) }
+        Replies (IsAnswer basis source.now tokens.now) a.text.items a.is_refused
+        tree.old tree.new)) }
     ensures stopped { OnEach tree.old (λ basis. IfErr result (λ fault.
-        Fetches (IsEnded basis source.now tokens.now fault)
-        tree.old.trace.fetches tree.new.trace.fetches)) }
+        Stops (IsEnded basis source.now tokens.now fault) tree.old tree.new)) }
     ensures no_write { ¬ (IsErrOf result RunFault.Write) }
     ensures effect { Runs tree.old tree.new result }
+    ensures asked { IsAsking tree.old.schema source.now tokens.now
+        → RunsReading tree.old tree.new result }
 {
     match parse(alloc, source, tokens, tree.schema()) {
         Ok(Statement::Select(query)) => answer_asked(alloc, tree, false, &query),
         Ok(Statement::Explain(query)) => answer_asked(alloc, tree, true, &query),
-        // Not run yet, and so told as what the grammar doesn't have.
-        Ok(Statement::Insert(_) | Statement::Delete(_)) => {
-            refusal(alloc, SqlFault::Syntax { at: tokens[0].from })
-        }
+        Ok(Statement::Insert(values)) => insert_row(alloc, tree, values.as_slice()),
+        Ok(Statement::Delete(query)) => delete_rows(alloc, tree, &query),
         Err(fault) => refusal(alloc, fault),
     }
 }
@@ -218,7 +235,7 @@ fn answer_asked<S: PageStore>(
         (Fetches (AreSomeOf is_explained basis (asked query.now))
         tree.old.trace.fetches tree.new.trace.fetches)) }
     ensures no_write { ¬ (IsErrOf result RunFault.Write) }
-    ensures effect { Runs tree.old tree.new result }
+    ensures effect { RunsReading tree.old tree.new result }
 {
     let plan = plan(alloc, query, tree.schema())?;
     if is_explained {
@@ -244,7 +261,7 @@ fn answer_query<S: PageStore>(
         (Fetches (AreSomeOf false basis (asked query.now)) tree.old.trace.fetches
         tree.new.trace.fetches)) }
     ensures no_write { ¬ (IsErrOf result RunFault.Write) }
-    ensures effect { Runs tree.old tree.new result }
+    ensures effect { RunsReading tree.old tree.new result }
 {
     let answer = execute(alloc, tree, plan)?;
     Ok(Answer {
@@ -267,7 +284,7 @@ fn explain_query<S: PageStore>(
         (Fetches (AreSomeOf true basis plan.now.asked) tree.old.trace.fetches
         tree.new.trace.fetches)) }
     ensures no_write { ¬ (IsErrOf result RunFault.Write) }
-    ensures effect { Runs tree.old tree.new result }
+    ensures effect { RunsReading tree.old tree.new result }
 {
     Ok(Answer {
         text: explain(alloc, plan, tree)?,

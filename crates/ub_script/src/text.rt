@@ -55,6 +55,28 @@ pub fn answer_text(
     Ok(text)
 }
 
+/// The text of an INSERT: which number its row got. `AllocError` only where memory is refused.
+#[tactic(auto, unfolding(crate::specs::Text::inserted_text))]
+pub fn inserted_text(alloc: Global, number: u32) -> Result<Vec<u8>, AllocError>
+    ensures { IfOk result (λ text. text.items ≡ spec.inserted_text number) }
+{
+    let mut text = Vec::from_slice(alloc, b"-- inserted ")?;
+    push_number(&mut text, u64::from(number))?;
+    text.push(b'\n')?;
+    Ok(text)
+}
+
+/// The text of a DELETE: how many rows were taken out. `AllocError` only where memory is refused.
+#[tactic(auto, unfolding(crate::specs::Text::deleted_text))]
+pub fn deleted_text(alloc: Global, count: u32) -> Result<Vec<u8>, AllocError>
+    ensures { IfOk result (λ text. text.items ≡ spec.deleted_text count) }
+{
+    let mut text = Vec::from_slice(alloc, b"-- deleted ")?;
+    push_number(&mut text, u64::from(count))?;
+    text.push(b'\n')?;
+    Ok(text)
+}
+
 // A refusal's line: its name, and the byte offset where it is seen.
 #[tactic(auto, unfolding(crate::specs::Text::refusal_text))]
 fn refusal_text(alloc: Global, name: &str, at: usize) -> Result<Vec<u8>, AllocError>

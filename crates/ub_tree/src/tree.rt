@@ -80,6 +80,13 @@ impl<S: PageStore> Tree<S> {
         self.rows
     }
 
+    /// The number that the next row gets: one more than the last row got.
+    pub fn next(&self) -> u32
+        ensures { result ≡ self.now.next }
+    {
+        self.next
+    }
+
     /// Whether a write, an extension or a sync failed: the tree then does no more.
     pub fn has_failed(&self) -> bool
         ensures { result ≡ self.now.is_failed }

@@ -1,0 +1,83 @@
+// INSERT and DELETE: what they do to the tree, and the line that tells it.
+
+ghost use Rattle.std.specs.Prelude.{◌≡◌, false, length, IfErr, IfOk, IsErrOf};
+ghost use Rattle.ub_parser.specs.Outcome.{puts, takes, IsGiven};
+ghost use Rattle.ub_query.specs.Shape.{asked};
+ghost use Rattle.ub_script.specs.Basis.{IsCommandEnd, IsDeleteReply, IsInsertReply};
+ghost use Rattle.ub_script.specs.Changes.{coordinates_of};
+ghost use Rattle.ub_script.specs.Faults.{Runs};
+ghost use Rattle.ub_script.specs.Loop.{OnEach, Replies, Stops};
+ghost use Rattle.ub_script.specs.declared.fault.RunFault.{RunFault};
+
+use crate::fault::RunFault;
+use crate::script::Answer;
+use crate::text::{deleted_text, inserted_text};
+use std::alloc::{AllocError, Global};
+use ub_exec::delete;
+use ub_parser::Query;
+use ub_plan::plan;
+use ub_store::PageStore;
+use ub_table::Schema;
+use ub_tree::Tree;
+
+/// Puts in the row of these values, one for each column, and tells its number. The line is made before the row is put in, so that
+/// nothing is refused after that.
+pub(crate) fn insert_row<S: PageStore>(
+    alloc: Global,
+    tree: &mut Tree<S>,
+    values: &[i64],
+) -> Result<Answer, RunFault>
+    requires { IsGiven tree.old.schema (puts values.now) }
+    ensures answer { OnEach tree.old (λ basis. IfOk result (λ a.
+        Replies (IsInsertReply basis values.now) a.text.items a.is_refused tree.old tree.new)) }
+    ensures stopped { OnEach tree.old (λ basis. IfErr result (λ fault.
+        Stops (IsCommandEnd basis (puts values.now) fault) tree.old tree.new)) }
+    ensures no_write { ¬ (IsErrOf result RunFault.Write) }
+    ensures effect { Runs tree.old tree.new result }
+{
+    let dims = coordinates(alloc, tree.schema(), values)?;
+    let text = inserted_text(alloc, tree.next())?;
+    tree.insert(dims.as_slice(), &values[dims.len()..])?;
+    Ok(Answer {
+        text,
+        is_refused: false,
+    })
+}
+
+// The coordinates that stand for the values of the dimensions, which come first.
+fn coordinates(alloc: Global, schema: &Schema, values: &[i64]) -> Result<Vec<u32>, AllocError>
+    requires { IsGiven schema.now (puts values.now) }
+    ensures coordinates { IfOk result (λ dims. dims.items
+        ≡ coordinates_of schema.now values.now) }
+    ensures all { IfOk result (λ dims. length dims.items ≡ schema.now.dims) }
+{
+    let mut dims = Vec::new(alloc);
+    for (dim, value) in values[..schema.dims() as usize].iter().enumerate() {
+        // The value fits its dimension, so there is such a coordinate.
+        dims.push(schema.coordinate(dim, i128::from(*value)).unwrap())?;
+    }
+    Ok(dims)
+}
+
+/// Takes out the rows that a query without groups, order and limit selects, and tells how many they were.
+pub(crate) fn delete_rows<S: PageStore>(
+    alloc: Global,
+    tree: &mut Tree<S>,
+    query: &Query,
+) -> Result<Answer, RunFault>
+    requires { IsGiven tree.old.schema (takes (asked query.now)) }
+    ensures answer { OnEach tree.old (λ basis. IfOk result (λ a.
+        Replies (IsDeleteReply basis (asked query.now)) a.text.items a.is_refused
+        tree.old tree.new)) }
+    ensures stopped { OnEach tree.old (λ basis. IfErr result (λ fault.
+        Stops (IsCommandEnd basis (takes (asked query.now)) fault) tree.old tree.new)) }
+    ensures no_write { ¬ (IsErrOf result RunFault.Write) }
+    ensures effect { Runs tree.old tree.new result }
+{
+    let plan = plan(alloc, query, tree.schema())?;
+    let count = delete(alloc, tree, &plan)?;
+    Ok(Answer {
+        text: deleted_text(alloc, count)?,
+        is_refused: false,
+    })
+}
