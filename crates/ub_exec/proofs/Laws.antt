@@ -14,6 +14,7 @@ use Rattle.ub_table.specs.Region.{Region, key_of}
 use Rattle.ub_table.specs.declared.row.Row.{Row}
 use Rattle.ub_table.specs.declared.schema.Schema.{Schema}
 use Rattle.ub_tree.specs.View.{regions}
+pub use Rattle.ub_exec.proofs.StandFacts.{change_stand, read_stand, stand_by}
 
 pub sound_trees_stand : SoundTreesStand
 sound_trees_stand t sound =

@@ -109,7 +109,7 @@ rows_out (row ∷ rows) old new s count stand up there (found, mid, more, one, r
     let (counted, left) = rows_out rows mid new (without_row row s) more out up.1 (still_there row s.table.rows rows up.0 there.1) rest in
     (is ∙ ap (λ (b : Bool). if b then suc more else more) yes_found ∙ ap suc counted, left)
 
--- ---- a removal that was ended by a fault
+-- ---- a change that was ended by a fault
 
 missed_reads : (a b : TreeView) → IsTrue a.store.can_fail → HasMissed a b → SearchesTree {A = Unit {0}} a b (Err (read.Tree (Store store.Device)))
 missed_reads a b can missed = record { same = missed; faults = (can, λ e. cc) }
@@ -127,19 +127,19 @@ left_stand a b s left stand =
     stand
 
 -- unless the tree has failed in it, it stands as it did
-removal_stand : (a b : TreeView) (s : Stand) (fault : TreeFault) → IsStandOf a s → IsLeft a b fault → b.is_failed ≡ false → IsStandOf b s
-removal_stand a b s Full stand left working = stand_same a b s left.1 stand
-removal_stand a b s Failed stand left working = stand_same a b s left.1 stand
-removal_stand a b s Memory stand left working = left_stand a b s left stand
-removal_stand a b s (Page page fault) stand left working = stand_same a b s left.2 stand
-removal_stand a b s (Store store.Device) stand (can, inl missed) working =
+pub change_stand : (a b : TreeView) (s : Stand) (fault : TreeFault) → IsStandOf a s → IsLeft a b fault → b.is_failed ≡ false → IsStandOf b s
+change_stand a b s Full stand left working = stand_same a b s left.1 stand
+change_stand a b s Failed stand left working = stand_same a b s left.1 stand
+change_stand a b s Memory stand left working = left_stand a b s left stand
+change_stand a b s (Page page fault) stand left working = stand_same a b s left.2 stand
+change_stand a b s (Store store.Device) stand (can, inl missed) working =
     let reads = missed_reads a b can missed in
     stand_kept a b s (SearchesTree-sound a b (Err (read.Tree (Store store.Device))) reads stand.sound) (SearchesTree-regions a b (Err (read.Tree (Store store.Device))) reads) stand
-removal_stand a b s (Store store.Device) stand (can, inr ended) working =
+change_stand a b s (Store store.Device) stand (can, inr ended) working =
     let failed : b.is_failed ≡ true = ap (λ (t : TreeView). t.is_failed) ended.same in absurd (true≢false (sym failed ∙ working))
-removal_stand a b s (Store store.NoPage) stand left working = absurd (left.0 stand.sound)
-removal_stand a b s (Store store.BadSize) stand left working = left_stand a b s left.1 stand
-removal_stand a b s (Store store.Memory) stand left working = absurd left
+change_stand a b s (Store store.NoPage) stand left working = absurd (left.0 stand.sound)
+change_stand a b s (Store store.BadSize) stand left working = left_stand a b s left.1 stand
+change_stand a b s (Store store.Memory) stand left working = absurd left
 
 -- ---- the first of some elements
 
@@ -177,7 +177,7 @@ first_out rows a c s fault stand up there stops working =
     let front : stops.front ≡ keys_of dims (take j rows) = front_of (key_of dims) rows stops.front (stops.key ∷ stops.left) stops.parts in
     let (counted, out) = rows_out (take j rows) a stops.mid s stops.count stand (rising_first (λ x y. x.number < y.number) j rows up) (all_first (Contains s.table.rows) j rows there)
     (subst (λ (keys : List Key). TakesOut keys a stops.mid stops.count) front stops.taken) in
-    (j, removal_stand stops.mid c (without_rows (take j rows) s) fault out stops.ended.effect.left working)
+    (j, change_stand stops.mid c (without_rows (take j rows) s) fault out stops.ended.effect.left working)
 
 -- ---- reading that was ended by a fault
 

@@ -11,11 +11,10 @@ use Rattle.ub_planning.specs.Plan.{PlanView, plan_of}
 use Rattle.ub_query.specs.Shape.{Asked}
 use Rattle.ub_query.specs.declared.cell.Cell.{Cell}
 use Rattle.ub_script.proofs.RowsFacts.{ready_of, reply_of_explain, reply_of_plan}
-use Rattle.ub_script.specs.Basis.{Basis, on_table, over_any, IsAskedReply, IsBasisOf}
+use Rattle.ub_script.specs.Basis.{Basis, on_stand, over_any, IsAskedReply, IsBasisOf}
 use Rattle.ub_script.specs.Formed.{IsCarriedOut, IsFormedReply, IsSameBut}
 use Rattle.ub_script.specs.Loop.{Makes}
-use Rattle.ub_script.specs.Text.{IsTableReply, answer_text}
-use Rattle.ub_table.specs.Region.{Region}
+use Rattle.ub_script.specs.Text.{answer_text}
 use Rattle.ub_table.specs.declared.schema.Schema.{Schema}
 use Rattle.ub_tree.proofs.Laws.{traced_gives}
 use Rattle.ub_tree.specs.Spans.{Region as Span}
@@ -80,10 +79,9 @@ pub reply_on : {A : Type 0} (basis : Basis) (old new : TreeView) (schema : Schem
     → (IsReady old p → IsPlanAnswer old p.asked cells) → (IsReady old p → HasFetched p (begun old) new) → CarriesOut p (begun old) new (Ok x)
     → (IsTrue old.is_failed → Ok x ≡ Err fault) → IsShaped p.asked cells → text ≡ answer_text schema q cells fetched
     → Makes (IsAskedReply false basis q) text false old.trace.fetches new.trace.fetches
-reply_on (on_table table in_regions) old new schema fetched x fault p q cells text is schema_is counted planned rows visits carried refuses shaped e =
-    let ready = ready_of old p q is.0.sound planned in
-    let made = reply_of_plan old new table schema fetched p q cells text is.0 schema_is counted planned (rows ready) (visits ready) e in
-    subst (λ (rs : List Region). Makes (IsTableReply false table rs q) text false old.trace.fetches new.trace.fetches) (sym is.1) made
+reply_on (on_stand s) old new schema fetched x fault p q cells text is schema_is counted planned rows visits carried refuses shaped e =
+    let ready = ready_of old p q is.sound planned in
+    reply_of_plan old new s schema fetched p q cells text is schema_is counted planned (rows ready) (visits ready) e
 reply_on (over_any seen) old new schema fetched x fault p q cells text is schema_is counted planned rows visits carried refuses shaped e =
     formed_of_plan seen old new schema fetched x fault p q cells text is schema_is counted planned carried refuses shaped e
 
@@ -116,8 +114,7 @@ pub explained_on : {A : Type 0} (basis : Basis) (t : TreeView) (x : A) (fault : 
     → after ≡ t.trace.fetches → (met : ℕ) × AreCounted p.covering.boxes t met × (text ≡ explain_text t.schema p met (region_count t))
     → (IsSound t → IsExplained t.schema p (regions t) text) → (IsTrue t.is_failed → Ok x ≡ Err fault)
     → Makes (IsAskedReply true basis q) text false t.trace.fetches after
-explained_on (on_table table in_regions) t x fault p q text after is planned kept lines explained refuses =
-    subst (λ (rs : List Region). Makes (IsTableReply true table rs q) text false t.trace.fetches after) (sym is.1)
-    (reply_of_explain t table p q text after is.0 planned kept (explained is.0.sound))
+explained_on (on_stand s) t x fault p q text after is planned kept lines explained refuses =
+    reply_of_explain t s p q text after is planned kept (explained is.sound)
 explained_on (over_any seen) t x fault p q text after is planned kept lines explained refuses =
     formed_of_explain seen t x fault p q text after is planned kept lines refuses

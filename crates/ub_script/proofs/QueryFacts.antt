@@ -1,54 +1,33 @@
 -- How the reply to a statement says what its outcome is.
-use Rattle.std.proofs.Common.{◌≡◌, ◌≢◌, ◌⊎◌, ◌∙◌, inl, inr, Option, Some, Result, Ok, Err, IfErr, ℕ, Bool, true, List, refl, slice_get, sym, ap, subst}
+use Rattle.std.proofs.Common.{◌≡◌, ◌≢◌, ◌⊎◌, ◌∙◌, inl, inr, Result, Ok, Err, IfErr, IfOk, ℕ, Bool, true, false, List, refl, sym, ap, subst}
 use Rattle.std.specs.Prelude.{OnErr}
 use Rattle.ub_lexer.specs.declared.token.Token.{Token}
 use Rattle.ub_parser.specs.Outcome.{Told, Command, asks, IsAccepted}
 use Rattle.ub_parser.specs.Refusals.{IsFirstFault}
 use Rattle.ub_parser.specs.declared.fault.SqlFault.{SqlFault}
-use Rattle.ub_parser.specs.declared.fault.SqlFault.TheVariants.{Syntax, Memory}
-use Rattle.ub_script.specs.Basis.{Basis, on_table, over_any, schema_of, AreSomeOf, IsBasisOf, IsReply}
-use Rattle.ub_script.specs.Loop.{Fetches, Makes}
+use Rattle.ub_parser.specs.declared.fault.SqlFault.TheVariants.{Memory}
+use Rattle.ub_script.proofs.KeptFacts.{basis_kept, given_before, rest_of, rest_reading, runs_memory, runs_none, stands_of}
+use Rattle.ub_script.specs.Basis.{Basis, on_stand, over_any, schema_of, AreSomeOf, IsAskedEnd, IsAskedReply, IsBasisOf, IsCommandEnd, IsReply, Stands}
+use Rattle.ub_script.specs.Faults.{Runs, RunsReading}
+use Rattle.ub_script.specs.Loop.{Fetches, Makes, Replies, Stops}
 use Rattle.ub_script.specs.Run.{IsAnswer, IsEnded}
-use Rattle.ub_script.specs.Script.{IsChange, IsOutcome, IsTheOutcome, Outcome}
+use Rattle.ub_script.specs.Script.{IsOutcome, IsTheOutcome, Outcome}
 use Rattle.ub_script.specs.Text.{refused_text}
 use Rattle.ub_script.specs.declared.fault.RunFault.{RunFault}
 use Rattle.ub_script.specs.declared.fault.RunFault.TheVariants as run
 use Rattle.ub_table.specs.declared.schema.Schema.{Schema}
+use Rattle.ub_tree.proofs.Laws.{Keeps-by}
 use Rattle.ub_tree.specs.View.{TreeView}
-
-same_told : (t u : Told) → asks t ≡ asks u → t ≡ u
-same_told t u e = cc
-
--- a query changes nothing
-no_query : (c : Command) (t : Told) → IsChange c → c ≡ asks t → ⊥
-no_query c t changes e = subst IsChange e changes
-
-same_first : (o : Option Token) (t u : Token) → o ≡ Some t → o ≡ Some u → t ≡ u
-same_first o t u h k = cc
 
 module _ (schema : Schema) (source : List ℕ) (tokens : List Token) where
   -- what is accepted and says nothing else is told nothing else
-  accepted_outcome : (t : Told) → IsAccepted source schema tokens (asks t) → ((c : Command) → IsAccepted source schema tokens c → asks t ≡ c)
-      → IsTheOutcome schema source tokens (Ok t)
-  accepted_outcome t accepted same = record { told = inr (inl (t, accepted, refl)); only = only }
+  accepted_outcome : (c : Command) → IsAccepted source schema tokens c → ((d : Command) → IsAccepted source schema tokens d → c ≡ d)
+      → IsTheOutcome schema source tokens (Ok c)
+  accepted_outcome c accepted same = record { told = inr (c, accepted, refl); only = only }
     where
-      only : (other : Outcome) → IsOutcome schema source tokens other → other ≡ Ok t
+      only : (other : Outcome) → IsOutcome schema source tokens other → other ≡ Ok c
       only other (inl (fault, first, e)) = absurd (accepted.fits fault first.0)
-      only other (inr (inl (u, is, e))) = e ∙ ap (λ (v : Told). Ok v) (sym (same_told t u (same (asks u) is)))
-      only other (inr (inr n)) = absurd (no_query n.change t n.changes (sym (same n.change n.accepted)))
-
-  -- what is accepted and isn't run yet is told Syntax at its first token, and nothing else
-  change_outcome : (c : Command) (first : Token) → IsAccepted source schema tokens c → IsChange c → slice_get tokens 0 ≡ Some first
-      → ((d : Command) → IsAccepted source schema tokens d → c ≡ d) → IsTheOutcome schema source tokens (Err (Syntax first.from))
-  change_outcome c first accepted changes at same = record {
-    told = inr (inr (record { change = c; first = first; accepted = accepted; changes = changes; at = at; told = refl }));
-    only = only;
-  }
-    where
-      only : (other : Outcome) → IsOutcome schema source tokens other → other ≡ Err (Syntax first.from)
-      only other (inl (fault, is, e)) = absurd (accepted.fits fault is.0)
-      only other (inr (inl (u, is, e))) = absurd (no_query c u changes (same (asks u) is))
-      only other (inr (inr n)) = n.told ∙ ap (λ (t : Token). Err (Syntax t.from)) (same_first (slice_get tokens 0) n.first first n.at at)
+      only other (inr (d, is, e)) = e ∙ ap (λ (x : Command). Ok x) (sym (same d is))
 
   -- nor what is refused for the first of its faults
   refused_outcome : (fault : SqlFault) → fault ≢ Memory → IsFirstFault source schema tokens fault → ((c : Command) → IsAccepted source schema tokens c → fault ≡ Memory)
@@ -61,66 +40,93 @@ module _ (schema : Schema) (source : List ℕ) (tokens : List Token) where
 
       only : (other : Outcome) → IsOutcome schema source tokens other → other ≡ Err fault
       only other (inl (f, is, e)) = e ∙ ap (λ (g : SqlFault). Err g) (one f (same f is))
-      only other (inr (inl (u, is, e))) = absurd (differs (none (asks u) is))
-      only other (inr (inr n)) = absurd (differs (none n.change n.accepted))
-
-module _ (basis : Basis) (source : List ℕ) (tokens : List Token) (schema : Schema) (same : schema ≡ schema_of basis) where
-  module _ (t : Told) (accepted : IsAccepted source schema tokens (asks t)) (only : (c : Command) → IsAccepted source schema tokens c → asks t ≡ c) where
-    heard_so : IsTheOutcome (schema_of basis) source tokens (Ok t)
-    heard_so = subst (λ (s : Schema). IsTheOutcome s source tokens (Ok t)) same (accepted_outcome schema source tokens t accepted only)
-
-    -- what is made of an accepted query answers it
-    pub accepted_answer : (text : List ℕ) (is_refused : Bool) (before after : ℕ) → Makes (IsReply basis (Ok t)) text is_refused before after
-        → Makes (IsAnswer basis source tokens) text is_refused before after
-    accepted_answer text is_refused before after (pages, is, fetched) = (pages, record { outcome = Ok t; heard = heard_so; reply_is = is }, fetched)
-
-    -- where no reply is made of it, it is unanswered
-    pub accepted_ended : (fault : RunFault) (before after : ℕ) → Fetches (AreSomeOf t.is_explained basis t.asked) before after
-        → Fetches (IsEnded basis source tokens fault) before after
-    accepted_ended fault before after (pages, some, fetched) = (pages, inr (record { told = t; heard = heard_so; some = some }), fetched)
-
-  -- a refusal answers what isn't run yet
-  pub change_answer : (c : Command) (first : Token) (text : List ℕ) (is_refused : Bool) (fetches : ℕ) → IsAccepted source schema tokens c → IsChange c
-      → slice_get tokens 0 ≡ Some first → ((d : Command) → IsAccepted source schema tokens d → c ≡ d)
-      → (text ≡ refused_text (Syntax first.from)) × (is_refused ≡ true) × (Syntax first.from ≢ Memory) → Makes (IsAnswer basis source tokens) text is_refused fetches fetches
-  change_answer c first text is_refused fetches accepted changes at only is = (
-    0,
-    record {
-      outcome = Err (Syntax first.from);
-      heard = subst (λ (s : Schema). IsTheOutcome s source tokens (Err (Syntax first.from))) same (change_outcome schema source tokens c first accepted changes at only);
-      reply_is = rw (is.0, is.1) refl;
-    },
-    refl,
-  )
-
-  -- a refusal answers a statement that is refused
-  pub refused_answer : (fault : SqlFault) (text : List ℕ) (is_refused : Bool) (fetches : ℕ)
-      → (fault ≡ Memory) ⊎ IsFirstFault source schema tokens fault → ((c : Command) → IsAccepted source schema tokens c → fault ≡ Memory)
-      → ((f : SqlFault) → IsFirstFault source schema tokens f → (fault ≡ Memory) ⊎ (fault ≡ f))
-      → (text ≡ refused_text fault) × (is_refused ≡ true) × (fault ≢ Memory) → Makes (IsAnswer basis source tokens) text is_refused fetches fetches
-  refused_answer fault text is_refused fetches (inl memory) none only is = absurd (is.2 memory)
-  refused_answer fault text is_refused fetches (inr first) none only is = (
-    0,
-    record {
-      outcome = Err fault;
-      heard = subst (λ (s : Schema). IsTheOutcome s source tokens (Err fault)) same (refused_outcome schema source tokens fault is.2 first none only);
-      reply_is = rw (is.0, is.1) refl;
-    },
-    refl,
-  )
+      only other (inr (d, is, e)) = absurd (differs (none d is))
 
 -- the schema of a tree is that of what its replies rest on
 pub schema_of_basis : (t : TreeView) (basis : Basis) → IsBasisOf t basis → t.schema ≡ schema_of basis
-schema_of_basis t (on_table table in_regions) is = sym is.0.schema_is
+schema_of_basis t (on_stand s) is = sym is.schema_is
 schema_of_basis t (over_any seen) is = ap (λ (u : TreeView). u.schema) is
 
--- what follows from what holds of the fault holds of the fault, where the fault is handed on
-pub if_ended : {T : Type 0} (r : Result T RunFault) (P : Type 0) (Q : RunFault → Type 0) → ((e : RunFault) → P → Q e) → OnErr r P → IfErr r Q
-if_ended (Ok x) P Q f h = tt
-if_ended (Err e) P Q f h = f e h
+-- ---- a query
 
--- want of memory before any page
-pub memory_ended : {T : Type 0} (r : Result T RunFault) (basis : Basis) (source : List ℕ) (tokens : List Token) (fetches : ℕ) → IfErr r (λ e. e ≡ run.Memory)
-    → IfErr r (λ fault. Fetches (IsEnded basis source tokens fault) fetches fetches)
-memory_ended (Ok x) basis source tokens fetches h = tt
-memory_ended (Err e) basis source tokens fetches h = (0, inl (h, refl), refl)
+-- what is made of it is the reply to it, and leaves what it rested on
+asked_replies : {A : Type 0} (basis : Basis) (t : Told) (old new : TreeView) (x : A) (text : List ℕ) (is_refused : Bool) → IsBasisOf old basis → RunsReading old new (Ok x)
+    → Makes (IsAskedReply t.is_explained basis t.asked) text is_refused old.trace.fetches new.trace.fetches → Replies (IsReply basis (Ok (asks t))) text is_refused old new
+asked_replies basis t old new x text is_refused of h (pages, is, fetched) =
+    (pages, 0, basis, (is, refl, refl), basis_kept old new basis (Keeps-by old new h.same) of, fetched)
+
+pub asked_answer : {A : Type 0} (r : Result A RunFault) (text : A → List ℕ) (is_refused : A → Bool) (basis : Basis) (t : Told) (old new : TreeView) → IsBasisOf old basis → RunsReading old new r
+    → IfOk r (λ a. Makes (IsAskedReply t.is_explained basis t.asked) (text a) (is_refused a) old.trace.fetches new.trace.fetches)
+    → IfOk r (λ a. Replies (IsReply basis (Ok (asks t))) (text a) (is_refused a) old new)
+asked_answer (Ok a) text is_refused basis t old new of h made = asked_replies basis t old new a (text a) (is_refused a) of h made
+asked_answer (Err e) text is_refused basis t old new of h made = made
+
+asked_end : {A : Type 0} (basis : Basis) (old new : TreeView) (fault : RunFault) → IsBasisOf old basis → RunsReading {A = A} old new (Err fault) → IsAskedEnd basis fault basis
+asked_end (on_stand s) old new fault of h = refl
+asked_end (over_any seen) old new fault of h = (given_before seen old fault of h.faults, refl)
+
+-- where a fault ended it
+asked_stops : {A : Type 0} (basis : Basis) (t : Told) (old new : TreeView) (fault : RunFault) → IsBasisOf old basis → RunsReading {A = A} old new (Err fault)
+    → Fetches (AreSomeOf t.is_explained basis t.asked) old.trace.fetches new.trace.fetches → Stops (IsCommandEnd basis (asks t) fault) old new
+asked_stops {A = A} basis t old new fault of h (pages, some, fetched) =
+    (pages, basis, (some, asked_end {A = A} basis old new fault of h), rest_reading {A = A} old new basis fault of h, fetched)
+
+pub asked_ended : {A : Type 0} (r : Result A RunFault) (basis : Basis) (t : Told) (old new : TreeView) → IsBasisOf old basis → RunsReading old new r
+    → OnErr r (Fetches (AreSomeOf t.is_explained basis t.asked) old.trace.fetches new.trace.fetches) → IfErr r (λ fault. Stops (IsCommandEnd basis (asks t) fault) old new)
+asked_ended (Ok a) basis t old new of h some = tt
+asked_ended {A = A} (Err e) basis t old new of h some = asked_stops {A = A} basis t old new e of h some
+
+-- ---- a statement
+
+module _ (t : TreeView) (basis : Basis) (source : List ℕ) (tokens : List Token) (schema : Schema) (of : IsBasisOf t basis) (told : schema ≡ t.schema) where
+  same_schema : schema ≡ schema_of basis
+  same_schema = told ∙ schema_of_basis t basis of
+
+  module _ (c : Command) (accepted : IsAccepted source schema tokens c) (only : (d : Command) → IsAccepted source schema tokens d → c ≡ d) where
+    heard_so : IsTheOutcome (schema_of basis) source tokens (Ok c)
+    heard_so = subst (λ (s : Schema). IsTheOutcome s source tokens (Ok c)) same_schema (accepted_outcome schema source tokens c accepted only)
+
+    -- what is made of an accepted statement answers it
+    pub accepted_answer : (text : List ℕ) (is_refused : Bool) (new : TreeView) → Replies (IsReply basis (Ok c)) text is_refused t new
+        → Replies (IsAnswer basis source tokens) text is_refused t new
+    accepted_answer text is_refused new (pages, changed, now, is, left, fetched) =
+        (pages, changed, now, record { outcome = Ok c; heard = heard_so; stands = stands_of t basis of; reply_is = is }, left, fetched)
+
+    -- where no reply is made of it, it is unanswered
+    pub accepted_ended : (fault : RunFault) (new : TreeView) → Stops (IsCommandEnd basis c fault) t new → Stops (IsEnded basis source tokens fault) t new
+    accepted_ended fault new (pages, now, ended, rest, fetched) = (pages, now, inr (record { says = c; heard = heard_so; ended = ended }), rest, fetched)
+
+  -- a refusal answers a statement that is refused
+  pub refused_answer : (fault : SqlFault) (text : List ℕ) (is_refused : Bool)
+      → (fault ≡ Memory) ⊎ IsFirstFault source schema tokens fault → ((c : Command) → IsAccepted source schema tokens c → fault ≡ Memory)
+      → ((f : SqlFault) → IsFirstFault source schema tokens f → (fault ≡ Memory) ⊎ (fault ≡ f))
+      → (text ≡ refused_text fault) × (is_refused ≡ true) × (fault ≢ Memory) → Replies (IsAnswer basis source tokens) text is_refused t t
+  refused_answer fault text is_refused (inl memory) none only is = absurd (is.2 memory)
+  refused_answer fault text is_refused (inr first) none only is = (
+    0,
+    0,
+    basis,
+    record {
+      outcome = Err fault;
+      heard = subst (λ (s : Schema). IsTheOutcome s source tokens (Err fault)) same_schema (refused_outcome schema source tokens fault is.2 first none only);
+      stands = stands_of t basis of;
+      reply_is = (rw (is.0, is.1) refl, refl);
+    },
+    of,
+    refl,
+  )
+
+  -- want of memory before any page
+  pub memory_ended : {T : Type 0} (r : Result T RunFault) → IfErr r (λ e. e ≡ run.Memory) → IfErr r (λ fault. Stops (IsEnded basis source tokens fault) t t)
+  memory_ended (Ok x) h = tt
+  memory_ended (Err e) h = (0, basis, inl (h, refl, refl), rest_of t basis of, refl)
+
+-- ---- a refusal, or want of memory: nothing is done
+
+pub refused_runs : {T : Type 0} (r : Result T RunFault) (t : TreeView) → IfErr r (λ e. e ≡ run.Memory) → Runs t t r
+refused_runs (Ok x) t h = runs_none x t
+refused_runs (Err e) t h = runs_memory (Err e) t (rw h refl)
+
+pub refused_reads : {T : Type 0} (r : Result T RunFault) (t : TreeView) → IfErr r (λ e. e ≡ run.Memory) → RunsReading t t r
+refused_reads (Ok x) t h = record { same = refl; faults = tt }
+refused_reads (Err e) t h = rw h (record { same = refl; faults = tt })

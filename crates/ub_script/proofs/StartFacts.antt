@@ -1,20 +1,18 @@
 -- What was fetched for a statement for which there is no reply.
-use Rattle.std.proofs.Common.{◌≡◌, ◌≤◌, ℕ, Bool, false, List, Ok, Err, Result, length, refl, sym, subst, arith}
+use Rattle.std.proofs.Common.{◌≡◌, ◌≤◌, ℕ, Bool, false, List, Ok, Err, Result, length, refl, arith}
 use Rattle.std.specs.Prelude.{OnErr}
 use Rattle.ub_exec.specs.Answers.{IsReady, begun}
-use Rattle.ub_exec.specs.Reading.{CarriesOut}
+use Rattle.ub_exec.specs.Reading.{NotesPages}
+use Rattle.ub_exec.specs.Stand.{Stand, IsStandOf}
 use Rattle.ub_exec.specs.Visits.{HasFetched, HasFetchedFirst, fetches_then}
 use Rattle.ub_planning.specs.Plan.{PlanView, plan_of}
 use Rattle.ub_planning.specs.Visits.{Span, AreVisits}
 use Rattle.ub_query.proofs.Laws.{queries_have_a_meaning}
 use Rattle.ub_query.specs.Shape.{Asked}
-use Rattle.ub_script.proofs.RowsFacts.{ready_of}
-use Rattle.ub_script.specs.Basis.{Basis, on_table, over_any, AreSomeOf, IsBasisOf, IsTableOf}
+use Rattle.ub_script.proofs.RowsFacts.{pages_on, ready_of}
+use Rattle.ub_script.specs.Basis.{Basis, on_stand, over_any, AreSomeOf, IsBasisOf}
 use Rattle.ub_script.specs.Loop.{Fetches}
-use Rattle.ub_script.specs.Text.{ArePages, answer_text, reply}
-use Rattle.ub_table.specs.Region.{Region}
-use Rattle.ub_table.specs.Table.{Table}
-use Rattle.ub_table.specs.declared.schema.Schema.{Schema}
+use Rattle.ub_script.specs.Text.{answer_text, reply}
 use Rattle.ub_tree.specs.View.{TreeView, regions}
 use Rattle.ub_tree.specs.declared.read_fault.ReadFault.{ReadFault}
 
@@ -28,26 +26,22 @@ if_started (Err e) P Q f h = f h
 
 -- nothing was
 pub starts_none : (is_explained : Bool) (basis : Basis) (q : Asked) (before after : ℕ) → after ≡ before → Fetches (AreSomeOf is_explained basis q) before after
-starts_none is_explained (on_table table in_regions) q before after same = (0, λ some. absurd (omega arith), same)
+starts_none is_explained (on_stand s) q before after same = (0, λ some. absurd (omega arith), same)
 starts_none is_explained (over_any seen) q before after same = (0, λ some. absurd (omega arith), same)
 
 -- the first so many of the visits of a query's plan were
-starts_with : (old : TreeView) (after : ℕ) (table : Table) (p : PlanView) (q : Asked) (visits : List Span) (count : ℕ) → IsTableOf old table → p ≡ plan_of old.schema q
+starts_with : (old : TreeView) (after : ℕ) (s : Stand) (p : PlanView) (q : Asked) (visits : List Span) (count : ℕ) → IsStandOf old s → p ≡ plan_of old.schema q
     → AreVisits old.schema p (regions old) visits → count ≤ length visits → after ≡ fetches_then old.trace.fetches count
-    → Fetches (AreSomeOf false (on_table table (regions old)) q) old.trace.fetches after
-starts_with old after table p q visits count is planned are few fetched = (
+    → Fetches (AreSomeOf false (on_stand s) q) old.trace.fetches after
+starts_with old after s p q visits count is planned are few fetched = (
   count,
   λ any.
-      let (rows, meant) = queries_have_a_meaning table q is.rows_are.ascending in (
-        reply (answer_text table.schema q rows (length visits)) (length visits) false,
+      let (rows, meant) = queries_have_a_meaning s.table q is.rows_are.ascending in (
+        reply (answer_text s.table.schema q rows (length visits)) (length visits) false 0,
         record {
           rows = rows;
           meant = meant;
-          pages_are = subst (λ (s : Schema). ArePages s (regions old) q (length visits)) (sym is.schema_is) (record {
-            visits = visits;
-            visits_are = subst (λ (plan : PlanView). AreVisits old.schema plan (regions old) visits) planned are;
-            pages_are = refl;
-          });
+          pages_are = pages_on old s p q visits (length visits) is planned are refl;
           text_is = refl;
           accepted = refl;
         },
@@ -56,25 +50,19 @@ starts_with old after table p q visits count is planned are few fetched = (
   fetched,
 )
 
-in_regions_of : (old : TreeView) (table : Table) (q : Asked) (after : ℕ) (in_regions : List Region) → in_regions ≡ regions old
-    → Fetches (AreSomeOf false (on_table table (regions old)) q) old.trace.fetches after → Fetches (AreSomeOf false (on_table table in_regions) q) old.trace.fetches after
-in_regions_of old table q after in_regions same h = rw same h
-
 -- where carrying out the plan was ended by a fault
 pub starts_of_plan : {A : Type 0} (r : Result A ReadFault) (basis : Basis) (old new : TreeView) (p : PlanView) (q : Asked) → IsBasisOf old basis → p ≡ plan_of old.schema q
-    → (IsReady old p → (count : ℕ) × HasFetchedFirst p (begun old) new count) → CarriesOut p (begun old) new r
+    → (IsReady old p → (count : ℕ) × HasFetchedFirst p (begun old) new count) → NotesPages (begun old) new r
     → Fetches (AreSomeOf false basis q) old.trace.fetches new.trace.fetches
-starts_of_plan r (on_table table in_regions) old new p q is planned first carried =
-    let (count, by) = first (ready_of old p q is.0.sound planned) in
-    in_regions_of old table q new.trace.fetches in_regions is.1
-    (starts_with old new.trace.fetches table p q by.visits count is.0 planned by.visits_are by.few by.fetches_are)
-starts_of_plan r (over_any seen) old new p q is planned first carried = (length carried.notes.noted, λ some. refl, carried.notes.fetches_are)
+starts_of_plan r (on_stand s) old new p q is planned first notes =
+    let (count, by) = first (ready_of old p q is.sound planned) in
+    starts_with old new.trace.fetches s p q by.visits count is planned by.visits_are by.few by.fetches_are
+starts_of_plan r (over_any seen) old new p q is planned first notes = (length notes.noted, λ some. refl, notes.fetches_are)
 
 -- and where it came to its end, but there is no text
 pub starts_of_all : {A : Type 0} (r : Result A ReadFault) (basis : Basis) (old new : TreeView) (p : PlanView) (q : Asked) → IsBasisOf old basis → p ≡ plan_of old.schema q
-    → (IsReady old p → HasFetched p (begun old) new) → CarriesOut p (begun old) new r → Fetches (AreSomeOf false basis q) old.trace.fetches new.trace.fetches
-starts_of_all r (on_table table in_regions) old new p q is planned all carried =
-    let by = all (ready_of old p q is.0.sound planned) in
-    in_regions_of old table q new.trace.fetches in_regions is.1
-    (starts_with old new.trace.fetches table p q by.visits (length by.visits) is.0 planned by.visits_are (omega arith) by.fetches_are)
-starts_of_all r (over_any seen) old new p q is planned all carried = (length carried.notes.noted, λ some. refl, carried.notes.fetches_are)
+    → (IsReady old p → HasFetched p (begun old) new) → NotesPages (begun old) new r → Fetches (AreSomeOf false basis q) old.trace.fetches new.trace.fetches
+starts_of_all r (on_stand s) old new p q is planned all notes =
+    let by = all (ready_of old p q is.sound planned) in
+    starts_with old new.trace.fetches s p q by.visits (length by.visits) is planned by.visits_are (omega arith) by.fetches_are
+starts_of_all r (over_any seen) old new p q is planned all notes = (length notes.noted, λ some. refl, notes.fetches_are)

@@ -1,5 +1,5 @@
 -- What the replies to the statements of a script rest on: the table of a sound tree, or what any tree shows, sound or not.
-use Rattle.std.specs.Prelude.{◌≡◌, ◌≤◌, ℕ, ℤ, Bool, true, false, List, Result, Ok, Err, take}
+use Rattle.std.specs.Prelude.{◌≡◌, ◌≤◌, ◌⊎◌, ℕ, ℤ, Bool, true, false, List, Result, Ok, Err, take}
 use Rattle.ub_exec.specs.Stand.{Stand, IsStand, IsStandOf, selected_of, without_rows}
 use Rattle.ub_parser.specs.Outcome.{Command, asks, puts, takes}
 use Rattle.ub_query.specs.Shape.{Asked}

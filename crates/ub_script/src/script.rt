@@ -3,18 +3,19 @@ ghost use Rattle.ub_lexer.specs.Tokens.{AreSpelled};
 ghost use Rattle.ub_load.specs.LoadedTable.{records_of};
 ghost use Rattle.ub_load.specs.Refusals.{first_refusal};
 ghost use Rattle.ub_load.specs.declared.fault.LoadFault.{LoadFault};
+ghost use Rattle.ub_parser.specs.Outcome.{IsGiven, command};
 ghost use Rattle.ub_planning.specs.Plan.{plan_of};
 ghost use Rattle.ub_query.specs.Posed.{IsPosed};
 ghost use Rattle.ub_query.specs.Shape.{asked};
 ghost use Rattle.ub_table.specs.Schema.{AreTableNumbers};
 ghost use Rattle.ub_store.specs.declared.fault.StoreFault.{StoreFault};
 ghost use Rattle.ub_tree.specs.declared.fault.TreeFault.{TreeFault};
-ghost use Rattle.ub_script.specs.Basis.{IsAskedReply, AreSomeOf, IsBasisOf, IsRestOf};
+ghost use Rattle.ub_script.specs.Basis.{IsAskedReply, AreSomeOf, IsBasisOf, IsCommandEnd, IsReply, IsRestOf};
 ghost use Rattle.ub_script.specs.Output.{Takes};
 ghost use Rattle.ub_script.specs.Run.{IsAnswer, IsEnded, IsRange, FirstAt, EndedAt, IsWhole, IsStopped, IsCutOff, Ran, IsRun, IsDone, IsBegun, IsBroken};
 ghost use Rattle.ub_script.specs.Faults.{Runs, RunsReading, failures_after};
 ghost use Rattle.ub_script.specs.Loop.{OnEach, Makes, Fetches, IsAnswerAt, IsCutAt, Replies, Stops};
-ghost use Rattle.ub_script.specs.Script.{AreAsking, IsAsking};
+ghost use Rattle.ub_script.specs.Script.{AreAsking, IsAsking, IsChange};
 ghost use Rattle.ub_script.specs.Text.{refused_text};
 ghost use Rattle.ub_script.specs.declared.script.Summary.{Summary};
 
@@ -212,11 +213,32 @@ fn answer_to<S: PageStore>(
         → RunsReading tree.old tree.new result }
 {
     match parse(alloc, source, tokens, tree.schema()) {
-        Ok(Statement::Select(query)) => answer_asked(alloc, tree, false, &query),
-        Ok(Statement::Explain(query)) => answer_asked(alloc, tree, true, &query),
-        Ok(Statement::Insert(values)) => insert_row(alloc, tree, values.as_slice()),
-        Ok(Statement::Delete(query)) => delete_rows(alloc, tree, &query),
+        Ok(statement) => answer_accepted(alloc, tree, &statement),
         Err(fault) => refusal(alloc, fault),
+    }
+}
+
+// Does what an accepted statement says, and makes its text.
+fn answer_accepted<S: PageStore>(
+    alloc: Global,
+    tree: &mut Tree<S>,
+    statement: &Statement,
+) -> Result<Answer, RunFault>
+    requires { IsGiven tree.old.schema (command statement.now) }
+    ensures answer { OnEach tree.old (λ basis. IfOk result (λ a.
+        Replies (IsReply basis (Ok (command statement.now))) a.text.items a.is_refused
+        tree.old tree.new)) }
+    ensures stopped { OnEach tree.old (λ basis. IfErr result (λ fault.
+        Stops (IsCommandEnd basis (command statement.now) fault) tree.old tree.new)) }
+    ensures no_write { ¬ (IsErrOf result RunFault.Write) }
+    ensures effect { Runs tree.old tree.new result }
+    ensures asked { ¬ (IsChange (command statement.now)) → RunsReading tree.old tree.new result }
+{
+    match statement {
+        Statement::Select(query) => answer_asked(alloc, tree, false, query),
+        Statement::Explain(query) => answer_asked(alloc, tree, true, query),
+        Statement::Insert(values) => insert_row(alloc, tree, values.as_slice()),
+        Statement::Delete(query) => delete_rows(alloc, tree, query),
     }
 }
 

@@ -14,9 +14,9 @@ returns-clause-answer g c basis is =
 pub returns-in_err-answer-clause-stopped : goal.returns-in_err-answer-clause-stopped
 returns-in_err-answer-clause-stopped g c basis is =
     on_err c.from_residual.result _
-    (starts_of_plan _ basis c.args.tree.now c.execute.new.tree c.args.plan.now (asked c.args.query.now) is c.requires.planned c.in_err-answer.ensures.broken c.in_err-answer.ensures.reads)
+    (starts_of_plan _ basis c.args.tree.now c.execute.new.tree c.args.plan.now (asked c.args.query.now) is c.requires.planned c.in_err-answer.ensures.broken c.in_err-answer.ensures.reads.notes)
 
 pub returns-in_err-answer_text-clause-stopped : goal.returns-in_err-answer_text-clause-stopped
 returns-in_err-answer_text-clause-stopped g c basis is =
     on_err c.from_residual-in_err-answer_text.result _
-    (starts_of_all _ basis c.args.tree.now c.execute.new.tree c.args.plan.now (asked c.args.query.now) is c.requires.planned c.in_ok-answer.ensures.pages c.in_ok-answer.ensures.reads)
+    (starts_of_all _ basis c.args.tree.now c.execute.new.tree c.args.plan.now (asked c.args.query.now) is c.requires.planned c.in_ok-answer.ensures.pages c.in_ok-answer.ensures.reads.notes)

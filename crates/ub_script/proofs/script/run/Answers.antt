@@ -15,7 +15,7 @@ pub returns : goal.returns
 returns g c =
     let tokens : AreTokens c.args.script.now c.deref-2.result.now = rw c.deref-2.ensures.value c.in_ok-tokens.ensures.tokens in
     let ranges : AreStatements c.deref-2.result.now c.deref-3.result.now = same_statements _ _ _ _ (c.deref-2.ensures.value ∙ sym c.deref.ensures.value) c.deref-3.ensures.value c.in_ok-ranges.ensures.statements in
-    run_over _ _ _ _ _ _ _ _ tokens ranges c.run_statements.ensures.done c.run_statements.ensures.write c.run_statements.ensures.begun c.run_statements.ensures.failures c.run_statements.ensures.effect
+    run_over _ _ _ _ _ _ _ _ tokens ranges c.run_statements.ensures.done c.run_statements.ensures.write c.run_statements.ensures.begun c.run_statements.ensures.failures c.run_statements.ensures.effect c.run_statements.ensures.asked
 
 pub returns-in_err-tokens : goal.returns-in_err-tokens
 returns-in_err-tokens g c =

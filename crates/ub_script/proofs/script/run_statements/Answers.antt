@@ -1,15 +1,16 @@
-use Rattle.std.proofs.Common.{◌≡◌, ◌≤◌, ◌+◌, ◌∙◌, Bool, cond, length, arith, refl, rules, sym}
-use Rattle.ub_script.proofs.KeptFacts.{basis_kept, runs_by}
+use Rattle.std.proofs.Common.{◌≡◌, ◌≤◌, ◌+◌, ◌∙◌, Bool, Ok, Err, cond, length, arith, refl, rules, sym}
+use Rattle.ub_script.proofs.KeptFacts.{reads_by, runs_err, runs_more, runs_none, runs_ok}
 use Rattle.ub_tree.proofs.Laws.{Keeps-none, Keeps-by, Keeps-more}
-use Rattle.ub_script.proofs.RunFacts.{come_none, come_more, come_broken, come_stopped, come_whole, other_err, same_failures}
+use Rattle.ub_script.proofs.RunFacts.{asks_at, come_none, come_more, come_broken, come_stopped, come_whole, other_err, same_failures}
 use Rattle.ub_script.proofs.script.run_statements.Goals as goal
 use Rattle.ub_script.proofs.script.run_statements.Goals.{then-branch, else-branch}
 
 pub loop-range-init : goal.loop-range-init
 loop-range-init g c = record {
-  run = λ basis is. come_none basis _ _ _ _ _;
+  run = λ basis is. come_none basis _ _ _ _ _ _ is;
   few = omega arith;
-  kept = Keeps-none _;
+  runs = runs_none _ _;
+  asked = λ asks. Keeps-none _;
   failures = refl;
 }
 
@@ -29,27 +30,34 @@ loop-range-preserved g c =
     ] in
     record {
       run = λ basis is.
-          come_more basis c.args.source.now c.args.tokens.now c.args.ranges.now c.loop-range.range-index c.loop-range.refused _ _ _ _ _ (0, 0) c.loop-range-test.true
-          (inv.run basis is) _ c.in_ok-run_statement.field-0 _ (done basis (basis_kept _ _ basis inv.kept is)) next;
+          let come = inv.run basis is in
+          come_more c.args.source.now c.args.tokens.now basis c.args.ranges.now c.loop-range.range-index c.loop-range.refused _ _ _ _ _ _ (0, 0) c.loop-range-test.true
+          come _ c.in_ok-run_statement.field-0 _ _ (done come.now come.left) next;
       few = few;
-      kept = Keeps-more _ _ _ inv.kept (Keeps-by _ _ c.in_ok-run_statement.ensures.effect.same);
+      runs = runs_ok _ _ _ _ (runs_more _ (Ok c.in_ok-run_statement.field-0) _ _ _ inv.runs c.in_ok-run_statement.ensures.effect);
+      asked = λ asks.
+          Keeps-more _ _ _ (inv.asked asks)
+          (Keeps-by _ _
+          (c.in_ok-run_statement.ensures.asked
+          (asks_at _ _ c.args.source.now c.args.tokens.now c.args.ranges.now c.loop-range.range-index (0, 0) inv.runs.schema asks c.loop-range-test.true)).same);
       failures = c.in_ok-run_statement.ensures.failures ∙ inv.failures;
     }
 
 pub returns-in_err-run_statement-clause-begun : goal.returns-in_err-run_statement-clause-begun
 returns-in_err-run_statement-clause-begun g c basis is =
-    let inv = c.loop-range.invariant in
+    let come = c.loop-range.invariant.run basis is in
     other_err _ _ _ c.from_residual.ensures.1
-    (λ differs. come_stopped basis c.args.source.now c.args.tokens.now c.args.ranges.now c.loop-range.range-index c.loop-range.refused _ _ _ _ _ (0, 0) c.loop-range-test.true
-    (inv.run basis is) _ _ (c.in_err-run_statement.ensures.begun differs)
-    (c.in_err-run_statement.ensures.stopped basis (basis_kept _ _ basis inv.kept is) differs))
+    (λ differs.
+        let (more, now, ended, rest, fetched) = c.in_err-run_statement.ensures.stopped come.now come.left differs in
+        come_stopped c.args.source.now c.args.tokens.now basis c.args.ranges.now c.loop-range.range-index c.loop-range.refused _ _ _ _ _ _ (0, 0) c.loop-range-test.true
+        come _ _ _ more now (c.in_err-run_statement.ensures.begun differs) ended rest fetched)
 
 pub returns-in_err-run_statement-clause-write : goal.returns-in_err-run_statement-clause-write
 returns-in_err-run_statement-clause-write g c basis is same =
-    let inv = c.loop-range.invariant in
-    let write = c.in_err-run_statement.ensures.write basis (basis_kept _ _ basis inv.kept is) (search rules) in
-    come_broken basis c.args.source.now c.args.tokens.now c.args.ranges.now c.loop-range.range-index c.loop-range.refused _ _ _ _ _ (0, 0) c.loop-range-test.true
-    (inv.run basis is) _ write
+    let come = c.loop-range.invariant.run basis is in
+    let write = c.in_err-run_statement.ensures.write come.now come.left (search rules) in
+    come_broken c.args.source.now c.args.tokens.now basis c.args.ranges.now c.loop-range.range-index c.loop-range.refused _ _ _ _ _ _ (0, 0) c.loop-range-test.true
+    come _ _ write
 
 pub returns-in_err-run_statement-clause-failures : goal.returns-in_err-run_statement-clause-failures
 returns-in_err-run_statement-clause-failures g c =
@@ -57,10 +65,24 @@ returns-in_err-run_statement-clause-failures g c =
     let same = same_failures Bool _ _ _ c.from_residual.ensures.1 in
     rw (raised, c.loop-range.invariant.failures) (sym same)
 
+pub returns-in_err-run_statement-clause-effect : goal.returns-in_err-run_statement-clause-effect
+returns-in_err-run_statement-clause-effect g c =
+    runs_err Bool _ _ _ _ c.from_residual.ensures.1 (runs_more _ (Err _) _ _ _ c.loop-range.invariant.runs c.in_err-run_statement.ensures.effect)
+
+pub returns-in_err-run_statement-clause-asked : goal.returns-in_err-run_statement-clause-asked
+returns-in_err-run_statement-clause-asked g c asks =
+    let inv = c.loop-range.invariant in
+    reads_by _ _ _ _ _ c.from_residual.ensures.1 (inv.asked asks).traced
+    (c.in_err-run_statement.ensures.asked
+    (asks_at _ _ c.args.source.now c.args.tokens.now c.args.ranges.now c.loop-range.range-index (0, 0) inv.runs.schema asks c.loop-range-test.true))
+
 pub returns-clause-done : goal.returns-clause-done
 returns-clause-done g c basis is =
     let all : c.loop-range.range-index ≡ length c.args.ranges.now = omega (arith, c.loop-range-test.false, c.loop-range.auto.range-index-end) in
-    come_whole basis c.args.source.now c.args.tokens.now c.args.ranges.now c.loop-range.range-index c.loop-range.refused _ _ _ _ all (c.loop-range.invariant.run basis is)
+    come_whole c.args.source.now c.args.tokens.now basis c.args.ranges.now c.loop-range.range-index c.loop-range.refused _ _ _ _ _ all (c.loop-range.invariant.run basis is)
 
-pub returns-in_err-run_statement-clause-effect : goal.returns-in_err-run_statement-clause-effect
-returns-in_err-run_statement-clause-effect g c = runs_by _ _ _ _ _ c.from_residual.ensures.1 c.loop-range.invariant.kept.traced c.in_err-run_statement.ensures.effect
+pub returns-clause-effect : goal.returns-clause-effect
+returns-clause-effect g c = runs_ok _ _ _ _ c.loop-range.invariant.runs
+
+pub returns-clause-asked : goal.returns-clause-asked
+returns-clause-asked g c asks = record { same = (c.loop-range.invariant.asked asks).traced; faults = tt }

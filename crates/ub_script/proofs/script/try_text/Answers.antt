@@ -4,34 +4,34 @@ use Rattle.ub_load.specs.LoadedTable.{records_of}
 use Rattle.ub_load.specs.Refusals.{first_refusal}
 use Rattle.ub_script.proofs.LoadedFacts.{first_wrong, tree_wrong}
 use Rattle.ub_store.specs.Facts.{StoreFacts}
-use Rattle.ub_tree.proofs.Laws.{sound_fault}
-use Rattle.ub_script.proofs.RowsFacts.{loaded_broken, loaded_done, loaded_is, loaded_stopped, loaded_table}
+use Rattle.ub_script.proofs.KeptFacts.{sound_left}
+use Rattle.ub_script.proofs.RowsFacts.{loaded_basis, loaded_broken, loaded_done, loaded_is, loaded_refused, loaded_stopped}
 use Rattle.ub_script.proofs.RunFacts.{if_ok}
 use Rattle.ub_script.proofs.script.try_text.Goals as goal
 
 pub returns-clause-done : goal.returns-clause-done
 returns-clause-done g c =
     let loaded = c.in_ok-tree.ensures.loaded refl in
-    if_ok c.run.result _ _ (λ s h. loaded_done _ _ _ _ _ loaded _ s _ _ _ _ h) (c.run.ensures.done (loaded_table _ _ _ _ _ loaded _) (loaded_is _ _ _ _ _ loaded _))
+    if_ok c.run.result _ _ (λ s h. loaded_done _ _ _ _ _ loaded _ s _ _ _ _ _ h) (c.run.ensures.done (loaded_basis _ _ _ _ _ loaded _) (loaded_is _ _ _ _ _ loaded _))
 
 pub returns-clause-write : goal.returns-clause-write
 returns-clause-write g c is =
     let loaded = c.in_ok-tree.ensures.loaded refl in
-    loaded_broken _ _ _ _ _ loaded _ _ _ _ _ (c.run.ensures.cut (loaded_table _ _ _ _ _ loaded _) (loaded_is _ _ _ _ _ loaded _) is)
+    loaded_broken _ _ _ _ _ loaded _ _ _ _ _ _ (c.run.ensures.cut (loaded_basis _ _ _ _ _ loaded _) (loaded_is _ _ _ _ _ loaded _) is)
 
 pub returns-clause-memory : goal.returns-clause-memory
 returns-clause-memory g c is =
     let loaded = c.in_ok-tree.ensures.loaded refl in
-    loaded_stopped _ _ _ _ _ loaded _ _ _ _ _ _ c.run.result is (c.run.ensures.stopped (loaded_table _ _ _ _ _ loaded _) (loaded_is _ _ _ _ _ loaded _))
+    loaded_stopped _ _ _ _ _ loaded _ _ _ _ _ _ _ c.run.result is (c.run.ensures.stopped (loaded_basis _ _ _ _ _ loaded _) (loaded_is _ _ _ _ _ loaded _))
 
 pub returns-clause-tree : goal.returns-clause-tree
 returns-clause-tree g c fault is =
     let loaded = c.in_ok-tree.ensures.loaded refl in
-    let why = rw is at c.run.ensures.effect.faults in
-    let device = sound_fault _ fault loaded.sound why.0 why.1 in
-    let fails = rw device at why.0 in
-    let never = ap (λ (facts : StoreFacts). facts.can_fail) c.in_ok-tree.ensures.working.store_is in
-    cc
+    let left = rw is at c.run.ensures.effect.left in
+    let never = ap (λ (facts : StoreFacts). facts.can_fail) c.in_ok-tree.ensures.working.store_is in (
+      sound_left _ _ fault loaded.sound never left,
+      loaded_refused _ _ _ _ _ loaded _ fault _ _ _ _ _ _ c.run.result is (c.run.ensures.stopped (loaded_basis _ _ _ _ _ loaded _) (loaded_is _ _ _ _ _ loaded _)),
+    )
 
 pub returns-in_err-tree-clause-load : goal.returns-in_err-tree-clause-load
 returns-in_err-tree-clause-load g c fault is =
