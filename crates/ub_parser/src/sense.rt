@@ -249,8 +249,9 @@ pub(crate) fn values(
         insertion.now.values }
     ensures { IfOk result (λ values. values.items ≡ spec.values_of source.now insertion.now) }
 {
+    let literals = insertion.values.as_slice();
     let mut values = Vec::new(alloc);
-    for literal in insertion.values.as_slice() {
+    for literal in literals {
         values.push(i64::try_from(value(source, &literal.literal)).unwrap())?;
     }
     Ok(values)
