@@ -1,5 +1,6 @@
 -- The three misfits of an INSERT, and which of them is the first.
 use Rattle.std.proofs.Common.{◌≡◌, ◌≢◌, ◌↔◌, ◌<◌, ◌≤◌, ◌+◌, ℕ, zero, suc, ℤ, Bool, true, false, IsTrue, List, [], ◌∷◌, length, map, drop, take, get_or, refl, sym, ap, ◌∙◌, subst, arith}
+use Rattle.std.proofs.lemmas.List.{length-map}
 use Rattle.std.proofs.lemmas.List.Elements.{All-cons, All-from_get_or, All-get_or, All-head, All-nil, All-tail}
 use Rattle.std.proofs.lemmas.List.FromFn.{get_or-enumerate_from, length-enumerate_from}
 use Rattle.std.specs.List.{All, enumerate_from}
@@ -159,7 +160,7 @@ module _ (source : List ℕ) (schema : Schema) (i : Insertion) where
       fits_some_measure schema.dims k (value_of source v.literal) here)
 
   -- and the numbers may be given
-  pub all_given : All (λ v. fits schema v.0 (value_of source v.1.literal) ≡ true) (enumerate_from 0 i.values)
+  all_given : All (λ v. fits schema v.0 (value_of source v.1.literal) ≡ true) (enumerate_from 0 i.values)
       → All (λ v. fits schema v.0 v.1 ≡ true) (enumerate_from 0 (values_of source i))
   all_given fit = numbered 0 i.values fit
     where
@@ -170,3 +171,8 @@ module _ (source : List ℕ) (schema : Schema) (i : Insertion) where
           All-cons (λ (v : ℕ × ℤ). fits schema v.0 v.1 ≡ true) (n, value_of source v.literal) _
           (All-head (λ (x : ℕ × Value). fits schema x.0 (value_of source x.1.literal) ≡ true) (n, v) _ h)
           (numbered (n + 1) vs (All-tail (λ (x : ℕ × Value). fits schema x.0 (value_of source x.1.literal) ≡ true) (n, v) _ h))
+
+  pub given_values : (values : List ℤ) → values ≡ values_of source i → length i.values ≡ length schema.columns
+      → All (λ v. fits schema v.0 (value_of source v.1.literal) ≡ true) (enumerate_from 0 i.values)
+      → (length values ≡ length schema.columns) × All (λ v. fits schema v.0 v.1 ≡ true) (enumerate_from 0 values)
+  given_values values is same fit = rw (is, length-map) (same, all_given fit)
