@@ -83,11 +83,6 @@ module _ (source : List ℕ) (schema : Schema) (tokens : List Token) where
       → (f : SqlFault) → IsFirstFault source schema tokens f → (fault ≡ Memory) ⊎ (fault ≡ f)
   only_misfit s only fault first f other = inr (one_fault source schema tokens fault f (one_misfit source schema tokens s only fault) first other)
 
-  -- the one syntax that the tokens have
-  pub is_statement : (s : Stated) → ((t : Stated) → IsStatement 64 (lexemes source tokens) t → s ≡ t) → ((t : Stated) × IsStatement 64 (lexemes source tokens) t)
-      → IsStatement 64 (lexemes source tokens) s
-  is_statement s only w = rw (only w.0 w.1) w.1
-
   -- what is accepted is what the one syntax says
   pub accepted_only : (s : Stated) → ((t : Stated) → IsStatement 64 (lexemes source tokens) t → s ≡ t) → (said c : Command) → IsAccepted source schema tokens c
       → said ≡ command_of source schema s → said ≡ c

@@ -8,7 +8,7 @@ use Rattle.ub_lexer.specs.Tokens.{text_of}
 use Rattle.ub_lexer.specs.declared.token.Token.{Token}
 use Rattle.ub_syntax.specs.declared.syntax.Insertion.{Insertion}
 use Rattle.ub_syntax.specs.declared.syntax.Value.{Value}
-use Rattle.ub_parser.specs.Refusals.{IsFirst, IsUnfit, IsInsertMisfit, IsFirstInsertMisfit, begins, miscounted, rank}
+use Rattle.ub_parser.specs.Refusals.{IsFirst, IsUnfit, IsInsertMisfit, IsFirstInsertMisfit, begins, rank}
 use Rattle.ub_parser.specs.Sense.{value_of, values_of}
 use Rattle.ub_parser.specs.declared.fault.SqlFault.{SqlFault}
 use Rattle.ub_parser.specs.declared.fault.SqlFault.TheVariants.{BadByte, Syntax, NumberTooLarge, TooDeep, TooMany, UnknownTable, UnknownColumn, NotGrouped, NotSelected, ValueCount, ValueRange, Memory}
@@ -92,10 +92,6 @@ module _ (source : List ℕ) (schema : Schema) (i : Insertion) where
 
   pub no_table : (r : Bool) → (IsTrue r ↔ (text_of source i.table ≢ schema.name)) → r ≡ false → No (λ at. UnknownTable at)
   no_table r tells is at h = fails r (text_of source i.table ≢ schema.name) tells is h.0
-
-  pub first_count : No (λ at. UnknownTable at) → length i.values ≢ length schema.columns → (t : Token) → t ≡ miscounted schema i
-      → IsFirstInsertMisfit source schema i (ValueCount t.from)
-  first_count table other t is = ((other, ap (λ (u : Token). u.from) is), below 10 (λ lt. table) (λ lt. absurd (omega arith)) (λ lt. absurd (omega arith)))
 
   pub no_count : length i.values ≡ length schema.columns → No (λ at. ValueCount at)
   no_count same at h = h.0 same

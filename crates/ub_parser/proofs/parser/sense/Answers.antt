@@ -136,8 +136,7 @@ returns-in_ok-query-in-Delete-clause-accepted c =
 
 pub returns-in_ok-query-in-Delete-clause-given : goal.returns-in_ok-query-in-Delete-clause-given
 returns-in_ok-query-in-Delete-clause-given c =
-    let is = built_delete c.args.source.now c.args.schema.now c.args.tokens.now c.in_ok-sentence.sentence c.in_ok-sentence.ensures c.requires.statement c.in-Delete.syntax c.in-Delete.is in
-    (
+    let is = built_delete c.args.source.now c.args.schema.now c.args.tokens.now c.in_ok-sentence.sentence c.in_ok-sentence.ensures c.requires.statement c.in-Delete.syntax c.in-Delete.is in (
       delete_posed c.args.source.now c.args.schema.now c.args.tokens.now c.requires.spelled c.requires.numbers (select_of c.in-Delete.syntax) c.in_ok-query-in-Delete.ensures.fits c.in_ok-query-in-Delete.ensures.known (asked c.in_ok-query-in-Delete.query) c.in_ok-query-in-Delete.ensures.asked c.in_ok-query-in-Delete.ensures.over is,
       delete_rows c.args.source.now c.args.schema.now c.args.tokens.now c.requires.spelled c.requires.numbers (select_of c.in-Delete.syntax) c.in_ok-query-in-Delete.ensures.fits c.in_ok-query-in-Delete.ensures.known (asked c.in_ok-query-in-Delete.query) c.in_ok-query-in-Delete.ensures.asked c.in_ok-query-in-Delete.ensures.over is,
     )

@@ -1,9 +1,9 @@
 -- Where the tests before it find nothing, what a test finds is the first misfit.
-use Rattle.std.proofs.Common.{◌≡◌, ◌<◌, ℕ, List, length, subst}
+use Rattle.std.proofs.Common.{◌≡◌, ℕ, List, length, subst}
 use Rattle.std.specs.List.{All, enumerate_from}
 use Rattle.ub_syntax.specs.declared.syntax.Value.{Value}
 use Rattle.ub_parser.specs.Refusals.{IsFirst, IsUnfit}
-use Rattle.ub_parser.proofs.ValueFacts.{first_table, first_count, first_range, no_table, no_count, no_misfit, all_fit}
+use Rattle.ub_parser.proofs.ValueFacts.{first_table, first_range, no_table, no_count, no_misfit, all_fit}
 use Rattle.ub_parser.proofs.values.misvalued.Goals as goal
 
 pub returns-then-is_unknown_table-clause-first : goal.returns-then-is_unknown_table-clause-first
@@ -17,7 +17,7 @@ returns-in-Some-clause-first c =
     let i = c.args.insertion.now in
     let same : length i.values ≡ length schema.columns = cc in
     let found : (column : ℕ) × IsFirst (λ v. IsUnfit source schema v) (enumerate_from 0 i.values) (column, c.in-Some.value) =
-      subst (λ (vs : List Value). (column : ℕ) × IsFirst (λ v. IsUnfit source schema v) (enumerate_from 0 vs) (column, c.in-Some.value)) c.as_slice-2.ensures c.in-Some.ensures in
+    subst (λ (vs : List Value). (column : ℕ) × IsFirst (λ v. IsUnfit source schema v) (enumerate_from 0 vs) (column, c.in-Some.value)) c.as_slice-2.ensures c.in-Some.ensures in
     first_range source schema i (no_table source schema i c.is_unknown_table.result c.is_unknown_table.ensures c.if-is_unknown_table.false)
     (no_count source schema i same) found.0 c.in-Some.value found.1
 
@@ -28,7 +28,7 @@ returns-clause-first c =
     let i = c.args.insertion.now in
     let same : length i.values ≡ length schema.columns = cc in
     let all : All (λ v. ¬ IsUnfit source schema v) (enumerate_from 0 i.values) =
-      subst (λ (vs : List Value). All (λ v. ¬ IsUnfit source schema v) (enumerate_from 0 vs)) c.as_slice-2.ensures c.in_default.ensures in
+    subst (λ (vs : List Value). All (λ v. ¬ IsUnfit source schema v) (enumerate_from 0 vs)) c.as_slice-2.ensures c.in_default.ensures in
     no_misfit source schema i (no_table source schema i c.is_unknown_table.result c.is_unknown_table.ensures c.if-is_unknown_table.false)
     (no_count source schema i same) all
 
@@ -39,5 +39,5 @@ returns-clause-fit c =
     let i = c.args.insertion.now in
     let same : length i.values ≡ length schema.columns = cc in
     let all : All (λ v. ¬ IsUnfit source schema v) (enumerate_from 0 i.values) =
-      subst (λ (vs : List Value). All (λ v. ¬ IsUnfit source schema v) (enumerate_from 0 vs)) c.as_slice-2.ensures c.in_default.ensures in
+    subst (λ (vs : List Value). All (λ v. ¬ IsUnfit source schema v) (enumerate_from 0 vs)) c.as_slice-2.ensures c.in_default.ensures in
     all_fit source schema i same all
