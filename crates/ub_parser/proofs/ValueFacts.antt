@@ -1,6 +1,7 @@
 -- The three misfits of an INSERT, and which of them is the first.
-use Rattle.std.proofs.Common.{◌≡◌, ◌≢◌, ◌↔◌, ◌<◌, ◌≤◌, ◌+◌, ℕ, zero, suc, ℤ, Bool, true, false, IsTrue, List, [], ◌∷◌, length, map, drop, take, get_or, refl, sym, ap, ◌∙◌, subst, arith}
-use Rattle.std.proofs.lemmas.List.{length-map}
+use Rattle.std.proofs.Common.{◌≡◌, ◌≢◌, ◌↔◌, ◌<◌, ◌≤◌, ◌+◌, ℕ, zero, suc, ℤ, Bool, true, false, IsTrue, List, [], ◌∷◌, ◌++◌, length, map, drop, take, take_all, add-one, get_or, refl, sym, ap, ◌∙◌, subst, arith}
+use Rattle.std.proofs.Math.Seq.{take-suc}
+use Rattle.std.proofs.lemmas.List.{length-map, map-append}
 use Rattle.std.proofs.lemmas.List.Elements.{All-cons, All-from_get_or, All-get_or, All-head, All-nil, All-tail}
 use Rattle.std.proofs.lemmas.List.FromFn.{get_or-enumerate_from, length-enumerate_from}
 use Rattle.std.specs.List.{All, enumerate_from}
@@ -35,6 +36,16 @@ begins_some n xs vs close v same lt is = subst (λ (ys : List Value). v.first �
 
 pub begins_none : (n : ℕ) (xs vs : List Value) (close : Token) → xs ≡ vs → length xs ≤ n → close ≡ begins (drop n vs) close
 begins_none n xs vs close same le = subst (λ (ys : List Value). close ≡ begins (drop n ys) close) same (begins_past n xs close le)
+
+-- the numbers of the values so far, with one more of them
+pub more_values : (source : List ℕ) (vs : List Value) (k : ℕ) (xs ys : List ℤ) (x : ℤ) (d : Value) → k < length vs → xs ≡ map (λ v. value_of source v.literal) (take k vs)
+    → ys ≡ xs ++ x ∷ [] → x ≡ value_of source (get_or vs k d).literal → ys ≡ map (λ v. value_of source v.literal) (take (k + 1) vs)
+more_values source vs k xs ys x d lt so_far more is = rw (add-one, take-suc vs k d lt, map-append, more, so_far, is) refl
+
+-- and of all of them
+pub all_values : (source : List ℕ) (i : Insertion) (vs : List Value) (k : ℕ) (xs : List ℤ) → vs ≡ i.values → length vs ≤ k → xs ≡ map (λ v. value_of source v.literal) (take k vs)
+    → xs ≡ values_of source i
+all_values source i vs k xs same past so_far = so_far ∙ ap (λ (ws : List Value). map (λ v. value_of source v.literal) ws) (take_all k vs past ∙ same)
 
 -- the element at a place, with that place before it
 at_place : {A : Type 0} (xs : List A) (k : ℕ) (d : ℕ × A) → k < length xs → get_or (enumerate_from 0 xs) k d ≡ (k, get_or xs k d.1)
