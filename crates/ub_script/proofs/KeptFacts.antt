@@ -1,9 +1,9 @@
 -- What a tree keeps over several statements.
-use Rattle.std.proofs.Common.{◌≡◌, ◌∙◌, inl, inr, ◌⊎◌, Bool, true, false, IsTrue, Result, Ok, Err, List, subst, sym, ap, refl}
+use Rattle.std.proofs.Common.{◌≡◌, ◌∙◌, inl, inr, ◌⊎◌, ℕ, Bool, true, false, IsTrue, Result, Ok, Err, subst, sym, ap, refl}
 use Rattle.std.specs.Result.{IsErrAnd}
 use Rattle.ub_exec.specs.Deleting.{HasLostPage, HasMetDevice}
 use Rattle.ub_exec.proofs.Laws.{read_stand, stand_by, trees_stand_soundly}
-use Rattle.ub_script.specs.Basis.{Basis, on_stand, over_any, IsBasisOf, IsRestOf, Stands}
+use Rattle.ub_script.specs.Basis.{Basis, on_stand, over_any, IsBasisOf, IsRestOf, Stands, asked_left}
 use Rattle.ub_script.specs.Faults.{IsGiven, IsRunLeft, Runs, RunsReading, counted}
 use Rattle.ub_script.specs.declared.fault.RunFault.{RunFault}
 use Rattle.ub_script.specs.declared.fault.RunFault.TheVariants as run
@@ -33,15 +33,24 @@ stands_of t (over_any seen) is = tt
 -- it is left where a fault came
 pub rest_of : (t : TreeView) (basis : Basis) → IsBasisOf t basis → IsRestOf t basis
 rest_of t (on_stand s) is = λ working. is
-rest_of t (over_any seen) is = tt
+rest_of t (over_any seen) is = is
+
+-- what a count says doesn't depend on what might have been answered
+counted_alike : (A B : Type 0) (fault : RunFault) (n : ℕ) → counted {A = A} (Err fault) n ≡ counted {A = B} (Err fault) n
+counted_alike A B run.Memory n = refl
+counted_alike A B run.Write n = refl
+counted_alike A B (run.Load fault) n = refl
+counted_alike A B (run.Tree fault) n = refl
 
 -- also where a run that reads was ended by that
-pub rest_reading : {A : Type 0} (a b : TreeView) (basis : Basis) (fault : RunFault) → IsBasisOf a basis → RunsReading {A = A} a b (Err fault) → IsRestOf b basis
-rest_reading a b (over_any seen) fault is h = tt
-rest_reading a b (on_stand s) run.Memory is h = λ working. stand_by a b s (Keeps-by a b h.same) is
-rest_reading a b (on_stand s) run.Write is h = λ working. stand_by a b s (Keeps-by a b h.same) is
-rest_reading a b (on_stand s) (run.Load fault) is h = absurd h.faults
-rest_reading {A = A} a b (on_stand s) (run.Tree fault) is h = λ working. read_stand {A = A} a b s (read.Tree fault) (record { same = h.same; faults = h.faults }) is
+pub rest_reading : (A : Type 0) (a b : TreeView) (basis : Basis) (fault : RunFault) → IsBasisOf a basis → RunsReading {A = A} a b (Err fault) → IsRestOf b (asked_left basis fault)
+rest_reading A a b (over_any seen) fault is h =
+    h.same ∙ ap (λ (n : ℕ). record a { store = record a.store { failed_reads = n }; trace = b.trace }) (counted_alike A (Unit {0}) fault a.store.failed_reads)
+    ∙ ap (λ (t : TreeView). record t { store = record t.store { failed_reads = counted {A = Unit {0}} (Err fault) t.store.failed_reads }; trace = b.trace }) is
+rest_reading A a b (on_stand s) run.Memory is h = λ working. stand_by a b s (Keeps-by a b h.same) is
+rest_reading A a b (on_stand s) run.Write is h = λ working. stand_by a b s (Keeps-by a b h.same) is
+rest_reading A a b (on_stand s) (run.Load fault) is h = absurd h.faults
+rest_reading A a b (on_stand s) (run.Tree fault) is h = λ working. read_stand {A = A} a b s (read.Tree fault) (record { same = h.same; faults = h.faults }) is
 
 -- a run's fault, seen from before an earlier call that only read
 pub given_before : (a b : TreeView) (fault : RunFault) → IsTraced a b → IsGiven b fault → IsGiven a fault

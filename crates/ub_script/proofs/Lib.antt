@@ -7,4 +7,5 @@ pub mod RowsFacts
 pub mod FormedFacts
 pub mod RunFacts
 pub mod StartFacts
+pub mod ChangeFacts
 pub mod Laws

@@ -1,5 +1,5 @@
 -- How the reply to a statement says what its outcome is.
-use Rattle.std.proofs.Common.{◌≡◌, ◌≢◌, ◌⊎◌, ◌∙◌, inl, inr, Result, Ok, Err, IfErr, IfOk, ℕ, Bool, true, false, List, refl, sym, ap, subst}
+use Rattle.std.proofs.Common.{◌≡◌, ◌≢◌, ◌⊎◌, ◌∙◌, inl, inr, Result, Ok, Err, IfErr, IfOk, ℕ, Bool, true, List, refl, sym, ap, subst}
 use Rattle.std.specs.Prelude.{OnErr}
 use Rattle.ub_lexer.specs.declared.token.Token.{Token}
 use Rattle.ub_parser.specs.Outcome.{Told, Command, asks, IsAccepted}
@@ -7,7 +7,7 @@ use Rattle.ub_parser.specs.Refusals.{IsFirstFault}
 use Rattle.ub_parser.specs.declared.fault.SqlFault.{SqlFault}
 use Rattle.ub_parser.specs.declared.fault.SqlFault.TheVariants.{Memory}
 use Rattle.ub_script.proofs.KeptFacts.{basis_kept, given_before, rest_of, rest_reading, runs_memory, runs_none, stands_of}
-use Rattle.ub_script.specs.Basis.{Basis, on_stand, over_any, schema_of, AreSomeOf, IsAskedEnd, IsAskedReply, IsBasisOf, IsCommandEnd, IsReply, Stands}
+use Rattle.ub_script.specs.Basis.{Basis, on_stand, over_any, schema_of, AreSomeOf, IsAskedFault, IsAskedReply, IsBasisOf, IsCommandEnd, IsReply, asked_left}
 use Rattle.ub_script.specs.Faults.{Runs, RunsReading}
 use Rattle.ub_script.specs.Loop.{Fetches, Makes, Replies, Stops}
 use Rattle.ub_script.specs.Run.{IsAnswer, IsEnded}
@@ -61,20 +61,20 @@ pub asked_answer : {A : Type 0} (r : Result A RunFault) (text : A → List ℕ) 
 asked_answer (Ok a) text is_refused basis t old new of h made = asked_replies basis t old new a (text a) (is_refused a) of h made
 asked_answer (Err e) text is_refused basis t old new of h made = made
 
-asked_end : {A : Type 0} (basis : Basis) (old new : TreeView) (fault : RunFault) → IsBasisOf old basis → RunsReading {A = A} old new (Err fault) → IsAskedEnd basis fault basis
-asked_end (on_stand s) old new fault of h = refl
-asked_end (over_any seen) old new fault of h = (given_before seen old fault of h.faults, refl)
+asked_fault : (A : Type 0) (basis : Basis) (old new : TreeView) (fault : RunFault) → IsBasisOf old basis → RunsReading {A = A} old new (Err fault) → IsAskedFault basis fault
+asked_fault A (on_stand s) old new fault of h = tt
+asked_fault A (over_any seen) old new fault of h = given_before seen old fault of h.faults
 
 -- where a fault ended it
-asked_stops : {A : Type 0} (basis : Basis) (t : Told) (old new : TreeView) (fault : RunFault) → IsBasisOf old basis → RunsReading {A = A} old new (Err fault)
+asked_stops : (A : Type 0) (basis : Basis) (t : Told) (old new : TreeView) (fault : RunFault) → IsBasisOf old basis → RunsReading {A = A} old new (Err fault)
     → Fetches (AreSomeOf t.is_explained basis t.asked) old.trace.fetches new.trace.fetches → Stops (IsCommandEnd basis (asks t) fault) old new
-asked_stops {A = A} basis t old new fault of h (pages, some, fetched) =
-    (pages, basis, (some, asked_end {A = A} basis old new fault of h), rest_reading {A = A} old new basis fault of h, fetched)
+asked_stops A basis t old new fault of h (pages, some, fetched) =
+    (pages, asked_left basis fault, (some, asked_fault A basis old new fault of h, refl), rest_reading A old new basis fault of h, fetched)
 
 pub asked_ended : {A : Type 0} (r : Result A RunFault) (basis : Basis) (t : Told) (old new : TreeView) → IsBasisOf old basis → RunsReading old new r
     → OnErr r (Fetches (AreSomeOf t.is_explained basis t.asked) old.trace.fetches new.trace.fetches) → IfErr r (λ fault. Stops (IsCommandEnd basis (asks t) fault) old new)
 asked_ended (Ok a) basis t old new of h some = tt
-asked_ended {A = A} (Err e) basis t old new of h some = asked_stops {A = A} basis t old new e of h some
+asked_ended {A = A} (Err e) basis t old new of h some = asked_stops A basis t old new e of h some
 
 -- ---- what is said of one command, said of another one that is the same
 

@@ -1,5 +1,5 @@
 -- What was carried out over a sound tree is the reply on its table; and what was run on the tree of a CSV text.
-use Rattle.std.proofs.Common.{◌≡◌, ◌≢◌, ◌⊎◌, ◌++◌, ◌∷◌, ◌∙◌, inl, inr, ℕ, List, [], Result, Err, IfErr, true, false, length, map, sym, ap, refl, subst}
+use Rattle.std.proofs.Common.{◌≡◌, ◌≢◌, ◌⊎◌, ◌++◌, ◌∷◌, ◌∙◌, inl, inr, ℕ, List, [], Result, Err, IfErr, true, false, length, sym, ap, refl, subst}
 use Rattle.std.proofs.lemmas.List.{length-map}
 use Rattle.ub_exec.specs.Answers.{begun, IsReady, IsAnswer as IsPlanAnswer}
 use Rattle.ub_exec.specs.Stand.{Stand, IsStandOf}

@@ -13,7 +13,7 @@ use Rattle.ub_script.specs.Faults.{Runs, RunsReading, failures_after}
 use Rattle.ub_script.specs.Loop.{IsAnswerAt, IsCutAt, OnEach}
 use Rattle.ub_script.specs.Output.{OutFacts, Breaks, Puts}
 use Rattle.ub_script.specs.Run.{EndedAt, EndedOver, IsEnded, IsRange, IsAnswer, AreAnswers, FirstAt, FirstOver, IsWhole, IsStopped, IsCutOff, IsRun, Ran}
-use Rattle.ub_script.specs.Script.{AreAsking, IsAsking, OnlyAsks}
+use Rattle.ub_script.specs.Script.{AreAsking, IsAsking}
 use Rattle.ub_script.specs.Text.{Reply, reply, texts_of, pages_of, refused_in}
 use Rattle.ub_script.specs.declared.fault.RunFault.{RunFault}
 use Rattle.ub_script.specs.declared.fault.RunFault.TheVariants.{Memory, Write}

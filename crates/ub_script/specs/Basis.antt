@@ -4,7 +4,7 @@ use Rattle.ub_exec.specs.Stand.{Stand, IsStand, IsStandOf, selected_of, without_
 use Rattle.ub_parser.specs.Outcome.{Command, asks, puts, takes}
 use Rattle.ub_query.specs.Shape.{Asked}
 use Rattle.ub_script.specs.Changes.{HasPutIn, HasTakenOut, IsFormedDelete, IsFormedInsert, IsTableDelete, IsTableInsert}
-use Rattle.ub_script.specs.Faults.{IsGiven, fault_of_read, fault_of_tree}
+use Rattle.ub_script.specs.Faults.{IsGiven, counted, fault_of_read, fault_of_tree}
 use Rattle.ub_script.specs.Formed.{IsFormedReply, IsSameBut}
 use Rattle.ub_script.specs.Script.{Outcome}
 use Rattle.ub_script.specs.Text.{Reply, reply, refused_text, IsTableReply}
@@ -34,10 +34,10 @@ abbrev pub IsBasisOf : TreeView → Basis → Type 0
 IsBasisOf t (on_stand s) = IsStandOf t s
 IsBasisOf t (over_any seen) = IsSameBut seen t
 
--- where the table of a tree stands after a fault, unless the tree has failed: of such a one nothing is said
+-- what is left of a tree after a fault: its table stands there, unless the tree has failed; and always what it shows
 abbrev pub IsRestOf : TreeView → Basis → Type 0
 IsRestOf t (on_stand s) = t.is_failed ≡ false → IsStandOf t s
-IsRestOf t (over_any seen) = Unit {0}
+IsRestOf t (over_any seen) = IsSameBut seen t
 
 -- ---- the replies, each with what the next one rests on
 
@@ -93,13 +93,19 @@ IsDeleteEnd (over_any seen) q fault now =
     ((fault ≡ Memory) × (now ≡ over_any seen))
     ⊎ ((after : TreeView) × (told : Result ℕ ReadFault) × HasTakenOut seen q told after × IsEndOf told fault × (now ≡ over_any after))
 
--- a query was ended by a fault: over any tree by one that its reading calls answer
-abbrev pub IsAskedEnd : Basis → RunFault → Basis → Type 0
-IsAskedEnd (on_stand s) fault now = now ≡ on_stand s
-IsAskedEnd (over_any seen) fault now = IsGiven seen fault × (now ≡ over_any seen)
+-- what a query leaves that was ended by a fault: where a read failed, that is counted
+abbrev pub asked_left : Basis → RunFault → Basis
+asked_left (on_stand s) fault = on_stand s
+asked_left (over_any seen) fault = over_any (record seen { store = record seen.store { failed_reads = counted {A = Unit {0}} (Err fault) seen.store.failed_reads } })
+
+-- over any tree it is one that its reading calls answer
+abbrev pub IsAskedFault : Basis → RunFault → Type 0
+IsAskedFault (on_stand s) fault = Unit {0}
+IsAskedFault (over_any seen) fault = IsGiven seen fault
 
 -- a statement that is accepted was ended by a fault, so many pages were fetched for it, and this is left
 abbrev pub IsCommandEnd : Basis → Command → RunFault → ℕ → Basis → Type 0
-IsCommandEnd basis (asks t) fault pages now = AreSomeOf t.is_explained basis t.asked pages × IsAskedEnd basis fault now
+IsCommandEnd basis (asks t) fault pages now =
+    AreSomeOf t.is_explained basis t.asked pages × IsAskedFault basis fault × (now ≡ asked_left basis fault)
 IsCommandEnd basis (puts values) fault pages now = (pages ≡ 0) × IsInsertEnd basis values fault now
 IsCommandEnd basis (takes q) fault pages now = AreSomeOf false basis q pages × IsDeleteEnd basis q fault now

@@ -52,9 +52,10 @@ fn coordinates(alloc: Global, schema: &Schema, values: &[i64]) -> Result<Vec<u32
     ensures all { IfOk result (λ dims. length dims.items ≡ schema.now.dims) }
 {
     let mut dims = Vec::new(alloc);
-    for (dim, value) in values[..schema.dims() as usize].iter().enumerate() {
+    for dim in 0..schema.dims() as usize {
         // The value fits its dimension, so there is such a coordinate.
-        dims.push(schema.coordinate(dim, i128::from(*value)).unwrap())?;
+        let coordinate = schema.coordinate(dim, i128::from(values[dim]));
+        dims.push(coordinate.unwrap())?;
     }
     Ok(dims)
 }

@@ -1,33 +1,54 @@
-use Rattle.std.proofs.Common.{rules, ◌≡◌, false, length, IfErr, IfOk, IsErrOf, ℕ, ◌+◌, ◌-◌, ◌*◌, ◌<◌, ◌≤◌, ◌/◌, ◌%◌, Bool, true, nat_eq, nat_lt, List, [], ◌∷◌, ◌++◌, slice_index_or, slice_set, bit_and, bit_or, Fits, w8, w32, w64, Bor, MutBor}
-use Rattle.ub_parser.specs.Outcome.{puts, takes, IsGiven}
+use Rattle.std.proofs.Common.{◌≡◌, ◌∙◌, ℕ, ap}
+use Rattle.ub_parser.specs.Outcome.{IsGiven, takes}
+use Rattle.ub_planning.specs.Plan.{plan_of}
 use Rattle.ub_query.specs.Shape.{asked}
-use Rattle.ub_script.specs.Basis.{IsCommandEnd, IsDeleteReply, IsInsertReply}
-use Rattle.ub_script.specs.Changes.{coordinates_of}
-use Rattle.ub_script.specs.Faults.{Runs}
-use Rattle.ub_script.specs.Loop.{OnEach, Replies, Stops}
-use Rattle.ub_script.specs.declared.fault.RunFault.{RunFault}
+use Rattle.ub_script.proofs.ChangeFacts.{delete_replies, delete_stopped, delete_unbegun, delete_untold, if_err, runs_deleted, runs_deletion}
+use Rattle.ub_script.proofs.KeptFacts.{runs_err}
+use Rattle.ub_table.specs.declared.schema.Schema.{Schema}
 use Rattle.ub_script.proofs.changing.delete_rows.Goals as goal
 
--- src/changing.rt:78:16
 pub returns-in_err-plan-clause-stopped : goal.returns-in_err-plan-clause-stopped
-returns-in_err-plan-clause-stopped g c = ?
+returns-in_err-plan-clause-stopped g c basis is =
+    if_err c.from_residual.result _ _ c.from_residual.ensures.1 (delete_unbegun basis c.args.tree.now (asked c.args.query.now) is)
 
--- src/changing.rt:79:17
 pub returns-in_err-count-clause-stopped : goal.returns-in_err-count-clause-stopped
-returns-in_err-count-clause-stopped g c = ?
+returns-in_err-count-clause-stopped g c basis is =
+    let old = c.args.tree.now in
+    let q = asked c.args.query.now in
+    let given : IsGiven old.schema (takes q) = c.requires in
+    let planned : c.in_ok-plan.plan ≡ plan_of old.schema q = c.in_ok-plan.ensures.plan ∙ ap (λ (s : Schema). plan_of s q) c.schema.ensures in
+    if_err c.from_residual-in_err-count.result _ _ c.from_residual-in_err-count.ensures.1
+    (delete_stopped old c.delete.new.tree c.in_ok-plan.plan q planned given basis c.in_err-count.field-0.0 is c.in_err-count.ensures.stopped c.in_err-count.ensures.broken
+    c.in_err-count.ensures.reads c.in_err-count.ensures.effect)
 
--- src/changing.rt:79:17
 pub returns-in_err-count-clause-effect : goal.returns-in_err-count-clause-effect
-returns-in_err-count-clause-effect g c = ?
+returns-in_err-count-clause-effect g c =
+    runs_err ℕ c.from_residual-in_err-count.result _ _ _ c.from_residual-in_err-count.ensures.1 (runs_deletion ℕ _ _ _ c.in_err-count.ensures.effect)
 
--- src/changing.rt:81:15
 pub returns-in_err-deleted_text-clause-stopped : goal.returns-in_err-deleted_text-clause-stopped
-returns-in_err-deleted_text-clause-stopped g c = ?
+returns-in_err-deleted_text-clause-stopped g c basis is =
+    let old = c.args.tree.now in
+    let q = asked c.args.query.now in
+    let given : IsGiven old.schema (takes q) = c.requires in
+    let planned : c.in_ok-plan.plan ≡ plan_of old.schema q = c.in_ok-plan.ensures.plan ∙ ap (λ (s : Schema). plan_of s q) c.schema.ensures in
+    if_err c.from_residual-in_err-deleted_text.result _ _ c.from_residual-in_err-deleted_text.ensures.1
+    (delete_untold old c.delete.new.tree c.in_ok-plan.plan q planned given c.in_ok-count.count c.in_ok-count.ensures.deleted c.in_ok-count.ensures.pages c.in_ok-count.ensures.reads
+    c.in_ok-count.ensures.effect c.in_ok-count.ensures.untouched basis is)
 
--- src/changing.rt:64:1
 pub returns-clause-answer : goal.returns-clause-answer
-returns-clause-answer g c = ?
+returns-clause-answer g c basis is =
+    let old = c.args.tree.now in
+    let q = asked c.args.query.now in
+    let given : IsGiven old.schema (takes q) = c.requires in
+    let planned : c.in_ok-plan.plan ≡ plan_of old.schema q = c.in_ok-plan.ensures.plan ∙ ap (λ (s : Schema). plan_of s q) c.schema.ensures in
+    delete_replies old c.delete.new.tree c.in_ok-plan.plan q planned given c.in_ok-count.count c.in_ok-count.ensures.deleted c.in_ok-count.ensures.pages c.in_ok-count.ensures.reads
+    c.in_ok-count.ensures.effect c.in_ok-count.ensures.untouched basis _ is c.in_ok-deleted_text.ensures
 
--- src/changing.rt:64:1
 pub returns-clause-effect : goal.returns-clause-effect
-returns-clause-effect g c = ?
+returns-clause-effect g c =
+    let old = c.args.tree.now in
+    let q = asked c.args.query.now in
+    let given : IsGiven old.schema (takes q) = c.requires in
+    let planned : c.in_ok-plan.plan ≡ plan_of old.schema q = c.in_ok-plan.ensures.plan ∙ ap (λ (s : Schema). plan_of s q) c.schema.ensures in
+    runs_deleted old c.delete.new.tree c.in_ok-plan.plan q planned given c.in_ok-count.count c.in_ok-count.ensures.deleted c.in_ok-count.ensures.pages c.in_ok-count.ensures.reads
+    c.in_ok-count.ensures.effect c.in_ok-count.ensures.untouched _

@@ -1,29 +1,47 @@
-use Rattle.std.proofs.Common.{rules, ◌≡◌, false, length, IfErr, IfOk, IsErrOf, ℕ, ◌+◌, ◌-◌, ◌*◌, ◌<◌, ◌≤◌, ◌/◌, ◌%◌, Bool, true, nat_eq, nat_lt, List, [], ◌∷◌, ◌++◌, slice_index_or, slice_set, bit_and, bit_or, Fits, w8, w32, w64, Bor, MutBor}
-use Rattle.ub_parser.specs.Outcome.{puts, takes, IsGiven}
-use Rattle.ub_query.specs.Shape.{asked}
-use Rattle.ub_script.specs.Basis.{IsCommandEnd, IsDeleteReply, IsInsertReply}
+use Rattle.std.proofs.Common.{◌≡◌, ◌∙◌, ℕ, List, ap, sym, length}
+use Rattle.ub_script.proofs.ChangeFacts.{if_err, insert_replies, insert_stopped, insert_unbegun, put_by, put_row, runs_change}
+use Rattle.ub_parser.specs.Outcome.{IsGiven, puts}
+use Rattle.ub_script.proofs.KeptFacts.{runs_err}
 use Rattle.ub_script.specs.Changes.{coordinates_of}
-use Rattle.ub_script.specs.Faults.{Runs}
-use Rattle.ub_script.specs.Loop.{OnEach, Replies, Stops}
-use Rattle.ub_script.specs.declared.fault.RunFault.{RunFault}
+use Rattle.ub_script.specs.Text.{inserted_text}
+use Rattle.ub_table.specs.declared.schema.Schema.{Schema}
 use Rattle.ub_script.proofs.changing.insert_row.Goals as goal
 
--- src/changing.rt:38:16
 pub returns-in_err-dims-clause-stopped : goal.returns-in_err-dims-clause-stopped
-returns-in_err-dims-clause-stopped g c = ?
+returns-in_err-dims-clause-stopped g c basis is =
+    if_err c.from_residual.result _ _ c.from_residual.ensures.1 (insert_unbegun basis c.args.tree.now c.args.values.now is)
 
--- src/changing.rt:39:16
 pub returns-in_err-text-clause-stopped : goal.returns-in_err-text-clause-stopped
-returns-in_err-text-clause-stopped g c = ?
+returns-in_err-text-clause-stopped g c basis is =
+    if_err c.from_residual-in_err-text.result _ _ c.from_residual-in_err-text.ensures.1 (insert_unbegun basis c.args.tree.now c.args.values.now is)
 
--- src/changing.rt:40:5
 pub returns-in_err-insert-clause-stopped : goal.returns-in_err-insert-clause-stopped
-returns-in_err-insert-clause-stopped g c = ?
+returns-in_err-insert-clause-stopped g c basis is =
+    let old = c.args.tree.now in
+    let given : IsGiven old.schema (puts c.args.values.now) = c.requires in
+    let are : c.as_slice.result.now ≡ coordinates_of old.schema c.args.values.now =
+    c.as_slice.ensures.value ∙ c.in_ok-dims.ensures.coordinates ∙ ap (λ (s : Schema). coordinates_of s c.args.values.now) c.schema.ensures in
+    let long : c.len.result ≡ old.schema.dims =
+    c.len.ensures ∙ sym c.as_slice.ensures.len ∙ ap (λ (ds : List ℕ). length ds) c.as_slice.ensures.value ∙ c.in_ok-dims.ensures.all ∙ ap (λ (s : Schema). s.dims) c.schema.ensures in
+    if_err c.from_residual-in_err-insert.result _ _ c.from_residual-in_err-insert.ensures.1
+    (insert_stopped basis old c.insert.new.self c.args.values.now c.in_err-insert.field-0.0 is given
+    (put_by old c.insert.new.self c.args.values.now _ _ _ are long c.in_err-insert.ensures.number c.in_err-insert.ensures.counted c.in_err-insert.ensures.refused
+    c.in_err-insert.ensures.effect))
 
--- src/changing.rt:40:5
 pub returns-in_err-insert-clause-effect : goal.returns-in_err-insert-clause-effect
-returns-in_err-insert-clause-effect g c = ?
+returns-in_err-insert-clause-effect g c =
+    runs_err ℕ c.from_residual-in_err-insert.result _ _ _ c.from_residual-in_err-insert.ensures.1 (runs_change ℕ _ _ _ c.in_err-insert.ensures.effect)
 
--- src/changing.rt:25:1
 pub returns-clause-answer : goal.returns-clause-answer
-returns-clause-answer g c = ?
+returns-clause-answer g c basis is =
+    let old = c.args.tree.now in
+    let given : IsGiven old.schema (puts c.args.values.now) = c.requires in
+    let are : c.as_slice.result.now ≡ coordinates_of old.schema c.args.values.now =
+    c.as_slice.ensures.value ∙ c.in_ok-dims.ensures.coordinates ∙ ap (λ (s : Schema). coordinates_of s c.args.values.now) c.schema.ensures in
+    let long : c.len.result ≡ old.schema.dims =
+    c.len.ensures ∙ sym c.as_slice.ensures.len ∙ ap (λ (ds : List ℕ). length ds) c.as_slice.ensures.value ∙ c.in_ok-dims.ensures.all ∙ ap (λ (s : Schema). s.dims) c.schema.ensures in
+    insert_replies basis old c.insert.new.self c.args.values.now c.in_ok-insert.field-0 c.in_ok-text.text.items is given
+    (put_by old c.insert.new.self c.args.values.now _ _ _ are long c.in_ok-insert.ensures.number c.in_ok-insert.ensures.counted c.in_ok-insert.ensures.refused
+    c.in_ok-insert.ensures.effect)
+    (put_row old c.insert.new.self c.args.values.now _ _ _ are long c.in_ok-insert.ensures.inserted)
+    (c.in_ok-text.ensures ∙ ap inserted_text c.next.ensures)

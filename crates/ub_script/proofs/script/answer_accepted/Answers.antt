@@ -1,5 +1,5 @@
 -- A query is answered or explained, a row is put in, or rows are taken out.
-use Rattle.std.proofs.Common.{ℤ, List, true, false, ◌∙◌, ap, sym, subst}
+use Rattle.std.proofs.Common.{ℤ, List, true, false, ◌∙◌, ap, sym}
 use Rattle.ub_parser.specs.Outcome.{command, puts}
 use Rattle.ub_query.specs.Shape.{asked}
 use Rattle.ub_script.proofs.KeptFacts.{runs_of}

@@ -1,5 +1,4 @@
 -- A statement is accepted, and done, or it is refused.
-use Rattle.std.proofs.Common.{◌∙◌}
 use Rattle.ub_script.proofs.QueryFacts.{accepted_answer, accepted_ended, memory_ended, refused_answer, refused_reads, refused_runs}
 use Rattle.ub_script.proofs.RunFacts.{if_err, if_ok}
 use Rattle.ub_script.proofs.script.answer_to.Goals as goal

@@ -1,5 +1,4 @@
-use Rattle.std.proofs.Common.{Bool, Ok, Err}
-use Rattle.ub_script.proofs.KeptFacts.{reads_err, reads_ok, runs_err, runs_ok}
+use Rattle.ub_script.proofs.KeptFacts.{reads_ok, runs_ok}
 use Rattle.ub_script.proofs.RunFacts.{answer_front, other_err}
 use Rattle.ub_script.proofs.script.run_statement.Goals as goal
 

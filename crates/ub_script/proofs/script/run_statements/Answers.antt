@@ -48,9 +48,9 @@ returns-in_err-run_statement-clause-begun g c basis is =
     let come = c.loop-range.invariant.run basis is in
     other_err _ _ _ c.from_residual.ensures.1
     (λ differs.
-        let (more, now, ended, rest, fetched) = c.in_err-run_statement.ensures.stopped come.now come.left differs in
-        come_stopped c.args.source.now c.args.tokens.now basis c.args.ranges.now c.loop-range.range-index c.loop-range.refused _ _ _ _ _ _ (0, 0) c.loop-range-test.true
-        come _ _ _ more now (c.in_err-run_statement.ensures.begun differs) ended rest fetched)
+    let (more, now, ended, rest, fetched) = c.in_err-run_statement.ensures.stopped come.now come.left differs in
+    come_stopped c.args.source.now c.args.tokens.now basis c.args.ranges.now c.loop-range.range-index c.loop-range.refused _ _ _ _ _ _ (0, 0) c.loop-range-test.true
+    come _ _ _ more now (c.in_err-run_statement.ensures.begun differs) ended rest fetched)
 
 pub returns-in_err-run_statement-clause-write : goal.returns-in_err-run_statement-clause-write
 returns-in_err-run_statement-clause-write g c basis is same =
