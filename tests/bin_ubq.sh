@@ -38,7 +38,7 @@ ended() {
     [ "$status" -eq "$1" ]
 }
 wrote() {
-    printf "$1" | cmp -s - "$room/out"
+    printf -- "$1" | cmp -s - "$room/out"
 }
 told() {
     grep -q "$1" "$room/err"
