@@ -60,13 +60,21 @@ SECTIONS = [
     ),
     (
         "Texts",
-        "The bytes of an answer, of an EXPLAIN and of a refusal; and what a whole script writes, however it ends.",
+        "The bytes of an answer, of an EXPLAIN, of a change and of a refusal; what a whole script writes, however it ends, and\n"
+        "what it leaves: each statement rests on what the one before it left.",
         "ub_script ub_query.Cells ub_query.Meaning ub_plan.Explained",
     ),
     (
         "Which pages are read",
         "Addresses and boxes; regions; the boxes of a condition; the plan of a query, and which regions it visits.",
         "ub_zaddr ub_bigmin ub_boxes ub_planning ub_filter ub_plan ub_tetris ub_exec ub_answer ub_table.Keys ub_table.Region ub_region.Spans",
+    ),
+    (
+        "What a statement changes",
+        "Where a table stands: its rows, their regions and the next number; what an INSERT and a DELETE make of that. Most of it\n"
+        "is about any tree, also one that isn't sound: what was asked of it, and what a fault leaves.",
+        "ub_exec.Stand ub_exec.Deleting ub_script.Changes ub_tree.Change ub_tree.Removal ub_tree.Effects ub_tree.Holding"
+        " ub_tree.Others ub_index.Changing ub_index.Preparing ub_index.Lowering",
     ),
     (
         "Pages of a file",

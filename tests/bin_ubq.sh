@@ -1,7 +1,8 @@
 #!/usr/bin/env bash
 # Tries `bin/ubq` in a fresh clone, by hand: answers of the build that is not proved yet, by files of all kinds and standard
-# input; `--prove`, interrupted and begun again; runs with nothing changed, with a source touched or changed; a `load`; a mistake
-# in the program; a proof that fails. It takes as long as proving the program from nothing does and some 20 answers of a minute.
+# input; `--prove`, interrupted and begun again; runs with nothing changed, with a source touched or changed; a `load`; a script
+# that changes a table; a mistake in the program; a proof that fails. It takes as long as proving the program from nothing does and
+# some 25 answers of a minute.
 # With --warm what was proved here is taken along, but for the crate `ub_words`. With --answers the program is not proved:
 # only the unproved answers are tried; with --proof only what follows them, as with --warm. The last line says whether all was as
 # it should be; the status is 1 where it was not.
@@ -37,7 +38,7 @@ ended() {
     [ "$status" -eq "$1" ]
 }
 wrote() {
-    printf "$1" | cmp -s - "$room/out"
+    printf -- "$1" | cmp -s - "$room/out"
 }
 told() {
     grep -q "$1" "$room/err"
@@ -110,6 +111,7 @@ answers() {
     ask run "$room/none.ub" examples/between.sql
     check "a table file that is none is refused" ended 3
     check "and stands as it was" cmp -s examples/s.csv "$room/none.ub"
+    scripts
     ask try examples/s.csv examples/between.sql
     check "a wrong command line has status 2" ended 2
     ask load --help
@@ -146,6 +148,44 @@ answers() {
     git checkout -q crates/ubq
 }
 
+# A script that may change a table is for the proved program alone. Here the proof fails at once, so that it is only seen whether
+# one is begun.
+scripts() {
+    printf 'SELECT COUNT(*) FROM t;\n' >"$room/asks.sql"
+    printf 'SELECT COUNT(*) FROM t; -- what an InSeRt would change\n' >"$room/comment.sql"
+    printf 'DELETE FROM t WHERE x = 2;\nINSERT INTO t VALUES (4, 4, -6);\nSELECT COUNT(*) FROM t;\n' >"$room/changes.sql"
+    printf '#!/bin/sh\nexit 1\n' >bin/prove
+    ask run "$room/none.ub" "$room/changes.sql"
+    check "a script that changes a table needs the proof" told 'changed by the proved program alone'
+    check "without one there is no answer" ended 125
+    check "nothing is written" test ! -s "$room/out"
+    check "and the table file stands as it was" cmp -s examples/s.csv "$room/none.ub"
+    rm -f "$(sed -n 's/.*prover said: //p' "$room/err")"
+    ask run "$room/none.ub" "$room/comment.sql"
+    check "the word in a comment, in any case, needs it too" told 'changed by the proved program alone'
+    rm -f "$(sed -n 's/.*prover said: //p' "$room/err")"
+    ask run "$room/none.ub" - <"$room/changes.sql"
+    check "so does one from standard input" told 'changed by the proved program alone'
+    rm -f "$(sed -n 's/.*prover said: //p' "$room/err")"
+    ask run "$room/none.ub" <(cat "$room/changes.sql")
+    check "and one from a pipe" told 'changed by the proved program alone'
+    rm -f "$(sed -n 's/.*prover said: //p' "$room/err")"
+    git checkout -q bin/prove
+
+    ask run "$room/none.ub" "$room/asks.sql"
+    check "a script that only asks is answered unproved" is_unproved
+    check "with the program's status" ended 3
+    printf 'SELECT COUNT(*)\nFROM t;\n' | bin/ubq run "$room/none.ub" - >"$room/out" 2>"$room/err"
+    status=$?
+    check "also from standard input" is_unproved
+    check "with that status" ended 3
+    ask run "$room/none.ub" "$room"
+    check "a folder for a script is told as the program tells it" wrote '! Device\n'
+    ask try examples/s.csv "$room/changes.sql" --dims 2
+    check "a try changes no file, so it is answered unproved" wrote '-- deleted 2\n-- inserted 6\nCOUNT(*)\n4\n-- rows 1, pages 1\n'
+    check "and says so" is_unproved
+}
+
 # ---- The proof
 
 take_along() {
@@ -180,6 +220,12 @@ proof() {
     check "with the worked lines" wrote "$worked"
     ask run "$room/s.ub" examples/between.sql
     check "also of the table" wrote "$worked"
+    cp "$room/s.ub" "$room/changed.ub"
+    printf 'INSERT INTO t VALUES (3, 3, -6);' >"$room/insert.sql"
+    ask run "$room/changed.ub" "$room/insert.sql"
+    check "and changes it" wrote '-- inserted 6\n'
+    ask run "$room/changed.ub" examples/between.sql
+    check "which the next run sees" wrote 'x,y,m\n2,3,20\n3,0,5\n2,3,1\n3,3,-6\n-- rows 4, pages 1\n'
     ask --prove
     check "and there is nothing more to prove" test "$(cat "$room/err")" = 'ubq: proved: crates/ubq/out/ubq'
     find crates -name '*.rt' -exec touch {} +
@@ -190,8 +236,20 @@ proof() {
     echo '// Nothing more.' >>crates/ubq/src/main.rt
     ask next 2,2 6,3 19
     check "a source that has changed is answered unproved" is_unproved
+    echo 'SELECT * FROM t WHERE x BETWEEN 2 AND 3;' | bin/ubq run "$room/s.ub" - >"$room/out" 2>"$room/err"
+    check "so is a script that only asks, from standard input" wrote "$worked"
+    check "with the line that says so" is_unproved
+    echo 'DELETE FROM t WHERE y = 3;' | bin/ubq run "$room/changed.ub" - >"$room/out" 2>"$room/err"
+    status=$?
+    check "one that changes a table proves first" told 'changed by the proved program alone'
+    check "with its script kept for the proved program" wrote '-- deleted 3\n'
+    check "and ends with its status" ended 0
+    check "the crate is proved again alone" test -z "$(grep ' of .* proved: ' "$room/err")"
+    ask run "$room/changed.ub" examples/between.sql
+    check "and the next run sees it" wrote 'x,y,m\n3,0,5\n-- rows 1, pages 1\n'
+    echo '// And nothing more.' >>crates/ubq/src/main.rt
     ask --prove
-    check "and proved again by its name ($took s)" ended 0
+    check "a source that has changed is proved again by its name ($took s)" ended 0
     check "alone" test -z "$(grep ' of .* proved: ' "$room/err")"
 
     sed -i 's/ensures { result.now ≡ self.now.schema }/ensures { ⊥ }/' crates/ub_tree/src/tree.rt

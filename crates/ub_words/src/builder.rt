@@ -11,15 +11,15 @@ Example:
   ubq load sales.csv sales.ub --dims 2
   echo 'SELECT COUNT(*) FROM t WHERE day BETWEEN 1 AND 7;' | ubq run sales.ub -
 
-All values are whole numbers. Statements are SELECT with WHERE, GROUP BY, ORDER BY and LIMIT; ubq run --help has their
-grammar. EXPLAIN in front shows how a query would be answered, and reads no page of rows. If something fails, the last
-line says what, as ! NoPage.
+All values are whole numbers. Statements are SELECT with WHERE, GROUP BY, ORDER BY and LIMIT, INSERT of one row, and
+DELETE with WHERE; ubq run --help has their grammar. EXPLAIN in front of a SELECT shows how it would be answered, and
+reads no page of rows. If something fails, the last line says what, as ! NoPage.
 
 Status:
   0  all was done
   1  a statement was refused, and the others were run
   2  wrong arguments
-  3  a CSV file was refused, or TABLE isn't a table file or is damaged
+  3  a CSV file was refused, TABLE isn't a table file or is damaged, or it has no room for another row
   4  a file or the output failed
   5  memory was refused";
 
@@ -44,12 +44,21 @@ Example:
   ubq run sales.ub script.sql
   echo 'SELECT * FROM t LIMIT 5;' | ubq run sales.ub -
 
-Each statement writes a title line, its rows, and -- rows R, pages P, or why it is refused, as ! Syntax at 7: a name, and
-where in the script, in bytes from 0. TABLE is left as it was, byte for byte.
+A query writes a title line, its rows, and -- rows R, pages P. INSERT puts in a row of one value for each column, and
+writes its number, as -- inserted 401. DELETE takes out the rows that its condition selects, or all rows, and writes how
+many, as -- deleted 3. A statement that is refused changes nothing and writes why, as ! Syntax at 7: a name, and where
+in the script, in bytes from 0. Each statement runs on the table that those before it left.
+
+What was put in or taken out stands in TABLE once the run has ended, also after a fault, unless TABLE can't be written.
+A run that is interrupted while it changes TABLE leaves a file that is refused, as ! Unclean page 0: copy it first. A
+script that only asks leaves TABLE as it was, byte for byte.
 
 Statements, each ended by a semicolon:
-  statement   = [EXPLAIN] SELECT items FROM name [WHERE condition] [GROUP BY name {, name}]
+  statement   = select | insert | delete
+  select      = [EXPLAIN] SELECT items FROM name [WHERE condition] [GROUP BY name {, name}]
                 [ORDER BY key {, key}] [LIMIT number]
+  insert      = INSERT INTO name VALUES ( literal {, literal} )
+  delete      = DELETE FROM name [WHERE condition]
   items       = * | item {, item}
   item        = name | COUNT ( * ) | SUM ( name ) | MIN ( name ) | MAX ( name )
   key         = item [ASC | DESC]
@@ -67,16 +76,19 @@ A statement is refused for the first of these that holds:
   NumberTooLarge  a number over 18446744073709551615
   TooDeep         over 64 parentheses and NOTs, one in the other
   TooMany         over 64 comparisons, or over 8 items, columns after GROUP BY or keys
-  UnknownTable    the name after FROM isn't the table's
+  UnknownTable    the name after FROM or INTO isn't the table's
   UnknownColumn   another name is no column
   NotGrouped      with groups, an item is * or a column that isn't after GROUP BY
   NotSelected     with groups, a key isn't among the items; without, a key is an aggregate
+  ValueCount      an INSERT doesn't have one value for each column
+  ValueRange      a value of an INSERT is one that its column can't hold
 
 Status:
   0  all statements were answered
   1  a statement was refused, and the others were run
   2  wrong arguments
-  3  TABLE isn't a table file, is damaged, or was made by an older ubq, as ! OldFormat page 0: load its CSV file anew
+  3  TABLE isn't a table file, is damaged, or was made by an older ubq, as ! OldFormat page 0: load its CSV file anew;
+     or it has no room for another row, as ! Full
   4  a file or the output failed
   5  memory was refused";
 
@@ -84,14 +96,14 @@ const TRY_HELP: &str = "\
 Example:
   ubq try sales.csv script.sql --dims 2
 
-No file is written. Each statement writes what it does with ubq run, and so does EXPLAIN; ubq run --help has the grammar
-of statements, ubq load --help what DATA may hold.
+No file is written: INSERT and DELETE change the table in memory alone. Each statement writes what it does with ubq run,
+and so does EXPLAIN; ubq run --help has the grammar of statements, ubq load --help what DATA may hold.
 
 Status:
   0  all statements were answered
   1  a statement was refused, and the others were run
   2  wrong arguments, or DATA and SCRIPT are both standard input
-  3  DATA was refused, as ! BadNumber row 2 column 1
+  3  DATA was refused, as ! BadNumber row 2 column 1; or the table has no room for another row, as ! Full
   4  a file or the output failed
   5  memory was refused";
 
@@ -206,7 +218,7 @@ fn load_command<'a>(alloc: Global) -> Making<'a>
 fn run_command<'a>(alloc: Global) -> Making<'a>
     ensures { IfOk result (IsCommandFor run_app) }
 {
-    let table = "A table file that `load` made";
+    let table = "A table file that `load` made; INSERT and DELETE change it";
     let command = Command::new(alloc, "run")
         .about("Run a script of statements on a table file")
         .after_help(RUN_HELP);
