@@ -1,5 +1,5 @@
 -- The proofs of the laws.
-use Rattle.std.proofs.Common.{◌≡◌, ◌+◌, ◌++◌, ℕ, zero, suc, Bool, true, false, cond, List, [], ◌∷◌, length, take, drop, slice_range, Ok, Err, refl, sym, ap, subst, arith, ◌∙◌, append_assoc}
+use Rattle.std.proofs.Common.{◌≡◌, ◌+◌, ◌++◌, ℕ, zero, suc, Bool, true, false, cond, List, [], ◌∷◌, length, take, drop, slice_range, inl, inr, ℤ, Result, Ok, Err, refl, sym, ap, subst, arith, ◌∙◌, append_assoc}
 use Rattle.std.proofs.Math.Seq.{take-append_seam}
 use Rattle.std.proofs.lemmas.Grind.{flat_map-append}
 use Rattle.std.proofs.lemmas.List.{flat_map_more, length-append, take-append-drop, take-append-le, take_all}
@@ -9,7 +9,7 @@ use Rattle.ub_lexer.proofs.Laws.{same_statements, same_tokens}
 use Rattle.ub_lexer.specs.Statements.{AreStatements}
 use Rattle.ub_lexer.specs.Tokens.{AreTokens}
 use Rattle.ub_lexer.specs.declared.token.Token.{Token}
-use Rattle.ub_parser.specs.Outcome.{asks, puts, takes}
+use Rattle.ub_parser.specs.Outcome.{Command, asks, puts, takes}
 use Rattle.ub_plan.proofs.Laws.{explains_have_one_text}
 use Rattle.ub_planning.proofs.Laws.{visits_are_one}
 use Rattle.ub_planning.specs.Plan.{plan_of}
@@ -18,18 +18,25 @@ use Rattle.ub_query.proofs.Laws.{queries_have_one_meaning}
 use Rattle.ub_query.specs.Shape.{Asked}
 use Rattle.ub_query.specs.declared.cell.Cell.{Cell}
 use Rattle.ub_region.specs.Regions.{AreRegions}
-use Rattle.ub_script.specs.Basis.{Basis, on_stand, over_any, schema_of, IsAskedReply, IsReply}
-use Rattle.ub_script.specs.Changes.{IsTableDelete}
+use Rattle.ub_script.specs.Basis.{Basis, on_stand, over_any, schema_of, IsAskedReply, IsCommandEnd, IsEndOf, IsReply}
+use Rattle.ub_script.specs.Changes.{HasPutIn, HasTakenOut, IsTableDelete}
+use Rattle.ub_script.specs.Faults.{fault_of_tree}
+use Rattle.ub_script.specs.Formed.{IsSameBut}
 use Rattle.ub_script.specs.Output.{IsFrontOf}
-use Rattle.ub_script.specs.Run.{IsAnswer, AreAnswers, FirstAt, FirstOver, summary_of}
-use Rattle.ub_script.specs.Laws.{IsUnchanged, QueriesFetchOneNumberOfPages, OutcomesHaveOneReply, StatementsHaveOneReplyEach, ScriptsHaveOneEnd, ScriptsHaveOneSummary, CutTextsAreAFront, StoppedTextsAreAFront, StoppedTextsAreWhole, UnchangedTablesStay}
+use Rattle.ub_script.specs.Run.{IsAnswer, IsEnded, AreAnswers, FirstAt, FirstOver, summary_of}
+use Rattle.ub_script.specs.Laws.{IsUnchanged, QueriesFetchOneNumberOfPages, OutcomesHaveOneReply, StatementsHaveOneReplyEach, ScriptsHaveOneEnd, ScriptsHaveOneSummary, CutTextsAreAFront, StoppedTextsAreAFront, StoppedTextsAreWhole, UnchangedTablesStay, FullTablesStay}
 use Rattle.ub_script.specs.Script.{IsTheOutcome, Outcome}
 use Rattle.ub_script.specs.Text.{Reply, reply, answer_text, changed_by, deleted_text, IsExplainReply, IsQueryReply, IsTableReply, texts_of, pages_of, refused_in}
 use Rattle.ub_table.specs.Region.{Region}
 use Rattle.ub_table.specs.Table.{Table}
 use Rattle.ub_table.specs.declared.row.Row.{Row}
 use Rattle.ub_table.specs.declared.schema.Schema.{Schema}
+use Rattle.ub_script.specs.declared.fault.RunFault.TheVariants.{Memory, Tree}
 use Rattle.ub_tree.specs.View.{TreeView}
+use Rattle.ub_tree.specs.declared.fault.TreeFault.{TreeFault}
+use Rattle.ub_tree.specs.declared.fault.TreeFault.TheVariants.{Full, Page, Store, Failed, Memory as NoMemory}
+use Rattle.ub_tree.specs.declared.read_fault.ReadFault.{ReadFault}
+use Rattle.ub_tree.specs.declared.read_fault.ReadFault.TheVariants.{Tree as OfTree, Memory as NoMemoryToRead}
 pub use Rattle.ub_script.proofs.HeldFacts.{Puts-more, front_after}
 
 pub queries_fetch_one_number_of_pages : QueriesFetchOneNumberOfPages
@@ -345,3 +352,38 @@ all_stay basis source tokens (range ∷ ranges) (r ∷ replies) now none (mid, o
 
 pub unchanged_tables_stay : UnchangedTablesStay
 unchanged_tables_stay basis script replies left now h none = all_stay basis script h.tokens (take (length replies) h.ranges) replies now none h.first.1
+
+-- an INSERT that finds no room leaves the tree
+full_put : (m : TreeView) (values : List ℤ) (after : TreeView) (e : TreeFault) → HasPutIn m values (Err e) after → Tree Full ≡ fault_of_tree e → IsSameBut m after
+full_put m values after Full h same = h.puts_in.effect.left.1 ∙ h.same ∙ ap (λ (t : TreeView). record m { trace = t.trace }) (sym h.puts_in.effect.left.1)
+full_put m values after Failed h same = cc
+full_put m values after NoMemory h same = cc
+full_put m values after (Page page fault) h same = cc
+full_put m values after (Store fault) h same = cc
+
+-- a DELETE never says so
+full_taken : (m : TreeView) (q : Asked) (after : TreeView) (told : Result ℕ ReadFault) → HasTakenOut m q told after → IsEndOf told (Tree Full) → ⊥
+full_taken m q after (Ok count) h ended = let bad : Tree Full ≡ Memory = ended in cc
+full_taken m q after (Err NoMemoryToRead) h ended = let bad : Tree Full ≡ Memory = ended in cc
+full_taken m q after (Err (OfTree Full)) h ended = h.deletes.left
+full_taken m q after (Err (OfTree Failed)) h ended = let bad : Tree Full ≡ Tree Failed = ended in cc
+full_taken m q after (Err (OfTree NoMemory)) h ended = h.deletes.left
+full_taken m q after (Err (OfTree (Page page fault))) h ended = let bad : Tree Full ≡ Tree (Page page fault) = ended in cc
+full_taken m q after (Err (OfTree (Store fault))) h ended = let bad : Tree Full ≡ Tree (Store fault) = ended in cc
+
+full_end : (m : TreeView) (c : Command) (pages : ℕ) (now : Basis) → IsCommandEnd (over_any m) c (Tree Full) pages now → IsUnchanged (over_any m) now
+full_end m (asks t) pages now (some, given, left) = absurd given.0
+full_end m (puts values) pages now (none, inl (memory, still)) = absurd (let bad : Tree Full ≡ Memory = memory in cc)
+full_end m (puts values) pages now (none, inr (after, e, put, same, at)) = subst (λ (b : Basis). IsUnchanged (over_any m) b) (sym at) (full_put m values after e put same)
+full_end m (takes q) pages now (some, inl (memory, still)) = absurd (let bad : Tree Full ≡ Memory = memory in cc)
+full_end m (takes q) pages now (some, inr (after, told, taken, ended, at)) = absurd (full_taken m q after told taken ended)
+
+full_from : (seen : TreeView) (script : List ℕ) (tokens : List Token) (mid now : Basis) (pages : ℕ) → IsUnchanged (over_any seen) mid
+    → IsEnded mid script tokens (Tree Full) pages now → IsUnchanged (over_any seen) now
+full_from seen script tokens (on_stand s) now pages h ended = absurd h
+full_from seen script tokens (over_any m) now pages h (inl (memory, none, still)) = absurd (let bad : Tree Full ≡ Memory = memory in cc)
+full_from seen script tokens (over_any m) now pages h (inr u) = unchanged_on (over_any seen) (over_any m) now h (full_end m u.says pages now u.ended)
+
+pub full_tables_stay : FullTablesStay
+full_tables_stay seen script replies left pages now h none =
+    full_from seen script _ h.ended.0 now pages (all_stay (over_any seen) script h.tokens (take (length replies) h.ranges) replies h.ended.0 none h.ended.1.1) h.ended.2.2

@@ -10,9 +10,12 @@ use Rattle.ub_script.specs.Run.{EndedOver, FirstOver, IsCutOff, IsStopped, IsWho
 use Rattle.ub_script.specs.Script.{Outcome}
 use Rattle.ub_script.specs.Text.{ArePages, Reply, changed_by, texts_of}
 use Rattle.ub_script.specs.declared.fault.RunFault.{RunFault}
+use Rattle.ub_script.specs.declared.fault.RunFault.TheVariants.{Tree}
 use Rattle.ub_script.specs.declared.script.Summary.{Summary}
 use Rattle.ub_table.specs.Region.{Region}
 use Rattle.ub_table.specs.declared.schema.Schema.{Schema}
+use Rattle.ub_tree.specs.View.{TreeView}
+use Rattle.ub_tree.specs.declared.fault.TreeFault.TheVariants.{Full}
 
 -- no two numbers of pages are fetched for the same query
 abbrev pub QueriesFetchOneNumberOfPages : Type 0
@@ -81,3 +84,8 @@ IsUnchanged (over_any seen) (on_stand now) = ⊥
 abbrev pub UnchangedTablesStay : Type 0
 UnchangedTablesStay = (basis : Basis) (script : List ℕ) (replies : List Reply) (left : ℕ) (now : Basis)
     → FirstOver basis script replies left now → changed_by replies ≡ 0 → IsUnchanged basis now
+
+-- nor does an INSERT, after such statements, that finds no number left or no room in the index
+abbrev pub FullTablesStay : Type 0
+FullTablesStay = (seen : TreeView) (script : List ℕ) (replies : List Reply) (left pages : ℕ) (now : Basis)
+    → EndedOver (over_any seen) script (Tree Full) replies left pages now → changed_by replies ≡ 0 → IsUnchanged (over_any seen) now

@@ -1,4 +1,4 @@
-ghost use Rattle.ub_script.specs.Laws.{QueriesFetchOneNumberOfPages, OutcomesHaveOneReply, StatementsHaveOneReplyEach, ScriptsHaveOneEnd, ScriptsHaveOneSummary, CutTextsAreAFront, StoppedTextsAreAFront, StoppedTextsAreWhole, UnchangedTablesStay};
+ghost use Rattle.ub_script.specs.Laws.{QueriesFetchOneNumberOfPages, OutcomesHaveOneReply, StatementsHaveOneReplyEach, ScriptsHaveOneEnd, ScriptsHaveOneSummary, CutTextsAreAFront, StoppedTextsAreAFront, StoppedTextsAreWhole, UnchangedTablesStay, FullTablesStay};
 
 // Each function here does nothing, and its clause is a law of the definitions in specs/. So the law is proved, and is read
 // beside the code.
@@ -50,4 +50,9 @@ pub fn stopped_texts_are_whole()
 /// Statements that put in no row and take out none leave a table as it was, and any tree but for its trace.
 pub fn unchanged_tables_stay()
     ensures { UnchangedTablesStay }
+{}
+
+/// Nor does an INSERT change a tree that finds no number left, or no room in the index.
+pub fn full_tables_stay()
+    ensures { FullTablesStay }
 {}
