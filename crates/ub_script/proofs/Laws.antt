@@ -4,10 +4,12 @@ use Rattle.std.proofs.Math.Seq.{take-append_seam}
 use Rattle.std.proofs.lemmas.Grind.{flat_map-append}
 use Rattle.std.proofs.lemmas.List.{flat_map_more, length-append, take-append-drop, take-append-le, take_all}
 use Rattle.std.proofs.lemmas.List.Sums.{sum_by-cons}
+use Rattle.ub_exec.specs.Stand.{Stand, IsStand, selected_of, without_row, without_rows}
 use Rattle.ub_lexer.proofs.Laws.{same_statements, same_tokens}
 use Rattle.ub_lexer.specs.Statements.{AreStatements}
 use Rattle.ub_lexer.specs.Tokens.{AreTokens}
 use Rattle.ub_lexer.specs.declared.token.Token.{Token}
+use Rattle.ub_parser.specs.Outcome.{asks, puts, takes}
 use Rattle.ub_plan.proofs.Laws.{explains_have_one_text}
 use Rattle.ub_planning.proofs.Laws.{visits_are_one}
 use Rattle.ub_planning.specs.Plan.{plan_of}
@@ -16,180 +18,246 @@ use Rattle.ub_query.proofs.Laws.{queries_have_one_meaning}
 use Rattle.ub_query.specs.Shape.{Asked}
 use Rattle.ub_query.specs.declared.cell.Cell.{Cell}
 use Rattle.ub_region.specs.Regions.{AreRegions}
-use Rattle.ub_script.proofs.RowsFacts.{rows_alike, table_there}
-use Rattle.ub_script.specs.Basis.{Basis, on_table, over_any, schema_of, IsAskedReply, IsReply}
+use Rattle.ub_script.specs.Basis.{Basis, on_stand, over_any, schema_of, IsAskedReply, IsReply}
+use Rattle.ub_script.specs.Changes.{IsTableDelete}
 use Rattle.ub_script.specs.Output.{IsFrontOf}
 use Rattle.ub_script.specs.Run.{IsAnswer, AreAnswers, FirstAt, FirstOver, summary_of}
-use Rattle.ub_script.specs.Laws.{SoundTreesHaveOneTable, QueriesFetchOneNumberOfPages, OutcomesHaveOneReply, StatementsHaveOneReplyEach, ScriptsHaveOneEnd, ScriptsHaveOneSummary, CutTextsAreAFront, StoppedTextsAreAFront, StoppedTextsAreWhole}
+use Rattle.ub_script.specs.Laws.{IsUnchanged, QueriesFetchOneNumberOfPages, OutcomesHaveOneReply, StatementsHaveOneReplyEach, ScriptsHaveOneEnd, ScriptsHaveOneSummary, CutTextsAreAFront, StoppedTextsAreAFront, StoppedTextsAreWhole, UnchangedTablesStay}
 use Rattle.ub_script.specs.Script.{IsTheOutcome, Outcome}
-use Rattle.ub_script.specs.Text.{Reply, reply, answer_text, IsExplainReply, IsQueryReply, IsTableReply, texts_of, pages_of, refused_in}
+use Rattle.ub_script.specs.Text.{Reply, reply, answer_text, changed_by, deleted_text, IsExplainReply, IsQueryReply, IsTableReply, texts_of, pages_of, refused_in}
 use Rattle.ub_table.specs.Region.{Region}
 use Rattle.ub_table.specs.Table.{Table}
+use Rattle.ub_table.specs.declared.row.Row.{Row}
 use Rattle.ub_table.specs.declared.schema.Schema.{Schema}
+use Rattle.ub_tree.specs.View.{TreeView}
 pub use Rattle.ub_script.proofs.HeldFacts.{Puts-more, front_after}
-pub use Rattle.ub_script.proofs.RowsFacts.{table_there}
-
-pub sound_trees_have_one_table : SoundTreesHaveOneTable
-sound_trees_have_one_table t sound =
-    let there = table_there t sound in
-    (there.0, there.1, λ other is. rows_alike t there.0 other there.1 is)
 
 pub queries_fetch_one_number_of_pages : QueriesFetchOneNumberOfPages
 queries_fetch_one_number_of_pages schema next regions q m n are h k =
     h.pages_are ∙ ap (λ (visits : List Span). length visits) (visits_are_one schema q next regions h.visits k.visits are h.visits_are k.visits_are) ∙ sym k.pages_are
 
-same_reply : (a b : Reply) → a.text ≡ b.text → a.pages ≡ b.pages → a.is_refused ≡ b.is_refused → a ≡ b
-same_reply a b text pages refused = whole a.text b.text a.pages b.pages text pages
-  where
-    whole : (s t : List ℕ) (m n : ℕ) → s ≡ t → m ≡ n → reply s m a.is_refused ≡ reply t n b.is_refused
-    whole s t m n e f = rw (e, f, refused) refl
+-- ---- one reply to each statement
 
-one_answer : (table : Table) (next : ℕ) (regions : List Region) (q : Asked) (first second : Reply) → AreRegions table.schema next regions → IsQueryReply table regions q first
-    → IsQueryReply table regions q second → first ≡ second
-one_answer table next regions q first second are h k =
+same_reply : (a b : Reply) → a.text ≡ b.text → a.pages ≡ b.pages → a.is_refused ≡ b.is_refused → a.changed ≡ b.changed → a ≡ b
+same_reply a b text pages refused changed = whole a.text b.text a.pages b.pages a.is_refused b.is_refused a.changed b.changed text pages refused changed
+  where
+    whole : (s t : List ℕ) (m n : ℕ) (x y : Bool) (c d : ℕ) → s ≡ t → m ≡ n → x ≡ y → c ≡ d → reply s m x c ≡ reply t n y d
+    whole s t m n x y c d e f g h = rw (e, f, g, h) refl
+
+one_answer : (table : Table) (next : ℕ) (regions : List Region) (q : Asked) (first second : Reply) → AreRegions table.schema next regions → first.changed ≡ second.changed
+    → IsQueryReply table regions q first → IsQueryReply table regions q second → first ≡ second
+one_answer table next regions q first second are changed h k =
     let pages : first.pages ≡ second.pages = queries_fetch_one_number_of_pages table.schema next regions q first.pages second.pages are h.pages_are k.pages_are in
     same_reply first second
     (h.text_is ∙ ap (λ (rows : List (List Cell)). answer_text table.schema q rows first.pages) (queries_have_one_meaning table q h.rows k.rows h.meant k.meant)
     ∙ ap (λ (n : ℕ). answer_text table.schema q k.rows n) pages ∙ sym k.text_is)
-    pages (h.accepted ∙ sym k.accepted)
+    pages (h.accepted ∙ sym k.accepted) changed
 
-one_explained : (table : Table) (regions : List Region) (q : Asked) (first second : Reply) → IsExplainReply table regions q first → IsExplainReply table regions q second → first ≡ second
-one_explained table regions q first second h k =
+one_explained : (table : Table) (regions : List Region) (q : Asked) (first second : Reply) → first.changed ≡ second.changed → IsExplainReply table regions q first
+    → IsExplainReply table regions q second → first ≡ second
+one_explained table regions q first second changed h k =
     same_reply first second (explains_have_one_text table.schema (plan_of table.schema q) regions first.text second.text h.explained k.explained)
-    (h.pages_are ∙ sym k.pages_are) (h.accepted ∙ sym k.accepted)
+    (h.pages_are ∙ sym k.pages_are) (h.accepted ∙ sym k.accepted) changed
 
-one_asked : (is_explained : Bool) (table : Table) (next : ℕ) (regions : List Region) (q : Asked) (first second : Reply) → AreRegions table.schema next regions → IsTableReply is_explained table regions q first
-    → IsTableReply is_explained table regions q second → first ≡ second
-one_asked true table next regions q first second are h k = one_explained table regions q first second h k
-one_asked false table next regions q first second are h k = one_answer table next regions q first second are h k
+one_asked : (is_explained : Bool) (table : Table) (next : ℕ) (regions : List Region) (q : Asked) (first second : Reply) → AreRegions table.schema next regions → first.changed ≡ second.changed
+    → IsTableReply is_explained table regions q first → IsTableReply is_explained table regions q second → first ≡ second
+one_asked true table next regions q first second are changed h k = one_explained table regions q first second changed h k
+one_asked false table next regions q first second are changed h k = one_answer table next regions q first second are changed h k
+
+one_deleted : (s : Stand) (q : Asked) (first second : Reply) (now other : Stand) → IsStand s → IsTableDelete s q first now → IsTableDelete s q second other → first ≡ second
+one_deleted s q first second now other stand h k =
+    let changed : first.changed ≡ second.changed = h.changed_is ∙ sym k.changed_is in
+    same_reply first second (h.text_is ∙ ap deleted_text changed ∙ sym k.text_is)
+    (queries_fetch_one_number_of_pages s.table.schema s.next s.regions q first.pages second.pages stand.regions_are h.pages_are k.pages_are) (h.accepted ∙ sym k.accepted) changed
 
 pub outcomes_have_one_reply : OutcomesHaveOneReply
-outcomes_have_one_reply table next regions (Ok t) first second are h k = one_asked t.is_explained table next regions t.asked first second are h k
-outcomes_have_one_reply table next regions (Err fault) first second are h k = h ∙ sym k
+outcomes_have_one_reply s (Ok (asks t)) first second now other stand (answer, none, still) (also, no_more, unmoved) =
+    (one_asked t.is_explained s.table s.next s.regions t.asked first second stand.regions_are (none ∙ sym no_more) answer also, still ∙ sym unmoved)
+outcomes_have_one_reply s (Ok (puts values)) first second now other stand (after, h, at) (later, k, there) =
+    (h.reply_is ∙ sym k.reply_is, at ∙ ap on_stand (h.now_is ∙ sym k.now_is) ∙ sym there)
+outcomes_have_one_reply s (Ok (takes q)) first second now other stand (after, h, at) (later, k, there) =
+    (one_deleted s q first second after later stand h k, at ∙ ap on_stand (h.now_is ∙ sym k.now_is) ∙ sym there)
+outcomes_have_one_reply s (Err fault) first second now other stand (h, still) (k, unmoved) = (h ∙ sym k, still ∙ sym unmoved)
+
+-- a table that stands somewhere stands somewhere after a reply
+stands_on : (s : Stand) (outcome : Outcome) (r : Reply) (now : Basis) → IsReply (on_stand s) outcome r now → (after : Stand) × (now ≡ on_stand after)
+stands_on s (Ok (asks t)) r now (answer, none, still) = (s, still)
+stands_on s (Ok (puts values)) r now (after, h, at) = (after, at)
+stands_on s (Ok (takes q)) r now (after, h, at) = (after, at)
+stands_on s (Err fault) r now (h, still) = (s, still)
+
+-- ---- one reply each to the statements of a script
 
 -- the first statements of a script are the first ones at the ranges of its tokens
-at_ranges : (basis : Basis) (script : List ℕ) (tokens : List Token) (ranges : List (ℕ × ℕ)) (replies : List Reply) (left : ℕ) → AreTokens script tokens → AreStatements tokens ranges
-    → FirstOver basis script replies left → FirstAt basis script tokens ranges replies left
-at_ranges basis script tokens ranges replies left tokens_are ranges_are h =
+at_ranges : (basis : Basis) (script : List ℕ) (tokens : List Token) (ranges : List (ℕ × ℕ)) (replies : List Reply) (left : ℕ) (now : Basis) → AreTokens script tokens
+    → AreStatements tokens ranges → FirstOver basis script replies left now → FirstAt basis script tokens ranges replies left now
+at_ranges basis script tokens ranges replies left now tokens_are ranges_are h =
     let same : h.tokens ≡ tokens = same_tokens script h.tokens tokens h.tokens_are tokens_are in
     let alike : h.ranges ≡ ranges = same_statements tokens h.ranges ranges (subst (λ (ts : List Token). AreStatements ts h.ranges) same h.ranges_are) ranges_are in
-    subst (λ (rs : List (ℕ × ℕ)). FirstAt basis script tokens rs replies left) alike
-    (subst (λ (ts : List Token). FirstAt basis script ts h.ranges replies left) same h.first)
+    subst (λ (rs : List (ℕ × ℕ)). FirstAt basis script tokens rs replies left now) alike
+    (subst (λ (ts : List Token). FirstAt basis script ts h.ranges replies left now) same h.first)
 
-module _ (table : Table) (next : ℕ) (regions : List Region) (are : AreRegions table.schema next regions) (script : List ℕ) where
-  one_of : (tokens : List Token) (first second : Reply) → IsAnswer (on_table table regions) script tokens first
-      → IsAnswer (on_table table regions) script tokens second → first ≡ second
-  one_of tokens first second h k =
+-- the replies to all statements, at all ranges
+all_ranges : (basis : Basis) (script : List ℕ) (tokens : List Token) (ranges : List (ℕ × ℕ)) (replies : List Reply) (now : Basis) → FirstAt basis script tokens ranges replies 0 now
+    → AreAnswers basis script tokens ranges replies now
+all_ranges basis script tokens ranges replies now h =
+    let total = h.0 in
+    subst (λ (rs : List (ℕ × ℕ)). AreAnswers basis script tokens rs replies now) (take_all (length replies) ranges (omega (arith, total))) h.1
+
+module _ (script : List ℕ) (tokens : List Token) where
+  one_of : (s : Stand) (statement : List Token) (first second : Reply) (now other : Basis) → IsAnswer (on_stand s) script statement first now
+      → IsAnswer (on_stand s) script statement second other → (first ≡ second) × (now ≡ other)
+  one_of s statement first second now other h k =
       let same : k.outcome ≡ h.outcome = h.heard.only k.outcome k.heard.told in
-      outcomes_have_one_reply table next regions h.outcome first second are h.reply_is (subst (λ (o : Outcome). IsReply (on_table table regions) o second) same k.reply_is)
+      outcomes_have_one_reply s h.outcome first second now other h.stands h.reply_is (subst (λ (o : Outcome). IsReply (on_stand s) o second other) same k.reply_is)
+
+  -- where a table stands after a statement, and that it does so after either of two replies to it
+  next_of : (s : Stand) (statement : List Token) (first second : Reply) (now other : Basis) → IsAnswer (on_stand s) script statement first now
+      → IsAnswer (on_stand s) script statement second other → (first ≡ second) × ((after : Stand) × (now ≡ on_stand after) × (other ≡ on_stand after))
+  next_of s statement first second now other h k =
+      let same = one_of s statement first second now other h k in
+      let there = stands_on s h.outcome first now h.reply_is in
+      (same.0, (there.0, there.1, sym same.1 ∙ there.1))
 
   -- the replies to the first ranges are the first replies
-  one_each : (tokens : List Token) (ranges : List (ℕ × ℕ)) (count : ℕ) (first second : List Reply) → AreAnswers (on_table table regions) script tokens (take count ranges) first
-      → AreAnswers (on_table table regions) script tokens ranges second → first ≡ take count second
-  one_each tokens ranges zero [] second h k = refl
-  one_each tokens ranges zero (x ∷ xs) second h k = absurd h
-  one_each tokens [] (suc count) [] [] h k = refl
-  one_each tokens [] (suc count) [] (y ∷ ys) h k = absurd k
-  one_each tokens [] (suc count) (x ∷ xs) second h k = absurd h
-  one_each tokens (range ∷ ranges) (suc count) [] second h k = absurd h
-  one_each tokens (range ∷ ranges) (suc count) (x ∷ xs) [] h k = absurd k
-  one_each tokens (range ∷ ranges) (suc count) (x ∷ xs) (y ∷ ys) h k =
-      ap (λ (r : Reply). r ∷ xs) (one_of (slice_range tokens range.0 range.1) x y h.0 k.0) ∙ ap (λ (rs : List Reply). y ∷ rs) (one_each tokens ranges count xs ys h.1 k.1)
+  one_each : (s : Stand) (ranges : List (ℕ × ℕ)) (count : ℕ) (first second : List Reply) (now other : Basis) → AreAnswers (on_stand s) script tokens (take count ranges) first now
+      → AreAnswers (on_stand s) script tokens ranges second other → first ≡ take count second
+  one_each s ranges zero [] second now other h k = refl
+  one_each s ranges zero (x ∷ xs) second now other h k = absurd h
+  one_each s [] (suc count) [] [] now other h k = refl
+  one_each s [] (suc count) [] (y ∷ ys) now other h k = absurd k
+  one_each s [] (suc count) (x ∷ xs) second now other h k = absurd h
+  one_each s (range ∷ ranges) (suc count) [] second now other h k = absurd h
+  one_each s (range ∷ ranges) (suc count) (x ∷ xs) [] now other h k = absurd k
+  one_each s (range ∷ ranges) (suc count) (x ∷ xs) (y ∷ ys) now other (mid, one, rest) (middle, also, more) =
+      let step = next_of s (slice_range tokens range.0 range.1) x y mid middle one also in
+      let after : Stand = step.1.0 in
+      let left = subst (λ (b : Basis). AreAnswers b script tokens (take count ranges) xs now) step.1.1 rest in
+      let right = subst (λ (b : Basis). AreAnswers b script tokens ranges ys other) step.1.2 more in
+      ap (λ (r : Reply). r ∷ xs) step.0 ∙ ap (λ (rs : List Reply). y ∷ rs) (one_each after ranges count xs ys now other left right)
+
+  -- the replies to all ranges are the same, and so is what they leave
+  one_all : (s : Stand) (ranges : List (ℕ × ℕ)) (first second : List Reply) (now other : Basis) → AreAnswers (on_stand s) script tokens ranges first now
+      → AreAnswers (on_stand s) script tokens ranges second other → (first ≡ second) × (now ≡ other)
+  one_all s [] [] [] now other h k = (refl, h ∙ sym k)
+  one_all s [] [] (y ∷ ys) now other h k = absurd k
+  one_all s [] (x ∷ xs) second now other h k = absurd h
+  one_all s (range ∷ ranges) [] second now other h k = absurd h
+  one_all s (range ∷ ranges) (x ∷ xs) [] now other h k = absurd k
+  one_all s (range ∷ ranges) (x ∷ xs) (y ∷ ys) now other (mid, one, rest) (middle, also, more) =
+      let step = next_of s (slice_range tokens range.0 range.1) x y mid middle one also in
+      let after : Stand = step.1.0 in
+      let left = subst (λ (b : Basis). AreAnswers b script tokens ranges xs now) step.1.1 rest in
+      let right = subst (λ (b : Basis). AreAnswers b script tokens ranges ys other) step.1.2 more in
+      let later = one_all after ranges xs ys now other left right in
+      (ap (λ (r : Reply). r ∷ xs) step.0 ∙ ap (λ (rs : List Reply). y ∷ rs) later.0, later.1)
 
   -- the replies to the first statements at some ranges are the first ones of those to all
-  first_of_all : (tokens : List Token) (ranges : List (ℕ × ℕ)) (first second : List Reply) (left : ℕ) → FirstAt (on_table table regions) script tokens ranges first left
-      → FirstAt (on_table table regions) script tokens ranges second 0 → first ≡ take (length first) second
-  first_of_all tokens ranges first second left h k =
-      let total = k.0 in
-      let all : AreAnswers (on_table table regions) script tokens ranges second =
-      subst (λ (rs : List (ℕ × ℕ)). AreAnswers (on_table table regions) script tokens rs second) (take_all (length second) ranges (omega (arith, total))) k.1 in
-      one_each tokens ranges (length first) first second h.1 all
+  first_of_all : (s : Stand) (ranges : List (ℕ × ℕ)) (first second : List Reply) (left : ℕ) (now other : Basis) → FirstAt (on_stand s) script tokens ranges first left now
+      → FirstAt (on_stand s) script tokens ranges second 0 other → first ≡ take (length first) second
+  first_of_all s ranges first second left now other h k =
+      one_each s ranges (length first) first second now other h.1 (all_ranges (on_stand s) script tokens ranges second other k)
 
   -- and their texts are the first part of all texts
-  texts_before : (tokens : List Token) (ranges : List (ℕ × ℕ)) (first second : List Reply) (left : ℕ) → FirstAt (on_table table regions) script tokens ranges first left
-      → FirstAt (on_table table regions) script tokens ranges second 0 → texts_of second ≡ texts_of first ++ texts_of (drop (length first) second)
-  texts_before tokens ranges first second left h k =
+  texts_before : (s : Stand) (ranges : List (ℕ × ℕ)) (first second : List Reply) (left : ℕ) (now other : Basis) → FirstAt (on_stand s) script tokens ranges first left now
+      → FirstAt (on_stand s) script tokens ranges second 0 other → texts_of second ≡ texts_of first ++ texts_of (drop (length first) second)
+  texts_before s ranges first second left now other h k =
       ap texts_of (sym (take-append-drop (length first) second)) ∙ flat_map-append (λ (r : Reply). r.text) (take (length first) second) (drop (length first) second)
-      ∙ ap (λ (rs : List Reply). texts_of rs ++ texts_of (drop (length first) second)) (sym (first_of_all tokens ranges first second left h k))
+      ∙ ap (λ (rs : List Reply). texts_of rs ++ texts_of (drop (length first) second)) (sym (first_of_all s ranges first second left now other h k))
 
 pub statements_have_one_reply_each : StatementsHaveOneReplyEach
-statements_have_one_reply_each table next regions script first second left are h k =
-    let there = at_ranges (on_table table regions) script h.tokens h.ranges second left h.tokens_are h.ranges_are k in
+statements_have_one_reply_each s script first second left now other h k =
+    let there = at_ranges (on_stand s) script h.tokens h.ranges second left other h.tokens_are h.ranges_are k in
     let count = there.0 in
     let total = h.first.0 in
     let long : length first ≡ length second = omega (arith, count, total) in
-    let whole : AreAnswers (on_table table regions) script h.tokens (take (length second) h.ranges) first =
-    subst (λ (n : ℕ). AreAnswers (on_table table regions) script h.tokens (take n h.ranges) first) long h.first.1 in
-    one_all table next regions are script h.tokens (take (length second) h.ranges) first second whole there.1
-  where
-    one_all : (table : Table) (next : ℕ) (regions : List Region) (are : AreRegions table.schema next regions) (script : List ℕ) (tokens : List Token) (ranges : List (ℕ × ℕ)) (first second : List Reply)
-        → AreAnswers (on_table table regions) script tokens ranges first → AreAnswers (on_table table regions) script tokens ranges second → first ≡ second
-    one_all table next regions are script tokens ranges first second h k =
-        let cut : AreAnswers (on_table table regions) script tokens (take (length ranges + length second) ranges) first =
-        subst (λ (rs : List (ℕ × ℕ)). AreAnswers (on_table table regions) script tokens rs first) (sym (take_all (length ranges + length second) ranges (omega arith))) h in
-        one_each table next regions are script tokens ranges (length ranges + length second) first second cut k ∙ take_all (length ranges + length second) second (omega arith)
+    let whole : AreAnswers (on_stand s) script h.tokens (take (length second) h.ranges) first now =
+    subst (λ (n : ℕ). AreAnswers (on_stand s) script h.tokens (take n h.ranges) first now) long h.first.1 in
+    one_all script h.tokens s (take (length second) h.ranges) first second now other whole there.1
 
 pub scripts_have_one_end : ScriptsHaveOneEnd
-scripts_have_one_end table next regions script s t first second pages others are (rs, h, text, sum, counts) (us, k, writing, total, count) =
-    let same : rs ≡ us = statements_have_one_reply_each table next regions script rs us 0 are h k in (
-      counts ∙ ap summary_of same ∙ sym count,
-      text ∙ ap texts_of same ∙ sym writing,
-      sum ∙ ap pages_of same ∙ sym total,
+scripts_have_one_end s script summary also now other first second pages others (rs, h, text, sum, counts) (us, k, writing, total, count) =
+    let same = statements_have_one_reply_each s script rs us 0 now other h k in (
+      counts ∙ ap summary_of same.0 ∙ sym count,
+      same.1,
+      text ∙ ap texts_of same.0 ∙ sym writing,
+      sum ∙ ap pages_of same.0 ∙ sym total,
     )
 
 -- ---- the summary
 
 -- a statement is refused where its outcome is a refusal
 abbrev refuses : Outcome → Bool
-refuses (Ok t) = false
+refuses (Ok says) = false
 refuses (Err fault) = true
 
 asked_accepted : (is_explained : Bool) (basis : Basis) (q : Asked) (r : Reply) → IsAskedReply is_explained basis q r → r.is_refused ≡ false
-asked_accepted true (on_table table in_regions) q r h = h.accepted
-asked_accepted false (on_table table in_regions) q r h = h.accepted
+asked_accepted true (on_stand s) q r h = h.accepted
+asked_accepted false (on_stand s) q r h = h.accepted
 asked_accepted true (over_any seen) q r h = h.accepted
 asked_accepted false (over_any seen) q r h = h.accepted
 
-refused_as : (basis : Basis) (outcome : Outcome) (r : Reply) → IsReply basis outcome r → r.is_refused ≡ refuses outcome
-refused_as basis (Ok t) r h = asked_accepted t.is_explained basis t.asked r h
-refused_as basis (Err fault) r h = ap (λ (x : Reply). x.is_refused) h
+refused_as : (basis : Basis) (outcome : Outcome) (r : Reply) (now : Basis) → IsReply basis outcome r now → r.is_refused ≡ refuses outcome
+refused_as basis (Ok (asks t)) r now (answer, none, still) = asked_accepted t.is_explained basis t.asked r answer
+refused_as (on_stand s) (Ok (puts values)) r now (after, h, at) = ap (λ (x : Reply). x.is_refused) h.reply_is
+refused_as (over_any seen) (Ok (puts values)) r now (after, h, at) = ap (λ (x : Reply). x.is_refused) h.reply_is
+refused_as (on_stand s) (Ok (takes q)) r now (after, h, at) = h.accepted
+refused_as (over_any seen) (Ok (takes q)) r now (after, h, at) = h.accepted
+refused_as basis (Err fault) r now (h, still) = ap (λ (x : Reply). x.is_refused) h
 
-module _ (basis other : Basis) (source : List ℕ) (tokens : List Token) (same : schema_of basis ≡ schema_of other) where
-  refused_alike : (statement : List Token) (x y : Reply) → IsAnswer basis source statement x → IsAnswer other source statement y → x.is_refused ≡ y.is_refused
-  refused_alike statement x y h k =
+-- rows that are taken out leave the schema
+without_schema : (rows : List Row) (s : Stand) → (without_rows rows s).table.schema ≡ s.table.schema
+without_schema [] s = refl
+without_schema (row ∷ rows) s = without_schema rows (without_row row s)
+
+-- and every statement does
+schema_kept : (basis : Basis) (outcome : Outcome) (r : Reply) (now : Basis) → IsReply basis outcome r now → schema_of now ≡ schema_of basis
+schema_kept basis (Ok (asks t)) r now (answer, none, still) = ap schema_of still
+schema_kept (on_stand s) (Ok (puts values)) r now (after, h, at) = ap schema_of at ∙ ap (λ (x : Stand). x.table.schema) h.now_is
+schema_kept (over_any seen) (Ok (puts values)) r now (after, h, at) =
+    ap schema_of at ∙ ap (λ (t : TreeView). t.schema) h.put.puts_in.effect.frame ∙ ap (λ (t : TreeView). t.schema) h.put.same
+schema_kept (on_stand s) (Ok (takes q)) r now (after, h, at) =
+    ap schema_of at ∙ ap (λ (x : Stand). x.table.schema) h.now_is ∙ without_schema (selected_of q s) s
+schema_kept (over_any seen) (Ok (takes q)) r now (after, h, at) =
+    ap schema_of at ∙ ap (λ (t : TreeView). t.schema) h.taken.deletes.frame ∙ ap (λ (t : TreeView). t.schema) h.taken.same
+schema_kept basis (Err fault) r now (h, still) = ap schema_of still
+
+module _ (source : List ℕ) (tokens : List Token) where
+  refused_alike : (basis other : Basis) (statement : List Token) (x y : Reply) (now later : Basis) → schema_of basis ≡ schema_of other → IsAnswer basis source statement x now
+      → IsAnswer other source statement y later → x.is_refused ≡ y.is_refused
+  refused_alike basis other statement x y now later same h k =
       let told = subst (λ (s : Schema). IsTheOutcome s source statement k.outcome) (sym same) k.heard in
-      refused_as basis h.outcome x h.reply_is ∙ ap refuses (sym (h.heard.only k.outcome told.told)) ∙ sym (refused_as other k.outcome y k.reply_is)
+      refused_as basis h.outcome x now h.reply_is ∙ ap refuses (sym (h.heard.only k.outcome told.told)) ∙ sym (refused_as other k.outcome y later k.reply_is)
 
-  summed_alike : (ranges : List (ℕ × ℕ)) (first second : List Reply) → AreAnswers basis source tokens ranges first → AreAnswers other source tokens ranges second
+  summed_alike : (basis other : Basis) (ranges : List (ℕ × ℕ)) (first second : List Reply) (now later : Basis) → schema_of basis ≡ schema_of other
+      → AreAnswers basis source tokens ranges first now → AreAnswers other source tokens ranges second later
       → (length first ≡ length second) × (refused_in first ≡ refused_in second)
-  summed_alike [] [] [] h k = (refl, refl)
-  summed_alike [] [] (y ∷ ys) h k = absurd k
-  summed_alike [] (x ∷ xs) second h k = absurd h
-  summed_alike (range ∷ ranges) [] second h k = absurd h
-  summed_alike (range ∷ ranges) (x ∷ xs) [] h k = absurd k
-  summed_alike (range ∷ ranges) (x ∷ xs) (y ∷ ys) h k =
-      let rest = summed_alike ranges xs ys h.1 k.1 in
-      let one = refused_alike (slice_range tokens range.0 range.1) x y h.0 k.0 in (
-        ap suc rest.0,
-        sum_by-cons (λ (r : Reply). cond r.is_refused 1 0) x xs ∙ ap (λ (b : Bool). cond b 1 0 + refused_in xs) one
-            ∙ ap (λ (n : ℕ). cond y.is_refused 1 0 + n) rest.1 ∙ sym (sum_by-cons (λ (r : Reply). cond r.is_refused 1 0) y ys),
+  summed_alike basis other [] [] [] now later same h k = (refl, refl)
+  summed_alike basis other [] [] (y ∷ ys) now later same h k = absurd k
+  summed_alike basis other [] (x ∷ xs) second now later same h k = absurd h
+  summed_alike basis other (range ∷ ranges) [] second now later same h k = absurd h
+  summed_alike basis other (range ∷ ranges) (x ∷ xs) [] now later same h k = absurd k
+  summed_alike basis other (range ∷ ranges) (x ∷ xs) (y ∷ ys) now later same (mid, one, rest) (middle, also, more) =
+      let kept : schema_of mid ≡ schema_of middle =
+      schema_kept basis one.outcome x mid one.reply_is ∙ same ∙ sym (schema_kept other also.outcome y middle also.reply_is) in
+      let others = summed_alike mid middle ranges xs ys now later kept rest more in
+      let alike = refused_alike basis other (slice_range tokens range.0 range.1) x y mid middle same one also in (
+        ap suc others.0,
+        sum_by-cons (λ (r : Reply). cond r.is_refused 1 0) x xs ∙ ap (λ (b : Bool). cond b 1 0 + refused_in xs) alike
+            ∙ ap (λ (n : ℕ). cond y.is_refused 1 0 + n) others.1 ∙ sym (sum_by-cons (λ (r : Reply). cond r.is_refused 1 0) y ys),
       )
 
 same_summary : (first second : List Reply) → (length first ≡ length second) × (refused_in first ≡ refused_in second) → summary_of first ≡ summary_of second
 same_summary first second (long, refused) = rw (long, refused) refl
 
--- the replies to all statements, at all ranges
-all_ranges : (basis : Basis) (script : List ℕ) (tokens : List Token) (ranges : List (ℕ × ℕ)) (replies : List Reply) → FirstAt basis script tokens ranges replies 0
-    → AreAnswers basis script tokens ranges replies
-all_ranges basis script tokens ranges replies h =
-    let total = h.0 in
-    subst (λ (rs : List (ℕ × ℕ)). AreAnswers basis script tokens rs replies) (take_all (length replies) ranges (omega (arith, total))) h.1
-
 pub scripts_have_one_summary : ScriptsHaveOneSummary
-scripts_have_one_summary basis other script s t first second pages others same (rs, h, text, sum, counts) (us, k, writing, total, count) =
-    let whole = at_ranges other script h.tokens h.ranges us 0 h.tokens_are h.ranges_are k in
-    let alike = summed_alike basis other script h.tokens same h.ranges rs us (all_ranges basis script h.tokens h.ranges rs h.first) (all_ranges other script h.tokens h.ranges us whole) in
+scripts_have_one_summary basis other script s t now later first second pages others same (rs, h, text, sum, counts) (us, k, writing, total, count) =
+    let whole = at_ranges other script h.tokens h.ranges us 0 later h.tokens_are h.ranges_are k in
+    let all = all_ranges basis script h.tokens h.ranges rs now h.first in
+    let alike = summed_alike script h.tokens basis other h.ranges rs us now later same all (all_ranges other script h.tokens h.ranges us later whole) in
     counts ∙ same_summary rs us alike ∙ sym count
+
+-- ---- texts that were not written to the end
 
 -- a front of bytes is a front of those with more after them
 front_before : (front bytes after : List ℕ) → IsFrontOf front bytes → IsFrontOf front (bytes ++ after)
@@ -197,32 +265,83 @@ front_before front bytes after (count, fewer, is) =
     (count, rw (length-append bytes after) (omega (arith, fewer)), is ∙ sym (take-append-le count bytes after (omega (arith, fewer))))
 
 pub cut_texts_are_a_front : CutTextsAreAFront
-cut_texts_are_a_front table next regions script s bytes text pages all are (rs, r, left, front, h, cut, is, sum) (us, k, writing, total, count) =
-    let whole = at_ranges (on_table table regions) script h.tokens h.ranges us 0 h.tokens_are h.ranges_are k in
+cut_texts_are_a_front s script summary now later bytes text pages all (rs, r, left, front, h, cut, is, sum) (us, k, writing, total, count) =
+    let whole = at_ranges (on_stand s) script h.tokens h.ranges us 0 later h.tokens_are h.ranges_are k in
     let after : List ℕ = texts_of (drop (length (rs ++ r ∷ [])) us) in
     let split : texts_of us ≡ texts_of rs ++ (r.text ++ after) =
-    texts_before table next regions are script h.tokens h.ranges (rs ++ r ∷ []) us left h.first whole
+    texts_before script h.tokens s h.ranges (rs ++ r ∷ []) us left now later h.first whole
     ∙ ap (λ (bs : List ℕ). bs ++ after) (sym (flat_map_more (λ (x : Reply). x.text) [] rs r)) ∙ append_assoc (texts_of rs) r.text after in
     rw (is, writing, split) (front_after front (r.text ++ after) (texts_of rs) (front_before front r.text after cut))
 
 pub stopped_texts_are_a_front : StoppedTextsAreAFront
-stopped_texts_are_a_front table next regions script s fault bytes text pages all are (rs, left, more, h, is, sum) (us, k, writing, total, count) =
-    let whole = at_ranges (on_table table regions) script h.tokens h.ranges us 0 h.tokens_are h.ranges_are k in
+stopped_texts_are_a_front s script summary fault now later bytes text pages all (rs, left, more, h, is, sum) (us, k, writing, total, count) =
+    let whole = at_ranges (on_stand s) script h.tokens h.ranges us 0 later h.tokens_are h.ranges_are k in
     let after : List ℕ = texts_of (drop (length rs) us) in
-    let split : texts_of us ≡ texts_of rs ++ after = texts_before table next regions are script h.tokens h.ranges rs us (suc left) h.ended.0 whole in (
+    let split : texts_of us ≡ texts_of rs ++ after = texts_before script h.tokens s h.ranges rs us (suc left) h.ended.0 later h.ended.1 whole in (
       length (texts_of rs),
       rw (writing, split, length-append (texts_of rs) after) (omega arith),
       rw (is, writing, split) (sym (take-append_seam (texts_of rs) after)),
     )
 
 pub stopped_texts_are_whole : StoppedTextsAreWhole
-stopped_texts_are_whole table next regions script s fault bytes text pages all are (rs, left, more, h, is, sum) (us, k, writing, total, count) =
-    let whole = at_ranges (on_table table regions) script h.tokens h.ranges us 0 h.tokens_are h.ranges_are k in
-    let first : rs ≡ take (length rs) us = first_of_all table next regions are script h.tokens h.ranges rs us (suc left) h.ended.0 whole in
+stopped_texts_are_whole s script summary fault now later bytes text pages all (rs, left, more, h, is, sum) (us, k, writing, total, count) =
+    let whole = at_ranges (on_stand s) script h.tokens h.ranges us 0 later h.tokens_are h.ranges_are k in
+    let first : rs ≡ take (length rs) us = first_of_all script h.tokens s h.ranges rs us (suc left) h.ended.0 later h.ended.1 whole in
     let joined : rs ++ drop (length rs) us ≡ us = ap (λ (xs : List Reply). xs ++ drop (length rs) us) first ∙ take-append-drop (length rs) us in (
       rs,
       drop (length rs) us,
-      subst (λ (xs : List Reply). FirstOver (on_table table regions) script xs 0) (sym joined) k,
+      subst (λ (xs : List Reply). FirstOver (on_stand s) script xs 0 later) (sym joined) k,
       is,
       writing ∙ ap texts_of (sym joined),
     )
+
+-- ---- tables that stay
+
+itself : (basis : Basis) → IsUnchanged basis basis
+itself (on_stand s) = refl
+itself (over_any seen) = refl
+
+-- nothing was done
+unmoved : (basis now : Basis) → now ≡ basis → IsUnchanged basis now
+unmoved basis now still = subst (λ (b : Basis). IsUnchanged basis b) (sym still) (itself basis)
+
+unchanged_on : (basis mid now : Basis) → IsUnchanged basis mid → IsUnchanged mid now → IsUnchanged basis now
+unchanged_on (on_stand s) (on_stand t) (on_stand u) h k = k ∙ h
+unchanged_on (over_any s) (over_any t) (over_any u) h k = k ∙ ap (λ (x : TreeView). record x { trace = u.trace }) h
+unchanged_on (on_stand s) (on_stand t) (over_any u) h k = absurd k
+unchanged_on (on_stand s) (over_any t) now h k = absurd h
+unchanged_on (over_any s) (over_any t) (on_stand u) h k = absurd k
+unchanged_on (over_any s) (on_stand t) now h k = absurd h
+
+-- no rows that are taken out
+none_taken : (rows : List Row) (s : Stand) → length rows ≡ 0 → without_rows rows s ≡ s
+none_taken [] s none = refl
+none_taken (row ∷ rows) s none = absurd (omega (arith, none))
+
+-- a statement that puts in no row and takes out none
+stays : (basis : Basis) (outcome : Outcome) (r : Reply) (now : Basis) → r.changed ≡ 0 → IsReply basis outcome r now → IsUnchanged basis now
+stays basis (Ok (asks t)) r now none (answer, zero_too, still) = unmoved basis now still
+stays (on_stand s) (Ok (puts values)) r now none (after, h, at) =
+    absurd (let one : r.changed ≡ 1 = ap (λ (x : Reply). x.changed) h.reply_is in omega (arith, one, none))
+stays (over_any seen) (Ok (puts values)) r now none (after, h, at) =
+    absurd (let one : r.changed ≡ 1 = ap (λ (x : Reply). x.changed) h.reply_is in omega (arith, one, none))
+stays (on_stand s) (Ok (takes q)) r now none (after, h, at) =
+    unmoved (on_stand s) now (at ∙ ap on_stand (h.now_is ∙ none_taken (selected_of q s) s (sym h.changed_is ∙ none)))
+stays (over_any seen) (Ok (takes q)) r now none (after, h, at) =
+    subst (λ (b : Basis). IsUnchanged (over_any seen) b) (sym at)
+    (h.taken.untouched (ap (λ (n : ℕ). Ok n) none) ∙ ap (λ (t : TreeView). record t { trace = after.trace }) h.taken.same)
+stays basis (Err fault) r now none (h, still) = unmoved basis now still
+
+all_stay : (basis : Basis) (source : List ℕ) (tokens : List Token) (ranges : List (ℕ × ℕ)) (replies : List Reply) (now : Basis) → changed_by replies ≡ 0
+    → AreAnswers basis source tokens ranges replies now → IsUnchanged basis now
+all_stay basis source tokens [] [] now none h = unmoved basis now h
+all_stay basis source tokens [] (r ∷ replies) now none h = absurd h
+all_stay basis source tokens (range ∷ ranges) [] now none h = absurd h
+all_stay basis source tokens (range ∷ ranges) (r ∷ replies) now none (mid, one, rest) =
+    let sum : r.changed + changed_by replies ≡ 0 = sym (sum_by-cons (λ (x : Reply). x.changed) r replies) ∙ none in
+    let first : r.changed ≡ 0 = omega (arith, sum) in
+    let others : changed_by replies ≡ 0 = omega (arith, sum) in
+    unchanged_on basis mid now (stays basis one.outcome r mid first one.reply_is) (all_stay mid source tokens ranges replies now others rest)
+
+pub unchanged_tables_stay : UnchangedTablesStay
+unchanged_tables_stay basis script replies left now h none = all_stay basis script h.tokens (take (length replies) h.ranges) replies now none h.first.1
