@@ -1,5 +1,5 @@
 -- What `parse` is told by its parts.
-use Rattle.std.proofs.Common.{◌≡◌, ◌<◌, ◌⊎◌, ℕ, List, [], ◌∷◌, Option, Some, None, slice_get, refl, sym, ap, arith, ◌∙◌, inr}
+use Rattle.std.proofs.Common.{◌≡◌, ◌<◌, ◌⊎◌, ℕ, List, [], ◌∷◌, Option, Some, None, slice_get, refl, sym, arith, ◌∙◌, inr}
 use Rattle.ub_lexer.specs.declared.token.Token.{Token}
 use Rattle.ub_lexer.specs.declared.token.TokenKind.TheVariants as kind
 use Rattle.ub_syntax.specs.Grammar.{lexemes, IsStatement}
@@ -9,7 +9,7 @@ use Rattle.ub_syntax.specs.Verdicts.{IsVerdict}
 use Rattle.ub_syntax.specs.declared.recogniser.Verdict.{Verdict}
 use Rattle.ub_syntax.specs.declared.recogniser.Verdict.TheVariants as verdict
 use Rattle.ub_parser.specs.Firsts.{IsRefusalAtFirst}
-use Rattle.ub_parser.specs.Outcome.{Command, command_of, IsAccepted}
+use Rattle.ub_parser.specs.Outcome.{Command, IsAccepted}
 use Rattle.ub_parser.specs.Refusals.{IsTooLarge, IsFirstFault, rank}
 use Rattle.ub_parser.specs.declared.fault.SqlFault.{SqlFault}
 use Rattle.ub_parser.specs.declared.fault.SqlFault.TheVariants.{BadByte, NumberTooLarge, TooMany, Memory}
@@ -82,13 +82,3 @@ module _ (source : List ℕ) (schema : Schema) (tokens : List Token) where
   pub only_misfit : (s : Stated) → ((t : Stated) → IsStatement 64 (lexemes source tokens) t → s ≡ t) → (fault : SqlFault) → IsFirstFault source schema tokens fault
       → (f : SqlFault) → IsFirstFault source schema tokens f → (fault ≡ Memory) ⊎ (fault ≡ f)
   only_misfit s only fault first f other = inr (one_fault source schema tokens fault f (one_misfit source schema tokens s only fault) first other)
-
-  -- the one syntax that the tokens have
-  pub is_statement : (s : Stated) → ((t : Stated) → IsStatement 64 (lexemes source tokens) t → s ≡ t) → ((t : Stated) × IsStatement 64 (lexemes source tokens) t)
-      → IsStatement 64 (lexemes source tokens) s
-  is_statement s only w = rw (only w.0 w.1) w.1
-
-  -- what is accepted is what the one syntax says
-  pub accepted_only : (s : Stated) → ((t : Stated) → IsStatement 64 (lexemes source tokens) t → s ≡ t) → (said c : Command) → IsAccepted source schema tokens c
-      → said ≡ command_of source schema s → said ≡ c
-  accepted_only s only said c is says = says ∙ ap (λ (x : Stated). command_of source schema x) (only is.syntax is.is) ∙ sym is.says

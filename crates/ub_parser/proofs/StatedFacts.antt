@@ -22,7 +22,7 @@ use Rattle.ub_parser.proofs.Among.{select_good, delete_good, insert_good}
 use Rattle.ub_parser.proofs.FaultFacts.{NoBad, NoLarge, fits, misfit_first}
 use Rattle.ub_parser.proofs.GoodTokens.{are_good}
 use Rattle.ub_parser.proofs.KnownFacts.{are_columns, known_filter, known_limit}
-use Rattle.ub_parser.proofs.ParseFacts.{nothing_accepted, accepted_only, only_misfit}
+use Rattle.ub_parser.proofs.ParseFacts.{nothing_accepted, only_misfit}
 use Rattle.ub_parser.proofs.PosedFacts.{posed, some_listed, some_columns}
 use Rattle.ub_table.specs.declared.schema.Schema.{Schema}
 
@@ -119,6 +119,3 @@ module _ (source : List ℕ) (schema : Schema) (tokens : List Token) (bytes : No
   -- it is accepted where it has none
   pub accepted_so : ((fault : SqlFault) → ¬ IsStatedMisfit source schema s fault) → (c : Command) → c ≡ command_of source schema s → IsAccepted source schema tokens c
   accepted_so none c says = record { syntax = s; is = is; fits = fits source schema tokens s bytes large is one none; says = says }
-
-  pub accepted_one : (said : Command) → said ≡ command_of source schema s → (c : Command) → IsAccepted source schema tokens c → said ≡ c
-  accepted_one said says c accepted = accepted_only source schema tokens s one said c accepted says

@@ -1,5 +1,7 @@
 -- The three misfits of an INSERT, and which of them is the first.
-use Rattle.std.proofs.Common.{◌≡◌, ◌≢◌, ◌↔◌, ◌<◌, ◌≤◌, ◌+◌, ℕ, zero, suc, ℤ, Bool, true, false, IsTrue, List, [], ◌∷◌, length, map, drop, take, get_or, Some, None, slice_get, refl, sym, ap, subst, arith}
+use Rattle.std.proofs.Common.{◌≡◌, ◌≢◌, ◌↔◌, ◌<◌, ◌≤◌, ◌+◌, ℕ, zero, suc, ℤ, Bool, true, false, IsTrue, List, [], ◌∷◌, ◌++◌, length, map, drop, take, take_all, add-one, get_or, refl, sym, ap, ◌∙◌, subst, arith}
+use Rattle.std.proofs.Math.Seq.{take-suc}
+use Rattle.std.proofs.lemmas.List.{length-map, map-append}
 use Rattle.std.proofs.lemmas.List.Elements.{All-cons, All-from_get_or, All-get_or, All-head, All-nil, All-tail}
 use Rattle.std.proofs.lemmas.List.FromFn.{get_or-enumerate_from, length-enumerate_from}
 use Rattle.std.specs.List.{All, enumerate_from}
@@ -7,7 +9,7 @@ use Rattle.ub_lexer.specs.Tokens.{text_of}
 use Rattle.ub_lexer.specs.declared.token.Token.{Token}
 use Rattle.ub_syntax.specs.declared.syntax.Insertion.{Insertion}
 use Rattle.ub_syntax.specs.declared.syntax.Value.{Value}
-use Rattle.ub_parser.specs.Refusals.{IsFirst, IsUnfit, IsInsertMisfit, IsFirstInsertMisfit, begins, miscounted, rank}
+use Rattle.ub_parser.specs.Refusals.{IsFirst, IsUnfit, IsInsertMisfit, IsFirstInsertMisfit, begins, rank}
 use Rattle.ub_parser.specs.Sense.{value_of, values_of}
 use Rattle.ub_parser.specs.declared.fault.SqlFault.{SqlFault}
 use Rattle.ub_parser.specs.declared.fault.SqlFault.TheVariants.{BadByte, Syntax, NumberTooLarge, TooDeep, TooMany, UnknownTable, UnknownColumn, NotGrouped, NotSelected, ValueCount, ValueRange, Memory}
@@ -18,21 +20,41 @@ use Rattle.ub_table.specs.Value.{fits, fits_measure}
 use Rattle.ub_table.specs.declared.schema.Schema.{Schema}
 
 -- the first of the values after so many
-pub begins_some : (n : ℕ) (vs : List Value) (close : Token) (v : Value) → slice_get vs n ≡ Some v → v.first ≡ begins (drop n vs) close
-begins_some n [] close v e = cc
-begins_some zero (x ∷ vs) close v e = let same : v ≡ x = cc in ap (λ (y : Value). y.first) same
-begins_some (suc n) (x ∷ vs) close v e = begins_some n vs close v e
+begins_at : (n : ℕ) (vs : List Value) (close : Token) (v : Value) → n < length vs → ((d : Value) → v ≡ get_or vs n d) → v.first ≡ begins (drop n vs) close
+begins_at n [] close v lt is = absurd (omega arith)
+begins_at zero (x ∷ vs) close v lt is = ap (λ (y : Value). y.first) (is x)
+begins_at (suc n) (x ∷ vs) close v lt is = begins_at n vs close v (omega arith) is
 
-pub begins_none : (n : ℕ) (vs : List Value) (close : Token) → slice_get vs n ≡ None → close ≡ begins (drop n vs) close
-begins_none zero [] close e = refl
-begins_none (suc n) [] close e = refl
-begins_none zero (x ∷ vs) close e = cc
-begins_none (suc n) (x ∷ vs) close e = begins_none n vs close e
+begins_past : (n : ℕ) (vs : List Value) (close : Token) → length vs ≤ n → close ≡ begins (drop n vs) close
+begins_past zero [] close le = refl
+begins_past (suc n) [] close le = refl
+begins_past zero (x ∷ vs) close le = absurd (omega arith)
+begins_past (suc n) (x ∷ vs) close le = begins_past n vs close (omega arith)
+
+pub begins_some : (n : ℕ) (xs vs : List Value) (close : Token) (v : Value) → xs ≡ vs → n < length xs → ((d : Value) → v ≡ get_or xs n d) → v.first ≡ begins (drop n vs) close
+begins_some n xs vs close v same lt is = subst (λ (ys : List Value). v.first ≡ begins (drop n ys) close) same (begins_at n xs close v lt is)
+
+pub begins_none : (n : ℕ) (xs vs : List Value) (close : Token) → xs ≡ vs → length xs ≤ n → close ≡ begins (drop n vs) close
+begins_none n xs vs close same le = subst (λ (ys : List Value). close ≡ begins (drop n ys) close) same (begins_past n xs close le)
+
+-- the numbers of the values so far, with one more of them
+pub more_values : (source : List ℕ) (vs : List Value) (k : ℕ) (xs ys : List ℤ) (x : ℤ) (d : Value) → k < length vs → xs ≡ map (λ v. value_of source v.literal) (take k vs)
+    → ys ≡ xs ++ x ∷ [] → x ≡ value_of source (get_or vs k d).literal → ys ≡ map (λ v. value_of source v.literal) (take (k + 1) vs)
+more_values source vs k xs ys x d lt so_far more is = rw (add-one, take-suc vs k d lt, map-append, more, so_far, is) refl
+
+-- and of all of them
+pub all_values : (source : List ℕ) (i : Insertion) (vs : List Value) (k : ℕ) (xs : List ℤ) → vs ≡ i.values → length vs ≤ k → xs ≡ map (λ v. value_of source v.literal) (take k vs)
+    → xs ≡ values_of source i
+all_values source i vs k xs same past so_far = so_far ∙ ap (λ (ws : List Value). map (λ v. value_of source v.literal) ws) (take_all k vs past ∙ same)
+
+-- the element at a place, with that place before it
+at_place : {A : Type 0} (xs : List A) (k : ℕ) (d : ℕ × A) → k < length xs → get_or (enumerate_from 0 xs) k d ≡ (k, get_or xs k d.1)
+at_place {A = A} xs k d lt = get_or-enumerate_from 0 xs k d lt ∙ ap {B = ℕ × A} (λ n. (n, get_or xs k d.1)) (let e : 0 + k ≡ k = omega arith in e)
 
 -- a search that goes over the values in order finds the first that its column can't hold
 module _ (source : List ℕ) (schema : Schema) (vs : List Value) (k : ℕ) (d : Value) where
   here : k < length vs → get_or (enumerate_from 0 vs) k (0, d) ≡ (k, get_or vs k d)
-  here lt = get_or-enumerate_from 0 vs k (0, d) lt
+  here lt = at_place vs k (0, d) lt
 
   below_all : k < length vs → k < length (enumerate_from 0 vs)
   below_all lt = let e = length-enumerate_from 0 vs in omega arith
@@ -82,10 +104,6 @@ module _ (source : List ℕ) (schema : Schema) (i : Insertion) where
   pub no_table : (r : Bool) → (IsTrue r ↔ (text_of source i.table ≢ schema.name)) → r ≡ false → No (λ at. UnknownTable at)
   no_table r tells is at h = fails r (text_of source i.table ≢ schema.name) tells is h.0
 
-  pub first_count : No (λ at. UnknownTable at) → length i.values ≢ length schema.columns → (t : Token) → t ≡ miscounted schema i
-      → IsFirstInsertMisfit source schema i (ValueCount t.from)
-  first_count table other t is = ((other, ap (λ (u : Token). u.from) is), below 10 (λ lt. table) (λ lt. absurd (omega arith)) (λ lt. absurd (omega arith)))
-
   pub no_count : length i.values ≡ length schema.columns → No (λ at. ValueCount at)
   no_count same at h = h.0 same
 
@@ -124,7 +142,7 @@ module _ (source : List ℕ) (schema : Schema) (i : Insertion) where
       (λ k lt.
       let there : k < length i.values = let e = length-enumerate_from 0 i.values in omega arith in
       let v = get_or i.values k a_value in
-      let at : get_or (enumerate_from 0 i.values) k d ≡ (k, v) = get_or-enumerate_from 0 i.values k d there in
+      let at : get_or (enumerate_from 0 i.values) k d ≡ (k, v) = at_place i.values k d there in
       let no : ¬ IsUnfit source schema (k, v) =
       subst (λ (x : ℕ × Value). ¬ IsUnfit source schema x) at (All-get_or (λ (x : ℕ × Value). ¬ IsUnfit source schema x) (enumerate_from 0 i.values) k d lt none) in
       subst (λ (x : ℕ × Value). fits schema x.0 (value_of source x.1.literal) ≡ true) (sym at) (must (fits schema k (value_of source v.literal)) (λ unfit. no (omega arith, unfit))))
@@ -141,7 +159,7 @@ module _ (source : List ℕ) (schema : Schema) (i : Insertion) where
       (λ k lt.
       let d : ℕ × Value = (0, a_value) in
       let v = get_or i.values k a_value in
-      let at : get_or (enumerate_from 0 i.values) k d ≡ (k, v) = get_or-enumerate_from 0 i.values k d lt in
+      let at : get_or (enumerate_from 0 i.values) k d ≡ (k, v) = at_place i.values k d lt in
       let longer : k < length (enumerate_from 0 i.values) = let e = length-enumerate_from 0 i.values in omega arith in
       let here : fits schema k (value_of source v.literal) ≡ true =
       subst (λ (x : ℕ × Value). fits schema x.0 (value_of source x.1.literal) ≡ true) at
@@ -149,7 +167,7 @@ module _ (source : List ℕ) (schema : Schema) (i : Insertion) where
       fits_some_measure schema.dims k (value_of source v.literal) here)
 
   -- and the numbers may be given
-  pub all_given : All (λ v. fits schema v.0 (value_of source v.1.literal) ≡ true) (enumerate_from 0 i.values)
+  all_given : All (λ v. fits schema v.0 (value_of source v.1.literal) ≡ true) (enumerate_from 0 i.values)
       → All (λ v. fits schema v.0 v.1 ≡ true) (enumerate_from 0 (values_of source i))
   all_given fit = numbered 0 i.values fit
     where
@@ -160,3 +178,8 @@ module _ (source : List ℕ) (schema : Schema) (i : Insertion) where
           All-cons (λ (v : ℕ × ℤ). fits schema v.0 v.1 ≡ true) (n, value_of source v.literal) _
           (All-head (λ (x : ℕ × Value). fits schema x.0 (value_of source x.1.literal) ≡ true) (n, v) _ h)
           (numbered (n + 1) vs (All-tail (λ (x : ℕ × Value). fits schema x.0 (value_of source x.1.literal) ≡ true) (n, v) _ h))
+
+  pub given_values : (values : List ℤ) → values ≡ values_of source i → length i.values ≡ length schema.columns
+      → All (λ v. fits schema v.0 (value_of source v.1.literal) ≡ true) (enumerate_from 0 i.values)
+      → (length values ≡ length schema.columns) × All (λ v. fits schema v.0 v.1 ≡ true) (enumerate_from 0 values)
+  given_values values is same fit = rw (is, length-map) (same, all_given fit)

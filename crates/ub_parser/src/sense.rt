@@ -234,6 +234,15 @@ fn limit(source: &[u8], limit: &Option<Token>) -> Option<u64>
     }
 }
 
+// The number that a literal writes, where a measure can hold it.
+fn measure(source: &[u8], literal: &Literal) -> i64
+    requires number { IsNumber source.now literal.now.digits }
+    requires fits { fits_measure (spec.value_of source.now literal.now) ≡ true }
+    ensures { result ≡ spec.value_of source.now literal.now }
+{
+    i64::try_from(value(source, literal)).unwrap()
+}
+
 /// The values that an INSERT gives to the columns, in order.
 ///
 /// # Errors
@@ -249,9 +258,10 @@ pub(crate) fn values(
         insertion.now.values }
     ensures { IfOk result (λ values. values.items ≡ spec.values_of source.now insertion.now) }
 {
+    let literals = insertion.values.as_slice();
     let mut values = Vec::new(alloc);
-    for literal in insertion.values.as_slice() {
-        values.push(i64::try_from(value(source, &literal.literal)).unwrap())?;
+    for literal in literals {
+        values.push(measure(source, &literal.literal))?;
     }
     Ok(values)
 }

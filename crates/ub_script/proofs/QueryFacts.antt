@@ -76,6 +76,16 @@ pub asked_ended : {A : Type 0} (r : Result A RunFault) (basis : Basis) (t : Told
 asked_ended (Ok a) basis t old new of h some = tt
 asked_ended {A = A} (Err e) basis t old new of h some = asked_stops {A = A} basis t old new e of h some
 
+-- ---- what is said of one command, said of another one that is the same
+
+pub said_answer : {A : Type 0} (r : Result A RunFault) (text : A → List ℕ) (is_refused : A → Bool) (basis : Basis) (c d : Command) (old new : TreeView) → c ≡ d
+    → IfOk r (λ a. Replies (IsReply basis (Ok d)) (text a) (is_refused a) old new) → IfOk r (λ a. Replies (IsReply basis (Ok c)) (text a) (is_refused a) old new)
+said_answer r text is_refused basis c d old new e h = rw e h
+
+pub said_ended : {A : Type 0} (r : Result A RunFault) (basis : Basis) (c d : Command) (old new : TreeView) → c ≡ d
+    → IfErr r (λ fault. Stops (IsCommandEnd basis d fault) old new) → IfErr r (λ fault. Stops (IsCommandEnd basis c fault) old new)
+said_ended r basis c d old new e h = rw e h
+
 -- ---- a statement
 
 module _ (t : TreeView) (basis : Basis) (source : List ℕ) (tokens : List Token) (schema : Schema) (of : IsBasisOf t basis) (told : schema ≡ t.schema) where

@@ -1,5 +1,5 @@
 -- What an INSERT and a DELETE make of a table, and of any tree.
-use Rattle.std.specs.Prelude.{◌≡◌, ◌≢◌, ◌≤◌, ◌+◌, ℕ, ℤ, false, List, Option, Some, None, Result, Ok, Err, IfOk, OnOk, drop, length, map, take}
+use Rattle.std.specs.Prelude.{◌≡◌, ◌≤◌, ◌+◌, ℕ, ℤ, false, List, Option, Some, None, Result, Ok, IfOk, OnOk, drop, length, map, take}
 use Rattle.std.specs.List.{enumerate_from}
 use Rattle.ub_exec.specs.Answers.{begun}
 use Rattle.ub_exec.specs.Deleting.{Deletes, ReadsFirst}
