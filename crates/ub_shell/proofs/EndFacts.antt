@@ -9,9 +9,11 @@ use Rattle.ub_tree.specs.declared.fault.TreeFault.TheVariants as tree
 use Rattle.ub_script.proofs.Laws.{Puts-more, front_after}
 use Rattle.ub_script.specs.Output.{OutFacts, Puts, Takes}
 use Rattle.ub_script.specs.Run.{IsBegun, IsBroken, IsDone}
+use Rattle.ub_script.specs.declared.fault.RunFault.TheVariants as run
 use Rattle.ub_script.specs.declared.script.Summary.{Summary}
+use Rattle.ub_store.specs.declared.fault.StoreFault.TheVariants.{BadSize}
 use Rattle.ub_shell.specs.Ending.{AreBrokenTexts, Ends, HasTried, IsTrialText, Tells, Trial}
-use Rattle.ub_shell.specs.Status.{load_fault_status, load_fault_text, summary_status}
+use Rattle.ub_shell.specs.Status.{load_fault_status, load_fault_text, summary_status, tree_fault_status, tree_fault_text}
 use Rattle.ub_shell.specs.declared.status.Status.{Status}
 use Rattle.ub_shell.specs.declared.status.Status.TheVariants.{Done, Refused, CommandLine, Data, Device}
 use Rattle.ub_shell.specs.declared.status.Status.TheVariants as ended
@@ -64,7 +66,7 @@ broken_ends t old new (bytes, off, taken) = inr (refl, (bytes, inl off, taken))
 
 -- a run that wanted memory
 pub memory_ends : (t : Trial) (old mid new : OutFacts) (status : Status)
-    → (mid ≡ old) ⊎ Takes (IsBegun t.text t.dims t.page_rows t.name t.script) false old mid
+    → (mid ≡ old) ⊎ Takes (IsBegun t.text t.dims t.page_rows t.name t.script run.Memory) false old mid
     → Tells mid new (codes "! Memory\n") ended.Memory status → HasTried t old new status
 memory_ends t old mid new status (inl same) told =
     told_ends (IsTrialText t) (AreBrokenTexts t) old new _ _ status (record { texts = []; first = inl refl; line = refl }) (told_since old mid new _ _ status same told)
@@ -72,20 +74,34 @@ memory_ends t old mid new status (inr (texts, begun, taken)) told =
     told_ends (IsTrialText t) (AreBrokenTexts t) old new _ _ status (record { texts = texts; first = inr begun; line = refl })
     (told_after old mid new texts _ _ status taken told)
 
+-- a run that found no number, or no room, for a row
+full_text : (t : Trial) (texts : List ℕ) (fault : TreeFault) → (fault ≡ tree.Full) ⊎ (fault ≡ tree.Store BadSize)
+    → IsBegun t.text t.dims t.page_rows t.name t.script (run.Tree fault) texts → IsTrialText t (texts ++ tree_fault_text fault) (tree_fault_status fault)
+full_text t texts fault (inl full) begun =
+    rw full (inr (record { fault = tree.Full; is = inl refl; texts = texts; first = rw full at begun; line = refl }))
+full_text t texts fault (inr size) begun =
+    rw size (inr (record { fault = tree.Store BadSize; is = inr refl; texts = texts; first = rw size at begun; line = refl }))
+
+pub full_ends : (t : Trial) (old mid new : OutFacts) (fault : TreeFault) (status : Status) → (fault ≡ tree.Full) ⊎ (fault ≡ tree.Store BadSize)
+    → Takes (IsBegun t.text t.dims t.page_rows t.name t.script (run.Tree fault)) false old mid
+    → Tells mid new (tree_fault_text fault) (tree_fault_status fault) status → HasTried t old new status
+full_ends t old mid new fault status is (texts, begun, taken) told =
+    told_ends (IsTrialText t) (AreBrokenTexts t) old new _ _ status (full_text t texts fault is begun) (told_after old mid new texts _ _ status taken told)
+
 -- the line of a table that was refused, which is never for the store to have failed
 refused_line : (t : Trial) (fault : LoadFault) → (fault ≢ load.Csv → first_refusal t.dims t.name (records_of t.text) ≡ Some fault)
     → ((of_tree : TreeFault) → fault ≡ load.Tree of_tree → of_tree ≡ tree.Full)
     → IsTrialText t (load_fault_text fault) (load_fault_status fault)
 refused_line t load.Memory first full = record { texts = []; first = inl refl; line = refl }
-refused_line t load.NoHeader first full = record { fault = load.NoHeader; first = first; line = refl }
-refused_line t (load.BadName n) first full = record { fault = load.BadName n; first = first; line = refl }
-refused_line t load.ColumnCount first full = record { fault = load.ColumnCount; first = first; line = refl }
-refused_line t (load.BadNumber row column) first full = record { fault = load.BadNumber row column; first = first; line = refl }
-refused_line t (load.OutOfRange row column) first full = record { fault = load.OutOfRange row column; first = first; line = refl }
-refused_line t load.Csv first full = record { fault = load.Csv; first = first; line = refl }
+refused_line t load.NoHeader first full = inl (record { fault = load.NoHeader; first = first; line = refl })
+refused_line t (load.BadName n) first full = inl (record { fault = load.BadName n; first = first; line = refl })
+refused_line t load.ColumnCount first full = inl (record { fault = load.ColumnCount; first = first; line = refl })
+refused_line t (load.BadNumber row column) first full = inl (record { fault = load.BadNumber row column; first = first; line = refl })
+refused_line t (load.OutOfRange row column) first full = inl (record { fault = load.OutOfRange row column; first = first; line = refl })
+refused_line t load.Csv first full = inl (record { fault = load.Csv; first = first; line = refl })
 refused_line t (load.Tree of_tree) first full =
     let same = full of_tree refl in
-    rw same (record { fault = load.Tree tree.Full; first = rw same at first; line = refl })
+    rw same (inl (record { fault = load.Tree tree.Full; first = rw same at first; line = refl }))
 
 pub refused_ends : (t : Trial) (old mid new : OutFacts) (fault : LoadFault) (status : Status)
     → ((mid ≡ old) × (fault ≢ load.Csv → first_refusal t.dims t.name (records_of t.text) ≡ Some fault))

@@ -4,6 +4,7 @@ use Rattle.std.specs.Prelude.{IsErrOf, IsTrue}
 use Rattle.std.proofs.Common.{◌≡◌, ◌⊎◌, ◌∙◌, ℕ, List, Result, Ok, Err, inl, inr, ap, false, refl, subst, sym}
 use Rattle.ub_script.specs.Faults.{counted}
 use Rattle.ub_script.specs.Output.{OutFacts}
+use Rattle.ub_script.specs.Script.{OnlyAsks}
 use Rattle.ub_store.specs.Facts.{StoreFacts, IsHonest, memory_facts}
 use Rattle.ub_store.specs.declared.fault.StoreFault.{StoreFault}
 use Rattle.ub_store.specs.declared.fault.StoreFault.TheVariants as store
@@ -126,11 +127,11 @@ not_opened {A} table old new fault out out_now status faults torn opens told = r
   tells = told;
 }
 
--- what is left of the store of a tree that was opened, asked and closed
+-- what is left of the store of a tree that was opened, only asked and closed
 pub store_left : {script : List ℕ} {left : StoreFacts} {out out_now : OutFacts} {status : Status} (store : StoreFacts) (t : TreeView) → IsOpened store t
-    → (ran : HasRunTree t script left out out_now status) → left ≡ record store { failed_reads = counted ran.result store.failed_reads }
-store_left store t opened ran =
-    let same = ran.ran.effect.same in
+    → (ran : HasRunTree t script left out out_now status) → OnlyAsks t.schema script → left ≡ record store { failed_reads = counted ran.result store.failed_reads }
+store_left store t opened ran asks =
+    let same = (ran.ran.asked asks).same in
     let changed = ap (λ (v : TreeView). v.is_changed) same ∙ opened.unchanged in
     let failed = ap (λ (v : TreeView). v.is_failed) same ∙ opened.working in
     (ran.closes.unchanged changed failed).1 ∙ ap (λ (v : TreeView). v.store) same

@@ -1,18 +1,24 @@
 -- The laws of how a command ends, as specs/Laws.antt states them.
-use Rattle.std.proofs.Common.{◌≡◌, ◌≢◌, ◌⊎◌, ◌∙◌, ℕ, List, inl, inr, ap, arith, refl, subst, sym}
+use Rattle.std.proofs.Common.{◌≡◌, ◌≢◌, ◌⊎◌, ◌∙◌, ℕ, Bool, true, false, List, Err, inl, inr, ap, arith, refl, subst, sym}
 use Rattle.std.proofs.lemmas.Bool.{cases_Bool}
 use Rattle.std.proofs.lemmas.Slice.Eq.{bytes_eq-Decides}
 use Rattle.std.specs.Str.{bytes_eq}
-use Rattle.std.specs.Prelude.{Result}
+use Rattle.std.specs.Prelude.{IsOk, IsTrue, Result}
 use Rattle.ub_store.specs.Facts.{StoreFacts}
 use Rattle.ub_store.specs.declared.fault.StoreFault.{StoreFault}
 use Rattle.ub_files.specs.Files.{FilesFacts, Held, IsPutBack, IsStored, ReadsFile, absent, bytes, lent_out, pages, standard_input, torn, untold}
 use Rattle.ub_words.proofs.Laws.{no_help_taken}
 use Rattle.ub_words.specs.CommandLine.{AsksHelpAlone, AsksNext}
 use Rattle.ub_shell.specs.Commands.{IsRunOn, IsUntold}
-use Rattle.ub_shell.specs.Laws.{AskingLeavesTheTable, IsHeldStill, OnlyHelpIsWritten, WrongWordsAreTold}
+use Rattle.ub_shell.proofs.LeftFacts.{run_leaves, run_stays, where_ok}
+use Rattle.ub_shell.specs.Laws.{AskingLeavesTheTable, IsHeldStill, OnlyHelpIsWritten, UnchangedTablesAreLeft, WhatWasDoneStands, WrongWordsAreTold}
 use Rattle.ub_shell.specs.declared.status.Status.{Status}
+use Rattle.ub_exec.proofs.Laws.{sound_trees_stand}
 use Rattle.ub_script.specs.Output.{OutFacts}
+use Rattle.ub_script.specs.Script.{OnlyAsks}
+use Rattle.ub_table.specs.declared.schema.Schema.{Schema}
+use Rattle.ub_tree.specs.declared.fault.TreeFault.{TreeFault}
+use Rattle.ub_tree.specs.declared.fault.TreeFault.TheVariants.{Failed}
 
 no_next : (words : List (List ℕ)) (lo hi z : List ℕ) → AsksHelpAlone words → AsksNext words lo hi z → ⊥
 no_next words lo hi z alone (inl by_clap) = no_help_taken words by_clap.1.0 alone
@@ -72,20 +78,43 @@ put_back_same (bytes text) after from left stored back same well = absurd stored
 put_back_same torn after from left stored back same well = absurd stored
 put_back_same lent_out after from left stored back same well = absurd stored
 
--- the store that is left of a table that was asked
-asked_left : {script : List ℕ} {out out_now : OutFacts} {status : Status} (from left : StoreFacts) → IsRunOn from script left out out_now status ⊎ IsUntold from left out out_now status
+-- the store that is left of a table that was only asked
+asked_left : {script : List ℕ} {out out_now : OutFacts} {status : Status} (from left : StoreFacts) → ((schema : Schema) → OnlyAsks schema script) → IsRunOn from script left out out_now status ⊎ IsUntold from left out out_now status
     → (left.pages ≡ from.pages) × (left.failed_writes ≡ from.failed_writes)
-asked_left from left (inl run) = (ap (λ (s : StoreFacts). s.pages) run.left_is, ap (λ (s : StoreFacts). s.failed_writes) run.left_is)
-asked_left from left (inr told) = (ap (λ (s : StoreFacts). s.pages) told.left_is, ap (λ (s : StoreFacts). s.failed_writes) told.left_is)
+asked_left from left asks (inl run) =
+    let same = run.left_is (asks run.tree.schema) in
+    (ap (λ (s : StoreFacts). s.pages) same, ap (λ (s : StoreFacts). s.failed_writes) same)
+asked_left from left asks (inr told) = (ap (λ (s : StoreFacts). s.pages) told.left_is, ap (λ (s : StoreFacts). s.failed_writes) told.left_is)
 
 pub asking_leaves_the_table : AskingLeavesTheTable
-asking_leaves_the_table table script old new out out_now status other (inr unread) =
+asking_leaves_the_table table script old new out out_now status other asks (inr unread) =
     still_same (old.holds table) (new.holds table) (left_by_reading script table old new _ other unread.reads)
-asking_leaves_the_table table script old new out out_now status other (inl run) =
+asking_leaves_the_table table script old new out out_now status other asks (inl run) =
     let mid : run.mid.holds table ≡ old.holds table = left_by_reading script table old run.mid _ other run.read.reads in
     subst (λ (held : Held). IsHeldStill held (new.holds table)) mid (elim run.ran [
       | inl asked ↦
-          let same = asked_left asked.store asked.asks.left asked.asks.asked in
+          let same = asked_left asked.store asked.asks.left (λ schema. asks run.asked schema run.read.text_is) asked.asks.asked in
           put_back_same (run.mid.holds table) (new.holds table) asked.store asked.asks.left asked.lent.stored asked.asks.back.held same.0 (same.1 ∙ asked.lent.lent.unfailed)
       | inr unopened ↦ still_same (run.mid.holds table) (new.holds table) unopened.files.kept
     ])
+
+-- ---- a table on which a script was run
+
+-- a closing that was done is that of a tree that hasn't failed
+works_on : (b : Bool) (r : Result (Unit {0}) TreeFault) → IsOk r → (IsTrue b → r ≡ Err Failed) → b ≡ false
+works_on false r done failed = refl
+works_on true r done failed = let same = failed refl in cc
+
+pub what_was_done_stands : WhatWasDoneStands
+what_was_done_stands store left schema placed next script out out_now status honest sound run closed =
+    let ran = run.ran in
+    let (s, stands) = sound_trees_stand run.tree (run.tree_is.sound schema placed next honest sound).0 in
+    let working = works_on ran.now.is_failed ran.closing closed (λ failed. (ran.closes.failed failed).0) in
+    let (now, has, is) = run_leaves run.tree ran.now script ran.result out ran.mid s ran.ran stands working in
+    let there = where_ok ran.closing closed (ran.closes.closed is.sound) in
+    (s, now, stands, has, is, there.0, there.1)
+
+pub unchanged_tables_are_left : UnchangedTablesAreLeft
+unchanged_tables_are_left store left script out out_now status run done =
+    let ran = run.ran in
+    run_stays store left run.tree ran.now script ran.result ran.closing out ran.mid run.tree_is.opened ran.closes ran.ran done

@@ -1,3 +1,4 @@
 pub mod EndFacts
 pub mod FileFacts
+pub mod LeftFacts
 pub mod Laws

@@ -8,6 +8,7 @@ use Rattle.ub_load.specs.declared.fault.LoadFault.TheVariants.{Tree}
 use Rattle.ub_script.specs.Output.{OutFacts}
 use Rattle.ub_script.specs.Faults.{counted}
 use Rattle.ub_script.specs.Run.{IsRun}
+use Rattle.ub_script.specs.Script.{OnlyAsks}
 use Rattle.ub_script.specs.declared.fault.RunFault.{RunFault}
 use Rattle.ub_script.specs.declared.fault.RunFault.TheVariants as ran
 use Rattle.ub_script.specs.declared.script.Summary.{Summary}
@@ -210,7 +211,10 @@ TellsRan (Err (ran.Load fault)) closed out out_now status =
 TellsRan (Err (ran.Tree fault)) closed out out_now status =
     Tells out out_now (tree_fault_text fault) (tree_fault_status fault) status
 
--- a script was run on a tree, which was then closed, with this store left of it; and it was told how both have ended
+-- a script was run on a tree, which was then closed, also after a fault, with this store left of it; and it was told how both have
+-- ended. `ran` says what the statements made of the tree, and `closes` what of that is in the store: where the closing isn't refused,
+-- all of it, as a closed table. A tree that has failed isn't closed: its store is as the run left it, and where the tree has changed,
+-- its first page says so (`marked` of `Runs`)
 pub record HasRunTree (t : TreeView) (script : List ℕ) (left : StoreFacts) (out out_now : OutFacts) (status : Status) : Type 0 where
   pub now : TreeView
   pub result : Result Summary RunFault
@@ -226,13 +230,13 @@ pub record IsTreeOf (store : StoreFacts) (t : TreeView) : Type 0 where
   pub sound : (schema : Schema) (placed : List Placed) (next : ℕ) → IsHonest store → AreSoundPages store.pages schema placed next
       → IsSound t × (t.schema ≡ schema) × (t.placed ≡ placed) × (t.next ≡ next)
 
--- a script was run on the tree in a store, of which this is left: where a read of it failed, which is told, it counts that, and all
--- else is as it was
+-- a script was run on the tree in a store, of which this is left: where the script only asks, and a read of it failed, which is told,
+-- the store counts that, and all else is as it was; what a script that changes the table leaves is said by the run and the closing
 pub record IsRunOn (store : StoreFacts) (script : List ℕ) (left : StoreFacts) (out out_now : OutFacts) (status : Status) : Type 0 where
   pub tree : TreeView
   pub tree_is : IsTreeOf store tree
   pub ran : HasRunTree tree script left out out_now status
-  pub left_is : left ≡ record store { failed_reads = counted ran.result store.failed_reads }
+  pub left_is : OnlyAsks tree.schema script → left ≡ record store { failed_reads = counted ran.result store.failed_reads }
 
 -- no tree was opened in a store, of which this is left, and that was told
 pub record IsUntold (store left : StoreFacts) (out out_now : OutFacts) (status : Status) : Type 0 where
@@ -243,7 +247,7 @@ pub record IsUntold (store left : StoreFacts) (out out_now : OutFacts) (status :
   pub left_is : left ≡ read_store {A = StoreFacts} (Err fault) store
   pub tells : Tells out out_now (tree_fault_text fault) (tree_fault_status fault) status
 
--- a script was asked of the table in a store, and what is left of the store was put back
+-- a script was run on the table in a store, and what is left of the store was put back
 pub record AsksStore (Back : StoreFacts → Type 0) (script : List ℕ) (store : StoreFacts) (out out_now : OutFacts) (status : Status) : Type 0 where
   pub left : StoreFacts
   pub back : Back left
@@ -256,13 +260,13 @@ pub record IsUnopened (table : List ℕ) (old new : FilesFacts) (out out_now : O
   pub files : OpensFile {A = OutFacts} table old new (Err fault)
   pub tells : Tells out out_now (store_fault_text fault) (store_fault_status fault) status
 
--- the store in the table file was asked
+-- a script was run on the store in the table file
 pub record IsAskedOf (table script : List ℕ) (old new : FilesFacts) (out out_now : OutFacts) (status : Status) : Type 0 where
   pub store : StoreFacts
   pub lent : IsLent old table store
   pub asks : AsksStore (λ left. Returns table old new left) script store out out_now status
 
--- the script of a file was read, and then the table file asked; or it was told that this one wasn't opened
+-- the script of a file was read, and then run on the table file; or it was told that this one wasn't opened
 pub record IsRunOf (table script : List ℕ) (old new : FilesFacts) (out out_now : OutFacts) (status : Status) : Type 0 where
   pub asked : List ℕ
   pub mid : FilesFacts

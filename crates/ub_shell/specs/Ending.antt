@@ -6,8 +6,13 @@ use Rattle.ub_load.specs.declared.fault.LoadFault.{LoadFault}
 use Rattle.ub_load.specs.declared.fault.LoadFault.TheVariants.{Csv}
 use Rattle.ub_script.specs.Output.{OutFacts, Breaks, IsFrontOf, Puts, Takes}
 use Rattle.ub_script.specs.Run.{IsBegun, IsBroken, IsDone}
+use Rattle.ub_script.specs.declared.fault.RunFault.{RunFault}
+use Rattle.ub_script.specs.declared.fault.RunFault.TheVariants as run
 use Rattle.ub_script.specs.declared.script.Summary.{Summary}
-use Rattle.ub_shell.specs.Status.{load_fault_text, summary_status}
+use Rattle.ub_store.specs.declared.fault.StoreFault.TheVariants.{BadSize}
+use Rattle.ub_tree.specs.declared.fault.TreeFault.{TreeFault}
+use Rattle.ub_tree.specs.declared.fault.TreeFault.TheVariants.{Full, Store}
+use Rattle.ub_shell.specs.Status.{load_fault_text, summary_status, tree_fault_text}
 use Rattle.ub_shell.specs.declared.program.WordsFault.{WordsFault}
 use Rattle.ub_shell.specs.declared.program.WordsFault.TheVariants.{NotText}
 use Rattle.ub_shell.specs.declared.program.WordsFault.TheVariants as words
@@ -45,9 +50,9 @@ abbrev pub trial : List ℕ → ℕ → ℕ → List ℕ → List ℕ → Trial
 trial text dims page_rows name script =
     record { text = text; dims = dims; page_rows = page_rows; name = name; script = script }
 
--- the texts of the first statements of the script, but not of all
-abbrev pub AreFirstTexts : Trial → List ℕ → Type 0
-AreFirstTexts t bytes = IsBegun t.text t.dims t.page_rows t.name t.script bytes
+-- the texts of the first statements of the script, but not of all: this fault ended the next one
+abbrev pub AreFirstTexts : Trial → RunFault → List ℕ → Type 0
+AreFirstTexts t fault bytes = IsBegun t.text t.dims t.page_rows t.name t.script fault bytes
 
 -- a front of the texts of its statements, not all of them
 abbrev pub AreBrokenTexts : Trial → List ℕ → Type 0
@@ -68,15 +73,24 @@ pub record IsRefusedLine (t : Trial) (bytes : List ℕ) : Type 0 where
 -- nothing, or the texts of the first statements, and then the line that says that memory was refused
 pub record IsMemoryText (t : Trial) (bytes : List ℕ) : Type 0 where
   pub texts : List ℕ
-  pub first : (texts ≡ []) ⊎ AreFirstTexts t texts
+  pub first : (texts ≡ []) ⊎ AreFirstTexts t run.Memory texts
   pub line : bytes ≡ texts ++ codes "! Memory\n"
+
+-- the texts of the first statements, and then the line of why the next one's row has no place: no number is left, or the tree's
+-- store can't have another page
+pub record IsFullText (t : Trial) (bytes : List ℕ) : Type 0 where
+  pub fault : TreeFault
+  pub is : (fault ≡ Full) ⊎ (fault ≡ Store BadSize)
+  pub texts : List ℕ
+  pub first : AreFirstTexts t (run.Tree fault) texts
+  pub line : bytes ≡ texts ++ tree_fault_text fault
 
 -- all that is written where a script is run on the table of a text, by the status
 abbrev pub IsTrialText : Trial → List ℕ → Status → Type 0
 IsTrialText t bytes Done = IsRunText t bytes Done
 IsTrialText t bytes Refused = IsRunText t bytes Refused
 IsTrialText t bytes CommandLine = ⊥
-IsTrialText t bytes Data = IsRefusedLine t bytes
+IsTrialText t bytes Data = IsRefusedLine t bytes ⊎ IsFullText t bytes
 IsTrialText t bytes Device = ⊥
 IsTrialText t bytes Memory = IsMemoryText t bytes
 

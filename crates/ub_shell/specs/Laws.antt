@@ -1,9 +1,21 @@
 -- The laws of how a command ends. Each is what the function of its name in `law` ensures, and is proved in proofs/Laws.antt.
-use Rattle.std.specs.Prelude.{◌≡◌, ◌≢◌, ◌⊎◌, ℕ, List}
+use Rattle.std.specs.Prelude.{◌≡◌, ◌≢◌, ◌⊎◌, ℕ, false, List, Result, Ok, Err, IsOk}
+use Rattle.ub_exec.specs.Stand.{Stand, IsStandOf}
 use Rattle.ub_words.specs.CommandLine.{AsksHelp, AsksHelpAlone, AsksNothing}
-use Rattle.ub_script.specs.Output.{OutFacts}
-use Rattle.ub_files.specs.Files.{FilesFacts, Held, standard_input, untold}
-use Rattle.ub_shell.specs.Commands.{RunsFile}
+use Rattle.ub_script.specs.Basis.{Basis, on_stand, over_any}
+use Rattle.ub_script.specs.Output.{OutFacts, HasTaken}
+use Rattle.ub_script.specs.Run.{EndedOver, FirstOver, summary_of}
+use Rattle.ub_script.specs.Script.{OnlyAsks}
+use Rattle.ub_script.specs.Text.{Reply, changed_by, texts_of}
+use Rattle.ub_script.specs.declared.fault.RunFault.{RunFault}
+use Rattle.ub_script.specs.declared.fault.RunFault.TheVariants.{Memory, Write}
+use Rattle.ub_script.specs.declared.script.Summary.{Summary}
+use Rattle.ub_store.specs.Facts.{StoreFacts, IsHonest}
+use Rattle.ub_table.specs.declared.schema.Schema.{Schema}
+use Rattle.ub_tree.specs.Placed.{Placed}
+use Rattle.ub_tree.specs.Stored.{AreSoundPages}
+use Rattle.ub_files.specs.Files.{FilesFacts, Held, IsText, standard_input, untold}
+use Rattle.ub_shell.specs.Commands.{IsRunOn, RunsFile}
 use Rattle.ub_shell.specs.Ran.{HasEnded, HasHelped, HasNoMemory, HasRefused}
 use Rattle.ub_shell.specs.declared.status.Status.{Status}
 
@@ -23,7 +35,46 @@ IsHeldStill untold now = Unit {0}
 IsHeldStill held untold = Unit {0}
 IsHeldStill held now = now ≡ held
 
--- a table file that a script was run on is as it was, page for page, whatever it is and however the run has ended
+-- a script that this can be only asks, whatever the table
+abbrev pub IsOnlyAsking : Held → Type 0
+IsOnlyAsking held = (script : List ℕ) (schema : Schema) → IsText held script → OnlyAsks schema script
+
+-- a table file on which a script was run that only asks is as it was, page for page, whatever it is and however the run has ended
 abbrev pub AskingLeavesTheTable : Type 0
 AskingLeavesTheTable = (table script : List ℕ) (old new : FilesFacts) (out out_now : OutFacts) (status : Status) → table ≢ standard_input
-    → RunsFile table script old new out out_now status → IsHeldStill (old.holds table) (new.holds table)
+    → IsOnlyAsking (old.holds script) → RunsFile table script old new out out_now status → IsHeldStill (old.holds table) (new.holds table)
+
+-- a fault ended a statement of a script after the first ones, and the table that stood there is left so; or memory was refused before
+-- them all
+abbrev pub HasStopped : List ℕ → RunFault → Stand → Stand → Type 0
+HasStopped script fault s now =
+    ((fault ≡ Memory) × (now ≡ s))
+    ⊎ ((replies : List Reply) × (left : ℕ) × (pages : ℕ) × EndedOver (on_stand s) script fault replies left pages (on_stand now))
+
+-- a script that was run with this result leaves a table so that stood there: all statements were done where it was run to its end;
+-- where a write failed the first ones, the last of which is the one whose text wasn't all written; else those before the one that a
+-- fault ended, and what that one did
+abbrev pub HasLeft : List ℕ → Result Summary RunFault → Stand → Stand → Type 0
+HasLeft script (Ok summary) s now =
+    (replies : List Reply) × FirstOver (on_stand s) script replies 0 (on_stand now) × (summary ≡ summary_of replies)
+HasLeft script (Err Write) s now = (replies : List Reply) × (left : ℕ) × FirstOver (on_stand s) script replies left (on_stand now)
+HasLeft script (Err fault) s now = HasStopped script fault s now
+
+-- where a script was run on a closed table, and the closing after it wasn't refused, a closed table is left, which stands where the
+-- script's statements left it, also after a fault of the run
+abbrev pub WhatWasDoneStands : Type 0
+WhatWasDoneStands =
+    (store left : StoreFacts) (schema : Schema) (placed : List Placed) (next : ℕ) (script : List ℕ) (out out_now : OutFacts) (status : Status)
+    → IsHonest store → AreSoundPages store.pages schema placed next → (run : IsRunOn store script left out out_now status)
+    → IsOk run.ran.closing
+    → (s : Stand) × (now : Stand) × IsStandOf run.tree s × HasLeft script run.ran.result s now × IsStandOf run.ran.now now
+    × IsHonest left × AreSoundPages left.pages run.ran.now.schema run.ran.now.placed run.ran.now.next
+
+-- a script that was run to its end on the tree of any store has replies, whose texts were written; where these put in no row and take
+-- out none, the store is left as it was
+abbrev pub UnchangedTablesAreLeft : Type 0
+UnchangedTablesAreLeft =
+    (store left : StoreFacts) (script : List ℕ) (out out_now : OutFacts) (status : Status) (run : IsRunOn store script left out out_now status)
+    → IsOk run.ran.result
+    → (replies : List Reply) × (now : Basis) × FirstOver (over_any run.tree) script replies 0 now
+    × HasTaken (texts_of replies) false out run.ran.mid × (changed_by replies ≡ 0 → left ≡ store)

@@ -1,4 +1,4 @@
-ghost use Rattle.ub_shell.specs.Laws.{AskingLeavesTheTable, OnlyHelpIsWritten, WrongWordsAreTold};
+ghost use Rattle.ub_shell.specs.Laws.{AskingLeavesTheTable, OnlyHelpIsWritten, UnchangedTablesAreLeft, WhatWasDoneStands, WrongWordsAreTold};
 
 // Each function here does nothing, and its clause is a law of the definitions in specs/.
 
@@ -12,7 +12,20 @@ pub fn wrong_words_are_told()
     ensures { WrongWordsAreTold }
 {}
 
-/// A table file that a script was run on is as it was, page for page, whatever it is and however the run has ended.
+/// A table file on which a script was run that only asks is as it was, page for page, whatever it is and however the run has
+/// ended.
 pub fn asking_leaves_the_table()
     ensures { AskingLeavesTheTable }
+{}
+
+/// Where a script was run on a closed table, and the closing after it wasn't refused, a closed table is left, which stands where
+/// the script's statements left it, also after a fault of the run.
+pub fn what_was_done_stands()
+    ensures { WhatWasDoneStands }
+{}
+
+/// A script that was run to its end on a table file, and whose replies put in no row and take out none, leaves the pages as they
+/// were.
+pub fn unchanged_tables_are_left()
+    ensures { UnchangedTablesAreLeft }
 {}

@@ -14,6 +14,8 @@ use ub_words::RunWords;
 
 /// Reads a script, once, opens the table file, runs the script on its table and closes it, also after a fault. The script's text
 /// is written as `run` writes it; a fault is told on a last line. A table file that was only asked is left as it was, page for page.
+/// One that the script changed is closed, so that what was done stands, also after a fault of the run. Where its store failed in a
+/// change, or the closing fails, it isn't closed: it may then be marked as changed, and such a one isn't opened again.
 pub fn run_file<F: Files, W: Out>(
     alloc: Global,
     files: &mut F,
@@ -55,7 +57,7 @@ fn run_store<F: Files, W: Out>(
     }
 }
 
-// Runs a script on the tree of a table file, and closes it.
+// Runs a script on the tree of a table file, and closes it, also after a fault: what the script's statements did stands then.
 fn run_tree<F: Files, W: Out>(
     alloc: Global,
     files: &mut F,

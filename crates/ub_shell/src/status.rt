@@ -64,7 +64,8 @@ pub fn store_fault_status(fault: StoreFault) -> Status
     }
 }
 
-/// How a run ends whose tree refused: by the data, unless its store failed or memory was refused.
+/// How a run ends whose tree refused: by the data, also where no number or no room is left for a row, unless its store failed or
+/// memory was refused.
 pub fn tree_fault_status(fault: TreeFault) -> Status
     ensures { result ≡ tree_fault_status fault }
 {

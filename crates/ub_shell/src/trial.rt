@@ -43,8 +43,9 @@ pub fn try_files<F: Files, W: Out>(
 }
 
 /// Runs a script on the table of a CSV text, and ends with what came of it: `Done` or `Refused` with the script's
-/// text written, by whether a statement was refused; `Data` where the text is no table and `Memory` where memory is
-/// refused, each with a last line that says so; `Device` where a write fails, and then nothing more is written.
+/// text written, by whether a statement was refused; `Data` where the text is no table, or an INSERT finds no number
+/// left or no room, and `Memory` where memory is refused, each with a last line that says so, after the texts of the
+/// first statements; `Device` where a write fails, and then nothing more is written.
 pub fn tell_try<W: Out>(
     alloc: Global,
     text: &[u8],

@@ -13,7 +13,7 @@ returns-in-Ok g c =
         tree = c.in-Ok.tree;
         tree_is = record { opened = opened; sound = c.in-Ok.ensures.sound };
         ran = ran.2;
-        left_is = store_left (g.F.Store.PageStore.facts c.args.store) c.in-Ok.tree opened ran.2;
+        left_is = store_left {out_now = g.W.Out.facts c.run_tree.new.out} (g.F.Store.PageStore.facts c.args.store) c.in-Ok.tree opened ran.2;
       });
     }
 
