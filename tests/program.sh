@@ -1,7 +1,7 @@
 #!/usr/bin/env bash
-# Runs the real program (`bin/ubq`, or the one that is named) in a folder for scratch, by hand: loading and asking table files,
-# the files that it refuses, standard input, and what it does where nothing can be written. What can't be tried on this machine
-# is named as skipped. The last line says how many are right; the status is 1 where one is not.
+# Runs the real program (`bin/ubq`, or the one that is named) in a folder for scratch, by hand: loading, asking and changing table
+# files, the files that it refuses, standard input, and what it does where nothing can be written. What can't be tried on this
+# machine is named as skipped. The last line says how many are right; the status is 1 where one is not.
 #
 #   tests/program.sh [PROGRAM]
 set -u
@@ -55,6 +55,10 @@ printf 'x,y,m\n1,1,10\n2,3,20\n3,0,5\n0,2,7\n2,3,1\n' >s.csv
 printf 'SELECT * FROM t WHERE x BETWEEN 2 AND 3;' >row1.sql
 printf 'SELECT COUNT(*) FROM t;' >count.sql
 printf ';; -- nothing' >nothing.sql
+printf 'INSERT INTO t VALUES (2, 3, -4);' >insert.sql
+printf 'DELETE FROM t WHERE x = 2;' >delete.sql
+printf 'DELETE FROM t WHERE x = 9;' >none.sql
+printf 'SELECT m FROM t WHERE x = 2 AND y = 3;' >point.sql
 row1='x,y,m\n2,3,20\n3,0,5\n2,3,1\n-- rows 3, pages 3\n'
 
 # ---- a table file
@@ -74,6 +78,37 @@ try 'try answers the same' 0 all "$row1" try s.csv row1.sql --dims 2 --page-rows
 try 'try takes data from standard input' 0 all "$row1" try - row1.sql --dims 2 --page-rows 2 <s.csv
 try 'try takes a script from standard input' 0 all "$row1" try s.csv - --dims 2 --page-rows 2 <row1.sql
 try 'but not both' 2 all 'error: DATA and SCRIPT are both standard input\n' try - - --dims 2 <s.csv
+
+# ---- a table file that is changed
+cp s.ub changed.ub
+try 'an INSERT' 0 all '-- inserted 6\n' run changed.ub insert.sql
+try 'the next run sees its row' 0 all 'm\n20\n1\n-4\n-- rows 3, pages 2\n' run changed.ub point.sql
+holds 'it took a page' test "$(stat -c %s changed.ub)" -eq $((4096 * 6))
+cp s.ub again.ub
+try 'the same INSERT on a copy' 0 all '-- inserted 6\n' run again.ub - <insert.sql
+holds 'makes the same file' cmp -s changed.ub again.ub
+try 'a DELETE' 0 all '-- deleted 3\n' run changed.ub delete.sql
+try 'the next run misses its rows' 0 all 'm\n-- rows 0, pages 1\n' run changed.ub point.sql
+try 'the others stand' 0 all 'COUNT(*)\n3\n-- rows 1, pages 2\n' run changed.ub count.sql
+try 'a number is not given twice' 0 all '-- inserted 7\n' run changed.ub insert.sql
+try 'a DELETE of all rows' 0 all '-- deleted 4\n' run changed.ub <(printf 'DELETE FROM t;')
+try 'leaves an empty table' 0 all 'COUNT(*)\n0\n-- rows 1, pages 1\n' run changed.ub count.sql
+try 'into which rows go again' 0 all '-- inserted 8\n' run changed.ub insert.sql
+cp s.ub same.ub
+try 'a script that changes nothing' 1 all '-- deleted 0\n! ValueCount at 53\n! ValueRange at 81\n! Syntax at 97\n' \
+    run same.ub <(printf '%s' "$(cat none.sql) INSERT INTO t VALUES (1, 2); INSERT INTO t VALUES (1, -2, 3); EXPLAIN DELETE FROM t;")
+holds 'leaves the file byte for byte' cmp -s before.ub same.ub
+# A run that is killed after its INSERT: the pipe that it writes to is never read.
+{ cat insert.sql && for _ in $(seq 3000); do printf 'SELECT * FROM t;'; done; } >long.sql
+mkfifo pipe
+exec 9<>pipe
+"$ubq" run same.ub long.sql >pipe 2>err &
+sleep 2
+kill -9 $!
+wait $! 2>err
+exec 9>&-
+try 'a run that was killed leaves the table unclean' 3 all '! Unclean page 0\n' run same.ub count.sql
+try 'and no statement runs on it' 3 all '! Unclean page 0\n' run same.ub delete.sql
 
 # ---- files that are refused
 : >none.ub
@@ -113,6 +148,10 @@ if "${as[@]}" "$ubq" --version >out 2>err; then
     chmod a=r s.ub
     try 'a table file that can only be read' 0 all "$row1" run s.ub row1.sql
     try 'and is not loaded into' 4 all '! Device\n' load s.csv s.ub --dims 2
+    try 'no row is put into it' 4 all '! Device\n' run s.ub insert.sql
+    try 'none is put where there is room' 4 all '! Device\n' run s.ub <(printf 'INSERT INTO t VALUES (3, 0, 6);')
+    try 'none is taken out' 4 all '! Device\n' run s.ub delete.sql
+    try 'but a DELETE of no row is done' 0 all '-- deleted 0\n' run s.ub none.sql
     holds 'it is as it was' cmp -s before.ub s.ub
     chmod a= s.ub
     try 'a table file that can not be read either' 4 all '! Device\n' run s.ub row1.sql
@@ -151,6 +190,10 @@ if [ -e /dev/full ]; then
     try 'and as one that is asked: it has no bytes' 3 all '! NoPage\n' run /dev/full row1.sql
     "$ubq" run before.ub row1.sql >/dev/full 2>err
     holds 'a full device for what is written' test $? -eq 4
+    cp before.ub told.ub
+    "$ubq" run told.ub insert.sql >/dev/full 2>err
+    holds 'a full device for the line of an INSERT' test $? -eq 4
+    try 'which is done all the same' 0 all 'm\n20\n1\n-4\n-- rows 3, pages 2\n' run told.ub point.sql
     "$ubq" load s.csv late.ub --dims 2 --page-rows 2 >/dev/full 2>err
     holds 'a full device after the table was loaded' test $? -eq 4
     holds 'which is there all the same' cmp -s before.ub late.ub

@@ -3,7 +3,8 @@
 
 The model inserts rows into regions by the rules of the README, splits full ones, and finds which regions a sweep comes to by trying
 every point of a small space. Coordinates lie below 8, and beyond them each region's span is followed to the end of the space by the
-points that can be least or greatest there. Run by hand: tests/sweeps.py [HOW MANY [SEED]]. It prints how many were right and wrong.
+points that can be least or greatest there. Run by hand: tests/sweeps.py [HOW MANY [SEED [PROGRAM]]]. It prints how many were right and
+wrong. Its model of regions and queries also serves tests/changes.py.
 """
 import os
 import random
@@ -22,23 +23,27 @@ def address(point):
     return sum(((value >> bit) & 1) << (bit * dims + dims - 1 - i) for bit in range(BITS) for i, value in enumerate(point))
 
 
+def put(regions, size, key, row):
+    """Puts a row into its region, of which two are made where it has more rows than a page holds."""
+    place = max(i for i, region in enumerate(regions) if region[0] <= key)
+    held = sorted(regions[place][1] + [(key, row)])
+    if len(held) <= size:
+        regions[place][1] = held
+        return
+    cut = (size + 2) // 2
+    left, right = held[:cut], held[cut:]
+    first = right[0][0]
+    if left[-1][0][0] < first[0]:
+        first = (first[0], 0)
+    regions[place][1] = left
+    regions.insert(place + 1, [first, right])
+
+
 def inserted(rows, dims, size):
     """The regions after the rows were inserted in order, as pairs of a first key and the rows with their keys."""
     regions = [[(0, 0), []]]
     for number, row in enumerate(rows, 1):
-        key = (address(row[:dims]), number)
-        place = max(i for i, region in enumerate(regions) if region[0] <= key)
-        held = sorted(regions[place][1] + [(key, row)])
-        if len(held) <= size:
-            regions[place][1] = held
-            continue
-        cut = (size + 2) // 2
-        left, right = held[:cut], held[cut:]
-        first = right[0][0]
-        if left[-1][0][0] < first[0]:
-            first = (first[0], 0)
-        regions[place][1] = left
-        regions.insert(place + 1, [first, right])
+        put(regions, size, (address(row[:dims]), number), row)
     return regions
 
 
@@ -78,15 +83,16 @@ def met(box, start, end, dim, down):
     return best
 
 
-def event_values(rows, dims, size, boxes, dim, down):
+def event_values(regions, dims, boxes, dim, down):
     """The event value of each region that meets one of the boxes."""
-    for start, end, _ in spans(inserted(rows, dims, size), dims):
+    for start, end, _ in spans(regions, dims):
         values = [value for box in boxes if (value := met(box, start, end, dim, down)) is not None]
         if values:
             yield max(values) if down else min(values)
 
 
-def model(rows, dims, size, box, dim, down, second, limit):
+def model(rows, regions, dims, box, dim, down, second, limit):
+    """The rows, of these in the order of their numbers, and pages of a query in the order of a dimension."""
     inside = [
         (row, number) for number, row in enumerate(rows, 1) if all(lo <= v <= hi for v, (lo, hi) in zip(row, box))
     ]
@@ -101,7 +107,7 @@ def model(rows, dims, size, box, dim, down, second, limit):
 
     inside.sort(key=order)
     given = inside if limit is None else inside[:limit]
-    met_values = list(event_values(rows, dims, size, [box], dim, down))
+    met_values = list(event_values(regions, dims, [box], dim, down))
     return [row for row, _ in given], pages_read(met_values, down, limit, [row[dim] for row, _ in given])
 
 
@@ -127,11 +133,17 @@ def cell(item, group, values, rows):
     return AGGREGATES[keyword](row[column] for row in rows)
 
 
-def model_of_groups(rows, dims, size, boxes, least, items, group, keys, limit):
-    """The lines and pages of a query with GROUP BY, over the boxes and the rows whose measure is at least this."""
-    chosen = [row for row in rows if row[dims] >= least and any(all(lo <= v <= hi for v, (lo, hi) in zip(row, box)) for box in boxes)]
+def is_chosen(row, dims, boxes, least):
+    """Whether a row lies in one of the boxes, and its measure is at least this, if one is given."""
+    return (least is None or row[dims] >= least) and any(all(lo <= v <= hi for v, (lo, hi) in zip(row, box)) for box in boxes)
+
+
+def model_of_groups(rows, regions, dims, boxes, least, items, group, keys, limit):
+    """The lines and pages of a query with GROUP BY, over the rows that are chosen."""
     found = {}
-    for row in chosen:
+    for row in rows:
+        if not is_chosen(row, dims, boxes, least):
+            continue
         found.setdefault(tuple(row[column] for column in group), []).append(row)
 
     def order(entry):
@@ -143,10 +155,10 @@ def model_of_groups(rows, dims, size, boxes, least, items, group, keys, limit):
     given = arranged if limit is None else arranged[:limit]
     dim, down = keys[0] if keys else (group[0], False)
     if isinstance(dim, int) and dim < dims:
-        met_values = list(event_values(rows, dims, size, boxes, dim, down))
+        met_values = list(event_values(regions, dims, boxes, dim, down))
         pages = pages_read(met_values, down, limit, [values[group.index(dim)] for values, _ in given])
     else:
-        pages = 0 if limit == 0 else len(list(event_values(rows, dims, size, boxes, 0, False)))
+        pages = 0 if limit == 0 else len(list(event_values(regions, dims, boxes, 0, False)))
     return [[cell(item, group, values, members) for item in items] for values, members in given], pages
 
 
@@ -168,40 +180,48 @@ def condition(box, names):
     return " AND ".join(f"{name} BETWEEN {lo} AND {hi}" for name, (lo, hi) in zip(names, box))
 
 
-def example_of_groups(rng):
-    dims = rng.randint(1, 3)
-    names = "xyz"[:dims] + "m"
-    rows = [tuple(rng.randrange(8) for _ in range(dims)) + (rng.randrange(4),) for _ in range(rng.randint(0, 14))]
-    size = rng.randint(2, 4)
+def where_of(boxes, least, names):
+    """The condition of that."""
+    where = " OR ".join(f"({condition(box, names)})" for box in boxes)
+    return where if least is None else f"({where}) AND m >= {least}"
+
+
+def names_of(dims):
+    return "xyz"[:dims] + "m"
+
+
+def query_of_groups(rng, dims):
+    """A statement, and what tells its lines, by the rows in the order of their numbers and the regions."""
+    names = names_of(dims)
     boxes = [random_box(rng, dims) for _ in range(rng.choice([1, 1, 2]))]
-    least = rng.choice([0, 0, 2])
+    least = rng.choice([None, None, 2])
     group = [rng.randrange(dims + 1) for _ in range(rng.randint(1, 3))]
     items = [rng.choice([rng.choice(group), None, (rng.choice(list(AGGREGATES)), rng.randrange(dims + 1))]) for _ in range(rng.randint(1, 4))]
     if rng.random() < 0.7:
         items.insert(0, group[0])
     keys = [(rng.choice(items), rng.random() < 0.5) for _ in range(rng.choice([0, 0, 1, 1, 2]))]
     limit = rng.choice([None, 0, 1, 2, 3, 5, 20])
-    where = " OR ".join(f"({condition(box, names)})" for box in boxes)
-    if least:
-        where = f"({where}) AND m >= {least}"
-    statement = f"SELECT {', '.join(spelled(item, names) for item in items)} FROM t WHERE {where}"
+    statement = f"SELECT {', '.join(spelled(item, names) for item in items)} FROM t WHERE {where_of(boxes, least, names)}"
     statement += f" GROUP BY {', '.join(names[column] for column in group)}"
     if keys:
         statement += " ORDER BY " + ", ".join(spelled(item, names) + (" DESC" if down else "") for item, down in keys)
     if limit is not None:
         statement += f" LIMIT {limit}"
-    given, pages = model_of_groups(rows, dims, size, boxes, least, items, group, keys, limit)
-    lines = [",".join(spelled(item, names) for item in items)] + [",".join(map(str, shown)) for shown in given]
-    lines.append(f"-- rows {len(given)}, pages {pages}")
-    data = "\n".join([",".join(names)] + [",".join(map(str, row)) for row in rows]) + "\n"
-    return dims, size, data, statement + ";", "\n".join(lines) + "\n"
+
+    def lines(rows, regions):
+        given, pages = model_of_groups(rows, regions, dims, boxes, least, items, group, keys, limit)
+        return (
+            [",".join(spelled(item, names) for item in items)]
+            + [",".join(map(str, shown)) for shown in given]
+            + [f"-- rows {len(given)}, pages {pages}"]
+        )
+
+    return statement + ";", lines
 
 
-def example(rng):
-    dims = rng.randint(1, 3)
-    names = "xyz"[:dims] + "m"
-    rows = [tuple(rng.randrange(8) for _ in range(dims)) + (rng.randrange(4),) for _ in range(rng.randint(0, 14))]
-    size = rng.randint(2, 4)
+def query_of_rows(rng, dims):
+    """The same of a query in the order of a dimension."""
+    names = names_of(dims)
     box = random_box(rng, dims)
     dim, down = rng.randrange(dims), rng.random() < 0.5
     second = (rng.randrange(dims + 1), rng.random() < 0.5) if rng.random() < 0.5 else None
@@ -212,21 +232,40 @@ def example(rng):
         statement += f", {names[second[0]]}" + (" DESC" if second[1] else "")
     if limit is not None:
         statement += f" LIMIT {limit}"
-    given, pages = model(rows, dims, size, box, dim, down, second, limit)
-    lines = [",".join(names)] + [",".join(map(str, row)) for row in given] + [f"-- rows {len(given)}, pages {pages}"]
-    data = "\n".join([",".join(names)] + [",".join(map(str, row)) for row in rows]) + "\n"
-    return dims, size, data, statement + ";", "\n".join(lines) + "\n"
+
+    def lines(rows, regions):
+        given, pages = model(rows, regions, dims, box, dim, down, second, limit)
+        return [",".join(names)] + [",".join(map(str, row)) for row in given] + [f"-- rows {len(given)}, pages {pages}"]
+
+    return statement + ";", lines
+
+
+def random_row(rng, dims):
+    return tuple(rng.randrange(8) for _ in range(dims)) + (rng.randrange(4),)
+
+
+def csv_of(rows, dims):
+    return "\n".join([",".join(names_of(dims))] + [",".join(map(str, row)) for row in rows]) + "\n"
+
+
+def example(rng):
+    """A table, by its dimensions, rows a page and text, a statement, and what must be written."""
+    dims = rng.randint(1, 3)
+    rows = [random_row(rng, dims) for _ in range(rng.randint(0, 14))]
+    size = rng.randint(2, 4)
+    statement, lines = rng.choice([query_of_rows, query_of_groups])(rng, dims)
+    return dims, size, csv_of(rows, dims), statement, "\n".join(lines(rows, inserted(rows, dims, size))) + "\n"
 
 
 def main():
     count = int(sys.argv[1]) if len(sys.argv) > 1 else 500
     rng = random.Random(int(sys.argv[2]) if len(sys.argv) > 2 else 1)
-    program = program_of(None)
+    program = program_of(sys.argv[3] if len(sys.argv) > 3 else None)
     right = wrong = 0
     with tempfile.TemporaryDirectory() as work:
         data, script = os.path.join(work, "data.csv"), os.path.join(work, "script.sql")
         for _ in range(count):
-            dims, size, text, statement, want = rng.choice([example, example_of_groups])(rng)
+            dims, size, text, statement, want = example(rng)
             with open(data, "w") as file:
                 file.write(text)
             with open(script, "w") as file:

@@ -1,5 +1,5 @@
 // Tests across crates that no transcript can show (those that one can stand in the crate `transcripts`): the words of faults as
-// they are displayed, loads into stores that fail and scripts over them, outputs that fail, scripts of any bytes and of many
+// they are displayed, loads into stores that fail and scripts over them, a changed file that isn't closed, outputs that fail, scripts of any bytes and of many
 // statements, the help of each command, and the nearest addresses of many boxes.
 #![tactic(auto)]
 
@@ -7,6 +7,8 @@
 mod again;
 #[cfg(test)]
 mod boxes;
+#[cfg(test)]
+mod changes;
 #[cfg(test)]
 mod failing;
 #[cfg(test)]

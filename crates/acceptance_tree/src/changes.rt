@@ -1,7 +1,8 @@
 // Tables that are made, changed and closed, and stores that fail at one of the calls.
-use crate::samples::{FIVE_ROWS, NO_ROWS};
+use crate::samples::{FIVE_ROWS, NO_ROWS, Sheet};
 use crate::trial::{Answer, DEVICE, DONE, NO_PAGE, NO_STEPS, NOTHING, Step, UNCLEAN, goes};
-use ub_table::PageFault;
+use ub_page::Entry;
+use ub_table::{Key, PageFault};
 use ub_tree::TreeFault;
 
 const LAST: u128 = 18_446_744_073_709_551_615;
@@ -79,6 +80,36 @@ static CLOSED: [(Step, Answer); 2] = [
 fn closes_tables(rt: HostRuntime) {
     goes(&rt, rt.alloc(), &CLOSED_EMPTY, &NO_STEPS);
     goes(&rt, rt.alloc(), &PUT_ROWS, &CLOSED);
+}
+
+// The closed table of no rows, whose last row had the last number that there is.
+const NO_NUMBER: [Sheet; 3] = [
+    Sheet::Header(16_777_216, 0, 1, false),
+    Sheet::Region(0, &[]),
+    Sheet::Index(
+        1,
+        &[Entry {
+            first: Key { z: 0, number: 0 },
+            page: 1,
+        }],
+    ),
+];
+
+// Two calls open it, and none is made for a row. The third one reads its region, for a deletion.
+static FULL: [(Step, Answer); 8] = [
+    (Step::Store(3, &NO_NUMBER), DONE),
+    (Step::Open, DONE),
+    (Step::Put(0, 0, 0), Err(TreeFault::Full)),
+    (Step::Delete(None), DEVICE),
+    (Step::Delete(None), DONE),
+    (Step::Put(0, 0, 0), Err(TreeFault::Full)),
+    (Step::Close, DONE),
+    (Step::Holds(&NO_NUMBER), Ok([3, 0, 0, 0])),
+];
+
+#[test]
+fn takes_no_row_where_no_number_is_left(rt: HostRuntime) {
+    goes(&rt, rt.alloc(), &FULL, &NO_STEPS);
 }
 
 // Creation takes a page and marks it, takes two more, and writes the region and the root of the index. So the seventh call is the

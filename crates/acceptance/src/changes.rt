@@ -1,0 +1,76 @@
+// A table in a file of pages to which a script adds a row, and which isn't closed then: the file is told to be unclean.
+use crate::worked::{DATA, are};
+use std::alloc::Global;
+use ub_file::{FileStore, MemMedium};
+use ub_load::load;
+use ub_script::{Over, run};
+use ub_store::StoreFault;
+use ub_table::PageFault;
+use ub_tree::{Tree, TreeFault};
+
+type Store = FileStore<MemMedium>;
+
+// The load of the five rows makes 20 calls of its store, and closing three. Then the table is opened with two calls; the INSERT
+// reads the region of its row, marks the table and writes the region. So the 29th call is the first of the closing, which syncs,
+// writes the header and syncs. The 32nd is the first of the opening after it.
+static CLOSINGS: [(u64, Option<TreeFault>); 5] = [
+    (29, UNCLEAN),
+    (30, UNCLEAN),
+    (31, None),
+    (32, Some(TreeFault::Store(StoreFault::Device))),
+    (0, None),
+];
+
+const UNCLEAN: Option<TreeFault> = Some(TreeFault::Page {
+    page: 0,
+    fault: PageFault::Unclean,
+});
+
+// The closed table, on a medium that fails at its k-th call.
+fn loaded(alloc: Global, k: u64) -> Option<Store> {
+    let medium = MemMedium::new(Vec::new(alloc), 0, k);
+    let store = FileStore::open(medium).ok()?;
+    let tree = load(alloc, DATA, 2, 2, b"t", store).ok()?;
+    tree.close().ok()
+}
+
+// Whether a script adds a row to the table of this tree.
+fn adds(alloc: Global, tree: &mut Tree<Store>) -> bool {
+    let mut out = Over::new(Vec::new(alloc));
+    let ended = run(alloc, tree, b"INSERT INTO t VALUES (3, 0, 6);", &mut out);
+    ended.is_ok() && are(out.into_inner().as_slice(), &["-- inserted 6\n"])
+}
+
+// Why a store isn't opened, if it isn't.
+fn refusal(alloc: Global, store: Store) -> Option<TreeFault> {
+    match Tree::open(alloc, store) {
+        Ok(_) => None,
+        Err(refused) => Some(refused.fault),
+    }
+}
+
+// Why the store isn't opened once more that is left of this tree, whether its closing ends well or not.
+fn refusal_after(alloc: Global, tree: Tree<Store>) -> Option<TreeFault> {
+    match tree.close() {
+        Ok(store) => refusal(alloc, store),
+        Err(refused) => refusal(alloc, refused.store),
+    }
+}
+
+// Whether a row is added, and the store is refused so then.
+fn is_left(alloc: Global, k: u64, wanted: Option<TreeFault>) -> bool {
+    let Some(store) = loaded(alloc, k) else {
+        return false;
+    };
+    match Tree::open(alloc, store) {
+        Ok(mut tree) => adds(alloc, &mut tree) && refusal_after(alloc, tree) == wanted,
+        Err(_) => false,
+    }
+}
+
+#[test]
+fn is_unclean_until_it_is_closed(rt: HostRuntime) {
+    for (k, wanted) in &CLOSINGS {
+        assert!(rt; is_left(rt.alloc(), *k, *wanted), "call {k}");
+    }
+}
