@@ -1,10 +1,12 @@
 #!/usr/bin/env python3
-"""Makes each allocation of the program fail in turn, by hand. It runs `try`, `load` and `run` on the table of five rows and a script with a statement of every kind, and says how
-many runs told `! Memory` after whole texts of first statements, how many did without, and how many did anything else (which is wrong).
+"""Makes each allocation of the program fail in turn, by hand. It runs `try`, `load` and `run` on the table of five rows and a script with a statement of every kind, and then
+`run` of a script that changes the table, each time on a new copy of it. It says how many runs told `! Memory` after whole texts of first statements, how many did without, and how
+many did anything else (which is wrong). A table that was changed must then open, and hold what those statements left, but for the first rows of a DELETE that was stopped.
 
     tests/each_allocation.py [PROGRAM]      (needs cc; the program is built first where none is named)"""
 import pathlib
 import re
+import shutil
 import sys
 import tempfile
 
@@ -28,6 +30,16 @@ SELECT z FROM t;
 SELECT y, SUM(m) FROM t GROUP BY x;
 SELECT FROM t;
 """
+# The INSERT parts a region, and the DELETE takes its row, 2 and 5 out again, and joins two regions.
+CHANGES = """INSERT INTO t VALUES (2, 3, -4);
+INSERT INTO t VALUES (1, 2);
+DELETE FROM t WHERE x = 2;
+INSERT INTO t VALUES (0, 0, 0);
+"""
+ROWS = {1: "1,1,10", 2: "2,3,20", 3: "3,0,5", 4: "0,2,7", 5: "2,3,1", 6: "2,3,-4", 7: "0,0,0"}
+FIVE, SIX, LEFT = (1, 2, 3, 4, 5), (1, 2, 3, 4, 5, 6), (1, 3, 4)
+# The numbers of the rows that a table may have after so many of these statements were told.
+AFTER = [[FIVE], [SIX], [SIX, (1, 3, 4, 5, 6), (1, 3, 4, 6), LEFT], [LEFT], [LEFT + (7,)]]
 MEMORY = 5
 ROUND = 40  # so many runs that did without the allocation, one after the other, end a command's round
 
@@ -37,9 +49,14 @@ def first_texts(text):
     texts, so_far = [""], ""
     for line in text.splitlines(True):
         so_far += line
-        if re.match(r"-- rows|regions |! ", line):
+        if re.match(r"-- rows|-- inserted|-- deleted|regions |! ", line):
             texts.append(so_far)
     return texts
+
+
+def has_rows(text, numbers):
+    """Whether this is the text of all rows of these numbers."""
+    return text.split("-- ")[0] == "".join(line + "\n" for line in ["x,y,m"] + [ROWS[number] for number in numbers])
 
 
 def main():
@@ -49,12 +66,25 @@ def main():
         library = failing_memory.built(work)
         pathlib.Path(work, "s.csv").write_text("x,y,m\n1,1,10\n2,3,20\n3,0,5\n0,2,7\n2,3,1\n")
         pathlib.Path(work, "every.sql").write_text(SCRIPT)
+        pathlib.Path(work, "changes.sql").write_text(CHANGES)
+        pathlib.Path(work, "all.sql").write_text("SELECT * FROM t;")
 
         def run(words, due):
+            if words[1] == "copy.ub":
+                shutil.copy(pathlib.Path(work, "s.ub"), pathlib.Path(work, "copy.ub"))
             return failing_memory.ended(library, [program] + words, due, work)
 
+        def is_left_well(words, text):
+            """Whether the table that was changed opens, and has what the statements left of which this is the text."""
+            if words[1] != "copy.ub":
+                return True
+            status, rows, _ = failing_memory.ended(library, [program, "run", "copy.ub", "all.sql"], 0, work)
+            told = first_texts(text.removesuffix("! Memory\n"))
+            return status == 0 and any(has_rows(rows, numbers) for numbers in AFTER[len(told) - 1])
+
         table = ["--dims", "2", "--page-rows", "2"]
-        for words in [["try", "s.csv", "every.sql"] + table, ["load", "s.csv", "s.ub"] + table, ["run", "s.ub", "every.sql"]]:
+        scripts = [["try", "s.csv", "every.sql"] + table, ["load", "s.csv", "s.ub"] + table, ["run", "s.ub", "every.sql"], ["run", "copy.ub", "changes.sql"]]
+        for words in scripts:
             if words[0] == "run":
                 run(["load", "s.csv", "s.ub"] + table, 0)
             status, text, _ = run(words, 0)
@@ -63,6 +93,9 @@ def main():
             while since < ROUND:
                 due += 1
                 ended = run(words, due)
+                if not is_left_well(words, ended[1]):
+                    odd += 1
+                    print(f"{words[0]}: allocation {due}: the table isn't what {ended[1][-80:]!r} left")
                 if ended == (status, text, ""):
                     without += 1
                     since += 1

@@ -73,7 +73,20 @@ def aggregate(rng, columns):
     return rng.choice(["COUNT(*)", f"{rng.choice(['SUM', 'MIN', 'MAX'])}({rng.choice(columns)})"])
 
 
+def change(rng, columns):
+    """An INSERT or a DELETE."""
+    name = "u" if rng.random() < 0.03 else "t"
+    if rng.random() < 0.6:
+        count = len(columns) + rng.choice([0] * 18 + [-1, 1])
+        return f"INSERT INTO {name} VALUES ({', '.join(str(rng.randrange(70)) if rng.random() < 0.97 else literal(rng) for _ in range(count))});\n"
+    if rng.random() < 0.2:
+        return f"DELETE FROM {name};\n"
+    return f"DELETE FROM {name} WHERE {condition(rng, columns, rng.randint(0, 3))};\n"
+
+
 def statement(rng, columns):
+    if rng.random() < 0.25:
+        return change(rng, columns)
     group = [rng.choice(columns) for _ in range(rng.randint(1, 2))] if rng.random() < 0.3 else []
     if group:
         items = group[:1] + [aggregate(rng, columns) for _ in range(rng.randint(0, 2))]
@@ -96,7 +109,7 @@ def statement(rng, columns):
     return text + ";\n"
 
 
-WORDS = ["SELECT", "EXPLAIN", "FROM", "WHERE", "AND", "OR", "NOT", "BETWEEN", "GROUP", "ORDER", "BY", "LIMIT", "COUNT(*)", "(", ")", ",", "*", ";"]
+WORDS = ["SELECT", "EXPLAIN", "INSERT", "INTO", "VALUES", "DELETE", "FROM", "WHERE", "AND", "OR", "NOT", "BETWEEN", "GROUP", "ORDER", "BY", "LIMIT", "COUNT(*)", "(", ")", ",", "*", ";"]
 WORDS += ["--", "\n", "\r", "\0", "<", "=", "-", "x", "t", "'", "18446744073709551616", "(" * 70, "NOT " * 70, "x = 1 OR " * 70, "x," * 9, "\x80"]
 
 
@@ -176,11 +189,12 @@ ITEM = rb"(?:COUNT\(\*\)|(?:SUM|MIN|MAX)\(" + NAME + rb"\)|" + NAME + rb")"
 TITLES = re.compile(ITEM + rb"(?:," + ITEM + rb"){0,7}\Z")
 ROW = re.compile(rb"(?:-?[0-9]+|NULL)(?:,(?:-?[0-9]+|NULL))*\Z")
 COUNTS = re.compile(rb"-- rows ([0-9]+), pages [0-9]+\Z")
-REFUSED = re.compile(rb"! (?:BadByte|Syntax|NumberTooLarge|TooDeep|TooMany|UnknownTable|UnknownColumn|NotGrouped|NotSelected) at [0-9]+\Z")
+REFUSED = re.compile(rb"! (?:BadByte|Syntax|NumberTooLarge|TooDeep|TooMany|UnknownTable|UnknownColumn|NotGrouped|NotSelected|ValueCount|ValueRange) at [0-9]+\Z")
 PLAN = re.compile(rb"plan (?:empty|scan|sweep " + NAME + rb" (?:asc|desc))\Z")
 BOX = re.compile(rb"box " + NAME + rb" [0-9]+\.\.[0-9]+(?:, " + NAME + rb" [0-9]+\.\.[0-9]+){0,3}\Z")
 OF_A_PAGE = rb"WrongKind|OldFormat|Unclean|BadCount|BadName|BadRow|BadOrder|OutOfRegion|BadPadding"
-FAULT = re.compile(rb"! (?:NoPage|BadSize|(?:" + OF_A_PAGE + rb") page [0-9]+)\Z")
+CHANGED = re.compile(rb"-- (?:inserted|deleted) [0-9]+\Z")
+FAULT = re.compile(rb"! (?:NoPage|BadSize|Full|(?:" + OF_A_PAGE + rb") page [0-9]+)\Z")
 CHANGES = re.compile(rb"insert|delete", re.IGNORECASE)
 
 
@@ -221,6 +235,9 @@ def judged(text):
     while at < len(lines):
         if REFUSED.match(lines[at]):
             refused += 1
+            at += 1
+        elif CHANGED.match(lines[at]):
+            done += 1
             at += 1
         elif FAULT.match(lines[at]):
             return (done, refused, lines[at]) if at + 1 == len(lines) else None

@@ -18,9 +18,9 @@ head, part, joint, tail, parts = sys.argv[1:]
 sys.stdout.write(head + joint.join([part] * int(parts)) + tail + ";\n")' "$1" "$2" "$3" "$4" "$parts"
 }
 
-# refused NAME OFFSET HEAD PART JOINT [TAIL]: the statement is refused at this offset, with every stack
+# refused NAME OFFSET HEAD PART JOINT [TAIL [FAULT]]: the statement is refused at this offset, as TooMany or so, with every stack
 refused() {
-    local text status stack start milliseconds limit
+    local fault=${7:-TooMany} text status stack start milliseconds limit
     script "$3" "$4" "$5" "${6:-}" > "$folder/script.sql"
     limit=$((3000 * $(stat -c %s "$folder/script.sql") / 10000000))
     if [ "$limit" -lt 3000 ]; then limit=3000; fi
@@ -30,8 +30,8 @@ refused() {
         status=$?
         milliseconds=$((($(date +%s%N) - start) / 1000000))
         echo "$1, stack $stack KB: $text, status $status, $milliseconds ms"
-        if [ "$text" != "! TooMany at $2" ] || [ "$status" -ne 1 ] || [ "$milliseconds" -gt "$limit" ]; then
-            echo "  wanted: ! TooMany at $2, status 1, at most $limit ms"
+        if [ "$text" != "! $fault at $2" ] || [ "$status" -ne 1 ] || [ "$milliseconds" -gt "$limit" ]; then
+            echo "  wanted: ! $fault at $2, status 1, at most $limit ms"
             bad=$((bad + 1))
         fi
     done
@@ -46,5 +46,7 @@ refused "BETWEEN and OR" 1366 "$where" "x BETWEEN 1 AND 2" " OR "
 refused "BETWEEN and AND" 1430 "$where" "x BETWEEN 1 AND 2" " AND "
 refused "items" 31 "SELECT " "x" ", " " FROM t"
 refused "order keys" 49 "SELECT x FROM t ORDER BY " "x" ", "
+refused "OR of a DELETE" 596 "DELETE FROM t WHERE " "x = 1" " OR "
+refused "values" 31 "INSERT INTO t VALUES (" "1" ", " ")" ValueCount
 echo "statements.sh: $bad wrong"
 exit $((bad > 0))
