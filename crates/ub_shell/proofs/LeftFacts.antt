@@ -42,7 +42,7 @@ after_answers s source tokens (range ∷ ranges) (r ∷ replies) now (mid, one, 
 
 -- after a statement that a fault ended
 after_end : (s : Stand) (says : Command) (fault : RunFault) (pages : ℕ) (now : Basis) → IsCommandEnd (on_stand s) says fault pages now → (after : Stand) × (now ≡ on_stand after)
-after_end s (asks t) fault pages now (some, still) = (s, still)
+after_end s (asks t) fault pages now (some, given, still) = (s, still)
 after_end s (puts values) fault pages now (none, still) = (s, still)
 after_end s (takes q) fault pages now (some, (j, left)) = (_, left)
 
