@@ -133,25 +133,29 @@ pub(crate) fn is_made(
 }
 
 // Whether a change is made as it is listed.
-fn changes(alloc: Global, changed: &Changed) -> bool {
-    let Some(mut pager) = stored(alloc, changed.0, 0) else {
-        return false;
-    };
-    let root = changed.0.len().min(16) as u32;
-    let mut index = Index::new(root.max(1), changed.1.max(1).min(16), 63);
+fn is_changed(alloc: Global, index: &mut Index, pager: &mut Tried, changed: &Changed) -> bool {
     let key = Key {
         z: changed.2,
         number: 0,
     };
-    let Ok(seat) = index.seat_of(&mut pager, &key) else {
+    let Ok(seat) = index.seat_of(pager, &key) else {
         return false;
     };
-    match prepared(alloc, &index, &mut pager, &seat, changed.3) {
+    match prepared(alloc, index, pager, &seat, changed.3) {
         Ok(change) => {
-            is_made(&mut index, &mut pager, &change, changed.4)
-                && lists(&index, &mut pager, changed.5)
+            is_made(index, pager, &change, changed.4) && lists(index, pager, changed.5)
         }
         Err(_) => false,
+    }
+}
+
+// Whether it is on the pages of its index.
+fn changes(alloc: Global, changed: &Changed) -> bool {
+    let root = changed.0.len().min(16) as u32;
+    let mut index = Index::new(root.max(1), changed.1.max(1).min(16), 63);
+    match stored(alloc, changed.0, 0) {
+        Some(mut pager) => is_changed(alloc, &mut index, &mut pager, changed),
+        None => false,
     }
 }
 
@@ -208,19 +212,23 @@ fn added_to(alloc: Global, index: &Index, pager: &mut Tried) -> Result<Change, I
     index.prepare_add(alloc, pager, &seat, &Key { z: 0, number: 1 })
 }
 
-// Whether a tower of so many full pages becomes one level higher by an addition, and each of the
-// regions of its lowest page is found.
-fn rises(alloc: Global, levels: u32, root: (u32, u32)) -> bool {
-    let Some(mut pager) = tower(alloc, levels, 0) else {
-        return false;
-    };
-    let mut index = Index::new(levels.max(1), levels.max(1).min(16), u128::MAX);
-    match added_to(alloc, &index, &mut pager) {
+// Whether an addition in a tower leaves this root, and each of the regions of its lowest page is found.
+fn is_raised(alloc: Global, index: &mut Index, pager: &mut Tried, root: (u32, u32)) -> bool {
+    match added_to(alloc, index, pager) {
         Ok(change) => {
             let page = change.page();
-            is_made(&mut index, &mut pager, &change, root) && finds(&index, &mut pager, page)
+            is_made(index, pager, &change, root) && finds(index, pager, page)
         }
         Err(_) => false,
+    }
+}
+
+// Whether a tower of so many full pages becomes one level higher by an addition.
+fn rises(alloc: Global, levels: u32, root: (u32, u32)) -> bool {
+    let mut index = Index::new(levels.max(1), levels.max(1).min(16), u128::MAX);
+    match tower(alloc, levels, 0) {
+        Some(mut pager) => is_raised(alloc, &mut index, &mut pager, root),
+        None => false,
     }
 }
 
@@ -242,10 +250,14 @@ pub(crate) fn finds(index: &Index, pager: &mut Tried, added: u32) -> bool {
     }
 }
 
+// The levels of towers, and the root and its level after an addition.
+static RISEN: [(u32, (u32, u32)); 2] = [(1, (4, 2)), (3, (8, 4))];
+
 #[test]
 fn full_paths(rt: HostRuntime) {
-    assert!(rt; rises(rt.alloc(), 1, (4, 2)));
-    assert!(rt; rises(rt.alloc(), 3, (8, 4)));
+    for (levels, root) in &RISEN {
+        assert!(rt; rises(rt.alloc(), *levels, *root), "{levels} levels");
+    }
 }
 
 // Whether sixteen full levels refuse an addition, and the store has no page more.

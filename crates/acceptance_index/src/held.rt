@@ -68,13 +68,13 @@ static WITHIN: &[(Damage, PageFault, u32)] = &[
 ];
 
 // Leaves whose keys don't ascend: from the second key on, and from the first one, a search goes back.
-static ON_ONE: Damage = (
+const ON_ONE: Damage = (
     3,
     (1, &[(20, 0, 103), (25, 0, 104), (22, 0, 106), (31, 1, 105)]),
     25,
 );
 
-static ON_TWO: Damage = (2, (1, &[(9, 2, 102), (5, 0, 106), (15, 0, 107)]), 10);
+const ON_TWO: Damage = (2, (1, &[(9, 2, 102), (5, 0, 106), (15, 0, 107)]), 10);
 
 // The region of the index of three levels that begins at (20, 0).
 const AFTER: Region = Region {
@@ -137,50 +137,33 @@ fn leads_to(answer: Option<Result<Seat, IndexFault>>, page: u32) -> bool {
 #[test]
 fn ends_of_a_held_page(rt: HostRuntime) {
     for (damage, page, fault) in AT_ENDS {
-        assert!(rt;
-            is_refused(after_damage(rt.alloc(), damage, true), *page, *fault),
-            "held {page}"
-        );
-        assert!(rt;
-            is_refused(after_damage(rt.alloc(), damage, false), *page, *fault),
-            "read {page}"
-        );
+        let held = is_refused(after_damage(rt.alloc(), damage, true), *page, *fault);
+        let read = is_refused(after_damage(rt.alloc(), damage, false), *page, *fault);
+        assert!(rt; held & read, "page {page}, held {held}, read {read}");
     }
 }
 
 #[test]
 fn between_the_ends(rt: HostRuntime) {
     for (damage, fault, page) in WITHIN {
+        let read = is_refused(after_damage(rt.alloc(), damage, false), damage.0, *fault);
+        let held = leads_to(after_damage(rt.alloc(), damage, true), *page);
+        let again = is_refused(asked_again(rt.alloc(), damage), damage.0, *fault);
         assert!(rt;
-            is_refused(after_damage(rt.alloc(), damage, false), damage.0, *fault),
-            "read {page}"
-        );
-        assert!(rt;
-            leads_to(after_damage(rt.alloc(), damage, true), *page),
-            "held {page}"
+            read & held & again,
+            "page {page}, read {read}, held {held}, again {again}"
         );
     }
 }
 
-// What a search answers that is asked again, after it read a damaged page and refused it.
+// What a search answers that is asked again, after it read a damaged page and refused it: a page that is
+// refused isn't held, so that all of it is looked at again.
 fn asked_again(alloc: Global, damage: &Damage) -> Option<Result<Seat, IndexFault>> {
     let mut pager = stored(alloc, THREE, 0)?;
     if !damaged(&mut pager, damage.0, &damage.1) || sought(&mut pager, damage.2).is_ok() {
         return None;
     }
     Some(sought(&mut pager, damage.2))
-}
-
-// A page that is refused isn't held, so that all of it is looked at again.
-#[test]
-fn refused_page_is_read_again(rt: HostRuntime) {
-    for (damage, fault, _) in WITHIN {
-        assert!(rt;
-            is_refused(asked_again(rt.alloc(), damage), damage.0, *fault),
-            "again {}",
-            damage.0
-        );
-    }
 }
 
 // A page of an index that another kind of page was put over, which a search had read.
@@ -218,30 +201,36 @@ fn crossed(
     Index::new(6, 3, 63).seek(&mut pager, z, Some(after)).err()
 }
 
-// On one leaf, which is then checked in full, held or not.
-#[test]
-fn back_on_a_leaf(rt: HostRuntime) {
-    let leaf = Some(IndexFault::Page {
-        page: 3,
-        fault: PageFault::BadOrder,
-    });
-    assert!(rt; crossed(rt.alloc(), &ON_ONE, true, 23, &AFTER) == leaf);
-    assert!(rt; crossed(rt.alloc(), &ON_ONE, false, 23, &AFTER) == leaf);
-}
+// What is crossed: damage, an address and a region; and the page that is refused, where the damaged one
+// is held and where it is read. On one leaf, which is then checked in full, held or not; or on two: the
+// second is held and leads back.
+static CROSSED: &[(Damage, u128, Region, IndexFault, IndexFault)] = &[
+    (ON_ONE, 23, AFTER, LEAF_BACK, LEAF_BACK),
+    (ON_TWO, 10, LAST, WAYS_CROSSED, SECOND_BACK),
+];
 
-// Or on two: the second is held and leads back.
+const LEAF_BACK: IndexFault = IndexFault::Page {
+    page: 3,
+    fault: PageFault::BadOrder,
+};
+
+const WAYS_CROSSED: IndexFault = IndexFault::Page {
+    page: 6,
+    fault: PageFault::OutOfRegion,
+};
+
+const SECOND_BACK: IndexFault = IndexFault::Page {
+    page: 2,
+    fault: PageFault::BadOrder,
+};
+
 #[test]
 fn crossed_ways(rt: HostRuntime) {
-    let root = Some(IndexFault::Page {
-        page: 6,
-        fault: PageFault::OutOfRegion,
-    });
-    let leaf = Some(IndexFault::Page {
-        page: 2,
-        fault: PageFault::BadOrder,
-    });
-    assert!(rt; crossed(rt.alloc(), &ON_TWO, true, 10, &LAST) == root);
-    assert!(rt; crossed(rt.alloc(), &ON_TWO, false, 10, &LAST) == leaf);
+    for (damage, z, after, held, read) in CROSSED {
+        let is_held = crossed(rt.alloc(), damage, true, *z, after) == Some(*held);
+        let is_read = crossed(rt.alloc(), damage, false, *z, after) == Some(*read);
+        assert!(rt; is_held & is_read, "{z}: held {is_held}, read {is_read}");
+    }
 }
 
 // The page of the first region later than another whose span ends at an address or later, behind a
@@ -255,12 +244,22 @@ fn next_page(alloc: Global, after: &Region, z: u128, due: u64) -> Option<u32> {
     }
 }
 
-// On the region's leaf three pages are read, and six where the next one is on another leaf.
+// Regions, addresses, the store's call that fails, and the page. On the region's leaf three pages are
+// read, and six where the next one is on another leaf.
+static NEXT_PAGES: &[(Region, u128, u64, u32)] = &[
+    (AFTER, 0, 4, 104),
+    (AFTER, 63, 4, 105),
+    (AFTER, 63, 3, 0),
+    (LAST, 0, 7, 102),
+    (LAST, 0, 6, 0),
+];
+
 #[test]
 fn reads_the_way_once(rt: HostRuntime) {
-    assert!(rt; next_page(rt.alloc(), &AFTER, 0, 4) == Some(104));
-    assert!(rt; next_page(rt.alloc(), &AFTER, 63, 4) == Some(105));
-    assert!(rt; next_page(rt.alloc(), &AFTER, 63, 3) == Some(0));
-    assert!(rt; next_page(rt.alloc(), &LAST, 0, 7) == Some(102));
-    assert!(rt; next_page(rt.alloc(), &LAST, 0, 6) == Some(0));
+    for (after, z, due, page) in NEXT_PAGES {
+        assert!(rt;
+            next_page(rt.alloc(), after, *z, *due) == Some(*page),
+            "{z} {due}"
+        );
+    }
 }

@@ -95,14 +95,18 @@ fn index_of(level: &Level) -> Index {
     Index::new(level.1.max(1), level.0.max(1).min(16), 63)
 }
 
-// Whether the index of this level answers as the flat list of its regions does.
+// Whether an index answers as the flat list of its regions does.
+fn answers(index: &Index, pager: &mut Tried, flat: &[Listed]) -> bool {
+    finds_each(index, pager, flat) & has_neighbours(index, pager, flat)
+}
+
+// Whether the index of this level does.
 fn is_index(alloc: Global, level: &Level) -> bool {
-    let Some(mut pager) = stored(alloc, PAGES, 0) else {
-        return false;
-    };
     let flat = &REGIONS[..REGIONS.len().min(level.2 as usize)];
-    finds_each(&index_of(level), &mut pager, flat)
-        && has_neighbours(&index_of(level), &mut pager, flat)
+    match stored(alloc, PAGES, 0) {
+        Some(mut pager) => answers(&index_of(level), &mut pager, flat),
+        None => false,
+    }
 }
 
 #[test]
@@ -217,25 +221,22 @@ fn drops_each(
 
 // Whether all regions of the index of this level but the first are.
 fn is_emptied(alloc: Global, level: &Level, order: Order) -> bool {
-    let Some(mut pager) = stored(alloc, PAGES, 0) else {
-        return false;
-    };
-    drops_each(alloc, &mut index_of(level), &mut pager, level.2, order)
+    match stored(alloc, PAGES, 0) {
+        Some(mut pager) => drops_each(alloc, &mut index_of(level), &mut pager, level.2, order),
+        None => false,
+    }
 }
 
 #[test]
 fn drops_to_one(rt: HostRuntime) {
     for level in &LEVELS {
+        let ascending = is_emptied(rt.alloc(), level, Order::Ascending);
+        let descending = is_emptied(rt.alloc(), level, Order::Descending);
+        let middle = is_emptied(rt.alloc(), level, Order::Middle);
         assert!(rt;
-            is_emptied(rt.alloc(), level, Order::Ascending),
-            "{}",
+            ascending & descending & middle,
+            "{}: {ascending} {descending} {middle}",
             level.0
         );
-        assert!(rt;
-            is_emptied(rt.alloc(), level, Order::Descending),
-            "{}",
-            level.0
-        );
-        assert!(rt; is_emptied(rt.alloc(), level, Order::Middle), "{}", level.0);
     }
 }

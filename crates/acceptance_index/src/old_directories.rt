@@ -15,39 +15,68 @@ type Part = (u32, u32, u32);
 // What is asked: pages from 1 on, the page on which the directory begins, and how many regions it has.
 type Asked = (&'static [Part], u32, u32);
 
-// Directories that are taken, and their pages in order: a page behind the last is not looked at.
-static TAKEN: &[(Asked, &[u32])] = &[
-    ((&[(0, 1, 0), (170, 0, 0)], 1, 1), &[1]),
-    ((&[(0, 170, 0), (170, 0, 0)], 1, 170), &[1]),
-    ((&[(0, 170, 2), (170, 1, 0)], 1, 171), &[1, 2]),
-    ((&[(170, 1, 0), (0, 170, 1)], 2, 171), &[2, 1]),
+// Directories that are taken where the store's call of this number fails, and their pages in order: a page
+// behind the last is not looked at.
+static TAKEN: &[(Asked, u64, &[u32])] = &[
+    ((&[(0, 1, 0), (170, 0, 0)], 1, 1), 0, &[1]),
+    ((&[(0, 170, 0), (170, 0, 0)], 1, 170), 0, &[1]),
+    ((&[(0, 170, 2), (170, 1, 0)], 1, 171), 0, &[1, 2]),
+    ((&[(170, 1, 0), (0, 170, 1)], 2, 171), 0, &[2, 1]),
     (
         (&[(0, 170, 3), (340, 2, 0), (170, 170, 2)], 1, 342),
+        0,
         &[1, 3, 2],
     ),
+    // a directory of two pages is read with two reads
+    ((&[(0, 170, 2), (170, 1, 0)], 1, 171), 3, &[1, 2]),
 ];
 
-// Those that are refused, the page and why: it ends early; page 1 names itself where the rest is due; it
-// goes on; page 1 has a region too few; page 2 has one too many; page 1 has none.
-static BAD_COUNTS: &[(Asked, u32)] = &[
-    ((&[(0, 170, 0), (170, 1, 0)], 1, 171), 1),
-    ((&[(0, 170, 1), (170, 1, 0)], 1, 171), 1),
-    ((&[(0, 1, 2), (1, 1, 0)], 1, 1), 1),
-    ((&[(0, 169, 2), (169, 2, 0)], 1, 171), 1),
-    ((&[(0, 170, 2), (170, 2, 0)], 1, 171), 2),
-    ((&[(0, 0, 0)], 1, 1), 1),
+// Those that are refused, where the store's call of this number fails, and why.
+static REFUSED: &[(Asked, u64, DirectoryFault)] = &[
+    // It ends early; page 1 names itself where the rest is due; it goes on; page 1 has a region too few;
+    // page 2 has one too many; page 1 has none.
+    ((&[(0, 170, 0), (170, 1, 0)], 1, 171), 0, BAD_COUNT_1),
+    ((&[(0, 170, 1), (170, 1, 0)], 1, 171), 0, BAD_COUNT_1),
+    ((&[(0, 1, 2), (1, 1, 0)], 1, 1), 0, BAD_COUNT_1),
+    ((&[(0, 169, 2), (169, 2, 0)], 1, 171), 0, BAD_COUNT_1),
+    ((&[(0, 170, 2), (170, 2, 0)], 1, 171), 0, BAD_COUNT_2),
+    ((&[(0, 0, 0)], 1, 1), 0, BAD_COUNT_1),
+    // Page 2 begins with the last key of page 1; page 1 names itself where another full page is due; the
+    // first key isn't the least of all.
+    ((&[(0, 170, 2), (169, 1, 0)], 1, 171), 0, BAD_ORDER_2),
+    ((&[(0, 170, 1), (170, 1, 0)], 1, 510), 0, BAD_ORDER_1),
+    ((&[(1, 1, 0)], 1, 1), 0, BAD_ORDER_1),
+    // A page is named that isn't there: the first one, or the second.
+    ((&[(0, 1, 0)], 2, 1), 0, NO_PAGE),
+    ((&[(0, 170, 4)], 1, 171), 0, NO_PAGE),
+    // The first read fails, or the second.
+    ((&[(0, 170, 2), (170, 1, 0)], 1, 171), 1, DEVICE),
+    ((&[(0, 170, 2), (170, 1, 0)], 1, 171), 2, DEVICE),
 ];
 
-// Page 2 begins with the last key of page 1; page 1 names itself where another full page is due; the first
-// key isn't the least of all.
-static BAD_ORDERS: &[(Asked, u32)] = &[
-    ((&[(0, 170, 2), (169, 1, 0)], 1, 171), 2),
-    ((&[(0, 170, 1), (170, 1, 0)], 1, 510), 1),
-    ((&[(1, 1, 0)], 1, 1), 1),
-];
+const BAD_COUNT_1: DirectoryFault = DirectoryFault::Page {
+    page: 1,
+    fault: PageFault::BadCount,
+};
 
-// A page is named that isn't there: the first one, or the second.
-static NO_PAGES: &[Asked] = &[(&[(0, 1, 0)], 2, 1), (&[(0, 170, 4)], 1, 171)];
+const BAD_COUNT_2: DirectoryFault = DirectoryFault::Page {
+    page: 2,
+    fault: PageFault::BadCount,
+};
+
+const BAD_ORDER_1: DirectoryFault = DirectoryFault::Page {
+    page: 1,
+    fault: PageFault::BadOrder,
+};
+
+const BAD_ORDER_2: DirectoryFault = DirectoryFault::Page {
+    page: 2,
+    fault: PageFault::BadOrder,
+};
+
+const NO_PAGE: DirectoryFault = DirectoryFault::Store(StoreFault::NoPage);
+
+const DEVICE: DirectoryFault = DirectoryFault::Store(StoreFault::Device);
 
 // Puts a number of four bytes into a page.
 fn poke(page: &mut Page, at: usize, number: u32) {
@@ -129,43 +158,22 @@ fn is_refused(alloc: Global, asked: &Asked, due: u64, wanted: DirectoryFault) ->
 
 #[test]
 fn taken(rt: HostRuntime) {
-    for (asked, chain) in TAKEN {
-        assert!(rt; is_read(rt.alloc(), asked, chain, 0), "{}", asked.2);
+    for (asked, due, chain) in TAKEN {
+        assert!(rt;
+            is_read(rt.alloc(), asked, chain, *due),
+            "{} {due}",
+            asked.2
+        );
     }
 }
 
 #[test]
-fn pages_that_do_not_fit(rt: HostRuntime) {
-    for (asked, page) in BAD_COUNTS {
-        let wanted = DirectoryFault::Page {
-            page: *page,
-            fault: PageFault::BadCount,
-        };
-        assert!(rt; is_refused(rt.alloc(), asked, 0, wanted), "{}", asked.2);
+fn refused(rt: HostRuntime) {
+    for (asked, due, fault) in REFUSED {
+        assert!(rt;
+            is_refused(rt.alloc(), asked, *due, *fault),
+            "{} {due}",
+            asked.2
+        );
     }
-    for (asked, page) in BAD_ORDERS {
-        let wanted = DirectoryFault::Page {
-            page: *page,
-            fault: PageFault::BadOrder,
-        };
-        assert!(rt; is_refused(rt.alloc(), asked, 0, wanted), "{}", asked.2);
-    }
-}
-
-#[test]
-fn pages_that_are_not_there(rt: HostRuntime) {
-    for asked in NO_PAGES {
-        let wanted = DirectoryFault::Store(StoreFault::NoPage);
-        assert!(rt; is_refused(rt.alloc(), asked, 0, wanted), "{}", asked.2);
-    }
-}
-
-// A directory of two pages is read with two reads.
-#[test]
-fn reads_of_two_pages(rt: HostRuntime) {
-    let asked: Asked = (&[(0, 170, 2), (170, 1, 0)], 1, 171);
-    let failed = DirectoryFault::Store(StoreFault::Device);
-    assert!(rt; is_refused(rt.alloc(), &asked, 1, failed));
-    assert!(rt; is_refused(rt.alloc(), &asked, 2, failed));
-    assert!(rt; is_read(rt.alloc(), &asked, &[1, 2], 3));
 }

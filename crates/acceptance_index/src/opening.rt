@@ -16,22 +16,62 @@ const PAGES: &[Spelled] = &[
     (3, &[(0, 0, 4), (20, 0, 5)]),
 ];
 
-// Roots, their levels and the last addresses that are taken; pages 1 and 4 are roots too.
-static ROOTS: &[(u32, u32, u128)] = &[(6, 3, 63), (6, 3, 20), (4, 2, 63), (1, 1, 63), (1, 1, 4)];
-
-// Those that are refused, and why: one of another level, also where it doesn't begin with the least
-// key; one that begins later; an address above the last.
-static REFUSED: &[(u32, u32, u128, PageFault)] = &[
-    (6, 2, 63, PageFault::BadCount),
-    (6, 4, 63, PageFault::BadCount),
-    (6, 16, 63, PageFault::BadCount),
-    (1, 2, 63, PageFault::BadCount),
-    (5, 1, 63, PageFault::BadCount),
-    (5, 2, 63, PageFault::OutOfRegion),
-    (2, 1, 63, PageFault::OutOfRegion),
-    (6, 3, 19, PageFault::BadRow),
-    (6, 2, 19, PageFault::BadRow),
+// Roots, their levels and the last addresses, and why they are refused, if they are.
+static ROOTS: &[(u32, u32, u128, Option<IndexFault>)] = &[
+    // pages 1 and 4 are roots too
+    (6, 3, 63, None),
+    (6, 3, 20, None),
+    (4, 2, 63, None),
+    (1, 1, 63, None),
+    (1, 1, 4, None),
+    // one of another level, also where it doesn't begin with the least key
+    (6, 2, 63, BAD_COUNT_6),
+    (6, 4, 63, BAD_COUNT_6),
+    (6, 16, 63, BAD_COUNT_6),
+    (1, 2, 63, BAD_COUNT_1),
+    (5, 1, 63, BAD_COUNT_5),
+    // one that begins later
+    (5, 2, 63, OUT_OF_REGION_5),
+    (2, 1, 63, OUT_OF_REGION_2),
+    // an address above the last
+    (6, 3, 19, BAD_ROW_6),
+    (6, 2, 19, BAD_ROW_6),
+    // no page
+    (7, 3, 63, NO_PAGE),
+    (u32::MAX, 1, 63, NO_PAGE),
 ];
+
+const BAD_COUNT_6: Option<IndexFault> = Some(IndexFault::Page {
+    page: 6,
+    fault: PageFault::BadCount,
+});
+
+const BAD_COUNT_1: Option<IndexFault> = Some(IndexFault::Page {
+    page: 1,
+    fault: PageFault::BadCount,
+});
+
+const BAD_COUNT_5: Option<IndexFault> = Some(IndexFault::Page {
+    page: 5,
+    fault: PageFault::BadCount,
+});
+
+const OUT_OF_REGION_5: Option<IndexFault> = Some(IndexFault::Page {
+    page: 5,
+    fault: PageFault::OutOfRegion,
+});
+
+const OUT_OF_REGION_2: Option<IndexFault> = Some(IndexFault::Page {
+    page: 2,
+    fault: PageFault::OutOfRegion,
+});
+
+const BAD_ROW_6: Option<IndexFault> = Some(IndexFault::Page {
+    page: 6,
+    fault: PageFault::BadRow,
+});
+
+const NO_PAGE: Option<IndexFault> = Some(IndexFault::Store(StoreFault::NoPage));
 
 // The fault with which the index with this root is opened, if it is with any.
 fn fault_of(pager: &mut Tried, root: u32, levels: u32, last: u128) -> Option<IndexFault> {
@@ -50,23 +90,9 @@ fn opens(alloc: Global, root: u32, levels: u32, last: u128, fault: Option<IndexF
 
 #[test]
 fn roots(rt: HostRuntime) {
-    for (root, levels, last) in ROOTS {
+    for (root, levels, last, fault) in ROOTS {
         assert!(rt;
-            opens(rt.alloc(), *root, *levels, *last, None),
-            "{root} {last}"
-        );
-    }
-}
-
-#[test]
-fn other_pages(rt: HostRuntime) {
-    for (root, levels, last, fault) in REFUSED {
-        let wanted = IndexFault::Page {
-            page: *root,
-            fault: *fault,
-        };
-        assert!(rt;
-            opens(rt.alloc(), *root, *levels, *last, Some(wanted)),
+            opens(rt.alloc(), *root, *levels, *last, *fault),
             "{root} {levels} {last}"
         );
     }
@@ -88,13 +114,6 @@ fn page_of_zeros(rt: HostRuntime) {
     assert!(rt; fault_of_zeros(rt.alloc()) == Some(fault));
 }
 
-#[test]
-fn no_page(rt: HostRuntime) {
-    let fault = IndexFault::Store(StoreFault::NoPage);
-    assert!(rt; opens(rt.alloc(), 7, 3, 63, Some(fault)));
-    assert!(rt; opens(rt.alloc(), u32::MAX, 1, 63, Some(fault)));
-}
-
 // The page of the region that holds the least key of an address, or 0 where the search fails.
 fn page_at(index: &Index, pager: &mut Tried, z: u128) -> u32 {
     match index.seat_of(pager, &Key { z, number: 0 }) {
@@ -103,21 +122,31 @@ fn page_at(index: &Index, pager: &mut Tried, z: u128) -> u32 {
     }
 }
 
-// Whether the index is opened over a store that fails at its call of this number, searches for an
-// address give these pages, one after the other, and then it is opened again.
-fn answers(alloc: Global, due: u64, pages: &[u32]) -> bool {
-    let Some(mut pager) = stored(alloc, PAGES, due) else {
-        return false;
-    };
-    let Ok(index) = Index::open(&mut pager, 6, 3, 63) else {
-        return false;
-    };
+// Whether searches for an address give these pages, one after the other, and then the index is opened
+// again.
+fn leads(index: &Index, pager: &mut Tried, pages: &[u32]) -> bool {
     for page in pages {
-        if page_at(&index, &mut pager, 25) != *page {
+        if page_at(index, pager, 25) != *page {
             return false;
         }
     }
-    fault_of(&mut pager, 6, 3, 63).is_none()
+    fault_of(pager, 6, 3, 63).is_none()
+}
+
+// Whether the index is opened, and does.
+fn opens_and_leads(pager: &mut Tried, pages: &[u32]) -> bool {
+    match Index::open(pager, 6, 3, 63) {
+        Ok(index) => leads(&index, pager, pages),
+        Err(_) => false,
+    }
+}
+
+// Whether it is and does over a store that fails at its call of this number.
+fn answers(alloc: Global, due: u64, pages: &[u32]) -> bool {
+    match stored(alloc, PAGES, due) {
+        Some(mut pager) => opens_and_leads(&mut pager, pages),
+        None => false,
+    }
 }
 
 // Whether it isn't opened over a store that fails at its first call, and is then.
@@ -131,13 +160,16 @@ fn is_opened_later(alloc: Global) -> bool {
     }
 }
 
+// The call of the store that fails, and the pages that two searches give, 0 where one fails.
+static READS: &[(u64, &[u32])] = &[(2, &[0, 104]), (3, &[0, 104]), (4, &[104, 104])];
+
 // Opening reads the root and nothing else, and a search after it reads the two pages below it.
 #[test]
 fn reads(rt: HostRuntime) {
     assert!(rt; is_opened_later(rt.alloc()));
-    assert!(rt; answers(rt.alloc(), 2, &[0, 104]));
-    assert!(rt; answers(rt.alloc(), 3, &[0, 104]));
-    assert!(rt; answers(rt.alloc(), 4, &[104, 104]));
+    for (due, pages) in READS {
+        assert!(rt; answers(rt.alloc(), *due, pages), "call {due}");
+    }
 }
 
 // The page of a root that names the region on page 5, byte by byte: 'I', level 1, one entry, zeros,
@@ -171,28 +203,34 @@ fn holds_all(index: &Index, pager: &mut Tried) -> bool {
     index.seat_of(pager, &all.first) == Ok(all) && index.seat_of(pager, &last) == Ok(all)
 }
 
-// Whether an index of one region is made on page 2, in the place of the page that was there, where
-// the calls of the store up to its second one pass.
-fn is_made(alloc: Global, due: u64) -> bool {
-    let Some(mut pager) = stored(alloc, PAGES, due) else {
-        return false;
-    };
-    match Index::create(&mut pager, 2, 5, u128::MAX) {
+// Whether an index of one region is made on page 2, in the place of the page that was there.
+fn makes(pager: &mut Tried) -> bool {
+    match Index::create(pager, 2, 5, u128::MAX) {
         Ok(index) => {
-            is_root(&mut pager, 2)
-                && holds_all(&index, &mut pager)
-                && fault_of(&mut pager, 2, 1, u128::MAX).is_none()
+            is_root(pager, 2)
+                & holds_all(&index, pager)
+                & fault_of(pager, 2, 1, u128::MAX).is_none()
         },
         Err(_) => false,
     }
 }
 
+// Whether it is where the store fails at its call of this number.
+fn is_made(alloc: Global, due: u64) -> bool {
+    match stored(alloc, PAGES, due) {
+        Some(mut pager) => makes(&mut pager),
+        None => false,
+    }
+}
+
+// The call of the store that fails, and whether the index is made and found whole.
+static MADE: [(u64, bool); 4] = [(0, true), (1, false), (2, false), (3, true)];
+
 #[test]
 fn index_of_one_region(rt: HostRuntime) {
-    assert!(rt; is_made(rt.alloc(), 0));
-    assert!(rt; !is_made(rt.alloc(), 1));
-    assert!(rt; !is_made(rt.alloc(), 2));
-    assert!(rt; is_made(rt.alloc(), 3));
+    for (due, made) in &MADE {
+        assert!(rt; is_made(rt.alloc(), *due) == *made, "call {due}");
+    }
 }
 
 // The fault with which an index is made on the page of this number, where the store's call of a
@@ -202,9 +240,19 @@ fn made_with(alloc: Global, root: u32, due: u64) -> Option<StoreFault> {
     Index::create(&mut pager, root.max(1), 5, 63).err()
 }
 
+// Pages, the call of the store that fails, and why none is made.
+static UNMADE: [(u32, u64, Option<StoreFault>); 3] = [
+    (6, 0, None),
+    (7, 0, Some(StoreFault::NoPage)),
+    (6, 1, Some(StoreFault::Device)),
+];
+
 #[test]
 fn faults_in_making(rt: HostRuntime) {
-    assert!(rt; made_with(rt.alloc(), 6, 0).is_none());
-    assert!(rt; made_with(rt.alloc(), 7, 0) == Some(StoreFault::NoPage));
-    assert!(rt; made_with(rt.alloc(), 6, 1) == Some(StoreFault::Device));
+    for (root, due, fault) in &UNMADE {
+        assert!(rt;
+            made_with(rt.alloc(), *root, *due) == *fault,
+            "{root} {due}"
+        );
+    }
 }

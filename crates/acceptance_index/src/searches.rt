@@ -234,24 +234,30 @@ fn meets_each(index: &Index, pager: &mut Tried) -> bool {
         && meets(index, pager, &[], &[])
 }
 
-// Whether the index of these levels, on these pages, answers as the flat list does, and notes no
-// page.
-fn is_index(alloc: Global, pages: &[Spelled], levels: u32) -> bool {
-    let Some(mut pager) = stored(alloc, pages, 0) else {
-        return false;
-    };
-    let index = Index::new(pages.len().clamp(1, 6) as u32, levels.max(1).min(3), 63);
-    finds_each(&index, &mut pager, FLAT)
-        && has_neighbours(&index, &mut pager, FLAT)
-        && meets_each(&index, &mut pager)
-        && pager.trace().is_empty()
+// Whether the index of these levels answers as the flat list does, and notes no page.
+fn answers_each(index: &Index, pager: &mut Tried) -> bool {
+    finds_each(index, pager, FLAT)
+        & has_neighbours(index, pager, FLAT)
+        & meets_each(index, pager)
+        & pager.trace().is_empty()
 }
+
+// Whether the one on these pages does.
+fn is_index(alloc: Global, pages: &[Spelled], levels: u32) -> bool {
+    let index = Index::new(pages.len().clamp(1, 6) as u32, levels.max(1).min(3), 63);
+    match stored(alloc, pages, 0) {
+        Some(mut pager) => answers_each(&index, &mut pager),
+        None => false,
+    }
+}
+
+static INDEXES: &[(&[Spelled], u32)] = &[(ONE, 1), (TWO, 2), (THREE, 3)];
 
 #[test]
 fn indexes(rt: HostRuntime) {
-    assert!(rt; is_index(rt.alloc(), ONE, 1));
-    assert!(rt; is_index(rt.alloc(), TWO, 2));
-    assert!(rt; is_index(rt.alloc(), THREE, 3));
+    for (pages, levels) in INDEXES {
+        assert!(rt; is_index(rt.alloc(), pages, *levels), "{levels} levels");
+    }
 }
 
 // What a search for an address answers, where one page of the index of three levels is put so.
@@ -287,21 +293,28 @@ fn missing_page(rt: HostRuntime) {
     assert!(rt; fault == Some(IndexFault::Store(StoreFault::NoPage)));
 }
 
-// Whether a search whose call of this number fails says so, and is answered when it is asked again.
-fn fails_at(alloc: Global, due: u64) -> bool {
-    let Some(mut pager) = stored(alloc, THREE, due) else {
-        return false;
-    };
-    let index = Index::new(6, 3, 63);
+// Whether a search is refused by the device, and is answered when it is asked again.
+fn is_asked_twice(index: &Index, pager: &mut Tried) -> bool {
     let key = Key { z: 25, number: 0 };
-    index.seat_of(&mut pager, &key) == Err(IndexFault::Store(StoreFault::Device))
-        && index.seat_of(&mut pager, &key).ok() == seat_in(FLAT, 25, 0)
+    let first = index.seat_of(pager, &key);
+    let second = index.seat_of(pager, &key).ok();
+    (first == Err(IndexFault::Store(StoreFault::Device))) & (second == seat_in(FLAT, 25, 0))
 }
+
+// Whether one whose call of this number fails is.
+fn fails_at(alloc: Global, due: u64) -> bool {
+    match stored(alloc, THREE, due) {
+        Some(mut pager) => is_asked_twice(&Index::new(6, 3, 63), &mut pager),
+        None => false,
+    }
+}
+
+// The call of the store that fails, and whether it is the search's.
+static FAILING: [(u64, bool); 4] = [(1, true), (2, true), (3, true), (4, false)];
 
 #[test]
 fn failing_store(rt: HostRuntime) {
-    assert!(rt; fails_at(rt.alloc(), 1));
-    assert!(rt; fails_at(rt.alloc(), 2));
-    assert!(rt; fails_at(rt.alloc(), 3));
-    assert!(rt; !fails_at(rt.alloc(), 4));
+    for (due, fails) in &FAILING {
+        assert!(rt; fails_at(rt.alloc(), *due) == *fails, "call {due}");
+    }
 }

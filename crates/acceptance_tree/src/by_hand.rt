@@ -1,7 +1,7 @@
 // The table of five rows on other pages, made by hand, byte for byte: its regions are on pages 1, 3 and 2, and the root of its index
 // is on page 4. It is opened, asked, changed, and closed, and the root stays there.
 use crate::samples::{Sheet, page_of, plane};
-use crate::trial::{Answer, DONE, NO_STEPS, Step, goes};
+use crate::trial::{Answer, DONE, NO_STEPS, Run, Step, all_go};
 use ub_page::{Entry, Page};
 use ub_table::{Key, Row};
 
@@ -170,7 +170,7 @@ fn is_spelled() -> bool {
     }
 }
 
-static STEPS: [(Step, Answer); 21] = [
+const STEPS: [(Step, Answer); 21] = [
     (Step::Store(0, &HAND_MADE), DONE),
     (Step::Open, DONE),
     (Step::Count, Ok([5, 3, 0, 0])),
@@ -194,8 +194,14 @@ static STEPS: [(Step, Answer); 21] = [
     (Step::Walk, Ok([3, 0, 13, 3])),
 ];
 
+static RUNS: &[Run] = &[Run {
+    shown: "a root on another page",
+    first: &STEPS,
+    then: &NO_STEPS,
+}];
+
 #[test]
 fn a_root_on_another_page_stays_there(rt: HostRuntime) {
     assert!(rt; is_spelled());
-    goes(&rt, rt.alloc(), &STEPS, &NO_STEPS);
+    all_go(&rt, rt.alloc(), RUNS);
 }

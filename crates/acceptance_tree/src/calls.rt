@@ -111,7 +111,7 @@ const TWO_LEVELS: [Sheet; 9] = [
     ),
 ];
 
-static CASES: [Case; 11] = [
+const CASES: [Case; 11] = [
     // Opening and reading.
     Case {
         sheets: &FIVE_REGIONS,
@@ -304,7 +304,7 @@ static CASES: [Case; 11] = [
 
 // The closed table of five rows, two on a page: rows 1 and 4 in the first region, row 3 in the second, and rows 2 and 5 in the
 // third.
-static SMALL: [Case; 3] = [
+const SMALL: [Case; 3] = [
     // Both insertions find a full region.
     Case {
         sheets: &FIVE_ROWS,
@@ -500,14 +500,16 @@ fn cases_right(alloc: Global, page_rows: u32, cases: &[Case]) -> usize {
     count_right(&mut trial, cases)
 }
 
-#[test]
-fn each_call_of_a_tree_makes_so_many_of_its_store(rt: HostRuntime) {
-    let right = cases_right(rt.alloc(), 4, &CASES);
-    assert!(rt; right == CASES.len(), "{right} cases were right");
-}
+// How many rows stand on a page, and the cases of such tables.
+static TABLES: &[(u32, &[Case])] = &[(4, &CASES), (2, &SMALL)];
 
 #[test]
-fn each_call_of_a_small_tree_too(rt: HostRuntime) {
-    let right = cases_right(rt.alloc(), 2, &SMALL);
-    assert!(rt; right == SMALL.len(), "{right} cases were right");
+fn each_call_of_a_tree_makes_so_many_of_its_store(rt: HostRuntime) {
+    for (page_rows, cases) in TABLES {
+        let right = cases_right(rt.alloc(), *page_rows, cases);
+        assert!(rt;
+            right == cases.len(),
+            "{right} cases with {page_rows} rows on a page were right"
+        );
+    }
 }

@@ -1,6 +1,6 @@
 // Tables that are made, changed and closed, and stores that fail at one of the calls.
 use crate::samples::{FIVE_ROWS, NO_ROWS, Sheet};
-use crate::trial::{Answer, DEVICE, DONE, NO_PAGE, NO_STEPS, NOTHING, Step, UNCLEAN, goes};
+use crate::trial::{Answer, DEVICE, DONE, NO_PAGE, NO_STEPS, NOTHING, Run, Step, UNCLEAN, all_go};
 use ub_page::Entry;
 use ub_table::{Key, PageFault};
 use ub_tree::TreeFault;
@@ -8,7 +8,7 @@ use ub_tree::TreeFault;
 const LAST: u128 = 18_446_744_073_709_551_615;
 
 // The rows (1,1), (2,3), (3,0), (0,2) and (2,3), whose addresses are 3, 13, 10, 4 and 13.
-static PUT_ROWS: [(Step, Answer); 6] = [
+const PUT_ROWS: [(Step, Answer); 6] = [
     (Step::Create(0), DONE),
     (Step::Put(1, 1, 10), Ok([1, 0, 0, 0])),
     (Step::Put(2, 3, 20), Ok([2, 0, 0, 0])),
@@ -17,7 +17,7 @@ static PUT_ROWS: [(Step, Answer); 6] = [
     (Step::Put(2, 3, 1), Ok([5, 0, 0, 0])),
 ];
 
-static SPANS: [(Step, Answer); 12] = [
+const SPANS: [(Step, Answer); 12] = [
     (Step::Trace, DONE),
     (Step::Count, Ok([5, 3, 0, 0])),
     (Step::Span(0), Ok([0, 9, 1, 4])),
@@ -32,13 +32,8 @@ static SPANS: [(Step, Answer); 12] = [
     (Step::Meet(4), Ok([1, 13, 13, 3])),
 ];
 
-#[test]
-fn puts_rows_into_regions(rt: HostRuntime) {
-    goes(&rt, rt.alloc(), &PUT_ROWS, &SPANS);
-}
-
 // Where the third row at the address 63 splits the region, both halves have points there.
-static SHARED: [(Step, Answer); 5] = [
+const SHARED: [(Step, Answer); 5] = [
     (Step::Create(0), DONE),
     (Step::Put(7, 7, 0), Ok([1, 0, 0, 0])),
     (Step::Put(7, 7, 0), Ok([2, 0, 0, 0])),
@@ -46,12 +41,7 @@ static SHARED: [(Step, Answer); 5] = [
     (Step::Meet(7), Ok([2, 0, 63, 2])),
 ];
 
-#[test]
-fn regions_that_share_an_address_both_meet(rt: HostRuntime) {
-    goes(&rt, rt.alloc(), &SHARED, &NO_STEPS);
-}
-
-static REMOVALS: [(Step, Answer); 6] = [
+const REMOVALS: [(Step, Answer); 6] = [
     (Step::Remove(13, 2), Ok([1, 0, 0, 0])),
     (Step::Remove(13, 5), Ok([1, 0, 0, 0])),
     (Step::Remove(13, 2), DONE),
@@ -60,27 +50,16 @@ static REMOVALS: [(Step, Answer); 6] = [
     (Step::Span(LAST), Ok([10, LAST, 3, 3])),
 ];
 
-#[test]
-fn takes_rows_out(rt: HostRuntime) {
-    goes(&rt, rt.alloc(), &PUT_ROWS, &REMOVALS);
-}
-
-static CLOSED_EMPTY: [(Step, Answer); 3] = [
+const CLOSED_EMPTY: [(Step, Answer); 3] = [
     (Step::Create(0), DONE),
     (Step::Close, DONE),
     (Step::Holds(&NO_ROWS), Ok([3, 0, 0, 0])),
 ];
 
-static CLOSED: [(Step, Answer); 2] = [
+const CLOSED: [(Step, Answer); 2] = [
     (Step::Close, DONE),
     (Step::Holds(&FIVE_ROWS), Ok([5, 0, 0, 0])),
 ];
-
-#[test]
-fn closes_tables(rt: HostRuntime) {
-    goes(&rt, rt.alloc(), &CLOSED_EMPTY, &NO_STEPS);
-    goes(&rt, rt.alloc(), &PUT_ROWS, &CLOSED);
-}
 
 // The closed table of no rows, whose last row had the last number that there is.
 const NO_NUMBER: [Sheet; 3] = [
@@ -96,7 +75,7 @@ const NO_NUMBER: [Sheet; 3] = [
 ];
 
 // Two calls open it, and none is made for a row. The third one reads its region, for a deletion.
-static FULL: [(Step, Answer); 8] = [
+const FULL: [(Step, Answer); 8] = [
     (Step::Store(3, &NO_NUMBER), DONE),
     (Step::Open, DONE),
     (Step::Put(0, 0, 0), Err(TreeFault::Full)),
@@ -107,14 +86,9 @@ static FULL: [(Step, Answer); 8] = [
     (Step::Holds(&NO_NUMBER), Ok([3, 0, 0, 0])),
 ];
 
-#[test]
-fn takes_no_row_where_no_number_is_left(rt: HostRuntime) {
-    goes(&rt, rt.alloc(), &FULL, &NO_STEPS);
-}
-
 // Creation takes a page and marks it, takes two more, and writes the region and the root of the index. So the seventh call is the
 // first of the closing.
-static FAILING: [(Step, Answer); 15] = [
+const FAILING: [(Step, Answer); 15] = [
     (Step::Create(1), DEVICE),
     (Step::Open, NO_PAGE),
     (Step::Create(2), DEVICE),
@@ -138,14 +112,9 @@ static FAILING: [(Step, Answer); 15] = [
     (Step::Open, UNCLEAN),
 ];
 
-#[test]
-fn creation_and_closing_fail(rt: HostRuntime) {
-    goes(&rt, rt.alloc(), &FAILING, &NO_STEPS);
-}
-
 // Opening reads the header and the root of the index. The row is put into the second region, whose page is read, and for which the
 // header is marked before the page is written. So the sixth call is the first of the closing.
-static CHANGED: [(Step, Answer); 5] = [
+const CHANGED: [(Step, Answer); 5] = [
     (Step::Store(6, &FIVE_ROWS), DONE),
     (Step::Open, DONE),
     (Step::Put(3, 0, 1), Ok([6, 0, 0, 0])),
@@ -156,7 +125,7 @@ static CHANGED: [(Step, Answer); 5] = [
 // The row is put into the third region, which is full: its page is read and a page is added; the header is marked, both halves are
 // written, and then the root, which has four entries then. So closing begins with the ninth call: it syncs, writes the header, and
 // syncs.
-static CLOSINGS: [(Step, Answer); 37] = [
+const CLOSINGS: [(Step, Answer); 37] = [
     (Step::Store(8, &FIVE_ROWS), DONE),
     (Step::Open, DONE),
     (Step::Put(3, 3, 0), DEVICE),
@@ -196,13 +165,8 @@ static CLOSINGS: [(Step, Answer); 37] = [
     (Step::Count, Ok([6, 4, 0, 0])),
 ];
 
-#[test]
-fn a_changed_table_stays_unclean_until_it_is_closed(rt: HostRuntime) {
-    goes(&rt, rt.alloc(), &CHANGED, &CLOSINGS);
-}
-
 // The third call is the reading of the region that the row goes to, at address 3, where there are rows at 3 and 4.
-static RETRIED: [(Step, Answer); 9] = [
+const RETRIED: [(Step, Answer); 9] = [
     (Step::Store(3, &FIVE_ROWS), DONE),
     (Step::Open, DONE),
     (Step::Put(1, 1, 0), DEVICE),
@@ -214,7 +178,55 @@ static RETRIED: [(Step, Answer); 9] = [
     (Step::Count, Ok([6, 4, 0, 0])),
 ];
 
+static RUNS: &[Run] = &[
+    Run {
+        shown: "puts rows into regions",
+        first: &PUT_ROWS,
+        then: &SPANS,
+    },
+    Run {
+        shown: "regions that share an address both meet",
+        first: &SHARED,
+        then: &NO_STEPS,
+    },
+    Run {
+        shown: "takes rows out",
+        first: &PUT_ROWS,
+        then: &REMOVALS,
+    },
+    Run {
+        shown: "closes tables",
+        first: &CLOSED_EMPTY,
+        then: &NO_STEPS,
+    },
+    Run {
+        shown: "closes tables",
+        first: &PUT_ROWS,
+        then: &CLOSED,
+    },
+    Run {
+        shown: "creation and closing fail",
+        first: &FAILING,
+        then: &NO_STEPS,
+    },
+    Run {
+        shown: "a changed table stays unclean until it is closed",
+        first: &CHANGED,
+        then: &CLOSINGS,
+    },
+    Run {
+        shown: "no row is taken where no number is left",
+        first: &FULL,
+        then: &NO_STEPS,
+    },
+    Run {
+        shown: "the first call after opening fails",
+        first: &RETRIED,
+        then: &NO_STEPS,
+    },
+];
+
 #[test]
-fn the_first_call_after_opening_fails(rt: HostRuntime) {
-    goes(&rt, rt.alloc(), &RETRIED, &NO_STEPS);
+fn tables_change_and_fail(rt: HostRuntime) {
+    all_go(&rt, rt.alloc(), RUNS);
 }

@@ -5,7 +5,7 @@ ghost use Rattle.ub_query.specs.Posed.{IsPosed};
 ghost use Rattle.ub_query.specs.Shape.{asked};
 
 use crate::samples::{FIVE_ROWS, NO_ROWS, Store, plane};
-use crate::trial::{Answer, DEVICE, DONE, NO_STEPS, NOTHING, Step, goes};
+use crate::trial::{Answer, DEVICE, DONE, NOTHING, Run, Step, all_go};
 use std::alloc::{AllocError, Global};
 use ub_exec::{ExecFault, delete};
 use ub_planning::{Plan, plan};
@@ -48,23 +48,30 @@ fn deletion(alloc: Global, schema: &Schema, x: Option<u32>) -> Result<Plan, Allo
     plan(alloc, &query, schema)
 }
 
-// What the deletion of the rows whose x is this, or all, answers.
-pub(crate) fn deleted(alloc: Global, tree: &mut Tree<Store>, x: Option<u32>) -> Answer {
+// What the deletion of a plan answers.
+fn deleted_by(alloc: Global, tree: &mut Tree<Store>, plan: &Plan) -> Answer
+    requires { IsPosed 3 plan.now.asked }
+{
     if tree.schema().columns().len() != 3 {
         return NOTHING;
     }
-    let Ok(plan) = deletion(alloc, tree.schema(), x) else {
-        return NOTHING;
-    };
-    match delete(alloc, tree, &plan) {
+    match delete(alloc, tree, plan) {
         Ok(count) => Ok([u128::from(count), 0, 0, 0]),
         Err(ExecFault::Tree(fault)) => Err(fault),
         Err(ExecFault::Memory) => Err(TreeFault::Memory),
     }
 }
 
+// What the deletion of the rows whose x is this, or all, answers.
+pub(crate) fn deleted(alloc: Global, tree: &mut Tree<Store>, x: Option<u32>) -> Answer {
+    match deletion(alloc, tree.schema(), x) {
+        Ok(plan) => deleted_by(alloc, tree, &plan),
+        Err(_) => NOTHING,
+    }
+}
+
 // The rows at (2, 3) are deleted, and then no row stands in the last region, which is joined with the one before.
-static OF_TWO: [(Step, Answer); 7] = [
+const OF_TWO: [(Step, Answer); 7] = [
     (Step::Store(0, &FIVE_ROWS), DONE),
     (Step::Open, DONE),
     (Step::Delete(Some(2)), Ok([2, 0, 0, 0])),
@@ -76,7 +83,7 @@ static OF_TWO: [(Step, Answer); 7] = [
 
 // Row 3 leaves the second region, and the third is joined with it; row 4 leaves the first one, and that is joined with it. Who
 // deletes on the way from region to region takes rows 1 and 4 first, joins the first two regions, and passes over row 3.
-static OF_ALL: [(Step, Answer); 9] = [
+const OF_ALL: [(Step, Answer); 9] = [
     (Step::Store(0, &FIVE_ROWS), DONE),
     (Step::Open, DONE),
     (Step::Delete(None), Ok([5, 0, 0, 0])),
@@ -88,14 +95,9 @@ static OF_ALL: [(Step, Answer); 9] = [
     (Step::Put(0, 0, 0), Ok([6, 0, 0, 0])),
 ];
 
-#[test]
-fn takes_the_selected_rows_out(rt: HostRuntime) {
-    goes(&rt, rt.alloc(), &OF_TWO, &OF_ALL);
-}
-
 // Two calls open the table, and the third reads the one region that has points with x = 9. So neither the deletion nor the closing
 // has called the store once more, and the fourth call is the first of the opening after it.
-static OF_NONE: [(Step, Answer); 9] = [
+const OF_NONE: [(Step, Answer); 9] = [
     (Step::Store(4, &FIVE_ROWS), DONE),
     (Step::Open, DONE),
     (Step::Delete(Some(9)), DONE),
@@ -107,20 +109,15 @@ static OF_NONE: [(Step, Answer); 9] = [
     (Step::Open, DONE),
 ];
 
-static OF_AN_EMPTY_TABLE: [(Step, Answer); 4] = [
+const OF_AN_EMPTY_TABLE: [(Step, Answer); 4] = [
     (Step::Store(0, &NO_ROWS), DONE),
     (Step::Open, DONE),
     (Step::Delete(None), DONE),
     (Step::Trace, Ok([1, 1, 0, 0])),
 ];
 
-#[test]
-fn no_row_leaves_the_table_unmarked(rt: HostRuntime) {
-    goes(&rt, rt.alloc(), &OF_NONE, &OF_AN_EMPTY_TABLE);
-}
-
 // The third to fifth call read the regions.
-static READS_FAIL: [(Step, Answer); 18] = [
+const READS_FAIL: [(Step, Answer); 18] = [
     (Step::Store(3, &FIVE_ROWS), DONE),
     (Step::Open, DONE),
     (Step::Delete(None), DEVICE),
@@ -143,7 +140,7 @@ static READS_FAIL: [(Step, Answer); 18] = [
 
 // The sixth one marks the table. The seventh and the eighth write the region that a row left; row 3 leaves a region that is joined:
 // the ninth writes that, and the tenth the root of the index; so do the next two for row 4. The last writes the region of row 5.
-static WRITES_FAIL: [(Step, Answer); 40] = [
+const WRITES_FAIL: [(Step, Answer); 40] = [
     (Step::Store(6, &FIVE_ROWS), DONE),
     (Step::Open, DONE),
     (Step::Delete(None), DEVICE),
@@ -186,9 +183,27 @@ static WRITES_FAIL: [(Step, Answer); 40] = [
     (Step::Delete(None), FAILED),
 ];
 
+static RUNS: &[Run] = &[
+    Run {
+        shown: "takes the selected rows out",
+        first: &OF_TWO,
+        then: &OF_ALL,
+    },
+    Run {
+        shown: "no row leaves the table unmarked",
+        first: &OF_NONE,
+        then: &OF_AN_EMPTY_TABLE,
+    },
+    Run {
+        shown: "ends where the store fails",
+        first: &READS_FAIL,
+        then: &WRITES_FAIL,
+    },
+];
+
 #[test]
-fn ends_where_the_store_fails(rt: HostRuntime) {
-    goes(&rt, rt.alloc(), &READS_FAIL, &WRITES_FAIL);
+fn takes_the_selected_rows_out(rt: HostRuntime) {
+    all_go(&rt, rt.alloc(), RUNS);
 }
 
 // Puts in a row at (x, 0).
@@ -215,24 +230,34 @@ fn long_tree(alloc: Global, k: u64) -> Option<Tree<Store>> {
     Tree::open(alloc, FaultyStore::new(store, k)).ok()
 }
 
-// Whether the k-th call fails in a deletion of all rows, which takes so many; and the next one takes all others.
-fn ends_and_goes_on(alloc: Global, k: u64, gone: u32) -> bool {
-    let Some(mut tree) = long_tree(alloc, k) else {
-        return false;
-    };
+// Whether a deletion of all rows fails, which takes so many; and the next one takes all others.
+fn ends_and_goes_on(alloc: Global, tree: &mut Tree<Store>, gone: u32) -> bool {
     let left = 140u32.saturating_sub(gone);
-    deleted(alloc, &mut tree, None) == DEVICE
-        && tree.rows() == left
-        && deleted(alloc, &mut tree, None) == Ok([u128::from(left), 0, 0, 0])
-        && tree.rows() == 0
+    let first = deleted(alloc, tree, None);
+    let rows = tree.rows();
+    let second = deleted(alloc, tree, None);
+    (first == DEVICE)
+        & (rows == left)
+        & (second == Ok([u128::from(left), 0, 0, 0]))
+        & (tree.rows() == 0)
+}
+
+// Whether it is so where the k-th call of the store fails.
+fn fails_at(alloc: Global, k: u64, gone: u32) -> bool {
+    match long_tree(alloc, k) {
+        Some(mut tree) => ends_and_goes_on(alloc, &mut tree, gone),
+        None => false,
+    }
 }
 
 // Two calls open the table, and 70 read its regions, of which the last 63 at most are held, besides the root of the index. So the
 // 73rd call reads the first region again, before row 1 is taken out; two calls mark the table and write the region; row 2 is its
 // last, and the 76th call reads the next region, which fits on its page.
+static FAILED_READS: [(u64, u32); 3] = [(72, 0), (73, 0), (76, 1)];
+
 #[test]
 fn the_first_rows_are_gone_where_a_read_fails(rt: HostRuntime) {
-    assert!(rt; ends_and_goes_on(rt.alloc(), 72, 0));
-    assert!(rt; ends_and_goes_on(rt.alloc(), 73, 0));
-    assert!(rt; ends_and_goes_on(rt.alloc(), 76, 1));
+    for (k, gone) in &FAILED_READS {
+        assert!(rt; fails_at(rt.alloc(), *k, *gone), "call {k}");
+    }
 }

@@ -86,17 +86,24 @@ fn made(alloc: Global) -> Option<MemStore> {
     tree.close().ok()
 }
 
-// How the query of all rows, or of those at this x, ends over this tree.
-fn answer(alloc: Global, tree: &mut Tree<Store>, x: Option<u32>) -> Ended {
+// How the query of a plan ends over this tree.
+fn end_of_plan(alloc: Global, tree: &mut Tree<Store>, plan: &Plan) -> Ended
+    requires { IsPosed 1 plan.now.asked }
+{
     if tree.schema().columns().len() != 1 {
         return Ended::Other;
     }
-    let Ok(plan) = planned(alloc, tree.schema(), x) else {
-        return Ended::Other;
-    };
-    match execute(alloc, tree, &plan) {
+    match execute(alloc, tree, plan) {
         Ok(answer) => Ended::Rows(answer.rows.len()),
         Err(ExecFault::Tree(TreeFault::Store(StoreFault::Device))) => Ended::Device,
+        Err(_) => Ended::Other,
+    }
+}
+
+// How the query of all rows, or of those at this x, ends over this tree.
+fn answer(alloc: Global, tree: &mut Tree<Store>, x: Option<u32>) -> Ended {
+    match planned(alloc, tree.schema(), x) {
+        Ok(plan) => end_of_plan(alloc, tree, &plan),
         Err(_) => Ended::Other,
     }
 }
@@ -115,26 +122,28 @@ fn end_of(alloc: Global, k: u64, x: Option<u32>) -> Ended {
     }
 }
 
-// Opening reads the header and the root. The query reads the two pages below it and the 200 regions: all of the 204 pages.
-#[test]
-fn a_query_of_all_rows_reads_each_page(rt: HostRuntime) {
-    let alloc = rt.alloc();
-    assert!(rt; end_of(alloc, 1, None) == Ended::Unopened);
-    assert!(rt; end_of(alloc, 2, None) == Ended::Unopened);
-    assert!(rt; end_of(alloc, 3, None) == Ended::Device);
-    assert!(rt; end_of(alloc, 204, None) == Ended::Device);
-    assert!(rt; end_of(alloc, 205, None) == Ended::Rows(400));
-    assert!(rt; end_of(alloc, 210, None) == Ended::Rows(400));
-}
+// The call of the store that fails, the x that is asked, or all, and how the query ends.
+static ENDS: [(u64, Option<u32>, Ended); 10] = [
+    // Opening reads the header and the root. The query of all rows reads the two pages below it and the 200 regions: all of the
+    // 204 pages.
+    (1, None, Ended::Unopened),
+    (2, None, Ended::Unopened),
+    (3, None, Ended::Device),
+    (204, None, Ended::Device),
+    (205, None, Ended::Rows(400)),
+    (210, None, Ended::Rows(400)),
+    // The query of one point reads the page of the index on its way, and the region.
+    (3, Some(0), Ended::Device),
+    (4, Some(0), Ended::Device),
+    (5, Some(0), Ended::Rows(1)),
+    (10, Some(0), Ended::Rows(1)),
+];
 
-// The query of one point reads the page of the index on its way, and the region.
 #[test]
-fn a_query_of_a_point_reads_a_page_of_each_level(rt: HostRuntime) {
-    let alloc = rt.alloc();
-    assert!(rt; end_of(alloc, 3, Some(0)) == Ended::Device);
-    assert!(rt; end_of(alloc, 4, Some(0)) == Ended::Device);
-    assert!(rt; end_of(alloc, 5, Some(0)) == Ended::Rows(1));
-    assert!(rt; end_of(alloc, 10, Some(0)) == Ended::Rows(1));
+fn queries_of_all_rows_and_of_a_point_read_what_they_need(rt: HostRuntime) {
+    for (k, x, ended) in &ENDS {
+        assert!(rt; end_of(rt.alloc(), *k, *x) == *ended, "call {k}");
+    }
 }
 
 // Whether a page of a store has these bytes from an offset on.

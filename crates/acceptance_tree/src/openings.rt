@@ -1,6 +1,6 @@
 // Tables that are opened, from pages written by hand.
 use crate::samples::{FIVE_ROWS, Sheet};
-use crate::trial::{Answer, DONE, NO_PAGE, NO_STEPS, NOTHING, Step, UNCLEAN, goes};
+use crate::trial::{Answer, DONE, NO_PAGE, NO_STEPS, NOTHING, Run, Step, UNCLEAN, all_go};
 use ub_page::Entry;
 use ub_table::{Key, PageFault, Row};
 use ub_tree::TreeFault;
@@ -41,7 +41,7 @@ const OUT_OF_REGION: Answer = Err(TreeFault::Page {
 });
 
 // The table of five rows.
-static OPENED: [(Step, Answer); 8] = [
+const OPENED: [(Step, Answer); 8] = [
     (Step::Store(0, &FIVE_ROWS), DONE),
     (Step::Open, DONE),
     (Step::Count, Ok([5, 3, 0, 0])),
@@ -54,7 +54,7 @@ static OPENED: [(Step, Answer); 8] = [
 
 // A row at (1,1) is put into a table of one region. There is no number left; the region has a row already of the number that is
 // next, at the new row's point.
-static REFUSED_ROWS: [(Step, Answer); 8] = [
+const REFUSED_ROWS: [(Step, Answer); 8] = [
     (
         Step::Store(
             0,
@@ -99,7 +99,7 @@ static REFUSED_ROWS: [(Step, Answer); 8] = [
 ];
 
 // Two entries of the index name one page, which is the first region's.
-static ONE_PAGE: [(Step, Answer); 4] = [
+const ONE_PAGE: [(Step, Answer); 4] = [
     (
         Step::Store(
             0,
@@ -134,14 +134,9 @@ static ONE_PAGE: [(Step, Answer); 4] = [
     ),
 ];
 
-#[test]
-fn refuses_rows_and_pages_of_regions(rt: HostRuntime) {
-    goes(&rt, rt.alloc(), &REFUSED_ROWS, &ONE_PAGE);
-}
-
 // The header is unclean; there is no page; page 0 is no header; it is one of format 1; the root is page 0; its level is none that
 // there can be.
-static REFUSED_HEADERS: [(Step, Answer); 14] = [
+const REFUSED_HEADERS: [(Step, Answer); 14] = [
     (
         Step::Store(
             0,
@@ -214,7 +209,7 @@ static REFUSED_HEADERS: [(Step, Answer); 14] = [
 ];
 
 // Tables of no rows. Of the index the root alone is read: how many regions there are is the header's to tell.
-static ROOTS: [(Step, Answer); 34] = [
+const ROOTS: [(Step, Answer); 34] = [
     (
         Step::Store(
             0,
@@ -454,13 +449,8 @@ static ROOTS: [(Step, Answer); 34] = [
     (Step::Seek(0), BAD_COUNT),
 ];
 
-#[test]
-fn reads_roots(rt: HostRuntime) {
-    goes(&rt, rt.alloc(), &ROOTS, &NO_STEPS);
-}
-
 // Roots that are refused.
-static REFUSED_ROOTS: [(Step, Answer); 36] = [
+const REFUSED_ROOTS: [(Step, Answer); 36] = [
     // It is no page of an index: it is blank, or of a region.
     (
         Step::Store(
@@ -645,12 +635,30 @@ static REFUSED_ROOTS: [(Step, Answer); 36] = [
     (Step::Count, NOTHING),
 ];
 
-#[test]
-fn refuses_headers_and_roots(rt: HostRuntime) {
-    goes(&rt, rt.alloc(), &REFUSED_HEADERS, &REFUSED_ROOTS);
-}
+static RUNS: &[Run] = &[
+    Run {
+        shown: "refuses rows and pages of regions",
+        first: &REFUSED_ROWS,
+        then: &ONE_PAGE,
+    },
+    Run {
+        shown: "reads roots",
+        first: &ROOTS,
+        then: &NO_STEPS,
+    },
+    Run {
+        shown: "refuses headers and roots",
+        first: &REFUSED_HEADERS,
+        then: &REFUSED_ROOTS,
+    },
+    Run {
+        shown: "opens closed tables",
+        first: &OPENED,
+        then: &NO_STEPS,
+    },
+];
 
 #[test]
-fn opens_closed_tables(rt: HostRuntime) {
-    goes(&rt, rt.alloc(), &OPENED, &NO_STEPS);
+fn tables_are_opened_and_refused(rt: HostRuntime) {
+    all_go(&rt, rt.alloc(), RUNS);
 }

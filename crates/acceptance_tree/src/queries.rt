@@ -3,8 +3,8 @@
 ghost use Rattle.std.specs.Prelude.{◌≡◌};
 ghost use Rattle.ub_query.specs.Posed.{IsPosed};
 
-use crate::samples::{FIVE_ROWS, Store, plane, stored};
-use crate::sweep::plan_by;
+use crate::samples::{Store, opened};
+use crate::sweep::{Along, plan_of};
 use std::alloc::Global;
 use ub_exec::{Cells, ExecFault, execute};
 use ub_plan::explain;
@@ -16,8 +16,7 @@ use ub_tree::{Tree, TreeFault};
 // SELECT m FROM t ORDER BY two columns, each down or up: the measures that it gives, and how it is explained. It reads each of
 // the three regions.
 struct Case {
-    first: (usize, bool),
-    second: (usize, bool),
+    along: Along,
     given: &'static [i64],
     explained: &'static str,
 }
@@ -25,16 +24,14 @@ struct Case {
 static CASES: [Case; 2] = [
     // A sweep, which comes to the last region first.
     Case {
-        first: (0, true),
-        second: (2, false),
+        along: Along::Rows((0, true), (2, false)),
         given: &[5, 1, 20, 10, 7],
         explained: "plan sweep x desc\ncover exact\nfilter no\n\
             box x 0..4294967295, y 0..4294967295\npoints 18446744073709551616\nregions 3 of 3\n",
     },
     // A scan.
     Case {
-        first: (2, false),
-        second: (0, false),
+        along: Along::Rows((2, false), (0, false)),
         given: &[1, 5, 7, 10, 20],
         explained: "plan scan\ncover exact\nfilter no\n\
             box x 0..4294967295, y 0..4294967295\npoints 18446744073709551616\nregions 3 of 3\n",
@@ -109,20 +106,19 @@ fn goes_over(alloc: Global, tree: &mut Tree<Store>, plan: &Plan, case: &Case, k:
 }
 
 // The same, if there is a plan.
-fn goes_by(alloc: Global, tree: &mut Tree<Store>, case: &Case, k: u64) -> Option<bool> {
-    if case.first.0 > 2 || case.second.0 > 2 {
-        return None;
+fn goes_by(alloc: Global, tree: &mut Tree<Store>, case: &Case, k: u64) -> bool {
+    match plan_of(alloc, tree.schema(), case.along) {
+        Ok(plan) => goes_over(alloc, tree, &plan, case, k),
+        Err(_) => false,
     }
-    let plan = plan_by(alloc, tree.schema(), case.first, case.second).ok()?;
-    Some(goes_over(alloc, tree, &plan, case, k))
 }
 
 // The same, if the table can be opened.
-fn goes(alloc: Global, case: &Case, k: u64) -> Option<bool> {
-    let schema = plane().ok()?;
-    let store = stored(alloc, &schema, &FIVE_ROWS, k).ok()?;
-    let mut tree = Tree::open(alloc, store).ok()?;
-    goes_by(alloc, &mut tree, case, k)
+fn goes(alloc: Global, case: &Case, k: u64) -> bool {
+    match opened(alloc, k) {
+        Some(mut tree) => goes_by(alloc, &mut tree, case, k),
+        None => false,
+    }
 }
 
 // The last store fails at no call.
@@ -130,7 +126,7 @@ fn goes(alloc: Global, case: &Case, k: u64) -> Option<bool> {
 fn are_answered_after_a_failed_read(rt: HostRuntime) {
     for case in &CASES {
         for k in FIRST_READ..=LAST_READ + 1 {
-            assert!(rt; matches!(goes(rt.alloc(), case, k), Some(true)), "call {k}");
+            assert!(rt; goes(rt.alloc(), case, k), "call {k}");
         }
     }
 }

@@ -3,6 +3,7 @@ use std::alloc::Global;
 use ub_page::{Entry, Page};
 use ub_store::{FaultyStore, MemStore, PageStore, StoreFault};
 use ub_table::{Key, Name, PageFault, Row, Schema};
+use ub_tree::Tree;
 
 // A store in memory that fails at one call, or at none.
 pub(crate) type Store = FaultyStore<MemStore>;
@@ -252,4 +253,11 @@ pub(crate) fn stored(
         store.write_page(n, &page_of(schema, sheet))?;
     }
     Ok(FaultyStore::new(store, k))
+}
+
+// The closed table of five rows, opened over a store that fails at its k-th call.
+pub(crate) fn opened(alloc: Global, k: u64) -> Option<Tree<Store>> {
+    let schema = plane().ok()?;
+    let store = stored(alloc, &schema, &FIVE_ROWS, k).ok()?;
+    Tree::open(alloc, store).ok()
 }

@@ -4,7 +4,8 @@ ghost use Rattle.std.specs.Prelude.{◌≡◌, ◌<◌, None, [], ◌∷◌, IfO
 ghost use Rattle.ub_query.specs.Posed.{IsPosed};
 ghost use Rattle.ub_query.specs.Shape.{asked};
 
-use crate::samples::{FIVE_ROWS, Store, plane, stored};
+use crate::samples::{Store, opened};
+use crate::values::{gives_value, plan_along};
 use std::alloc::{AllocError, Global};
 use std::process::Abort;
 use ub_planning::{Plan, plan};
@@ -65,7 +66,7 @@ pub(crate) fn planned(
 }
 
 // The plan of SELECT m FROM t ORDER BY two columns, each of them down or up.
-pub(crate) fn plan_by(
+fn plan_by(
     alloc: Global,
     schema: &Schema,
     first: (usize, bool),
@@ -79,43 +80,85 @@ pub(crate) fn plan_by(
     planned(alloc, schema, Item::Column(2), &keys)
 }
 
-// What a turn of a sweep gives: the next row's measure, none, the device's fault, or that the sweep failed before.
-#[derive(Clone, Copy, PartialEq, Eq)]
-enum Given {
+// By what a sweep goes: the rows by two columns, each of them down or up, or the values of one column.
+#[derive(Clone, Copy)]
+pub(crate) enum Along {
+    Rows((usize, bool), (usize, bool)),
+    Values(usize, bool),
+}
+
+// What a turn of a sweep gives: the next row's measure, the rows of the next value, by their numbers, none, the device's fault, or
+// that the sweep failed before.
+#[derive(Clone, Copy)]
+pub(crate) enum Given {
     Row(i64),
+    Rows(&'static [u32]),
     Nothing,
     Device,
     Failed,
-    Other,
 }
 
-// A sweep by two columns, each down or up, over a store that fails at its k-th call.
-struct Case {
-    k: u64,
-    first: (usize, bool),
-    second: (usize, bool),
+// A sweep over a store that fails at its k-th call.
+pub(crate) struct Case {
+    pub(crate) k: u64,
+    pub(crate) along: Along,
     // What its turns give.
-    given: [Given; 8],
+    pub(crate) given: &'static [Given],
     // How many pages were fetched for rows after each of its first turns, and after all of them.
-    fetched: &'static [usize],
-    fetched_at_last: usize,
+    pub(crate) fetched: &'static [usize],
+    pub(crate) fetched_at_last: usize,
     // How many rows are held after each of its first turns.
-    held: &'static [usize],
+    pub(crate) held: &'static [usize],
 }
 
-// What the next turn gives.
-fn next(sweep: &mut Sweep, tree: &mut Tree<Store>, plan: &Plan) -> Given
+// The plan of a sweep, if there are its columns.
+pub(crate) fn plan_of(alloc: Global, schema: &Schema, along: Along) -> Result<Plan, AllocError>
+    ensures { IfOk result (λ p. IsPosed 3 p.asked) }
+{
+    match along {
+        Along::Rows(first, second) => {
+            if first.0 > 2 || second.0 > 2 {
+                return Err(AllocError);
+            }
+            plan_by(alloc, schema, first, second)
+        }
+        Along::Values(column, is_descending) => {
+            if column > 2 {
+                return Err(AllocError);
+            }
+            plan_along(alloc, schema, column, is_descending)
+        }
+    }
+}
+
+// Whether a sweep that refuses so gives this.
+pub(crate) fn is_fault(fault: SweepFault, given: Given) -> bool {
+    match fault {
+        SweepFault::Tree(TreeFault::Store(StoreFault::Device)) => matches!(given, Given::Device),
+        SweepFault::Failed => matches!(given, Given::Failed),
+        _ => false,
+    }
+}
+
+// Whether the next turn of a sweep of rows gives this.
+fn gives_row(sweep: &mut Sweep, tree: &mut Tree<Store>, plan: &Plan, given: Given) -> bool
     requires { IsPosed 3 plan.now.asked }
 {
     if tree.schema().columns().len() != 3 {
-        return Given::Other;
+        return false;
     }
     match sweep.next(tree, plan) {
-        Ok(Some(row)) => Given::Row(row.measures[0]),
-        Ok(None) => Given::Nothing,
-        Err(SweepFault::Tree(TreeFault::Store(StoreFault::Device))) => Given::Device,
-        Err(SweepFault::Failed) => Given::Failed,
-        Err(_) => Given::Other,
+        Ok(Some(row)) => matches!(given, Given::Row(measure) if measure == row.measures[0]),
+        Ok(None) => matches!(given, Given::Nothing),
+        Err(fault) => is_fault(fault, given),
+    }
+}
+
+// Whether a list has this number at an index, or ends before it.
+fn is_at(list: &[usize], i: usize, number: usize) -> bool {
+    match list.get(i) {
+        Some(wanted) => *wanted == number,
+        None => true,
     }
 }
 
@@ -126,160 +169,147 @@ fn takes_turns(sweep: &mut Sweep, tree: &mut Tree<Store>, plan: &Plan, case: &Ca
     if !tree.trace().is_empty() || sweep.held() != 0 {
         return false;
     }
-    let mut fetched = [0; 8];
-    let mut held = [0; 8];
     for (i, given) in case.given.iter().enumerate() {
-        if next(sweep, tree, plan) != *given {
+        let is_given = match case.along {
+            Along::Rows(_, _) => gives_row(sweep, tree, plan, *given),
+            Along::Values(_, _) => gives_value(sweep, tree, plan, *given),
+        };
+        let fetched = tree.trace().len();
+        if !(is_given & is_at(case.fetched, i, fetched) & is_at(case.held, i, sweep.held())) {
             return false;
         }
-        fetched[i] = tree.trace().len();
-        held[i] = sweep.held();
     }
-    fetched[7] == case.fetched_at_last
-        && fetched.starts_with(case.fetched)
-        && held.starts_with(case.held)
+    tree.trace().len() == case.fetched_at_last
 }
 
 // Whether the sweep of this tree is that of the case, if it can be begun.
-fn sweeps(alloc: Global, tree: &mut Tree<Store>, plan: &Plan, case: &Case) -> Option<bool>
+fn sweeps(alloc: Global, tree: &mut Tree<Store>, plan: &Plan, case: &Case) -> bool
     requires { IsPosed 3 plan.now.asked }
 {
-    let mut sweep = Sweep::new(alloc, tree, plan).ok()?;
-    Some(takes_turns(&mut sweep, tree, plan, case))
+    match Sweep::new(alloc, tree, plan) {
+        Ok(mut sweep) => takes_turns(&mut sweep, tree, plan, case),
+        Err(_) => false,
+    }
 }
 
-// Whether the sweep by the columns of the case, over this tree, is that of the case, if there is a plan.
-fn sweeps_by(alloc: Global, tree: &mut Tree<Store>, case: &Case) -> Option<bool> {
-    if case.first.0 > 2 || case.second.0 > 2 {
-        return None;
+// Whether the sweep along the columns of the case, over this tree, is that of the case, if there is a plan.
+fn sweeps_along(alloc: Global, tree: &mut Tree<Store>, case: &Case) -> bool {
+    match plan_of(alloc, tree.schema(), case.along) {
+        Ok(plan) => sweeps(alloc, tree, &plan, case),
+        Err(_) => false,
     }
-    let plan = plan_by(alloc, tree.schema(), case.first, case.second).ok()?;
-    sweeps(alloc, tree, &plan, case)
 }
 
 // Whether the table is swept as the case says, if it can be opened.
-fn goes(alloc: Global, case: &Case) -> Option<bool> {
-    let schema = plane().ok()?;
-    let store = stored(alloc, &schema, &FIVE_ROWS, case.k).ok()?;
-    let mut tree = Tree::open(alloc, store).ok()?;
-    sweeps_by(alloc, &mut tree, case)
-}
-
-// Asserts that the sweeps of these cases are so.
-fn all_go(rt: &impl Abort, alloc: Global, cases: &[Case]) {
-    for (i, case) in cases.iter().enumerate() {
-        assert!(rt; matches!(goes(alloc, case), Some(true)), "case {i}");
+fn goes(alloc: Global, case: &Case) -> bool {
+    match opened(alloc, case.k) {
+        Some(mut tree) => sweeps_along(alloc, &mut tree, case),
+        None => false,
     }
 }
 
-// In the order of one dimension, and of two keys: each of the rows, and then none, however often it is asked. Every region is
-// read.
-static ORDERS: [Case; 5] = [
-    Case {
-        k: 0,
-        first: (0, false),
-        second: (0, false),
-        given: [
-            Given::Row(7),
-            Given::Row(10),
-            Given::Row(20),
-            Given::Row(1),
-            Given::Row(5),
-            Given::Nothing,
-            Given::Nothing,
-            Given::Nothing,
-        ],
-        fetched: &[],
-        fetched_at_last: 3,
-        held: &[],
-    },
-    Case {
-        k: 0,
-        first: (1, true),
-        second: (1, true),
-        given: [
-            Given::Row(20),
-            Given::Row(1),
-            Given::Row(7),
-            Given::Row(10),
-            Given::Row(5),
-            Given::Nothing,
-            Given::Nothing,
-            Given::Nothing,
-        ],
-        fetched: &[],
-        fetched_at_last: 3,
-        held: &[],
-    },
-    Case {
-        k: 0,
-        first: (0, true),
-        second: (2, false),
-        given: [
-            Given::Row(5),
-            Given::Row(1),
-            Given::Row(20),
-            Given::Row(10),
-            Given::Row(7),
-            Given::Nothing,
-            Given::Nothing,
-            Given::Nothing,
-        ],
-        fetched: &[],
-        fetched_at_last: 3,
-        held: &[],
-    },
-    Case {
-        k: 0,
-        first: (0, true),
-        second: (2, true),
-        given: [
-            Given::Row(5),
-            Given::Row(20),
-            Given::Row(1),
-            Given::Row(10),
-            Given::Row(7),
-            Given::Nothing,
-            Given::Nothing,
-            Given::Nothing,
-        ],
-        fetched: &[],
-        fetched_at_last: 3,
-        held: &[],
-    },
-    Case {
-        k: 0,
-        first: (0, false),
-        second: (2, false),
-        given: [
-            Given::Row(7),
-            Given::Row(10),
-            Given::Row(1),
-            Given::Row(20),
-            Given::Row(5),
-            Given::Nothing,
-            Given::Nothing,
-            Given::Nothing,
-        ],
-        fetched: &[],
-        fetched_at_last: 3,
-        held: &[],
-    },
-];
-
-#[test]
-fn gives_rows_in_order(rt: HostRuntime) {
-    all_go(&rt, rt.alloc(), &ORDERS);
+// Asserts that the sweeps of these cases are so.
+pub(crate) fn all_go(rt: &impl Abort, alloc: Global, cases: &[Case]) {
+    for (i, case) in cases.iter().enumerate() {
+        assert!(rt; goes(alloc, case), "case {i}");
+    }
 }
 
-// By x down the event values are 2, 3 and 4294967295: the last region comes first, and the first one only for a row at 2. By x
-// up they are 0, 2 and 0: two regions tie, and are both fetched before the first row.
-static NEEDS: [Case; 2] = [
+// Sweeps of rows.
+static CASES: [Case; 11] = [
+    // In the order of one dimension, and of two keys: each of the rows, and then none, however often it is asked. Every region is
+    // read.
     Case {
         k: 0,
-        first: (0, true),
-        second: (2, false),
-        given: [
+        along: Along::Rows((0, false), (0, false)),
+        given: &[
+            Given::Row(7),
+            Given::Row(10),
+            Given::Row(20),
+            Given::Row(1),
+            Given::Row(5),
+            Given::Nothing,
+            Given::Nothing,
+            Given::Nothing,
+        ],
+        fetched: &[],
+        fetched_at_last: 3,
+        held: &[],
+    },
+    Case {
+        k: 0,
+        along: Along::Rows((1, true), (1, true)),
+        given: &[
+            Given::Row(20),
+            Given::Row(1),
+            Given::Row(7),
+            Given::Row(10),
+            Given::Row(5),
+            Given::Nothing,
+            Given::Nothing,
+            Given::Nothing,
+        ],
+        fetched: &[],
+        fetched_at_last: 3,
+        held: &[],
+    },
+    Case {
+        k: 0,
+        along: Along::Rows((0, true), (2, false)),
+        given: &[
+            Given::Row(5),
+            Given::Row(1),
+            Given::Row(20),
+            Given::Row(10),
+            Given::Row(7),
+            Given::Nothing,
+            Given::Nothing,
+            Given::Nothing,
+        ],
+        fetched: &[],
+        fetched_at_last: 3,
+        held: &[],
+    },
+    Case {
+        k: 0,
+        along: Along::Rows((0, true), (2, true)),
+        given: &[
+            Given::Row(5),
+            Given::Row(20),
+            Given::Row(1),
+            Given::Row(10),
+            Given::Row(7),
+            Given::Nothing,
+            Given::Nothing,
+            Given::Nothing,
+        ],
+        fetched: &[],
+        fetched_at_last: 3,
+        held: &[],
+    },
+    Case {
+        k: 0,
+        along: Along::Rows((0, false), (2, false)),
+        given: &[
+            Given::Row(7),
+            Given::Row(10),
+            Given::Row(1),
+            Given::Row(20),
+            Given::Row(5),
+            Given::Nothing,
+            Given::Nothing,
+            Given::Nothing,
+        ],
+        fetched: &[],
+        fetched_at_last: 3,
+        held: &[],
+    },
+    // By x down the event values are 2, 3 and 4294967295: the last region comes first, and the first one only for a row at 2. By x
+    // up they are 0, 2 and 0: two regions tie, and are both fetched before the first row.
+    Case {
+        k: 0,
+        along: Along::Rows((0, true), (2, false)),
+        given: &[
             Given::Row(5),
             Given::Row(1),
             Given::Row(20),
@@ -295,9 +325,8 @@ static NEEDS: [Case; 2] = [
     },
     Case {
         k: 0,
-        first: (0, false),
-        second: (2, false),
-        given: [
+        along: Along::Rows((0, false), (2, false)),
+        given: &[
             Given::Row(7),
             Given::Row(10),
             Given::Row(1),
@@ -311,21 +340,12 @@ static NEEDS: [Case; 2] = [
         fetched_at_last: 3,
         held: &[3, 2, 2],
     },
-];
-
-#[test]
-fn fetches_what_the_next_row_needs(rt: HostRuntime) {
-    all_go(&rt, rt.alloc(), &NEEDS);
-}
-
-// Opening makes two calls of its store. Two regions are read for the first row, and the third one for the second. After the
-// device's fault the sweep answers that it failed, and reads no more.
-static FAULTS: [Case; 4] = [
+    // Opening makes two calls of its store. Two regions are read for the first row, and the third one for the second. After the
+    // device's fault the sweep answers that it failed, and reads no more.
     Case {
         k: 3,
-        first: (0, true),
-        second: (2, false),
-        given: [
+        along: Along::Rows((0, true), (2, false)),
+        given: &[
             Given::Device,
             Given::Failed,
             Given::Failed,
@@ -341,9 +361,8 @@ static FAULTS: [Case; 4] = [
     },
     Case {
         k: 4,
-        first: (0, true),
-        second: (2, false),
-        given: [
+        along: Along::Rows((0, true), (2, false)),
+        given: &[
             Given::Device,
             Given::Failed,
             Given::Failed,
@@ -359,9 +378,8 @@ static FAULTS: [Case; 4] = [
     },
     Case {
         k: 5,
-        first: (0, true),
-        second: (2, false),
-        given: [
+        along: Along::Rows((0, true), (2, false)),
+        given: &[
             Given::Row(5),
             Given::Device,
             Given::Failed,
@@ -377,9 +395,8 @@ static FAULTS: [Case; 4] = [
     },
     Case {
         k: 6,
-        first: (0, true),
-        second: (2, false),
-        given: [
+        along: Along::Rows((0, true), (2, false)),
+        given: &[
             Given::Row(5),
             Given::Row(1),
             Given::Row(20),
@@ -396,6 +413,6 @@ static FAULTS: [Case; 4] = [
 ];
 
 #[test]
-fn fails_ever_after_a_fault(rt: HostRuntime) {
-    all_go(&rt, rt.alloc(), &FAULTS);
+fn gives_rows_in_order_and_fetches_what_they_need(rt: HostRuntime) {
+    all_go(&rt, rt.alloc(), &CASES);
 }

@@ -71,8 +71,15 @@ pub(crate) const DEVICE: Answer = Err(TreeFault::Store(StoreFault::Device));
 // The answer where there is no region for a step, no tree or no store.
 pub(crate) const NOTHING: Answer = Ok([u128::MAX; 4]);
 
-// For `goes` where nothing follows.
-pub(crate) static NO_STEPS: [(Step, Answer); 0] = [];
+// For a run where nothing follows.
+pub(crate) const NO_STEPS: [(Step, Answer); 0] = [];
+
+// What is tried: what it shows, steps, and steps that follow them on the same tree.
+pub(crate) struct Run {
+    pub(crate) shown: &'static str,
+    pub(crate) first: &'static [(Step, Answer)],
+    pub(crate) then: &'static [(Step, Answer)],
+}
 
 // A tree of the plane, or the store that it left.
 #[derive(Drop)]
@@ -83,18 +90,16 @@ pub(crate) struct Trial {
     store: Option<Store>,
 }
 
-// Asserts that these steps are answered so, and then those.
-pub(crate) fn goes(
-    rt: &impl Abort,
-    alloc: Global,
-    first: &[(Step, Answer)],
-    then: &[(Step, Answer)],
-) {
-    let right = steps_right(alloc, first, then);
-    assert!(rt;
-        right == first.len().saturating_add(then.len()),
-        "{right} steps were right"
-    );
+// Asserts that the steps of each of these runs are answered so.
+pub(crate) fn all_go(rt: &impl Abort, alloc: Global, runs: &[Run]) {
+    for run in runs {
+        let right = steps_right(alloc, run.first, run.then);
+        assert!(rt;
+            right == run.first.len().saturating_add(run.then.len()),
+            "{}: {right} steps were right",
+            run.shown
+        );
+    }
 }
 
 // How many of these steps, and then of those, are answered so, up to the first wrong one of each.
