@@ -1,5 +1,6 @@
 #!/usr/bin/env python3
-"""Decodes a table file of format 1, and prints its header, its regions with their rows, and its directory.
+"""Decodes a table file of format 1 or 2, and prints its header, its regions with their rows, and what leads to them: the directory of
+format 1, or the index of format 2.
 
     tests/old/check.py TABLE [CSV]
 
@@ -48,16 +49,19 @@ class Fields:
 def read_header(pages):
     it = Fields(pages, 0)
     stop_unless(it.take(4) == b"UBTR", "page 0 isn't a header")
-    it.number(1, 1, 1)
+    version = it.number(1, 1, 2)
     it.number(1, 0, 0)
-    head = {"dims": it.number(1, 1, 4), "measures": it.number(1, 0, 4), "page rows": it.number(1, 2, 64)}
+    head = {"format": version, "dims": it.number(1, 1, 4), "measures": it.number(1, 0, 4), "page rows": it.number(1, 2, 64)}
     it.zeros(3)
     head["next"] = it.number(4, 1, NUMBERS)
     head["rows"] = it.number(4, 0, head["next"] - 1)
     head["regions"] = it.number(4, 1, (1 << 32) - 1)
     head["root"] = it.number(4, 1, (1 << 32) - 1)
-    chain = (head["regions"] + ENTRIES - 1) // ENTRIES
-    head["directory pages"] = it.number(4, chain, chain)
+    if version == 1:
+        chain = (head["regions"] + ENTRIES - 1) // ENTRIES
+        head["directory pages"] = it.number(4, chain, chain)
+    else:
+        head["levels"] = it.number(4, 1, 16)
     names = []
     for _ in range(1 + head["dims"] + head["measures"]):
         length = it.number(1, 1, 32)
@@ -92,6 +96,35 @@ def read_directory(pages, head):
     taken = [page for _, page in entries] + chain
     stop_unless(len({*taken}) == len(taken), "the directory names a page twice")
     return entries, chain
+
+
+def read_index(pages, head):
+    """The entries of all leaves of the index, and the numbers of its pages, each before those that it names."""
+    entries, own = [], []
+    last = (1 << 32 * head["dims"]) - 1
+    ways = [(head["root"], head["levels"], (0, 0), None)]
+    while ways:
+        number, level, first, after = ways.pop()
+        it = Fields(pages, number)
+        stop_unless(it.take(1) == b"I", f"page {number} isn't of the index")
+        it.number(1, level, level)
+        count = it.number(2, 1, ENTRIES)
+        it.zeros(12)
+        own.append(number)
+        here = [((it.number(16, 0, last), it.number(4, 0, NUMBERS - 1)), it.number(4, 1, len(pages) - 1)) for _ in range(count)]
+        it.end()
+        keys = [key for key, _ in here]
+        stop_unless(keys[0] == first and all(a < b for a, b in zip(keys, keys[1:])), f"page {number}: the keys are out of order")
+        stop_unless(after is None or keys[-1] < after, f"page {number}: a key isn't before the next page's")
+        if level == 1:
+            entries += here
+        else:
+            ends = keys[1:] + [after]
+            ways += [(page, level - 1, key, end) for (key, page), end in [*zip(here, ends)][::-1]]
+    stop_unless(len(entries) == head["regions"], "the index has another number of regions")
+    taken = [page for _, page in entries] + own
+    stop_unless(len({*taken}) == len(taken), "the index names a page twice")
+    return entries, own
 
 
 def address(values):
@@ -166,9 +199,10 @@ def main(table, text=None):
     head, name, columns = read_header(pages)
     print(f"pages {len(pages)}, table {name}, columns {' '.join(columns)}")
     print(", ".join(f"{word} {value}" for word, value in head.items()))
-    entries, chain = read_directory(pages, head)
+    what, read = ("directory", read_directory) if head["format"] == 1 else ("index", read_index)
+    entries, chain = read(pages, head)
     rows = tell_regions(pages, head, entries)
-    print(f"directory on pages {' '.join(map(str, chain))}, first keys and pages:")
+    print(f"{what} on pages {' '.join(map(str, chain))}, first keys and pages:")
     for key, page in entries:
         print(f"    {key} {page}")
     unused = sorted({*range(1, len(pages))} - {*chain} - {page for _, page in entries})

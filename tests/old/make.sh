@@ -31,4 +31,4 @@ rt try -- "$folder/gaps.ub" 24 1 5 8 21 23 2 3
 
 # Each line says OK where the file is the one that stands here.
 cd "$folder"
-grep '\.ub$' "$old/README.md" | sha256sum -c
+grep '^    [0-9a-f]*  [a-z]*\.ub$' "$old/README.md" | sha256sum -c

@@ -22,6 +22,8 @@ use ub_tree::Tree;
 
 /// Puts in the row of these values, one for each column, and tells its number. The line is made before the row is put in, so that
 /// nothing is refused after that.
+// Never compiled into its caller, whose frame stands while a statement is parsed, however deep it nests.
+#[inline(never)]
 pub(crate) fn insert_row<S: PageStore>(
     alloc: Global,
     tree: &mut Tree<S>,
@@ -61,6 +63,8 @@ fn coordinates(alloc: Global, schema: &Schema, values: &[i64]) -> Result<Vec<u32
 }
 
 /// Takes out the rows that a query without groups, order and limit selects, and tells how many they were.
+// Never compiled into its caller, as `insert_row`.
+#[inline(never)]
 pub(crate) fn delete_rows<S: PageStore>(
     alloc: Global,
     tree: &mut Tree<S>,

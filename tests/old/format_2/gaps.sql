@@ -1,0 +1,7 @@
+DELETE FROM gaps WHERE n = 24;
+DELETE FROM gaps WHERE n = 1;
+DELETE FROM gaps WHERE n = 5;
+DELETE FROM gaps WHERE n = 8;
+DELETE FROM gaps WHERE n = 21;
+DELETE FROM gaps WHERE n = 23;
+DELETE FROM gaps WHERE n = 2 OR n = 3;
