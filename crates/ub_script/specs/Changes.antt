@@ -56,7 +56,7 @@ pub record IsTableDelete (s : Stand) (q : Asked) (r : Reply) (now : Stand) : Typ
 
 -- ---- what is made of any tree, also of one that isn't sound
 
--- a row was asked to be put into a tree, with this answer: all that `Tree::insert` says
+-- a row was asked to be put into a tree, with this answer: what `Tree::insert` says of any tree that works
 pub record PutsIn (row : Row) (old new : TreeView) (result : Result ℕ TreeFault) : Type 0 where
   pub number : IfOk result (λ n. n ≡ old.next)
   pub counted : OnOk result ((new.next ≡ old.next + 1) × (new.rows ≡ old.rows + 1) × (new.is_failed ≡ false)
