@@ -1,5 +1,6 @@
 pub mod DistinctFacts
 pub mod KeyFacts
+pub mod MaskFacts
 pub mod NameFacts
 pub mod SchemaFacts
 pub mod ValueFacts

@@ -8,7 +8,7 @@ pub fn coordinates_are_values()
     ensures { CoordinatesAreValues }
 {}
 
-/// The values of a dimension are 0 to 2^32 - 1.
+/// The values of a dimension are 0 to 2^32 - 1, and those of a signed one -2^31 to 2^31 - 1.
 pub fn values_of_a_dimension()
     ensures { ValuesOfADimension }
 {}

@@ -8,6 +8,7 @@
 
 #![tactic(auto)]
 
+pub mod axes;
 pub mod columns;
 pub mod fault;
 pub mod items;
@@ -18,6 +19,7 @@ pub mod row;
 pub mod schema;
 pub mod value;
 
+pub use axes::Axes;
 pub use columns::Columns;
 pub use fault::PageFault;
 pub use items::Items;
@@ -25,4 +27,4 @@ pub use keyword::is_keyword;
 pub use name::Name;
 pub use row::{Key, MAX_ROW_NUMBER, Row};
 pub use schema::{MAX_ROWS, Schema};
-pub use value::{coordinate_at, fits_at};
+pub use value::{SHIFT, coordinate_at, fits_at};

@@ -1,5 +1,5 @@
-ghost use Rattle.std.specs.Prelude.{◌≡◌, ◌-◌, ◌≤◌, ◌↔◌, length, IsTrue, IsOk, IfOk, IsErrOf};
-ghost use Rattle.ub_table.specs.Schema.{AreCounts, AreDistinct};
+ghost use Rattle.std.specs.Prelude.{◌≡◌, ◌-◌, ◌<◌, ◌≤◌, ◌^◌, ◌↔◌, length, IsTrue, IsOk, IfOk, IsErrOf};
+ghost use Rattle.ub_table.specs.Schema.{AreCounts, AreDistinct, AreNumbers, IsMask};
 
 use crate::columns::Columns;
 use crate::fault::PageFault;
@@ -10,7 +10,7 @@ use ub_zaddr::Shape;
 pub const MAX_ROWS: usize = 64;
 
 /// What a table is called and made of: its name, its columns (dimensions first, then measures), how many of them are
-/// dimensions (1 to 4; 0 to 4 are measures), and how many rows a region page holds (2 to 64).
+/// dimensions (1 to 4; 0 to 4 are measures), how many rows a region page holds (2 to 64), and which dimensions are signed.
 #[derive(Drop)]
 pub struct Schema {
     /// The table's name.
@@ -21,24 +21,34 @@ pub struct Schema {
     pub dims: u32,
     /// How many rows a region page holds.
     pub page_rows: u32,
+    /// Which dimensions are signed: bit i is that of dimension i.
+    pub signed: u32,
     ghost counts: { AreCounts (length columns) dims page_rows },
+    ghost mask: { IsMask dims signed },
     ghost distinct: { AreDistinct columns },
 }
 
 impl Schema {
     /// The schema of these parts, where there are 1 to 4 dimensions, 0 to 4 measures after them, and 2 to 64 rows on a
-    /// page (`BadCount` otherwise), and no two columns have one name (`BadName` otherwise). Takes no memory.
-    pub fn new(name: Name, columns: &[Name], dims: u32, page_rows: u32) -> Result<Schema, PageFault>
+    /// page, and dimensions alone are signed, bit i of the mask for dimension i (`BadCount` otherwise), and no two columns
+    /// have one name (`BadName` otherwise). Takes no memory.
+    pub fn new(
+        name: Name,
+        columns: &[Name],
+        dims: u32,
+        page_rows: u32,
+        signed: u32,
+    ) -> Result<Schema, PageFault>
         ensures valid { IsOk result
-            ↔ (AreCounts (length columns.now) dims page_rows × AreDistinct columns.now) }
+            ↔ (AreNumbers (length columns.now) dims page_rows signed × AreDistinct columns.now) }
         ensures parts { IfOk result (λ s. (s.name ≡ name) × (s.columns ≡ columns.now)
-            × (s.dims ≡ dims) × (s.page_rows ≡ page_rows)) }
+            × (s.dims ≡ dims) × (s.page_rows ≡ page_rows) × (s.signed ≡ signed)) }
         ensures bad_count { IsErrOf result PageFault.BadCount
-            ↔ (¬ (AreCounts (length columns.now) dims page_rows)) }
+            ↔ (¬ (AreNumbers (length columns.now) dims page_rows signed)) }
         ensures bad_name { IsErrOf result PageFault.BadName
-            ↔ (AreCounts (length columns.now) dims page_rows × ¬ (AreDistinct columns.now)) }
+            ↔ (AreNumbers (length columns.now) dims page_rows signed × ¬ (AreDistinct columns.now)) }
     {
-        if !are_counts(columns.len(), dims, page_rows) {
+        if !are_numbers(columns.len(), dims, page_rows, signed) {
             return Err(PageFault::BadCount);
         }
         if !are_distinct(columns) {
@@ -49,6 +59,7 @@ impl Schema {
             columns: Columns::from_slice(columns),
             dims,
             page_rows,
+            signed,
         })
     }
 
@@ -106,6 +117,7 @@ impl Schema {
             columns: Columns::from_slice(self.columns()),
             dims: self.dims,
             page_rows: self.page_rows,
+            signed: self.signed,
         }
     }
 
@@ -117,6 +129,21 @@ impl Schema {
     {
         self.page_rows
     }
+
+    /// Which of the dimensions are signed: bit i is that of dimension i.
+    pub fn signed(&self) -> u32
+        ensures signed { result ≡ self.now.signed }
+        ensures mask { IsMask self.now.dims result }
+        ensures few { result < 16 }
+    {
+        self.signed
+    }
+}
+
+fn are_numbers(columns: usize, dims: u32, page_rows: u32, signed: u32) -> bool
+    ensures { IsTrue result ↔ AreNumbers columns dims page_rows signed }
+{
+    are_counts(columns, dims, page_rows) && is_mask(dims, signed)
 }
 
 fn are_counts(columns: usize, dims: u32, page_rows: u32) -> bool
@@ -126,6 +153,14 @@ fn are_counts(columns: usize, dims: u32, page_rows: u32) -> bool
     (1..=4).contains(&first)
         && (first..=first + 4).contains(&columns)
         && (2..=MAX_ROWS).contains(&(page_rows as usize))
+}
+
+/// Whether a mask has bits for so many dimensions alone.
+pub fn is_mask(dims: u32, signed: u32) -> bool
+    requires { dims ≤ 4 }
+    ensures { IsTrue result ↔ IsMask dims signed }
+{
+    signed >> dims == 0
 }
 
 fn are_distinct(columns: &[Name]) -> bool

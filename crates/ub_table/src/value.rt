@@ -1,26 +1,40 @@
 ghost use Rattle.std.specs.Prelude.{◌≡◌, ◌<◌, ◌≤ℤ◌, length, neg_ℤ, pos};
 ghost use Rattle.ub_table.specs.Table.{column_value};
+ghost use Rattle.ub_table.specs.declared.value.TheConstants.{SHIFT};
 ghost use Rattle.ub_table.specs.Value as spec;
 
+use crate::axes::Axes;
 use crate::row::Row;
 use crate::schema::Schema;
 
+/// How far the values of a signed dimension stand below its coordinates: half of all coordinates.
+pub const SHIFT: i64 = 2147483648;
+
 impl Schema {
+    /// The dimensions: how many they are, and which of them are signed.
+    pub fn axes(&self) -> Axes
+        ensures { result ≡ spec.axes_of self.now }
+    {
+        Axes {
+            dims: self.dims,
+            signed: self.signed,
+        }
+    }
+
     /// The value that a coordinate of a dimension stands for.
-    #[tactic(auto, unfolding(crate::specs::Value::shift))]
     pub fn value(&self, dim: usize, coordinate: u32) -> i64
         ensures value { result ≡ spec.value self.now dim coordinate }
         ensures low { neg_ℤ (pos 2147483648) ≤ℤ result }
         ensures high { result ≤ℤ pos 4294967295 }
     {
-        i64::from(coordinate)
+        i64::from(coordinate) - shift(self.axes(), dim)
     }
 
     /// The coordinate that stands for a number in a dimension, if the dimension has that value.
     pub fn coordinate(&self, dim: usize, value: i128) -> Option<u32>
         ensures { result ≡ spec.coordinate self.now dim value }
     {
-        coordinate_at(self.dims, dim, value)
+        coordinate_at(self.axes(), dim, value)
     }
 
     /// Whether a column can hold a number: a dimension where it has that value, a measure where 64
@@ -29,7 +43,7 @@ impl Schema {
         requires { column < length self.now.columns }
         ensures { result ≡ spec.fits self.now column value }
     {
-        fits_at(self.dims, column, value)
+        fits_at(self.axes(), column, value)
     }
 
     /// The value of a row in a column: what its coordinate stands for in a dimension, else its
@@ -49,24 +63,43 @@ impl Schema {
     }
 }
 
-// Values and coordinates of a table of which only the number of dimensions is known; of a schema they are its own calls.
+// Values and coordinates of a table of which only the dimensions are known; of a schema they are its own calls.
 
-/// The coordinate that stands for a number in a dimension, if the dimension has that value, of a
-/// table with so many dimensions.
-#[tactic(auto, unfolding(crate::specs::Value::shift))]
-pub fn coordinate_at(dims: u32, dim: usize, value: i128) -> Option<u32>
-    ensures { result ≡ spec.coordinate_at dims dim value }
+// Whether a mask has the bit of a dimension.
+fn is_signed(signed: u32, dim: usize) -> bool
+    ensures { result ≡ spec.is_signed signed dim }
 {
-    u32::try_from(value).ok()
+    dim < 32 && (signed >> dim) & 1 == 1
 }
 
-/// Whether a column can hold a number, of a table with so many dimensions: a dimension where it
-/// has that value, else a measure where 64 bits with sign hold it.
-pub fn fits_at(dims: u32, column: usize, value: i128) -> bool
-    ensures { result ≡ spec.fits_at dims column value }
+// How far the values of a dimension stand below its coordinates.
+#[tactic(auto, unfolding(crate::specs::Value::shift))]
+fn shift(axes: Axes, dim: usize) -> i64
+    ensures is { result ≡ spec.shift axes dim }
+    ensures low { pos 0 ≤ℤ result }
+    ensures high { result ≤ℤ SHIFT }
 {
-    if column < dims as usize {
-        coordinate_at(dims, column, value).is_some()
+    if is_signed(axes.signed, dim) {
+        SHIFT
+    } else {
+        0
+    }
+}
+
+/// The coordinate that stands for a number in a dimension, if the dimension has that value.
+pub fn coordinate_at(axes: Axes, dim: usize, value: i128) -> Option<u32>
+    ensures { result ≡ spec.coordinate_at axes dim value }
+{
+    u32::try_from(value.checked_add(i128::from(shift(axes, dim)))?).ok()
+}
+
+/// Whether a column can hold a number: a dimension where it has that value, else a measure where 64 bits with sign hold
+/// it.
+pub fn fits_at(axes: Axes, column: usize, value: i128) -> bool
+    ensures { result ≡ spec.fits_at axes column value }
+{
+    if column < axes.dims as usize {
+        coordinate_at(axes, column, value).is_some()
     } else {
         i128::from(i64::MIN) <= value && value <= i128::from(i64::MAX)
     }
