@@ -71,18 +71,18 @@ run≢next = apart (codes "run") (codes "next") refl
 
 -- words by which a command was found ask for nothing, if it is none of the four, or what was given for it is not enough
 pub nothing_by : (words : List (List ℕ)) (name : List ℕ) (rows : List Row) → IsTaken words (both name rows)
-    → (name ≡ codes "try" → (source script table : List ℕ) (dims page_rows : ℕ) → IsTryGiven rows source script table dims page_rows
+    → (name ≡ codes "try" → (source script table : List ℕ) (dims page_rows signed : ℕ) → IsTryGiven rows source script table dims page_rows signed
     → (source ≡ standard_input) × (script ≡ standard_input))
-    → (name ≡ codes "load" → (source table other : List ℕ) (dims page_rows : ℕ) → ¬ (IsLoadGiven rows source table other dims page_rows))
+    → (name ≡ codes "load" → (source table other : List ℕ) (dims page_rows signed : ℕ) → ¬ (IsLoadGiven rows source table other dims page_rows signed))
     → (name ≡ codes "run" → (table script : List ℕ) → ¬ (IsRunGiven rows table script))
     → (name ≡ codes "next" → (lo hi z : List ℕ) → ¬ (IsNextGiven rows lo hi z)) → AsksNothing words
 nothing_by words name rows taken by_try by_load by_run by_next = record {
-  no_try = λ source script table dims page_rows asks.
+  no_try = λ source script table dims page_rows signed asks.
       let same = same_found _ _ _ _ (sym taken.1 ∙ asks.1.1) in
-      asks.3 (by_try same.0 source script table dims page_rows (subst (λ (r : List Row). IsTryGiven r source script table dims page_rows) (sym same.1) asks.2));
-  no_load = λ source table other dims page_rows asks.
+      asks.3 (by_try same.0 source script table dims page_rows signed (subst (λ (r : List Row). IsTryGiven r source script table dims page_rows signed) (sym same.1) asks.2));
+  no_load = λ source table other dims page_rows signed asks.
       let same = same_found _ _ _ _ (sym taken.1 ∙ asks.1.1) in
-      by_load same.0 source table other dims page_rows (subst (λ (r : List Row). IsLoadGiven r source table other dims page_rows) (sym same.1) asks.2);
+      by_load same.0 source table other dims page_rows signed (subst (λ (r : List Row). IsLoadGiven r source table other dims page_rows signed) (sym same.1) asks.2);
   no_run = λ table script asks.
       let same = same_found _ _ _ _ (sym taken.1 ∙ asks.1.1) in
       by_run same.0 table script (subst (λ (r : List Row). IsRunGiven r table script) (sym same.1) asks.2);
@@ -97,13 +97,13 @@ nothing_by words name rows taken by_try by_load by_run by_next = record {
 
 -- the words that ask for a `try` whose arguments were not all given ask for nothing, and so do those for two standard inputs
 pub nothing_by_try : (words : List (List ℕ)) (rows : List Row) → IsTaken words (both (codes "try") rows)
-    → ((source script name : List ℕ) (dims page_rows : ℕ) → IsTryGiven rows source script name dims page_rows
+    → ((source script name : List ℕ) (dims page_rows signed : ℕ) → IsTryGiven rows source script name dims page_rows signed
     → (source ≡ standard_input) × (script ≡ standard_input)) → AsksNothing words
 nothing_by_try words rows taken none =
     nothing_by words (codes "try") rows taken (λ e. none) (λ e. absurd (load≢try (sym e))) (λ e. absurd (run≢try (sym e))) (λ e. absurd (try≢next e))
 
 pub nothing_by_load : (words : List (List ℕ)) (rows : List Row) → IsTaken words (both (codes "load") rows)
-    → ((source table name : List ℕ) (dims page_rows : ℕ) → ¬ (IsLoadGiven rows source table name dims page_rows)) → AsksNothing words
+    → ((source table name : List ℕ) (dims page_rows signed : ℕ) → ¬ (IsLoadGiven rows source table name dims page_rows signed)) → AsksNothing words
 nothing_by_load words rows taken none =
     nothing_by words (codes "load") rows taken (λ e. absurd (load≢try e)) (λ e. none) (λ e. absurd (load≢run e)) (λ e. absurd (load≢next e))
 
@@ -125,8 +125,8 @@ nothing_by_other words name rows taken load run try next =
 -- words by which no command was found
 pub nothing_by_none : (words : List (List ℕ)) (found : Option (List ℕ × List Row)) → None ≡ found → IsTaken words found → AsksNothing words
 nothing_by_none words found is taken = record {
-  no_try = λ source script table dims page_rows asks. let bad = is ∙ (sym taken.1 ∙ asks.1.1) in cc;
-  no_load = λ source table other dims page_rows asks. let bad = is ∙ (sym taken.1 ∙ asks.1.1) in cc;
+  no_try = λ source script table dims page_rows signed asks. let bad = is ∙ (sym taken.1 ∙ asks.1.1) in cc;
+  no_load = λ source table other dims page_rows signed asks. let bad = is ∙ (sym taken.1 ∙ asks.1.1) in cc;
   no_run = λ table script asks. let bad = is ∙ (sym taken.1 ∙ asks.1.1) in cc;
   no_next = λ lo hi z asks. elim asks [
     | inl by_clap ↦ let bad = is ∙ (sym taken.1 ∙ by_clap.1.1) in cc
@@ -138,8 +138,8 @@ nothing_by_none words found is taken = record {
 -- and words that are refused, but for three words after `next`
 pub nothing_by_refusal : (words : List (List ℕ)) → fault_of ubq_app words ≢ [] → ¬ (AsksHelpAlone words) → ((lo hi z : List ℕ) → ¬ (AreNextWords words lo hi z)) → AsksNothing words
 nothing_by_refusal words refused no_help none = record {
-  no_try = λ source script name dims page_rows asks. refused asks.1.0;
-  no_load = λ source table name dims page_rows asks. refused asks.1.0;
+  no_try = λ source script name dims page_rows signed asks. refused asks.1.0;
+  no_load = λ source table name dims page_rows signed asks. refused asks.1.0;
   no_run = λ table script asks. refused asks.1.0;
   no_next = λ lo hi z asks. elim asks [
     | inl by_clap ↦ refused by_clap.1.0
@@ -153,10 +153,10 @@ pub one_text : (o : Option (List ℕ)) (a b : List ℕ) → o ≡ Some a → o �
 one_text o a b first second = ap (λ (t : Option (List ℕ)). unwrap_or t []) (sym first ∙ second)
 
 -- where both files are standard input, they are so however they were given
-pub two_inputs : (rows : List Row) (source script name : List ℕ) (dims page_rows : ℕ) → IsTryGiven rows source script name dims page_rows
+pub two_inputs : (rows : List Row) (source script name : List ℕ) (dims page_rows signed : ℕ) → IsTryGiven rows source script name dims page_rows signed
     → source ≡ standard_input → script ≡ standard_input
-    → (other path table : List ℕ) (d p : ℕ) → IsTryGiven rows other path table d p → (other ≡ standard_input) × (path ≡ standard_input)
-two_inputs rows source script name dims page_rows given first second other path table d p more =
+    → (other path table : List ℕ) (d p m : ℕ) → IsTryGiven rows other path table d p m → (other ≡ standard_input) × (path ≡ standard_input)
+two_inputs rows source script name dims page_rows signed given first second other path table d p m more =
     (one_text _ _ _ more.data_is.path_is given.data_is.path_is ∙ first, one_text _ _ _ more.script_is given.script_is ∙ second)
 
 -- where a kind comes, some kind comes

@@ -11,31 +11,32 @@ use Rattle.ub_words.proofs.GivenFacts.{number_only}
 pub use Rattle.ub_words.proofs.AskFacts.{no_help_taken}
 
 -- what was given for the file DATA is one thing
-one_data : (rows : List Row) (t n u m : List ℕ) (d p e q : ℕ) → IsDataGiven rows t n d p → IsDataGiven rows u m e q
-    → (t ≡ u) × (n ≡ m) × (d ≡ e) × (p ≡ q)
-one_data rows t n u m d p e q a b = (
+one_data : (rows : List Row) (t n u m : List ℕ) (d p s e q v : ℕ) → IsDataGiven rows t n d p s → IsDataGiven rows u m e q v
+    → (t ≡ u) × (n ≡ m) × (d ≡ e) × (p ≡ q) × (s ≡ v)
+one_data rows t n u m d p s e q v a b = (
   one_text _ t u a.path_is b.path_is,
   one_text _ n m a.name_is b.name_is,
   number_only _ _ _ _ _ _ _ _ a.dims_are b.dims_are,
   number_only _ _ _ _ _ _ _ _ a.page_rows_are b.page_rows_are,
+  number_only _ _ _ _ _ _ _ _ a.signed_is b.signed_is,
 )
 
 one_next : (rows : List Row) (l h z m i y : List ℕ) → IsNextGiven rows l h z → IsNextGiven rows m i y → (l ≡ m) × (h ≡ i) × (z ≡ y)
 one_next rows l h z m i y a b = (one_text _ l m a.lo_is b.lo_is, one_text _ h i a.hi_is b.hi_is, one_text _ z y a.z_is b.z_is)
 
-same_try : (words : List (List ℕ)) (t s n u v m : List ℕ) (d p e q : ℕ) → AsksTry words t s n d p → AsksTry words u v m e q
-    → ((t ≡ u) × (n ≡ m) × (d ≡ e) × (p ≡ q)) × (s ≡ v)
-same_try words t s n u v m d p e q a b =
+same_try : (words : List (List ℕ)) (t s n u v m : List ℕ) (d p x e q y : ℕ) → AsksTry words t s n d p x → AsksTry words u v m e q y
+    → ((t ≡ u) × (n ≡ m) × (d ≡ e) × (p ≡ q) × (x ≡ y)) × (s ≡ v)
+same_try words t s n u v m d p x e q y a b =
     let rows = (same_found _ _ a.0 b.0 (sym a.1.1 ∙ b.1.1)).1 in
-    let given = subst (λ (r : List Row). IsTryGiven r t s n d p) rows a.2 in
-    (one_data b.0 t n u m d p e q given.data_is b.2.data_is, one_text _ s v given.script_is b.2.script_is)
+    let given = subst (λ (r : List Row). IsTryGiven r t s n d p x) rows a.2 in
+    (one_data b.0 t n u m d p x e q y given.data_is b.2.data_is, one_text _ s v given.script_is b.2.script_is)
 
-same_load : (words : List (List ℕ)) (t s n u v m : List ℕ) (d p e q : ℕ) → AsksLoad words t s n d p → AsksLoad words u v m e q
-    → ((t ≡ u) × (n ≡ m) × (d ≡ e) × (p ≡ q)) × (s ≡ v)
-same_load words t s n u v m d p e q a b =
+same_load : (words : List (List ℕ)) (t s n u v m : List ℕ) (d p x e q y : ℕ) → AsksLoad words t s n d p x → AsksLoad words u v m e q y
+    → ((t ≡ u) × (n ≡ m) × (d ≡ e) × (p ≡ q) × (x ≡ y)) × (s ≡ v)
+same_load words t s n u v m d p x e q y a b =
     let rows = (same_found _ _ a.0 b.0 (sym a.1.1 ∙ b.1.1)).1 in
-    let given = subst (λ (r : List Row). IsLoadGiven r t s n d p) rows a.2 in
-    (one_data b.0 t n u m d p e q given.data_is b.2.data_is, one_text _ s v given.table_is b.2.table_is)
+    let given = subst (λ (r : List Row). IsLoadGiven r t s n d p x) rows a.2 in
+    (one_data b.0 t n u m d p x e q y given.data_is b.2.data_is, one_text _ s v given.table_is b.2.table_is)
 
 same_run : (words : List (List ℕ)) (t s u v : List ℕ) → AsksRun words t s → AsksRun words u v → (t ≡ u) × (s ≡ v)
 same_run words t s u v a b =
@@ -75,18 +76,18 @@ same_next words l h z m i y (inr a) (inl b) = absurd (a.0 b.1.0)
 same_next words l h z m i y (inr a) (inr b) = same_place l h z m i y a.1.0 b.1.0 words a.1.1 b.1.1
 
 pub one_thing_is_asked : OneThingIsAsked
-one_thing_is_asked words (Try a) (Try b) is same = same_try words _ _ _ _ _ _ _ _ _ _ is same
+one_thing_is_asked words (Try a) (Try b) is same = same_try words _ _ _ _ _ _ _ _ _ _ _ _ is same
 one_thing_is_asked words (Try a) (Load b) is same = absurd (load≢try (one_name words _ _ (same.0, same.1) (is.0, is.1)))
 one_thing_is_asked words (Try a) (Run b) is same = absurd (run≢try (one_name words _ _ (same.0, same.1) (is.0, is.1)))
 one_thing_is_asked words (Try a) (Next b) is same = absurd (not_next words _ _ _ _ (is.0, is.1) try≢next same)
 one_thing_is_asked words (Try a) (Help b) is same = absurd (no_help words _ (is.0, is.1) same.0)
-one_thing_is_asked words (Try a) (Wrong b) is same = absurd (same.0.no_try _ _ _ _ _ is)
-one_thing_is_asked words (Load a) (Load b) is same = same_load words _ _ _ _ _ _ _ _ _ _ is same
+one_thing_is_asked words (Try a) (Wrong b) is same = absurd (same.0.no_try _ _ _ _ _ _ is)
+one_thing_is_asked words (Load a) (Load b) is same = same_load words _ _ _ _ _ _ _ _ _ _ _ _ is same
 one_thing_is_asked words (Load a) (Try b) is same = absurd (load≢try (one_name words _ _ (is.0, is.1) (same.0, same.1)))
 one_thing_is_asked words (Load a) (Run b) is same = absurd (load≢run (one_name words _ _ (is.0, is.1) (same.0, same.1)))
 one_thing_is_asked words (Load a) (Next b) is same = absurd (not_next words _ _ _ _ (is.0, is.1) load≢next same)
 one_thing_is_asked words (Load a) (Help b) is same = absurd (no_help words _ (is.0, is.1) same.0)
-one_thing_is_asked words (Load a) (Wrong b) is same = absurd (same.0.no_load _ _ _ _ _ is)
+one_thing_is_asked words (Load a) (Wrong b) is same = absurd (same.0.no_load _ _ _ _ _ _ is)
 one_thing_is_asked words (Run a) (Run b) is same = same_run words _ _ _ _ is same
 one_thing_is_asked words (Run a) (Try b) is same = absurd (run≢try (one_name words _ _ (is.0, is.1) (same.0, same.1)))
 one_thing_is_asked words (Run a) (Load b) is same = absurd (load≢run (one_name words _ _ (same.0, same.1) (is.0, is.1)))
@@ -105,8 +106,8 @@ one_thing_is_asked words (Help a) (Run b) is same = absurd (no_help words _ (sam
 one_thing_is_asked words (Help a) (Next b) is same = tt
 one_thing_is_asked words (Help a) (Help b) is same = tt
 one_thing_is_asked words (Help a) (Wrong b) is same = tt
-one_thing_is_asked words (Wrong a) (Try b) is same = absurd (is.0.no_try _ _ _ _ _ same)
-one_thing_is_asked words (Wrong a) (Load b) is same = absurd (is.0.no_load _ _ _ _ _ same)
+one_thing_is_asked words (Wrong a) (Try b) is same = absurd (is.0.no_try _ _ _ _ _ _ same)
+one_thing_is_asked words (Wrong a) (Load b) is same = absurd (is.0.no_load _ _ _ _ _ _ same)
 one_thing_is_asked words (Wrong a) (Run b) is same = absurd (is.0.no_run _ _ same)
 one_thing_is_asked words (Wrong a) (Next b) is same = absurd (is.0.no_next _ _ _ same)
 one_thing_is_asked words (Wrong a) (Help b) is same = tt

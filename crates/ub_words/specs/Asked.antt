@@ -10,8 +10,8 @@ AreLines text = (lines : List ℕ) × (text ≡ lines ++ codes "\n")
 
 -- the words ask for this
 abbrev pub IsAskedBy : List (List ℕ) → Asked → Type 0
-IsAskedBy words (Try asked) = AsksTry words asked.source.path.now asked.script.now asked.source.name.now asked.source.dims asked.source.page_rows
-IsAskedBy words (Load asked) = AsksLoad words asked.source.path.now asked.table.now asked.source.name.now asked.source.dims asked.source.page_rows
+IsAskedBy words (Try asked) = AsksTry words asked.source.path.now asked.script.now asked.source.name.now asked.source.dims asked.source.page_rows asked.source.signed
+IsAskedBy words (Load asked) = AsksLoad words asked.source.path.now asked.table.now asked.source.name.now asked.source.dims asked.source.page_rows asked.source.signed
 IsAskedBy words (Run asked) = AsksRun words asked.table.now asked.script.now
 IsAskedBy words (Next asked) = AsksNext words asked.low.now asked.high.now asked.address.now
 IsAskedBy words (Help text) = AsksHelp words × AreLines text.items

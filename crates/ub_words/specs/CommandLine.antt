@@ -27,6 +27,12 @@ page_rows_rule = record (option_rule (codes "page-rows")) {
   parser = Some (parser.Signed (pos 2) (pos 64));
 }
 
+abbrev pub signed_rule : Rule
+signed_rule = record (option_rule (codes "signed")) {
+  defaults = codes "0" ∷ [];
+  parser = Some (parser.Signed (pos 0) (pos 15));
+}
+
 abbrev pub name_rule : Rule
 name_rule = record (option_rule (codes "name")) { defaults = codes "t" ∷ [] }
 
@@ -34,12 +40,12 @@ name_rule = record (option_rule (codes "name")) { defaults = codes "t" ∷ [] }
 abbrev pub next_app : App
 next_app = with_rule (with_rule (with_rule (new_app (codes "next")) (word_rule (codes "LO"))) (word_rule (codes "HI"))) (word_rule (codes "Z"))
 
--- a command with `DATA OTHER --dims D [--page-rows C] [--name T]`
+-- a command with `DATA OTHER --dims D [--signed MASK] [--page-rows C] [--name T]`
 abbrev pub data_app : App → Rule → App
 data_app app other =
-    with_rule (with_rule (with_rule (with_rule (with_rule app (word_rule (codes "DATA"))) other) dims_rule) page_rows_rule) name_rule
+    with_rule (with_rule (with_rule (with_rule (with_rule (with_rule app (word_rule (codes "DATA"))) other) dims_rule) signed_rule) page_rows_rule) name_rule
 
--- `load DATA TABLE --dims D [--page-rows C] [--name T]`
+-- `load DATA TABLE --dims D [--signed MASK] [--page-rows C] [--name T]`
 abbrev pub load_app : App
 load_app = data_app (new_app (codes "load")) (word_rule (codes "TABLE"))
 
@@ -47,7 +53,7 @@ load_app = data_app (new_app (codes "load")) (word_rule (codes "TABLE"))
 abbrev pub run_app : App
 run_app = with_rule (with_rule (new_app (codes "run")) (word_rule (codes "TABLE"))) (word_rule (codes "SCRIPT"))
 
--- `try DATA SCRIPT --dims D [--page-rows C] [--name T]`
+-- `try DATA SCRIPT --dims D [--signed MASK] [--page-rows C] [--name T]`
 abbrev pub try_app : App
 try_app = data_app (new_app (codes "try")) (word_rule (codes "SCRIPT"))
 
@@ -85,21 +91,22 @@ pub record IsNumberGiven (rows : List Row) (id : List ℕ) (least most number : 
   pub at_most : number ≤ most
 
 -- what was given for a command that makes a table of a CSV file: its path, the table's name, how many columns are dimensions,
--- and how many rows a page holds
-pub record IsDataGiven (rows : List Row) (path name : List ℕ) (dims page_rows : ℕ) : Type 0 where
+-- how many rows a page holds, and which dimensions are signed
+pub record IsDataGiven (rows : List Row) (path name : List ℕ) (dims page_rows signed : ℕ) : Type 0 where
   pub path_is : first_of (codes "DATA") rows ≡ Some path
   pub name_is : first_of (codes "name") rows ≡ Some name
   pub dims_are : IsNumberGiven rows (codes "dims") 1 4 dims
   pub page_rows_are : IsNumberGiven rows (codes "page-rows") 2 64 page_rows
+  pub signed_is : IsNumberGiven rows (codes "signed") 0 15 signed
 
 -- what was given for the command `try`
-pub record IsTryGiven (rows : List Row) (source script name : List ℕ) (dims page_rows : ℕ) : Type 0 where
-  pub data_is : IsDataGiven rows source name dims page_rows
+pub record IsTryGiven (rows : List Row) (source script name : List ℕ) (dims page_rows signed : ℕ) : Type 0 where
+  pub data_is : IsDataGiven rows source name dims page_rows signed
   pub script_is : first_of (codes "SCRIPT") rows ≡ Some script
 
 -- what was given for the command `load`
-pub record IsLoadGiven (rows : List Row) (source table name : List ℕ) (dims page_rows : ℕ) : Type 0 where
-  pub data_is : IsDataGiven rows source name dims page_rows
+pub record IsLoadGiven (rows : List Row) (source table name : List ℕ) (dims page_rows signed : ℕ) : Type 0 where
+  pub data_is : IsDataGiven rows source name dims page_rows signed
   pub table_is : first_of (codes "TABLE") rows ≡ Some table
 
 -- what was given for the command `run`
@@ -122,15 +129,15 @@ abbrev pub standard_input : List ℕ
 standard_input = codes "-"
 
 -- the words ask for a run of the script of this file on the table of the CSV text of this file; both are not standard input
-abbrev pub AsksTry : List (List ℕ) → List ℕ → List ℕ → List ℕ → ℕ → ℕ → Type 0
-AsksTry words source script name dims page_rows =
-    (rows : List Row) × IsTaken words (Some (codes "try", rows)) × IsTryGiven rows source script name dims page_rows
+abbrev pub AsksTry : List (List ℕ) → List ℕ → List ℕ → List ℕ → ℕ → ℕ → ℕ → Type 0
+AsksTry words source script name dims page_rows signed =
+    (rows : List Row) × IsTaken words (Some (codes "try", rows)) × IsTryGiven rows source script name dims page_rows signed
     × ¬ ((source ≡ standard_input) × (script ≡ standard_input))
 
 -- the words ask for the CSV text of this file to be loaded into this table file
-abbrev pub AsksLoad : List (List ℕ) → List ℕ → List ℕ → List ℕ → ℕ → ℕ → Type 0
-AsksLoad words source table name dims page_rows =
-    (rows : List Row) × IsTaken words (Some (codes "load", rows)) × IsLoadGiven rows source table name dims page_rows
+abbrev pub AsksLoad : List (List ℕ) → List ℕ → List ℕ → List ℕ → ℕ → ℕ → ℕ → Type 0
+AsksLoad words source table name dims page_rows signed =
+    (rows : List Row) × IsTaken words (Some (codes "load", rows)) × IsLoadGiven rows source table name dims page_rows signed
 
 -- the words ask for a run of the script of this file on this table file
 abbrev pub AsksRun : List (List ℕ) → List ℕ → List ℕ → Type 0
@@ -153,8 +160,8 @@ AsksNext words lo hi z =
 
 -- the words ask for no command, nor for the help or the version
 pub record AsksNothing (words : List (List ℕ)) : Type 0 where
-  pub no_try : (source script name : List ℕ) (dims page_rows : ℕ) → ¬ (AsksTry words source script name dims page_rows)
-  pub no_load : (source table name : List ℕ) (dims page_rows : ℕ) → ¬ (AsksLoad words source table name dims page_rows)
+  pub no_try : (source script name : List ℕ) (dims page_rows signed : ℕ) → ¬ (AsksTry words source script name dims page_rows signed)
+  pub no_load : (source table name : List ℕ) (dims page_rows signed : ℕ) → ¬ (AsksLoad words source table name dims page_rows signed)
   pub no_run : (table script : List ℕ) → ¬ (AsksRun words table script)
   pub no_next : (lo hi z : List ℕ) → ¬ (AsksNext words lo hi z)
   pub no_help : ¬ (AsksHelpAlone words)

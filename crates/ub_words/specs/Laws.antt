@@ -8,7 +8,7 @@ use Rattle.ub_words.specs.declared.words.Asked.TheVariants.{Try, Load, Run, Next
 
 -- these name one CSV file, and make a table of it in one way
 abbrev pub IsSameData : DataWords → DataWords → Type 0
-IsSameData a b = (a.path.now ≡ b.path.now) × (a.name.now ≡ b.name.now) × (a.dims ≡ b.dims) × (a.page_rows ≡ b.page_rows)
+IsSameData a b = (a.path.now ≡ b.path.now) × (a.name.now ≡ b.name.now) × (a.dims ≡ b.dims) × (a.page_rows ≡ b.page_rows) × (a.signed ≡ b.signed)
 
 -- these ask for one thing, but for the text for words that ask for no command; `clap` may refuse some words in two ways,
 -- one of which is the help

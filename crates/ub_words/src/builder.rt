@@ -1,6 +1,6 @@
 ghost use Rattle.std.specs.Prelude.{IfOk, codes};
 ghost use Rattle.clap.specs.Words.{App, Rule, with_rule, with_subcommand};
-ghost use Rattle.ub_words.specs.CommandLine.{IsArgFor, IsCommandFor, data_app, dims_rule, load_app, next_app, option_rule, page_rows_rule, run_app, try_app, ubq_app, word_rule};
+ghost use Rattle.ub_words.specs.CommandLine.{IsArgFor, IsCommandFor, data_app, dims_rule, load_app, next_app, option_rule, page_rows_rule, run_app, signed_rule, try_app, ubq_app, word_rule};
 
 use clap::{Arg, Command, value_parser};
 use std::alloc::{AllocError, Global};
@@ -32,9 +32,14 @@ writes
 DATA has a header, and whole numbers alone: first the dimensions, 0 to 4294967295, then up to 4 measures of 64 bits with
 sign. It is read before TABLE is touched; where DATA is refused TABLE stays as it was.
 
+A dimension that --signed names has the values -2147483648 to 2147483647. MASK is a sum: 1 for the first dimension, 2 for
+the second, 4 for the third, 8 for the fourth. So of day, zone and temp
+  ubq load days.csv days.ub --dims 3 --signed 6
+has zone (2) and temp (4) signed. A negative number in another dimension is refused, as ! OutOfRange row 1 column 1.
+
 Status:
   0  TABLE holds the rows of DATA
-  2  wrong arguments, or DATA and TABLE are one path
+  2  wrong arguments, DATA and TABLE are one path, or MASK names a dimension that isn't there, as ! BadMask
   3  DATA was refused, as ! BadNumber row 2 column 1
   4  a file or the output failed
   5  memory was refused";
@@ -97,12 +102,13 @@ Example:
   ubq try sales.csv script.sql --dims 2
 
 No file is written: INSERT and DELETE change the table in memory alone. Each statement writes what it does with ubq run,
-and so does EXPLAIN; ubq run --help has the grammar of statements, ubq load --help what DATA may hold.
+and so does EXPLAIN; ubq run --help has the grammar of statements, ubq load --help what DATA may hold, and which MASK
+makes which dimensions signed.
 
 Status:
   0  all statements were answered
   1  a statement was refused, and the others were run
-  2  wrong arguments, or DATA and SCRIPT are both standard input
+  2  wrong arguments, DATA and SCRIPT are both standard input, or MASK names a dimension that isn't there, as ! BadMask
   3  DATA was refused, as ! BadNumber row 2 column 1; or the table has no room for another row, as ! Full
   4  a file or the output failed
   5  memory was refused";
@@ -115,6 +121,7 @@ writes
   prev 15
 
 The first is the least address of the box from Z on, the second the greatest one up to Z; none says that there is none.
+LO and HI are of coordinates, 0 to 4294967295: a value v of a signed dimension is the coordinate v + 2147483648.
 
 Status:
   0  both were found, or none is there
@@ -167,6 +174,17 @@ fn dims_arg<'a>(alloc: Global) -> Arg<'a>
         .value_parser(value_parser!(u32).range(1..=4))
 }
 
+// The option that says which dimensions are signed.
+fn signed_arg<'a>(alloc: Global) -> Arg<'a>
+    ensures { IsArgFor signed_rule result }
+{
+    let help = "\
+Which dimensions are signed: 1 for the first, 2 for the second, 4, 8, added up; their values are -2147483648 to 2147483647";
+    option_arg(alloc, "signed", "MASK", help)
+        .default_value("0")
+        .value_parser(value_parser!(u32).range(0..=15))
+}
+
 // The option that says how many rows a page holds.
 fn page_rows_arg<'a>(alloc: Global) -> Arg<'a>
     ensures { IsArgFor page_rows_rule result }
@@ -188,6 +206,7 @@ fn with_data<'a>(alloc: Global, command: Command<'a>, other: Arg<'a>) -> Making<
     let command = with_arg(Ok(command), word_arg(alloc, "DATA", data));
     let command = with_arg(command, other);
     let command = with_arg(command, dims_arg(alloc));
+    let command = with_arg(command, signed_arg(alloc));
     let command = with_arg(command, page_rows_arg(alloc));
     with_arg(
         command,

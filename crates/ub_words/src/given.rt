@@ -15,6 +15,8 @@ pub struct DataWords<'a> {
     pub dims: u32,
     /// How many rows a page holds at most, 2 to 64.
     pub page_rows: u32,
+    /// Which of the dimensions are signed, bit i for dimension i: 0 to 15.
+    pub signed: u32,
 }
 
 /// What a command line says that asks for a run of a script on the table of a CSV file.
@@ -79,26 +81,27 @@ fn number_given(matches: &ArgMatches<'_>, id: &str, least: u32, most: u32) -> Op
 // What was given for the file DATA, and for the options that go with it.
 fn data_words<'a>(matches: &ArgMatches<'a>) -> Option<DataWords<'a>>
     ensures { MatchOption result
-        ((path name : List ℕ) (dims page_rows : ℕ)
-        → ¬ (IsDataGiven (rows_of (found_of matches.now)) path name dims page_rows))
+        ((path name : List ℕ) (dims page_rows signed : ℕ)
+        → ¬ (IsDataGiven (rows_of (found_of matches.now)) path name dims page_rows signed))
         (λ words. IsDataGiven (rows_of (found_of matches.now))
-        words.path.now words.name.now words.dims words.page_rows) }
+        words.path.now words.name.now words.dims words.page_rows words.signed) }
 {
     Some(DataWords {
         path: text_given(matches, "DATA")?,
         name: text_given(matches, "name")?,
         dims: number_given(matches, "dims", 1, 4)?,
         page_rows: number_given(matches, "page-rows", 2, 64)?,
+        signed: number_given(matches, "signed", 0, 15)?,
     })
 }
 
 // What was given for the command `try`.
 pub(crate) fn try_words<'a>(matches: &ArgMatches<'a>) -> Option<TryWords<'a>>
     ensures { MatchOption result
-        ((source script name : List ℕ) (dims page_rows : ℕ)
-        → ¬ (IsTryGiven (rows_of (found_of matches.now)) source script name dims page_rows))
+        ((source script name : List ℕ) (dims page_rows signed : ℕ)
+        → ¬ (IsTryGiven (rows_of (found_of matches.now)) source script name dims page_rows signed))
         (λ words. IsTryGiven (rows_of (found_of matches.now)) words.source.path.now words.script.now
-        words.source.name.now words.source.dims words.source.page_rows) }
+        words.source.name.now words.source.dims words.source.page_rows words.source.signed) }
 {
     Some(TryWords {
         source: data_words(matches)?,
@@ -109,10 +112,10 @@ pub(crate) fn try_words<'a>(matches: &ArgMatches<'a>) -> Option<TryWords<'a>>
 // What was given for the command `load`.
 pub(crate) fn load_words<'a>(matches: &ArgMatches<'a>) -> Option<LoadWords<'a>>
     ensures { MatchOption result
-        ((source table name : List ℕ) (dims page_rows : ℕ)
-        → ¬ (IsLoadGiven (rows_of (found_of matches.now)) source table name dims page_rows))
+        ((source table name : List ℕ) (dims page_rows signed : ℕ)
+        → ¬ (IsLoadGiven (rows_of (found_of matches.now)) source table name dims page_rows signed))
         (λ words. IsLoadGiven (rows_of (found_of matches.now)) words.source.path.now words.table.now
-        words.source.name.now words.source.dims words.source.page_rows) }
+        words.source.name.now words.source.dims words.source.page_rows words.source.signed) }
 {
     Some(LoadWords {
         source: data_words(matches)?,

@@ -6,4 +6,4 @@ pub returns-in-None : goal.returns-in-None
 returns-in-None c =
     λ words taken. c.no_command.ensures words
     (nothing_by_try words (rows_of (found_of c.args.found.now)) taken
-    (λ source script name dims page_rows given. absurd (c.in-None.ensures source script name dims page_rows given)))
+    (λ source script name dims page_rows signed given. absurd (c.in-None.ensures source script name dims page_rows signed given)))
