@@ -9,7 +9,7 @@ use Rattle.ub_boxes.specs.Cuts.{above_least, cut_of, put, put_some, put_cuts, cu
 use Rattle.ub_boxes.specs.inner.Sides.{AreCuts}
 use Rattle.ub_query.specs.Shape.{Shape}
 use Rattle.ub_table.proofs.Laws.{coordinates_are_values, no_coordinate}
-use Rattle.ub_table.specs.Value.{coordinate, greatest}
+use Rattle.ub_table.specs.Value.{axes_of, coordinate, greatest}
 use Rattle.ub_table.specs.declared.schema.Schema.{Schema}
 
 pub put_cuts_append : (schema : Schema) (dim : ℕ) (xs ys : List ℤ) (ms : List ℕ)
@@ -110,7 +110,7 @@ above_is (Some m) n e = elim (cases_Bool (nat_lt 0 m)) [
 cut_of-fits : (schema : Schema) (dim : ℕ) (v : ℤ) (n : ℕ) → cut_of schema dim v ≡ Some n → (0 < n) × (n ≤ greatest)
 cut_of-fits schema dim v n e =
     let above = above_is (coordinate schema dim v) n e in
-    (above.0, ((coordinates_are_values schema.dims dim n v).0 above.1).0)
+    (above.0, ((coordinates_are_values (axes_of schema) dim n v).0 above.1).0)
 
 -- the cut after a value, where the value after it is the greatest that 128 bits with sign hold or less
 pub cut_after : (schema : Schema) (dim : ℕ) (v w : ℤ) → SFits w128 v → w ≡ saturate_signed w128 (v +ℤ pos 1) → cut_of schema dim w ≡ cut_of schema dim (v +ℤ pos 1)
@@ -118,7 +118,7 @@ cut_after schema dim (pos n) w fits is = elim (cases_lt (n + 1) (2 ^ 127)) [
   | inl lt ↦ ap (cut_of schema dim) (is ∙ ap pos (omega arith))
   | inr ge ↦
       let most : w ≡ pos 170141183460469231731687303715884105727 = is ∙ ap pos (omega arith) in
-      ap above_least (no_coordinate schema.dims dim w (omega (arith, ints, most)) ∙ sym (no_coordinate schema.dims dim (pos (n + 1)) (omega (arith, ints, ge))))
+      ap above_least (no_coordinate (axes_of schema) dim w (omega (arith, ints, most)) ∙ sym (no_coordinate (axes_of schema) dim (pos (n + 1)) (omega (arith, ints, ge))))
 ]
 cut_after schema dim (negsuc zero) w fits is = ap (cut_of schema dim) (is ∙ refl)
 cut_after schema dim (negsuc (suc n)) w fits is =

@@ -11,14 +11,14 @@ use Rattle.ub_query.specs.Shape.{Shape, both, either, neither, compares, between
 use Rattle.ub_query.specs.Truth.{truth, holds}
 use Rattle.ub_query.specs.declared.condition.Operator.{Operator}
 use Rattle.ub_query.specs.declared.condition.Operator.TheVariants.{Equal, NotEqual, Less, AtMost, Greater, AtLeast}
-use Rattle.ub_table.specs.Value.{as_coordinate, greatest, shift, value_at}
+use Rattle.ub_table.specs.Value.{as_coordinate, axes_of, greatest, shift, value_at}
 use Rattle.ub_table.specs.declared.schema.Schema.{Schema}
 
 -- ---- a row at a point
 
 -- the values of the dimensions are those of the point's coordinates
 abbrev pub IsAt : Schema → (ℕ → ℤ) → List ℕ → Type 0
-IsAt schema value point = (column : ℕ) → column < schema.dims → value column ≡ value_at schema.dims column (slice_index point column)
+IsAt schema value point = (column : ℕ) → column < schema.dims → value column ≡ value_at (axes_of schema) column (slice_index point column)
 
 -- what is true can be true, and what is false can be false
 abbrev Allows : Truths → Bool → Type 0
@@ -43,7 +43,7 @@ allows-neither s false h = ((λ e. h.1 refl), (λ e. absurd (search (rules, e)))
 allows-compared : (schema : Schema) (value : ℕ → ℤ) (point : List ℕ) (column : ℕ) (f : ℤ → Bool) → IsAt schema value point
     → Allows (known_as (option_map f (known_value schema point column))) (f (value column))
 allows-compared schema value point column f at = elim (cases_Bool (nat_lt column schema.dims)) [
-  | inl t ↦ let lt : column < schema.dims = search (rules, t) in rw (t, at column lt) (allows-known (f (value_at schema.dims column (slice_index point column))))
+  | inl t ↦ let lt : column < schema.dims = search (rules, t) in rw (t, at column lt) (allows-known (f (value_at (axes_of schema) column (slice_index point column))))
   | inr n ↦ rw n ((λ e. refl), (λ e. refl))
 ]
 
@@ -145,24 +145,24 @@ at_cut (ℤ.pos m) n x y e h = elim (cases_Bool (nat_le m greatest)) [
 
 -- a value that is no cut has the values of all coordinates on one side
 on_a_side : (schema : Schema) (dim : ℕ) (v : ℤ) (x y : ℕ) → x ≤ greatest → y ≤ greatest → cut_of schema dim v ≡ None
-    → int_le v (value_at schema.dims dim x) ≡ int_le v (value_at schema.dims dim y)
+    → int_le v (value_at (axes_of schema) dim x) ≡ int_le v (value_at (axes_of schema) dim y)
 on_a_side schema dim v x y hx hy e =
-    let s = shift schema.dims dim in
+    let s = shift (axes_of schema) dim in
     moved v s x ∙ one_side (v +ℤ s) x y hx hy e ∙ sym (moved v s y)
 
 at_a_cut : (schema : Schema) (dim : ℕ) (v : ℤ) (n x y : ℕ) → cut_of schema dim v ≡ Some n → nat_le n x ≡ nat_le n y
-    → int_le v (value_at schema.dims dim x) ≡ int_le v (value_at schema.dims dim y)
+    → int_le v (value_at (axes_of schema) dim x) ≡ int_le v (value_at (axes_of schema) dim y)
 at_a_cut schema dim v n x y e h =
-    let s = shift schema.dims dim in
+    let s = shift (axes_of schema) dim in
     moved v s x ∙ at_cut (v +ℤ s) n x y e h ∙ sym (moved v s y)
 
 agree-put_some : (schema : Schema) (dim : ℕ) (v : ℤ) (x y : ℕ) (o : Option ℕ) (ms : List ℕ) → x ≤ greatest → y ≤ greatest → cut_of schema dim v ≡ o → Agree x y (put_some o ms)
-    → (int_le v (value_at schema.dims dim x) ≡ int_le v (value_at schema.dims dim y)) × Agree x y ms
+    → (int_le v (value_at (axes_of schema) dim x) ≡ int_le v (value_at (axes_of schema) dim y)) × Agree x y ms
 agree-put_some schema dim v x y None ms hx hy e h = (on_a_side schema dim v x y hx hy e, h)
 agree-put_some schema dim v x y (Some n) ms hx hy e h = let k = agree-put x y n ms h in (at_a_cut schema dim v n x y e k.0, k.1)
 
 agree-put_cuts : (schema : Schema) (dim : ℕ) (vs : List ℤ) (x y : ℕ) (ms : List ℕ) → x ≤ greatest → y ≤ greatest → Agree x y (put_cuts schema dim vs ms)
-    → AgreeOn (value_at schema.dims dim x) (value_at schema.dims dim y) vs × Agree x y ms
+    → AgreeOn (value_at (axes_of schema) dim x) (value_at (axes_of schema) dim y) vs × Agree x y ms
 agree-put_cuts schema dim [] x y ms hx hy h = (tt, h)
 agree-put_cuts schema dim (v ∷ vs) x y ms hx hy h =
     let rest = agree-put_cuts schema dim vs x y (put_some (cut_of schema dim v) ms) hx hy h in
@@ -212,9 +212,9 @@ same-holds AtLeast v x y h = h.0
 -- two points agree on the values at which the comparisons on each dimension turn
 abbrev pub AgreeOnAll : Schema → List ℕ → List ℕ → Shape → Type 0
 AgreeOnAll schema p q c = (dim : ℕ) → dim < schema.dims
-    → AgreeOn (value_at schema.dims dim (slice_index p dim)) (value_at schema.dims dim (slice_index q dim)) (turns dim c)
+    → AgreeOn (value_at (axes_of schema) dim (slice_index p dim)) (value_at (axes_of schema) dim (slice_index q dim)) (turns dim c)
 
-same-compared : (schema : Schema) (p q : List ℕ) (column : ℕ) (f : ℤ → Bool) → (column < schema.dims → f (value_at schema.dims column (slice_index p column)) ≡ f (value_at schema.dims column (slice_index q column)))
+same-compared : (schema : Schema) (p q : List ℕ) (column : ℕ) (f : ℤ → Bool) → (column < schema.dims → f (value_at (axes_of schema) column (slice_index p column)) ≡ f (value_at (axes_of schema) column (slice_index q column)))
     → known_as (option_map f (known_value schema p column)) ≡ known_as (option_map f (known_value schema q column))
 same-compared schema p q column f h = elim (cases_Bool (nat_lt column schema.dims)) [
   | inl t ↦ rw t (ap (λ (b : Bool). known_as (Some b)) (h (search (rules, t))))

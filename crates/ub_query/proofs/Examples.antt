@@ -1,5 +1,5 @@
--- The worked examples, by computing: their dimensions have no shift.
-use Rattle.std.proofs.Common.{◌≡◌, ◌≢◌, ◌<◌, ℕ, ℤ, pos, ◌-ℤ◌, ◌<ℤ◌, int_le, not, List, [], ◌∷◌, map, take, slice_index, slice_index_or, inl, inr, Contains, Some, None, refl, sym, ap, subst, eqb, true, false, lit<, arith}
+-- The worked examples, by computing: the dimensions have no shift, but for the signed one.
+use Rattle.std.proofs.Common.{◌≡◌, ◌≢◌, ◌<◌, ℕ, ℤ, pos, ◌-ℤ◌, ◌<ℤ◌, int_le, not, List, [], ◌∷◌, map, take, slice_index, slice_index_or, inl, inr, Contains, Some, None, refl, sym, ap, subst, eqb, true, false, lit<, lit≤, IsPermutation, arith}
 use Rattle.std.proofs.lemmas.Bool.{eqb-false}
 use Rattle.std.proofs.lemmas.Int.{ints}
 use Rattle.std.proofs.lemmas.List.Sorted.{IsPermutation-refl}
@@ -7,24 +7,30 @@ use Rattle.std.specs.List.{filter}
 use Rattle.ub_query.proofs.Arranging.{adjacent-from_Next}
 use Rattle.ub_query.proofs.GroupFacts.{contains_from_map, grouping_from}
 use Rattle.ub_query.specs.Cells.{Group, greatest_of, least_of}
-use Rattle.ub_query.specs.Examples.{row, ascending, descending, everything, measures, five, two, four, RowsByY, TwoRowsByX, NoRowsCounted, SumsByX, SumOfGreatest, NoneBetween, OneNotGreater, NothingCounted, CountsByMeasure, TitlesOfItems}
+use Rattle.ub_query.specs.Examples.{row, ascending, descending, everything, measures, five, two, four, both_sides, RowsByY, TwoRowsByX, NoRowsCounted, SumsByX, SumOfGreatest, NoneBetween, OneNotGreater, NothingCounted, CountsByMeasure, NegativesByX, TitlesOfItems}
 use Rattle.ub_query.specs.Groups.{IsGrouping, are_same, rows_with}
 use Rattle.ub_query.specs.Order.{IsRowBefore, IsGroupBefore}
 use Rattle.ub_query.specs.Posed.{IsGroupQuery, IsAggregate}
 use Rattle.ub_query.specs.Shape.{Asked, neither, compares, between}
 use Rattle.ub_query.specs.declared.cell.Cell.{Cell}
 use Rattle.ub_query.specs.declared.cell.Cell.TheVariants.{Number}
-use Rattle.ub_query.specs.declared.condition.Operator.TheVariants.{Greater}
+use Rattle.ub_query.specs.declared.condition.Operator.TheVariants.{Less, Greater}
 use Rattle.ub_query.specs.declared.query.Aggregate.TheVariants.{Sum}
 use Rattle.ub_query.specs.declared.query.Item.{Item}
 use Rattle.ub_query.specs.declared.query.Item.TheVariants.{Column, Count, Aggregate}
 use Rattle.ub_table.proofs.Laws.{shift_is, values_ascend}
+use Rattle.ub_table.proofs.ValueFacts.{values_of_a_dimension}
 use Rattle.ub_table.specs.Value.{shift, value_at}
+use Rattle.ub_table.specs.declared.axes.Axes.{Axes}
 use Rattle.ub_table.specs.declared.row.Row.{Row}
 
+-- so many dimensions, none of them signed
+abbrev unsigned : ℕ → Axes
+unsigned dims = record { dims = dims; signed = 0 }
+
 -- what holds with no shift of the two dimensions of the five rows
-unshifted : (P : ℤ → ℤ → Type 0) → P (pos 0) (pos 0) → P (shift 2 0) (shift 2 1)
-unshifted P h = subst (λ (s : ℤ). P s (shift 2 1)) (sym (shift_is 2 0)) (subst (λ (t : ℤ). P (pos 0) t) (sym (shift_is 2 1)) h)
+unshifted : (P : ℤ → ℤ → Type 0) → P (pos 0) (pos 0) → P (shift (unsigned 2) 0) (shift (unsigned 2) 1)
+unshifted P h = subst (λ (s : ℤ). P s (shift (unsigned 2) 1)) (sym (shift_is 2 0)) (subst (λ (t : ℤ). P (pos 0) t) (sym (shift_is 2 1)) h)
 
 -- all cells of rows whose dimensions have these shifts
 cells_with : ℤ → ℤ → List Row → List (List Cell)
@@ -33,8 +39,8 @@ cells_with s t rows = map
     rows
 
 -- the values of two coordinates ascend as they do
-up : (dim a b : ℕ) → a < b → value_at 2 dim a <ℤ value_at 2 dim b
-up dim a b lt = (values_ascend 2 dim a b).0 lt
+up : (dim a b : ℕ) → a < b → value_at (unsigned 2) dim a <ℤ value_at (unsigned 2) dim b
+up dim a b lt = (values_ascend (unsigned 2) dim a b).0 lt
 
 -- a query of columns that doesn't group is no group query
 row_query : (columns : List ℕ) (q : Asked) → q.group ≡ [] → q.items ≡ map Column columns → ¬ IsGroupQuery q
@@ -117,8 +123,8 @@ groups_by_x =
     ∷ []
 
 -- the value of x
-x_is : (n : ℕ) → value_at 2 0 n ∷ [] ≡ pos n ∷ []
-x_is n = let none = shift_is 2 0 in let is : value_at 2 0 n ≡ pos n = omega (arith, ints, none) in ap (λ (v : ℤ). v ∷ []) is
+x_is : (n : ℕ) → value_at (unsigned 2) 0 n ∷ [] ≡ pos n ∷ []
+x_is n = let none = shift_is 2 0 in let is : value_at (unsigned 2) 0 n ≡ pos n = omega (arith, ints, none) in ap (λ (v : ℤ). v ∷ []) is
 
 -- these are the rows with a value of x
 all_with : (n : ℕ) (rows : List Row) → rows ≡ filter (λ (r : Row). are_same ((pos (slice_index r.dims 0) -ℤ pos 0) ∷ []) (pos n ∷ [])) five.rows
@@ -248,6 +254,47 @@ counts_by_measure = inl (
           (inl (record { lt = tt }), (inr (refl, inl (record { lt = tt })), tt));
     };
     cells = refl;
+  },
+)
+
+-- the one dimension, which is signed
+abbrev one_signed : Axes
+one_signed = record { dims = 1; signed = 1 }
+
+-- its values stand below its coordinates by half of all of them, as its least and its greatest value tell
+half_below : shift one_signed 0 ≡ pos 2147483648
+half_below =
+    let least = ((values_of_a_dimension one_signed 0 0 (lit≤ tt)).1 refl).0 in
+    let most = ((values_of_a_dimension one_signed 0 4294967295 (lit≤ tt)).1 refl).1 in
+    omega (arith, ints, least, most)
+
+-- the rows with a value below 0, where the dimension has this shift
+below_zero : ℤ → List Row
+below_zero s = filter (λ (r : Row). not (int_le (pos 0) (pos (slice_index r.dims 0) -ℤ s))) both_sides.rows
+
+negatives : List Row
+negatives = row 3 0 0 (pos 30) ∷ row 1 2147483647 0 (pos 10) ∷ []
+
+-- their cells
+cells_below : ℤ → List (List Cell)
+cells_below s = map (λ (r : Row). Number (pos (slice_index r.dims 0) -ℤ s) ∷ Number (slice_index_or r.measures 0 (pos 0)) ∷ []) negatives
+
+two_exchanged : IsPermutation (below_zero (pos 2147483648)) negatives
+unfolding below_zero negatives
+two_exchanged = record { moves = (0, 1) ∷ []; below = (lit< tt, lit< tt, tt); is = refl }
+
+pub negatives_by_x : NegativesByX
+unfolding below_zero negatives cells_below
+negatives_by_x = inr (
+  row_query (0 ∷ 1 ∷ []) (record { items = Column 0 ∷ Column 1 ∷ []; filter = Some (compares 0 Less (pos 0)); group = []; order = ascending 0 ∷ []; limit = None }) refl refl,
+  record {
+    arranged = negatives;
+    ordered = record {
+      same = subst (λ (s : ℤ). IsPermutation (below_zero s) negatives) (sym half_below) two_exchanged;
+      ordered = adjacent-from_Next (IsRowBefore both_sides.schema (ascending 0 ∷ [])) negatives
+          (inl ((values_ascend one_signed 0 0 2147483647).0 (lit< tt)), tt);
+    };
+    cells = subst (λ (s : ℤ). cells_below (pos 2147483648) ≡ cells_below s) (sym half_below) refl;
   },
 )
 

@@ -1,17 +1,17 @@
--- Worked examples: three small tables, some queries, and what they mean, worked out by hand. Each is what the function of its name in
+-- Worked examples: four small tables, some queries, and what they mean, worked out by hand. Each is what the function of its name in
 -- `example` ensures.
-use Rattle.std.specs.Prelude.{◌≡◌, ℕ, zero, suc, ℤ, pos, true, false, List, [], ◌∷◌, map, Option, Some, None, codes}
+use Rattle.std.specs.Prelude.{◌≡◌, ℕ, zero, suc, ℤ, pos, negsuc, true, false, List, [], ◌∷◌, map, Option, Some, None, codes}
 use Rattle.std.proofs.Common.{◌≢◌, eqb, refl, arith}
 use Rattle.std.proofs.lemmas.Bool.{eqb-false}
 use Rattle.ub_query.specs.Meaning.{IsMeaning, titles}
 use Rattle.ub_query.specs.Shape.{Asked, Shape, neither, compares, between}
 use Rattle.ub_query.specs.declared.cell.Cell.{Cell}
 use Rattle.ub_query.specs.declared.cell.Cell.TheVariants.{Number, Null}
-use Rattle.ub_query.specs.declared.condition.Operator.TheVariants.{Greater}
+use Rattle.ub_query.specs.declared.condition.Operator.TheVariants.{Less, Greater}
 use Rattle.ub_query.specs.declared.query.Aggregate.TheVariants.{Sum, Min, Max}
 use Rattle.ub_query.specs.declared.query.Item.TheVariants.{Column, Count, Aggregate}
 use Rattle.ub_query.specs.declared.query.SortKey.{SortKey}
-use Rattle.ub_table.specs.Schema.{AreCounts, AreDistinct}
+use Rattle.ub_table.specs.Schema.{AreCounts, AreDistinct, IsMask}
 use Rattle.ub_table.specs.Table.{Table}
 use Rattle.ub_table.specs.declared.row.Row.{Row}
 
@@ -24,6 +24,15 @@ counts_three = record { some_dims = omega arith; few_dims = omega arith; covers_
 
 pub counts_two : AreCounts 2 1 2
 counts_two = record { some_dims = omega arith; few_dims = omega arith; covers_dims = omega arith; few_measures = omega arith; some_rows = omega arith; few_rows = omega arith }
+
+pub mask_two : IsMask 2 0
+mask_two = omega arith
+
+pub mask_one : IsMask 1 0
+mask_one = omega arith
+
+pub mask_signed : IsMask 1 1
+mask_signed = omega arith
 
 letters_differ : (a b : ℕ) → eqb a b ≡ false → Some (a ∷ []) ≢ Some (b ∷ [])
 letters_differ a b differ same = let letters : a ≡ b = cc in eqb-false a b differ letters
@@ -46,22 +55,29 @@ distinct_two i (suc (suc j)) first within = absurd (omega arith)
 -- five rows, of the dimensions x and y and the measure m
 abbrev pub five : Table
 five = record {
-  schema = record { name = codes "t"; columns = codes "x" ∷ codes "y" ∷ codes "m" ∷ []; dims = 2; page_rows = 2; counts = counts_three; distinct = distinct_three };
+  schema = record { name = codes "t"; columns = codes "x" ∷ codes "y" ∷ codes "m" ∷ []; dims = 2; page_rows = 2; signed = 0; counts = counts_three; mask = mask_two; distinct = distinct_three };
   rows = row 1 1 1 (pos 10) ∷ row 2 2 3 (pos 20) ∷ row 3 3 0 (pos 5) ∷ row 4 0 2 (pos 7) ∷ row 5 2 3 (pos 1) ∷ [];
 }
 
 -- two rows of the greatest value that a measure has
 abbrev pub two : Table
 two = record {
-  schema = record { name = codes "t"; columns = codes "x" ∷ codes "m" ∷ []; dims = 1; page_rows = 2; counts = counts_two; distinct = distinct_two };
+  schema = record { name = codes "t"; columns = codes "x" ∷ codes "m" ∷ []; dims = 1; page_rows = 2; signed = 0; counts = counts_two; mask = mask_one; distinct = distinct_two };
   rows = row 1 0 0 (pos 9223372036854775807) ∷ row 2 5 0 (pos 9223372036854775807) ∷ [];
 }
 
 -- four rows, of which two have one value of the measure m
 abbrev pub four : Table
 four = record {
-  schema = record { name = codes "t"; columns = codes "x" ∷ codes "m" ∷ []; dims = 1; page_rows = 2; counts = counts_two; distinct = distinct_two };
+  schema = record { name = codes "t"; columns = codes "x" ∷ codes "m" ∷ []; dims = 1; page_rows = 2; signed = 0; counts = counts_two; mask = mask_one; distinct = distinct_two };
   rows = row 1 0 0 (pos 5) ∷ row 2 1 0 (pos 3) ∷ row 3 2 0 (pos 5) ∷ row 4 3 0 (pos 4) ∷ [];
+}
+
+-- four rows on both sides of 0 in the signed dimension x: its values are -1, 0, -2147483648 and 2147483647
+abbrev pub both_sides : Table
+both_sides = record {
+  schema = record { name = codes "t"; columns = codes "x" ∷ codes "m" ∷ []; dims = 1; page_rows = 2; signed = 1; counts = counts_two; mask = mask_signed; distinct = distinct_two };
+  rows = row 1 2147483647 0 (pos 10) ∷ row 2 2147483648 0 (pos 20) ∷ row 3 0 0 (pos 30) ∷ row 4 4294967295 0 (pos 40) ∷ [];
 }
 
 abbrev pub ascending : ℕ → SortKey
@@ -136,6 +152,12 @@ CountsByMeasure = IsMeaning four
       limit = None;
     })
     (numbers (5 ∷ 2 ∷ []) ∷ numbers (3 ∷ 1 ∷ []) ∷ numbers (4 ∷ 1 ∷ []) ∷ [])
+
+-- SELECT x, m FROM t WHERE x < 0 ORDER BY x
+abbrev pub NegativesByX : Type 0
+NegativesByX = IsMeaning both_sides
+    (record { items = Column 0 ∷ Column 1 ∷ []; filter = Some (compares 0 Less (pos 0)); group = []; order = ascending 0 ∷ []; limit = None })
+    ((Number (negsuc 2147483647) ∷ Number (pos 30) ∷ []) ∷ (Number (negsuc 0) ∷ Number (pos 10) ∷ []) ∷ [])
 
 -- the titles of SELECT x, COUNT(*), SUM(m), MIN(y), MAX(y)
 abbrev pub TitlesOfItems : Type 0

@@ -1,4 +1,4 @@
-ghost use Rattle.ub_query.specs.Examples.{RowsByY, TwoRowsByX, NoRowsCounted, SumsByX, SumOfGreatest, NoneBetween, OneNotGreater, NothingCounted, CountsByMeasure, TitlesOfItems};
+ghost use Rattle.ub_query.specs.Examples.{RowsByY, TwoRowsByX, NoRowsCounted, SumsByX, SumOfGreatest, NoneBetween, OneNotGreater, NothingCounted, CountsByMeasure, NegativesByX, TitlesOfItems};
 
 // Each function here does nothing, and its clause is a worked example of the definitions in specs/.
 
@@ -45,6 +45,11 @@ pub fn nothing_counted()
 /// `SELECT m, COUNT(*) FROM t GROUP BY m, m ORDER BY COUNT(*) DESC`
 pub fn counts_by_measure()
     ensures { CountsByMeasure }
+{}
+
+/// `SELECT x, m FROM t WHERE x < 0 ORDER BY x`, over a signed dimension
+pub fn negatives_by_x()
+    ensures { NegativesByX }
 {}
 
 /// The titles of a column, COUNT(*), SUM, MIN and MAX
