@@ -27,7 +27,7 @@ from program import program as program_of
 PAGE = 4096
 SECONDS = 10
 
-# ---- The tables: their name, dimensions, rows on a page, and data
+# ---- The tables: their name, dimensions, rows on a page, mask of signed dimensions, and data
 
 
 def tables():
@@ -37,12 +37,14 @@ def tables():
     cube = [(rng.randrange(64), rng.randrange(64), rng.randrange(2**32), rng.randrange(-99, 99)) for _ in range(500)]
     wide = [tuple(rng.randrange(16) for _ in range(4)) + tuple(rng.randrange(-(2**63), 2**63) for _ in range(4)) for _ in range(60)]
     five = [(1, 1, 10), (2, 3, 20), (3, 0, 5), (0, 2, 7), (2, 3, 1)]
-    yield "five", 2, 2, "x,y,m", five
-    yield "none", 2, 2, "x,y,m", []
-    yield "point", 1, 2, "x,m", point
-    yield "line", 1, 2, "x", line
-    yield "cube", 3, 8, "x,y,z,m", cube
-    yield "wide", 4, 64, "a,b,c,d,k,l,m,n", wide
+    plane = [(rng.randrange(-32, 32), rng.randrange(64), rng.randrange(-99, 99)) for _ in range(300)]
+    yield "five", 2, 2, 0, "x,y,m", five
+    yield "none", 2, 2, 0, "x,y,m", []
+    yield "point", 1, 2, 0, "x,m", point
+    yield "line", 1, 2, 0, "x", line
+    yield "cube", 3, 8, 0, "x,y,z,m", cube
+    yield "wide", 4, 64, 0, "a,b,c,d,k,l,m,n", wide
+    yield "plane", 2, 8, 1, "x,y,m", plane
 
 
 def data_of(header, rows):
@@ -51,7 +53,7 @@ def data_of(header, rows):
 
 # ---- Scripts: statements on the columns of a table
 
-EDGES = [0, 1, 2, 3, 7, 63, 399, 4294967295, 4294967296, 18446744073709551615, 18446744073709551616]
+EDGES = [0, 1, 2, 3, 7, 63, 399, 2147483647, 2147483648, 4294967295, 4294967296, 18446744073709551615, 18446744073709551616]
 
 
 def literal(rng):
@@ -191,7 +193,8 @@ ROW = re.compile(rb"(?:-?[0-9]+|NULL)(?:,(?:-?[0-9]+|NULL))*\Z")
 COUNTS = re.compile(rb"-- rows ([0-9]+), pages [0-9]+\Z")
 REFUSED = re.compile(rb"! (?:BadByte|Syntax|NumberTooLarge|TooDeep|TooMany|UnknownTable|UnknownColumn|NotGrouped|NotSelected|ValueCount|ValueRange) at [0-9]+\Z")
 PLAN = re.compile(rb"plan (?:empty|scan|sweep " + NAME + rb" (?:asc|desc))\Z")
-BOX = re.compile(rb"box " + NAME + rb" [0-9]+\.\.[0-9]+(?:, " + NAME + rb" [0-9]+\.\.[0-9]+){0,3}\Z")
+SIDE = NAME + rb" -?[0-9]+\.\.-?[0-9]+"
+BOX = re.compile(rb"box " + SIDE + rb"(?:, " + SIDE + rb"){0,3}\Z")
 OF_A_PAGE = rb"WrongKind|OldFormat|Unclean|BadCount|BadName|BadRow|BadOrder|OutOfRegion|BadPadding"
 CHANGED = re.compile(rb"-- (?:inserted|deleted) [0-9]+\Z")
 FAULT = re.compile(rb"! (?:NoPage|BadSize|Full|(?:" + OF_A_PAGE + rb") page [0-9]+)\Z")
@@ -254,10 +257,10 @@ def judged(text):
 
 
 class Table:
-    def __init__(self, program, work, name, dims, page_rows, header, rows):
+    def __init__(self, program, work, name, dims, page_rows, signed, header, rows):
         self.columns = header.split(",")
         self.data = os.path.join(work, name + ".csv")
-        self.words = ["--dims", str(dims), "--page-rows", str(page_rows)]
+        self.words = ["--dims", str(dims), "--page-rows", str(page_rows), "--signed", str(signed)]
         with open(self.data, "w", encoding="ascii") as file:
             file.write(data_of(header, rows))
         loaded = os.path.join(work, name + ".ub")

@@ -110,6 +110,29 @@ exec 9>&-
 try 'a run that was killed leaves the table unclean' 3 all '! Unclean page 0\n' run same.ub count.sql
 try 'and no statement runs on it' 3 all '! Unclean page 0\n' run same.ub delete.sql
 
+# ---- a table with a signed dimension
+printf 'x,m\n-1,10\n0,20\n-2147483648,30\n2147483647,40\n' >signed.csv
+printf 'SELECT x, m FROM t WHERE x < 0 ORDER BY x;' >below.sql
+printf 'SELECT * FROM t;' >all.sql
+below='x,m\n-2147483648,30\n-1,10\n-- rows 2, pages 1\n'
+try 'a signed dimension' 0 all '-- rows 4, regions 2\n' load signed.csv signed.ub --dims 1 --page-rows 2 --signed 1
+try 'is asked by its values' 0 all "$below" run signed.ub below.sql
+try 'and from its data' 0 all "$below" try signed.csv below.sql --dims 1 --page-rows 2 --signed 1
+try 'a value that it does not have' 1 all '! ValueRange at 22\n' run signed.ub <(printf 'INSERT INTO t VALUES (2147483648, 0);')
+holds 'the header has its mask' test "$(od -An -tu1 -j4 -N8 signed.ub | tr -s ' ')" = ' 3 0 1 1 2 1 0 0'
+"$ubq" run signed.ub all.sql | grep -v '^-- ' >told.csv
+holds 'all rows are told as they were given' cmp -s signed.csv told.csv
+try 'and loaded again' 0 all '-- rows 4, regions 2\n' load told.csv twice.ub --dims 1 --page-rows 2 --signed 1
+holds 'they make the same file' cmp -s signed.ub twice.ub
+try 'without a mask they are refused' 3 all '! OutOfRange row 1 column 1\n' load signed.csv signed.ub --dims 1
+try 'a mask of a dimension that is not there' 2 all '! BadMask\n' load signed.csv signed.ub --dims 1 --signed 2
+try 'before data that are not there' 2 all '! BadMask\n' load missing.csv new.ub --dims 3 --signed 8
+holds 'and nothing is made' test ! -e new.ub
+holds 'the table is as it was' cmp -s signed.ub twice.ub
+try 'a mask that no table has' 2 line "error: invalid value '16' for '--signed <MASK>': 16 is not in 0..=15" load signed.csv s.ub --dims 4 --signed 16
+try 'a table with none made signed' 0 all '-- rows 5, regions 3\n' load <("$ubq" run s.ub all.sql | grep -v '^-- ') both.ub --dims 2 --page-rows 2 --signed 3
+try 'answers the same' 0 all "$row1" run both.ub row1.sql
+
 # ---- files that are refused
 : >none.ub
 try 'a file of no bytes' 3 all '! NoPage\n' run none.ub row1.sql
@@ -125,9 +148,10 @@ done
 try 'a file with a byte more' 3 all '! BadSize\n' run cut.ub row1.sql
 { printf '\0' && tail -c +2 s.ub; } >kind.ub
 try 'a file whose first byte is 0' 3 all '! WrongKind page 0\n' run kind.ub row1.sql
-for old in s four gaps; do
+for old in s four gaps format_2/s format_2/four format_2/gaps; do
     cp "$root/tests/old/$old.ub" old.ub
-    try "a table of format 1, $old.ub" 3 all '! OldFormat page 0\n' run old.ub row1.sql
+    try "a table of an older format, $old.ub" 3 all '! OldFormat page 0\n' run old.ub row1.sql
+    try 'to which nothing is put' 3 all '! OldFormat page 0\n' run old.ub insert.sql
     holds 'and it stays as it was' cmp -s old.ub "$root/tests/old/$old.ub"
 done
 try 'no table file' 4 all '! Device\n' run missing.ub row1.sql

@@ -57,6 +57,8 @@ ends 2 '! EmptyBox\n' next 7,2 6,3 19
 ends 2 '! BadPoint\n' next -1,2 6,3 19
 begins 2 "error: 'ubq' requires a subcommand but one was not provided"
 begins 2 "error: invalid value '5' for '--dims <D>': 5 is not in 1..=4" try a b --dims 5
+ends 2 '! BadMask\n' load "$room/none.csv" "$room/none.ub" --dims 2 --signed 4
+begins 2 "error: invalid value '16' for '--signed <MASK>': 16 is not in 0..=15" try a b --dims 4 --signed 16
 ends 2 'error: the words of the command line are not all text in UTF-8\n' next $'\xff' 6,3 19
 ends 3 '! BadNumber row 2 column 2\n' try "$room/letter.csv" "$room/script.sql" --dims 2
 ends 4 '! Device\n' try "$room/none.csv" "$room/script.sql" --dims 2

@@ -1,6 +1,6 @@
 #!/usr/bin/env python3
-"""Decodes a table file of format 1 or 2, and prints its header, its regions with their rows, and what leads to them: the directory of
-format 1, or the index of format 2.
+"""Decodes a table file of format 1, 2 or 3, and prints its header, its regions with their rows, and what leads to them: the directory of
+format 1, or the index of the later ones. Of format 3, in which dimensions may be signed, it prints the values that the coordinates stand for.
 
     tests/old/check.py TABLE [CSV]
 
@@ -15,6 +15,7 @@ import sys
 
 PAGE = 4096
 ENTRIES = 170
+HALF = 1 << 31
 NUMBERS = 1 << 24
 
 
@@ -49,10 +50,11 @@ class Fields:
 def read_header(pages):
     it = Fields(pages, 0)
     stop_unless(it.take(4) == b"UBTR", "page 0 isn't a header")
-    version = it.number(1, 1, 2)
+    version = it.number(1, 1, 3)
     it.number(1, 0, 0)
     head = {"format": version, "dims": it.number(1, 1, 4), "measures": it.number(1, 0, 4), "page rows": it.number(1, 2, 64)}
-    it.zeros(3)
+    head["signed"] = it.number(1, 0, (1 << head["dims"]) - 1) if version == 3 else 0
+    it.zeros(2 if version == 3 else 3)
     head["next"] = it.number(4, 1, NUMBERS)
     head["rows"] = it.number(4, 0, head["next"] - 1)
     head["regions"] = it.number(4, 1, (1 << 32) - 1)
@@ -154,6 +156,11 @@ def key_of(row):
     return address(row[1]), row[0]
 
 
+def values_of(row, head):
+    """The values of a row's dimensions."""
+    return tuple(it - HALF if head["signed"] >> dim & 1 else it for dim, it in enumerate(row[1]))
+
+
 def span_end(begin, last):
     """The greatest address that a key before this one can have."""
     if begin is None:
@@ -174,7 +181,7 @@ def tell_regions(pages, head, entries):
         stop_unless(after is None or not keys or keys[-1] < after, f"page {page} has a row of the next region")
         print(f"region on page {page}, first key {first}, addresses {first[0]}..{span_end(after, last)}, rows {len(here)}")
         for row in here:
-            print(f"    {row[0]}: {' '.join(map(str, row[1] + row[2]))}, address {address(row[1])}")
+            print(f"    {row[0]}: {' '.join(map(str, values_of(row, head) + row[2]))}, address {address(row[1])}")
         rows += here
     return rows
 
@@ -184,8 +191,8 @@ def compare_with_text(rows, head, columns, path):
     with open(path, newline="") as it:
         header, *records = csv.reader(it)
     stop_unless([name.strip(" ") for name in header] == columns, "the CSV file has other columns")
-    for number, *parts in rows:
-        stop_unless([*map(int, records[number - 1])] == [*parts[0], *parts[1]], f"row {number} isn't its record")
+    for row in rows:
+        stop_unless([*map(int, records[row[0] - 1])] == [*values_of(row, head), *row[2]], f"row {row[0]} isn't its record")
     stop_unless(head["next"] == len(records) + 1, "the next number isn't that after the last record")
     missing = sorted({*range(1, head["next"])} - {row[0] for row in rows})
     print(f"each row is its record of {len(records)}; no row has these numbers: {' '.join(map(str, missing)) or 'none'}")

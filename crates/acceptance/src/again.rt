@@ -28,7 +28,7 @@ static RUNS: [(u64, Result<Summary, RunFault>, usize); 4] = [
 
 // The closed table, opened over a store that fails at its k-th call.
 fn opened(alloc: Global, k: u64) -> Option<Tree<Store>> {
-    let made = load(alloc, DATA, 2, 2, b"t", MemStore::new(alloc)).ok()?;
+    let made = load(alloc, DATA, 2, 2, b"t", 0, MemStore::new(alloc)).ok()?;
     let store = made.close().ok()?;
     Tree::open(alloc, FaultyStore::new(store, k)).ok()
 }

@@ -30,7 +30,7 @@ const UNCLEAN: Option<TreeFault> = Some(TreeFault::Page {
 fn loaded(alloc: Global, k: u64) -> Option<Store> {
     let medium = MemMedium::new(Vec::new(alloc), 0, k);
     let store = FileStore::open(medium).ok()?;
-    let tree = load(alloc, DATA, 2, 2, b"t", store).ok()?;
+    let tree = load(alloc, DATA, 2, 2, b"t", 0, store).ok()?;
     tree.close().ok()
 }
 

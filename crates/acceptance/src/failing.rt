@@ -30,7 +30,7 @@ static SCRIPTS: [(&[u8], &str); 8] = [
 
 // The schema of a table of one dimension.
 fn schema() -> Result<Schema, PageFault> {
-    Schema::new(Name::new(b"t")?, &[Name::new(b"x")?], 1, 2)
+    Schema::new(Name::new(b"t")?, &[Name::new(b"x")?], 1, 2, 0)
 }
 
 // Whether a script over a tree ends as Failed, and writes just this.

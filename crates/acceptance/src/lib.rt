@@ -1,6 +1,7 @@
 // Tests across crates that no transcript can show (those that one can stand in the crate `transcripts`): the words of faults as
 // they are displayed, loads into stores that fail and scripts over them, a changed file that isn't closed, outputs that fail, scripts of any bytes and of many
-// statements, the help of each command, and the nearest addresses of many boxes.
+// statements, where the regions of a signed dimension begin and end, the help of each command, and the nearest addresses of many
+// boxes.
 #![tactic(auto)]
 
 #[cfg(test)]
@@ -19,6 +20,8 @@ mod loads;
 mod outputs;
 #[cfg(test)]
 mod scripts;
+#[cfg(test)]
+mod signed;
 #[cfg(test)]
 mod words;
 #[cfg(test)]

@@ -16,7 +16,7 @@ const CALLS: u64 = 6 + 3 + 1 + 4 + 4 + 2;
 fn is_ended(alloc: Global, call: u64) -> bool {
     let store = FaultyStore::new(MemStore::new(alloc), call);
     matches!(
-        load(alloc, DATA, 2, 2, b"t", store),
+        load(alloc, DATA, 2, 2, b"t", 0, store),
         Err(LoadFault::Tree(TreeFault::Store(StoreFault::Device)))
     )
 }
@@ -24,7 +24,7 @@ fn is_ended(alloc: Global, call: u64) -> bool {
 // Whether it is done where its store would fail at this call.
 fn is_done(alloc: Global, call: u64) -> bool {
     let store = FaultyStore::new(MemStore::new(alloc), call);
-    match load(alloc, DATA, 2, 2, b"t", store) {
+    match load(alloc, DATA, 2, 2, b"t", 0, store) {
         Ok(tree) => tree.rows() == 5 && tree.regions() == 3,
         Err(_) => false,
     }

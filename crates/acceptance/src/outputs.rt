@@ -172,7 +172,7 @@ fn count_cut_off(alloc: Global, tree: &mut Tree<MemStore>, text: &[u8], how: Ref
 // Whether all of them were, over the worked table, if memory is there.
 fn is_cut_off_everywhere(alloc: Global, how: Refusal) -> Option<bool> {
     let text = whole(alloc).ok()?;
-    let mut tree = load(alloc, DATA, 2, 2, b"t", MemStore::new(alloc)).ok()?;
+    let mut tree = load(alloc, DATA, 2, 2, b"t", 0, MemStore::new(alloc)).ok()?;
     let right = count_cut_off(alloc, &mut tree, text.as_slice(), how);
     Some(right == text.as_slice().len() + 1)
 }

@@ -92,7 +92,7 @@ static CASES: [Case; 12] = [
 // Whether a script on the worked table, two rows on a page, is run to its end, with this summary and text.
 fn is_run(alloc: Global, script: &[u8], summary: Summary, text: &[u8]) -> bool {
     let mut out = Over::new(Vec::new(alloc));
-    let ended = try_text(alloc, DATA, 2, 2, b"t", script, &mut out);
+    let ended = try_text(alloc, DATA, 2, 2, b"t", 0, script, &mut out);
     ended == Ok(summary) && out.into_inner().as_slice() == text
 }
 

@@ -43,7 +43,7 @@ fn tells(alloc: Global, line: &str, is_help: bool, wanted: &str) -> bool {
 }
 
 // Command lines, whether they are told the help, and one of the lines that they are told.
-static TOLD: [(&str, bool, &str); 12] = [
+static TOLD: [(&str, bool, &str); 16] = [
     ("ubq --help", true, "Usage: ubq <COMMAND>"),
     (
         "ubq try --help",
@@ -54,6 +54,22 @@ static TOLD: [(&str, bool, &str); 12] = [
     ("ubq run --help", true, "  5  memory was refused"),
     ("ubq try --help", true, "  5  memory was refused"),
     ("ubq next --help", true, "  5  memory was refused"),
+    // How a mask adds up, what a negative number is without one, and that `next` takes coordinates.
+    (
+        "ubq load --help",
+        true,
+        "  ubq load days.csv days.ub --dims 3 --signed 6",
+    ),
+    (
+        "ubq load --help",
+        true,
+        "has zone (2) and temp (4) signed. A negative number in another dimension is refused, as ! OutOfRange row 1 column 1.",
+    ),
+    (
+        "ubq next --help",
+        true,
+        "LO and HI are of coordinates, 0 to 4294967295: a value v of a signed dimension is the coordinate v + 2147483648.",
+    ),
     (
         "ubq",
         false,
@@ -67,6 +83,11 @@ static TOLD: [(&str, bool, &str); 12] = [
         "ubq try a b --dims 5",
         false,
         "error: invalid value '5' for '--dims <D>': 5 is not in 1..=4",
+    ),
+    (
+        "ubq load a b --dims 2 --signed 16",
+        false,
+        "error: invalid value '16' for '--signed <MASK>': 16 is not in 0..=15",
     ),
 ];
 

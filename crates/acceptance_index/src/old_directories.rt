@@ -118,7 +118,7 @@ fn stored(alloc: Global, parts: &[Part], due: u64) -> Option<Tried> {
 // The schema of a plane.
 fn plane() -> Result<Schema, PageFault> {
     let columns = [Name::new(b"x")?, Name::new(b"y")?];
-    Schema::new(Name::new(b"t")?, &columns, 2, 64)
+    Schema::new(Name::new(b"t")?, &columns, 2, 64, 0)
 }
 
 // What is read of a directory over a store that fails at one call, if the store and a schema can be made.

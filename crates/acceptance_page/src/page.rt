@@ -13,7 +13,7 @@ const HEADER: &[(usize, u8)] = &[
     (1, 0x42),
     (2, 0x54),
     (3, 0x52),
-    (4, 2),
+    (4, 3),
     (6, 2),
     (7, 1),
     (8, 2),
@@ -39,23 +39,46 @@ const HEADER_FAULTS: &[(usize, u8, PageFault)] = &[
     (8, 1, PageFault::BadCount),
     (5, 1, PageFault::Unclean),
     (4, 1, PageFault::OldFormat),
-    (4, 3, PageFault::WrongKind),
+    (4, 4, PageFault::WrongKind),
     (4, 0, PageFault::WrongKind),
-    (4, 1, PageFault::OldFormat),
+    (4, 2, PageFault::OldFormat),
     (3, 0, PageFault::WrongKind),
 ];
 
 // And bytes each of which is changed alone.
 const HEADER_FAULTS_ALONE: &[(usize, u8, PageFault)] = &[
     (0, 0, PageFault::WrongKind),
-    (4, 3, PageFault::WrongKind),
+    (4, 4, PageFault::WrongKind),
+    (4, 255, PageFault::WrongKind),
     (4, 1, PageFault::OldFormat),
+    (4, 2, PageFault::OldFormat),
     (5, 2, PageFault::BadCount),
     (27, 0, PageFault::BadCount),
     (31, 0, PageFault::BadCount),
     (31, 17, PageFault::BadCount),
     (30, 1, PageFault::BadCount),
-    (9, 1, PageFault::BadPadding),
+    // The mask has bits for the two dimensions alone; the two bytes behind it are zero.
+    (9, 4, PageFault::BadCount),
+    (9, 5, PageFault::BadCount),
+    (9, 8, PageFault::BadCount),
+    (9, 16, PageFault::BadCount),
+    (9, 255, PageFault::BadCount),
+    (10, 1, PageFault::BadPadding),
+    (11, 1, PageFault::BadPadding),
+];
+
+// Two bytes that are wrong: the first of the order is told. The mask is a count: it comes after the state and before the names.
+const HEADER_FAULTS_BOTH: &[(usize, u8, usize, u8, PageFault)] = &[
+    (9, 4, 4, 2, PageFault::OldFormat),
+    (9, 4, 5, 1, PageFault::Unclean),
+    (9, 4, 32, 0, PageFault::BadCount),
+    (9, 4, 99, b'x', PageFault::BadCount),
+    (10, 1, 32, 0, PageFault::BadName),
+    // in an older format nothing more is looked at
+    (10, 1, 4, 1, PageFault::OldFormat),
+    // one dimension: it is the first that may be signed, and not the second; the names are one too many
+    (6, 1, 9, 2, PageFault::BadCount),
+    (6, 1, 9, 1, PageFault::BadPadding),
 ];
 
 // Writes the directory that a page tells of.
@@ -81,6 +104,7 @@ fn is_header_page(page: &Page) -> bool {
         && read.schema.name().bytes() == b"t".as_slice()
         && read.schema.dims() == 2
         && read.schema.measures() == 1
+        && read.schema.signed() == 0
         && read.next == 6
         && read.rows == 5
         && read.regions == 3
@@ -100,6 +124,17 @@ fn keeps_level(level: u8) -> bool {
     draft.page() == &page && read.levels == u32::from(level)
 }
 
+// Whether a header with this mask of the signed dimensions is read, and written so.
+fn keeps_mask(signed: u8) -> bool {
+    let page = page_of(HEADER, &[(9, signed)]);
+    let Ok(read) = read_header(&page) else {
+        return false;
+    };
+    let mut draft = Draft::new();
+    write_header(&read, &mut draft);
+    draft.page() == &page && read.schema.signed() == u32::from(signed)
+}
+
 // Whether each of these bytes, changed alone, is refused so.
 fn are_refused_alone(faults: &[(usize, u8, PageFault)]) -> bool {
     for (place, byte, fault) in faults {
@@ -108,6 +143,23 @@ fn are_refused_alone(faults: &[(usize, u8, PageFault)]) -> bool {
         }
     }
     true
+}
+
+// Whether each of these two bytes, changed together, is refused so.
+fn are_refused_together(faults: &[(usize, u8, usize, u8, PageFault)]) -> bool {
+    for (place, byte, other, another, fault) in faults {
+        let page = page_of(HEADER, &[(*place, *byte), (*other, *another)]);
+        if read_header(&page).err() != Some(*fault) {
+            return false;
+        }
+    }
+    true
+}
+
+#[test]
+fn headers_tell_which_dimensions_are_signed(rt: HostRuntime) {
+    assert!(rt; keeps_mask(0) && keeps_mask(1) && keeps_mask(2) && keeps_mask(3));
+    assert!(rt; are_refused_together(HEADER_FAULTS_BOTH));
 }
 
 #[test]

@@ -4,13 +4,23 @@ use ub_table::{Key, Name, PageFault, Row, Schema};
 
 // A table t whose columns have these letters for names, and the first of them are its dimensions.
 pub(crate) fn table(letters: &[u8], dims: u32, page_rows: u32) -> Result<Schema, PageFault> {
+    signed_table(letters, dims, page_rows, 0)
+}
+
+// The same where the dimensions whose bits this mask has are signed.
+pub(crate) fn signed_table(
+    letters: &[u8],
+    dims: u32,
+    page_rows: u32,
+    signed: u32,
+) -> Result<Schema, PageFault> {
     let name = Name::new(b"t")?;
     let count = letters.len().min(8);
     let mut columns = [name; 8];
     for i in 0..count {
         columns[i] = Name::new(&letters[i..=i])?;
     }
-    Schema::new(name, &columns[..count], dims, page_rows)
+    Schema::new(name, &columns[..count], dims, page_rows, signed)
 }
 
 // A table t of the dimensions x and y and the measure m, with two rows on a page.

@@ -1,5 +1,5 @@
 // Names, columns, schemas, rows and keys.
-use crate::samples::{plane, table};
+use crate::samples::{plane, signed_table, table};
 use ub_table::columns::MAX_COLUMNS;
 use ub_table::{Columns, Key, Name, PageFault, Row, Schema, is_keyword};
 
@@ -50,9 +50,9 @@ fn are_held(names: &[Name]) -> bool {
     columns.as_slice() == names && Columns::from_slice(names).as_slice() == names
 }
 
-// Why there is no table of two columns t, with so many rows on a page.
-fn fault_of(t: Name, page_rows: u32) -> Option<PageFault> {
-    Schema::new(t, &[t, t], 2, page_rows).err()
+// Why there is no table of two columns t, with so many rows on a page and this mask of signed dimensions.
+fn fault_of(t: Name, page_rows: u32, signed: u32) -> Option<PageFault> {
+    Schema::new(t, &[t, t], 2, page_rows, signed).err()
 }
 
 // Whether this is the table t of two dimensions x and y and a measure m, with two rows on a page,
@@ -72,16 +72,15 @@ fn is_plane(schema: &Schema) -> bool {
     names == letters && numbers == [2, 1, 2] && are_held(&[*x, *y])
 }
 
-// The table of the plane; one of two columns of a name is refused for its count of rows before its
-// names.
+// The table of the plane; one of two columns of a name is refused for its count of rows, or its mask, before its names.
 #[test]
 fn takes_columns_and_schemas(rt: HostRuntime) {
     let schema = plane().expect(&rt, "a table");
     let name = *schema.name();
-    let faults = [fault_of(name, 65), fault_of(name, 64)];
-    assert!(rt;
-        is_plane(&schema) && faults == [Some(PageFault::BadCount), Some(PageFault::BadName)]
-    );
+    let counts = [fault_of(name, 65, 0), fault_of(name, 64, 4)];
+    let names = [fault_of(name, 64, 0), fault_of(name, 64, 3)];
+    assert!(rt; is_plane(&schema) && counts == [Some(PageFault::BadCount); 2]);
+    assert!(rt; names == [Some(PageFault::BadName); 2]);
 }
 
 #[test]
@@ -154,4 +153,93 @@ fn are_fitted(schema: &Schema) -> bool {
 fn reads_columns_and_tells_which_numbers_fit(rt: HostRuntime) {
     let schema = table(b"xymn", 2, 2).expect(&rt, "a table");
     assert!(rt; are_read(&schema) && are_fitted(&schema));
+}
+
+// A mask has bits for the dimensions alone.
+const MASKS: &[(u32, u32, bool)] = &[
+    (1, 0, true),
+    (1, 1, true),
+    (1, 2, false),
+    (2, 3, true),
+    (2, 4, false),
+    (3, 7, true),
+    (3, 8, false),
+    (4, 15, true),
+    (4, 16, false),
+    (4, 1 << 31, false),
+    (1, u32::MAX, false),
+];
+
+// Whether there is a table of so many dimensions with this mask, which it then tells, or it is refused as BadCount.
+fn is_mask(dims: u32, signed: u32, is_taken: bool) -> bool {
+    match signed_table(b"xyzw", dims, 2, signed) {
+        Ok(schema) => is_taken && schema.signed() == signed && schema.copy().signed() == signed,
+        Err(fault) => !is_taken && fault == PageFault::BadCount,
+    }
+}
+
+#[test]
+fn takes_masks_of_its_dimensions(rt: HostRuntime) {
+    for (dims, signed, is_taken) in MASKS {
+        assert!(rt; is_mask(*dims, *signed, *is_taken), "{dims} {signed}");
+    }
+}
+
+// Values of a signed dimension, and the coordinates that stand for them.
+const SIGNED: &[(i64, u32)] = &[
+    (-2_147_483_648, 0),
+    (-2_147_483_647, 1),
+    (-1, 2_147_483_647),
+    (0, 2_147_483_648),
+    (1, 2_147_483_649),
+    (2_147_483_647, 4_294_967_295),
+];
+
+// Numbers that a signed dimension doesn't have: those next to its values, and the ends of 64 and of 128 bits.
+const UNHAD: &[i128] = &[
+    -2_147_483_649,
+    2_147_483_648,
+    4_294_967_295,
+    -9_223_372_036_854_775_808,
+    9_223_372_036_854_775_807,
+    -18_446_744_073_709_551_615,
+    18_446_744_073_709_551_615,
+    i128::MIN,
+    i128::MAX,
+];
+
+// Whether this dimension of a table has those values, which stand for those coordinates, and no other of these numbers.
+fn are_signed(schema: &Schema, dim: usize) -> bool {
+    for (value, coordinate) in SIGNED {
+        if schema.value(dim, *coordinate) != *value
+            || schema.coordinate(dim, i128::from(*value)) != Some(*coordinate)
+            || !fits(schema, dim, i128::from(*value))
+        {
+            return false;
+        }
+    }
+    for number in UNHAD {
+        if schema.coordinate(dim, *number).is_some() || fits(schema, dim, *number) {
+            return false;
+        }
+    }
+    true
+}
+
+// Whether a row is read by which dimensions are signed: the second of two, whose coordinate 4 stands for -2147483644.
+fn is_read_signed(schema: &Schema) -> bool {
+    let values = [3, -2_147_483_644, -5, 6];
+    for column in 0..schema.columns().len() {
+        if values.get(column) != Some(&schema.value_of(&ROW, column)) {
+            return false;
+        }
+    }
+    true
+}
+
+// A table of two dimensions of which the second is signed, and of two measures.
+#[test]
+fn reads_columns_by_which_are_signed(rt: HostRuntime) {
+    let schema = signed_table(b"xymn", 2, 2, 2).expect(&rt, "a table");
+    assert!(rt; are_signed(&schema, 1) && are_fitted(&schema) && is_read_signed(&schema));
 }

@@ -124,10 +124,10 @@ const JOINED: [Sheet; 6] = [
     ),
 ];
 
-// The header's bytes before the zeros: its kind, version 2, clean, two dimensions, a measure, two rows a page; the next number, the
+// The header's bytes before the zeros: its kind, version 3, clean, two dimensions, a measure, two rows a page; the next number, the
 // rows, the regions, the root and its level; and the names t, x, y and m, each in 33 bytes.
 static HEADER_HEAD: [u8; 32] = [
-    0x55, 0x42, 0x54, 0x52, 2, 0, 2, 1, 2, 0, 0, 0, 0, 0, 0, 6, 0, 0, 0, 5, 0, 0, 0, 3, 0, 0, 0, 4,
+    0x55, 0x42, 0x54, 0x52, 3, 0, 2, 1, 2, 0, 0, 0, 0, 0, 0, 6, 0, 0, 0, 5, 0, 0, 0, 3, 0, 0, 0, 4,
     0, 0, 0, 1,
 ];
 

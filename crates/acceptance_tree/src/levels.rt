@@ -33,7 +33,7 @@ enum Ended {
 
 // One dimension, no measure, two rows on a page.
 fn line() -> Result<Schema, PageFault> {
-    Schema::new(Name::new(b"t")?, &[Name::new(b"x")?], 1, 2)
+    Schema::new(Name::new(b"t")?, &[Name::new(b"x")?], 1, 2, 0)
 }
 
 // SELECT x FROM t, of all rows, or of those at this x.
@@ -158,7 +158,7 @@ fn has(store: &mut MemStore, n: u32, at: usize, bytes: &[u8]) -> bool {
 // number is 401, and there are 400 rows, 200 regions, and a root of level 2 on page 174.
 fn has_two_levels(store: &mut MemStore) -> bool {
     store.pages() == 204
-        && has(store, 0, 4, &[2, 0])
+        && has(store, 0, 4, &[3, 0])
         && has(
             store,
             0,
@@ -175,7 +175,7 @@ fn has_two_levels(store: &mut MemStore) -> bool {
 // The same once all rows are gone: a root of level 1, which was the left half, and one region.
 fn has_one_region(store: &mut MemStore) -> bool {
     store.pages() == 204
-        && has(store, 0, 4, &[2, 0])
+        && has(store, 0, 4, &[3, 0])
         && has(
             store,
             0,

@@ -13,6 +13,12 @@ const BAD_HEADER: Answer = Err(TreeFault::Page {
     fault: PageFault::BadCount,
 });
 
+// The header is one of an older format.
+const OLD_FORMAT: Answer = Err(TreeFault::Page {
+    page: 0,
+    fault: PageFault::OldFormat,
+});
+
 // The root is refused: it is no page of an index; its count or its level isn't what it should be; an entry isn't; two entries aren't
 // in order; it doesn't begin with the least key.
 const WRONG_KIND: Answer = Err(TreeFault::Page {
@@ -134,9 +140,9 @@ const ONE_PAGE: [(Step, Answer); 4] = [
     ),
 ];
 
-// The header is unclean; there is no page; page 0 is no header; it is one of format 1; the root is page 0; its level is none that
+// The header is unclean; there is no page; page 0 is no header; it is one of format 1, or 2; the root is page 0; its level is none that
 // there can be.
-const REFUSED_HEADERS: [(Step, Answer); 14] = [
+const REFUSED_HEADERS: [(Step, Answer); 16] = [
     (
         Step::Store(
             0,
@@ -160,16 +166,15 @@ const REFUSED_HEADERS: [(Step, Answer); 14] = [
         }),
     ),
     (
-        Step::Store(0, &[Sheet::Old, Sheet::Blank, Sheet::Part(1, 0, 1)]),
+        Step::Store(0, &[Sheet::Old(1), Sheet::Blank, Sheet::Part(1, 0, 1)]),
         DONE,
     ),
+    (Step::Open, OLD_FORMAT),
     (
-        Step::Open,
-        Err(TreeFault::Page {
-            page: 0,
-            fault: PageFault::OldFormat,
-        }),
+        Step::Store(0, &[Sheet::Old(2), Sheet::Blank, Sheet::Part(1, 0, 1)]),
+        DONE,
     ),
+    (Step::Open, OLD_FORMAT),
     (
         Step::Store(
             0,

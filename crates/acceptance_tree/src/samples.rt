@@ -16,8 +16,8 @@ pub(crate) enum Sheet {
     Header(u32, u32, u32, bool),
     // A clean header: the number that is next, how many rows and regions there are, the page of the root, and its level.
     Rooted(u32, u32, u32, u32, u32),
-    // The clean header of format 1 of a table of no rows.
-    Old,
+    // The clean header of a table of no rows, of another format than the last.
+    Old(u32),
     // A region from an address on, of these rows, two at most.
     Region(u128, &'static [Row]),
     // A region from an address on, of rows at the point (0, y): this y, the number of the first, and how many, four at most.
@@ -115,13 +115,13 @@ pub(crate) fn plane() -> Result<Schema, PageFault> {
 // The same with so many rows on a page.
 pub(crate) fn plane_of(page_rows: u32) -> Result<Schema, PageFault> {
     let columns = [Name::new(b"x")?, Name::new(b"y")?, Name::new(b"m")?];
-    Schema::new(Name::new(b"t")?, &columns, 2, page_rows)
+    Schema::new(Name::new(b"t")?, &columns, 2, page_rows, 0)
 }
 
 // The numbers of a header of the plane that are the same in each, and its names t, x, y and m: each with its offset and its width.
 static PLANE: &[(usize, u32, u128)] = &[
     (0, 4, 0x5542_5452),
-    (4, 1, 2),
+    (4, 1, 3),
     (6, 1, 2),
     (7, 1, 1),
     (32, 2, 0x0174),
@@ -146,9 +146,9 @@ pub(crate) fn page_of(schema: &Schema, sheet: &Sheet) -> Page {
                 [*next, *rows, *regions, *root, *levels],
             );
         }
-        Sheet::Old => {
+        Sheet::Old(format) => {
             spell_header(&mut page, page_rows, [1, 0, 1, 2, 1]);
-            poke(&mut page, 4, 1, 1);
+            poke(&mut page, 4, 1, u128::from(*format));
         }
         Sheet::Region(z, rows) => spell_region(&mut page, *z, rows),
         Sheet::Equal(z, y, number, count) => spell_equal(&mut page, *z, *y, *number, *count),

@@ -8,6 +8,11 @@ use ub_table::{Name, PageFault, Schema};
 
 // A table of the dimensions a, b, c and d, or of the first ones of them.
 fn table(dims: usize) -> Result<Schema, PageFault> {
+    signed_table(dims, 0)
+}
+
+// The same where the dimensions whose bits this mask has are signed.
+fn signed_table(dims: usize, signed: u32) -> Result<Schema, PageFault> {
     let columns = [
         Name::new(b"a")?,
         Name::new(b"b")?,
@@ -15,7 +20,7 @@ fn table(dims: usize) -> Result<Schema, PageFault> {
         Name::new(b"d")?,
     ];
     let dims = dims.clamp(1, 4);
-    Schema::new(Name::new(b"t")?, &columns[..dims], dims as u32, 2)
+    Schema::new(Name::new(b"t")?, &columns[..dims], dims as u32, 2, signed)
 }
 
 fn compare(column: usize, operator: Operator, value: u8) -> Cond {
@@ -73,5 +78,54 @@ fn adds_points_up(rt: HostRuntime) -> Result<(), Fail> {
     assert!(rt; is_total(cover.boxes().get(1..), 18_446_744_052_234_715_142));
     let space = boxes(rt.alloc(), None, &table(4)?)?;
     assert!(rt; total(space.boxes()).is_none() && points(&space).is_none());
+    Ok(())
+}
+
+// Comparisons of the one dimension of a table, which is signed, how many boxes they have, and how many points these.
+static ENDS: [(Operator, i128, usize, u128); 15] = [
+    // The literal, or the number after it, is no value: there is no cut, and the comparison holds everywhere, or nowhere.
+    (Operator::AtMost, 2_147_483_647, 1, 4_294_967_296),
+    (Operator::Greater, 2_147_483_647, 0, 0),
+    (Operator::AtLeast, -2_147_483_648, 1, 4_294_967_296),
+    (Operator::Less, -2_147_483_648, 0, 0),
+    (Operator::Equal, 2_147_483_648, 0, 0),
+    (Operator::NotEqual, -2_147_483_649, 1, 4_294_967_296),
+    (Operator::AtMost, i128::MAX, 1, 4_294_967_296),
+    (Operator::Greater, i128::MAX, 0, 0),
+    (Operator::AtLeast, i128::MIN, 1, 4_294_967_296),
+    (Operator::Less, i128::MIN, 0, 0),
+    // The first cut that there is, the last one, and those round zero.
+    (Operator::Greater, -2_147_483_648, 1, 4_294_967_295),
+    (Operator::AtMost, 2_147_483_646, 1, 4_294_967_295),
+    (Operator::Less, 0, 1, 2_147_483_648),
+    (Operator::Equal, -1, 1, 1),
+    (Operator::NotEqual, 0, 2, 4_294_967_295),
+];
+
+// Whether the boxes of a comparison are so many, with so many points, and say all of it.
+fn are_ends(
+    alloc: Global,
+    schema: &Schema,
+    operator: Operator,
+    value: i128,
+    count: usize,
+    size: u128,
+) -> Result<bool, AllocError> {
+    let filter = Cond::Compare {
+        column: 0,
+        operator,
+        value,
+    };
+    let cover = boxes(alloc, Some(&filter), schema)?;
+    Ok(cover.boxes().len() == count && points(&cover) == Some(size) && cover.is_exact())
+}
+
+#[test]
+fn cuts_a_signed_dimension_at_its_values(rt: HostRuntime) -> Result<(), Fail> {
+    let schema = signed_table(1, 1)?;
+    for (operator, value, count, size) in &ENDS {
+        let are = are_ends(rt.alloc(), &schema, *operator, *value, *count, *size)?;
+        assert!(rt; are, "{value}");
+    }
     Ok(())
 }

@@ -1,0 +1,64 @@
+// A table of one signed dimension: where its regions begin and end, which are coordinates, and that a file keeps which dimensions
+// are signed.
+use std::alloc::Global;
+use ub_load::load;
+use ub_script::{Over, RunFault, Summary, run};
+use ub_store::MemStore;
+use ub_tree::Tree;
+
+// The third row finds no room beside the coordinates 2147483647 and 2147483648 of the first two: it has 0, so the second one begins
+// a region of its own. The fourth one's is 4294967295.
+const DATA: &[u8] = b"x,m\n-1,10\n0,20\n-2147483648,30\n2147483647,40\n";
+
+// Coordinates, and the region that is sought from each: where it begins and where it ends.
+static SPANS: [(u128, u128, u128); 4] = [
+    (0, 0, 2_147_483_647),
+    (2_147_483_647, 0, 2_147_483_647),
+    (2_147_483_648, 2_147_483_648, 4_294_967_295),
+    (4_294_967_295, 2_147_483_648, 4_294_967_295),
+];
+
+const SCRIPT: &[u8] = b"SELECT x, m FROM t WHERE x < 0 ORDER BY x;";
+
+const TEXT: &[u8] = b"x,m\n-2147483648,30\n-1,10\n-- rows 2, pages 1\n";
+
+const DONE: Result<Summary, RunFault> = Ok(Summary {
+    statements: 1,
+    refused: 0,
+});
+
+// The table, with two rows on a page.
+fn loaded(alloc: Global) -> Option<Tree<MemStore>> {
+    load(alloc, DATA, 1, 2, b"t", 1, MemStore::new(alloc)).ok()
+}
+
+// Whether the region whose span holds a coordinate begins and ends there.
+fn spans(tree: &mut Tree<MemStore>, z: u128, from: u128, to: u128) -> bool {
+    match tree.seek(z, None) {
+        Ok(Some(region)) => region.from == from && region.to == to,
+        _ => false,
+    }
+}
+
+#[test]
+fn its_regions_are_of_coordinates(rt: HostRuntime) {
+    let mut tree = loaded(rt.alloc()).expect(&rt, "a table");
+    assert!(rt; tree.regions() == 2 && tree.schema().signed() == 1);
+    for (z, from, to) in &SPANS {
+        assert!(rt; spans(&mut tree, *z, *from, *to), "{z}");
+    }
+}
+
+// Whether a script over the table, closed and opened again, writes this.
+fn is_kept(alloc: Global) -> Option<bool> {
+    let store = loaded(alloc)?.close().ok()?;
+    let mut tree = Tree::open(alloc, store).ok()?;
+    let mut out = Over::new(Vec::new(alloc));
+    let ended = run(alloc, &mut tree, SCRIPT, &mut out);
+    Some(tree.schema().signed() == 1 && ended == DONE && out.into_inner().as_slice() == TEXT)
+}
+
+#[test]
+fn it_is_signed_still_where_it_is_opened(rt: HostRuntime) {
+    assert!(rt; is_kept(rt.alloc()) == Some(true));
+}
