@@ -101,6 +101,10 @@ answers() {
     check "a call in a loop that reads lines takes none of them" test -s "$room/next.two"
     check "and writes the worked lines" cmp -s "$room/next.two" <(printf 'next 36\nprev 15\n')
 
+    printf 'x,y\n2,-3\n' >"$room/signed.csv"
+    ask try --signed 2 "$room/signed.csv" examples/between.sql --dims 2
+    check "a mask before the files" wrote 'x,y\n2,-3\n-- rows 1, pages 1\n'
+
     ask try no.csv examples/between.sql --dims 2
     check "a file that isn't there is told as the program tells it" wrote '! Device\n'
     check "with its status" ended 4
