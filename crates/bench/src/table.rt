@@ -13,5 +13,5 @@ pub fn table(dims: u32, has_measure: bool) -> Result<Schema, PageFault>
         columns[i] = Name::new(&letters[i..i + 1])?;
     }
     let count = dimensions + usize::from(has_measure);
-    Schema::new(Name::new(b"t")?, &columns[..count], dims, 64)
+    Schema::new(Name::new(b"t")?, &columns[..count], dims, 64, 0)
 }

@@ -9,7 +9,7 @@ pub type Store = FaultyStore<MemStore>;
 // Two dimensions, no measure, so many rows on a page.
 fn plane(page_rows: u32) -> Result<Schema, PageFault> {
     let columns = [Name::new(b"x")?, Name::new(b"y")?];
-    Schema::new(Name::new(b"t")?, &columns, 2, page_rows)
+    Schema::new(Name::new(b"t")?, &columns, 2, page_rows, 0)
 }
 
 /// The address of a point of two coordinates below 8, its bits taken in turn.

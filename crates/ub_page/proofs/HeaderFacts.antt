@@ -1,16 +1,18 @@
 -- What the page of a header reads as.
-use Rattle.std.proofs.Common.{◌≡◌, ◌≢◌, ◌≤◌, ◌<◌, ◌+◌, ◌-◌, ◌*◌, ◌^◌, ◌↔◌, ℕ, zero, suc, List, [], ◌∷◌, ◌++◌, true, false, Result, Ok, Err, IsOk, IfErr, length, take, drop, replicate, if◌then◌else◌, refl, sym, ap, arith, ◌∙◌, append_assoc, length-take-le}
-use Rattle.std.specs.Prelude.{IsErrOf}
+use Rattle.std.proofs.Common.{inl, inr, ◌≡◌, ◌≢◌, ◌≤◌, ◌<◌, ◌+◌, ◌-◌, ◌*◌, ◌^◌, ◌↔◌, ℕ, zero, suc, List, [], ◌∷◌, ◌++◌, true, false, Result, Ok, Err, IsOk, IfErr, length, take, drop, replicate, if◌then◌else◌, refl, sym, ap, arith, ◌∙◌, append_assoc, length-take-le}
+use Rattle.std.specs.Prelude.{IsErrOf, nat_lt}
+use Rattle.std.proofs.lemmas.Bool.{cases_Bool, lt-ltb, ltb-true}
 use Rattle.std.proofs.lemmas.List.{length-append, length-replicate, length-drop}
 use Rattle.std.specs.List.{flat_map, AllByRecursion}
 use Rattle.ub_page.specs.Bytes.{number_bytes, number_at, layout, padded}
-use Rattle.ub_page.specs.Header.{numbers_of, names_of, number_fields, name_bytes, page_of, header_page, header_page_of, IsHeader, AreInRange, AreSame, IsOfVersion, IsHeaderKind, IsFaultOf, IsHeaderFault, HasNames, columns_on, numbers_on, name_on, names_on, IsNameOn, AreNamesOn}
+use Rattle.ub_page.specs.Header.{numbers_of, names_of, number_fields, name_bytes, page_of, header_page, header_page_of, IsHeader, IsHeaderOf, AreInRange, AreSame, IsOfVersion, IsHeaderKind, IsFaultOf, IsHeaderFault, HasNames, columns_on, numbers_on, name_on, names_on, IsNameOn, AreNamesOn}
 use Rattle.ub_page.specs.declared.header.Header.{Header}
 use Rattle.ub_page.specs.declared.header.Numbers.{Numbers}
-use Rattle.ub_page.specs.declared.header.TheConstants.{VERSION}
+use Rattle.ub_page.specs.declared.header.TheConstants.{FIRST_SIGNED, VERSION}
 use Rattle.ub_page.proofs.BytesFacts.{length-number_bytes, read_at, layout_read, length-layout, AllFit}
 use Rattle.ub_page.proofs.DraftFacts.{of_front}
 use Rattle.ub_table.proofs.Laws.{name_block, length-name}
+use Rattle.ub_table.proofs.MaskFacts.{few}
 use Rattle.ub_table.specs.Block.{IsNameBlock}
 use Rattle.ub_table.specs.Name.{IsName}
 use Rattle.ub_table.specs.declared.fault.PageFault.TheVariants.{WrongKind, OldFormat, Unclean, BadCount, BadName, BadRow, BadOrder, OutOfRegion, BadPadding}
@@ -111,32 +113,46 @@ refused_schema (Err e) P Q valid bad p =
     let is = bad.1 (p, no) in
     (cc, no)
 
-with_same : (n : Numbers) (state dims measures page_rows : ℕ) → state ≡ n.state → dims ≡ n.dims → measures ≡ n.measures → page_rows ≡ n.page_rows
-    → record n { state = state; dims = dims; measures = measures; page_rows = page_rows } ≡ n
-with_same n state dims measures page_rows a b c d = rw (a, b, c, d) refl
+with_same : (n : Numbers) (state dims measures page_rows signed : ℕ) → state ≡ n.state → dims ≡ n.dims → measures ≡ n.measures → page_rows ≡ n.page_rows → signed ≡ n.signed
+    → record n { state = state; dims = dims; measures = measures; page_rows = page_rows; signed = signed } ≡ n
+with_same n state dims measures page_rows signed a b c d e = rw (a, b, c, d, e) refl
 
-pub same_numbers : (n : Numbers) (s : Schema) → s.dims ≡ n.dims → length s.columns ≡ n.dims + n.measures → s.page_rows ≡ n.page_rows → n.state ≢ 1 → AreInRange n
+pub same_numbers : (n : Numbers) (s : Schema) → s.dims ≡ n.dims → length s.columns ≡ n.dims + n.measures → s.page_rows ≡ n.page_rows → s.signed ≡ n.signed → n.state ≢ 1 → AreInRange n
     → numbers_of (record { schema = s; next = n.next; rows = n.rows; regions = n.regions; root = n.root; levels = n.levels; unclean = false }) ≡ n
-same_numbers n s dims columns rows clean range =
+same_numbers n s dims columns rows signed clean range =
     let few = range.state in
     let zero_state : 0 ≡ n.state = omega arith in
     let measures : length s.columns - s.dims ≡ n.measures = omega arith in
-    with_same n 0 s.dims (length s.columns - s.dims) s.page_rows zero_state dims measures rows
+    with_same n 0 s.dims (length s.columns - s.dims) s.page_rows s.signed zero_state dims measures rows signed
 
--- the parts of a header that stand on a page make a header
-pub is_header : (h : Header) (page : List ℕ) → numbers_of h ≡ numbers_on page → AreInRange (numbers_on page) → h.regions < 2 ^ 32 → h.root < 2 ^ 32
-    → h.schema.name ≡ name_on 32 page → h.schema.columns ≡ names_on 65 (columns_on page) page → HasNames (columns_on page) page → IsHeader h
-is_header h page numbers range regions root name columns names = record {
-  numbers = rw numbers range;
-  regions = regions;
-  root = root;
-  names = rw (name, columns) (name_valid 32 page names.0, names_valid 65 (columns_on page) page names.1);
+-- the byte of the mask is the mask, where none is signed before the first version that tells of it
+mask_read : (version signed byte : ℕ) → byte ≡ signed → (version < FIRST_SIGNED → signed ≡ 0) → (if nat_lt version FIRST_SIGNED then 0 else byte) ≡ signed
+mask_read version signed byte is unsigned = elim (cases_Bool (nat_lt version FIRST_SIGNED)) [
+  | inl older ↦ rw older (sym (unsigned (ltb-true version FIRST_SIGNED older)))
+  | inr later ↦ rw later is
+]
+
+-- before the first version that tells of signed dimensions, the mask on a page is zero
+no_mask : (version byte : ℕ) → version < FIRST_SIGNED → (if nat_lt version FIRST_SIGNED then 0 else byte) ≡ 0
+no_mask version byte older = rw (lt-ltb version FIRST_SIGNED older) refl
+
+-- the parts of a header that stand on a page of a version make a header of it
+pub is_header : (version : ℕ) (h : Header) (page : List ℕ) → numbers_of h ≡ numbers_on version page → AreInRange (numbers_on version page) → h.regions < 2 ^ 32 → h.root < 2 ^ 32
+    → h.schema.name ≡ name_on 32 page → h.schema.columns ≡ names_on 65 (columns_on page) page → HasNames (columns_on page) page → IsHeaderOf version h
+is_header version h page numbers range regions root name columns names = record {
+  header = record {
+    numbers = rw numbers range;
+    regions = regions;
+    root = root;
+    names = rw (name, columns) (name_valid 32 page names.0, names_valid 65 (columns_on page) page names.1);
+  };
+  unsigned = λ older. ap (λ (n : Numbers). n.signed) numbers ∙ no_mask version (number_at 1 9 page) older;
 }
 
 -- the parts of a header in this version stand on the page
 pub record HasPartsOf (version : ℕ) (h : Header) (page : List ℕ) : Type 0 where
   pub kind : IsOfVersion version page
-  pub numbers : numbers_on page ≡ numbers_of h
+  pub numbers : numbers_on version page ≡ numbers_of h
   pub name : name_on 32 page ≡ h.schema.name
   pub columns : names_on 65 (columns_on page) page ≡ h.schema.columns
   pub names : HasNames (columns_on page) page
@@ -146,26 +162,29 @@ abbrev pub HasParts : Header → List ℕ → Type 0
 HasParts h page = HasPartsOf VERSION h page
 
 -- the parts of a header are read from its page
-pub parts : (version : ℕ) (h : Header) (page : List ℕ) → version < 256 → IsHeader h → page ≡ header_page_of version h → HasPartsOf version h page
+pub parts : (version : ℕ) (h : Header) (page : List ℕ) → version < 256 → IsHeaderOf version h → page ≡ header_page_of version h → HasPartsOf version h page
 unfolding page_of
-parts version h page byte is e =
+parts version h page byte of_version e =
+    let is = of_version.header in
     let n = numbers_of h in
     let fields = number_fields version n in
     let names = flat_map name_bytes (names_of h) in
     let zeros : List ℕ = replicate (4096 - length (layout fields ++ names)) 0 in
     let whole : page ≡ layout fields ++ (names ++ zeros) = e ∙ append_assoc (layout fields) names zeros in
     let state = is.numbers.state in
-    let counts = is.numbers.counts in
+    let counts = is.numbers.counts.counts in
     let flag : (if h.unclean then 1 else 0) < 256 = omega (arith, state) in
+    let mask = few h.schema.dims h.schema.signed counts.few_dims is.numbers.counts.mask in
     let next = is.numbers.last_next in
     let rows = is.numbers.rows in
     let levels = is.numbers.levels.1 in
     let regions = is.regions in
     let root = is.root in
-    let fit : AllFit fields = (omega arith, (omega arith, (omega arith, (omega arith, (omega arith, (omega arith, (omega arith, (omega arith, (omega arith, (omega arith, (omega arith, (omega arith, tt)))))))))))) in
+    let fit : AllFit fields = (omega arith, (omega arith, (omega arith, (omega arith, (omega arith, (omega arith, (omega arith, (omega arith, (omega arith, (omega arith, (omega arith, (omega arith, (omega arith, tt))))))))))))) in
     let ats = layout_read fields page [] (names ++ zeros) 0 refl fit whole in
     let at5 = ats.1.1 in
-    let at12 = at5.1.1.1.1.1 in
+    let at9 = at5.1.1.1.1 in
+    let at12 = at9.1.1 in
     let dims = at5.1.0 in
     let measures = at5.1.1.0 in
     let read = names_read (names_of h) page (layout fields) zeros 32 (sym (length-layout fields)) is.names whole in
@@ -175,7 +194,7 @@ parts version h page byte is e =
     let columns : names_on 65 (length h.schema.columns) page ≡ h.schema.columns = cc in
     record {
       kind = (ats.0, ats.1.0);
-      numbers = rw (at5.0, dims, measures, at5.1.1.1.0, at12.0, at12.1.0, at12.1.1.0, at12.1.1.1.0, at12.1.1.1.1.0) refl;
+      numbers = rw (at5.0, dims, measures, at5.1.1.1.0, mask_read version h.schema.signed (number_at 1 9 page) at9.0 of_version.unsigned, at12.0, at12.1.0, at12.1.1.0, at12.1.1.1.0, at12.1.1.1.1.0) refl;
       name = cc;
       columns = rw count columns;
       names = rw count (read.0.0, read.0.1, rw columns h.schema.distinct);
@@ -188,6 +207,7 @@ same a b numbers name columns unclean = record {
   columns = columns;
   dims = ap (λ (n : Numbers). n.dims) numbers;
   page_rows = ap (λ (n : Numbers). n.page_rows) numbers;
+  signed = ap (λ (n : Numbers). n.signed) numbers;
   next = ap (λ (n : Numbers). n.next) numbers;
   rows = ap (λ (n : Numbers). n.rows) numbers;
   regions = ap (λ (n : Numbers). n.regions) numbers;
@@ -202,7 +222,7 @@ pub same_page : (version : ℕ) (a b : Header) → numbers_of a ≡ numbers_of b
 same_page version a b numbers name columns = rw (numbers, name, columns) refl
 
 -- a page that holds a clean header's parts and is not its page has another byte that is not zero
-pub padding_fault : (version : ℕ) (h : Header) (page : List ℕ) → version < 256 → numbers_of h ≡ numbers_on page → AreInRange (numbers_on page)
+pub padding_fault : (version : ℕ) (h : Header) (page : List ℕ) → version < 256 → numbers_of h ≡ numbers_on version page → AreInRange (numbers_on version page)
     → h.schema.name ≡ name_on 32 page → h.schema.columns ≡ names_on 65 (columns_on page) page → IsOfVersion version page → h.unclean ≡ false
     → HasNames (columns_on page) page → header_page_of version h ≢ page → IsFaultOf version page BadPadding
 padding_fault version h page byte numbers range name columns kind clean names other =
@@ -217,7 +237,7 @@ padding_fault version h page byte numbers range name columns kind clean names ot
     )
 
 -- the page of a clean header is not refused by a reader of its version
-pub not_fault_of : (version : ℕ) (h : Header) (page : List ℕ) → version < 256 → IsHeader h → h.unclean ≡ false → page ≡ header_page_of version h
+pub not_fault_of : (version : ℕ) (h : Header) (page : List ℕ) → version < 256 → IsHeaderOf version h → h.unclean ≡ false → page ≡ header_page_of version h
     → (e : PageFault) → IsFaultOf version page e → ⊥
 not_fault_of version h page byte is clean same WrongKind fault = fault (parts version h page byte is same).kind
 not_fault_of version h page byte is clean same Unclean fault =
@@ -225,7 +245,7 @@ not_fault_of version h page byte is clean same Unclean fault =
     let zero_state = rw clean at state in
     let one = fault.1 in
     omega arith
-not_fault_of version h page byte is clean same BadCount fault = fault.2 (rw (parts version h page byte is same).numbers is.numbers)
+not_fault_of version h page byte is clean same BadCount fault = fault.2 (rw (parts version h page byte is same).numbers is.header.numbers)
 not_fault_of version h page byte is clean same BadName fault = fault.3 (parts version h page byte is same).names
 not_fault_of version h page byte is clean same BadPadding fault = fault.4 h is same
 not_fault_of version h page byte is clean same OldFormat fault = fault
@@ -233,21 +253,25 @@ not_fault_of version h page byte is clean same BadRow fault = fault
 not_fault_of version h page byte is clean same BadOrder fault = fault
 not_fault_of version h page byte is clean same OutOfRegion fault = fault
 
+-- a header is one of the version that is written
+pub of_latest : (h : Header) → IsHeader h → IsHeaderOf VERSION h
+of_latest h is = record { header = is; unsigned = λ older. absurd (omega (arith, older)) }
+
 -- a page of the version that is written is one of a version that there has been
 pub kind_of : (page : List ℕ) → IsOfVersion VERSION page → IsHeaderKind page
 kind_of page kind = let version = kind.1 in (kind.0, omega arith, omega arith)
 
 -- the page of a clean header is not refused
 pub not_refused : (h : Header) (page : List ℕ) → IsHeader h → h.unclean ≡ false → page ≡ header_page h → (e : PageFault) → IsHeaderFault page e → ⊥
-not_refused h page is clean same WrongKind fault = fault (kind_of page (parts VERSION h page (omega arith) is same).kind)
+not_refused h page is clean same WrongKind fault = fault (kind_of page (parts VERSION h page (omega arith) (of_latest h is) same).kind)
 not_refused h page is clean same OldFormat fault =
-    let version = (parts VERSION h page (omega arith) is same).kind.1 in
+    let version = (parts VERSION h page (omega arith) (of_latest h is) same).kind.1 in
     let older = fault.1 in
     omega arith
-not_refused h page is clean same Unclean fault = not_fault_of VERSION h page (omega arith) is clean same Unclean fault
-not_refused h page is clean same BadCount fault = not_fault_of VERSION h page (omega arith) is clean same BadCount fault
-not_refused h page is clean same BadName fault = not_fault_of VERSION h page (omega arith) is clean same BadName fault
-not_refused h page is clean same BadPadding fault = not_fault_of VERSION h page (omega arith) is clean same BadPadding fault
+not_refused h page is clean same Unclean fault = not_fault_of VERSION h page (omega arith) (of_latest h is) clean same Unclean fault
+not_refused h page is clean same BadCount fault = not_fault_of VERSION h page (omega arith) (of_latest h is) clean same BadCount fault
+not_refused h page is clean same BadName fault = not_fault_of VERSION h page (omega arith) (of_latest h is) clean same BadName fault
+not_refused h page is clean same BadPadding fault = not_fault_of VERSION h page (omega arith) (of_latest h is) clean same BadPadding fault
 not_refused h page is clean same BadRow fault = fault
 not_refused h page is clean same BadOrder fault = fault
 not_refused h page is clean same OutOfRegion fault = fault
@@ -257,7 +281,7 @@ pub unclean_refused : (h : Header) (page : List ℕ) → IsHeader h → h.unclea
 unclean_refused h page is unclean same e fault = refused e fault
   where
     on : HasParts h page
-    on = parts VERSION h page (omega arith) is same
+    on = parts VERSION h page (omega arith) (of_latest h is) same
 
     marked : number_at 1 5 page ≡ 1
     marked = ap (λ (n : Numbers). n.state) on.numbers ∙ rw unclean refl
@@ -274,14 +298,14 @@ unclean_refused h page is unclean same e fault = refused e fault
     refused OutOfRegion f = absurd f
 
 -- what is written one after the other is the page of all
-regrouped : (a1 a2 a3 a4 a5 a6 a7 a8 a9 a10 a11 a12 b c : List ℕ) → padded ((((((((((((((a1 ++ a2) ++ a3) ++ a4) ++ a5) ++ a6) ++ a7) ++ a8) ++ a9) ++ a10) ++ a11) ++ a12) ++ b) ++ c)) ≡ padded ((a1 ++ (a2 ++ (a3 ++ (a4 ++ (a5 ++ (a6 ++ (a7 ++ (a8 ++ (a9 ++ (a10 ++ (a11 ++ (a12 ++ [])))))))))))) ++ (b ++ c))
-regrouped a1 a2 a3 a4 a5 a6 a7 a8 a9 a10 a11 a12 b c =
-    let e : (((((((((((((a1 ++ a2) ++ a3) ++ a4) ++ a5) ++ a6) ++ a7) ++ a8) ++ a9) ++ a10) ++ a11) ++ a12) ++ b) ++ c) ≡ (a1 ++ (a2 ++ (a3 ++ (a4 ++ (a5 ++ (a6 ++ (a7 ++ (a8 ++ (a9 ++ (a10 ++ (a11 ++ (a12 ++ [])))))))))))) ++ (b ++ c) = simp append_assoc in
+regrouped : (a1 a2 a3 a4 a5 a6 a7 a8 a9 a10 a11 a12 a13 b c : List ℕ) → padded (((((((((((((((a1 ++ a2) ++ a3) ++ a4) ++ a5) ++ a6) ++ a7) ++ a8) ++ a9) ++ a10) ++ a11) ++ a12) ++ a13) ++ b) ++ c)) ≡ padded ((a1 ++ (a2 ++ (a3 ++ (a4 ++ (a5 ++ (a6 ++ (a7 ++ (a8 ++ (a9 ++ (a10 ++ (a11 ++ (a12 ++ (a13 ++ []))))))))))))) ++ (b ++ c))
+regrouped a1 a2 a3 a4 a5 a6 a7 a8 a9 a10 a11 a12 a13 b c =
+    let e : ((((((((((((((a1 ++ a2) ++ a3) ++ a4) ++ a5) ++ a6) ++ a7) ++ a8) ++ a9) ++ a10) ++ a11) ++ a12) ++ a13) ++ b) ++ c) ≡ (a1 ++ (a2 ++ (a3 ++ (a4 ++ (a5 ++ (a6 ++ (a7 ++ (a8 ++ (a9 ++ (a10 ++ (a11 ++ (a12 ++ (a13 ++ []))))))))))))) ++ (b ++ c) = simp append_assoc in
     ap padded e
 
 -- the writer's bytes are those of the spelling
 pub written : (version : ℕ) (n : Numbers) (name : List ℕ) (columns : List (List ℕ))
-    → padded ((((((((((((((number_bytes 4 0x55425452 ++ number_bytes 1 version) ++ number_bytes 1 n.state) ++ number_bytes 1 n.dims) ++ number_bytes 1 n.measures) ++ number_bytes 1 n.page_rows) ++ number_bytes 3 0) ++ number_bytes 4 n.next) ++ number_bytes 4 n.rows) ++ number_bytes 4 n.regions) ++ number_bytes 4 n.root) ++ number_bytes 4 n.levels) ++ name_bytes name) ++ flat_map name_bytes columns)) ≡ page_of version n (name ∷ columns)
+    → padded (((((((((((((((number_bytes 4 0x55425452 ++ number_bytes 1 version) ++ number_bytes 1 n.state) ++ number_bytes 1 n.dims) ++ number_bytes 1 n.measures) ++ number_bytes 1 n.page_rows) ++ number_bytes 1 n.signed) ++ number_bytes 2 0) ++ number_bytes 4 n.next) ++ number_bytes 4 n.rows) ++ number_bytes 4 n.regions) ++ number_bytes 4 n.root) ++ number_bytes 4 n.levels) ++ name_bytes name) ++ flat_map name_bytes columns)) ≡ page_of version n (name ∷ columns)
 unfolding page_of
 written version n name columns =
-    regrouped (number_bytes 4 0x55425452) (number_bytes 1 version) (number_bytes 1 n.state) (number_bytes 1 n.dims) (number_bytes 1 n.measures) (number_bytes 1 n.page_rows) (number_bytes 3 0) (number_bytes 4 n.next) (number_bytes 4 n.rows) (number_bytes 4 n.regions) (number_bytes 4 n.root) (number_bytes 4 n.levels) (name_bytes name) (flat_map name_bytes columns)
+    regrouped (number_bytes 4 0x55425452) (number_bytes 1 version) (number_bytes 1 n.state) (number_bytes 1 n.dims) (number_bytes 1 n.measures) (number_bytes 1 n.page_rows) (number_bytes 1 n.signed) (number_bytes 2 0) (number_bytes 4 n.next) (number_bytes 4 n.rows) (number_bytes 4 n.regions) (number_bytes 4 n.root) (number_bytes 4 n.levels) (name_bytes name) (flat_map name_bytes columns)

@@ -1,13 +1,13 @@
--- The header page of a table, format 2.
-use Rattle.std.specs.Prelude.{◌≡◌, ◌≢◌, ◌≤◌, ◌<◌, ◌+◌, ◌-◌, ◌^◌, ◌++◌, ℕ, zero, suc, List, [], ◌∷◌, length, take, drop, replicate, if◌then◌else◌}
+-- The header page of a table, formats 1 to 3.
+use Rattle.std.specs.Prelude.{◌≡◌, ◌≢◌, ◌≤◌, ◌<◌, ◌+◌, ◌-◌, ◌^◌, ◌++◌, ℕ, zero, suc, nat_lt, List, [], ◌∷◌, length, take, drop, replicate, if◌then◌else◌}
 use Rattle.std.specs.List.{flat_map, AllByRecursion}
 use Rattle.ub_page.specs.Bytes.{number_bytes, number_at, layout, padded}
 use Rattle.ub_page.specs.declared.header.Header.{Header}
 use Rattle.ub_page.specs.declared.header.Numbers.{Numbers}
-use Rattle.ub_page.specs.declared.header.TheConstants.{MAX_LEVEL, VERSION}
+use Rattle.ub_page.specs.declared.header.TheConstants.{FIRST_SIGNED, MAX_LEVEL, VERSION}
 use Rattle.ub_table.specs.Block.{IsNameBlock}
 use Rattle.ub_table.specs.Name.{IsName}
-use Rattle.ub_table.specs.Schema.{AreCounts, AreDistinct}
+use Rattle.ub_table.specs.Schema.{AreDistinct, AreNumbers}
 use Rattle.ub_table.specs.declared.fault.PageFault.TheVariants.{WrongKind, OldFormat, Unclean, BadCount, BadName, BadPadding}
 use Rattle.ub_table.specs.declared.fault.PageFault.{PageFault}
 use Rattle.ub_table.specs.declared.row.TheConstants.{MAX_ROW_NUMBER}
@@ -19,6 +19,7 @@ numbers_of h = record {
   dims = h.schema.dims;
   measures = length h.schema.columns - h.schema.dims;
   page_rows = h.schema.page_rows;
+  signed = h.schema.signed;
   next = h.next;
   rows = h.rows;
   regions = h.regions;
@@ -26,10 +27,11 @@ numbers_of h = record {
   levels = h.levels;
 }
 
--- each in its range: the root of the index has a level from 1 to 16, and rows are numbered below the next number
+-- each in its range: the mask of signed dimensions has bits for the dimensions alone, the root of the index has a level from 1 to 16, and
+-- rows are numbered below the next number
 pub record AreInRange (n : Numbers) : Type 0 where
   pub state : n.state ≤ 1
-  pub counts : AreCounts (n.dims + n.measures) n.dims n.page_rows
+  pub counts : AreNumbers (n.dims + n.measures) n.dims n.page_rows n.signed
   pub some_next : 1 ≤ n.next
   pub last_next : n.next ≤ MAX_ROW_NUMBER + 1
   pub rows : n.rows < n.next
@@ -48,11 +50,16 @@ pub record IsHeader (h : Header) : Type 0 where
   pub root : h.root < 2 ^ 32
   pub names : AllByRecursion IsName (names_of h)
 
+-- a header that a page of this version can hold: before the first version that tells of signed dimensions, none is signed
+pub record IsHeaderOf (version : ℕ) (h : Header) : Type 0 where
+  pub header : IsHeader h
+  pub unsigned : version < FIRST_SIGNED → h.schema.signed ≡ 0
+
 -- 'UBTR', the version, and the numbers, each with its bytes
 abbrev pub number_fields : ℕ → Numbers → List (ℕ × ℕ)
 number_fields version n =
-    (4, 0x55425452) ∷ (1, version) ∷ (1, n.state) ∷ (1, n.dims) ∷ (1, n.measures) ∷ (1, n.page_rows) ∷ (3, 0)
-    ∷ (4, n.next) ∷ (4, n.rows) ∷ (4, n.regions) ∷ (4, n.root) ∷ (4, n.levels) ∷ []
+    (4, 0x55425452) ∷ (1, version) ∷ (1, n.state) ∷ (1, n.dims) ∷ (1, n.measures) ∷ (1, n.page_rows)
+    ∷ (1, n.signed) ∷ (2, 0) ∷ (4, n.next) ∷ (4, n.rows) ∷ (4, n.regions) ∷ (4, n.root) ∷ (4, n.levels) ∷ []
 
 -- a name on 33 bytes: its length, its bytes, and zeros
 abbrev pub name_bytes : List ℕ → List ℕ
@@ -82,13 +89,18 @@ IsOfVersion version page = (number_at 4 0 page ≡ 0x55425452) × (version_on pa
 abbrev pub IsHeaderKind : List ℕ → Type 0
 IsHeaderKind page = (number_at 4 0 page ≡ 0x55425452) × (1 ≤ version_on page) × (version_on page ≤ VERSION)
 
--- the numbers that stand on the page
-abbrev pub numbers_on : List ℕ → Numbers
-numbers_on page = record {
+-- the mask of signed dimensions on a page of this version
+abbrev pub mask_on : ℕ → List ℕ → ℕ
+mask_on version page = if nat_lt version FIRST_SIGNED then 0 else number_at 1 9 page
+
+-- the numbers that stand on a page of this version
+abbrev pub numbers_on : ℕ → List ℕ → Numbers
+numbers_on version page = record {
   state = number_at 1 5 page;
   dims = number_at 1 6 page;
   measures = number_at 1 7 page;
   page_rows = number_at 1 8 page;
+  signed = mask_on version page;
   next = number_at 4 12 page;
   rows = number_at 4 16 page;
   regions = number_at 4 20 page;
@@ -126,12 +138,12 @@ abbrev pub IsFaultOf : ℕ → List ℕ → PageFault → Type 0
 IsFaultOf version page WrongKind = ¬ (IsOfVersion version page)
 IsFaultOf version page Unclean = IsOfVersion version page × (number_at 1 5 page ≡ 1)
 IsFaultOf version page BadCount =
-    IsOfVersion version page × (number_at 1 5 page ≢ 1) × (¬ (AreInRange (numbers_on page)))
+    IsOfVersion version page × (number_at 1 5 page ≢ 1) × (¬ (AreInRange (numbers_on version page)))
 IsFaultOf version page BadName =
-    IsOfVersion version page × (number_at 1 5 page ≢ 1) × AreInRange (numbers_on page) × (¬ (HasNames (columns_on page) page))
+    IsOfVersion version page × (number_at 1 5 page ≢ 1) × AreInRange (numbers_on version page) × (¬ (HasNames (columns_on page) page))
 IsFaultOf version page BadPadding =
-    IsOfVersion version page × (number_at 1 5 page ≢ 1) × AreInRange (numbers_on page) × HasNames (columns_on page) page
-    × ((h : Header) → IsHeader h → page ≢ header_page_of version h)
+    IsOfVersion version page × (number_at 1 5 page ≢ 1) × AreInRange (numbers_on version page) × HasNames (columns_on page) page
+    × ((h : Header) → IsHeaderOf version h → page ≢ header_page_of version h)
 IsFaultOf version page _ = ⊥
 
 -- the refusal is the first that holds of the page; a header of an older version is refused as one, whatever else it tells
@@ -146,6 +158,7 @@ pub record AreSame (a b : Header) : Type 0 where
   pub columns : a.schema.columns ≡ b.schema.columns
   pub dims : a.schema.dims ≡ b.schema.dims
   pub page_rows : a.schema.page_rows ≡ b.schema.page_rows
+  pub signed : a.schema.signed ≡ b.schema.signed
   pub next : a.next ≡ b.next
   pub rows : a.rows ≡ b.rows
   pub regions : a.regions ≡ b.regions

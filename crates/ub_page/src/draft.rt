@@ -72,16 +72,6 @@ impl Draft {
         self.len += 2;
     }
 
-    pub(crate) fn put_u24(&mut self, x: u32)
-        requires room { length self.old + 3 ≤ 4096 }
-        requires small { x < 2 ^ 24 }
-        ensures bytes { self.new ≡ self.old ++ number_bytes 3 x }
-        ensures len { length self.new ≡ length self.old + 3 }
-    {
-        BigEndian::write_u24(&mut self.page[self.len..], x);
-        self.len += 3;
-    }
-
     pub(crate) fn put_u32(&mut self, x: u32)
         requires { length self.old + 4 ≤ 4096 }
         ensures bytes { self.new ≡ self.old ++ number_bytes 4 x }

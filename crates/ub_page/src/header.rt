@@ -1,20 +1,24 @@
 ghost use Rattle.std.specs.Prelude.{◌≡◌, ◌≢◌, ◌+◌, ◌-◌, ◌*◌, ◌≤◌, ◌<◌, ◌^◌, ◌↔◌, ◌++◌, false, if◌then◌else◌, length, replicate, IsTrue, IsOk, IfOk, IfErr};
 ghost use Rattle.std.specs.List.{AllByRecursion, flat_map};
 ghost use Rattle.ub_page.specs.Bytes.{number_bytes, padded};
-ghost use Rattle.ub_page.specs.Header.{numbers_of, names_of, numbers_on, columns_on, name_bytes, name_on, names_on, header_page, header_page_of, AreInRange, IsHeader, AreSame, IsOfVersion, IsFaultOf, IsHeaderFault, IsNameOn, AreNamesOn, HasNames};
+ghost use Rattle.ub_page.specs.Header.{numbers_of, names_of, numbers_on, mask_on, columns_on, name_bytes, name_on, names_on, header_page, header_page_of, AreInRange, IsHeader, IsHeaderOf, AreSame, IsOfVersion, IsFaultOf, IsHeaderFault, IsNameOn, AreNamesOn, HasNames};
 ghost use Rattle.ub_table.specs.Name.{IsName};
-ghost use Rattle.ub_table.specs.Schema.{AreCounts};
+ghost use Rattle.ub_table.specs.Schema.{AreNumbers};
 
 use crate::draft::Draft;
 use crate::page::{Page, are_equal, is_same, u8_at, u32_at};
 use ub_table::name::MAX_NAME_LEN;
+use ub_table::schema::is_mask;
 use ub_table::{Columns, MAX_ROW_NUMBER, Name, PageFault, Schema};
 
 // 'UBTR', with which each header begins.
 const KIND: u32 = 0x5542_5452;
 
-/// The version of the headers that are written. The one before it is 1.
-pub const VERSION: u8 = 2;
+/// The version of the headers that are written. Those before it are 1 and 2.
+pub const VERSION: u8 = 3;
+
+/// The first version whose headers tell which dimensions are signed.
+pub const FIRST_SIGNED: u8 = 3;
 
 /// The highest level of the root of an index; the lowest one is 1.
 pub const MAX_LEVEL: u32 = 16;
@@ -45,6 +49,7 @@ pub(crate) struct Numbers {
     pub dims: u8,
     pub measures: u8,
     pub page_rows: u8,
+    pub signed: u8,
     pub next: u32,
     pub rows: u32,
     pub regions: u32,
@@ -75,7 +80,8 @@ fn spell(version: u8, header: &Header, draft: &mut Draft)
     draft.put_u8(header.schema.dims() as u8);
     draft.put_u8(header.schema.measures() as u8);
     draft.put_u8(header.schema.page_rows() as u8);
-    draft.put_u24(0);
+    draft.put_u8(header.schema.signed() as u8);
+    draft.put_u16(0);
     draft.put_u32(header.next);
     draft.put_u32(header.rows);
     draft.put_u32(header.regions);
@@ -125,9 +131,9 @@ fn block_of(name: &Name) -> [u8; MAX_NAME_LEN]
 }
 
 /// The header that the page holds, where it is clean. Otherwise the first of these that holds: `WrongKind` (the first
-/// four bytes are not 'UBTR', or the version is neither 1 nor 2), `OldFormat` (the version is 1), `Unclean`, `BadCount` (a
-/// number is out of its range), `BadName` (a name breaks the rule for names, its unused bytes are not zero, or two columns
-/// have one name), `BadPadding` (another byte is not zero).
+/// four bytes are not 'UBTR', or the version is none from 1 to 3), `OldFormat` (the version is 1 or 2), `Unclean`,
+/// `BadCount` (a number is out of its range, or the mask has a bit past the dimensions), `BadName` (a name breaks the rule
+/// for names, its unused bytes are not zero, or two columns have one name), `BadPadding` (another byte is not zero).
 pub fn read_header(page: &Page) -> Result<Header, PageFault>
     ensures found { IfOk result (λ h. IsHeader h × (h.unclean ≡ false) × (page.now ≡ header_page h)) }
     ensures exact { (h : Header) → IsHeader h → h.unclean ≡ false → page.now ≡ header_page h
@@ -141,11 +147,11 @@ pub fn read_header(page: &Page) -> Result<Header, PageFault>
 }
 
 // The clean header that the page holds in a version. Otherwise the first refusal that holds, `WrongKind` being also that of
-// another version.
+// another version. Before the first version that tells of signed dimensions, the byte of the mask is padding.
 fn read_as(version: u8, page: &Page) -> Result<Header, PageFault>
     ensures found { IfOk result
-        (λ h. IsHeader h × (h.unclean ≡ false) × (page.now ≡ header_page_of version h)) }
-    ensures exact { (h : Header) → IsHeader h → h.unclean ≡ false → page.now ≡ header_page_of version h
+        (λ h. IsHeaderOf version h × (h.unclean ≡ false) × (page.now ≡ header_page_of version h)) }
+    ensures exact { (h : Header) → IsHeaderOf version h → h.unclean ≡ false → page.now ≡ header_page_of version h
         → IsOk result × IfOk result (λ read. AreSame read h) }
     ensures refused { IfErr result (IsFaultOf version page.now) }
 {
@@ -161,7 +167,7 @@ fn read_as(version: u8, page: &Page) -> Result<Header, PageFault>
 // The header of this version whose parts stand on the page.
 fn parts_on(version: u8, page: &Page) -> Result<Header, PageFault>
     ensures numbers { IfOk result
-        (λ h. (numbers_of h ≡ numbers_on page.now) × AreInRange (numbers_on page.now)) }
+        (λ h. (numbers_of h ≡ numbers_on version page.now) × AreInRange (numbers_on version page.now)) }
     ensures names { IfOk result (λ h. (h.schema.name ≡ name_on 32 page.now)
         × (h.schema.columns ≡ names_on 65 (columns_on page.now) page.now)) }
     ensures clean { IfOk result
@@ -173,7 +179,7 @@ fn parts_on(version: u8, page: &Page) -> Result<Header, PageFault>
     if u32_at(page, 0) != KIND || u8_at(page, 4) != version {
         return Err(PageFault::WrongKind);
     }
-    let numbers = read_numbers(page);
+    let numbers = read_numbers(version, page);
     if numbers.state == 1 {
         return Err(PageFault::Unclean);
     }
@@ -192,14 +198,15 @@ fn parts_on(version: u8, page: &Page) -> Result<Header, PageFault>
     })
 }
 
-fn read_numbers(page: &Page) -> Numbers
-    ensures { result ≡ numbers_on page.now }
+fn read_numbers(version: u8, page: &Page) -> Numbers
+    ensures { result ≡ numbers_on version page.now }
 {
     Numbers {
         state: u8_at(page, 5),
         dims: u8_at(page, 6),
         measures: u8_at(page, 7),
         page_rows: u8_at(page, 8),
+        signed: mask_at(version, page),
         next: u32_at(page, 12),
         rows: u32_at(page, 16),
         regions: u32_at(page, 20),
@@ -208,25 +215,45 @@ fn read_numbers(page: &Page) -> Numbers
     }
 }
 
+// The mask of signed dimensions on a page of this version.
+fn mask_at(version: u8, page: &Page) -> u8
+    ensures { result ≡ mask_on version page.now }
+{
+    if version < FIRST_SIGNED {
+        return 0;
+    }
+    u8_at(page, 9)
+}
+
 fn are_in_range(numbers: &Numbers) -> bool
     ensures { IsTrue result ↔ AreInRange numbers.now }
 {
-    let counts = (1..=4).contains(&numbers.dims)
-        && numbers.measures <= 4
-        && (2..=64).contains(&numbers.page_rows);
     let rows = (1..=MAX_ROW_NUMBER + 1).contains(&numbers.next) && numbers.rows < numbers.next;
     let pages = numbers.regions >= 1
         && numbers.root >= 1
         && (1..=MAX_LEVEL).contains(&numbers.levels);
-    numbers.state <= 1 && counts && rows && pages
+    numbers.state <= 1 && has_counts(numbers) && rows && pages
+}
+
+// The numbers that a schema has are in their ranges.
+fn has_counts(numbers: &Numbers) -> bool
+    ensures { IsTrue result ↔ AreNumbers (numbers.now.dims + numbers.now.measures)
+        numbers.now.dims numbers.now.page_rows numbers.now.signed }
+{
+    let counts = (1..=4).contains(&numbers.dims)
+        && numbers.measures <= 4
+        && (2..=64).contains(&numbers.page_rows);
+    counts && is_mask(u32::from(numbers.dims), u32::from(numbers.signed))
 }
 
 // The schema that the names on the page make with these numbers, or `BadName`.
 fn read_schema(page: &Page, numbers: &Numbers) -> Result<Schema, PageFault>
-    requires { AreCounts (numbers.now.dims + numbers.now.measures) numbers.now.dims numbers.now.page_rows }
+    requires { AreNumbers (numbers.now.dims + numbers.now.measures)
+        numbers.now.dims numbers.now.page_rows numbers.now.signed }
     ensures names { IfOk result (λ s. (s.name ≡ name_on 32 page.now)
         × (s.columns ≡ names_on 65 (numbers.now.dims + numbers.now.measures) page.now)) }
-    ensures numbers { IfOk result (λ s. (s.dims ≡ numbers.now.dims) × (s.page_rows ≡ numbers.now.page_rows)) }
+    ensures numbers { IfOk result (λ s. (s.dims ≡ numbers.now.dims)
+        × (s.page_rows ≡ numbers.now.page_rows) × (s.signed ≡ numbers.now.signed)) }
     ensures valid { IfOk result (λ _. HasNames (numbers.now.dims + numbers.now.measures) page.now) }
     ensures refused { IfErr result (λ e. (e ≡ PageFault.BadName)
         × (¬ (HasNames (numbers.now.dims + numbers.now.measures) page.now))) }
@@ -238,6 +265,7 @@ fn read_schema(page: &Page, numbers: &Numbers) -> Result<Schema, PageFault>
         columns.as_slice(),
         u32::from(numbers.dims),
         u32::from(numbers.page_rows),
+        u32::from(numbers.signed),
     )
 }
 

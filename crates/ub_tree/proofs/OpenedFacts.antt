@@ -71,7 +71,7 @@ module _ (pages : List (List ℕ)) (a b : Header) (at_a : slice_get pages 0 ≡ 
   same = headers_same pages a b at_a is_a clean_a at_b is_b clean_b
 
   pub one_schema : a.schema ≡ b.schema
-  one_schema = same_schema a.schema b.schema same.name same.columns same.dims same.page_rows
+  one_schema = same_schema a.schema b.schema same.name same.columns same.dims same.page_rows same.signed
 
   pub one_index : index_of a ≡ index_of b
   one_index =

@@ -22,8 +22,11 @@ numbers_in_range schema unclean next rows regions root levels fewer last some so
     let covers = counts.covers_dims in
     record {
       state = flag_small unclean;
-      counts = subst (λ (n : ℕ). AreCounts n schema.dims schema.page_rows)
-          (let e : length schema.columns ≡ schema.dims + (length schema.columns - schema.dims) = omega arith in e) counts;
+      counts = record {
+        counts = subst (λ (n : ℕ). AreCounts n schema.dims schema.page_rows)
+            (let e : length schema.columns ≡ schema.dims + (length schema.columns - schema.dims) = omega arith in e) counts;
+        mask = schema.mask;
+      };
       some_next = omega arith;
       last_next = last;
       rows = fewer;

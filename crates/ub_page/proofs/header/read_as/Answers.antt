@@ -22,7 +22,7 @@ returns-then-not-is_same-clause-exact c = λ h is clean e.
 pub returns-clause-found : goal.returns-clause-found
 returns-clause-found c =
     let read = c.in_ok-header.ensures in (
-      is_header c.in_ok-header.header c.args.page.now read.numbers.0 read.numbers.1 read.small.0 read.small.1 read.names.0 read.names.1 read.clean.2,
+      is_header c.args.version c.in_ok-header.header c.args.page.now read.numbers.0 read.numbers.1 read.small.0 read.small.1 read.names.0 read.names.1 read.clean.2,
       read.clean.1,
       sym (sym (c.page.ensures ∙ c.spell.ensures.page) ∙ c.is_same.ensures.0 c.if-not-is_same.false),
     )

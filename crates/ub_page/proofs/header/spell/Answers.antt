@@ -13,7 +13,8 @@ returns-clause-page c =
       c.put_u32-4.ensures.bytes,
       c.put_u32-3.ensures.bytes,
       c.put_u32-2.ensures.bytes,
-      c.put_u24.ensures.bytes,
+      c.put_u16.ensures.bytes,
+      c.put_u8-6.ensures.bytes,
       c.put_u8-5.ensures.bytes,
       c.put_u8-4.ensures.bytes,
       c.put_u8-3.ensures.bytes,
@@ -22,7 +23,7 @@ returns-clause-page c =
       c.put_u32.ensures.bytes,
       c.clear.ensures,
     )
-    (rw (c.state_of.ensures, c.dims.ensures.dims, c.measures.ensures.measures, c.page_rows.ensures.page_rows, c.name.ensures, c.columns.ensures.columns)
+    (rw (c.state_of.ensures, c.dims.ensures.dims, c.measures.ensures.measures, c.page_rows.ensures.page_rows, c.signed.ensures.signed, c.name.ensures, c.columns.ensures.columns)
     (written c.args.version (numbers_of c.args.header.now) c.args.header.now.schema.name c.args.header.now.schema.columns))
 
 pub returns-clause-header : goal.returns-clause-header
