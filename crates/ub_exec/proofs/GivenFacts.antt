@@ -7,7 +7,7 @@ use Rattle.std.proofs.lemmas.List.Sorted.{Contains-permutation, IsPermutation-re
 use Rattle.std.specs.List.{All, AllByRecursion}
 use Rattle.ub_exec.proofs.LedFacts.{IsLedBy, ahead}
 use Rattle.ub_planning.proofs.Laws.{along_chain, along_never, last_among, not_past, past_not}
-use Rattle.ub_planning.specs.Visits.{IsAlong, coordinates, is_past, last_of, lead_value}
+use Rattle.ub_planning.specs.Visits.{IsAlong, coordinates, is_past, last_of, lead_coordinate}
 use Rattle.ub_query.proofs.Laws.{IsWhole, Rising, Rising-filter, Rising-one, all_at, all_from_contains, contains_filter, contains_from_filter, contains_here, groups_have_an_arrangement, numbers-chain, numbers-never, rows-rising, rows_fall_into_groups, selected_are_in_order, whole_groups}
 use Rattle.ub_query.specs.Cells.{Group, row_cell}
 use Rattle.ub_query.specs.Groups.{AreGroups, is_selected, rows_with, selected, values_of, are_same}
@@ -77,7 +77,7 @@ last_row dim P (row ∷ rows) some all = last_among P (at dim row) (coordinates 
     mapped (row ∷ rows) all = (all.0, mapped rows all.1)
 
 group_led : (schema : Schema) (columns : List ℕ) (dim : ℕ) (P : ℕ → Type 0) (rows : List Row) (groups : List Group) → columns ≢ [] → AreGroups schema columns rows groups
-    → AllByRecursion (λ row. P (at dim row)) rows → (g : Group) → Contains groups g → P (lead_value dim g)
+    → AllByRecursion (λ row. P (at dim row)) rows → (g : Group) → Contains groups g → P (lead_coordinate dim g)
 group_led schema [] dim P rows groups some are all g there = absurd (some refl)
 group_led schema (column ∷ columns) dim P rows groups some are all g there =
     let whole = all_at (λ g. IsWhole (column ∷ columns) g) groups g (whole_groups schema (column ∷ columns) rows groups are) there in
@@ -89,9 +89,9 @@ group_led schema (column ∷ columns) dim P rows groups some are all g there =
 
 -- what holds of the coordinates of all rows holds of those of their groups
 pub groups_led : (schema : Schema) (q : Asked) (dim : ℕ) (P : ℕ → Type 0) (rows : List Row) (arranged : List Group) → q.group ≢ [] → AreGroupsInOrder schema q rows arranged
-    → AllByRecursion (λ row. P (at dim row)) rows → AllByRecursion (λ g. P (lead_value dim g)) arranged
+    → AllByRecursion (λ row. P (at dim row)) rows → AllByRecursion (λ g. P (lead_coordinate dim g)) arranged
 groups_led schema q dim P rows arranged some are all =
-    all_from_contains (λ g. P (lead_value dim g)) arranged
+    all_from_contains (λ g. P (lead_coordinate dim g)) arranged
     (λ g there. group_led schema q.group dim P rows are.groups some are.grouped all g
     (Contains-permutation arranged are.groups g (IsPermutation-sym are.groups arranged are.ordered.same) there))
 
@@ -180,7 +180,7 @@ module _ (schema : Schema) (q : Asked) (dim : ℕ) (is_descending : Bool) (regio
   -- what holds of the coordinates of all rows to come holds of those of their groups
   pub back_led : (P : ℕ → Type 0) → q.group ≢ [] → (table : List Row) → AreTableRows regions table → (back : List Group)
       → AreGroupsInOrder schema q (filter (λ row. not (so_far.is_given row)) (chosen schema q table)) back
-      → AllByRecursion (λ row. P (at dim row)) rest → AllByRecursion (λ g. P (lead_value dim g)) back
+      → AllByRecursion (λ row. P (at dim row)) rest → AllByRecursion (λ g. P (lead_coordinate dim g)) back
   back_led P some table are back back_are all =
       let others = filter (λ row. not (so_far.is_given row)) (chosen schema q table) in
       groups_led schema q dim P others back some back_are

@@ -9,7 +9,7 @@ use Rattle.ub_exec.proofs.GroupVisitFacts.{group_lines}
 use Rattle.ub_exec.proofs.LedFacts.{IsLedBy}
 use Rattle.ub_planning.proofs.Laws.{AreUpTo, StopsAt, along_chain, last_within}
 use Rattle.ub_planning.specs.Plan.{PlanView}
-use Rattle.ub_planning.specs.Visits.{Event, IsAlong, last_of, lead_value}
+use Rattle.ub_planning.specs.Visits.{Event, IsAlong, last_of, lead_coordinate}
 use Rattle.ub_query.proofs.Laws.{all_at, all_from_contains, all_weaker}
 use Rattle.ub_query.specs.Cells.{Group, group_cell}
 use Rattle.ub_query.specs.Groups.{is_selected}
@@ -31,7 +31,7 @@ pub record HasGrouped (schema : Schema) (plan : PlanView) (dim : ℕ) (is_descen
   pub so_far : AreGivenGroups schema plan.asked dim is_descending regions given rest groups
   pub cells_are : cells ≡ group_lines schema plan.asked (limited plan.asked.limit groups)
   pub behind : AllByRecursion (λ row. AreUpTo is_descending fetched (at dim row)) rest
-  pub stops : (n : ℕ) → plan.asked.limit ≡ Some n → 1 ≤ n → n ≤ length groups → StopsAt is_descending (map (lead_value dim) (take n groups)) fetched unread
+  pub stops : (n : ℕ) → plan.asked.limit ≡ Some n → 1 ≤ n → n ≤ length groups → StopsAt is_descending (map (lead_coordinate dim) (take n groups)) fetched unread
 
 pub HasGrouped-none : (schema : Schema) (plan : PlanView) (dim : ℕ) (is_descending : Bool) (regions : List Region) (rest : List Row) (unread : List Event) → plan.asked.group ≢ []
     → HasGrouped schema plan dim is_descending regions [] rest [] unread []
@@ -152,10 +152,10 @@ module _ (schema : Schema) (plan : PlanView) (dim : ℕ) (is_descending : Bool) 
       behind = all_from_contains (λ row. AreUpTo is_descending come (at dim row)) more_rows later_behind;
       stops = λ n limit some many.
           let below : length grouped.groups < n = subst (λ (o : Option ℕ). IfSome o (λ n. length grouped.groups < n)) limit is_short in
-          let is : last_of (map (lead_value dim) (take n (grouped.groups ++ last))) ≡ value = last_is n below many in
+          let is : last_of (map (lead_coordinate dim) (take n (grouped.groups ++ last))) ≡ value = last_is n below many in
           (subst (λ (v : ℕ). AreUpTo is_descending come v) (sym is) reached.behind, subst (λ (v : ℕ). AllByRecursion (λ event. IsAlong is_descending v event.value) left) (sym is) reached.ahead);
     }
       where
-        last_is : (n : ℕ) → length grouped.groups < n → n ≤ length (grouped.groups ++ last) → last_of (map (lead_value dim) (take n (grouped.groups ++ last))) ≡ value
+        last_is : (n : ℕ) → length grouped.groups < n → n ≤ length (grouped.groups ++ last) → last_of (map (lead_coordinate dim) (take n (grouped.groups ++ last))) ≡ value
         last_is n below many =
-            last_within (lead_value dim) (λ v. v ≡ value) n grouped.groups last below many (groups_led schema plan.asked dim (λ v. v ≡ value) rows last led.some last_are next.of_value)
+            last_within (lead_coordinate dim) (λ v. v ≡ value) n grouped.groups last below many (groups_led schema plan.asked dim (λ v. v ≡ value) rows last led.some last_are next.of_value)

@@ -6,7 +6,7 @@ use Rattle.ub_exec.proofs.GivenFacts.{AreGivenGroups, at, back_led, chosen, whol
 use Rattle.ub_exec.proofs.LedFacts.{IsLedBy}
 use Rattle.ub_planning.proofs.Laws.{AreUpTo, StopsAt, reached_filled, reached_front, reached_short}
 use Rattle.ub_planning.specs.Plan.{PlanView}
-use Rattle.ub_planning.specs.Visits.{AreEvents, AreGroupVisits, Event, lead_value, reached}
+use Rattle.ub_planning.specs.Visits.{AreEvents, AreGroupVisits, Event, lead_coordinate, reached}
 use Rattle.ub_query.specs.Cells.{Group, group_cell}
 use Rattle.ub_query.specs.Groups.{is_selected}
 use Rattle.ub_query.specs.Laws.{GroupsFollowTheLead}
@@ -35,7 +35,7 @@ module _ (schema : Schema) (plan : PlanView) (dim : ℕ) (is_descending : Bool) 
   -- the visits, by the events and the groups to come
   visits_by : (events : List Event) (visited : List Event) (back : List Group) → AreEvents schema plan.covering.boxes dim is_descending regions events
       → AreGroupsInOrder schema plan.asked (chosen schema plan.asked table) (groups ++ back)
-      → reached is_descending plan.asked.limit (map (lead_value dim) (limited plan.asked.limit (groups ++ back))) events ≡ visited
+      → reached is_descending plan.asked.limit (map (lead_coordinate dim) (limited plan.asked.limit (groups ++ back))) events ≡ visited
       → AreGroupVisits schema plan dim is_descending regions (map (λ event. event.span) visited)
   visits_by events visited back events_are arranged_are is = record {
     events = events;
@@ -55,10 +55,10 @@ module _ (schema : Schema) (plan : PlanView) (dim : ℕ) (is_descending : Bool) 
         ap (λ (o : Option ℕ). limited o (groups ++ back)) limit ∙ take-append-le n groups back many ∙ ap (λ (o : Option ℕ). limited o groups) (sym limit)
 
     pub filled_visits : (fetched unread : List Event) → AreEvents schema plan.covering.boxes dim is_descending regions (fetched ++ unread)
-        → StopsAt is_descending (map (lead_value dim) (take n groups)) fetched unread → AreGroupVisits schema plan dim is_descending regions (map (λ event. event.span) fetched)
+        → StopsAt is_descending (map (lead_coordinate dim) (take n groups)) fetched unread → AreGroupVisits schema plan dim is_descending regions (map (λ event. event.span) fetched)
     filled_visits fetched unread events stops =
         let (back, all_are, back_are) = whole schema plan.asked dim is_descending regions given rest groups same so_far follow led table are in
-        visits_by (fetched ++ unread) fetched back events all_are (reached_filled (lead_value dim) is_descending plan.asked.limit n groups back fetched unread limit many stops)
+        visits_by (fetched ++ unread) fetched back events all_are (reached_filled (lead_coordinate dim) is_descending plan.asked.limit n groups back fetched unread limit many stops)
 
     pub filled_meant : (cells : List (List Cell)) → cells ≡ group_lines schema plan.asked (limited plan.asked.limit groups) → IsMeaning (record { schema = schema; rows = table }) plan.asked cells
     filled_meant cells is =
@@ -89,7 +89,7 @@ module _ (schema : Schema) (plan : PlanView) (dim : ℕ) (is_descending : Bool) 
       arranged = groups;
       arranged_are = all_groups;
       visits_are = ap (λ (events : List Event). map (λ (event : Event). event.span) events)
-          (sym (reached_short (lead_value dim) is_descending plan.asked.limit groups fetched short));
+          (sym (reached_short (lead_coordinate dim) is_descending plan.asked.limit groups fetched short));
     }
 
     pub ended_meant : (cells : List (List Cell)) → cells ≡ group_lines schema plan.asked (limited plan.asked.limit groups) → IsMeaning (record { schema = schema; rows = table }) plan.asked cells
@@ -103,6 +103,6 @@ module _ (schema : Schema) (plan : PlanView) (dim : ℕ) (is_descending : Bool) 
       → (later : List Event) × AreGroupVisits schema plan dim is_descending regions (map (λ event. event.span) (front ++ later))
   front_visits front left events short past =
       let (back, all_are, back_are) = whole schema plan.asked dim is_descending regions given rest groups same so_far follow led table are in
-      let (later, is) = reached_front (lead_value dim) is_descending plan.asked.limit groups back front left short
+      let (later, is) = reached_front (lead_coordinate dim) is_descending plan.asked.limit groups back front left short
       (back_led schema plan.asked dim is_descending regions given rest groups same so_far (AreUpTo is_descending front) led.some table are back back_are past) in
       (later, visits_by (front ++ left) (front ++ later) back events all_are is)

@@ -7,7 +7,7 @@ use Rattle.ub_planning.proofs.TableFacts.{regions_have_a_table, regions_have_one
 use Rattle.ub_planning.proofs.ThoseFacts.{those_one}
 use Rattle.ub_planning.proofs.VisitFacts.{Differ, rows_differ}
 use Rattle.ub_planning.specs.Plan.{PlanView}
-use Rattle.ub_planning.specs.Visits.{Span, Event, Meets, AreArranged, AreGroupVisits, AreSweepVisits, AreSweptVisits, AreVisitsBy, coordinates, lead_value, reached, selected_rows, spans_of}
+use Rattle.ub_planning.specs.Visits.{Span, Event, Meets, AreArranged, AreGroupVisits, AreSweepVisits, AreSweptVisits, AreVisitsBy, coordinates, lead_coordinate, reached, selected_rows, spans_of}
 use Rattle.ub_planning.specs.declared.planned.Kind.{Kind}
 use Rattle.ub_planning.specs.declared.planned.Kind.TheVariants.{Empty, Scan, Sweep}
 use Rattle.ub_query.proofs.Laws.{Rising, Rising-both, Rising-filter, all_from_contains, an_arrangement, groups_have_an_arrangement, groups_have_one_arrangement, numbers-chain, rows_fall_into_groups, rows_have_one_arrangement, AreAlike, before-chain, before-sides}
@@ -78,7 +78,7 @@ group_visits_of schema plan dim t next regions are =
     let (events, events_are) = events_of schema plan.covering.boxes dim t next regions are in
     let (rows, rows_are) = regions_have_a_table schema next regions are in
     let (arranged, arranged_are) = groups_in_order schema plan.asked (selected (table_of schema rows) plan.asked.filter) in (
-      map (λ event. event.span) (reached t plan.asked.limit (map (lead_value dim) (limited plan.asked.limit arranged)) events),
+      map (λ event. event.span) (reached t plan.asked.limit (map (lead_coordinate dim) (limited plan.asked.limit arranged)) events),
       record {
         events = events;
         events_are = events_are;
@@ -123,8 +123,8 @@ group_visits_one schema plan dim t regions first second a b =
     groups_in_one_order schema plan.asked (selected (table_of schema b.rows) plan.asked.filter) a.arranged b.arranged
     (subst (λ (rs : List Row). AreGroupsInOrder schema plan.asked (selected (table_of schema rs) plan.asked.filter) a.arranged) rows a.arranged_are) b.arranged_are in
     a.visits_are
-    ∙ ap (λ (es : List Event). map (λ event. event.span) (reached t plan.asked.limit (map (lead_value dim) (limited plan.asked.limit a.arranged)) es)) events
-    ∙ ap (λ (gs : List Group). map (λ event. event.span) (reached t plan.asked.limit (map (lead_value dim) (limited plan.asked.limit gs)) b.events)) groups
+    ∙ ap (λ (es : List Event). map (λ event. event.span) (reached t plan.asked.limit (map (lead_coordinate dim) (limited plan.asked.limit a.arranged)) es)) events
+    ∙ ap (λ (gs : List Group). map (λ event. event.span) (reached t plan.asked.limit (map (lead_coordinate dim) (limited plan.asked.limit gs)) b.events)) groups
     ∙ sym b.visits_are
 
 swept_visits_one : (group : List ℕ) (schema : Schema) (plan : PlanView) (dim : ℕ) (t : Bool) (regions : List Region) (first second : List Span)

@@ -130,8 +130,8 @@ pub record AreSweepVisits (schema : Schema) (plan : PlanView) (dim : ℕ) (is_de
       (reached is_descending plan.asked.limit (coordinates dim (limited plan.asked.limit arranged)) events)
 
 -- the coordinate in a dimension that the rows of a group share, where it is the lead
-abbrev pub lead_value : ℕ → Group → ℕ
-lead_value dim group = last_of (coordinates dim group.rows)
+abbrev pub lead_coordinate : ℕ → Group → ℕ
+lead_coordinate dim group = last_of (coordinates dim group.rows)
 
 -- the visits of a sweep of groups: the regions that it comes to, where it gives the groups that the query asks for
 pub record AreGroupVisits (schema : Schema) (plan : PlanView) (dim : ℕ) (is_descending : Bool) (regions : List Region) (visits : List Span) : Type 0 where
@@ -143,7 +143,7 @@ pub record AreGroupVisits (schema : Schema) (plan : PlanView) (dim : ℕ) (is_de
   pub arranged_are : AreGroupsInOrder schema plan.asked
       (selected (record { schema = schema; rows = rows }) plan.asked.filter) arranged
   pub visits_are : visits ≡ map (λ event. event.span)
-      (reached is_descending plan.asked.limit (map (lead_value dim) (limited plan.asked.limit arranged)) events)
+      (reached is_descending plan.asked.limit (map (lead_coordinate dim) (limited plan.asked.limit arranged)) events)
 
 -- the visits of a sweep, by the columns of GROUP BY: of rows where there is none, else of groups
 abbrev pub AreSweptVisits : List ℕ → Schema → PlanView → ℕ → Bool → List Region → List Span → Type 0

@@ -13,12 +13,12 @@ use Rattle.ub_table.specs.declared.schema.Schema.{Schema}
 abbrev pub regions_at : List Event → List Region
 regions_at events = map (λ event. event.span.region) events
 
--- a row's coordinate lies before a value along the sweep, and after it
+-- a row's coordinate lies before another one along the sweep, such as an event value, and after it
 abbrev pub IsRowAlong : ℕ → Bool → Row → ℕ → Type 0
-IsRowAlong dim is_descending row value = IsAlong is_descending (slice_index row.dims dim) value
+IsRowAlong dim is_descending row other = IsAlong is_descending (slice_index row.dims dim) other
 
 abbrev pub IsRowPast : ℕ → Bool → ℕ → Row → Type 0
-IsRowPast dim is_descending value row = IsAlong is_descending value (slice_index row.dims dim)
+IsRowPast dim is_descending other row = IsAlong is_descending other (slice_index row.dims dim)
 
 -- a sweep under way: it comes to the regions in order, those fetched first; the rows given and those still to be given are the
 -- selected rows in the order in which it gives them; those given and those held are the selected rows of the fetched regions. No

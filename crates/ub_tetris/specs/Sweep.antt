@@ -99,8 +99,8 @@ abbrev pub HasStepped : PlanView → TreeView → SweepView → List Row → Lis
 HasStepped plan t s given rest fetched unread None = HasEnded plan t s given rest fetched unread
 HasStepped plan t s given rest fetched unread (Some row) = HasGiven plan t s given rest fetched unread row
 
--- the rows of the next value were given: all that are left of that value in the sweep's dimension, by row number, and no
--- others; the regions fetched are now just the ones whose event values aren't past it
+-- the rows of the next value were given: all that are left with the coordinate that stands for it in the sweep's dimension, by
+-- row number, and no others; the regions fetched are now just the ones whose event values aren't past that coordinate
 pub record HasGivenValue (plan : PlanView) (t : TreeView) (s : SweepView) (given rest : List Row) (fetched unread : List Event) (rows : List Row) : Type 0 where
   pub value : ℕ
   pub more : List Row
