@@ -16,6 +16,7 @@ use Rattle.ub_load.specs.Refusals.{field_refusal}
 use Rattle.ub_load.specs.declared.fault.LoadFault.TheVariants.{OutOfRange}
 use Rattle.ub_table.proofs.Laws.{fits_some_measure}
 use Rattle.ub_table.specs.Value.{fits_at, fits_measure}
+use Rattle.ub_table.specs.declared.axes.Axes.{Axes}
 
 digit_is : (c : ℕ) → is_ascii_digit c ≡ true → digit_value c < 10
 digit_is c h = grind (arith, nat_tests)
@@ -64,10 +65,10 @@ parsed_valid text (Ok v) h = (λ _. (number_from text h.0.0, fits_from (number_o
 parsed_valid text (Err e) h = (λ bad. absurd (false≢true bad), λ p. absurd (h (numeral_from text p.0, fits_to (number_of text) p.1)))
 
 -- a number that 64 bits with sign don't hold is refused in each column
-pub out_of_range : (dims row place : ℕ) (field : List ℕ) → is_number (trimmed field) ≡ true → ¬ (IsWord (trimmed field))
-    → field_refusal dims row (place, field) ≡ Some (OutOfRange row (place + 1))
-out_of_range dims row place field is none = elim (cases_Bool (fits_at dims place (number_of (trimmed field)))) [
-  | inl t ↦ absurd (none (is, fits_some_measure dims place (number_of (trimmed field)) t))
+pub out_of_range : (axes : Axes) (row place : ℕ) (field : List ℕ) → is_number (trimmed field) ≡ true → ¬ (IsWord (trimmed field))
+    → field_refusal axes row (place, field) ≡ Some (OutOfRange row (place + 1))
+out_of_range axes row place field is none = elim (cases_Bool (fits_at axes place (number_of (trimmed field)))) [
+  | inl t ↦ absurd (none (is, fits_some_measure axes place (number_of (trimmed field)) t))
   | inr f ↦ rw (is, f) refl
 ]
 

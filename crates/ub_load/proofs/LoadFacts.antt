@@ -34,6 +34,8 @@ use Rattle.ub_region.proofs.Laws.{insertion_adds_the_row}
 use Rattle.ub_region.specs.Regions.{insert}
 use Rattle.ub_table.specs.Keys.{origin}
 use Rattle.ub_table.specs.Region.{Region, IsRow, measures_of}
+use Rattle.ub_table.specs.Value.{axes_of}
+use Rattle.ub_table.specs.declared.axes.Axes.{Axes}
 use Rattle.ub_table.specs.declared.row.Row.{Row}
 use Rattle.ub_table.specs.declared.schema.Schema.{Schema}
 
@@ -75,17 +77,17 @@ at_end {text} {taken} {a} is b fields s =
 pub at_front : {text : List ℕ} {taken : List (List (List ℕ))} {a : Reader Source} → IsAt text taken a → (rest : List (List (List ℕ))) × (taken ++ rest ≡ records_of text)
 at_front {text} {taken} {a} is = Reached-front default_config (strip_bom text) is.rest a.state taken is.reached
 
-length-rows_of : (dims : ℕ) (taken : List (List (List ℕ))) → length (rows_of dims taken) ≡ length taken
+length-rows_of : (axes : Axes) (taken : List (List (List ℕ))) → length (rows_of axes taken) ≡ length taken
 unfolding rows_of
-length-rows_of dims taken = length-map (enumerate_from 1 taken) (row_of dims) ∙ length-enumerate_from 1 taken
+length-rows_of axes taken = length-map (enumerate_from 1 taken) (row_of axes) ∙ length-enumerate_from 1 taken
 
-rows_of-more : (dims : ℕ) (taken : List (List (List ℕ))) (r : List (List ℕ)) → rows_of dims (taken ++ r ∷ []) ≡ rows_of dims taken ++ row_of dims (1 + length taken, r) ∷ []
+rows_of-more : (axes : Axes) (taken : List (List (List ℕ))) (r : List (List ℕ)) → rows_of axes (taken ++ r ∷ []) ≡ rows_of axes taken ++ row_of axes (1 + length taken, r) ∷ []
 unfolding rows_of
-rows_of-more dims taken r = rw (enumerate_from-append 1 taken (r ∷ []), map-append (row_of dims) (enumerate_from 1 taken) (enumerate_from (1 + length taken) (r ∷ []))) refl
+rows_of-more axes taken r = rw (enumerate_from-append 1 taken (r ∷ []), map-append (row_of axes) (enumerate_from 1 taken) (enumerate_from (1 + length taken) (r ∷ []))) refl
 
-rows_of-none : (dims : ℕ) → rows_of dims [] ≡ []
+rows_of-none : (axes : Axes) → rows_of axes [] ≡ []
 unfolding rows_of
-rows_of-none dims = refl
+rows_of-none axes = refl
 
 insert_all-more : (dims c : ℕ) (rows : List Row) (row : Row) (regions : List Region) → insert_all dims c (rows ++ row ∷ []) regions ≡ insert dims c row (insert_all dims c rows regions)
 insert_all-more dims c [] row regions = refl
@@ -117,9 +119,9 @@ holds_more dims c rows row t u h dims_are page_rows_are good put grown =
     }
 
 -- before the first record
-pub loading_none : {text : List ℕ} {dims page_rows : ℕ} {name : List ℕ} {schema : Schema} {a : Reader Source} → IsHeaded text dims page_rows name schema a
-    → (store : StoreFacts) (t : TreeView) → IsCreated store schema t → IsLoading text dims page_rows name store 1 t a
-loading_none {text} {dims} {page_rows} {name} {schema} is store t made =
+pub loading_none : {text : List ℕ} {axes : Axes} {page_rows : ℕ} {name : List ℕ} {schema : Schema} {a : Reader Source} → IsHeaded text axes page_rows name schema a
+    → (store : StoreFacts) (t : TreeView) → IsCreated store schema t → IsLoading text axes page_rows name store 1 t a
+loading_none {text} {axes} {page_rows} {name} {schema} is store t made =
     let same : t.schema ≡ schema = made.schema_is in
     let parts = is.schema_is in
     record {
@@ -132,7 +134,7 @@ loading_none {text} {dims} {page_rows} {name} {schema} is store t made =
       accepted = refl;
       name_is = ap (λ (s : Schema). s.name) same ∙ parts.0;
       columns_are = ap (λ (s : Schema). s.columns) same ∙ parts.1;
-      dims_are = ap (λ (s : Schema). s.dims) same ∙ parts.2;
+      axes_are = ap axes_of same ∙ parts.2;
       page_rows_are = ap (λ (s : Schema). s.page_rows) same ∙ parts.3;
       next_is = made.next_is;
       at_work = record {
@@ -141,7 +143,7 @@ loading_none {text} {dims} {page_rows} {name} {schema} is store t made =
         pages = (let three = made.pages in let next = made.next_is in omega arith);
         trace_is = made.trace_is;
       };
-      holds = λ honest. rw (rows_of-none dims) (holds_none dims page_rows t (made.sound honest) (made.regions_are honest) made.next_is made.grown);
+      holds = λ honest. rw (rows_of-none axes) (holds_none axes.dims page_rows t (made.sound honest) (made.regions_are honest) made.next_is made.grown);
     }
 
 -- what the tree's schema tells of a record's refusals is what the header tells
@@ -149,13 +151,13 @@ width_is : (t : TreeView) (header : List (List ℕ)) → t.schema.columns ≡ ma
 width_is t header e = ap length e ∙ length-map header trimmed
 
 -- one more record
-pub loading_more : {text : List ℕ} {dims page_rows : ℕ} {name : List ℕ} {store : StoreFacts} {number : ℕ} {t : TreeView} {a : Reader Source}
-    → IsLoading text dims page_rows name store number t a → (u : TreeView) (b : Reader Source) (r : List (List ℕ)) → Took a b r
-    → HasTaken (number, r) t u → IsLoading text dims page_rows name store (number + 1) u b
-loading_more {text} {dims} {page_rows} {name} {store} {number} {t} is u b r s taken =
+pub loading_more : {text : List ℕ} {axes : Axes} {page_rows : ℕ} {name : List ℕ} {store : StoreFacts} {number : ℕ} {t : TreeView} {a : Reader Source}
+    → IsLoading text axes page_rows name store number t a → (u : TreeView) (b : Reader Source) (r : List (List ℕ)) → Took a b r
+    → HasTaken (number, r) t u → IsLoading text axes page_rows name store (number + 1) u b
+loading_more {text} {axes} {page_rows} {name} {store} {number} {t} is u b r s taken =
     let wide = width_is t is.header is.columns_are in
     let least : number ≤ 16777215 = taken.number in
-    let fine : first_of (record_refusals t.schema.dims (length t.schema.columns) (number, r)) ≡ None = taken.accepted in
+    let fine : first_of (record_refusals (axes_of t.schema) (length t.schema.columns) (number, r)) ≡ None = taken.accepted in
     record {
       header = is.header;
       taken = is.taken ++ r ∷ [];
@@ -163,10 +165,10 @@ loading_more {text} {dims} {page_rows} {name} {store} {number} {t} is u b r s ta
       number_is = (let count = is.number_is in let long = length-append is.taken (r ∷ []) in omega arith);
       few = omega arith;
       fine = is.fine;
-      accepted = flat-more (record_refusals dims (length is.header)) 1 number is.taken (r) is.number_is is.accepted (rw (is.dims_are, wide) at fine);
+      accepted = flat-more (record_refusals axes (length is.header)) 1 number is.taken (r) is.number_is is.accepted (rw (is.axes_are, wide) at fine);
       name_is = ap (λ (s : Schema). s.name) taken.schema ∙ is.name_is;
       columns_are = ap (λ (s : Schema). s.columns) taken.schema ∙ is.columns_are;
-      dims_are = ap (λ (s : Schema). s.dims) taken.schema ∙ is.dims_are;
+      axes_are = ap axes_of taken.schema ∙ is.axes_are;
       page_rows_are = ap (λ (s : Schema). s.page_rows) taken.schema ∙ is.page_rows_are;
       next_is = taken.next ∙ ap (λ (k : ℕ). k + 1) is.next_is;
       at_work = record {
@@ -176,36 +178,36 @@ loading_more {text} {dims} {page_rows} {name} {store} {number} {t} is u b r s ta
         trace_is = taken.trace ∙ is.at_work.trace_is;
       };
       holds = λ honest.
-          let row = row_of t.schema.dims (number, r) in
+          let row = row_of (axes_of t.schema) (number, r) in
           let before = is.holds honest in
-          let more = holds_more dims page_rows (rows_of dims is.taken) row t u before is.dims_are is.page_rows_are taken.row (taken.inserted before.sound) taken.grown in
-          let same : rows_of dims is.taken ++ row ∷ [] ≡ rows_of dims (is.taken ++ r ∷ []) =
-          rw (is.dims_are, is.number_is) (sym (rows_of-more dims is.taken (r))) in
-          subst (λ (rows : List Row). HoldsRows dims page_rows rows u) same more;
+          let more = holds_more axes.dims page_rows (rows_of axes is.taken) row t u before (ap (λ (a : Axes). a.dims) is.axes_are) is.page_rows_are taken.row (taken.inserted before.sound) taken.grown in
+          let same : rows_of axes is.taken ++ row ∷ [] ≡ rows_of axes (is.taken ++ r ∷ []) =
+          rw (is.axes_are, is.number_is) (sym (rows_of-more axes is.taken (r))) in
+          subst (λ (rows : List Row). HoldsRows axes.dims page_rows rows u) same more;
     }
 
 -- a record that is refused is the first thing wrong in the text
-pub refused_here : {text : List ℕ} {dims page_rows : ℕ} {name : List ℕ} {store : StoreFacts} {number : ℕ} {t : TreeView} {a : Reader Source}
-    → IsLoading text dims page_rows name store number t a → (b : Reader Source) (r : List (List ℕ)) → Took a b r → (f : LoadFault)
-    → first_of (record_refusals t.schema.dims (length t.schema.columns) (number, r)) ≡ Some f → first_refusal dims name (records_of text) ≡ Some f
+pub refused_here : {text : List ℕ} {axes : Axes} {page_rows : ℕ} {name : List ℕ} {store : StoreFacts} {number : ℕ} {t : TreeView} {a : Reader Source}
+    → IsLoading text axes page_rows name store number t a → (b : Reader Source) (r : List (List ℕ)) → Took a b r → (f : LoadFault)
+    → first_of (record_refusals (axes_of t.schema) (length t.schema.columns) (number, r)) ≡ Some f → first_refusal axes name (records_of text) ≡ Some f
 unfolding refusals
-refused_here {text} {dims} {page_rows} {name} {store} {number} {t} is b r s f bad =
+refused_here {text} {axes} {page_rows} {name} {store} {number} {t} is b r s f bad =
     let wide = width_is t is.header is.columns_are in
     let front = at_front (at_next is.at b r s) in
     let whole : is.header ∷ (is.taken ++ r ∷ front.0) ≡ records_of text = ap (λ rs. is.header ∷ rs) (sym (append_assoc is.taken (r ∷ []) front.0)) ∙ front.1 in
-    ap (first_refusal dims name) (sym whole)
-    ∙ first-skip (header_refusals dims name (map trimmed is.header)) _ is.fine
-    ∙ flat-refused (record_refusals dims (length is.header)) 1 number is.taken front.0 (r) f is.number_is is.accepted (rw (is.dims_are, wide) at bad)
+    ap (first_refusal axes name) (sym whole)
+    ∙ first-skip (header_refusals axes.dims name (map trimmed is.header)) _ is.fine
+    ∙ flat-refused (record_refusals axes (length is.header)) 1 number is.taken front.0 (r) f is.number_is is.accepted (rw (is.axes_are, wide) at bad)
 
 -- the index of a tree that is loaded is never full, since rows were only put into it
-index_never_full : {text : List ℕ} {dims page_rows : ℕ} {name : List ℕ} {store : StoreFacts} {number : ℕ} {t : TreeView} {a : Reader Source}
-    → IsLoading text dims page_rows name store number t a → IsHonest store → IsIndexFull t → ⊥
+index_never_full : {text : List ℕ} {axes : Axes} {page_rows : ℕ} {name : List ℕ} {store : StoreFacts} {number : ℕ} {t : TreeView} {a : Reader Source}
+    → IsLoading text axes page_rows name store number t a → IsHonest store → IsIndexFull t → ⊥
 index_never_full {t = t} is honest full = let h = is.holds honest in grown_is_not_full t h.sound h.grown full
 
 -- what is told of a record is told of the text
-pub told_record : {text : List ℕ} {dims page_rows : ℕ} {name : List ℕ} {store : StoreFacts} {number : ℕ} {t : TreeView} {a : Reader Source}
-    → IsLoading text dims page_rows name store number t a → (b : Reader Source) (r : List (List ℕ)) → Took a b r → (f : LoadFault)
-    → IsTakeFault (number, r) t f → IsLoadFault dims name text store f
+pub told_record : {text : List ℕ} {axes : Axes} {page_rows : ℕ} {name : List ℕ} {store : StoreFacts} {number : ℕ} {t : TreeView} {a : Reader Source}
+    → IsLoading text axes page_rows name store number t a → (b : Reader Source) (r : List (List ℕ)) → Took a b r → (f : LoadFault)
+    → IsTakeFault (number, r) t f → IsLoadFault axes name text store f
 told_record {t = t} is b r s f (inl (same, full)) =
     let few = is.few in
     let next = is.next_is in
@@ -219,24 +221,24 @@ told_record is b r s f (inr (inr h)) =
     inr (told_after (refused_here is b r s) (λ can. rw can_fail at can) (λ broken honest. broken (is.holds honest).sound) f h)
 
 -- a header that is refused is the first thing wrong
-pub refused_header : {text : List ℕ} {header : List (List ℕ)} {a : Reader Source} → IsAt text (header ∷ []) a → (dims : ℕ) (name : List ℕ) (f : LoadFault)
-    → first_of (header_refusals dims name (map trimmed header)) ≡ Some f → first_refusal dims name (records_of text) ≡ Some f
+pub refused_header : {text : List ℕ} {header : List (List ℕ)} {a : Reader Source} → IsAt text (header ∷ []) a → (axes : Axes) (name : List ℕ) (f : LoadFault)
+    → first_of (header_refusals axes.dims name (map trimmed header)) ≡ Some f → first_refusal axes name (records_of text) ≡ Some f
 unfolding refusals
-refused_header {text} {header} is dims name f bad =
+refused_header {text} {header} is axes name f bad =
     let front = at_front is in
-    ap (first_refusal dims name) (sym front.1) ∙ first-here (header_refusals dims name (map trimmed header)) _ f bad
+    ap (first_refusal axes name) (sym front.1) ∙ first-here (header_refusals axes.dims name (map trimmed header)) _ f bad
 
 -- so is that there is no header
-pub refused_empty : {text : List ℕ} {a : Reader Source} → IsAt text [] a → (b : Reader Source) (fields : List (List ℕ)) → TookNone a b fields → (dims : ℕ) (name : List ℕ)
-    → first_refusal dims name (records_of text) ≡ Some NoHeader
+pub refused_empty : {text : List ℕ} {a : Reader Source} → IsAt text [] a → (b : Reader Source) (fields : List (List ℕ)) → TookNone a b fields → (axes : Axes) (name : List ℕ)
+    → first_refusal axes name (records_of text) ≡ Some NoHeader
 unfolding refusals
-refused_empty is b fields s dims name = ap (first_refusal dims name) (sym (at_end is b fields s)) ∙ refl
+refused_empty is b fields s axes name = ap (first_refusal axes name) (sym (at_end is b fields s)) ∙ refl
 
 module _ (from b : Reader Source) (found : Bool) (header : List (List ℕ)) (reads : reader_trim from ≡ trim.None → Ready from → ReadRecord bytes_of from b found header)
-    (more : found ≡ true) (first : reader_trim from ≡ trim.None → took_first b ≡ true) (dims : ℕ) where
+    (more : found ≡ true) (first : reader_trim from ≡ trim.None → took_first b ≡ true) (axes : Axes) where
   -- the first record was read and makes a schema
-  pub took_header : (page_rows : ℕ) (name : List ℕ) (result : Result Schema LoadFault) → IfOk result (IsSchemaOf header dims page_rows name)
-      → OnOk result (header_refusal dims name (columns_of header) ≡ None) → IfOk result (HasReadHeader dims page_rows name from b)
+  pub took_header : (page_rows : ℕ) (name : List ℕ) (result : Result Schema LoadFault) → IfOk result (IsSchemaOf header axes page_rows name)
+      → OnOk result (header_refusal axes.dims name (columns_of header) ≡ None) → IfOk result (HasReadHeader axes page_rows name from b)
   took_header page_rows name (Ok schema) is fine = λ text start. record {
     header = header;
     at = at_next start b header (took start b found header more reads first);
@@ -246,29 +248,29 @@ module _ (from b : Reader Source) (found : Bool) (header : List (List ℕ)) (rea
   took_header page_rows name (Err fault) is fine = tt
 
   -- it makes none
-  pub told_header : (name : List ℕ) (result : Result Schema LoadFault) → IfErr result (λ fault. header_refusal dims name (columns_of header) ≡ Some fault)
-      → IfErr result (IsHeaderFault dims name from)
+  pub told_header : (name : List ℕ) (result : Result Schema LoadFault) → IfErr result (λ fault. header_refusal axes.dims name (columns_of header) ≡ Some fault)
+      → IfErr result (IsHeaderFault axes name from)
   told_header name (Ok schema) bad = tt
   told_header name (Err fault) bad = λ text store start.
       let after = at_next start b header (took start b found header more reads first) in
-      inr (told_first _ _ _ fault (header_is_of_text dims name (map trimmed header) fault bad) (refused_header after dims name fault bad))
+      inr (told_first _ _ _ fault (header_is_of_text axes.dims name (map trimmed header) fault bad) (refused_header after axes name fault bad))
 
 -- at the end nothing is wrong, and all rows are in the tree
-pub all_loaded : {text : List ℕ} {dims page_rows : ℕ} {name : List ℕ} {store : StoreFacts} {number : ℕ} {t : TreeView} {a : Reader Source}
-    → IsLoading text dims page_rows name store number t a → (b : Reader Source) (fields : List (List ℕ)) → TookNone a b fields → IsHonest store → IsLoadedTree text dims page_rows name t
+pub all_loaded : {text : List ℕ} {axes : Axes} {page_rows : ℕ} {name : List ℕ} {store : StoreFacts} {number : ℕ} {t : TreeView} {a : Reader Source}
+    → IsLoading text axes page_rows name store number t a → (b : Reader Source) (fields : List (List ℕ)) → TookNone a b fields → IsHonest store → IsLoadedTree text axes page_rows name t
 unfolding refusals
-all_loaded {text} {dims} {page_rows} {name} is b fields s honest =
+all_loaded {text} {axes} {page_rows} {name} is b fields s honest =
     let h = is.holds honest in
     record {
-      rows = rows_of dims is.taken;
+      rows = rows_of axes is.taken;
       loaded = record {
         header = is.header;
         rest = is.taken;
         records = sym (at_end is.at b fields s);
-        accepted = first-skip (header_refusals dims name (map trimmed is.header)) _ is.fine ∙ is.accepted;
+        accepted = first-skip (header_refusals axes.dims name (map trimmed is.header)) _ is.fine ∙ is.accepted;
         name_is = is.name_is;
         columns_are = is.columns_are;
-        dims_are = is.dims_are;
+        axes_are = is.axes_are;
         page_rows_are = is.page_rows_are;
         rows_are = refl;
       };
@@ -285,8 +287,8 @@ pub record IsTaking (from : Reader Source) (old : TreeView) (number : ℕ) (t : 
   pub few : number ≤ 16777216
   pub next_is : t.next ≡ number
   pub working : t.is_failed ≡ false
-  pub loading : (text : List ℕ) (dims page_rows : ℕ) (name : List ℕ) (store : StoreFacts) → IsLoading text dims page_rows name store 1 old from
-      → IsLoading text dims page_rows name store number t rdr
+  pub loading : (text : List ℕ) (axes : Axes) (page_rows : ℕ) (name : List ℕ) (store : StoreFacts) → IsLoading text axes page_rows name store 1 old from
+      → IsLoading text axes page_rows name store number t rdr
 
 module _ {from : Reader Source} {old t : TreeView} {number : ℕ} {a : Reader Source} (is : IsTaking from old number t a) (b : Reader Source) (found : Bool) (r : List (List ℕ))
     (reads : reader_trim a ≡ trim.None → Ready a → ReadRecord bytes_of a b found r) where
@@ -299,21 +301,21 @@ module _ {from : Reader Source} {old t : TreeView} {number : ℕ} {a : Reader So
         few = omega arith;
         next_is = taken.next ∙ ap (λ (k : ℕ). k + 1) is.next_is;
         working = taken.working;
-        loading = λ text dims page_rows name store h.
-            let now = is.loading text dims page_rows name store h in
+        loading = λ text axes page_rows name store h.
+            let now = is.loading text axes page_rows name store h in
             loading_more now u b r (took now.at b found r more reads first) taken;
       }
 
   -- a record is refused
   pub taking_refused : found ≡ true → (reader_trim a ≡ trim.None → took_first b ≡ true) → (f : LoadFault) → IsTakeFault (number, r) t f → IsRecordsFault from old f
-  taking_refused more first f fault = λ text dims page_rows name store h.
-      let now = is.loading text dims page_rows name store h in
+  taking_refused more first f fault = λ text axes page_rows name store h.
+      let now = is.loading text axes page_rows name store h in
       told_record now b r (took now.at b found r more reads first) f fault
 
   -- there are no more
   pub all_taken : found ≡ false → HasLoadedRecords from old t
-  all_taken none = λ text dims page_rows name store h.
-      let now = is.loading text dims page_rows name store h in
+  all_taken none = λ text axes page_rows name store h.
+      let now = is.loading text axes page_rows name store h in
       (now.at_work, λ honest. all_loaded now b r (took_none now.at b found r none reads) honest)
 
 -- a fresh reader of a text with no header row

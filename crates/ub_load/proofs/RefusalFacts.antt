@@ -9,6 +9,7 @@ use Rattle.std.specs.Prelude.{◌==◌, nat_le, if◌then◌else◌}
 use Rattle.ub_load.specs.Refusals.{content_refusal, content_refusals, fields_refusal, first_of, record_refusals}
 use Rattle.ub_load.specs.declared.fault.LoadFault.TheVariants.{Csv, Tree}
 use Rattle.ub_load.specs.declared.fault.LoadFault.{LoadFault}
+use Rattle.ub_table.specs.declared.axes.Axes.{Axes}
 use Rattle.ub_tree.specs.declared.fault.TreeFault.TheVariants as tree
 
 nothing_found : (found : List LoadFault) → slice_get found 0 ≡ None → found ≡ []
@@ -92,32 +93,32 @@ module _ {X : Type 0} (g : ℕ × X → List (Option LoadFault)) where
       (first-here (g (k, x)) (flat_map g (enumerate_from (k + 1) ys)) f h)
 
 -- the parts of a record's refusals, in order
-pub record_of_other_length : (dims width number : ℕ) (fields : List (List ℕ)) → (length fields ≡ width → ⊥)
-    → first_of (content_refusals dims width (number, fields)) ≡ Some Csv
+pub record_of_other_length : (axes : Axes) (width number : ℕ) (fields : List (List ℕ)) → (length fields ≡ width → ⊥)
+    → first_of (content_refusals axes width (number, fields)) ≡ Some Csv
 unfolding content_refusals
-record_of_other_length dims width number fields ne = let t : (length fields == width) ≡ false = ne_eqb (length fields) width ne in rw t refl
+record_of_other_length axes width number fields ne = let t : (length fields == width) ≡ false = ne_eqb (length fields) width ne in rw t refl
 
-pub content_is_of_fields : (dims width number : ℕ) (fields : List (List ℕ)) → length fields ≡ width
-    → content_refusal dims width (number, fields) ≡ fields_refusal dims number fields
+pub content_is_of_fields : (axes : Axes) (width number : ℕ) (fields : List (List ℕ)) → length fields ≡ width
+    → content_refusal axes width (number, fields) ≡ fields_refusal axes number fields
 unfolding content_refusals
-content_is_of_fields dims width number fields long = let t : (length fields == width) ≡ true = eq-eqb (length fields) width long in rw t refl
+content_is_of_fields axes width number fields long = let t : (length fields == width) ≡ true = eq-eqb (length fields) width long in rw t refl
 
 -- what a record holds is refused before its number
-pub record_with_bad_content : (dims width : ℕ) (r : ℕ × List (List ℕ)) (f : LoadFault) → content_refusal dims width r ≡ Some f
-    → first_of (record_refusals dims width r) ≡ Some f
+pub record_with_bad_content : (axes : Axes) (width : ℕ) (r : ℕ × List (List ℕ)) (f : LoadFault) → content_refusal axes width r ≡ Some f
+    → first_of (record_refusals axes width r) ≡ Some f
 unfolding record_refusals
-record_with_bad_content dims width r f h = first-here (content_refusals dims width r) ((if nat_le r.0 16777215 then None else Some (Tree tree.Full)) ∷ []) f h
+record_with_bad_content axes width r f h = first-here (content_refusals axes width r) ((if nat_le r.0 16777215 then None else Some (Tree tree.Full)) ∷ []) f h
 
-pub record_past_last : (dims width : ℕ) (r : ℕ × List (List ℕ)) → 16777215 < r.0 → content_refusal dims width r ≡ None
-    → first_of (record_refusals dims width r) ≡ Some (Tree tree.Full)
+pub record_past_last : (axes : Axes) (width : ℕ) (r : ℕ × List (List ℕ)) → 16777215 < r.0 → content_refusal axes width r ≡ None
+    → first_of (record_refusals axes width r) ≡ Some (Tree tree.Full)
 unfolding record_refusals
-record_past_last dims width r past h =
+record_past_last axes width r past h =
     let u : nat_le r.0 16777215 ≡ false = lt-leb r.0 16777215 past in
-    rw u (first-skip (content_refusals dims width r) (Some (Tree tree.Full) ∷ []) h)
+    rw u (first-skip (content_refusals axes width r) (Some (Tree tree.Full) ∷ []) h)
 
-pub record_is_fine : (dims width : ℕ) (r : ℕ × List (List ℕ)) → r.0 ≤ 16777215 → content_refusal dims width r ≡ None
-    → first_of (record_refusals dims width r) ≡ None
+pub record_is_fine : (axes : Axes) (width : ℕ) (r : ℕ × List (List ℕ)) → r.0 ≤ 16777215 → content_refusal axes width r ≡ None
+    → first_of (record_refusals axes width r) ≡ None
 unfolding record_refusals
-record_is_fine dims width r le h =
+record_is_fine axes width r le h =
     let u : nat_le r.0 16777215 ≡ true = le-leb r.0 16777215 le in
-    rw u (first-skip (content_refusals dims width r) (None ∷ []) h)
+    rw u (first-skip (content_refusals axes width r) (None ∷ []) h)

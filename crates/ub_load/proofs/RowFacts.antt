@@ -9,6 +9,7 @@ use Rattle.ub_load.specs.Field.{trimmed, number_of}
 use Rattle.ub_load.specs.LoadedTable.{coordinate_of, coordinates_of, measures_of, row_of}
 use Rattle.ub_table.proofs.Laws.{fitting_coordinate}
 use Rattle.ub_table.specs.Value.{coordinate_at, fits_at}
+use Rattle.ub_table.specs.declared.axes.Axes.{Axes}
 use Rattle.ub_table.specs.declared.row.Row.{Row}
 
 module _ {X A : Type 0} (g : X → A) (z : A) where
@@ -72,22 +73,22 @@ abbrev pub measure : List ℕ → ℤ
 measure f = number_of (trimmed f)
 
 -- a dimension's field goes to its place among the coordinates
-pub more_coordinates : (dims : ℕ) (fs : List (List ℕ)) (f : List ℕ) → length fs < dims → dims ≤ 4
-    → (coordinates_of dims (fs ++ f ∷ []) ≡ slice_set (coordinates_of dims fs) (length fs) (coordinate_of dims (length fs, f)))
-    × (measures_of dims (fs ++ f ∷ []) ≡ measures_of dims fs)
-more_coordinates dims fs f h le =
-    let more : length (fs ++ f ∷ []) ≤ dims = omega (arith, length-append fs (f ∷ [])) in
-    rw (take_short dims (fs ++ f ∷ []) more, drop_short dims (fs ++ f ∷ []) more, take_short dims fs (omega arith), drop_short dims fs (omega arith))
-    (numbered-more (coordinate_of dims) 0 4 fs f (omega arith), refl)
+pub more_coordinates : (axes : Axes) (fs : List (List ℕ)) (f : List ℕ) → length fs < axes.dims → axes.dims ≤ 4
+    → (coordinates_of axes (fs ++ f ∷ []) ≡ slice_set (coordinates_of axes fs) (length fs) (coordinate_of axes (length fs, f)))
+    × (measures_of axes.dims (fs ++ f ∷ []) ≡ measures_of axes.dims fs)
+more_coordinates axes fs f h le =
+    let more : length (fs ++ f ∷ []) ≤ axes.dims = omega (arith, length-append fs (f ∷ [])) in
+    rw (take_short axes.dims (fs ++ f ∷ []) more, drop_short axes.dims (fs ++ f ∷ []) more, take_short axes.dims fs (omega arith), drop_short axes.dims fs (omega arith))
+    (numbered-more (coordinate_of axes) 0 4 fs f (omega arith), refl)
 
 -- a measure's to its own
-pub more_measures : (dims : ℕ) (fs : List (List ℕ)) (f : List ℕ) → dims ≤ length fs → length fs < dims + 4
-    → (coordinates_of dims (fs ++ f ∷ []) ≡ coordinates_of dims fs) × (measures_of dims (fs ++ f ∷ []) ≡ slice_set (measures_of dims fs) (length fs - dims) (measure f))
-more_measures dims fs f le h =
-    let long = length_left dims fs in
-    let few : length (drop dims fs) < 4 = omega arith in
-    rw (take_long dims fs (f ∷ []) le, drop_long dims fs (f ∷ []) le, ← long)
-    (refl, padded-more measure (pos 0) 4 (drop dims fs) f few)
+pub more_measures : (axes : Axes) (fs : List (List ℕ)) (f : List ℕ) → axes.dims ≤ length fs → length fs < axes.dims + 4
+    → (coordinates_of axes (fs ++ f ∷ []) ≡ coordinates_of axes fs) × (measures_of axes.dims (fs ++ f ∷ []) ≡ slice_set (measures_of axes.dims fs) (length fs - axes.dims) (measure f))
+more_measures axes fs f le h =
+    let long = length_left axes.dims fs in
+    let few : length (drop axes.dims fs) < 4 = omega arith in
+    rw (take_long axes.dims fs (f ∷ []) le, drop_long axes.dims fs (f ∷ []) le, ← long)
+    (refl, padded-more measure (pos 0) 4 (drop axes.dims fs) f few)
 
 -- a field that is there
 there : (fs : List (List ℕ)) (i : ℕ) → i < length fs → (f : List ℕ) × (field_at fs i ≡ Some f)
@@ -110,53 +111,56 @@ pub got_is : (fs : List (List ℕ)) (i : ℕ) (o : Option (Bor (List ℕ))) (r :
 got_is fs i o r e h = sym (at_place fs i) ∙ sym h ∙ ap (option_map (λ s. s.now)) e
 
 -- one more field of a row
-pub coordinate_more : (dims number : ℕ) (fs : List (List ℕ)) (f : List ℕ) → length fs < dims → dims ≤ 4
-    → row_of dims (number, fs ++ f ∷ []) ≡ record (row_of dims (number, fs)) { dims = slice_set (row_of dims (number, fs)).dims (length fs) (coordinate_of dims (length fs, f)) }
+pub coordinate_more : (axes : Axes) (number : ℕ) (fs : List (List ℕ)) (f : List ℕ) → length fs < axes.dims → axes.dims ≤ 4
+    → row_of axes (number, fs ++ f ∷ []) ≡ record (row_of axes (number, fs)) { dims = slice_set (row_of axes (number, fs)).dims (length fs) (coordinate_of axes (length fs, f)) }
 unfolding row_of
-coordinate_more dims number fs f h le =
-    let m = more_coordinates dims fs f h le in
+coordinate_more axes number fs f h le =
+    let m = more_coordinates axes fs f h le in
     rw (m.0, m.1) refl
 
-pub measure_more : (dims number : ℕ) (fs : List (List ℕ)) (f : List ℕ) → dims ≤ length fs → length fs < dims + 4
-    → row_of dims (number, fs ++ f ∷ []) ≡ record (row_of dims (number, fs)) { measures = slice_set (row_of dims (number, fs)).measures (length fs - dims) (measure f) }
+pub measure_more : (axes : Axes) (number : ℕ) (fs : List (List ℕ)) (f : List ℕ) → axes.dims ≤ length fs → length fs < axes.dims + 4
+    → row_of axes (number, fs ++ f ∷ []) ≡ record (row_of axes (number, fs)) { measures = slice_set (row_of axes (number, fs)).measures (length fs - axes.dims) (measure f) }
 unfolding row_of
-measure_more dims number fs f le h =
-    let m = more_measures dims fs f le h in
+measure_more axes number fs f le h =
+    let m = more_measures axes fs f le h in
     rw (m.0, m.1) refl
 
 -- the row of no fields
-pub row_of_none : (dims number : ℕ) → row_of dims (number, []) ≡ record { number = number; dims = replicate 4 0; measures = replicate 4 (pos 0) }
+pub row_of_none : (axes : Axes) (number : ℕ) → row_of axes (number, []) ≡ record { number = number; dims = replicate 4 0; measures = replicate 4 (pos 0) }
 unfolding row_of
-row_of_none zero number = refl
-row_of_none (suc n) number = refl
+row_of_none axes number =
+    let none : List (List ℕ) = [] in
+    let took : take axes.dims none ≡ none = take_short axes.dims none (omega arith) in
+    let left : drop axes.dims none ≡ none = drop_short axes.dims none (omega arith) in
+    rw (took, left) refl
 
 pub take_all : {X : Type 0} (n : ℕ) (xs : List X) → length xs ≤ n → take n xs ≡ xs
 take_all n xs h = take_short n xs h
 
 -- the row with the value of one more field in its place
-pub row_with_coordinate : (dims number place : ℕ) (fs : List (List ℕ)) (f : List ℕ) (row new : Row) (x : ℕ) → slice_get fs place ≡ Some f → row ≡ row_of dims (number, take place fs)
-    → place < dims → dims ≤ 4 → x ≡ coordinate_of dims (place, f) → new ≡ record { number = row.number; dims = slice_set row.dims place x; measures = row.measures }
-    → new ≡ row_of dims (number, take (place + 1) fs)
-row_with_coordinate dims number place fs f row new x at is h le val e =
+pub row_with_coordinate : (axes : Axes) (number place : ℕ) (fs : List (List ℕ)) (f : List ℕ) (row new : Row) (x : ℕ) → slice_get fs place ≡ Some f → row ≡ row_of axes (number, take place fs)
+    → place < axes.dims → axes.dims ≤ 4 → x ≡ coordinate_of axes (place, f) → new ≡ record { number = row.number; dims = slice_set row.dims place x; measures = row.measures }
+    → new ≡ row_of axes (number, take (place + 1) fs)
+row_with_coordinate axes number place fs f row new x at is h le val e =
     let long : length (take place fs) ≡ place = length-taken fs place f at in
-    let more = coordinate_more dims number (take place fs) f (omega arith) le in
+    let more = coordinate_more axes number (take place fs) f (omega arith) le in
     e ∙ rw (is, val, add-one, take_one fs place f at) (sym (rw long at more))
 
 -- the coordinate of a field that fits its dimension: there is one
-pub some_coordinate : (dims place : ℕ) (v : ℤ) (o : Option ℕ) → place < dims → fits_at dims place v ≡ true → o ≡ coordinate_at dims place v → IsSome o
-some_coordinate dims place v o lt fits is = rw (is ∙ (fitting_coordinate dims place v lt fits).1) refl
+pub some_coordinate : (axes : Axes) (place : ℕ) (v : ℤ) (o : Option ℕ) → place < axes.dims → fits_at axes place v ≡ true → o ≡ coordinate_at axes place v → IsSome o
+some_coordinate axes place v o lt fits is = rw (is ∙ (fitting_coordinate axes place v lt fits).1) refl
 
 -- and this is it
-pub told_coordinate : (dims place : ℕ) (f : List ℕ) (v : ℤ) (o : Option ℕ) (x : ℕ) → v ≡ number_of (trimmed f) → o ≡ coordinate_at dims place v → o ≡ Some x
-    → x ≡ coordinate_of dims (place, f)
-told_coordinate dims place f v o x val is some =
-    let e : coordinate_at dims place (number_of (trimmed f)) ≡ Some x = rw val at (sym is ∙ some) in
+pub told_coordinate : (axes : Axes) (place : ℕ) (f : List ℕ) (v : ℤ) (o : Option ℕ) (x : ℕ) → v ≡ number_of (trimmed f) → o ≡ coordinate_at axes place v → o ≡ Some x
+    → x ≡ coordinate_of axes (place, f)
+told_coordinate axes place f v o x val is some =
+    let e : coordinate_at axes place (number_of (trimmed f)) ≡ Some x = rw val at (sym is ∙ some) in
     rw e refl
 
-pub row_with_measure : (dims number place : ℕ) (fs : List (List ℕ)) (f : List ℕ) (row new : Row) (v : ℤ) → slice_get fs place ≡ Some f → row ≡ row_of dims (number, take place fs)
-    → dims ≤ place → place < dims + 4 → v ≡ number_of (trimmed f) → new ≡ record { number = row.number; dims = row.dims; measures = slice_set row.measures (place - dims) v }
-    → new ≡ row_of dims (number, take (place + 1) fs)
-row_with_measure dims number place fs f row new v at is le h val e =
+pub row_with_measure : (axes : Axes) (number place : ℕ) (fs : List (List ℕ)) (f : List ℕ) (row new : Row) (v : ℤ) → slice_get fs place ≡ Some f → row ≡ row_of axes (number, take place fs)
+    → axes.dims ≤ place → place < axes.dims + 4 → v ≡ number_of (trimmed f) → new ≡ record { number = row.number; dims = row.dims; measures = slice_set row.measures (place - axes.dims) v }
+    → new ≡ row_of axes (number, take (place + 1) fs)
+row_with_measure axes number place fs f row new v at is le h val e =
     let long : length (take place fs) ≡ place = length-taken fs place f at in
-    let more = measure_more dims number (take place fs) f (omega arith) (omega arith) in
+    let more = measure_more axes number (take place fs) f (omega arith) (omega arith) in
     e ∙ rw (is, val, add-one, take_one fs place f at) (sym (rw long at more))

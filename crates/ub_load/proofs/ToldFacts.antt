@@ -18,6 +18,7 @@ use Rattle.ub_load.specs.declared.fault.LoadFault.{LoadFault}
 use Rattle.ub_load.specs.declared.fault.LoadFault.TheVariants.{NoHeader, Csv, Tree, Memory, BadName, BadNumber, OutOfRange, ColumnCount}
 use Rattle.ub_table.specs.Name.{is_name}
 use Rattle.ub_table.specs.Value.{fits_at}
+use Rattle.ub_table.specs.declared.axes.Axes.{Axes}
 
 -- what is told where something is the first thing wrong is told where that is the first thing wrong of more
 pub told_after : {first later : Option LoadFault} {F B G C : Type 0} → ((f : LoadFault) → first ≡ Some f → later ≡ Some f) → (F → G) → (B → C) → (f : LoadFault)
@@ -140,9 +141,9 @@ all_found : {X : Type 0} (g : X → Option LoadFault) (P : LoadFault → Type 0)
 all_found g P h [] = tt
 all_found g P h (x ∷ xs) = (h x, all_found g P h xs)
 
-field_is_of_text : (dims row : ℕ) (f : ℕ × List ℕ) → IfSome (field_refusal dims row f) IsOfText
-field_is_of_text dims row f = elim (cases_Bool (is_number (trimmed f.1))) [
-  | inl t ↦ elim (cases_Bool (fits_at dims f.0 (number_of (trimmed f.1)))) [
+field_is_of_text : (axes : Axes) (row : ℕ) (f : ℕ × List ℕ) → IfSome (field_refusal axes row f) IsOfText
+field_is_of_text axes row f = elim (cases_Bool (is_number (trimmed f.1))) [
+  | inl t ↦ elim (cases_Bool (fits_at axes f.0 (number_of (trimmed f.1)))) [
     | inl u ↦ rw (t, u) tt
     | inr u ↦ rw (t, u) (λ fault e. cc)
   ]
@@ -150,11 +151,11 @@ field_is_of_text dims row f = elim (cases_Bool (is_number (trimmed f.1))) [
 ]
 
 -- a record of another length, and a field, are no faults of the tree
-pub content_is_of_text : (dims width : ℕ) (r : ℕ × List (List ℕ)) (f : LoadFault) → content_refusal dims width r ≡ Some f → IsOfText f
+pub content_is_of_text : (axes : Axes) (width : ℕ) (r : ℕ × List (List ℕ)) (f : LoadFault) → content_refusal axes width r ≡ Some f → IsOfText f
 unfolding content_refusals
-content_is_of_text dims width r f e =
-    first-has IsOfText ((if length r.1 == width then None else Some Csv) ∷ map (field_refusal dims r.0) (enumerate_from 0 r.1)) f
-    (other_length, all_found (field_refusal dims r.0) IsOfText (field_is_of_text dims r.0) (enumerate_from 0 r.1)) e
+content_is_of_text axes width r f e =
+    first-has IsOfText ((if length r.1 == width then None else Some Csv) ∷ map (field_refusal axes r.0) (enumerate_from 0 r.1)) f
+    (other_length, all_found (field_refusal axes r.0) IsOfText (field_is_of_text axes r.0) (enumerate_from 0 r.1)) e
   where
     other_length : IfSome (if length r.1 == width then None else Some Csv) IsOfText
     other_length = elim (cases_Bool (length r.1 == width)) [

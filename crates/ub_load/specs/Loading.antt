@@ -8,6 +8,8 @@ use Rattle.ub_store.specs.Facts.{StoreFacts, IsHonest, page_count}
 use Rattle.ub_store.specs.View.{untouched}
 use Rattle.ub_store.specs.declared.fault.StoreFault.TheVariants as store
 use Rattle.ub_table.specs.Region.{IsRow, measures_of}
+use Rattle.ub_table.specs.Value.{axes_of}
+use Rattle.ub_table.specs.declared.axes.Axes.{Axes}
 use Rattle.ub_table.specs.declared.row.Row.{Row}
 use Rattle.ub_table.specs.declared.row.TheConstants.{MAX_ROW_NUMBER}
 use Rattle.ub_tree.specs.Change.{IsInserted}
@@ -42,17 +44,17 @@ IsToldOf first CanFail IsBroken fault = first ≡ Some fault
 
 -- why a text isn't loaded into a new tree over a store with these facts: `csv` refused a record, or this is told of the first thing
 -- that is wrong with the text
-abbrev pub IsLoadFault : ℕ → List ℕ → List ℕ → StoreFacts → LoadFault → Type 0
-IsLoadFault dims name text facts fault =
-    (fault ≡ Csv) ⊎ IsToldOf (first_refusal dims name (records_of text)) (IsTrue facts.can_fail) (¬ (IsHonest facts)) fault
+abbrev pub IsLoadFault : Axes → List ℕ → List ℕ → StoreFacts → LoadFault → Type 0
+IsLoadFault axes name text facts fault =
+    (fault ≡ Csv) ⊎ IsToldOf (first_refusal axes name (records_of text)) (IsTrue facts.can_fail) (¬ (IsHonest facts)) fault
 
 -- the first thing that is wrong with a record (with its row number), for this tree
 abbrev pub record_refusal : ℕ × List (List ℕ) → TreeView → Option LoadFault
-record_refusal r t = first_of (record_refusals t.schema.dims (length t.schema.columns) r)
+record_refusal r t = first_of (record_refusals (axes_of t.schema) (length t.schema.columns) r)
 
 -- the row of a record with its number, in this tree
 abbrev pub row_in : TreeView → ℕ × List (List ℕ) → Row
-row_in t r = row_of t.schema.dims r
+row_in t r = row_of (axes_of t.schema) r
 
 -- a row number was left, and is given
 abbrev pub HasCounted : TreeView → TreeView → Type 0

@@ -11,6 +11,7 @@ use Rattle.csv.specs.declared.error.ErrorKind.{ErrorKind}
 use Rattle.csv.specs.declared.error.ErrorKind.TheVariants as kind
 use Rattle.ub_table.specs.Name.{is_name}
 use Rattle.ub_table.specs.Value.{fits_at}
+use Rattle.ub_table.specs.declared.axes.Axes.{Axes}
 use Rattle.ub_table.specs.declared.row.TheConstants.{MAX_ROW_NUMBER}
 
 -- whether a text is a name that none of these is
@@ -29,32 +30,32 @@ header_refusals dims name names =
     ∷ map (name_refusal names) (enumerate_from 0 names)
 
 -- a field (with its place from 0) of a row is refused where it is no number, or one that its column can't hold
-abbrev pub field_refusal : ℕ → ℕ → ℕ × List ℕ → Option LoadFault
-field_refusal dims row f =
+abbrev pub field_refusal : Axes → ℕ → ℕ × List ℕ → Option LoadFault
+field_refusal axes row f =
     if not (is_number (trimmed f.1)) then Some (BadNumber row (f.0 + 1))
-    else (if fits_at dims f.0 (number_of (trimmed f.1)) then None else Some (OutOfRange row (f.0 + 1)))
+    else (if fits_at axes f.0 (number_of (trimmed f.1)) then None else Some (OutOfRange row (f.0 + 1)))
 
 -- a field (with its place from 0) of a row that isn't refused, and the value that it holds
-abbrev pub HoldsValue : ℕ → ℕ → ℕ × List ℕ → ℤ → Type 0
-HoldsValue dims row f v =
-    (field_refusal dims row f ≡ None) × (v ≡ number_of (trimmed f.1)) × (fits_at dims f.0 v ≡ true)
+abbrev pub HoldsValue : Axes → ℕ → ℕ × List ℕ → ℤ → Type 0
+HoldsValue axes row f v =
+    (field_refusal axes row f ≡ None) × (v ≡ number_of (trimmed f.1)) × (fits_at axes f.0 v ≡ true)
 
 -- what can be wrong with what a record (with its row number) holds, in order: its length, each field
-unfoldable pub content_refusals : ℕ → ℕ → ℕ × List (List ℕ) → List (Option LoadFault)
-content_refusals dims width r =
-    (if length r.1 == width then None else Some Csv) ∷ map (field_refusal dims r.0) (enumerate_from 0 r.1)
+unfoldable pub content_refusals : Axes → ℕ → ℕ × List (List ℕ) → List (Option LoadFault)
+content_refusals axes width r =
+    (if length r.1 == width then None else Some Csv) ∷ map (field_refusal axes r.0) (enumerate_from 0 r.1)
 
 -- what can be wrong with a record, in order: what it holds, and that no row has such a number
-unfoldable pub record_refusals : ℕ → ℕ → ℕ × List (List ℕ) → List (Option LoadFault)
-record_refusals dims width r =
-    content_refusals dims width r ++ (if nat_le r.0 MAX_ROW_NUMBER then None else Some (Tree tree.Full)) ∷ []
+unfoldable pub record_refusals : Axes → ℕ → ℕ × List (List ℕ) → List (Option LoadFault)
+record_refusals axes width r =
+    content_refusals axes width r ++ (if nat_le r.0 MAX_ROW_NUMBER then None else Some (Tree tree.Full)) ∷ []
 
 -- all that can be wrong with the records of a text, in order
-unfoldable pub refusals : ℕ → List ℕ → List (List (List ℕ)) → List (Option LoadFault)
-refusals dims name [] = Some NoHeader ∷ []
-refusals dims name (header ∷ rows) =
-    header_refusals dims name (map trimmed header)
-    ++ flat_map (record_refusals dims (length header)) (enumerate_from 1 rows)
+unfoldable pub refusals : Axes → List ℕ → List (List (List ℕ)) → List (Option LoadFault)
+refusals axes name [] = Some NoHeader ∷ []
+refusals axes name (header ∷ rows) =
+    header_refusals axes.dims name (map trimmed header)
+    ++ flat_map (record_refusals axes (length header)) (enumerate_from 1 rows)
 
 -- the first thing that is wrong, if any is
 abbrev pub first_of : List (Option LoadFault) → Option LoadFault
@@ -69,16 +70,16 @@ abbrev pub header_refusal : ℕ → List ℕ → List (List ℕ) → Option Load
 header_refusal dims name names = first_of (header_refusals dims name names)
 
 -- the first thing that is wrong with what a record holds
-abbrev pub content_refusal : ℕ → ℕ → ℕ × List (List ℕ) → Option LoadFault
-content_refusal dims width r = first_of (content_refusals dims width r)
+abbrev pub content_refusal : Axes → ℕ → ℕ × List (List ℕ) → Option LoadFault
+content_refusal axes width r = first_of (content_refusals axes width r)
 
 -- the first field of a row that is refused
-abbrev pub fields_refusal : ℕ → ℕ → List (List ℕ) → Option LoadFault
-fields_refusal dims row fields = first_of (map (field_refusal dims row) (enumerate_from 0 fields))
+abbrev pub fields_refusal : Axes → ℕ → List (List ℕ) → Option LoadFault
+fields_refusal axes row fields = first_of (map (field_refusal axes row) (enumerate_from 0 fields))
 
 -- the first thing that is wrong with a text's records
-abbrev pub first_refusal : ℕ → List ℕ → List (List (List ℕ)) → Option LoadFault
-first_refusal dims name records = first_of (refusals dims name records)
+abbrev pub first_refusal : Axes → List ℕ → List (List (List ℕ)) → Option LoadFault
+first_refusal axes name records = first_of (refusals axes name records)
 
 -- what a refusal of `csv` is to the loader
 abbrev pub fault_of : ErrorKind → LoadFault

@@ -9,7 +9,7 @@ ghost use Rattle.ub_load.specs.Field as spec;
 
 use crate::fault::LoadFault;
 use std::str;
-use ub_table::fits_at;
+use ub_table::{Axes, fits_at};
 
 /// The field without the spaces (32) at its two ends. No other byte is taken away, a tab neither.
 #[tactic(auto, unfolding(crate::specs::Field::trimmed))]
@@ -84,13 +84,13 @@ fn read_number(text: &[u8]) -> Option<i64>
     }
 }
 
-/// The value of a field in a column (its place counts from 0) of a table with so many dimensions, in the row of this
+/// The value of a field in a column (its place counts from 0) of a table with these dimensions, in the row of this
 /// number. `BadNumber` where it is no number, and `OutOfRange` where its column cannot hold it.
-pub fn read_field(field: &[u8], place: usize, dims: u32, row: u32) -> Result<i64, LoadFault>
+pub fn read_field(field: &[u8], place: usize, axes: Axes, row: u32) -> Result<i64, LoadFault>
     requires { place < 2 ^ 31 }
     ensures { MatchResult result
-        (HoldsValue dims row (place, field.now))
-        (λ f. field_refusal dims row (place, field.now) ≡ Some f) }
+        (HoldsValue axes row (place, field.now))
+        (λ f. field_refusal axes row (place, field.now) ≡ Some f) }
 {
     let text = trim_spaces(field);
     let column = place as u32 + 1;
@@ -98,7 +98,7 @@ pub fn read_field(field: &[u8], place: usize, dims: u32, row: u32) -> Result<i64
         return Err(LoadFault::BadNumber { row, column });
     }
     match read_number(text) {
-        Some(value) if fits_at(dims, place, i128::from(value)) => Ok(value),
+        Some(value) if fits_at(axes, place, i128::from(value)) => Ok(value),
         _ => Err(LoadFault::OutOfRange { row, column }),
     }
 }

@@ -6,31 +6,33 @@ ghost use Rattle.csv.specs.Records.{fields_of};
 ghost use Rattle.ub_load.specs.Field.{trimmed};
 ghost use Rattle.ub_load.specs.LoadedTable.{columns_of, IsSchemaOf};
 ghost use Rattle.ub_load.specs.Refusals.{header_refusal, is_new_name, names_refusal};
-ghost use Rattle.ub_table.specs.Schema.{AreTableNumbers};
+ghost use Rattle.ub_table.specs.Schema.{AreTableNumbers, IsMask};
 
 use crate::fault::LoadFault;
 use crate::field::trim_spaces;
 use crate::row::field_at;
 use csv::ByteRecord;
-use ub_table::{Name, Schema};
+use ub_table::{Axes, Name, Schema};
 
-/// The schema of a table of this name whose columns are the header's fields, or the first thing that is wrong with them:
+/// The schema of a table of this name with these dimensions whose columns are the header's fields, or the first thing that is wrong with them:
 /// `ColumnCount`, `BadName(0)` for the table's name, `BadName` for a column's.
 pub fn read_schema(
     header: &ByteRecord,
-    dims: u32,
+    axes: Axes,
     page_rows: u32,
     name: &[u8],
 ) -> Result<Schema, LoadFault>
-    requires numbers { AreTableNumbers dims page_rows }
-    ensures schema { IfOk result (IsSchemaOf (fields_of header.now) dims page_rows name.now) }
-    ensures few_columns { OnOk result (length (fields_of header.now) ≤ dims + 4) }
-    ensures accepted { OnOk result (header_refusal dims name.now (columns_of (fields_of header.now)) ≡ None) }
+    requires numbers { AreTableNumbers axes.dims page_rows }
+    requires mask { IsMask axes.dims axes.signed }
+    ensures schema { IfOk result (IsSchemaOf (fields_of header.now) axes page_rows name.now) }
+    ensures few_columns { OnOk result (length (fields_of header.now) ≤ axes.dims + 4) }
+    ensures accepted { OnOk result (header_refusal axes.dims name.now (columns_of (fields_of header.now)) ≡ None) }
     ensures refused { IfErr result
-        (λ f. header_refusal dims name.now (columns_of (fields_of header.now)) ≡ Some f) }
+        (λ f. header_refusal axes.dims name.now (columns_of (fields_of header.now)) ≡ Some f) }
 {
     let width = header.len();
-    if width < dims as usize || width > dims as usize + 4 {
+    let dims = axes.dims as usize;
+    if width < dims || width > dims + 4 {
         return Err(LoadFault::ColumnCount);
     }
     let Ok(table) = Name::new(name) else {
@@ -38,7 +40,7 @@ pub fn read_schema(
     };
     let columns = read_names(header, table)?;
     // The numbers are in range and the names distinct, so there is such a schema.
-    Ok(Schema::new(table, &columns[..width], dims, page_rows).unwrap())
+    Ok(Schema::new(table, &columns[..width], axes.dims, page_rows, axes.signed).unwrap())
 }
 
 // The names of the columns in the first places, and the filler in the others; or the first name's refusal.

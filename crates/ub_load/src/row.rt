@@ -9,30 +9,35 @@ ghost use Rattle.ub_load.specs.Refusals.{content_refusal, fields_refusal};
 use crate::fault::LoadFault;
 use crate::field::read_field;
 use csv::ByteRecord;
-use ub_table::{Row, coordinate_at};
+use ub_table::{Axes, Row, coordinate_at};
 
-/// The row of this number that a record holds, for a table with so many dimensions and columns (the width), or the first
+/// The row of this number that a record holds, for a table with these dimensions and so many columns (the width), or the first
 /// thing that is wrong with what it holds: `Csv` for another length, or a field's refusal.
-pub fn read_row(fields: &ByteRecord, dims: u32, width: usize, number: u32) -> Result<Row, LoadFault>
-    requires few_dims { dims ≤ 4 }
-    requires few_columns { width ≤ dims + 4 }
-    ensures row { IfOk result (λ row. row ≡ row_of dims (number, fields_of fields.now)) }
-    ensures accepted { OnOk result (content_refusal dims width (number, fields_of fields.now) ≡ None) }
-    ensures refused { IfErr result (λ f. content_refusal dims width (number, fields_of fields.now) ≡ Some f) }
+pub fn read_row(
+    fields: &ByteRecord,
+    axes: Axes,
+    width: usize,
+    number: u32,
+) -> Result<Row, LoadFault>
+    requires few_dims { axes.dims ≤ 4 }
+    requires few_columns { width ≤ axes.dims + 4 }
+    ensures row { IfOk result (λ row. row ≡ row_of axes (number, fields_of fields.now)) }
+    ensures accepted { OnOk result (content_refusal axes width (number, fields_of fields.now) ≡ None) }
+    ensures refused { IfErr result (λ f. content_refusal axes width (number, fields_of fields.now) ≡ Some f) }
 {
     if fields.len() != width {
         return Err(LoadFault::Csv);
     }
-    read_values(fields, dims, number)
+    read_values(fields, axes, number)
 }
 
 // The row that the record's fields make, or the first field's refusal.
-fn read_values(fields: &ByteRecord, dims: u32, number: u32) -> Result<Row, LoadFault>
-    requires few_dims { dims ≤ 4 }
-    requires few_columns { length (fields_of fields.now) ≤ dims + 4 }
-    ensures row { IfOk result (λ row. row ≡ row_of dims (number, fields_of fields.now)) }
-    ensures accepted { OnOk result (fields_refusal dims number (fields_of fields.now) ≡ None) }
-    ensures refused { IfErr result (λ fault. fields_refusal dims number (fields_of fields.now) ≡ Some fault) }
+fn read_values(fields: &ByteRecord, axes: Axes, number: u32) -> Result<Row, LoadFault>
+    requires few_dims { axes.dims ≤ 4 }
+    requires few_columns { length (fields_of fields.now) ≤ axes.dims + 4 }
+    ensures row { IfOk result (λ row. row ≡ row_of axes (number, fields_of fields.now)) }
+    ensures accepted { OnOk result (fields_refusal axes number (fields_of fields.now) ≡ None) }
+    ensures refused { IfErr result (λ fault. fields_refusal axes number (fields_of fields.now) ≡ Some fault) }
 {
     let mut row = Row {
         number,
@@ -40,12 +45,13 @@ fn read_values(fields: &ByteRecord, dims: u32, number: u32) -> Result<Row, LoadF
         measures: [0; 4],
     };
     for place in 0..fields.len() {
-        let value = read_field(field_at(fields, place), place, dims, number)?;
-        if place < dims as usize {
+        let value = read_field(field_at(fields, place), place, axes, number)?;
+        if place < axes.dims as usize {
             // The number fits its dimension, so there is such a coordinate.
-            row.dims[place] = coordinate_at(dims, place, i128::from(value)).unwrap();
+            let coordinate = coordinate_at(axes, place, i128::from(value)).unwrap();
+            row.dims[place] = coordinate;
         } else {
-            row.measures[place - dims as usize] = value;
+            row.measures[place - axes.dims as usize] = value;
         }
     }
     Ok(row)

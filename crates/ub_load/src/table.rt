@@ -3,12 +3,13 @@
 ghost use Rattle.std.specs.Prelude.{◌≡◌, ◌≤◌, ◌+◌, ℕ, false, List, [], IfOk, IfErr};
 ghost use Rattle.std.specs.Result.{OnOk};
 ghost use Rattle.csv.specs.Records.{fields_of};
+ghost use Rattle.ub_load.specs.LoadedTable.{axes_with};
 ghost use Rattle.ub_load.specs.LoadedTree.{IsLoadedTree};
 ghost use Rattle.ub_load.specs.Loading.{HasCounted, HasGrown, HasTaken, IsAtWork, IsLoadFault, IsNewFault, IsTakeFault};
 ghost use Rattle.ub_load.specs.inner.Progress.{HasLoadedRecords, HasReadHeader, IsAt, IsHeaderFault, IsRecordsFault};
 ghost use Rattle.ub_store.specs.Facts.{page_count, IsHonest};
 ghost use Rattle.ub_table.specs.Region.{measures_of};
-ghost use Rattle.ub_table.specs.Schema.{AreTableNumbers};
+ghost use Rattle.ub_table.specs.Schema.{AreTableNumbers, IsMask};
 ghost use Rattle.ub_table.specs.declared.row.TheConstants.{MAX_ROW_NUMBER};
 ghost use Rattle.ub_tree.specs.Calls.{IsCreated};
 ghost use Rattle.ub_tree.specs.Change.{IsInserted, Suits};
@@ -21,13 +22,14 @@ use crate::row::read_row;
 use csv::{ByteRecord, Reader, ReaderBuilder};
 use std::alloc::Global;
 use ub_store::PageStore;
-use ub_table::{Row, Schema};
+use ub_table::{Axes, Row, Schema};
 use ub_tree::{Tree, TreeFault};
 
 /// Loads the table of this name that a CSV text holds into a new tree over this store, which has no pages: the first record
 /// is the header, whose first `dims` columns are the dimensions and whose others are the measures, and each record after it
-/// is a row, put in as it is read, with the numbers from 1. `page_rows` is how many rows a region's page holds. Records are
-/// read as `csv` reads them with its defaults; spaces at the ends of a field are no part of it.
+/// is a row, put in as it is read, with the numbers from 1. `page_rows` is how many rows a region's page holds, and bit i of
+/// `signed` says that dimension i is signed. Records are read as `csv` reads them with its defaults; spaces at the ends of a
+/// field are no part of it.
 ///
 /// The error is the first thing that is wrong, in the order of the text: `NoHeader`, `ColumnCount`, `BadName`, and then for
 /// each row `Csv` for a length other than the header's, `BadNumber` or `OutOfRange`, and `Tree` with `Full`. `Csv` comes only
@@ -41,13 +43,17 @@ pub fn load<S: PageStore>(
     dims: u32,
     page_rows: u32,
     name: &[u8],
+    signed: u32,
     store: S,
 ) -> Result<Tree<S>, LoadFault>
     requires numbers { AreTableNumbers dims page_rows }
+    requires mask { IsMask dims signed }
     requires empty { page_count (S.facts store) ≡ 0 }
-    ensures loaded { IsHonest (S.facts store) → IfOk result (IsLoadedTree text.now dims page_rows name.now) }
+    ensures loaded { IsHonest (S.facts store)
+        → IfOk result (IsLoadedTree text.now (axes_with dims signed) page_rows name.now) }
     ensures working { IfOk result (IsAtWork (S.facts store)) }
-    ensures refused { IfErr result (IsLoadFault dims name.now text.now (S.facts store)) }
+    ensures refused { IfErr result
+        (IsLoadFault (axes_with dims signed) name.now text.now (S.facts store)) }
 {
     let mut reader = ReaderBuilder::new()
         .has_headers(false)
@@ -58,7 +64,7 @@ pub fn load<S: PageStore>(
         alloc,
         &mut reader,
         &mut fields,
-        dims,
+        Axes { dims, signed },
         page_rows,
         name,
         store,
@@ -70,21 +76,22 @@ fn load_from<S: PageStore>(
     alloc: Global,
     reader: &mut Reader<&[u8]>,
     fields: &mut ByteRecord,
-    dims: u32,
+    axes: Axes,
     page_rows: u32,
     name: &[u8],
     store: S,
 ) -> Result<Tree<S>, LoadFault>
-    requires numbers { AreTableNumbers dims page_rows }
+    requires numbers { AreTableNumbers axes.dims page_rows }
+    requires mask { IsMask axes.dims axes.signed }
     requires empty { page_count (S.facts store) ≡ 0 }
     ensures loaded { (text : List ℕ) → IsAt text [] reader.old → IsHonest (S.facts store)
-        → IfOk result (IsLoadedTree text dims page_rows name.now) }
+        → IfOk result (IsLoadedTree text axes page_rows name.now) }
     ensures working { (text : List ℕ) → IsAt text [] reader.old
         → IfOk result (IsAtWork (S.facts store)) }
     ensures refused { (text : List ℕ) → IsAt text [] reader.old
-        → IfErr result (IsLoadFault dims name.now text (S.facts store)) }
+        → IfErr result (IsLoadFault axes name.now text (S.facts store)) }
 {
-    let schema = read_header(reader, fields, dims, page_rows, name)?;
+    let schema = read_header(reader, fields, axes, page_rows, name)?;
     let mut tree = new_tree(alloc, store, &schema)?;
     load_records(reader, fields, &mut tree)?;
     Ok(tree)
@@ -94,18 +101,19 @@ fn load_from<S: PageStore>(
 fn read_header(
     reader: &mut Reader<&[u8]>,
     fields: &mut ByteRecord,
-    dims: u32,
+    axes: Axes,
     page_rows: u32,
     name: &[u8],
 ) -> Result<Schema, LoadFault>
-    requires numbers { AreTableNumbers dims page_rows }
-    ensures read { IfOk result (HasReadHeader dims page_rows name.now reader.old reader.new) }
-    ensures refused { IfErr result (IsHeaderFault dims name.now reader.old) }
+    requires numbers { AreTableNumbers axes.dims page_rows }
+    requires mask { IsMask axes.dims axes.signed }
+    ensures read { IfOk result (HasReadHeader axes page_rows name.now reader.old reader.new) }
+    ensures refused { IfErr result (IsHeaderFault axes name.now reader.old) }
 {
     if !reader.read_byte_record(fields)? {
         return Err(LoadFault::NoHeader);
     }
-    read_schema(fields, dims, page_rows, name)
+    read_schema(fields, axes, page_rows, name)
 }
 
 // Puts the rows of all other records into a tree that has none.
@@ -151,9 +159,9 @@ fn load_record<S: PageStore>(
     ensures taken { OnOk result (HasTaken (number, fields_of fields.now) tree.old tree.new) }
     ensures refused { IfErr result (IsTakeFault (number, fields_of fields.now) tree.old) }
 {
-    let dims = tree.schema().dims();
+    let axes = tree.schema().axes();
     let width = tree.schema().columns().len();
-    let row = read_row(fields, dims, width, number)?;
+    let row = read_row(fields, axes, width, number)?;
     put_row(tree, &row)?;
     Ok(())
 }

@@ -16,7 +16,7 @@ use Rattle.ub_parser.specs.declared.fault.SqlFault.TheVariants.{BadByte, Syntax,
 use Rattle.ub_parser.proofs.FirstFacts.{fails, first_at, none_more, none_at_all}
 use Rattle.ub_parser.proofs.GroupFacts.{no_first}
 use Rattle.ub_table.proofs.Laws.{fits_some_measure}
-use Rattle.ub_table.specs.Value.{fits, fits_measure}
+use Rattle.ub_table.specs.Value.{axes_of, fits, fits_measure}
 use Rattle.ub_table.specs.declared.schema.Schema.{Schema}
 
 -- the first of the values after so many
@@ -164,7 +164,7 @@ module _ (source : List ℕ) (schema : Schema) (i : Insertion) where
       let here : fits schema k (value_of source v.literal) ≡ true =
       subst (λ (x : ℕ × Value). fits schema x.0 (value_of source x.1.literal) ≡ true) at
       (All-get_or (λ (x : ℕ × Value). fits schema x.0 (value_of source x.1.literal) ≡ true) (enumerate_from 0 i.values) k d longer fit) in
-      fits_some_measure schema.dims k (value_of source v.literal) here)
+      fits_some_measure (axes_of schema) k (value_of source v.literal) here)
 
   -- and the numbers may be given
   all_given : All (λ v. fits schema v.0 (value_of source v.1.literal) ≡ true) (enumerate_from 0 i.values)

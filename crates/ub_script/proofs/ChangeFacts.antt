@@ -30,7 +30,7 @@ use Rattle.ub_script.specs.declared.fault.RunFault.TheVariants as run
 use Rattle.ub_store.specs.declared.fault.StoreFault.TheVariants as store
 use Rattle.ub_table.proofs.Laws.{fitting_coordinate}
 use Rattle.ub_table.specs.Region.{Region, key_of}
-use Rattle.ub_table.specs.Value.{coordinate, fits}
+use Rattle.ub_table.specs.Value.{axes_of, coordinate, fits}
 use Rattle.ub_table.specs.declared.row.Row.{Row}
 use Rattle.ub_table.specs.declared.row.TheConstants.{MAX_ROW_NUMBER}
 use Rattle.ub_table.specs.declared.schema.Schema.{Schema}
@@ -70,7 +70,7 @@ fits_here schema values i given le =
     subst (λ (v : ℕ × ℤ). fits schema v.0 v.1 ≡ true) at (given.1 i (0, pos 0) (omega (arith, length-enumerate_from 0 values)))
 
 pub some_here : (schema : Schema) (i : ℕ) (v : ℤ) (o : Option ℕ) → i < schema.dims → fits schema i v ≡ true → o ≡ coordinate schema i v → IsSome o
-some_here schema i v o lt fit is = rw (is ∙ (fitting_coordinate schema.dims i v lt fit).1) refl
+some_here schema i v o lt fit is = rw (is ∙ (fitting_coordinate (axes_of schema) i v lt fit).1) refl
 
 pub next_coordinate : (schema : Schema) (values : List ℤ) (i : ℕ) (dims new : List ℕ) (o : Option ℕ) (x : ℕ) → dims ≡ coordinates_to schema i values
     → o ≡ coordinate schema i (slice_index_or values i (pos 0)) → o ≡ Some x → i < length values → new ≡ dims ++ x ∷ [] → new ≡ coordinates_to schema (i + 1) values

@@ -20,6 +20,7 @@ use Rattle.ub_script.specs.declared.fault.RunFault.{RunFault}
 use Rattle.ub_script.specs.declared.fault.RunFault.TheVariants.{Memory, Write, Tree}
 use Rattle.ub_script.specs.declared.script.Summary.{Summary}
 use Rattle.ub_table.specs.Region.{Region}
+use Rattle.ub_table.specs.declared.axes.Axes.{Axes}
 use Rattle.ub_table.specs.declared.schema.Schema.{Schema}
 use Rattle.ub_tree.specs.Placed.{Placed}
 use Rattle.ub_tree.specs.View.{TreeView, IsSound, regions}
@@ -80,42 +81,42 @@ ready_of t p q sound planned = record {
 }
 
 -- what was run on the tree that a CSV text is loaded into was run on the text's table
-module _ (text : List ℕ) (dims page_rows : ℕ) (name : List ℕ) (t : TreeView) (loaded : IsLoadedTree text dims page_rows name t) (script : List ℕ) where
+module _ (text : List ℕ) (axes : Axes) (page_rows : ℕ) (name : List ℕ) (t : TreeView) (loaded : IsLoadedTree text axes page_rows name t) (script : List ℕ) where
   pub loaded_basis : Basis
-  loaded_basis = on_stand (loaded_stand dims page_rows (record { schema = t.schema; rows = loaded.rows }))
+  loaded_basis = on_stand (loaded_stand axes.dims page_rows (record { schema = t.schema; rows = loaded.rows }))
 
   pub loaded_is : IsBasisOf t loaded_basis
   unfolding loaded_basis
   loaded_is = record { sound = loaded.sound; schema_is = refl; rows_are = loaded.table; regions_are = sym loaded.regions_are; next_is = sym loaded.next }
 
-  loaded_first : (replies : List Reply) (left : ℕ) (now : Basis) → FirstOver loaded_basis script replies left now → FirstIn text dims page_rows name script replies left now
+  loaded_first : (replies : List Reply) (left : ℕ) (now : Basis) → FirstOver loaded_basis script replies left now → FirstIn text axes page_rows name script replies left now
   unfolding loaded_basis
   loaded_first replies left now first = (record { schema = t.schema; rows = loaded.rows }, loaded.loaded, first)
 
   loaded_ended : (fault : RunFault) (replies : List Reply) (left pages : ℕ) (now : Basis) → EndedOver loaded_basis script fault replies left pages now
-      → EndedIn text dims page_rows name script fault replies left pages now
+      → EndedIn text axes page_rows name script fault replies left pages now
   unfolding loaded_basis
   loaded_ended fault replies left pages now ended = (record { schema = t.schema; rows = loaded.rows }, loaded.loaded, ended)
 
   pub loaded_done : (s : Summary) (Left : Basis → Type 0) (old new : OutFacts) (before after : ℕ) → Ran (IsWhole (FirstOver loaded_basis script) s) Left false old new before after
-      → Takes (IsDone text dims page_rows name script s) false old new
+      → Takes (IsDone text axes page_rows name script s) false old new
   loaded_done s Left old new before after (now, bytes, pages, (replies, first, is, sum, counts), left, taken, fetched) =
       (bytes, (now, pages, (replies, loaded_first replies 0 now first, is, sum, counts)), taken)
 
   pub loaded_broken : (Left : Basis → Type 0) (old new : OutFacts) (before after : ℕ) → Ran (IsCutOff (FirstOver loaded_basis script)) Left true old new before after
-      → Takes (IsBroken text dims page_rows name script) true old new
+      → Takes (IsBroken text axes page_rows name script) true old new
   loaded_broken Left old new before after (now, bytes, pages, (replies, next, rest, front, first, cut, is, sum), left, taken, fetched) =
       (bytes, (now, pages, (replies, next, rest, front, loaded_first (replies ++ next ∷ []) rest now first, cut, is, sum)), taken)
 
   stopped_in : (fault : RunFault) (Left : Basis → Type 0) (old new : OutFacts) (before after : ℕ) → Ran (IsStopped (EndedOver loaded_basis script fault)) Left false old new before after
-      → Takes (IsBegun text dims page_rows name script fault) false old new
+      → Takes (IsBegun text axes page_rows name script fault) false old new
   stopped_in fault Left old new before after (now, bytes, pages, (replies, rest, more, ended, is, sum), left, taken, fetched) =
       (bytes, (now, pages, (replies, rest, more, loaded_ended fault replies rest more now ended, is, sum)), taken)
 
   -- a run for which memory was refused
   pub loaded_stopped : (Left : Basis → Type 0) (old new : OutFacts) (later : TreeView) (before after : ℕ) (r : Result Summary RunFault) → r ≡ Err Memory
       → IfErr r (λ e. e ≢ Write → IsUnbegun t later e old new ⊎ Ran (IsStopped (EndedOver loaded_basis script e)) Left false old new before after)
-      → (new ≡ old) ⊎ Takes (IsBegun text dims page_rows name script Memory) false old new
+      → (new ≡ old) ⊎ Takes (IsBegun text axes page_rows name script Memory) false old new
   loaded_stopped Left old new later before after r same h = elim (rw same at h (λ e. cc)) [
     | inl kept ↦ inl kept.2
     | inr ran ↦ inr (stopped_in Memory Left old new before after ran)
@@ -124,7 +125,7 @@ module _ (text : List ℕ) (dims page_rows : ℕ) (name : List ℕ) (t : TreeVie
   -- a run that the tree refused
   pub loaded_refused : (fault : TreeFault) (Left : Basis → Type 0) (old new : OutFacts) (later : TreeView) (before after : ℕ) (r : Result Summary RunFault) → r ≡ Err (Tree fault)
       → IfErr r (λ e. e ≢ Write → IsUnbegun t later e old new ⊎ Ran (IsStopped (EndedOver loaded_basis script e)) Left false old new before after)
-      → Takes (IsBegun text dims page_rows name script (Tree fault)) false old new
+      → Takes (IsBegun text axes page_rows name script (Tree fault)) false old new
   loaded_refused fault Left old new later before after r same h = elim (rw same at h (λ e. cc)) [
     | inl kept ↦ absurd (let bad : Tree fault ≡ Memory = kept.0 in cc)
     | inr ran ↦ stopped_in (Tree fault) Left old new before after ran

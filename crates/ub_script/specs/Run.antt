@@ -19,6 +19,7 @@ use Rattle.ub_script.specs.declared.fault.RunFault.{RunFault}
 use Rattle.ub_script.specs.declared.fault.RunFault.TheVariants.{Memory, Write}
 use Rattle.ub_script.specs.declared.script.Summary.{Summary}
 use Rattle.ub_table.specs.Table.{Table}
+use Rattle.ub_table.specs.declared.axes.Axes.{Axes}
 
 -- a range of tokens, not empty
 abbrev pub IsRange : List Token → ℕ × ℕ → Type 0
@@ -89,15 +90,15 @@ loaded_stand dims page_rows table =
     record { table = table; regions = loaded_regions dims page_rows table.rows; next = length table.rows + 1 }
 
 -- the same on the table of a CSV text
-abbrev pub FirstIn : List ℕ → ℕ → ℕ → List ℕ → List ℕ → List Reply → ℕ → Basis → Type 0
-FirstIn text dims page_rows name script replies left now =
-    (table : Table) × IsLoaded text dims page_rows name table.schema table.rows
-    × FirstOver (on_stand (loaded_stand dims page_rows table)) script replies left now
+abbrev pub FirstIn : List ℕ → Axes → ℕ → List ℕ → List ℕ → List Reply → ℕ → Basis → Type 0
+FirstIn text axes page_rows name script replies left now =
+    (table : Table) × IsLoaded text axes page_rows name table.schema table.rows
+    × FirstOver (on_stand (loaded_stand axes.dims page_rows table)) script replies left now
 
-abbrev pub EndedIn : List ℕ → ℕ → ℕ → List ℕ → List ℕ → RunFault → List Reply → ℕ → ℕ → Basis → Type 0
-EndedIn text dims page_rows name script fault replies left pages now =
-    (table : Table) × IsLoaded text dims page_rows name table.schema table.rows
-    × EndedOver (on_stand (loaded_stand dims page_rows table)) script fault replies left pages now
+abbrev pub EndedIn : List ℕ → Axes → ℕ → List ℕ → List ℕ → RunFault → List Reply → ℕ → ℕ → Basis → Type 0
+EndedIn text axes page_rows name script fault replies left pages now =
+    (table : Table) × IsLoaded text axes page_rows name table.schema table.rows
+    × EndedOver (on_stand (loaded_stand axes.dims page_rows table)) script fault replies left pages now
 
 -- ---- the ends of a run, by what is known of the replies to its first statements; each with what is left
 
@@ -153,16 +154,16 @@ pub record IsRun (t now : TreeView) (script : List ℕ) (result : Result Summary
 -- ---- what is written where a script is run on the table of a CSV text
 
 -- to its end
-abbrev pub IsDone : List ℕ → ℕ → ℕ → List ℕ → List ℕ → Summary → List ℕ → Type 0
-IsDone text dims page_rows name script summary bytes =
-    (now : Basis) × (pages : ℕ) × IsWhole (FirstIn text dims page_rows name script) summary now bytes pages
+abbrev pub IsDone : List ℕ → Axes → ℕ → List ℕ → List ℕ → Summary → List ℕ → Type 0
+IsDone text axes page_rows name script summary bytes =
+    (now : Basis) × (pages : ℕ) × IsWhole (FirstIn text axes page_rows name script) summary now bytes pages
 
 -- up to a statement that this fault ended
-abbrev pub IsBegun : List ℕ → ℕ → ℕ → List ℕ → List ℕ → RunFault → List ℕ → Type 0
-IsBegun text dims page_rows name script fault bytes =
-    (now : Basis) × (pages : ℕ) × IsStopped (EndedIn text dims page_rows name script fault) now bytes pages
+abbrev pub IsBegun : List ℕ → Axes → ℕ → List ℕ → List ℕ → RunFault → List ℕ → Type 0
+IsBegun text axes page_rows name script fault bytes =
+    (now : Basis) × (pages : ℕ) × IsStopped (EndedIn text axes page_rows name script fault) now bytes pages
 
 -- up to a failed write
-abbrev pub IsBroken : List ℕ → ℕ → ℕ → List ℕ → List ℕ → List ℕ → Type 0
-IsBroken text dims page_rows name script bytes =
-    (now : Basis) × (pages : ℕ) × IsCutOff (FirstIn text dims page_rows name script) now bytes pages
+abbrev pub IsBroken : List ℕ → Axes → ℕ → List ℕ → List ℕ → List ℕ → Type 0
+IsBroken text axes page_rows name script bytes =
+    (now : Basis) × (pages : ℕ) × IsCutOff (FirstIn text axes page_rows name script) now bytes pages

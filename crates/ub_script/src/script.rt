@@ -1,13 +1,13 @@
 ghost use Rattle.std.specs.Prelude.{◌≡◌, ◌≢◌, ◌<◌, ◌⊎◌, true, false, Some, length, Ok, Err, All, IfOk, IfErr, IsErrOf, OnErr, slice_range};
 ghost use Rattle.ub_lexer.specs.Tokens.{AreSpelled};
-ghost use Rattle.ub_load.specs.LoadedTable.{records_of};
+ghost use Rattle.ub_load.specs.LoadedTable.{axes_with, records_of};
 ghost use Rattle.ub_load.specs.Refusals.{first_refusal};
 ghost use Rattle.ub_load.specs.declared.fault.LoadFault.{LoadFault};
 ghost use Rattle.ub_parser.specs.Outcome.{IsGiven, command};
 ghost use Rattle.ub_planning.specs.Plan.{plan_of};
 ghost use Rattle.ub_query.specs.Posed.{IsPosed};
 ghost use Rattle.ub_query.specs.Shape.{asked};
-ghost use Rattle.ub_table.specs.Schema.{AreTableNumbers};
+ghost use Rattle.ub_table.specs.Schema.{AreTableNumbers, IsMask};
 ghost use Rattle.ub_store.specs.declared.fault.StoreFault.{StoreFault};
 ghost use Rattle.ub_tree.specs.declared.fault.TreeFault.{TreeFault};
 ghost use Rattle.ub_script.specs.Basis.{IsAskedReply, AreSomeOf, IsBasisOf, IsCommandEnd, IsReply, IsRestOf};
@@ -52,38 +52,41 @@ pub fn try_text<W: Out>(
     dims: u32,
     page_rows: u32,
     name: &[u8],
+    signed: u32,
     script: &[u8],
     out: &mut W,
 ) -> Result<Summary, RunFault>
     requires numbers { AreTableNumbers dims page_rows }
+    requires mask { IsMask dims signed }
     ensures done { IfOk result (λ summary.
-        Takes (IsDone text.now dims page_rows name.now script.now summary) false
+        Takes (IsDone text.now (axes_with dims signed) page_rows name.now script.now summary) false
         (W.facts out.old) (W.facts out.new)) }
 
     // Nothing is written, and the fault is the first thing that is wrong with the text, unless `csv` refused a record.
     ensures load { (fault : LoadFault) → result ≡ Err (RunFault.Load fault)
         → (W.facts out.new ≡ W.facts out.old) × (fault ≢ LoadFault.Csv
-        → first_refusal dims name.now (records_of text.now) ≡ Some fault) }
+        → first_refusal (axes_with dims signed) name.now (records_of text.now) ≡ Some fault) }
 
     // A front of the texts of the first statements is written, and nothing after the write that failed.
     ensures write { IsErrOf result RunFault.Write
-        → Takes (IsBroken text.now dims page_rows name.now script.now) true
+        → Takes (IsBroken text.now (axes_with dims signed) page_rows name.now script.now) true
         (W.facts out.old) (W.facts out.new) }
 
     // Nothing is written, or the texts of the first statements and no more.
     ensures memory { IsErrOf result RunFault.Memory → (W.facts out.new ≡ W.facts out.old)
-        ⊎ Takes (IsBegun text.now dims page_rows name.now script.now RunFault.Memory) false
-        (W.facts out.old) (W.facts out.new) }
+        ⊎ Takes (IsBegun text.now (axes_with dims signed) page_rows name.now script.now
+        RunFault.Memory) false (W.facts out.old) (W.facts out.new) }
     ensures of_tree { (fault : TreeFault) → result ≡ Err (RunFault.Load (LoadFault.Tree fault))
         → fault ≡ TreeFault.Full }
 
     // The texts of the first statements are written, and no more.
     ensures tree { (fault : TreeFault) → result ≡ Err (RunFault.Tree fault)
         → ((fault ≡ TreeFault.Full) ⊎ (fault ≡ TreeFault.Store StoreFault.BadSize))
-        × Takes (IsBegun text.now dims page_rows name.now script.now (RunFault.Tree fault)) false
-        (W.facts out.old) (W.facts out.new) }
+        × Takes (IsBegun text.now (axes_with dims signed) page_rows name.now script.now
+        (RunFault.Tree fault)) false (W.facts out.old) (W.facts out.new) }
 {
-    let mut tree = load(alloc, text, dims, page_rows, name, MemStore::new(alloc))?;
+    let store = MemStore::new(alloc);
+    let mut tree = load(alloc, text, dims, page_rows, name, signed, store)?;
     run(alloc, &mut tree, script, out)
 }
 

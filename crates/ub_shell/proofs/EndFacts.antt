@@ -53,7 +53,7 @@ either true P done refused = done
 either false P done refused = refused
 
 -- a run to the end
-pub run_ends : (t : Trial) (old new : OutFacts) (summary : Summary) → Takes (IsDone t.text t.dims t.page_rows t.name t.script summary) false old new
+pub run_ends : (t : Trial) (old new : OutFacts) (summary : Summary) → Takes (IsDone t.text t.axes t.page_rows t.name t.script summary) false old new
     → HasTried t old new (summary_status summary)
 run_ends t old new summary (bytes, run, taken) =
     let whole = either (summary.refused == 0) (λ s. s ≡ summary_status summary → IsTrialText t bytes s)
@@ -61,12 +61,12 @@ run_ends t old new summary (bytes, run, taken) =
     inl (bytes, whole refl, taken)
 
 -- a run that a failed write broke off
-pub broken_ends : (t : Trial) (old new : OutFacts) → Takes (IsBroken t.text t.dims t.page_rows t.name t.script) true old new → HasTried t old new Device
+pub broken_ends : (t : Trial) (old new : OutFacts) → Takes (IsBroken t.text t.axes t.page_rows t.name t.script) true old new → HasTried t old new Device
 broken_ends t old new (bytes, off, taken) = inr (refl, (bytes, inl off, taken))
 
 -- a run that wanted memory
 pub memory_ends : (t : Trial) (old mid new : OutFacts) (status : Status)
-    → (mid ≡ old) ⊎ Takes (IsBegun t.text t.dims t.page_rows t.name t.script run.Memory) false old mid
+    → (mid ≡ old) ⊎ Takes (IsBegun t.text t.axes t.page_rows t.name t.script run.Memory) false old mid
     → Tells mid new (codes "! Memory\n") ended.Memory status → HasTried t old new status
 memory_ends t old mid new status (inl same) told =
     told_ends (IsTrialText t) (AreBrokenTexts t) old new _ _ status (record { texts = []; first = inl refl; line = refl }) (told_since old mid new _ _ status same told)
@@ -76,20 +76,20 @@ memory_ends t old mid new status (inr (texts, begun, taken)) told =
 
 -- a run that found no number, or no room, for a row
 full_text : (t : Trial) (texts : List ℕ) (fault : TreeFault) → (fault ≡ tree.Full) ⊎ (fault ≡ tree.Store BadSize)
-    → IsBegun t.text t.dims t.page_rows t.name t.script (run.Tree fault) texts → IsTrialText t (texts ++ tree_fault_text fault) (tree_fault_status fault)
+    → IsBegun t.text t.axes t.page_rows t.name t.script (run.Tree fault) texts → IsTrialText t (texts ++ tree_fault_text fault) (tree_fault_status fault)
 full_text t texts fault (inl full) begun =
     rw full (inr (record { fault = tree.Full; is = inl refl; texts = texts; first = rw full at begun; line = refl }))
 full_text t texts fault (inr size) begun =
     rw size (inr (record { fault = tree.Store BadSize; is = inr refl; texts = texts; first = rw size at begun; line = refl }))
 
 pub full_ends : (t : Trial) (old mid new : OutFacts) (fault : TreeFault) (status : Status) → (fault ≡ tree.Full) ⊎ (fault ≡ tree.Store BadSize)
-    → Takes (IsBegun t.text t.dims t.page_rows t.name t.script (run.Tree fault)) false old mid
+    → Takes (IsBegun t.text t.axes t.page_rows t.name t.script (run.Tree fault)) false old mid
     → Tells mid new (tree_fault_text fault) (tree_fault_status fault) status → HasTried t old new status
 full_ends t old mid new fault status is (texts, begun, taken) told =
     told_ends (IsTrialText t) (AreBrokenTexts t) old new _ _ status (full_text t texts fault is begun) (told_after old mid new texts _ _ status taken told)
 
 -- the line of a table that was refused, which is never for the store to have failed
-refused_line : (t : Trial) (fault : LoadFault) → (fault ≢ load.Csv → first_refusal t.dims t.name (records_of t.text) ≡ Some fault)
+refused_line : (t : Trial) (fault : LoadFault) → (fault ≢ load.Csv → first_refusal t.axes t.name (records_of t.text) ≡ Some fault)
     → ((of_tree : TreeFault) → fault ≡ load.Tree of_tree → of_tree ≡ tree.Full)
     → IsTrialText t (load_fault_text fault) (load_fault_status fault)
 refused_line t load.Memory first full = record { texts = []; first = inl refl; line = refl }
@@ -104,7 +104,7 @@ refused_line t (load.Tree of_tree) first full =
     rw same (inl (record { fault = load.Tree tree.Full; first = rw same at first; line = refl }))
 
 pub refused_ends : (t : Trial) (old mid new : OutFacts) (fault : LoadFault) (status : Status)
-    → ((mid ≡ old) × (fault ≢ load.Csv → first_refusal t.dims t.name (records_of t.text) ≡ Some fault))
+    → ((mid ≡ old) × (fault ≢ load.Csv → first_refusal t.axes t.name (records_of t.text) ≡ Some fault))
     → ((of_tree : TreeFault) → fault ≡ load.Tree of_tree → of_tree ≡ tree.Full)
     → Tells mid new (load_fault_text fault) (load_fault_status fault) status → HasTried t old new status
 refused_ends t old mid new fault status why full told =

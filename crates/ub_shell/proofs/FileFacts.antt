@@ -17,6 +17,7 @@ use Rattle.ub_tree.specs.Closing.{IsCloseFault}
 use Rattle.ub_tree.specs.View.{TreeView}
 use Rattle.ub_tree.specs.declared.fault.TreeFault.{TreeFault}
 use Rattle.ub_tree.specs.declared.fault.TreeFault.TheVariants as tree
+use Rattle.ub_table.specs.declared.axes.Axes.{Axes}
 use Rattle.ub_words.specs.Asked.{AreLines, IsAskedBy}
 use Rattle.ub_words.specs.CommandLine.{AsksHelp, AsksNothing}
 use Rattle.ub_words.specs.declared.given.LoadWords.{LoadWords}
@@ -25,7 +26,7 @@ use Rattle.ub_words.specs.declared.given.RunWords.{RunWords}
 use Rattle.ub_words.specs.declared.given.TryWords.{TryWords}
 use Rattle.ub_words.specs.declared.words.Asked.{Asked}
 use Rattle.ub_words.specs.declared.words.Asked.TheVariants as asked
-use Rattle.ub_shell.specs.Commands.{AsksStore, HasRead, HasRunTree, IsAskedOf, IsCopied, IsFileOf, IsTable, IsUnopened, IsUnread, LoadsFile, RunsFile, TriesFiles, WritesFile}
+use Rattle.ub_shell.specs.Commands.{AsksStore, HasRead, HasRunTree, IsAskedOf, IsCopied, IsFileOf, IsTable, IsUnopened, IsUnread, LoadsFile, RunsFile, TriesFiles, WritesFile, axes_asked}
 use Rattle.ub_files.specs.Copying.{Copies}
 use Rattle.ub_shell.specs.Ending.{Tells}
 use Rattle.ub_files.specs.Files.{FilesFacts, IsLent, IsText, IsTorn, LendsFile, OpensFile, PutsBack, ReadsFile, Returns}
@@ -72,9 +73,9 @@ never_both : {A E : Type 0} (a : A) (e : E) (r : Result A E) (P : Type 0) → r 
 never_both a e r P h k = cc
 
 -- a table whose pages were copied into the table file stands there
-file_written : (table text name : List ℕ) (dims page_rows rows regions : ℕ) (pages : List (List ℕ)) (old new : FilesFacts) (r : Result (Unit {0}) StoreFault) (w : IsCopied table pages old new r)
-    → IsTable text name dims page_rows rows regions pages → (w.left.synced ≡ w.left.pages) → (IsHonest w.made → w.left.pages ≡ pages) → IsFileOf table text name dims page_rows rows regions old new
-file_written table text name dims page_rows rows regions pages old new r w is synced copied = record {
+file_written : (table text name : List ℕ) (axes : Axes) (page_rows rows regions : ℕ) (pages : List (List ℕ)) (old new : FilesFacts) (r : Result (Unit {0}) StoreFault) (w : IsCopied table pages old new r)
+    → IsTable text name axes page_rows rows regions pages → (w.left.synced ≡ w.left.pages) → (IsHonest w.made → w.left.pages ≡ pages) → IsFileOf table text name axes page_rows rows regions old new
+file_written table text name axes page_rows rows regions pages old new r w is synced copied = record {
   tree = is.tree;
   made = w.made;
   left = w.left;
@@ -90,17 +91,17 @@ file_written table text name dims page_rows rows regions pages old new r w is sy
   regions_are = is.regions_are;
 }
 
-pub file_kept : (table text name : List ℕ) (dims page_rows rows regions : ℕ) (pages : List (List ℕ)) (old new : FilesFacts) (u : Unit {0})
-    → IsTable text name dims page_rows rows regions pages → WritesFile table pages old new (Ok u) → IsFileOf table text name dims page_rows rows regions old new
-file_kept table text name dims page_rows rows regions pages old new u is = elim [
-  | inl w ↦ file_written table text name dims page_rows rows regions pages old new (Ok u) w is w.copies.synced w.copies.copied
-  | inr unmade ↦ never_both u store.Device (Ok u) (IsFileOf table text name dims page_rows rows regions old new) refl unmade.0
+pub file_kept : (table text name : List ℕ) (axes : Axes) (page_rows rows regions : ℕ) (pages : List (List ℕ)) (old new : FilesFacts) (u : Unit {0})
+    → IsTable text name axes page_rows rows regions pages → WritesFile table pages old new (Ok u) → IsFileOf table text name axes page_rows rows regions old new
+file_kept table text name axes page_rows rows regions pages old new u is = elim [
+  | inl w ↦ file_written table text name axes page_rows rows regions pages old new (Ok u) w is w.copies.synced w.copies.copied
+  | inr unmade ↦ never_both u store.Device (Ok u) (IsFileOf table text name axes page_rows rows regions old new) refl unmade.0
 ]
 
 -- ---- a table in memory
 
 -- it can be closed there: a store in memory never fails, and the tree is sound
-pub never_unclosed : {text name : List ℕ} {dims page_rows : ℕ} (held : List (List ℕ)) (t : TreeView) → IsLoadedTree text dims page_rows name t → IsAtWork (memory_facts held) t
+pub never_unclosed : {text name : List ℕ} {axes : Axes} {page_rows : ℕ} (held : List (List ℕ)) (t : TreeView) → IsLoadedTree text axes page_rows name t → IsAtWork (memory_facts held) t
     → (fault : TreeFault) → IsCloseFault t fault → ⊥
 never_unclosed held t loaded work tree.Memory h = h
 never_unclosed held t loaded work tree.Failed h = let works = work.working in cc
@@ -168,13 +169,13 @@ file_asked {A} table words mid lent new out out_now status a store from opens as
 -- ---- what the words ask for
 
 pub load_ends : (words : List (List ℕ)) (a : Asked) (l : LoadWords) (old new : FilesFacts) (out out_now : OutFacts) (status : Status) → a ≡ asked.Load l
-    → IsAskedBy words a → LoadsFile l.source.path.now l.table.now l.source.name.now l.source.dims l.source.page_rows old new out out_now status
+    → IsAskedBy words a → LoadsFile l.source.path.now l.table.now l.source.name.now (axes_asked l.source) l.source.page_rows old new out out_now status
     → HasEnded words old new out out_now status
 load_ends words a l old new out out_now status is by loads = inl (record {
   source = l.source.path.now;
   table = l.table.now;
   name = l.source.name.now;
-  dims = l.source.dims;
+  axes = axes_asked l.source;
   page_rows = l.source.page_rows;
   asks = rw is at by;
   loads = loads;
@@ -186,13 +187,13 @@ run_ends words a r old new out out_now status is by runs =
     inr (inl (record { table = r.table.now; script = r.script.now; asks = rw is at by; runs = runs }))
 
 pub try_ends : (words : List (List ℕ)) (a : Asked) (t : TryWords) (old new : FilesFacts) (out out_now : OutFacts) (status : Status) → a ≡ asked.Try t
-    → IsAskedBy words a → TriesFiles t.source.path.now t.script.now t.source.name.now t.source.dims t.source.page_rows old new out out_now status
+    → IsAskedBy words a → TriesFiles t.source.path.now t.script.now t.source.name.now (axes_asked t.source) t.source.page_rows old new out out_now status
     → HasEnded words old new out out_now status
 try_ends words a t old new out out_now status is by tries = inr (inr (inl (record {
   source = t.source.path.now;
   script = t.script.now;
   name = t.source.name.now;
-  dims = t.source.dims;
+  axes = axes_asked t.source;
   page_rows = t.source.page_rows;
   asks = rw is at by;
   tries = tries;

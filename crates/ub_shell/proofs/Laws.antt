@@ -34,9 +34,9 @@ only_help_is_written words old new out out_now status alone (inr (inr (inr (inr 
 only_help_is_written words old new out out_now status alone (inr (inr (inr (inr (inr (inr memory)))))) = inr memory
 
 pub wrong_words_are_told : WrongWordsAreTold
-wrong_words_are_told words old new out out_now status nothing no_help (inl load) = absurd (nothing.no_load _ _ _ _ _ load.asks)
+wrong_words_are_told words old new out out_now status nothing no_help (inl load) = absurd (nothing.no_load _ _ _ _ _ _ load.asks)
 wrong_words_are_told words old new out out_now status nothing no_help (inr (inl run)) = absurd (nothing.no_run _ _ run.asks)
-wrong_words_are_told words old new out out_now status nothing no_help (inr (inr (inl tried))) = absurd (nothing.no_try _ _ _ _ _ tried.asks)
+wrong_words_are_told words old new out out_now status nothing no_help (inr (inr (inl tried))) = absurd (nothing.no_try _ _ _ _ _ _ tried.asks)
 wrong_words_are_told words old new out out_now status nothing no_help (inr (inr (inr (inl next)))) = absurd (nothing.no_next _ _ _ next.asks)
 wrong_words_are_told words old new out out_now status nothing no_help (inr (inr (inr (inr (inl help))))) = absurd (no_help help.asks)
 wrong_words_are_told words old new out out_now status nothing no_help (inr (inr (inr (inr (inr (inl wrong)))))) = inl wrong

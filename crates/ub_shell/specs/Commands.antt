@@ -15,6 +15,8 @@ use Rattle.ub_script.specs.declared.script.Summary.{Summary}
 use Rattle.ub_store.specs.Facts.{StoreFacts, IsHonest, memory_facts, raised}
 use Rattle.ub_store.specs.declared.fault.StoreFault.{StoreFault}
 use Rattle.ub_store.specs.declared.fault.StoreFault.TheVariants as store
+use Rattle.ub_table.specs.Schema.{IsMask}
+use Rattle.ub_table.specs.declared.axes.Axes.{Axes}
 use Rattle.ub_table.specs.declared.schema.Schema.{Schema}
 use Rattle.ub_tree.specs.Closing.{IsCloseFault}
 use Rattle.ub_tree.specs.Effects.{read_store, written_store}
@@ -27,6 +29,7 @@ use Rattle.ub_tree.specs.declared.fault.TreeFault.{TreeFault}
 use Rattle.ub_tree.specs.declared.fault.TreeFault.TheVariants.{Failed, Store}
 use Rattle.ub_writing.specs.Closing.{IsUnclosed}
 use Rattle.ub_files.specs.Copying.{Copies}
+use Rattle.ub_words.specs.declared.given.DataWords.{DataWords}
 use Rattle.ub_shell.specs.Ending.{HasTried, Tells, trial}
 use Rattle.ub_files.specs.Files.{FilesFacts, HoldsBut, IsLent, IsMade, IsText, IsTorn, LendsFile, OpensFile, PutsBack, ReadsFile, Returns}
 use Rattle.ub_shell.specs.Status.{load_fault_status, load_fault_text, store_fault_status, store_fault_text, summary_status, tree_fault_status, tree_fault_text}
@@ -47,17 +50,29 @@ pub record IsUnread (path : List ℕ) (old new : FilesFacts) (out out_now : OutF
   pub reads : ReadsFile {A = List ℕ} path old new (Err fault)
   pub tells : Tells out out_now (store_fault_text fault) (store_fault_status fault) status
 
+-- ---- which dimensions are signed
+
+-- the dimensions of the table that words ask to be made of a CSV file
+abbrev pub axes_asked : DataWords → Axes
+axes_asked words = record { dims = words.dims; signed = words.signed }
+
+-- a dimension was to be signed that isn't there, and that was told; the files hold what they did
+pub record IsBadMask (axes : Axes) (old new : FilesFacts) (out out_now : OutFacts) (status : Status) : Type 0 where
+  pub bad : ¬ (IsMask axes.dims axes.signed)
+  pub files : new ≡ old
+  pub tells : Tells out out_now (codes "! BadMask\n") CommandLine status
+
 -- ---- a script on a CSV text
 
 -- both files were read, the first path's before the other, and the script that the second one holds was run on the table of the text that
 -- the first one holds
-pub record IsTrialOf (source script name : List ℕ) (dims page_rows : ℕ) (old new : FilesFacts) (out out_now : OutFacts) (status : Status) : Type 0 where
+pub record IsTrialOf (source script name : List ℕ) (axes : Axes) (page_rows : ℕ) (old new : FilesFacts) (out out_now : OutFacts) (status : Status) : Type 0 where
   pub text : List ℕ
   pub asked : List ℕ
   pub mid : FilesFacts
   pub source_read : HasRead source text old mid
   pub script_read : HasRead script asked mid new
-  pub tried : HasTried (trial text dims page_rows name asked) out out_now status
+  pub tried : HasTried (trial text axes page_rows name asked) out out_now status
 
 -- the first file was read, and the second was not
 pub record IsHalfRead (source script : List ℕ) (old new : FilesFacts) (out out_now : OutFacts) (status : Status) : Type 0 where
@@ -66,11 +81,12 @@ pub record IsHalfRead (source script : List ℕ) (old new : FilesFacts) (out out
   pub source_read : HasRead source text old mid
   pub script_unread : IsUnread script mid new out out_now status
 
--- that was done, or told that the first file was not read, or the second
-abbrev pub TriesFiles : List ℕ → List ℕ → List ℕ → ℕ → ℕ → FilesFacts → FilesFacts → OutFacts → OutFacts → Status → Type 0
-TriesFiles source script name dims page_rows old new out out_now status =
-    IsTrialOf source script name dims page_rows old new out out_now status
-    ⊎ (IsUnread source old new out out_now status ⊎ IsHalfRead source script old new out out_now status)
+-- that was done, or told that the first file was not read, or the second; or that a dimension was to be signed that isn't there
+abbrev pub TriesFiles : List ℕ → List ℕ → List ℕ → Axes → ℕ → FilesFacts → FilesFacts → OutFacts → OutFacts → Status → Type 0
+TriesFiles source script name axes page_rows old new out out_now status =
+    IsBadMask axes old new out out_now status
+    ⊎ (IsMask axes.dims axes.signed × (IsTrialOf source script name axes page_rows old new out out_now status
+    ⊎ (IsUnread source old new out out_now status ⊎ IsHalfRead source script old new out out_now status)))
 
 -- ---- closing a table file
 
@@ -99,9 +115,9 @@ abbrev pub loaded_line : ℕ → ℕ → List ℕ
 loaded_line rows regions = codes "-- rows " ++ (decimal rows ++ (codes ", regions " ++ (decimal regions ++ codes "\n")))
 
 -- a table in a store in memory, closed: the one of this text, with so many rows and regions
-pub record IsTable (text name : List ℕ) (dims page_rows rows regions : ℕ) (pages : List (List ℕ)) : Type 0 where
+pub record IsTable (text name : List ℕ) (axes : Axes) (page_rows rows regions : ℕ) (pages : List (List ℕ)) : Type 0 where
   pub tree : TreeView
-  pub loaded : IsLoadedTree text dims page_rows name tree
+  pub loaded : IsLoadedTree text axes page_rows name tree
   pub closed : AreSoundPages pages tree.schema tree.placed tree.next
   pub rows_are : rows ≡ tree.rows
   pub regions_are : regions ≡ region_count tree
@@ -120,12 +136,12 @@ WritesFile table pages old new result =
     IsCopied table pages old new result ⊎ ((result ≡ Err store.Device) × LendsFile table old new result)
 
 -- the table file of this path is a closed table, the one of this text, with so many rows and regions; all its pages last
-pub record IsFileOf (table text name : List ℕ) (dims page_rows rows regions : ℕ) (old new : FilesFacts) : Type 0 where
+pub record IsFileOf (table text name : List ℕ) (axes : Axes) (page_rows rows regions : ℕ) (old new : FilesFacts) : Type 0 where
   pub tree : TreeView
   pub made : StoreFacts
   pub left : StoreFacts
   pub made_is : IsMade old made
-  pub loaded : IsLoadedTree text dims page_rows name tree
+  pub loaded : IsLoadedTree text axes page_rows name tree
   pub closed : IsHonest made → IsHonest left × AreSoundPages left.pages tree.schema tree.placed tree.next
   pub synced : left.synced ≡ left.pages
   pub back : Returns table old new left
@@ -133,24 +149,24 @@ pub record IsFileOf (table text name : List ℕ) (dims page_rows rows regions : 
   pub regions_are : regions ≡ region_count tree
 
 -- the text isn't loaded into memory
-abbrev pub IsUnloaded : List ℕ → List ℕ → ℕ → LoadFault → Type 0
-IsUnloaded text name dims fault = IsLoadFault dims name text (memory_facts []) fault
+abbrev pub IsUnloaded : List ℕ → List ℕ → Axes → LoadFault → Type 0
+IsUnloaded text name axes fault = IsLoadFault axes name text (memory_facts []) fault
 
 -- the table of the text stands in memory, and the table file can't be made
-pub record IsUnmade (text name : List ℕ) (dims page_rows : ℕ) (fault : LoadFault) : Type 0 where
+pub record IsUnmade (text name : List ℕ) (axes : Axes) (page_rows : ℕ) (fault : LoadFault) : Type 0 where
   pub rows : ℕ
   pub regions : ℕ
   pub pages : List (List ℕ)
-  pub table_is : IsTable text name dims page_rows rows regions pages
+  pub table_is : IsTable text name axes page_rows rows regions pages
   pub fault_is : fault ≡ Tree (Store store.Device)
 
 -- the table's pages aren't copied into the table file that was made
-pub record IsUnwritten (table text name : List ℕ) (dims page_rows : ℕ) (old new : FilesFacts) (fault : LoadFault) : Type 0 where
+pub record IsUnwritten (table text name : List ℕ) (axes : Axes) (page_rows : ℕ) (old new : FilesFacts) (fault : LoadFault) : Type 0 where
   pub rows : ℕ
   pub regions : ℕ
   pub pages : List (List ℕ)
   pub of_store : StoreFault
-  pub table_is : IsTable text name dims page_rows rows regions pages
+  pub table_is : IsTable text name axes page_rows rows regions pages
   pub refused : (of_store ≡ store.Device) ⊎ (of_store ≡ store.Memory)
   pub copied : IsCopied table pages old new (Err of_store)
   pub fault_is : fault ≡ fault_of_tree (tree_fault of_store)
@@ -161,26 +177,26 @@ pub record Uses (table : List ℕ) (old new : FilesFacts) : Type 0 where
   pub others : HoldsBut table old new
 
 -- a text isn't kept in the table file of this path for this reason; where it holds no table the files hold what they did
-pub record IsUnkept (table text name : List ℕ) (dims page_rows : ℕ) (old new : FilesFacts) (fault : LoadFault) : Type 0 where
-  pub why : (IsUnloaded text name dims fault × (new ≡ old))
-      ⊎ ((IsUnmade text name dims page_rows fault × (new.failed_tables ≡ raised old.failed_tables 1))
-      ⊎ (IsUnwritten table text name dims page_rows old new fault × (new.failed_tables ≡ old.failed_tables)))
+pub record IsUnkept (table text name : List ℕ) (axes : Axes) (page_rows : ℕ) (old new : FilesFacts) (fault : LoadFault) : Type 0 where
+  pub why : (IsUnloaded text name axes fault × (new ≡ old))
+      ⊎ ((IsUnmade text name axes page_rows fault × (new.failed_tables ≡ raised old.failed_tables 1))
+      ⊎ (IsUnwritten table text name axes page_rows old new fault × (new.failed_tables ≡ old.failed_tables)))
   pub uses : Uses table old new
 
 -- a text was kept in the table file of this path, and it was told how many rows and regions it has; or why it wasn't kept
-abbrev pub KeepsText : List ℕ → List ℕ → List ℕ → ℕ → ℕ → FilesFacts → FilesFacts → OutFacts → OutFacts → Status → Type 0
-KeepsText table text name dims page_rows old new out out_now status =
-    ((rows regions : ℕ) × IsFileOf table text name dims page_rows rows regions old new
+abbrev pub KeepsText : List ℕ → List ℕ → List ℕ → Axes → ℕ → FilesFacts → FilesFacts → OutFacts → OutFacts → Status → Type 0
+KeepsText table text name axes page_rows old new out out_now status =
+    ((rows regions : ℕ) × IsFileOf table text name axes page_rows rows regions old new
     × Tells out out_now (loaded_line rows regions) Done status)
-    ⊎ ((fault : LoadFault) × IsUnkept table text name dims page_rows old new fault
+    ⊎ ((fault : LoadFault) × IsUnkept table text name axes page_rows old new fault
     × Tells out out_now (load_fault_text fault) (load_fault_status fault) status)
 
 -- the text of a file was read, and kept in the table file; or it was told why not
-pub record IsLoadOf (source table name : List ℕ) (dims page_rows : ℕ) (old new : FilesFacts) (out out_now : OutFacts) (status : Status) : Type 0 where
+pub record IsLoadOf (source table name : List ℕ) (axes : Axes) (page_rows : ℕ) (old new : FilesFacts) (out out_now : OutFacts) (status : Status) : Type 0 where
   pub text : List ℕ
   pub mid : FilesFacts
   pub read : HasRead source text old mid
-  pub ended : KeepsText table text name dims page_rows mid new out out_now status
+  pub ended : KeepsText table text name axes page_rows mid new out out_now status
 
 -- both paths are one text, and that was told; the files hold what they did
 pub record IsSameFile (source table : List ℕ) (old new : FilesFacts) (out out_now : OutFacts) (status : Status) : Type 0 where
@@ -189,10 +205,11 @@ pub record IsSameFile (source table : List ℕ) (old new : FilesFacts) (out out_
   pub tells : Tells out out_now (codes "! SameFile\n") CommandLine status
 
 -- the file at the first path was loaded into the table file of the second one; or it was told what kept it from that
-abbrev pub LoadsFile : List ℕ → List ℕ → List ℕ → ℕ → ℕ → FilesFacts → FilesFacts → OutFacts → OutFacts → Status → Type 0
-LoadsFile source table name dims page_rows old new out out_now status =
-    IsSameFile source table old new out out_now status
-    ⊎ ((source ≢ table) × (IsLoadOf source table name dims page_rows old new out out_now status ⊎ IsUnread source old new out out_now status))
+abbrev pub LoadsFile : List ℕ → List ℕ → List ℕ → Axes → ℕ → FilesFacts → FilesFacts → OutFacts → OutFacts → Status → Type 0
+LoadsFile source table name axes page_rows old new out out_now status =
+    IsBadMask axes old new out out_now status
+    ⊎ (IsMask axes.dims axes.signed × (IsSameFile source table old new out out_now status
+    ⊎ ((source ≢ table) × (IsLoadOf source table name axes page_rows old new out out_now status ⊎ IsUnread source old new out out_now status))))
 
 -- ---- a script on a table file
 

@@ -10,6 +10,7 @@ use Rattle.ub_script.specs.declared.fault.RunFault.{RunFault}
 use Rattle.ub_script.specs.declared.fault.RunFault.TheVariants as run
 use Rattle.ub_script.specs.declared.script.Summary.{Summary}
 use Rattle.ub_store.specs.declared.fault.StoreFault.TheVariants.{BadSize}
+use Rattle.ub_table.specs.declared.axes.Axes.{Axes}
 use Rattle.ub_tree.specs.declared.fault.TreeFault.{TreeFault}
 use Rattle.ub_tree.specs.declared.fault.TreeFault.TheVariants.{Full, Store}
 use Rattle.ub_shell.specs.Status.{load_fault_text, summary_status, tree_fault_text}
@@ -38,36 +39,36 @@ Ends whole broken old new status =
 
 -- ---- a script on the table of a text
 
--- a CSV text, how many of its columns are dimensions, how many rows a page holds, the table's name, and a script
+-- a CSV text, its dimensions, how many rows a page holds, the table's name, and a script
 pub record Trial : Type 0 where
   pub text : List ℕ
-  pub dims : ℕ
+  pub axes : Axes
   pub page_rows : ℕ
   pub name : List ℕ
   pub script : List ℕ
 
-abbrev pub trial : List ℕ → ℕ → ℕ → List ℕ → List ℕ → Trial
-trial text dims page_rows name script =
-    record { text = text; dims = dims; page_rows = page_rows; name = name; script = script }
+abbrev pub trial : List ℕ → Axes → ℕ → List ℕ → List ℕ → Trial
+trial text axes page_rows name script =
+    record { text = text; axes = axes; page_rows = page_rows; name = name; script = script }
 
 -- the texts of the first statements of the script, but not of all: this fault ended the next one
 abbrev pub AreFirstTexts : Trial → RunFault → List ℕ → Type 0
-AreFirstTexts t fault bytes = IsBegun t.text t.dims t.page_rows t.name t.script fault bytes
+AreFirstTexts t fault bytes = IsBegun t.text t.axes t.page_rows t.name t.script fault bytes
 
 -- a front of the texts of its statements, not all of them
 abbrev pub AreBrokenTexts : Trial → List ℕ → Type 0
-AreBrokenTexts t bytes = IsBroken t.text t.dims t.page_rows t.name t.script bytes
+AreBrokenTexts t bytes = IsBroken t.text t.axes t.page_rows t.name t.script bytes
 
 -- the text of the script, and the status says whether a statement of it was refused
 pub record IsRunText (t : Trial) (bytes : List ℕ) (status : Status) : Type 0 where
   pub summary : Summary
-  pub run : IsDone t.text t.dims t.page_rows t.name t.script summary bytes
+  pub run : IsDone t.text t.axes t.page_rows t.name t.script summary bytes
   pub ended : status ≡ summary_status summary
 
 -- the line of the first thing that is wrong with the CSV text, unless `csv` refused a record
 pub record IsRefusedLine (t : Trial) (bytes : List ℕ) : Type 0 where
   pub fault : LoadFault
-  pub first : fault ≢ Csv → first_refusal t.dims t.name (records_of t.text) ≡ Some fault
+  pub first : fault ≢ Csv → first_refusal t.axes t.name (records_of t.text) ≡ Some fault
   pub line : bytes ≡ load_fault_text fault
 
 -- nothing, or the texts of the first statements, and then the line that says that memory was refused

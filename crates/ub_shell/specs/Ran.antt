@@ -6,6 +6,7 @@ use Rattle.ub_shell.specs.Commands.{LoadsFile, RunsFile, TriesFiles}
 use Rattle.ub_shell.specs.Ending.{Tells, words_fault_status, words_fault_text}
 use Rattle.ub_shell.specs.Status.{answer_status}
 use Rattle.ub_script.specs.Output.{OutFacts}
+use Rattle.ub_table.specs.declared.axes.Axes.{Axes}
 use Rattle.ub_files.specs.Files.{FilesFacts}
 use Rattle.ub_next.specs.Next.{IsNextAnswer, answer_text}
 use Rattle.ub_next.specs.declared.next.Neighbours.{Neighbours}
@@ -30,20 +31,20 @@ pub record HasTriedFiles (words : List (List ℕ)) (old new : FilesFacts) (out o
   pub source : List ℕ
   pub script : List ℕ
   pub name : List ℕ
-  pub dims : ℕ
+  pub axes : Axes
   pub page_rows : ℕ
-  pub asks : AsksTry words source script name dims page_rows
-  pub tries : TriesFiles source script name dims page_rows old new out out_now status
+  pub asks : AsksTry words source script name axes.dims page_rows axes.signed
+  pub tries : TriesFiles source script name axes page_rows old new out out_now status
 
 -- the words ask for a CSV file to be loaded into a table file
 pub record HasLoadedFile (words : List (List ℕ)) (old new : FilesFacts) (out out_now : OutFacts) (status : Status) : Type 0 where
   pub source : List ℕ
   pub table : List ℕ
   pub name : List ℕ
-  pub dims : ℕ
+  pub axes : Axes
   pub page_rows : ℕ
-  pub asks : AsksLoad words source table name dims page_rows
-  pub loads : LoadsFile source table name dims page_rows old new out out_now status
+  pub asks : AsksLoad words source table name axes.dims page_rows axes.signed
+  pub loads : LoadsFile source table name axes page_rows old new out out_now status
 
 -- the words ask for a script on a table file
 pub record HasRunFile (words : List (List ℕ)) (old new : FilesFacts) (out out_now : OutFacts) (status : Status) : Type 0 where

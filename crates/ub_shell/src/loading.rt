@@ -1,6 +1,6 @@
 ghost use Rattle.std.specs.Prelude.{◌≡◌, ◌≤◌, ◌↔◌, ◌⊎◌, length, IsTrue, IfOk, IfErr};
-ghost use Rattle.ub_shell.specs.Commands.{loaded_line, IsFileOf, IsTable, IsUnkept, IsUnloaded, KeepsText, LoadsFile, WritesFile};
-ghost use Rattle.ub_table.specs.Schema.{AreTableNumbers};
+ghost use Rattle.ub_shell.specs.Commands.{axes_asked, loaded_line, IsFileOf, IsTable, IsUnkept, IsUnloaded, KeepsText, LoadsFile, WritesFile};
+ghost use Rattle.ub_table.specs.Schema.{AreTableNumbers, IsMask};
 
 use crate::line::{Line, twice_numbered_line};
 use crate::status::{Status, tell, tell_line, tell_load_fault, tell_store_fault};
@@ -9,6 +9,7 @@ use ub_files::{Files, copy_pages};
 use ub_load::{LoadFault, load};
 use ub_script::Out;
 use ub_store::{MemStore, StoreFault};
+use ub_table::schema::is_mask;
 use ub_tree::TreeFault;
 use ub_words::LoadWords;
 
@@ -27,10 +28,11 @@ struct Loaded {
 }
 
 /// Reads a CSV file, once, loads the text's table into memory, makes the table file anew with its pages, and tells how many rows
-/// and regions it has. The table file is not touched before the table stands in memory: not where both paths are equal (also where
-/// both are `-`, though the first is standard input and the second a file), nor where the CSV file can't be read or holds no table.
-/// After a fault of the table file it holds no table that can be opened, unless it is the old one, or the new one with its first
-/// page or its last sync failed. Where the table file was made nothing is told but that, or nothing where the write fails.
+/// and regions it has. The table file is not touched before the table stands in memory: not where a dimension is to be signed that
+/// isn't there, nor where both paths are equal (also where both are `-`, though the first is standard input and the second a file),
+/// nor where the CSV file can't be read or holds no table; in the first two cases no file is. After a fault of the table file it
+/// holds no table that can be opened, unless it is the old one, or the new one with its first page or its last sync failed. Where
+/// the table file was made nothing is told but that, or nothing where the write fails.
 pub fn load_file<F: Files, W: Out>(
     alloc: Global,
     files: &mut F,
@@ -39,9 +41,12 @@ pub fn load_file<F: Files, W: Out>(
 ) -> Status
     requires numbers { AreTableNumbers asked.source.dims asked.source.page_rows }
     ensures { LoadsFile asked.entry.source.path.now asked.entry.table.now
-        asked.entry.source.name.now asked.entry.source.dims asked.entry.source.page_rows
+        asked.entry.source.name.now (axes_asked asked.entry.source) asked.entry.source.page_rows
         (F.facts files.old) (F.facts files.new) (W.facts out.old) (W.facts out.new) result }
 {
+    if !is_mask(asked.source.dims, asked.source.signed) {
+        return tell(out, b"! BadMask\n", Status::CommandLine);
+    }
     if is_same(asked.source.path, asked.table) {
         return tell(out, b"! SameFile\n", Status::CommandLine);
     }
@@ -67,8 +72,10 @@ fn keep_text<F: Files, W: Out>(
     out: &mut W,
 ) -> Status
     requires numbers { AreTableNumbers asked.source.dims asked.source.page_rows }
+    requires mask { IsMask asked.source.dims asked.source.signed }
     ensures { KeepsText asked.entry.table.now text.now asked.entry.source.name.now
-        asked.entry.source.dims asked.entry.source.page_rows (F.facts files.old) (F.facts files.new)
+        (axes_asked asked.entry.source) asked.entry.source.page_rows
+        (F.facts files.old) (F.facts files.new)
         (W.facts out.old) (W.facts out.new) result }
 {
     match load_text(alloc, files, text, asked) {
@@ -85,11 +92,12 @@ fn load_text<F: Files>(
     asked: LoadWords<'_>,
 ) -> Result<Counts, LoadFault>
     requires numbers { AreTableNumbers asked.source.dims asked.source.page_rows }
+    requires mask { IsMask asked.source.dims asked.source.signed }
     ensures kept { IfOk result (λ counts. IsFileOf asked.entry.table.now text.now
-        asked.entry.source.name.now asked.entry.source.dims asked.entry.source.page_rows
+        asked.entry.source.name.now (axes_asked asked.entry.source) asked.entry.source.page_rows
         counts.rows counts.regions (F.facts files.old) (F.facts files.new)) }
     ensures refused { IfErr result (IsUnkept asked.entry.table.now text.now
-        asked.entry.source.name.now asked.entry.source.dims asked.entry.source.page_rows
+        asked.entry.source.name.now (axes_asked asked.entry.source) asked.entry.source.page_rows
         (F.facts files.old) (F.facts files.new)) }
 {
     let Loaded { mut store, counts } = load_pages(alloc, text, asked)?;
@@ -102,11 +110,12 @@ fn load_text<F: Files>(
 // Loads the text's table into memory, and closes it there.
 fn load_pages(alloc: Global, text: &[u8], asked: LoadWords<'_>) -> Result<Loaded, LoadFault>
     requires numbers { AreTableNumbers asked.source.dims asked.source.page_rows }
+    requires mask { IsMask asked.source.dims asked.source.signed }
     ensures loaded { IfOk result (λ l. IsTable text.now asked.entry.source.name.now
-        asked.entry.source.dims asked.entry.source.page_rows
+        (axes_asked asked.entry.source) asked.entry.source.page_rows
         l.counts.rows l.counts.regions l.store) }
     ensures refused { IfErr result
-        (IsUnloaded text.now asked.entry.source.name.now asked.entry.source.dims) }
+        (IsUnloaded text.now asked.entry.source.name.now (axes_asked asked.entry.source)) }
 {
     let tree = load(
         alloc,
@@ -114,6 +123,7 @@ fn load_pages(alloc: Global, text: &[u8], asked: LoadWords<'_>) -> Result<Loaded
         asked.source.dims,
         asked.source.page_rows,
         asked.source.name.as_bytes(),
+        asked.source.signed,
         MemStore::new(alloc),
     )?;
     let counts = Counts {

@@ -7,4 +7,4 @@ pub returns-in_default-2 : goal.returns-in_default-2
 returns-in_default-2 c =
     let text = c.trim_spaces-text.ensures in
     let valid = rw text at c.in_default.ensures.valid in
-    out_of_range c.args.dims c.args.row c.args.place c.args.field.now (rw text at (sym c.if-not-is_number.ensures)) (λ word. false≢true (valid.1 word))
+    out_of_range c.args.axes c.args.row c.args.place c.args.field.now (rw text at (sym c.if-not-is_number.ensures)) (λ word. false≢true (valid.1 word))

@@ -12,21 +12,21 @@ pub returns-then-width-dims-clause-refused : goal.returns-then-width-dims-clause
 returns-then-width-dims-clause-refused c =
     let long = length-map (fields_of c.args.header.now) trimmed in
     elim c.then-width-dims.branch [
-      | then-width-dims-via-then-width-dims w ↦ header_of_few c.args.dims c.args.name.now (map trimmed (fields_of c.args.header.now)) (inl (omega arith))
-      | then-width-dims-via-else-width-dims+then-width-dims-2 w ↦ header_of_few c.args.dims c.args.name.now (map trimmed (fields_of c.args.header.now)) (inr (omega arith))
+      | then-width-dims-via-then-width-dims w ↦ header_of_few c.args.axes.dims c.args.name.now (map trimmed (fields_of c.args.header.now)) (inl (omega arith))
+      | then-width-dims-via-else-width-dims+then-width-dims-2 w ↦ header_of_few c.args.axes.dims c.args.name.now (map trimmed (fields_of c.args.header.now)) (inr (omega arith))
     ]
 
 pub returns-in_default-clause-refused : goal.returns-in_default-clause-refused
 returns-in_default-clause-refused c =
     let long = length-map (fields_of c.args.header.now) trimmed in
-    header_with_bad_table c.args.dims c.args.name.now (map trimmed (fields_of c.args.header.now)) (omega arith) (omega arith) (never_true _ (λ t. false≢true (c.in_default.ensures.valid.1 t)))
+    header_with_bad_table c.args.axes.dims c.args.name.now (map trimmed (fields_of c.args.header.now)) (omega arith) (omega arith) (never_true _ (λ t. false≢true (c.in_default.ensures.valid.1 t)))
 
 pub returns-in_err-columns-clause-refused : goal.returns-in_err-columns-clause-refused
 returns-in_err-columns-clause-refused c =
     let long = length-map (fields_of c.args.header.now) trimmed in
     let p = err_from_is_err_and c.from_residual.result c.from_residual.ensures.1 in
     rw (p.1, p.2)
-    (header_with_names c.args.dims c.args.name.now (map trimmed (fields_of c.args.header.now)) _ (omega arith) (omega arith) (c.in-Ok.ensures.valid.0 refl) c.in_err-columns.ensures.refused)
+    (header_with_names c.args.axes.dims c.args.name.now (map trimmed (fields_of c.args.header.now)) _ (omega arith) (omega arith) (c.in-Ok.ensures.valid.0 refl) c.in_err-columns.ensures.refused)
 
 pub unwrap-requires : goal.unwrap-requires
 unwrap-requires c =
@@ -35,11 +35,14 @@ unwrap-requires c =
     let names = ap (λ n. take n c.in_ok-columns.columns) c.len-width.ensures ∙ c.in_ok-columns.ensures.names in
     c.new-2.ensures.valid.1
     (rw names (
-      counts (length (map trimmed (fields_of c.args.header.now))) c.args.dims c.args.page_rows c.requires.numbers (omega arith) (omega arith),
+      record {
+        counts = counts (length (map trimmed (fields_of c.args.header.now))) c.args.axes.dims c.args.page_rows c.requires.numbers (omega arith) (omega arith);
+        mask = c.requires.mask;
+      },
       distinct,
     ))
 
 pub returns-clause-accepted : goal.returns-clause-accepted
 returns-clause-accepted c =
     let long = length-map (fields_of c.args.header.now) trimmed in
-    header_with_names c.args.dims c.args.name.now (map trimmed (fields_of c.args.header.now)) _ (omega arith) (omega arith) (c.in-Ok.ensures.valid.0 refl) c.in_ok-columns.ensures.accepted
+    header_with_names c.args.axes.dims c.args.name.now (map trimmed (fields_of c.args.header.now)) _ (omega arith) (omega arith) (c.in-Ok.ensures.valid.0 refl) c.in_ok-columns.ensures.accepted

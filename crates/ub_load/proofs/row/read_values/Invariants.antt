@@ -8,6 +8,6 @@ use Rattle.ub_load.proofs.row.read_values.Given as goal
 -- the fields so far are fine, and the row is theirs
 abbrev pub invariant-loop-place : goal.invariant-loop-place
 invariant-loop-place l = record {
-  row : l.row ≡ row_of l.dims (l.number, take l.place (fields_of l.fields));
-  accepted : first_of (map (field_refusal l.dims l.number) (enumerate_from 0 (take l.place (fields_of l.fields)))) ≡ None;
+  row : l.row ≡ row_of l.axes (l.number, take l.place (fields_of l.fields));
+  accepted : first_of (map (field_refusal l.axes l.number) (enumerate_from 0 (take l.place (fields_of l.fields)))) ≡ None;
 }

@@ -12,16 +12,16 @@ returns-in_err-load_records-clause-refused g c text start =
     let store = g.S.PageStore.facts c.args.store in
     let p = err_from_is_err_and c.from_residual-in_err-load_records.result c.from_residual-in_err-load_records.ensures.1 in
     let loading = loading_none (c.in_ok-schema.ensures.read text start) store c.in_ok-tree.tree c.in_ok-tree.ensures.made in
-    rw (p.1, p.2) (c.in_err-load_records.ensures.refused text c.args.dims c.args.page_rows c.args.name.now store loading)
+    rw (p.1, p.2) (c.in_err-load_records.ensures.refused text c.args.axes c.args.page_rows c.args.name.now store loading)
 
 pub returns-clause-loaded : goal.returns-clause-loaded
 returns-clause-loaded g c text start honest =
     let store = g.S.PageStore.facts c.args.store in
     let loading = loading_none (c.in_ok-schema.ensures.read text start) store c.in_ok-tree.tree c.in_ok-tree.ensures.made in
-    (c.in_ok-load_records.ensures.loaded text c.args.dims c.args.page_rows c.args.name.now store loading).1 honest
+    (c.in_ok-load_records.ensures.loaded text c.args.axes c.args.page_rows c.args.name.now store loading).1 honest
 
 pub returns-clause-working : goal.returns-clause-working
 returns-clause-working g c text start =
     let store = g.S.PageStore.facts c.args.store in
     let loading = loading_none (c.in_ok-schema.ensures.read text start) store c.in_ok-tree.tree c.in_ok-tree.ensures.made in
-    (c.in_ok-load_records.ensures.loaded text c.args.dims c.args.page_rows c.args.name.now store loading).0
+    (c.in_ok-load_records.ensures.loaded text c.args.axes c.args.page_rows c.args.name.now store loading).0

@@ -10,7 +10,7 @@ loop-tree-init g c = record {
   few = omega arith;
   next_is = c.requires.next;
   working = c.requires.working;
-  loading = λ text dims page_rows name store h. h;
+  loading = λ text axes page_rows name store h. h;
 }
 
 pub load_record-requires-clause-numbered : goal.load_record-requires-clause-numbered

@@ -8,18 +8,18 @@ returns-then-not-branch-clause-refused c text store start =
     let call = c.read_byte_record in
     let read = c.in_ok-read_byte_record in
     let s = took_none start call.new.self read.field-0 (fields_of call.new.row) c.if-not-branch.true read.ensures.reads in
-    inr (refused_empty start call.new.self (fields_of call.new.row) s c.args.dims c.args.name.now)
+    inr (refused_empty start call.new.self (fields_of call.new.row) s c.args.axes c.args.name.now)
 
 pub returns-clause-read : goal.returns-clause-read
 returns-clause-read c =
     let call = c.read_byte_record in
     let read = c.in_ok-read_byte_record in
-    took_header c.args.reader.now call.new.self read.field-0 (fields_of call.new.row) read.ensures.reads c.if-not-branch.false read.ensures.ready c.args.dims c.args.page_rows c.args.name.now
+    took_header c.args.reader.now call.new.self read.field-0 (fields_of call.new.row) read.ensures.reads c.if-not-branch.false read.ensures.ready c.args.axes c.args.page_rows c.args.name.now
     c.read_schema.result c.read_schema.ensures.schema c.read_schema.ensures.accepted
 
 pub returns-clause-refused : goal.returns-clause-refused
 returns-clause-refused c =
     let call = c.read_byte_record in
     let read = c.in_ok-read_byte_record in
-    told_header c.args.reader.now call.new.self read.field-0 (fields_of call.new.row) read.ensures.reads c.if-not-branch.false read.ensures.ready c.args.dims c.args.name.now
+    told_header c.args.reader.now call.new.self read.field-0 (fields_of call.new.row) read.ensures.reads c.if-not-branch.false read.ensures.ready c.args.axes c.args.name.now
     c.read_schema.result c.read_schema.ensures.refused

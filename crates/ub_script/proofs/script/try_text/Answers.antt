@@ -1,6 +1,6 @@
 use Rattle.std.proofs.Common.{ap, refl}
 use Rattle.std.proofs.lemmas.Result.{err_from_is_err_and}
-use Rattle.ub_load.specs.LoadedTable.{records_of}
+use Rattle.ub_load.specs.LoadedTable.{axes_with, records_of}
 use Rattle.ub_load.specs.Refusals.{first_refusal}
 use Rattle.ub_script.proofs.LoadedFacts.{first_wrong, tree_wrong}
 use Rattle.ub_store.specs.Facts.{StoreFacts}
@@ -36,9 +36,9 @@ returns-clause-tree g c fault is =
 pub returns-in_err-tree-clause-load : goal.returns-in_err-tree-clause-load
 returns-in_err-tree-clause-load g c fault is =
     let p = err_from_is_err_and c.from_residual.result c.from_residual.ensures.1 in
-    (refl, first_wrong c.from_residual.result p.0 c.in_err-tree.field-0.0 p.1 p.2 (first_refusal c.args.dims c.args.name.now (records_of c.args.text.now)) _ _ (λ fails. cc) (λ broken. broken refl) c.in_err-tree.ensures.refused fault is)
+    (refl, first_wrong c.from_residual.result p.0 c.in_err-tree.field-0.0 p.1 p.2 (first_refusal (axes_with c.args.dims c.args.signed) c.args.name.now (records_of c.args.text.now)) _ _ (λ fails. cc) (λ broken. broken refl) c.in_err-tree.ensures.refused fault is)
 
 pub returns-in_err-tree-clause-of_tree : goal.returns-in_err-tree-clause-of_tree
 returns-in_err-tree-clause-of_tree g c fault is =
     let p = err_from_is_err_and c.from_residual.result c.from_residual.ensures.1 in
-    tree_wrong c.from_residual.result p.0 c.in_err-tree.field-0.0 p.1 p.2 (first_refusal c.args.dims c.args.name.now (records_of c.args.text.now)) _ _ (λ fails. cc) (λ broken. broken refl) c.in_err-tree.ensures.refused fault is
+    tree_wrong c.from_residual.result p.0 c.in_err-tree.field-0.0 p.1 p.2 (first_refusal (axes_with c.args.dims c.args.signed) c.args.name.now (records_of c.args.text.now)) _ _ (λ fails. cc) (λ broken. broken refl) c.in_err-tree.ensures.refused fault is
