@@ -1,6 +1,6 @@
 -- What a write at the end of a draft leaves.
-use Rattle.std.proofs.Common.{◌≡◌, ◌≤◌, ◌+◌, ◌-◌, ℕ, zero, suc, List, [], ◌∷◌, ◌++◌, length, take, drop, replicate, ◌↔◌, Bool, IsTrue, add-one, refl, sym, ap, arith, ◌∙◌, append_assoc, slice_set}
-use Rattle.std.proofs.lemmas.List.{append-nil, length-append, length-replicate, replicate-append-replicate, length-take, length-take-le, length-drop, drop_all, drop-drop, set_split}
+use Rattle.std.proofs.Common.{◌≡◌, ◌≤◌, ◌+◌, ◌-◌, ℕ, zero, suc, List, [], ◌∷◌, ◌++◌, length, take, drop, replicate, add-one, refl, sym, ap, arith, ◌∙◌, append_assoc, slice_set}
+use Rattle.std.proofs.lemmas.List.{append-nil, length-append, replicate-append-replicate, length-take, length-take-le, length-drop, drop_all, drop-drop, set_split}
 use Rattle.std.proofs.Math.Seq.{drop-append_seam, take-append_seam}
 use borrow.Rule.Slice.PartMut.{put_mid, post_of, mid_of}
 
@@ -75,16 +75,6 @@ after_push {size} {len} {page} {value} d x =
     let count : len + 1 ≡ length (take len page ++ x ∷ []) = omega (arith, length-append (take len page) (x ∷ []), length-take len page) in
     let parts = of_front (take len page ++ x ∷ []) _ _ (len + 1) count whole in
     (fits, parts.0, parts.1 ∙ ap (λ (s : List ℕ). s ++ x ∷ []) d.is)
-
--- the rest of a page is zeros where it is equal to the rest of a page of zeros
-pub blank_from : (offset : ℕ) (page : List ℕ) (b : Bool) → length page ≡ 4096
-    → (IsTrue b ↔ (take (4096 - offset) (drop offset page) ≡ take (4096 - offset) (drop offset (replicate 4096 0))))
-    → IsTrue b ↔ (drop offset page ≡ replicate (4096 - offset) 0)
-blank_from offset page b long test =
-    let all : take (4096 - offset) (drop offset page) ≡ drop offset page = take_whole (4096 - offset) (drop offset page) (omega (arith, length-drop offset page)) in
-    let blank : take (4096 - offset) (drop offset (replicate 4096 0)) ≡ replicate (4096 - offset) 0
-    = ap (take (4096 - offset)) (drop-replicate offset 4096 0) ∙ take_whole (4096 - offset) (replicate (4096 - offset) 0) (omega (arith, length-replicate {A = ℕ} (4096 - offset) 0)) in
-    (λ yes. sym all ∙ test.0 yes ∙ blank, λ same. test.1 (all ∙ same ∙ sym blank))
 
 -- what a write over some bytes leaves
 pub put_over : (offset n : ℕ) (target bytes buf : List ℕ) → offset ≤ length target → buf ≡ bytes ++ drop n (mid_of offset (length target - offset) target)

@@ -13,4 +13,5 @@ pub mod PutFacts
 pub mod RegionFacts
 pub mod SpelledFacts
 pub mod WriteFacts
+pub mod ZeroFacts
 pub mod PageLaws

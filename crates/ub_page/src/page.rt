@@ -1,4 +1,4 @@
-ghost use Rattle.std.specs.Prelude.{◌≡◌, ◌+◌, ◌-◌, ◌<◌, ◌≤◌, ◌^◌, ◌↔◌, IsTrue, drop, replicate};
+ghost use Rattle.std.specs.Prelude.{◌≡◌, ◌+◌, ◌-◌, ◌<◌, ◌≤◌, ◌^◌, ◌↔◌, IsTrue, drop, length, replicate};
 ghost use Rattle.std.specs.Int.{w64, cast_signed};
 ghost use Rattle.ub_page.specs.Bytes.{number_at};
 
@@ -67,8 +67,18 @@ pub fn is_blank_from(page: &Page, offset: usize) -> bool
     requires { offset ≤ 4096 }
     ensures { IsTrue result ↔ (drop offset page.now ≡ replicate (4096 - offset) 0) }
 {
-    let blank: &Page = &[0; 4096];
-    are_equal(&page[offset..], &blank[offset..])
+    are_zero(&page[offset..])
+}
+
+// Whether all these bytes are zero. None of them ends the loop, so that many can be looked at at once.
+fn are_zero(bytes: &[u8]) -> bool
+    ensures { IsTrue result ↔ (bytes.now ≡ replicate (length bytes.now) 0) }
+{
+    let mut joined = 0;
+    for i in 0..bytes.len() {
+        joined |= bytes[i];
+    }
+    joined == 0
 }
 
 // Whether two texts are the same, byte for byte.

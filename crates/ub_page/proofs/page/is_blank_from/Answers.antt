@@ -1,5 +1,5 @@
-use Rattle.ub_page.proofs.DraftFacts.{blank_from}
+use Rattle.ub_page.proofs.ZeroFacts.{blank_rest}
 use Rattle.ub_page.proofs.page.is_blank_from.Goals as goal
 
 pub returns : goal.returns
-returns c = blank_from c.args.offset c.args.page.now c.are_equal.result c.told-page c.are_equal.ensures
+returns c = blank_rest c.args.offset c.args.page.now c.are_zero.result c.told-page c.are_zero.ensures
