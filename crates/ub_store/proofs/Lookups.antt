@@ -1,5 +1,5 @@
 -- What the calls of an `LruCache` of boxed pages do to a look-up of each number.
-use Rattle.std.proofs.Common.{◌≡◌, ◌≢◌, ◌-◌, ℕ, zero, suc, List, [], ◌∷◌, take, Option, Some, None, true, cond, nat_eq, refl, sym, ap, ◌∙◌, inl, inr}
+use Rattle.std.proofs.Common.{◌≡◌, ◌≢◌, ◌-◌, ℕ, zero, suc, List, [], ◌∷◌, ◌++◌, take, Option, Some, None, true, false, cond, nat_eq, refl, sym, ap, ◌∙◌, inl, inr}
 use Rattle.std.specs.Prelude.{Box}
 use Rattle.std.specs.Borrow.{Bor}
 use Rattle.std.proofs.lemmas.Bool.{cases_Bool, eqb-true, eq-eqb}
@@ -10,7 +10,7 @@ use Rattle.std.specs.Option.{option_map_or, is_some, option_map, option_copied}
 use Rattle.std.specs.Map.Iter.{deref_pair}
 use Rattle.std.specs.Map.{lookup, lookup_entry, remove_entry, set_value, keys_of}
 use Rattle.std.specs.declared.alloc.Global.{Global}
-use Rattle.lru.specs.LruCache.{LruCache, promoted, put_entries}
+use Rattle.lru.specs.LruCache.{LruCache, demoted, promoted, put_entries}
 use Rattle.lru.proofs.CallerLemmas.{lookup-put_entries}
 use Rattle.ub_store.specs.Cache.{pages_of, page_at}
 
@@ -55,6 +55,40 @@ module _ {V : Type 0} where
       by_entry (Some e) h = let found = entry_is k es e h in elim (cases_Bool (nat_eq q e.0)) [
         | inl t ↦ let same : q ≡ k = eqb-true q e.0 t ∙ found.0 in rw t (sym (rw (← same) at found.1))
         | inr n ↦ rw n (lookup_apart k q (λ s. let t : nat_eq q e.0 ≡ true = eq-eqb q e.0 (sym (found.0 ∙ s)) in cc) es)
+      ]
+
+  gone_at : (k : ℕ) (es : List (ℕ × V)) → IsDistinct nat_eq (keys_of es) → lookup (nat_eq k) (remove_entry (nat_eq k) es) ≡ None
+  gone_at k es distinct =
+      let gone = lookup-remove_entry nat_eq_equiv (nat_eq k) (λ x y t. rw (eqb-true k x t) refl) k es distinct in
+      let self : nat_eq k k ≡ true = eq-eqb k k refl in
+      rw self at gone
+
+  lookup_last : (q : ℕ) (es : List (ℕ × V)) (e : ℕ × V) → lookup (nat_eq q) es ≡ None → lookup (nat_eq q) (es ++ e ∷ []) ≡ cond (nat_eq q e.0) (Some e.1) None
+  lookup_last q [] e none = refl
+  lookup_last q (f ∷ es) e none = elim (cases_Bool (nat_eq q f.0)) [
+    | inl t ↦ let is = rw t at none in cc
+    | inr m ↦ rw m (lookup_last q es e (rw m at none))
+  ]
+
+  lookup_before_last : (q : ℕ) (es : List (ℕ × V)) (e : ℕ × V) → nat_eq q e.0 ≡ false → lookup (nat_eq q) (es ++ e ∷ []) ≡ lookup (nat_eq q) es
+  lookup_before_last q [] e other = rw other refl
+  lookup_before_last q (f ∷ es) e other = ap (λ (o : Option V). cond (nat_eq q f.0) (Some f.1) o) (lookup_before_last q es e other)
+
+  -- a look-up of any key is as it was
+  lookup-demoted : (k q : ℕ) (es : List (ℕ × V)) → IsDistinct nat_eq (keys_of es) → lookup (nat_eq q) (demoted (nat_eq k) es) ≡ lookup (nat_eq q) es
+  lookup-demoted k q es distinct = by_entry (lookup_entry (nat_eq k) es) refl
+    where
+      by_entry : (o : Option (ℕ × V)) → lookup_entry (nat_eq k) es ≡ o → lookup (nat_eq q) (option_map_or (λ e. remove_entry (nat_eq k) es ++ e ∷ []) o es) ≡ lookup (nat_eq q) es
+      by_entry None h = refl
+      by_entry (Some e) h = let found = entry_is k es e h in elim (cases_Bool (nat_eq q e.0)) [
+        | inl t ↦
+            let same : q ≡ k = eqb-true q e.0 t ∙ found.0 in
+            let gone : lookup (nat_eq q) (remove_entry (nat_eq k) es) ≡ None = rw same (gone_at k es distinct) in
+            let last = lookup_last q (remove_entry (nat_eq k) es) e gone in
+            (rw t at last) ∙ sym (rw (← same) at found.1)
+        | inr n ↦
+            lookup_before_last q (remove_entry (nat_eq k) es) e n
+            ∙ lookup_apart k q (λ s. let t : nat_eq q e.0 ≡ true = eq-eqb q e.0 (sym (found.0 ∙ s)) in cc) es
       ]
 
   -- a look-up of another key is as it was, or finds nothing
@@ -173,10 +207,10 @@ module _ where
   renew_others n m es w ne = same_at m es (set_value (nat_eq n) es w) (lookup-set_other n m w es ne)
 
   pub forget_gone : (n : ℕ) (es : Entries) → IsDistinct nat_eq (keys_of es) → page_at (pages_of (remove_entry (nat_eq n) es)) n ≡ None
-  forget_gone n es distinct =
-      let gone = lookup-remove_entry nat_eq_equiv (nat_eq n) (λ x y t. rw (eqb-true n x t) refl) n es distinct in
-      let self : nat_eq n n ≡ true = eq-eqb n n refl in
-      at_none n (remove_entry (nat_eq n) es) (rw self at gone)
+  forget_gone n es distinct = at_none n (remove_entry (nat_eq n) es) (gone_at n es distinct)
+
+  pub demote_same : (k n : ℕ) (es : Entries) → IsDistinct nat_eq (keys_of es) → page_at (pages_of (demoted (nat_eq k) es)) n ≡ page_at (pages_of es) n
+  demote_same k n es distinct = same_at n es (demoted (nat_eq k) es) (lookup-demoted k n es distinct)
 
   pub forget_others : (n m : ℕ) (es : Entries) → m ≢ n → page_at (pages_of (remove_entry (nat_eq n) es)) m ≡ page_at (pages_of es) m
   forget_others n m es ne = same_at m es (remove_entry (nat_eq n) es) (lookup_apart n m (λ e. ne (sym e)) es)

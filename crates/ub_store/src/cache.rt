@@ -102,14 +102,33 @@ impl Cache {
         Ok(())
     }
 
-    /// Puts a page in the place of the one that is held under this number, if one is.
+    /// Puts a page in the place of the one that is held under this number, if one is. It is the first that is let go then: who
+    /// puts a page has read it, and in a large table comes to it again later than to the pages on the way there.
     pub fn renew(&mut self, n: u32, page: &Page)
+        ensures renewed { page_at self.new n ≡ option_map (λ _. page.now) (page_at self.old n) }
+        ensures others { SameBut n self.old self.new }
+    {
+        self.write(n, page);
+        self.demote(n);
+    }
+
+    // Writes over the page that is held under this number, if one is.
+    fn write(&mut self, n: u32, page: &Page)
         ensures renewed { page_at self.new n ≡ option_map (λ _. page.now) (page_at self.old n) }
         ensures others { SameBut n self.old self.new }
     {
         if let Some(held) = self.pages.peek_mut(&n) {
             **held = *page;
         }
+    }
+
+    // Has the page of this number be the one used first, if it is held.
+    fn demote(&mut self, n: u32)
+        ensures { (m : ℕ) → page_at self.new m ≡ page_at self.old m }
+    {
+        // Its contract tells the proof that no number stands twice in the cache.
+        let _len = self.pages.len();
+        self.pages.demote(&n);
     }
 
     /// Forgets the page of this number.
