@@ -1,4 +1,4 @@
--- The pages of an index, format 2.
+-- The pages of an index, formats 2 and 3.
 use Rattle.std.specs.Prelude.{◌≡◌, ◌≢◌, ◌≤◌, ◌+◌, ◌*◌, ◌-◌, ℕ, List, length, drop, replicate}
 use Rattle.std.specs.List.{AllByRecursion}
 use Rattle.ub_page.specs.Bytes.{number_at}

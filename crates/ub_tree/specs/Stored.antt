@@ -1,4 +1,4 @@
--- The pages of a closed table, format 2.
+-- The pages of a closed table, format 3.
 use Rattle.std.specs.Prelude.{◌≡◌, ℕ, false, List, Some, length, map, slice_get}
 use Rattle.ub_index.specs.View.{IndexView, index_view}
 use Rattle.ub_page.specs.Header.{IsHeader, header_page}
