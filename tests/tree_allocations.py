@@ -1,11 +1,11 @@
 #!/usr/bin/env python3
-"""Makes each allocation of one run of `tree_trial` fail in turn, by hand: changes of trees in memory, closing and opening them, and
+"""Makes each allocation of one run of `bench trial` fail in turn, by hand: changes of trees in memory, closing and opening them, and
 each call of their store failing. Each run must either write its whole text with status 0 (a tree that was refused memory is as it
 was, and takes the change the second time; the series of failing calls then may take one round more), or end with status 1: with
 `! Memory`, where a list of the trial's own was refused it, or before anything is written, where the process's words were. The last
 line tells how many did what; the status is 1 where one was wrong.
 
-    tests/tree_allocations.py [PROGRAM]      (needs cc; by default the one that `rt ci` or `rt check` built in crates/tree_trial)
+    tests/tree_allocations.py [PROGRAM]      (needs cc; by default the one that `rt ci` or `rt check` built in crates/bench)
 """
 import os
 import re
@@ -20,17 +20,17 @@ ROUND = 40  # so many runs that did without the allocation, one after the other,
 
 
 def main():
-    built = os.path.join(TOP, "crates", "tree_trial", "out", "tree_trial")
+    built = os.path.join(TOP, "crates", "bench", "out", "bench")
     program = os.path.abspath(sys.argv[1]) if len(sys.argv) > 1 else built
     whole = refused = wrong = due = since = 0
     with tempfile.TemporaryDirectory() as work:
         library = failing_memory.built(work)
-        status, text, _ = failing_memory.ended(library, [program], 0, work)
+        status, text, _ = failing_memory.ended(library, [program, "trial"], 0, work)
         assert status == 0
         later = re.sub(r"each of (\d+) calls", lambda calls: f"each of {int(calls[1]) + 1} calls", text)
         while since < ROUND or due < ROUND * 100:
             due += 1
-            ended = failing_memory.ended(library, [program], due, work)
+            ended = failing_memory.ended(library, [program, "trial"], due, work)
             since += 1
             if ended in [(0, text, ""), (0, later, "")]:
                 whole += 1

@@ -1,4 +1,4 @@
-"""What `tree_trial` must print of its changes at random, by another way: regions as sorted lists of keys."""
+"""What `bench trial` must print of its changes at random, by another way: regions as sorted lists of keys."""
 
 WORD = (1 << 64) - 1
 

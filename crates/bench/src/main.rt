@@ -1,4 +1,4 @@
-// What bench/run.sh times from outside.
+// What bench/run.sh times from outside, and trials of the tree by random changes.
 //
 // `bench N [D [WAY]]` calls `next_in_box` on boxes and addresses from a fixed generator, N times for each number of
 // dimensions (or for D alone), and prints a checksum of the answers, which bench/checksum.py finds by another way. WAY
@@ -20,23 +20,43 @@
 //
 // `bench boxes N` makes the boxes of a condition of 64 comparisons and 4096 cells N times, and prints how many they were.
 //
-// `bench index N CALLS` puts such rows in, and prints the nanoseconds of a search at an address, and of the next region that meets a box of
-// a tenth of the space after one that does, in the table's index, the pages of which are all held; and the checksums of so many answers,
-// 100,000 where none is given.
+// `bench index N` puts such rows in, and prints the nanoseconds of a search at an address, and of the next region that meets a box of
+// a tenth of the space after one that does: in the table's index, the pages of which are all held, and by turns with it in a directory of
+// the same regions in memory. The checksums of 100,000 answers of each must be the same.
+//
+// `bench trial` tries a UB-tree beside its definition, which is worked on plain lists: by changes at random, each of which is compared;
+// by tables that are closed and opened again; and by a store that fails at each of its calls in turn. It prints a line for each series.
+// `bench trial tall` tries one table too whose index gets a third level, and loses it again, and `bench trial levels` only such tables:
+// three, whose rows come in three orders, and each one's rows are taken out again in three orders. The first wrong answer, or refusal,
+// ends it with a line that begins with `!` and with status 1.
+//
+// `bench` alone does what the lines of standard input ask for, each of which has such words.
 #![tactic(auto)]
 
 mod addresses;
 mod asking;
+mod changes;
+mod clock;
 mod conditions;
+mod directory;
 mod events;
+mod failing;
 mod fill;
 mod generator;
 mod held;
+mod levels;
+mod model;
+mod numbers;
 mod pages;
+mod plane;
+mod reopening;
 mod searches;
+mod spaces;
 mod table;
 mod telling;
 mod timing;
+mod trial;
+mod trouble;
 
 use addresses::{interleaved, spread_out};
 use conditions::boxes_of_many_cells;
@@ -45,8 +65,10 @@ use fill::{Filling, Order};
 use generator::Generator;
 use pages::read_and_filter;
 use searches::tell_searches;
+use std::process::ExitCode;
 use std::{env, io};
 use telling::{COUNTING, CUBES, ORDERS, tell};
+use trial::try_trees;
 use ub_bigmin::ZBox;
 use ub_bigmin::laws::next_by_bits;
 use ub_zaddr::{Point, Shape, last};
@@ -62,7 +84,7 @@ enum Way {
     Spread,
 }
 
-// The way that a word of the command line names, if there is one.
+// The way that a word names.
 fn way_of(word: &str) -> Way {
     match word {
         "bits" => Way::Bits,
@@ -71,14 +93,6 @@ fn way_of(word: &str) -> Way {
         "interleave" => Way::Interleave,
         "spread" => Way::Spread,
         _ => Way::Words,
-    }
-}
-
-// The text of a word; none where there is no word.
-fn text(word: &Option<String>) -> &str {
-    match word {
-        Some(word) => word.as_str(),
-        None => "",
     }
 }
 
@@ -111,12 +125,12 @@ fn checksum(way: Way, shape: Shape, calls: u64) -> u128 {
     sum
 }
 
-// The number that a word of the command line writes, if there is one.
-fn number(word: &Option<String>) -> Option<u64> {
-    text(word).parse::<u64>().ok()
+// The number that a word writes, if it writes one.
+fn number(word: &str) -> Option<u64> {
+    word.parse::<u64>().ok()
 }
 
-// The order that a word of the command line names.
+// The order that a word names.
 fn order_of(word: &str) -> Order {
     match word {
         "ascending" => Order::Ascending,
@@ -169,37 +183,66 @@ fn tell_checksums(rt: &HostRuntime, calls: u64, only: Option<u64>, way: Way) -> 
     Ok(())
 }
 
-// Prints what the words of the command line ask for.
-fn run(rt: &HostRuntime, words: &[Option<String>; 4]) -> io::Result<()> {
-    let (second, third) = (number(&words[1]), number(&words[2]));
+// Prints the times or checksums that words ask for.
+fn tell_asked(rt: &HostRuntime, words: &[&str; 4]) -> io::Result<()> {
+    let (second, third) = (number(words[1]), number(words[2]));
     let rows = second.unwrap_or(1000);
-    match text(&words[0]) {
+    match words[0] {
         "fill" => {
-            let order = order_of(text(&words[3]));
+            let order = order_of(words[3]);
             let filling = filling(order, rows.min(1 << 23), third.unwrap_or(2));
             tell(rt, filling, &[])
         },
         "held" => tell(rt, filling(Order::Made, rows, 3), &CUBES),
         "count" => tell(rt, filling(Order::Made, rows, 3), &COUNTING),
         "orders" => tell(rt, filling(Order::Made, rows, 3), &ORDERS),
-        "index" => {
-            let calls = third.unwrap_or(100_000).min(u64::from(u32::MAX)) as u32;
-            tell_searches(rt, filling(Order::Made, rows, 3), calls)
-        },
+        "index" => tell_searches(rt, filling(Order::Made, rows, 3)),
         "boxes" => tell_boxes(rt, second.unwrap_or(1)),
         "pages" => tell_pages(rt, second.unwrap_or(2), third.unwrap_or(1)),
         _ => tell_checksums(
             rt,
-            number(&words[0]).unwrap_or(1000),
+            number(words[0]).unwrap_or(1000),
             second,
-            way_of(text(&words[2])),
+            way_of(words[2]),
         ),
     }
 }
 
-fn main(rt: HostRuntime) -> io::Result<()> {
-    let mut words = env::args(&rt)?;
-    let _program = words.next();
-    let asked = [words.next(), words.next(), words.next(), words.next()];
-    run(&rt, &asked)
+// Does what a line asks for, and tells whether nothing was wrong.
+fn is_done(rt: &HostRuntime, line: &str) -> io::Result<bool> {
+    let mut parts = line.split(' ');
+    let words = [
+        parts.next().unwrap_or(""),
+        parts.next().unwrap_or(""),
+        parts.next().unwrap_or(""),
+        parts.next().unwrap_or(""),
+    ];
+    if words[0] == "trial" {
+        return try_trees(rt, words[1]);
+    }
+    tell_asked(rt, &words)?;
+    Ok(true)
+}
+
+// The words of the command line on one line, or standard input where there are none.
+fn asked(rt: &HostRuntime) -> io::Result<String> {
+    let mut text = String::new(rt.alloc());
+    for word in env::args(rt)?.skip(1) {
+        text.push_str(word.as_str())?;
+        text.push(' ')?;
+    }
+    if text.is_empty() {
+        return io::read_to_string(rt.alloc(), rt.reader());
+    }
+    Ok(text)
+}
+
+fn main(rt: HostRuntime) -> io::Result<ExitCode> {
+    let text = asked(&rt)?;
+    for line in text.as_str().lines() {
+        if !is_done(&rt, line)? {
+            return Ok(ExitCode::FAILURE);
+        }
+    }
+    Ok(ExitCode::SUCCESS)
 }

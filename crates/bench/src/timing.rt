@@ -1,14 +1,12 @@
 ghost use Rattle.ub_query.specs.Posed.{IsPosed};
 
 use crate::asking::{COLUMNS, Question, planned};
+use crate::clock::{REPEATS, since};
 use crate::fill::MemTree;
 use crate::held::{Told, executed, swept, walked};
 use std::time::Instant;
 use ub_planning::Plan;
 use ub_tetris::SweepFault;
-
-/// How often work is timed; the least counts, since what else the machine does only adds.
-pub const REPEATS: u32 = 5;
 
 /// What is done by a plan, and timed.
 #[derive(Clone, Copy)]
@@ -87,15 +85,4 @@ fn done(rt: &HostRuntime, tree: &mut MemTree, plan: &Plan, work: Work) -> Result
     }
     told.pages = tree.trace().len();
     Ok(told)
-}
-
-/// The nanoseconds from then to now; none where the clock isn't there.
-pub fn since(rt: &HostRuntime, start: Option<Instant>) -> u128 {
-    let Some(start) = start else {
-        return 0;
-    };
-    match start.elapsed(rt) {
-        Ok(time) => time.as_nanos(),
-        Err(_) => 0,
-    }
 }

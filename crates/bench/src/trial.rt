@@ -1,29 +1,9 @@
-// A UB-tree tried beside its definition, which is worked on plain lists: by changes at random, each of which is compared; by
-// tables that are closed and opened again; by a store that fails at each of its calls in turn; and by tables whose index gets a
-// third level, and loses it again.
-//
-// `tree_trial` prints a line for each series but the last. The first wrong answer, or refusal, ends it with a line that begins with
-// `!` and with status 1. `tree_trial tall` tries one table of three levels too, and `tree_trial levels` only such tables: three, whose
-// rows come in three orders, and each one's rows are taken out again in three orders.
-#![tactic(auto)]
-
-mod changes;
-mod failing;
-mod levels;
-mod model;
-mod numbers;
-mod plane;
-mod reopening;
-mod spaces;
-mod trouble;
-
-use changes::changed_at_random;
-use failing::failing_calls;
-use levels::{Order, tried};
-use reopening::reopened_tables;
-use std::process::ExitCode;
-use std::{env, io};
-use trouble::Trouble;
+use crate::changes::changed_at_random;
+use crate::failing::failing_calls;
+use crate::levels::{Order, tried};
+use crate::reopening::reopened_tables;
+use crate::trouble::Trouble;
+use std::io;
 
 // How many rows are on a page, and how many changes are made.
 const CHANGES: [(u32, u32); 3] = [(2, 60), (3, 60), (64, 300)];
@@ -72,7 +52,8 @@ fn try_all_levels(rt: &HostRuntime) -> Result<(), Trouble> {
     Ok(())
 }
 
-fn trials(rt: &HostRuntime) -> Result<(), Trouble> {
+// Tries a table at random, tables that are opened again, and failing calls.
+fn try_small(rt: &HostRuntime) -> Result<(), Trouble> {
     for (page_rows, changes) in CHANGES {
         let left = changed_at_random(rt.alloc(), page_rows, changes)?;
         println!(rt;
@@ -87,44 +68,26 @@ fn trials(rt: &HostRuntime) -> Result<(), Trouble> {
     Ok(())
 }
 
-// What the first word asks for.
-#[derive(Clone, Copy, PartialEq, Eq)]
-enum Asked {
-    Trials,
-    Tall,
-    Levels,
-}
-
-// What it is that the first word asks for, if there is one.
-fn words_of(rt: &HostRuntime) -> io::Result<Asked> {
-    let mut words = env::args(rt)?;
-    let _program = words.next();
-    match words.next() {
-        Some(word) if word.as_str() == "levels" => Ok(Asked::Levels),
-        Some(word) if word.as_str() == "tall" => Ok(Asked::Tall),
-        _ => Ok(Asked::Trials),
-    }
-}
-
-// Tries that.
-fn try_asked(rt: &HostRuntime, asked: Asked) -> Result<(), Trouble> {
-    if asked == Asked::Levels {
+// Tries what the word asks for.
+fn try_word(rt: &HostRuntime, word: &str) -> Result<(), Trouble> {
+    if word == "levels" {
         return try_all_levels(rt);
     }
-    trials(rt)?;
-    if asked == Asked::Tall {
+    try_small(rt)?;
+    if word == "tall" {
         try_levels(rt, TALL[0], Order::Descending, 10_000)?;
     }
     Ok(())
 }
 
-fn main(rt: HostRuntime) -> io::Result<ExitCode> {
-    let asked = words_of(&rt)?;
-    match try_asked(&rt, asked) {
-        Ok(()) => Ok(ExitCode::SUCCESS),
+/// Tries trees beside their definition, as this word asks for: `levels`, `tall`, or none. It tells whether all was right, and prints a line
+/// for each series that was, or a last one of the first trouble.
+pub fn try_trees(rt: &HostRuntime, word: &str) -> io::Result<bool> {
+    match try_word(rt, word) {
+        Ok(()) => Ok(true),
         Err(trouble) => {
             println!(rt; "! {trouble}")?;
-            Ok(ExitCode::FAILURE)
+            Ok(false)
         }
     }
 }

@@ -140,6 +140,55 @@ fn empty(
     sure(spaces.are_in(tree)? && tree.rows() == 0)
 }
 
+// A store with the closed table of so many rows that were put in in this order, two on a page.
+fn filled(
+    alloc: Global,
+    spaces: &mut Spaces,
+    keys: &mut Vec<Key>,
+    table: (Order, u32),
+    between: u32,
+) -> Result<Store, Trouble> {
+    let (order, rows) = table;
+    let mut tree = created(alloc, 2, 0)?;
+    fill(&mut tree, spaces, keys, order, rows, between)?;
+    Ok(accepted(tree.close())?)
+}
+
+// A store with the closed table of no rows that is left when all of them were taken out in that order.
+fn emptied(
+    alloc: Global,
+    store: Store,
+    spaces: &mut Spaces,
+    keys: &[Key],
+    order: Order,
+    between: u32,
+) -> Result<Store, Trouble> {
+    let mut tree = accepted(Tree::open(alloc, store))?;
+    empty(&mut tree, spaces, keys, order, between)?;
+    Ok(accepted(tree.close())?)
+}
+
+// What such a table comes to, with these lists for its regions and its keys.
+fn compared(
+    alloc: Global,
+    spaces: &mut Spaces,
+    keys: &mut Vec<Key>,
+    table: (Order, u32),
+    then: Order,
+    between: u32,
+) -> Result<Levels, Trouble> {
+    let mut store = filled(alloc, spaces, keys, table, between)?;
+    let regions = spaces.regions();
+    let levels = levels_in(&mut store)?;
+    let mut store = emptied(alloc, store, spaces, keys.as_slice(), then, between)?;
+    Ok(Levels {
+        regions,
+        levels,
+        regions_left: spaces.regions(),
+        levels_left: levels_in(&mut store)?,
+    })
+}
+
 /// How many levels the index of a table gets into which so many rows are put in this order, two on a page, and how many are left when
 /// they are taken out in that order. The tree is compared with the definition each time that so many rows more have come or gone,
 /// and is closed and opened when all are in.
@@ -149,21 +198,7 @@ pub fn tried(
     then: Order,
     between: u32,
 ) -> Result<Levels, Trouble> {
-    let (order, rows) = table;
     let mut spaces = Spaces::new(alloc)?;
     let mut keys = Vec::new(alloc);
-    let mut tree = created(alloc, 2, 0)?;
-    fill(&mut tree, &mut spaces, &mut keys, order, rows, between)?;
-    let regions = spaces.regions();
-    let mut store = accepted(tree.close())?;
-    let levels = levels_in(&mut store)?;
-    let mut tree = accepted(Tree::open(alloc, store))?;
-    empty(&mut tree, &mut spaces, keys.as_slice(), then, between)?;
-    let mut store = accepted(tree.close())?;
-    Ok(Levels {
-        regions,
-        levels,
-        regions_left: spaces.regions(),
-        levels_left: levels_in(&mut store)?,
-    })
+    compared(alloc, &mut spaces, &mut keys, table, then, between)
 }
