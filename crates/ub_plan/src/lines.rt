@@ -5,6 +5,7 @@ ghost use Rattle.ub_boxes.specs.Points as points;
 ghost use Rattle.ub_plan.specs.Explained as spec;
 ghost use Rattle.ub_query.specs.Cells as sql;
 ghost use Rattle.ub_query.specs.Shape.{shape};
+ghost use Rattle.ub_table.specs.Value.{value};
 ghost use Rattle.std.specs.Option.{option_map};
 
 use itoa::Buffer;
@@ -121,9 +122,7 @@ fn push_sides(text: &mut Vec<u8>, schema: &Schema, lo: &[u32], hi: &[u32]) -> Re
     let dims = names.len().min(lo.len()).min(hi.len());
     for dim in 0..dims {
         push_gap(text, dim == 0)?;
-        let low = schema.value(dim, lo[dim]);
-        let high = schema.value(dim, hi[dim]);
-        push_side(text, &names[dim], low, high)?;
+        push_side(text, schema, dim, &names[dim], lo[dim], hi[dim])?;
     }
     Ok(())
 }
@@ -139,15 +138,23 @@ fn push_gap(text: &mut Vec<u8>, is_first: bool) -> Result<(), AllocError>
     Ok(())
 }
 
-// Puts the values of a box in one dimension.
-fn push_side(text: &mut Vec<u8>, name: &Name, low: i64, high: i64) -> Result<(), AllocError>
-    ensures { OnOk result (text.new.items ≡ text.old.items ++ spec.side_text name.now low high) }
+// Puts the values of a box in one dimension, which has this name, from its least coordinate there to its greatest.
+fn push_side(
+    text: &mut Vec<u8>,
+    schema: &Schema,
+    dim: usize,
+    name: &Name,
+    low: u32,
+    high: u32,
+) -> Result<(), AllocError>
+    ensures { OnOk result (text.new.items ≡ text.old.items
+        ++ spec.side_text name.now (value schema.now dim low) (value schema.now dim high)) }
 {
     text.extend_from_slice(name.bytes())?;
     text.push(b' ')?;
-    push_value(text, low)?;
+    push_value(text, schema, dim, low)?;
     text.extend_from_slice(b"..")?;
-    push_value(text, high)
+    push_value(text, schema, dim, high)
 }
 
 // Puts the line of how many points the boxes have together.
@@ -193,10 +200,18 @@ fn push_line(text: &mut Vec<u8>, label: &[u8], word: &[u8]) -> Result<(), AllocE
     text.extend_from_slice(b"\n")
 }
 
-fn push_value(text: &mut Vec<u8>, value: i64) -> Result<(), AllocError>
-    ensures { OnOk result (text.new.items ≡ text.old.items ++ signed_decimal value) }
+// Puts the value that a coordinate of a dimension stands for.
+fn push_value(
+    text: &mut Vec<u8>,
+    schema: &Schema,
+    dim: usize,
+    coordinate: u32,
+) -> Result<(), AllocError>
+    ensures { OnOk result (text.new.items
+        ≡ text.old.items ++ signed_decimal (value schema.now dim coordinate)) }
 {
-    text.extend_from_slice(Buffer::new().format(value).as_bytes())
+    let number = schema.value(dim, coordinate);
+    text.extend_from_slice(Buffer::new().format(number).as_bytes())
 }
 
 fn push_number(text: &mut Vec<u8>, number: u128) -> Result<(), AllocError>

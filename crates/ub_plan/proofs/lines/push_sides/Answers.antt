@@ -1,7 +1,5 @@
-use Rattle.std.proofs.Common.{◌≡◌, ◌++◌, List, ℕ, codes, length, refl, subst, arith, rules}
-use Rattle.std.proofs.lemmas.Int.{to_z-of_z}
+use Rattle.std.proofs.Common.{◌≡◌, ◌++◌, List, ℕ, codes, length, refl, subst, arith}
 use Rattle.std.proofs.lemmas.Option.{slice_get_read}
-use Rattle.std.specs.Int.{w64}
 use Rattle.std.specs.List.{join_by}
 use Rattle.ub_plan.proofs.LineFacts.{side_next, sides_all}
 use Rattle.ub_plan.proofs.lines.push_sides.Goals as goal
@@ -12,10 +10,7 @@ loop-dim-preserved c =
     let names = c.columns-names.ensures.columns in
     let first = rw names at c.min.ensures in
     let both = c.min-dims.ensures in
-    let a = to_z-of_z w64 c.value-low.result (search rules) in
-    let b = to_z-of_z w64 c.value-high.result (search rules) in
-    let side = rw (a, b, c.value-low.ensures.value, c.value-high.ensures.value) at c.in_ok-push_side.ensures in
-    side_next c.args.schema.now _ _ _ _ c.args.schema.now.columns c.args.lo.now c.args.hi.now c.loop-dim.dim _ _ c.loop-dim.invariant c.in_ok-push_gap.ensures side refl
+    side_next c.args.schema.now _ _ _ _ c.args.schema.now.columns c.args.lo.now c.args.hi.now c.loop-dim.dim _ _ c.loop-dim.invariant c.in_ok-push_gap.ensures c.in_ok-push_side.ensures refl
     (slice_get_read c.args.schema.now.columns (length c.args.schema.now.columns) c.loop-dim.dim _ refl (omega arith) (rw names at c.index-names-dim.is)) (omega arith) (omega arith)
 
 pub returns : goal.returns
