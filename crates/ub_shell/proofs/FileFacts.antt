@@ -10,9 +10,12 @@ use Rattle.ub_store.specs.declared.fault.StoreFault.{StoreFault}
 use Rattle.ub_store.specs.declared.fault.StoreFault.TheVariants as store
 use Rattle.ub_tree.specs.Stored.{AreSoundPages}
 use Rattle.ub_tree.specs.Effects.{written_store}
+use Rattle.ub_tree.specs.Faults.{tree_fault}
 use Rattle.ub_tree.specs.Opened.{IsOpened}
 use Rattle.ub_load.specs.LoadedTree.{IsLoadedTree}
 use Rattle.ub_load.specs.Loading.{IsAtWork}
+use Rattle.ub_load.specs.Refusals.{fault_of_tree}
+use Rattle.ub_load.specs.declared.fault.LoadFault.{LoadFault}
 use Rattle.ub_tree.specs.Closing.{IsCloseFault}
 use Rattle.ub_tree.specs.View.{TreeView}
 use Rattle.ub_tree.specs.declared.fault.TreeFault.{TreeFault}
@@ -26,10 +29,10 @@ use Rattle.ub_words.specs.declared.given.RunWords.{RunWords}
 use Rattle.ub_words.specs.declared.given.TryWords.{TryWords}
 use Rattle.ub_words.specs.declared.words.Asked.{Asked}
 use Rattle.ub_words.specs.declared.words.Asked.TheVariants as asked
-use Rattle.ub_shell.specs.Commands.{AsksStore, HasRead, HasRunTree, IsAskedOf, IsCopied, IsFileOf, IsTable, IsUnopened, IsUnread, LoadsFile, RunsFile, TriesFiles, WritesFile, axes_asked}
+use Rattle.ub_shell.specs.Commands.{AsksStore, HasRead, HasRunTree, IsAskedOf, IsCopied, IsFileOf, IsTable, IsUnkept, IsUnopened, IsUnread, LoadsFile, RunsFile, TriesFiles, WritesFile, axes_asked}
 use Rattle.ub_files.specs.Copying.{Copies}
 use Rattle.ub_shell.specs.Ending.{Tells}
-use Rattle.ub_files.specs.Files.{FilesFacts, IsLent, IsText, IsTorn, LendsFile, OpensFile, PutsBack, ReadsFile, Returns}
+use Rattle.ub_files.specs.Files.{FilesFacts, IsLent, IsText, IsTorn, LendsFile, OpensFile, PutsBack, ReadsFile, Returns, raised_by}
 use Rattle.ub_next.specs.Next.{IsNextAnswer, answer_text}
 use Rattle.ub_shell.specs.Ran.{HasEnded}
 use Rattle.ub_shell.specs.Status.{answer_status, store_fault_status, store_fault_text}
@@ -97,6 +100,57 @@ file_kept table text name axes page_rows rows regions pages old new u is = elim 
   | inl w ↦ file_written table text name axes page_rows rows regions pages old new (Ok u) w is w.copies.synced w.copies.copied
   | inr unmade ↦ never_both u store.Device (Ok u) (IsFileOf table text name axes page_rows rows regions old new) refl unmade.0
 ]
+
+abbrev failed_with : StoreFault → Result (Unit {0}) StoreFault
+failed_with fault = Err fault
+
+one_fault : (a b : StoreFault) → failed_with a ≡ failed_with b → a ≡ b
+one_fault a b e = cc
+
+-- a table whose pages weren't copied into the table file isn't kept there
+pub not_kept : (table text name : List ℕ) (axes : Axes) (page_rows rows regions : ℕ) (pages : List (List ℕ)) (old new : FilesFacts) (of_store : StoreFault) (fault : LoadFault)
+    → IsTable text name axes page_rows rows regions pages → (of_store ≡ store.Device) ⊎ (of_store ≡ store.Memory) → WritesFile table pages old new (Err of_store)
+    → fault ≡ fault_of_tree (tree_fault of_store) → IsUnkept table text name axes page_rows old new fault
+not_kept table text name axes page_rows rows regions pages old new of_store fault is faults (inl copied) why =
+    let failed : new.failed_tables ≡ old.failed_tables = ap (λ (f : FilesFacts). f.failed_tables) copied.back.same in
+    record {
+      why = inr (inr (
+        record {
+          rows = rows;
+          regions = regions;
+          pages = pages;
+          of_store = of_store;
+          table_is = is;
+          refused = faults;
+          copied = copied;
+          fault_is = why;
+        },
+        failed,
+      ));
+      uses = record {
+        same = copied.back.same ∙ ap (λ (n : ℕ). record old { holds = new.holds; failed_tables = n }) (sym failed);
+        others = copied.back.others;
+      };
+    }
+not_kept table text name axes page_rows rows regions pages old new of_store fault is faults (inr unmade) why =
+    let device = one_fault of_store store.Device unmade.0 in
+    let raised_so = ap (λ (f : FilesFacts). f.failed_tables) unmade.1.same in
+    record {
+      why = inr (inl (
+        record {
+          rows = rows;
+          regions = regions;
+          pages = pages;
+          table_is = is;
+          fault_is = why ∙ ap (λ (e : StoreFault). fault_of_tree (tree_fault e)) device;
+        },
+        raised_so ∙ ap (λ (e : StoreFault). raised_by e old.failed_tables) device,
+      ));
+      uses = record {
+        same = unmade.1.same ∙ ap (λ (n : ℕ). record old { holds = new.holds; failed_tables = n }) (sym raised_so);
+        others = unmade.1.others;
+      };
+    }
 
 -- ---- a table in memory
 
