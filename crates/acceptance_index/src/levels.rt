@@ -1,11 +1,8 @@
-// An index of six levels with one to four entries a page, the leftmost pages of which are the roots
-// of indexes of one to five: each key, each neighbour, and all regions but the first dropped in
-// several orders.
-use crate::changes::is_made;
-use crate::searches::{Listed, Spelled, Tried, entry, finds_each, has_neighbours, page_of, stored};
+// An index of six levels with one to four entries a page, the leftmost pages of which are the roots of indexes of one to five: each
+// key, each neighbour, and all regions but the first dropped in several orders.
+use crate::pages::{Listed, Sheet};
+use crate::trial::{Answer, Run, Step, Trial, all_go};
 use std::alloc::Global;
-use ub_index::{Index, Seat};
-use ub_index_page::Key;
 
 // The regions' entries, from left to right.
 const REGIONS: &[Listed] = &[
@@ -31,44 +28,73 @@ const REGIONS: &[Listed] = &[
 ];
 
 // The pages, from 1 on, in this order: what a page leads to, and then the page.
-const PAGES: &[Spelled] = &[
-    (1, &[(0, 0, 100), (1, 0, 101), (1, 3, 102), (2, 1, 103)]),
-    (1, &[(5, 0, 104)]),
-    (1, &[(6, 0, 105), (6, 1, 106)]),
-    (2, &[(0, 0, 1), (5, 0, 2), (6, 0, 3)]),
-    (1, &[(9, 0, 107), (10, 0, 108), (10, 4, 109)]),
-    (2, &[(9, 0, 5)]),
-    (3, &[(0, 0, 4), (9, 0, 6)]),
-    (1, &[(12, 0, 110)]),
-    (2, &[(12, 0, 8)]),
-    (3, &[(12, 0, 9)]),
-    (1, &[(14, 0, 111)]),
-    (1, &[(15, 2, 112)]),
-    (2, &[(14, 0, 11), (15, 2, 12)]),
-    (3, &[(14, 0, 13)]),
-    (1, &[(20, 0, 113)]),
-    (2, &[(20, 0, 15)]),
-    (3, &[(20, 0, 16)]),
-    (4, &[(0, 0, 7), (12, 0, 10), (14, 0, 14), (20, 0, 17)]),
-    (1, &[(22, 1, 114), (22, 2, 115)]),
-    (2, &[(22, 1, 19)]),
-    (3, &[(22, 1, 20)]),
-    (4, &[(22, 1, 21)]),
-    (5, &[(0, 0, 18), (22, 1, 22)]),
-    (1, &[(25, 0, 116)]),
-    (2, &[(25, 0, 24)]),
-    (3, &[(25, 0, 25)]),
-    (4, &[(25, 0, 26)]),
-    (5, &[(25, 0, 27)]),
-    (1, &[(30, 0, 117)]),
-    (1, &[(31, 0, 118)]),
-    (2, &[(30, 0, 29)]),
-    (2, &[(31, 0, 30)]),
-    (3, &[(30, 0, 31), (31, 0, 32)]),
-    (4, &[(30, 0, 33)]),
-    (5, &[(30, 0, 34)]),
-    (6, &[(0, 0, 23), (25, 0, 28), (30, 0, 35)]),
+const PAGES: &[Sheet] = &[
+    Sheet::Index(1, &[(0, 0, 100), (1, 0, 101), (1, 3, 102), (2, 1, 103)]),
+    Sheet::Index(1, &[(5, 0, 104)]),
+    Sheet::Index(1, &[(6, 0, 105), (6, 1, 106)]),
+    Sheet::Index(2, &[(0, 0, 1), (5, 0, 2), (6, 0, 3)]),
+    Sheet::Index(1, &[(9, 0, 107), (10, 0, 108), (10, 4, 109)]),
+    Sheet::Index(2, &[(9, 0, 5)]),
+    Sheet::Index(3, &[(0, 0, 4), (9, 0, 6)]),
+    Sheet::Index(1, &[(12, 0, 110)]),
+    Sheet::Index(2, &[(12, 0, 8)]),
+    Sheet::Index(3, &[(12, 0, 9)]),
+    Sheet::Index(1, &[(14, 0, 111)]),
+    Sheet::Index(1, &[(15, 2, 112)]),
+    Sheet::Index(2, &[(14, 0, 11), (15, 2, 12)]),
+    Sheet::Index(3, &[(14, 0, 13)]),
+    Sheet::Index(1, &[(20, 0, 113)]),
+    Sheet::Index(2, &[(20, 0, 15)]),
+    Sheet::Index(3, &[(20, 0, 16)]),
+    Sheet::Index(4, &[(0, 0, 7), (12, 0, 10), (14, 0, 14), (20, 0, 17)]),
+    Sheet::Index(1, &[(22, 1, 114), (22, 2, 115)]),
+    Sheet::Index(2, &[(22, 1, 19)]),
+    Sheet::Index(3, &[(22, 1, 20)]),
+    Sheet::Index(4, &[(22, 1, 21)]),
+    Sheet::Index(5, &[(0, 0, 18), (22, 1, 22)]),
+    Sheet::Index(1, &[(25, 0, 116)]),
+    Sheet::Index(2, &[(25, 0, 24)]),
+    Sheet::Index(3, &[(25, 0, 25)]),
+    Sheet::Index(4, &[(25, 0, 26)]),
+    Sheet::Index(5, &[(25, 0, 27)]),
+    Sheet::Index(1, &[(30, 0, 117)]),
+    Sheet::Index(1, &[(31, 0, 118)]),
+    Sheet::Index(2, &[(30, 0, 29)]),
+    Sheet::Index(2, &[(31, 0, 30)]),
+    Sheet::Index(3, &[(30, 0, 31), (31, 0, 32)]),
+    Sheet::Index(4, &[(30, 0, 33)]),
+    Sheet::Index(5, &[(30, 0, 34)]),
+    Sheet::Index(6, &[(0, 0, 23), (25, 0, 28), (30, 0, 35)]),
 ];
+
+static RUNS: &[Run] = &[Run {
+    shown: "levels one to six",
+    steps: &[
+        (Step::Store(PAGES, 0, 4), Answer::Done),
+        (Step::Index(1, 1, 63), Answer::Done),
+        (Step::List(REGIONS, 4), Answer::Done),
+        (Step::Store(PAGES, 0, 4), Answer::Done),
+        (Step::Index(4, 2, 63), Answer::Done),
+        (Step::List(REGIONS, 7), Answer::Done),
+        (Step::Store(PAGES, 0, 4), Answer::Done),
+        (Step::Index(7, 3, 63), Answer::Done),
+        (Step::List(REGIONS, 10), Answer::Done),
+        (Step::Store(PAGES, 0, 4), Answer::Done),
+        (Step::Index(18, 4, 63), Answer::Done),
+        (Step::List(REGIONS, 14), Answer::Done),
+        (Step::Store(PAGES, 0, 4), Answer::Done),
+        (Step::Index(23, 5, 63), Answer::Done),
+        (Step::List(REGIONS, 16), Answer::Done),
+        (Step::Store(PAGES, 0, 4), Answer::Done),
+        (Step::Index(36, 6, 63), Answer::Done),
+        (Step::List(REGIONS, 19), Answer::Done),
+    ],
+}];
+
+#[test]
+fn levels_one_to_six(rt: HostRuntime) {
+    all_go(&rt, rt.alloc(), RUNS);
+}
 
 // An index: its level, its root, and how many regions stand below it.
 type Level = (u32, u32, u32);
@@ -90,81 +116,47 @@ enum Order {
     Middle,
 }
 
-// The index of a level.
-fn index_of(level: &Level) -> Index {
-    Index::new(level.1.max(1), level.0.max(1).min(16), 63)
-}
+static ORDERS: [Order; 3] = [Order::Ascending, Order::Descending, Order::Middle];
 
-// Whether an index answers as the flat list of its regions does.
-fn answers(index: &Index, pager: &mut Tried, flat: &[Listed]) -> bool {
-    finds_each(index, pager, flat) & has_neighbours(index, pager, flat)
-}
-
-// Whether the index of this level does.
-fn is_index(alloc: Global, level: &Level) -> bool {
-    let flat = &REGIONS[..REGIONS.len().min(level.2 as usize)];
-    match stored(alloc, PAGES, 0) {
-        Some(mut pager) => answers(&index_of(level), &mut pager, flat),
-        None => false,
-    }
-}
-
-#[test]
-fn levels_one_to_six(rt: HostRuntime) {
-    for level in &LEVELS {
-        assert!(rt; is_index(rt.alloc(), level), "{}", level.0);
-    }
-}
-
-// The seat that a call behind another gives, or none.
-fn seat_behind(index: &Index, pager: &mut Tried, seat: &Seat) -> Option<Seat> {
-    match index.after(pager, seat) {
-        Ok(next) => next,
-        Err(_) => None,
-    }
-}
-
-// Whether the index is the flat list of the regions that are left, one bit for each from the
-// lowest: gone through from the first to the last, each has the one before it for a neighbour.
-fn is_left(index: &Index, pager: &mut Tried, left: u32) -> bool {
-    let mut seat = index.seat_of(pager, &Key { z: 0, number: 0 }).ok();
+// Whether the index is the flat list of the regions that are left, one bit for each from the lowest: gone through from the first to
+// the last, each has the one before it for a neighbour.
+fn is_left(trial: &mut Trial, left: u32) -> bool {
+    let mut here = trial.answer(&Step::Seat(0, 0));
+    let mut before = Answer::Told(0);
     let mut rest = left;
-    let mut before = 0;
     for region in REGIONS {
         if rest % 2 == 1 {
-            let Some(here) = seat else {
-                return false;
-            };
-            if here.page != region.2 || page_of(index.before(pager, &here)) != before {
+            let is_here = here == Answer::Told(region.2);
+            if !(is_here & (trial.answer(&Step::Before) == before)) {
                 return false;
             }
-            before = here.page;
-            seat = seat_behind(index, pager, &here);
+            before = here;
+            here = trial.answer(&Step::After);
         }
         rest /= 2;
     }
-    seat.is_none()
+    here == Answer::Told(0)
 }
 
 // The root of the regions that are left: the lowest that leads to all of them; and its level.
-fn root_over(left: u32) -> (u32, u32) {
+fn root_over(left: u32) -> Answer {
     for (level, root, count) in &LEVELS {
         if left.wrapping_shr(*count) == 0 {
-            return (*root, *level);
+            return Answer::Root(*root, *level);
         }
     }
-    (0, 0)
+    Answer::Wrong
 }
 
-// The first key of the region before which so many are left, and its bit.
-fn ranked(left: u32, rank: u32) -> Option<(Key, u32)> {
+// The region before which so many are left, and its bit.
+fn ranked(left: u32, rank: u32) -> Option<(Listed, u32)> {
     let mut rest = left;
     let mut bit = 1u32;
     let mut ahead = rank;
     for region in REGIONS {
         if rest % 2 == 1 {
             if ahead == 0 {
-                return Some((entry(region).first, bit));
+                return Some((*region, bit));
             }
             ahead -= 1;
         }
@@ -184,58 +176,59 @@ fn next_rank(left: u32, order: Order) -> u32 {
     }
 }
 
-// Whether the region of this key is dropped, the root is that of those that are left then, and they
-// are the index.
-fn drops(alloc: Global, index: &mut Index, pager: &mut Tried, first: &Key, left: u32) -> bool {
-    let Ok(seat) = index.seat_of(pager, first) else {
-        return false;
-    };
-    match index.prepare_drop(alloc, pager, &seat) {
-        Ok(change) => {
-            is_made(index, pager, &change, root_over(left)) && is_left(index, pager, left)
-        }
-        Err(_) => false,
-    }
+// Whether this region is dropped, the root is that of those that are left then, and they are the index.
+fn drops(trial: &mut Trial, region: Listed, left: u32) -> bool {
+    let found = trial.answer(&Step::Seat(region.0, region.1));
+    let prepared = trial.answer(&Step::Drop);
+    let grown = trial.answer(&Step::Grow);
+    let made = trial.answer(&Step::Commit);
+    (found == Answer::Told(region.2))
+        & (prepared == root_over(left))
+        & (grown == Answer::Done)
+        & (made == Answer::Done)
+        & is_left(trial, left)
 }
 
-// Whether all regions of an index but the first are dropped in this order.
-fn drops_each(
-    alloc: Global,
-    index: &mut Index,
-    pager: &mut Tried,
-    count: u32,
-    order: Order,
-) -> bool {
-    let mut left = u32::MAX.wrapping_shr(32 - count.clamp(1, 32));
-    for _ in 1..count {
-        let Some((first, bit)) = ranked(left, next_rank(left, order)) else {
+// Whether all regions of the index of this level but the first are dropped in this order.
+fn drops_each(trial: &mut Trial, level: &Level, order: Order) -> bool {
+    trial.answer(&Step::Store(PAGES, 0, 4));
+    trial.answer(&Step::Index(level.1, level.0, 63));
+    let mut left = u32::MAX.wrapping_shr(32 - level.2.clamp(1, 32));
+    for _ in 1..level.2 {
+        let Some((region, bit)) = ranked(left, next_rank(left, order)) else {
             return false;
         };
         left &= !bit;
-        if !drops(alloc, index, pager, &first, left) {
+        if !drops(trial, region, left) {
             return false;
         }
     }
     left == 1
 }
 
-// Whether all regions of the index of this level but the first are.
-fn is_emptied(alloc: Global, level: &Level, order: Order) -> bool {
-    match stored(alloc, PAGES, 0) {
-        Some(mut pager) => drops_each(alloc, &mut index_of(level), &mut pager, level.2, order),
-        None => false,
+// In how many orders they are, up to the first in which they aren't.
+fn orders_right(trial: &mut Trial, level: &Level) -> usize {
+    for (i, order) in ORDERS.iter().enumerate() {
+        if !drops_each(trial, level, *order) {
+            return i;
+        }
     }
+    ORDERS.len()
+}
+
+// The same of the index of this level.
+fn emptied(alloc: Global, level: &Level) -> usize {
+    let mut trial = Trial::new(alloc);
+    orders_right(&mut trial, level)
 }
 
 #[test]
 fn drops_to_one(rt: HostRuntime) {
     for level in &LEVELS {
-        let ascending = is_emptied(rt.alloc(), level, Order::Ascending);
-        let descending = is_emptied(rt.alloc(), level, Order::Descending);
-        let middle = is_emptied(rt.alloc(), level, Order::Middle);
+        let right = emptied(rt.alloc(), level);
         assert!(rt;
-            ascending & descending & middle,
-            "{}: {ascending} {descending} {middle}",
+            right == ORDERS.len(),
+            "{}: {right} orders were right",
             level.0
         );
     }

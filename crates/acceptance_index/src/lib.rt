@@ -1,5 +1,6 @@
 // Tests of an index of several levels, by its public calls alone: searches in hand-made indexes, changes of them, and stores that
-// fail at one call; and of reading a directory of format 1. The values come from hand arithmetic and from models that are written apart, never from the index's own answers.
+// fail at one call; and of reading a directory of format 1. `trial` has the steps that they are made of. The values come from hand
+// arithmetic and from models that are written apart, never from the index's own answers.
 #![tactic(auto)]
 
 #[cfg(test)]
@@ -9,10 +10,16 @@ mod faults;
 #[cfg(test)]
 mod held;
 #[cfg(test)]
+mod keys;
+#[cfg(test)]
 mod levels;
 #[cfg(test)]
 mod old_directories;
 #[cfg(test)]
 mod opening;
 #[cfg(test)]
+mod pages;
+#[cfg(test)]
 mod searches;
+#[cfg(test)]
+mod trial;

@@ -1,0 +1,142 @@
+// What an index is to answer by the flat list of its regions' entries, and whether it does.
+use crate::pages::{Listed, Tried};
+use ub_bigmin::ZBox;
+use ub_directory::Region;
+use ub_index::{Index, IndexFault, Seat};
+use ub_index_page::Key;
+use ub_zaddr::{Point, Shape};
+
+// The first key of a region that is listed.
+pub(crate) fn first_of(listed: &Listed) -> Key {
+    Key {
+        z: listed.0,
+        number: listed.1,
+    }
+}
+
+// The seat of the region that holds a key, among those that are listed.
+fn seat_in(flat: &[Listed], z: u128, number: u32) -> Option<Seat> {
+    let key = Key { z, number };
+    let mut held = None;
+    for i in 0..flat.len() {
+        let first = first_of(&flat[i]);
+        if !key.is_before(&first) {
+            let next = if i + 1 < flat.len() {
+                Some(first_of(&flat[i + 1]))
+            } else {
+                None
+            };
+            held = Some(Seat {
+                first,
+                page: flat[i].2,
+                next,
+            });
+        }
+    }
+    held
+}
+
+// Whether each key of this address is found in the region that holds it.
+fn finds_at(index: &Index, pager: &mut Tried, flat: &[Listed], z: u128) -> bool {
+    for number in 0..7 {
+        if index.seat_of(pager, &Key { z, number }).ok() != seat_in(flat, z, number) {
+            return false;
+        }
+    }
+    true
+}
+
+// Whether each key up to an address behind the last region's first is.
+fn finds_each(index: &Index, pager: &mut Tried, flat: &[Listed]) -> bool {
+    for z in 0..40u32 {
+        if !finds_at(index, pager, flat, u128::from(z)) {
+            return false;
+        }
+    }
+    true
+}
+
+// The page of the seat that a call gives, or 0.
+pub(crate) fn page_given(given: Result<Option<Seat>, IndexFault>) -> u32 {
+    match given {
+        Ok(Some(seat)) => seat.page,
+        _ => 0,
+    }
+}
+
+// Whether each region has those for neighbours that are listed beside it.
+fn has_neighbours(index: &Index, pager: &mut Tried, flat: &[Listed]) -> bool {
+    for i in 0..flat.len() {
+        let Some(seat) = seat_in(flat, flat[i].0, flat[i].1) else {
+            return false;
+        };
+        let before = if i == 0 { 0 } else { flat[i - 1].2 };
+        let after = if i + 1 < flat.len() { flat[i + 1].2 } else { 0 };
+        let is_before = page_given(index.before(pager, &seat)) == before;
+        let is_after = page_given(index.after(pager, &seat)) == after;
+        if !(is_before & is_after) {
+            return false;
+        }
+    }
+    true
+}
+
+// Whether an index answers as the flat list of its regions does.
+pub(crate) fn is_list(index: &Index, pager: &mut Tried, flat: &[Listed]) -> bool {
+    finds_each(index, pager, flat) & has_neighbours(index, pager, flat)
+}
+
+// Whether the least key of each address leads to its page.
+pub(crate) fn leads(index: &Index, pager: &mut Tried, pages: &[(u128, u32)]) -> bool {
+    for (z, page) in pages {
+        match index.seat_of(pager, &Key { z: *z, number: 0 }) {
+            Ok(seat) if seat.page == *page => {}
+            _ => return false,
+        }
+    }
+    true
+}
+
+// Whether the regions of the lowest page of full ones are found, each on its page.
+pub(crate) fn leads_to_all(index: &Index, pager: &mut Tried) -> bool {
+    for z in 0..170u32 {
+        if !leads(index, pager, &[(u128::from(z), 1000 + z)]) {
+            return false;
+        }
+    }
+    true
+}
+
+// Whether the regions on these pages are those that are met, in this order and no others.
+fn meets(index: &Index, pager: &mut Tried, boxes: &[ZBox], pages: &[u32]) -> bool {
+    let mut after: Option<Region> = None;
+    for page in pages {
+        match index.next_meeting(pager, boxes, after.as_ref()) {
+            Ok(Some(region)) if region.page == *page => after = Some(region),
+            _ => return false,
+        }
+    }
+    index.next_meeting(pager, boxes, after.as_ref()) == Ok(None)
+}
+
+// The addresses from one to another, as a box of one dimension.
+fn between(lo: u32, hi: u32) -> Option<ZBox> {
+    let Ok(shape) = Shape::new(1) else {
+        return None;
+    };
+    let (Ok(lo), Ok(hi)) = (Point::new(shape, &[lo]), Point::new(shape, &[hi])) else {
+        return None;
+    };
+    ZBox::new(shape, &lo, &hi)
+}
+
+// Whether boxes meet those of six regions that they meet.
+pub(crate) fn meets_each(index: &Index, pager: &mut Tried) -> bool {
+    let (Some(middle), Some(low), Some(high)) = (between(5, 20), between(2, 2), between(40, 63))
+    else {
+        return false;
+    };
+    meets(index, pager, &[middle], &[101, 102, 103, 104])
+        & meets(index, pager, &[high, low], &[100, 105])
+        & meets(index, pager, &[], &[])
+}

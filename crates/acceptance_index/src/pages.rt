@@ -1,0 +1,115 @@
+// Pages written by hand, as data, and stores of them.
+use std::alloc::Global;
+use std::num::NonZeroUsize;
+use ub_store::{FaultyStore, MemStore, Page, PageStore, Pager, StoreFault};
+
+// An entry: the address and the number of its first key, and its page.
+pub(crate) type Listed = (u128, u32, u32);
+
+// A pager over a store that fails at one call.
+pub(crate) type Tried = Pager<FaultyStore<MemStore>>;
+
+// A page.
+#[derive(Clone, Copy)]
+pub(crate) enum Sheet {
+    // Of an index: its level, and its entries.
+    Index(u32, &'static [Listed]),
+    // Of an index: its level from 1 to 16, and the page that the first of its 170 entries names; the others name page 1001, 1002
+    // and so on. Each leads to keys that the level below can hold.
+    Full(u32, u32),
+    // Of a directory of format 1: regions that begin with the addresses from one on, the region of address z on page z + 1000; how
+    // many they are, 170 at most; and the page that is named next, 0 for none.
+    Directory(u32, u32, u32),
+    // Zeros.
+    Blank,
+}
+
+// The first four bytes of a page as a number, its kind, its level and its count, and the next four, the page that is named next.
+fn head_of(sheet: &Sheet) -> (u32, u32) {
+    match sheet {
+        Sheet::Index(level, entries) => {
+            let count = entries.len().min(170) as u32;
+            (0x4900_0000 + *level.min(&255) * 65536 + count, 0)
+        }
+        Sheet::Full(level, _) => (0x4900_00aa + *level.min(&255) * 65536, 0),
+        Sheet::Directory(_, count, next) => (0x4400_0000 + *count.min(&170), *next),
+        Sheet::Blank => (0, 0),
+    }
+}
+
+// The entry at an index of a full page.
+fn full_at(level: u32, below: u32, i: u32) -> Listed {
+    let mut apart = 1u128;
+    for _ in 1..level {
+        apart = apart.saturating_mul(200);
+    }
+    let page = if i == 0 { below } else { i.wrapping_add(1000) };
+    (apart.saturating_mul(u128::from(i)), 0, page)
+}
+
+// The entry at an index of a page, if there is one.
+fn listed_at(sheet: &Sheet, i: u32) -> Option<Listed> {
+    match sheet {
+        Sheet::Index(_, entries) => entries.get(i as usize).copied(),
+        Sheet::Full(level, below) => Some(full_at(*level, *below, i)),
+        Sheet::Directory(from, count, _) => {
+            let z = from.wrapping_add(i);
+            if i < *count {
+                Some((u128::from(z), 0, z.wrapping_add(1000)))
+            } else {
+                None
+            }
+        }
+        Sheet::Blank => None,
+    }
+}
+
+// Puts a number into a page, on so many bytes from an offset on, the highest byte first.
+fn poke(page: &mut [u8], at: usize, width: u32, number: u128) {
+    let mut rest = number;
+    for i in 0..width {
+        let place = at.wrapping_add((width - 1 - i) as usize);
+        if place < page.len() {
+            page[place] = (rest % 256) as u8;
+        }
+        rest /= 256;
+    }
+}
+
+// The bytes of a page: its head, and of each entry an address of 16 bytes, a number and a page.
+pub(crate) fn page_of(sheet: &Sheet) -> Page {
+    let mut page = [0; 4096];
+    let (word, next) = head_of(sheet);
+    poke(&mut page, 0, 4, u128::from(word));
+    poke(&mut page, 4, 4, u128::from(next));
+    for i in 0..170u32 {
+        let Some((z, number, below)) = listed_at(sheet, i) else {
+            break;
+        };
+        let at = 16 + 24 * i as usize;
+        poke(&mut page, at, 16, z);
+        poke(&mut page, at + 16, 4, u128::from(number));
+        poke(&mut page, at + 20, 4, u128::from(below));
+    }
+    page
+}
+
+// Puts a blank page and these into a store of none.
+fn fill(store: &mut MemStore, pages: &[Sheet]) -> Result<(), StoreFault> {
+    store.extend()?;
+    for sheet in pages {
+        let number = store.extend()?;
+        store.write_page(number, &page_of(sheet))?;
+    }
+    Ok(())
+}
+
+// A store of these pages from 1 on, whose call of this number fails, behind a pager that holds so many.
+pub(crate) fn stored(alloc: Global, pages: &[Sheet], due: u64, room: usize) -> Option<Tried> {
+    let room = NonZeroUsize::new(room)?;
+    let mut store = MemStore::new(alloc);
+    match fill(&mut store, pages) {
+        Ok(()) => Pager::new(alloc, FaultyStore::new(store, due), room).ok(),
+        Err(_) => None,
+    }
+}

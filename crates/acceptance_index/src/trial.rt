@@ -1,0 +1,347 @@
+// Steps on an index and on the pager of its store, as data.
+use crate::keys::{is_list, leads, leads_to_all, meets_each, page_given};
+use crate::old_directories::read;
+use crate::opening::begins;
+use crate::pages::{Listed, Sheet, Tried, page_of, stored};
+use std::alloc::Global;
+use std::process::Abort;
+use ub_directory::Region;
+use ub_index::{Change, Index, IndexFault, Seat};
+use ub_index_page::{Key, PageFault};
+use ub_store::StoreFault;
+
+// A step on a store, on an index, or on both.
+#[derive(Clone, Copy)]
+pub(crate) enum Step {
+    // Takes a store of a blank page and of these from page 1 on, whose call of this number fails, behind a pager that holds so many.
+    Store(&'static [Sheet], u64, usize),
+    // Takes the index with this root, its level, and this last address. Nothing is read.
+    Index(u32, u32, u128),
+    // Opens that index, and takes it.
+    Open(u32, u32, u128),
+    // Makes the index of the region on page 5 on this page, with this last address, and takes it.
+    Create(u32, u128),
+    // Puts a page in the place of this one.
+    Put(u32, Sheet),
+    // Takes the seat of the region that holds a key: its page.
+    Seat(u128, u32),
+    // Takes this seat.
+    Take(Seat),
+    // Whether this is the seat that was taken.
+    Is(Seat),
+    // Takes the seat of the next region, if there is one: its page, or 0.
+    After,
+    // The page of the region before, or 0.
+    Before,
+    // The page of the first region later than another, or of the first of all, whose span ends at an address or later, or 0.
+    Seek(u128, Option<Region>),
+    // Prepares that a region comes at a key behind that of the seat: the root from then on, and its level.
+    Add(u128, u32),
+    // Prepares that the region of the seat goes: the same.
+    Drop,
+    // The page of the region that the prepared change adds.
+    Added,
+    // Grows the store as that needs.
+    Grow,
+    // Makes the change.
+    Commit,
+    // Whether the index answers as the first so many of a flat list do.
+    List(&'static [Listed], usize),
+    // Whether the least key of each address leads to its page.
+    Lead(&'static [(u128, u32)]),
+    // Whether each of the 170 addresses of the lowest full page does.
+    LeadToAll,
+    // Whether boxes meet those of the six regions of `searches` that they meet.
+    Meet,
+    // Whether the trace notes no page.
+    Trace,
+    // How many pages the store has.
+    Pages,
+    // Whether a page begins with these bytes, and has zeros behind them.
+    Begins(u32, &'static [u8; 40]),
+    // Whether the directory of format 1 that begins on a page has so many regions, and these pages.
+    Read(u32, u32, &'static [u32]),
+}
+
+// What a step answers.
+#[derive(Clone, Copy, PartialEq, Eq)]
+pub(crate) enum Answer {
+    Done,
+    Wrong,
+    // A page, or a number of pages.
+    Told(u32),
+    // A root and its level.
+    Root(u32, u32),
+    // A page is refused.
+    Page(u32, PageFault),
+    Store(StoreFault),
+    Full,
+}
+
+pub(crate) const DEVICE: Answer = Answer::Store(StoreFault::Device);
+
+pub(crate) const NO_PAGE: Answer = Answer::Store(StoreFault::NoPage);
+
+// The seat of a region that begins with the least key of all, on no page.
+const NO_SEAT: Seat = Seat {
+    first: Key { z: 0, number: 0 },
+    page: 0,
+    next: None,
+};
+
+// What is tried: what it shows, and steps.
+pub(crate) struct Run {
+    pub(crate) shown: &'static str,
+    pub(crate) steps: &'static [(Step, Answer)],
+}
+
+// An index, the seat that was taken last, and the change that was prepared last.
+#[derive(Drop)]
+struct Held {
+    index: Index,
+    seat: Seat,
+    change: Option<Change>,
+}
+
+// That, and the pager of a store.
+#[derive(Drop)]
+pub(crate) struct Trial {
+    alloc: Global,
+    held: Held,
+    pager: Option<Tried>,
+}
+
+// Asserts that the steps of each of these runs are answered so.
+pub(crate) fn all_go(rt: &impl Abort, alloc: Global, runs: &[Run]) {
+    for run in runs {
+        let right = steps_right(alloc, run.steps);
+        assert!(rt;
+            right == run.steps.len(),
+            "{}: {right} steps were right",
+            run.shown
+        );
+    }
+}
+
+// How many of these steps are answered so, up to the first wrong one.
+fn steps_right(alloc: Global, steps: &[(Step, Answer)]) -> usize {
+    let mut trial = Trial::new(alloc);
+    trial.count_right(steps)
+}
+
+impl Trial {
+    // No store yet.
+    pub(crate) fn new(alloc: Global) -> Trial {
+        Trial {
+            alloc,
+            held: Held {
+                index: Index::new(1, 1, 0),
+                seat: NO_SEAT,
+                change: None,
+            },
+            pager: None,
+        }
+    }
+
+    // How many of these steps are answered so, up to the first wrong one.
+    fn count_right(&mut self, steps: &[(Step, Answer)]) -> usize {
+        for (i, (step, wanted)) in steps.iter().enumerate() {
+            if self.answer(step) != *wanted {
+                return i;
+            }
+        }
+        steps.len()
+    }
+
+    // What a step answers.
+    pub(crate) fn answer(&mut self, step: &Step) -> Answer {
+        if let Step::Store(pages, due, room) = step {
+            self.pager = stored(self.alloc, pages, *due, *room);
+            return Answer::Done;
+        }
+        match &mut self.pager {
+            Some(pager) => ask(self.alloc, &mut self.held, pager, step),
+            None => Answer::Wrong,
+        }
+    }
+}
+
+// What a step on an index answers.
+fn ask(alloc: Global, held: &mut Held, pager: &mut Tried, step: &Step) -> Answer {
+    match step {
+        Step::Index(root, levels, last) => {
+            held.index = Index::new((*root).max(1), (*levels).max(1).min(16), *last);
+            Answer::Done
+        }
+        Step::Open(root, levels, last) => {
+            let opened = Index::open(pager, (*root).max(1), (*levels).max(1).min(16), *last);
+            held.take(opened)
+        }
+        Step::Create(root, last) => {
+            match Index::create(pager, (*root).max(1), 5, *last) {
+                Ok(index) => held.take(Ok(index)),
+                Err(fault) => Answer::Store(fault),
+            }
+        }
+        Step::Take(seat) => {
+            held.seat = *seat;
+            Answer::Done
+        }
+        Step::Is(seat) => whether(held.seat == *seat),
+        Step::Add(z, number) => held.add(
+            alloc,
+            pager,
+            &Key {
+                z: *z,
+                number: *number,
+            },
+        ),
+        Step::Drop => held.drop_region(alloc, pager),
+        Step::Added => held.added(),
+        Step::Grow => held.grow(pager),
+        Step::Commit => held.commit(pager),
+        Step::Read(root, regions, chain) => read(alloc, pager, *root, *regions, chain),
+        Step::Put(number, sheet) => ended(pager.put(*number, &page_of(sheet))),
+        _ => held.search(pager, step),
+    }
+}
+
+// What a step that changes nothing answers.
+fn look(index: &Index, pager: &mut Tried, step: &Step) -> Answer {
+    match step {
+        Step::Seek(z, after) => {
+            match index.seek(pager, *z, after.as_ref()) {
+                Ok(Some(region)) => Answer::Told(region.page),
+                Ok(None) => Answer::Told(0),
+                Err(fault) => refused(fault),
+            }
+        }
+        Step::List(flat, count) => whether(is_list(index, pager, &flat[..flat.len().min(*count)])),
+        Step::Lead(pages) => whether(leads(index, pager, pages)),
+        Step::LeadToAll => whether(leads_to_all(index, pager)),
+        Step::Meet => whether(meets_each(index, pager)),
+        Step::Trace => whether(pager.trace().is_empty()),
+        Step::Pages => Answer::Told(pager.pages()),
+        Step::Begins(number, bytes) => begins(pager, *number, bytes),
+        _ => Answer::Wrong,
+    }
+}
+
+impl Held {
+    // Takes an index.
+    fn take(&mut self, made: Result<Index, IndexFault>) -> Answer {
+        match made {
+            Ok(index) => {
+                self.index = index;
+                Answer::Done
+            }
+            Err(fault) => refused(fault),
+        }
+    }
+
+    // Takes the seat that a search gives.
+    fn sit(&mut self, found: Result<Option<Seat>, IndexFault>) -> Answer {
+        match found {
+            Ok(Some(seat)) => {
+                self.seat = seat;
+                Answer::Told(seat.page)
+            }
+            Ok(None) => Answer::Told(0),
+            Err(fault) => refused(fault),
+        }
+    }
+
+    // What a search for a seat answers.
+    fn search(&mut self, pager: &mut Tried, step: &Step) -> Answer {
+        match step {
+            Step::Seat(z, number) => {
+                match self.index.seat_of(
+                    pager,
+                    &Key {
+                        z: *z,
+                        number: *number,
+                    },
+                ) {
+                    Ok(seat) => self.sit(Ok(Some(seat))),
+                    Err(fault) => refused(fault),
+                }
+            }
+            Step::After => {
+                let found = self.index.after(pager, &self.seat);
+                self.sit(found)
+            }
+            Step::Before => Answer::Told(page_given(self.index.before(pager, &self.seat))),
+            _ => look(&self.index, pager, step),
+        }
+    }
+
+    // Takes a change that was prepared.
+    fn hold(&mut self, prepared: Result<Change, IndexFault>) -> Answer {
+        match prepared {
+            Ok(change) => {
+                let (root, level) = change.root();
+                self.change = Some(change);
+                Answer::Root(root, level)
+            }
+            Err(fault) => refused(fault),
+        }
+    }
+
+    // Prepares that a region comes behind the seat.
+    fn add(&mut self, alloc: Global, pager: &mut Tried, key: &Key) -> Answer {
+        let prepared = self.index.prepare_add(alloc, pager, &self.seat, key);
+        self.hold(prepared)
+    }
+
+    // Prepares that the region of the seat goes.
+    fn drop_region(&mut self, alloc: Global, pager: &mut Tried) -> Answer {
+        let prepared = self.index.prepare_drop(alloc, pager, &self.seat);
+        self.hold(prepared)
+    }
+
+    // The page of the region that is added.
+    fn added(&self) -> Answer {
+        match &self.change {
+            Some(change) => Answer::Told(change.page()),
+            None => Answer::Wrong,
+        }
+    }
+
+    // Grows the store.
+    fn grow(&mut self, pager: &mut Tried) -> Answer {
+        match &self.change {
+            Some(change) => ended(change.grow(pager)),
+            None => Answer::Wrong,
+        }
+    }
+
+    // Makes the change.
+    fn commit(&mut self, pager: &mut Tried) -> Answer {
+        match &self.change {
+            Some(change) => ended(self.index.commit(pager, change)),
+            None => Answer::Wrong,
+        }
+    }
+}
+
+// Done where that is so.
+pub(crate) fn whether(is_so: bool) -> Answer {
+    if is_so { Answer::Done } else { Answer::Wrong }
+}
+
+// What a call of the store answers.
+fn ended(end: Result<(), StoreFault>) -> Answer {
+    match end {
+        Ok(()) => Answer::Done,
+        Err(fault) => Answer::Store(fault),
+    }
+}
+
+// The answer that an index's fault is.
+fn refused(fault: IndexFault) -> Answer {
+    match fault {
+        IndexFault::Page { page, fault } => Answer::Page(page, fault),
+        IndexFault::Store(fault) => Answer::Store(fault),
+        IndexFault::Full => Answer::Full,
+    }
+}
