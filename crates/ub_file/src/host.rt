@@ -6,7 +6,8 @@ ghost use Rattle.ub_store.specs.Facts.{page_count, raised};
 use crate::medium::{Medium, PAGE_BYTES};
 use crate::store::FileStore;
 use std::fs::{Metadata, OpenFile, OpenOptions};
-use std::io::{self, Read, Seek, SeekFrom, Write};
+use std::io;
+use std::os::unix::fs::FileExt;
 use std::rt::Files;
 use ub_store::{Page, PageStore, StoreFault};
 
@@ -25,6 +26,8 @@ pub struct HostFile<F> {
 /// Opens a file for reading and writing, or for reading alone where that is refused: each write is then a failure. It neither
 /// makes the file nor changes it. Device comes where there is no such file or the system refuses it.
 pub fn open<R: Files>(rt: &R, path: &str) -> Result<HostFile<R::File>, StoreFault>
+where
+    R::File: FileExt,
     ensures faults { IfErr result (λ fault. fault ≡ StoreFault.Device) }
     ensures unfailed { IfOk result (λ file.
         IsUnfailed (⟦<HostFile<R::File> as Medium>⟧.facts file)) }
@@ -38,6 +41,8 @@ pub fn open<R: Files>(rt: &R, path: &str) -> Result<HostFile<R::File>, StoreFaul
 /// Opens a file for reading and writing, or makes one with no bytes where there is none; one that there is stays as it was. Device
 /// comes where the system refuses it.
 pub fn open_or_make<R: Files>(rt: &R, path: &str) -> Result<HostFile<R::File>, StoreFault>
+where
+    R::File: FileExt,
     ensures faults { IfErr result (λ fault. fault ≡ StoreFault.Device) }
     ensures unfailed { IfOk result (λ file.
         IsUnfailed (⟦<HostFile<R::File> as Medium>⟧.facts file)) }
@@ -50,6 +55,8 @@ pub fn open_or_make<R: Files>(rt: &R, path: &str) -> Result<HostFile<R::File>, S
 /// The store in a file, which is opened, and of which no call has failed yet. Device comes where there is no such file or the
 /// system refuses it, BadSize where it is no whole number of pages or has more of them than a store. The file stays as it was.
 pub fn open_store<R: Files>(rt: &R, path: &str) -> Result<FileStore<HostFile<R::File>>, StoreFault>
+where
+    R::File: FileExt,
     ensures faults { IfErr result (λ fault.
         (fault ≡ StoreFault.Device) ⊎ (fault ≡ StoreFault.BadSize)) }
     ensures unfailed { IfOk result (λ store.
@@ -64,6 +71,8 @@ pub fn create_store<R: Files>(
     rt: &R,
     path: &str,
 ) -> Result<FileStore<HostFile<R::File>>, StoreFault>
+where
+    R::File: FileExt,
     ensures faults { IfErr result (λ fault. fault ≡ StoreFault.Device) }
     ensures none { IfOk result (λ store.
         page_count (⟦<FileStore<HostFile<R::File>> as PageStore>⟧.facts store) ≡ 0) }
@@ -75,6 +84,8 @@ pub fn create_store<R: Files>(
 
 // Opens a file that there is: none is made.
 fn open_found<R: Files>(rt: &R, how: &OpenOptions, path: &str) -> io::Result<HostFile<R::File>>
+where
+    R::File: FileExt,
     requires found { (asks_create how.now ≡ false) × (asks_create_new how.now ≡ false) }
     requires kept { AsksInPlace how.now }
     ensures { IfOk result (λ file. IsUnfailed (⟦<HostFile<R::File> as Medium>⟧.facts file)) }
@@ -85,6 +96,8 @@ fn open_found<R: Files>(rt: &R, how: &OpenOptions, path: &str) -> io::Result<Hos
 // Opens a file in a way that leaves its bytes where they are, and asks for its length. A folder, which can be opened for reading,
 // is no file.
 fn open_as<R: Files>(rt: &R, how: &OpenOptions, path: &str) -> io::Result<HostFile<R::File>>
+where
+    R::File: FileExt,
     requires kept { AsksInPlace how.now }
     ensures { IfOk result (λ file. IsUnfailed (⟦<HostFile<R::File> as Medium>⟧.facts file)) }
 {
@@ -121,15 +134,13 @@ fn place(n: u32) -> u64
 }
 
 // Reads the page at its place into the one that is lent.
-fn read_at<F: Read + Seek>(file: &mut F, n: u32, page: &mut Page) -> io::Result<()> {
-    file.seek(SeekFrom::Start(place(n)))?;
-    file.read_exact(page)
+fn read_at<F: FileExt>(file: &F, n: u32, page: &mut Page) -> io::Result<()> {
+    file.read_exact_at(page, place(n))
 }
 
 // Writes a page at its place.
-fn write_at<F: Write + Seek>(file: &mut F, n: u32, page: &Page) -> io::Result<()> {
-    file.seek(SeekFrom::Start(place(n)))?;
-    file.write_all(page)
+fn write_at<F: FileExt>(file: &F, n: u32, page: &Page) -> io::Result<()> {
+    file.write_all_at(page, place(n))
 }
 
 impl<F: OpenFile> HostFile<F> {
@@ -160,7 +171,7 @@ impl<F: OpenFile> HostFile<F> {
 }
 
 #[tactic(auto, using(crate::proofs::HostFacts::length_unknown, crate::proofs::HostFacts::no_unknown), unfolding(crate::specs::Host::is_honest_file))]
-impl<F: Read + Write + Seek + OpenFile + Drop> Medium for HostFile<F> {
+impl<F: FileExt + OpenFile + Drop> Medium for HostFile<F> {
     ghost use Rattle.std.specs.Prelude.{◌%◌, false};
     ghost use Rattle.ub_file.specs.Host.{host_facts};
 
@@ -175,7 +186,7 @@ impl<F: Read + Write + Seek + OpenFile + Drop> Medium for HostFile<F> {
     }
 
     fn read_into(&mut self, n: u32, page: &mut Page) -> Result<(), StoreFault> {
-        match read_at(&mut self.file, n, page) {
+        match read_at(&self.file, n, page) {
             Ok(()) => Ok(()),
             Err(_) => {
                 self.reads = self.reads.saturating_add(1);
@@ -185,7 +196,7 @@ impl<F: Read + Write + Seek + OpenFile + Drop> Medium for HostFile<F> {
     }
 
     fn write_page(&mut self, n: u32, page: &Page) -> Result<(), StoreFault> {
-        match write_at(&mut self.file, n, page) {
+        match write_at(&self.file, n, page) {
             Ok(()) => Ok(()),
             Err(_) => Err(self.failed_write()),
         }

@@ -2,6 +2,7 @@ ghost use Rattle.std.specs.Prelude.{◌≡◌, ◌⊎◌, IfErr};
 ghost use Rattle.ub_files.specs.Host.{facts_of_host};
 
 use crate::files::Files;
+use std::os::unix::fs::FileExt;
 use std::{fs, io, rt};
 use ub_file::host::{create_store, open_store};
 use ub_file::{FileStore, HostFile};
@@ -17,7 +18,10 @@ pub struct HostFiles<'r, R> {
     tables: u64,
 }
 
-impl<'r, R: rt::Files + AllocGlobal> HostFiles<'r, R> {
+impl<'r, R: rt::Files + AllocGlobal> HostFiles<'r, R>
+where
+    R::File: FileExt,
+{
     /// The files that this runtime reaches; none has failed yet.
     pub fn new(rt: &'r R) -> HostFiles<'r, R>
         ensures { ⟦<HostFiles<'r, R> as Files>⟧.facts result ≡ facts_of_host 0 0 }
@@ -44,7 +48,10 @@ fn read_file<R: rt::Files + AllocGlobal>(rt: &R, path: &str) -> Result<Vec<u8>, 
 }
 
 #[tactic(auto, unfolding(crate::specs::Host::is_honest_host))]
-impl<R: rt::Files + AllocGlobal> Files for HostFiles<'_, R> {
+impl<R: rt::Files + AllocGlobal> Files for HostFiles<'_, R>
+where
+    R::File: FileExt,
+{
     type Store = FileStore<HostFile<R::File>>;
 
     ghost facts = { λ files. facts_of_host files.reads files.tables };
