@@ -9,14 +9,11 @@ Run by hand: tests/changes.py [HOW MANY [SEED [PROGRAM]]]. It prints how many sc
 With `--transcript` as the first word it prints the scripts, and what they must write, as a transcript for crates/transcripts, whose program
 then plays them with no proved program at hand: tests/changes.py --transcript 2000 | (cd crates/transcripts && rt try --seconds 500).
 """
-import collections
 import os
-import random
 import subprocess
 import sys
-import tempfile
 
-from program import program as program_of
+from program import try_cases
 from sweeps import GREATEST, address, condition, csv_of, event_values, is_chosen, names_of, put, query_of_groups, query_of_rows, random_box
 from sweeps import random_row, where_of
 
@@ -232,23 +229,7 @@ def run_case(program, data, lines, work):
 
 
 def main():
-    words = [word for word in sys.argv[1:] if word != "--transcript"]
-    count = int(words[0]) if words else 500
-    rng = random.Random(int(words[1]) if len(words) > 1 else 1)
-    counts = collections.Counter()
-    if "--transcript" in sys.argv:
-        print_transcript(count, rng, counts)
-        return 0
-    program = program_of(words[2] if len(words) > 2 else None)
-    right = wrong = 0
-    with tempfile.TemporaryDirectory() as work:
-        for data, lines in cases(count, rng, counts):
-            if run_case(program, data, lines, work):
-                right += 1
-            else:
-                wrong += 1
-    print(f"changes.py: {right} right, {wrong} wrong; " + ", ".join(f"{kind} {many}" for kind, many in sorted(counts.items())))
-    return wrong > 0
+    return try_cases("changes.py", cases, lambda program, case, work: run_case(program, *case, work), print_transcript)
 
 
 if __name__ == "__main__":

@@ -12,17 +12,14 @@ Run by hand: tests/signed.py [HOW MANY [SEED [PROGRAM]]]. It prints how many scr
 With `--transcript` as the first word it prints the scripts, and what they must write, as a transcript for crates/transcripts, whose program
 then plays them with no proved program at hand: tests/signed.py --transcript 1000 | (cd crates/transcripts && rt try --seconds 500).
 """
-import collections
 import itertools
 import operator
 import os
-import random
 import subprocess
 import sys
-import tempfile
 
 from changes import take
-from program import program as program_of
+from program import try_cases
 from sweeps import AGGREGATES, GREATEST, address, event_values, pages_read, put
 
 HALF = 2**31
@@ -485,23 +482,12 @@ def run_line(program, line, work):
 
 
 def main():
-    words = [word for word in sys.argv[1:] if word != "--transcript"]
-    count = int(words[0]) if words else 500
-    rng = random.Random(int(words[1]) if len(words) > 1 else 1)
-    counts = collections.Counter()
-    if "--transcript" in sys.argv:
-        print_transcript(count, rng, counts)
-        return 0
-    program = program_of(words[2] if len(words) > 2 else None)
-    right = wrong = 0
-    with tempfile.TemporaryDirectory() as work:
-        for i in range(count):
-            if all(run_line(program, line, work) for line in case(rng, i, counts)):
-                right += 1
-            else:
-                wrong += 1
-    print(f"signed.py: {right} right, {wrong} wrong; " + ", ".join(f"{kind} {many}" for kind, many in sorted(counts.items())))
-    return wrong > 0
+    return try_cases(
+        "signed.py",
+        lambda count, rng, counts: (case(rng, i, counts) for i in range(count)),
+        lambda program, lines, work: all(run_line(program, line, work) for line in lines),
+        print_transcript,
+    )
 
 
 if __name__ == "__main__":
