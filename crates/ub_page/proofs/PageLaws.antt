@@ -26,7 +26,7 @@ pub listing_not_refused : (listing : Listing) (page : List ℕ) (d : ℕ) → d 
 listing_not_refused = directory.not_refused
 
 pub header_parts : (h : Header) (page : List ℕ) → IsHeader h → page ≡ header_page h → HasParts h page
-header_parts h page is e = headers.parts VERSION h page (omega arith) (headers.of_latest h is) e
+header_parts h page is e = headers.parts VERSION h page (omega arith) is e
 
 pub header_not_refused : (h : Header) (page : List ℕ) → IsHeader h → h.unclean ≡ false → page ≡ header_page h → (e : PageFault) → IsHeaderFault page e → ⊥
 header_not_refused = headers.not_refused
