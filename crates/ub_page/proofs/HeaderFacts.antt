@@ -1,12 +1,12 @@
 -- What the page of a header reads as.
-use Rattle.std.proofs.Common.{inl, inr, ◌≡◌, ◌≢◌, ◌≤◌, ◌<◌, ◌+◌, ◌-◌, ◌*◌, ◌/◌, ◌^◌, ◌↔◌, ℕ, zero, suc, List, [], ◌∷◌, ◌++◌, true, false, Result, Ok, Err, IsOk, IfErr, length, take, drop, replicate, if◌then◌else◌, refl, sym, ap, arith, ◌∙◌, append_assoc, length-take-le}
+use Rattle.std.proofs.Common.{inl, inr, ◌≡◌, ◌≢◌, ◌≤◌, ◌<◌, ◌+◌, ◌-◌, ◌*◌, ◌^◌, ◌↔◌, ℕ, zero, suc, List, [], ◌∷◌, ◌++◌, true, false, Result, Ok, Err, IsOk, IfErr, length, take, drop, replicate, if◌then◌else◌, refl, sym, ap, arith, ◌∙◌, append_assoc, length-take-le}
 use Rattle.std.specs.Prelude.{IsErrOf, nat_lt}
 use Rattle.std.proofs.Math.Nat.{mul-div-le}
 use Rattle.std.proofs.lemmas.Bool.{cases_Bool, lt-ltb, ltb-true}
 use Rattle.std.proofs.lemmas.List.{length-append, length-replicate, length-drop}
 use Rattle.std.specs.List.{flat_map, AllByRecursion}
 use Rattle.ub_page.specs.Bytes.{number_bytes, number_at, layout, padded}
-use Rattle.ub_page.specs.Header.{numbers_of, names_of, number_fields, name_bytes, page_of, header_page, header_page_of, IsHeader, IsHeaderOf, IsOldHeader, IsOldVersion, IsOldKind, AreInRangeOf, AreLevels, AreSame, IsOfVersion, IsHeaderKind, IsFaultOf, IsHeaderFault, IsOldHeaderFault, directory_pages, version_on, HasNames, columns_on, numbers_on, name_on, names_on, IsNameOn, AreNamesOn}
+use Rattle.ub_page.specs.Header.{numbers_of, names_of, number_fields, name_bytes, page_of, header_page, header_page_of, IsHeader, IsHeaderOf, IsOldHeader, IsOldVersion, AreInRangeOf, AreLevels, AreSame, IsOfVersion, IsHeaderKind, IsFaultOf, IsHeaderFault, IsOldHeaderFault, directory_pages, version_on, HasNames, columns_on, numbers_on, name_on, names_on, IsNameOn, AreNamesOn}
 use Rattle.ub_page.specs.declared.entries.TheConstants.{MAX_ENTRIES}
 use Rattle.ub_page.specs.declared.header.Header.{Header}
 use Rattle.ub_page.specs.declared.header.Numbers.{Numbers}
@@ -309,6 +309,16 @@ unclean_refused h page is unclean same e fault = refused e fault
 -- an old version stands on one byte
 pub old_byte : (version : ℕ) → IsOldVersion version → version < 256
 old_byte version is = let older = is.1 in omega arith
+
+-- where an old header tells of an index, its levels are the level of the root
+pub old_level : (old : OldHeader) → IsOldHeader old → old.version ≢ 1 → (1 ≤ old.header.levels) × (old.header.levels ≤ MAX_LEVEL)
+old_level old is other = elim (cases_Bool (nat_lt old.version FIRST_INDEXED)) [
+  | inl first ↦
+      let least = is.version.0 in
+      let below = ltb-true old.version FIRST_INDEXED first in
+      absurd (other (omega arith))
+  | inr later ↦ rw later at is.header.numbers.levels
+]
 
 -- the parts of an old header are read from its page
 pub old_parts : (old : OldHeader) (page : List ℕ) → IsOldHeader old → page ≡ header_page_of old.version old.header → HasPartsOf old.version old.header page

@@ -162,9 +162,10 @@ pub fn read_header(page: &Page) -> Result<Header, PageFault>
     read_as(VERSION, page)
 }
 
-/// The header of a version before the one that is written that the page holds, where it is clean. Otherwise the first of
-/// these that holds: `WrongKind` (the first four bytes are not 'UBTR', or the version is neither 1 nor 2), `Unclean`,
-/// `BadCount` (a number is out of its range in that version), `BadName` and `BadPadding` as `read_header` tells them.
+/// The header of an older version that the page holds, where it is clean. Otherwise the first of these that holds:
+/// `WrongKind` (the first four bytes are not 'UBTR', or the version is neither 1 nor 2), `Unclean`, `BadCount` (a number is
+/// out of the range that it has in that version), `BadName` (as `read_header` tells it), `BadPadding` (another byte is not
+/// zero, also the one that holds the mask since).
 pub fn read_old_header(page: &Page) -> Result<OldHeader, PageFault>
     ensures found { IfOk result (λ old. IsOldHeader old × (old.header.unclean ≡ false)
         × (page.now ≡ header_page_of old.version old.header)) }
@@ -187,8 +188,7 @@ fn read_as(version: u8, page: &Page) -> Result<Header, PageFault>
     ensures found { IfOk result
         (λ h. IsHeaderOf version h × (h.unclean ≡ false) × (page.now ≡ header_page_of version h)) }
     ensures exact { (h : Header) → IsHeaderOf version h → h.unclean ≡ false
-        → page.now ≡ header_page_of version h
-        → IsOk result × IfOk result (λ read. AreSame read h) }
+        → page.now ≡ header_page_of version h → IsOk result × IfOk result (λ read. AreSame read h) }
     ensures refused { IfErr result (IsFaultOf version page.now) }
 {
     let header = parts_on(version, page)?;
