@@ -6,12 +6,14 @@ use Rattle.ub_zaddr.specs.Address.{last_address}
 use Rattle.ub_page.specs.Directory.{Listing, IsListing, directory_page, IsDirectoryFault}
 use Rattle.ub_page.specs.Entries.{IsEntry}
 use Rattle.ub_page.specs.declared.entries.Entry.{Entry}
-use Rattle.ub_store.specs.Facts.{StoreFacts, IsHonest, IsPage, page_count}
+use Rattle.ub_store.specs.Facts.{StoreFacts, IsHonest, IsPage}
 use Rattle.ub_table.specs.Keys.{origin, are_ascending}
 use Rattle.ub_table.specs.declared.fault.PageFault.TheVariants.{BadCount, BadOrder}
 use Rattle.ub_table.specs.declared.fault.PageFault.{PageFault}
 use Rattle.ub_directory.specs.Spans.{ArePlaces, first_keys}
+use Rattle.ub_table.specs.declared.row.Key.{Key}
 use Rattle.ub_upgrade.specs.Chain.{IsChain}
+use Rattle.ub_upgrade.specs.declared.chain.Place.{Place}
 
 -- what a header of format 1 tells of its directory: how many dimensions the table has, the page on which the directory begins, and
 -- how many regions it has
@@ -49,6 +51,17 @@ AreFull dims pages (n ∷ chain) entries next =
 abbrev pub AreBegun : List Entry → Type 0
 AreBegun [] = Unit {0}
 AreBegun (entry ∷ entries) = (entry.first ≡ origin) × IsTrue (are_ascending (first_keys (entry ∷ entries)))
+
+-- where the last of these entries begins, if there is one
+abbrev pub last_first : List Entry → Option Key
+last_first [] = None
+last_first (entry ∷ []) = Some entry.first
+last_first (entry ∷ next ∷ entries) = last_first (next ∷ entries)
+
+-- these are the entries of the pages before a place
+pub record IsMet (before : List Entry) (place : Place) : Type 0 where
+  pub met : place.met ≡ length before
+  pub last : place.last ≡ last_first before
 
 -- from its first page on the directory was read, full pages in order, up to the page of this number, and not all regions were met
 pub record IsReadUpTo (store : StoreFacts) (heading : HeadingView) (chain : List ℕ) (entries : List Entry) (n : ℕ) : Type 0 where

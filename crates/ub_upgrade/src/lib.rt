@@ -23,10 +23,12 @@
 
 #![tactic(auto)]
 
+mod adding;
 pub mod building;
 mod chain;
 pub mod copying;
 pub mod fault;
+mod levels;
 
 pub use building::{Root, build_index};
 pub use copying::copy_pages;
