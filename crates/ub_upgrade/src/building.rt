@@ -52,7 +52,8 @@ pub fn build_index<O: PageStore, S: PageStore>(
         (O.facts old.old) pager.old.store pager.new.store) }
     ensures exact { (chain : List ℕ) (entries : List spec.Entry)
         → IsHonest (O.facts old.old) → IsHonest pager.old.store
-        → IsDirectory (O.facts old.old).pages (heading_of schema.now.dims root regions) chain entries
+        → IsDirectory (O.facts old.old).pages (heading_of schema.now.dims root regions)
+        chain entries
         → AreBelow (page_count (O.facts old.old)) entries
         → MatchResult result (λ made. HasBuilt (heading_of schema.now.dims root regions)
         pager.old.store pager.new.store made entries) IsPassing }
