@@ -159,6 +159,9 @@ store_same a b h = ap (λ (v : PagerView). v.store) h.same
 pub honest_after : (a b : PagerView) → AddsPages a b → IsHonest a.store → IsHonest b.store
 honest_after a b h = honest_same a.store b.store (store_same a b h)
 
+pub honest_over : (a b : PagerView) → b ≡ record a { store = written a.store b.store; cached = b.cached } → IsHonest a.store → IsHonest b.store
+honest_over a b same = honest_same a.store b.store (ap (λ (v : PagerView). v.store) same)
+
 pub can_fail_before : (a b : PagerView) → AddsPages a b → IsTrue b.store.can_fail → IsTrue a.store.can_fail
 can_fail_before a b h = can_fail_back a.store b.store (store_same a b h)
 

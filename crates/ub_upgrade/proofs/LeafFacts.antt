@@ -72,6 +72,10 @@ more_way from start heading b c first place next part way more some range at fit
       cut = λ honest. cut_added b c 1 first entries part.entries (added honest) some range.some range.few (way.cut honest);
     }
 
+-- a store that was read with no failure is as it was
+pub same_store : (P Q R : StoreFacts) → Q ≡ P → R ≡ Q → R ≡ P
+same_store P Q R e f = f ∙ e
+
 -- ---- a page of the directory that is refused
 
 pub refused_by : {A : Type 0} (P Q new : StoreFacts) (heading : HeadingView) (r : Result A UpgradeFault) (e : UpgradeFault) → IsErrAnd r (λ x. x ≡ e) → Q ≡ P → IsBuildFault heading Q new e

@@ -12,7 +12,7 @@ use Rattle.ub_region.proofs.Laws.{all_more, all_append}
 use Rattle.ub_store.specs.Facts.{StoreFacts, IsHonest, IsPage, page_count}
 use Rattle.ub_table.proofs.Laws.{precedes_of}
 use Rattle.ub_table.specs.Keys.{origin, precedes, is_same, are_ascending}
-use Rattle.ub_upgrade.specs.Reading.{HeadingView, Spells, AreBelow, AreFull, AreBegun, HasPart, IsAskedFor, IsReadUpTo, IsReadWhole, last_first}
+use Rattle.ub_upgrade.specs.Reading.{HeadingView, Spells, AreBelow, AreFull, AreBegun, HasPart, IsAskedFor, IsNamed, IsReadUpTo, IsReadWhole, last_first}
 use Rattle.ub_upgrade.specs.Building.{IsBuildFault}
 use Rattle.ub_upgrade.specs.declared.fault.UpgradeFault.TheVariants.{Old}
 use Rattle.ub_store.specs.declared.fault.StoreFault.{StoreFault}
@@ -217,7 +217,21 @@ pub named_missing : (heading : HeadingView) (old new : StoreFacts) (chain : List
     → ¬ (AreBelow (page_count old) part.entries) → IsBuildFault heading old new (Old store.NoPage)
 named_missing heading old new chain before n met page part up is at range page_is fits begun none =
     let far = not_below (page_count old) part.entries none in
-    (far.1.page, far.3, inr (n, page, chain, before, part, far.0, far.1, at, up, range, page_is, subst (λ (m : ℕ). HasPart (heading.regions - m) part) is fits, begun, far.2, refl))
+    let named : IsNamed heading old far.1.page = record {
+      chain = chain;
+      before = before;
+      number = n;
+      asked = up;
+      part = part;
+      range = range;
+      page = λ honest. at honest ∙ ap (λ (p : List ℕ). Some p) page_is;
+      fits = subst (λ (m : ℕ). HasPart (heading.regions - m) part) is fits;
+      begun = begun;
+      index = far.0;
+      first = far.1.first;
+      names = far.2;
+    } in
+    (far.1.page, far.3, inr named)
 
 pub read_refused : (U : Type 0) (fault : StoreFault) (heading : HeadingView) (old new : StoreFacts) (n : ℕ) → (IsErrOf {T = U} (Err fault) store.Device → IsTrue old.can_fail)
     → (IsErrOf {T = U} (Err fault) store.NoPage → page_count old ≤ n) → (¬ (IsErrOf {T = U} (Err fault) store.BadSize)) → IsAskedFor heading old n → IsBuildFault heading old new (Old fault)

@@ -294,8 +294,8 @@ module _ (heading : HeadingView) (few : heading.dims ≤ 4) (old : StoreFacts) (
       let on = aligned_there asked.0 asked.1 n asked.2 in
       let within = listed_in heading.dims few old.pages n on.rest on.more on.listed in
       absurd (omega arith)
-  not_refused new (Old store.NoPage) below (n, past, inr (m, page, chain, before, part, i, entry, at, up, range, is, fits, begun, there, named)) =
-      absurd (never_named chain before m up part i n entry below range (at honest ∙ ap (λ (p : List ℕ). Some p) is) there named past)
+  not_refused new (Old store.NoPage) below (n, past, inr h) =
+      absurd (never_named h.chain h.before h.number h.asked h.part h.index n (record { first = h.first; page = n }) below h.range (h.page honest) h.names refl past)
   not_refused new (New store.Memory) below h = tt
   not_refused new (New store.BadSize) below h = tt
   not_refused new (New store.Device) below h = tt

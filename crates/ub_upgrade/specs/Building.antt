@@ -47,6 +47,11 @@ IsBuildFault heading old new (New store.NoPage) = ⊥
 IsBuildFault heading old new (New store.BadSize) = MAX_PAGES < page_count new + index_pages heading.regions
 IsBuildFault heading old new (Page n fault) = (page : List ℕ) × IsPage old n page × IsRefused heading old n page fault
 
+-- a page that is refused is one of so many
+abbrev pub IsThere : ℕ → UpgradeFault → Type 0
+IsThere count (Page n fault) = n < count
+IsThere count _ = Unit {0}
+
 -- the root of an index stands on one of the pages that there are, which isn't the first, and its level is one that there can be
 pub record IsRoot (count : ℕ) (root : Root) : Type 0 where
   pub some : 1 ≤ root.page

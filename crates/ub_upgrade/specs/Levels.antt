@@ -37,7 +37,8 @@ unfoldable pub pages_above : ℕ → ℕ → ℕ
 pages_above zero count = 0
 pages_above (suc levels) count = if nat_le count 1 then 0 else pages_for count + pages_above levels (pages_for count)
 
--- how many pages an index of so many regions has, fewer than 2^32, with 170 entries on each page but the last of a level: it has five levels at most
+-- how many pages an index of so many regions has, fewer than 2^32, with 170 entries on each page but the last of a level: it has
+-- five levels at most
 abbrev pub index_pages : ℕ → ℕ
 index_pages regions = pages_for regions + pages_above 4 (pages_for regions)
 

@@ -93,13 +93,20 @@ IsPartFault heading before page fault =
 abbrev pub IsAskedFor : HeadingView → StoreFacts → ℕ → Type 0
 IsAskedFor heading store n = (chain : List ℕ) × (entries : List Entry) × IsReadUpTo store heading chain entries n
 
--- this page stands where the directory begins or goes on, and fits there, and one of its entries names a region's page of this number
-abbrev pub IsNamed : HeadingView → StoreFacts → ℕ → Type 0
-IsNamed heading store n =
-    (m : ℕ) × (page : List ℕ) × (chain : List ℕ) × (before : List Entry) × (part : Listing) × (i : ℕ) × (entry : Entry)
-    × IsPage store m page × IsReadUpTo store heading chain before m × IsListing heading.dims part × (page ≡ directory_page part)
-    × HasPart (heading.regions - length before) part × AreBegun (before ++ part.entries)
-    × (slice_get part.entries i ≡ Some entry) × (entry.page ≡ n)
+-- a page of the directory fits where that begins or goes on, and one of its entries names this page as a region's
+pub record IsNamed (heading : HeadingView) (store : StoreFacts) (n : ℕ) : Type 0 where
+  pub chain : List ℕ
+  pub before : List Entry
+  pub number : ℕ
+  pub asked : IsReadUpTo store heading chain before number
+  pub part : Listing
+  pub range : IsListing heading.dims part
+  pub page : IsPage store number (directory_page part)
+  pub fits : HasPart (heading.regions - length before) part
+  pub begun : AreBegun (before ++ part.entries)
+  pub index : ℕ
+  pub first : Key
+  pub names : slice_get part.entries index ≡ Some (record { first = first; page = n })
 
 -- each of these entries names a page below this number
 abbrev pub AreBelow : ℕ → List Entry → Type 0

@@ -2,7 +2,7 @@
 ghost use Rattle.std.specs.Prelude.{◌≡◌, ◌≤◌, ◌<◌, ◌+◌, ℕ, List, MatchResult, IfErr, IfOk, OnOk};
 ghost use Rattle.ub_page.specs.declared.entries.Entry as spec;
 ghost use Rattle.ub_store.specs.Facts.{IsHonest, page_count};
-ghost use Rattle.ub_upgrade.specs.Building.{AreLeaves, HasBuilt, IsBuildFault, IsBuilt, IsPassing, IsRoot};
+ghost use Rattle.ub_upgrade.specs.Building.{AreLeaves, HasBuilt, IsBuildFault, IsBuilt, IsPassing, IsRoot, IsThere};
 ghost use Rattle.ub_upgrade.specs.Effects.{BringsOver};
 ghost use Rattle.ub_upgrade.specs.Levels.{IsLast, index_pages, pages_for};
 ghost use Rattle.ub_upgrade.specs.Reading.{AreBelow, IsDirectory, heading_of};
@@ -62,6 +62,7 @@ pub fn build_index<O: PageStore, S: PageStore>(
         ≡ page_count pager.old.store + index_pages regions) }
     ensures refused { IfErr result (IsBuildFault (heading_of schema.now.dims root regions)
         (O.facts old.old) pager.old.store) }
+    ensures there { IfErr result (IsThere (page_count (O.facts old.old))) }
     ensures effect { BringsOver (O.facts old.old) (O.facts old.new) pager.old pager.new result }
 {
     // Its contract tells the proof how many pages there can be.
@@ -96,6 +97,7 @@ fn write_leaves<O: PageStore, S: PageStore>(
     ensures leaves { IsHonest (O.facts old.old) → IsHonest pager.old.store
         → IfOk result (λ low. AreLeaves heading.now (O.facts old.old) pager.new.store.pages low) }
     ensures refused { IfErr result (IsBuildFault heading.now (O.facts old.old) pager.old.store) }
+    ensures there { IfErr result (IsThere (page_count (O.facts old.old))) }
     ensures effect { BringsOver (O.facts old.old) (O.facts old.new) pager.old pager.new result }
 {
     let first = pager.pages();

@@ -5,7 +5,7 @@ ghost use Rattle.ub_page.specs.Directory.{IsListing, directory_page};
 ghost use Rattle.ub_page.specs.Entries.{AreAscending};
 ghost use Rattle.ub_page.specs.declared.entries.Entry as spec;
 ghost use Rattle.ub_store.specs.Facts.{IsPage, StoreFacts, page_count};
-ghost use Rattle.ub_upgrade.specs.Building.{IsBuildFault};
+ghost use Rattle.ub_upgrade.specs.Building.{IsBuildFault, IsThere};
 ghost use Rattle.ub_upgrade.specs.Effects.{counted_old};
 ghost use Rattle.ub_upgrade.specs.Reading.{AreBegun, AreBelow, HasPart, IsMet, IsPartFault, IsReadUpTo, last_first};
 
@@ -65,6 +65,7 @@ pub fn read_part<O: PageStore>(
         → IsReadUpTo (O.facts old.old) heading.now chain before place.now.next
         → IsMet before place.now
         → IfErr result (IsBuildFault heading.now (O.facts old.old) new) }
+    ensures there { IfErr result (IsThere (page_count (O.facts old.old))) }
     ensures effect { O.facts old.new ≡ record (O.facts old.old) {
       failed_reads = counted_old result (O.facts old.old).failed_reads;
     } }

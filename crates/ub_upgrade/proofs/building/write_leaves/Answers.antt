@@ -1,4 +1,4 @@
-use Rattle.std.proofs.Common.{◌≡◌, ◌∙◌, ◌++◌, [], ◌∷◌, ap, arith, refl, subst, sym}
+use Rattle.std.proofs.Common.{◌-◌, ◌∙◌, ◌++◌, [], ◌∷◌, ap, arith, refl, subst, sym}
 use Rattle.std.proofs.lemmas.List.{length-append}
 use Rattle.ub_page.specs.declared.entries.Entry.{Entry}
 use Rattle.std.proofs.Common.{List}
@@ -8,7 +8,7 @@ use Rattle.ub_upgrade.specs.Reading.{HeadingView, IsReadUpTo, AreBelow}
 use Rattle.ub_page.specs.Directory.{directory_page}
 use Rattle.ub_upgrade.specs.declared.levels.Level.{Level}
 use Rattle.ub_upgrade.proofs.AddFacts.{adds_self, adds_trans, not_after, honest_after}
-use Rattle.ub_upgrade.proofs.LeafFacts.{begun_way, more_way, read_ended, refused_by}
+use Rattle.ub_upgrade.proofs.LeafFacts.{begun_way, more_way, read_ended, refused_by, same_store}
 use Rattle.ub_upgrade.proofs.building.write_leaves.Goals as goal
 
 pub loop-place-init : goal.loop-place-init
@@ -25,7 +25,8 @@ loop-place-init g c =
       old = refl;
       adds = adds_self start;
       counts = (refl, refl);
-      way = begun_way (g.O.PageStore.facts c.args.old.now) start.store c.args.heading.now start.store.pages c.pages-first.result _ c.heading.inside.root
+      way = begun_way (g.O.PageStore.facts c.args.old.now) start.store c.args.heading.now start.store.pages c.pages-first.result
+          (page_count start.store - c.pages-first.result) c.heading.inside.root
           (sym (ap (λ (h : HeadingView). h.root) c.heading.view_is)) c.requires.root c.requires.small c.requires.regions (omega arith);
     }
 
@@ -73,7 +74,7 @@ loop-place-preserved g c =
     let going = c.loop-place-test.true in
     let full = inv.full (omega arith) in
     let count = c.in_default.ensures.added.0 in
-    let same : g.O.PageStore.facts c.read_part.new.old ≡ g.O.PageStore.facts c.args.old.now = c.in_ok-part.ensures.effect ∙ inv.old in
+    let same = same_store (g.O.PageStore.facts c.args.old.now) (g.O.PageStore.facts c.loop-place.old) (g.O.PageStore.facts c.read_part.new.old) inv.old c.in_ok-part.ensures.effect in
     record {
       within = omega arith;
       start = inv.start;
