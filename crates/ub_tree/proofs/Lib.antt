@@ -32,5 +32,6 @@ pub mod OpeningFacts
 pub mod ClosingFacts
 pub mod CreationFacts
 pub mod ReadFacts
+pub mod CountFacts
 pub mod Example
 pub mod Laws
