@@ -23,11 +23,13 @@
 
 #![tactic(auto)]
 
+pub mod bringing;
 pub mod building;
 mod chain;
 pub mod copying;
 pub mod fault;
 
+pub use bringing::{bring_pages, read_head};
 pub use building::{Root, build_index};
 pub use copying::copy_pages;
 pub use fault::UpgradeFault;
