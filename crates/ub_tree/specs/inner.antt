@@ -2,3 +2,4 @@
 pub mod Change
 pub mod Opening
 pub mod Counting
+pub mod Upgrading

@@ -1,10 +1,10 @@
 -- Pages put one after the other, and the mark of the table before the first.
-use Rattle.std.proofs.Common.{arith, ◌≡◌, ◌≢◌, ◌≤◌, ◌++◌, ◌⊎◌, inl, inr, ℕ, true, List, [], ◌∷◌, Option, Some, None, Result, Ok, Err, OnOk, ◌∙◌, ap, sym, subst, refl, length, slice_get, slice_set}
+use Rattle.std.proofs.Common.{arith, ◌≡◌, ◌≢◌, ◌≤◌, ◌++◌, ◌⊎◌, inl, inr, ℕ, true, List, [], ◌∷◌, Option, Some, None, Result, Ok, Err, OnErr, OnOk, ◌∙◌, ap, sym, subst, refl, length, slice_get, slice_set}
 use Rattle.std.specs.List.{AllByRecursion}
 use Rattle.ub_directory.specs.Writing.{SameBut}
 use Rattle.ub_page.specs.Header.{header_page}
 use Rattle.ub_page.specs.declared.header.Header.{Header}
-use Rattle.ub_store.specs.Facts.{StoreFacts, Appends, IsHonest, WritesAt, page_count, zero_page}
+use Rattle.ub_store.specs.Facts.{StoreFacts, Appends, Extends, IsHonest, WritesAt, page_count, zero_page}
 use Rattle.ub_store.specs.declared.fault.StoreFault.{StoreFault}
 use Rattle.ub_table.specs.declared.schema.Schema.{Schema}
 use Rattle.ub_writing.specs.Marks.{HasMark, IsMark, Marks, PutsMark, first_page, is_written}
@@ -30,6 +30,18 @@ mark_kept schema old new e (page, is, there) = (page, is, e ∙ there)
 first_stays : {A : Type 0} (xs : List A) (x : A) → 1 ≤ length xs → slice_get (xs ++ x ∷ []) 0 ≡ slice_get xs 0
 first_stays [] x some = absurd (omega arith)
 first_stays (y ∷ ys) x some = refl
+
+-- a page more stands after the mark, or none
+pub mark_extended : {A : Type 0} (schema : Schema) (s t : StoreFacts) (r : Result A StoreFault) → Extends s t r → IsHonest s → 1 ≤ page_count s → HasMark schema s.pages → HasMark schema t.pages
+mark_extended {A} schema s t r extends honest some mark = mark_kept schema s.pages t.pages (by_result r extends.added extends.failed) mark
+  where
+    appended : (page : List ℕ) → Appends page s t → slice_get t.pages 0 ≡ slice_get s.pages 0
+    appended page more = ap (λ (pages : List (List ℕ)). slice_get pages 0) (more.1 honest) ∙ first_stays s.pages page some
+
+    by_result : (r : Result A StoreFault) → OnOk r (Appends zero_page s t) → OnErr r ((t.pages ≡ s.pages) ⊎ ((page : List ℕ) × Appends page s t)) → slice_get t.pages 0 ≡ slice_get s.pages 0
+    by_result (Ok x) added failed = appended zero_page added
+    by_result (Err e) added (inl same) = ap (λ (pages : List (List ℕ)). slice_get pages 0) same
+    by_result (Err e) added (inr more) = appended more.0 more.1
 
 second_is_set : {A : Type 0} (xs : List A) (x : A) → 2 ≤ length xs → slice_get (slice_set xs 1 x) 1 ≡ Some x
 second_is_set [] x some = absurd (omega arith)
