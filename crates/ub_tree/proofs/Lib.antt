@@ -33,5 +33,6 @@ pub mod ClosingFacts
 pub mod CreationFacts
 pub mod ReadFacts
 pub mod CountFacts
+pub mod UpgradeFacts
 pub mod Example
 pub mod Laws

@@ -17,7 +17,7 @@ ghost use Rattle.ub_zaddr.specs.Address.{last_address};
 use crate::creation::pager_over;
 use crate::fault::TreeFault;
 use crate::tree::Tree;
-use std::alloc::Global;
+use std::alloc::{AllocError, Global};
 use ub_index::Index;
 use ub_page::{Header, OldHeader};
 use ub_store::{Page, PageStore, Pager, Rejected};
@@ -135,7 +135,7 @@ fn bring_over<O: PageStore, S: PageStore>(
     ensures refused { IfErr result (IsUpgradeFault (O.facts old.old) pager.old.store) }
     ensures effect { Brings (O.facts old.old) (O.facts old.new) pager.old pager.new result }
 {
-    let mut page = Box::new(alloc, [0; 4096])?;
+    let mut page = new_page(alloc)?;
     let head = bring_first(old, pager, &mut page)?;
     let index = bring_rest(old, pager, &head, &mut page)?;
     Ok((head, index))
@@ -195,4 +195,9 @@ fn bring_rest<O: PageStore, S: PageStore>(
     let last = last(head.header.schema.shape());
     let index = Index::open(pager, root.page, root.level, last)?;
     Ok(index)
+}
+
+// A page of zeros.
+fn new_page(alloc: Global) -> Result<Box<Page>, AllocError> {
+    Ok(Box::new(alloc, [0; 4096])?)
 }

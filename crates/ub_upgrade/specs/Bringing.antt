@@ -41,7 +41,7 @@ HasIndexOf head from new root entries = IsIndexOf (last_address head.header.sche
 -- version 1 that of an index of the entries of the directory, each of which names a page that there is
 pub record IsBrought (head : OldHeader) (from : StoreFacts) (new : List (List ℕ)) (root : Root) : Type 0 where
   pub copied : (n : ℕ) → 1 ≤ n → n < page_count from → slice_get new n ≡ slice_get from.pages n
-  pub index : head.version ≡ 2 → AreCopied from.pages new × (root ≡ record { page = head.header.root; level = head.header.levels })
+  pub index : head.version ≡ 2 → AreCopied from.pages new × (length new ≡ page_count from) × (root ≡ record { page = head.header.root; level = head.header.levels })
   pub directory : head.version ≡ 1 → (chain : List ℕ) × (entries : List Entry) × IsDirectory from.pages (directory_of head.header) chain entries
       × AreBelow (page_count from) entries × HasIndexOf head from new root entries
 
