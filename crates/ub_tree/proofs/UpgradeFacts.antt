@@ -1,5 +1,5 @@
 -- The pages of an old table, brought over: what stands on them, and why they aren't.
-use Rattle.std.proofs.Common.{◌≡◌, ◌≢◌, ◌≤◌, ◌<◌, ◌+◌, ◌++◌, ◌∙◌, ◌⊎◌, inl, inr, ℕ, zero, suc, true, false, nat_eq, List, [], ◌∷◌, Option, Some, None, Result, Ok, Err, IfErr, IfOk, MatchResult, length, map, slice_get, ap, sym, subst, refl, arith}
+use Rattle.std.proofs.Common.{◌≡◌, ◌≢◌, ◌≤◌, ◌<◌, ◌+◌, ◌++◌, ◌∙◌, ◌⊎◌, inl, inr, ℕ, zero, suc, true, false, nat_eq, List, [], ◌∷◌, Option, Some, None, Result, Ok, Err, IfErr, IfOk, OnErr, MatchResult, length, map, slice_get, ap, sym, subst, refl, arith}
 use Rattle.std.proofs.lemmas.List.Elements.{All-from_recursion, recursion_from_All}
 use Rattle.std.proofs.lemmas.Option.{get_or_from_slice_get, slice_get_within}
 use Rattle.std.specs.List.{All, AllByRecursion, IsDistinct}
@@ -35,7 +35,9 @@ use Rattle.ub_tree.specs.Stored.{index_of}
 use Rattle.ub_tree.specs.Tree.{tree_view}
 use Rattle.ub_tree.specs.Upgrade.{IsOldRefused, IsUpgradeFault, IsUpgradePassing, StandsOver}
 use Rattle.ub_tree.specs.View.{TreeView}
+use Rattle.ub_tree.specs.Opened.{IsPassing}
 use Rattle.ub_tree.specs.declared.fault.TreeFault.{TreeFault}
+use Rattle.ub_tree.specs.declared.fault.TreeFault.TheVariants.{Full, Page, Store, Failed as HasFailed, Memory}
 use Rattle.ub_tree.specs.inner.Upgrading.{IsCarried, root_in}
 use Rattle.ub_upgrade.specs.Bringing.{HasIndexOf, HasOldHeader, IsBringFault, IsBrought, directory_of}
 use Rattle.ub_upgrade.specs.Building.{IsPassing as IsPassingPages}
@@ -367,3 +369,29 @@ module _ (from new : StoreFacts) (head : OldHeader) (i : IndexView) (pager : Pag
           ),
         ),
       )
+
+-- ---- the steps together
+
+pub on_err_by : {T E : Type 0} (r : Result T E) (P : Type 0) → P → OnErr r P
+on_err_by (Ok x) P p = tt
+on_err_by (Err e) P p = p
+
+pub passing_up : (f : TreeFault) → IsPassing f → IsUpgradePassing f
+passing_up f (inl is) = rw is tt
+passing_up f (inr is) = rw is tt
+
+-- the header of the pages of an old table
+pub head_is : (version next : ℕ) (schema : Schema) (placed : List Placed) (from : StoreFacts) (s : AreOldPages version from.pages schema placed next) → HasOldHeader from (head_of version s.header)
+head_is version next schema placed from s = record { spelled = λ _. s.spelled; is = s.in_range; clean = s.clean }
+
+-- a refusal is told of the stores alone, not of what was done before
+pub fault_moved : (from a b : StoreFacts) → a.can_fail ≡ b.can_fail → (IsHonest b → IsHonest a) → (f : TreeFault) → IsUpgradeFault from a f → IsUpgradeFault from b f
+fault_moved from a b fails still Full h = absurd h
+fault_moved from a b fails still HasFailed h = absurd h
+fault_moved from a b fails still Memory h = tt
+fault_moved from a b fails still (Store store.Memory) h = absurd h
+fault_moved from a b fails still (Store store.Device) (inl old) = inl old
+fault_moved from a b fails still (Store store.Device) (inr new) = inr (sym fails ∙ new)
+fault_moved from a b fails still (Store store.NoPage) h = (h.0, h.1, λ honest new_honest. h.2 honest (still new_honest))
+fault_moved from a b fails still (Store store.BadSize) h = h
+fault_moved from a b fails still (Page n fault) h = λ honest new_honest. h honest (still new_honest)

@@ -1,9 +1,11 @@
 // A table of an older format, over a new store.
-ghost use Rattle.std.specs.Prelude.{◌≡◌, ◌≤◌, ℕ, List, true, false, IfOk, IfErr, MatchResult, OnErr, OnOk};
+ghost use Rattle.std.specs.Prelude.{◌≡◌, ◌≤◌, ℕ, List, true, false, Err, IfOk, IfErr, MatchResult, OnErr, OnOk};
 ghost use Rattle.ub_page.specs.Header.{IsOldHeader};
 ghost use Rattle.ub_page.specs.declared.header.OldHeader as spec;
 ghost use Rattle.ub_store.specs.Facts.{page_count, IsHonest};
 ghost use Rattle.ub_table.specs.declared.schema.Schema.{Schema};
+ghost use Rattle.ub_tree.specs.Counted.{IsCounted, IsCountFault};
+ghost use Rattle.ub_tree.specs.Effects.{read_store};
 ghost use Rattle.ub_tree.specs.Old.{AreOldPages, head_of};
 ghost use Rattle.ub_tree.specs.Opened.{IsPassing};
 ghost use Rattle.ub_tree.specs.Placed.{Placed};
@@ -69,8 +71,14 @@ impl<S: PageStore> Tree<S> {
         }
     }
 
-    // The tree, where it counts its regions.
-    fn counted(self) -> Result<Tree<S>, Rejected<S, TreeFault>> {
+    // The tree, where it counts the regions that it tells of.
+    fn counted(self) -> Result<Tree<S>, Rejected<S, TreeFault>>
+        ensures same { IfOk result (λ t. t ≡ self) }
+        ensures counted { OnOk result (IsCounted self) }
+        ensures refused { IfErr result (λ refused. IsCountFault self refused.fault) }
+        ensures left { IfErr result (λ r. S.facts r.store ≡ read_store {A = S} (Err r.fault)
+            self.store) }
+    {
         let mut tree = self;
         match tree.check_regions() {
             Ok(()) => Ok(tree),
