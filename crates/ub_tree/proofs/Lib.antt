@@ -34,5 +34,6 @@ pub mod CreationFacts
 pub mod ReadFacts
 pub mod CountFacts
 pub mod UpgradeFacts
+pub mod UpgradedFacts
 pub mod Example
 pub mod Laws

@@ -268,7 +268,7 @@ module _ (version next : ℕ) (schema : Schema) (placed : List Placed) (from : S
 
 -- ---- the tree over the pages that were brought over
 
-abbrev over : OldHeader → IndexView → PagerView → TreeView
+abbrev pub over : OldHeader → IndexView → PagerView → TreeView
 over head i pager = tree_view head.header.schema i head.header.regions head.header.next head.header.rows true false pager
 
 module _ (from : StoreFacts) (head : OldHeader) (i : IndexView) (pager : PagerView) (honest : IsHonest pager.store) (last_is : i.last ≡ last_address head.header.schema.dims) (level : 1 ≤ i.levels)
@@ -291,6 +291,7 @@ module _ (from : StoreFacts) (head : OldHeader) (i : IndexView) (pager : PagerVi
           record { honest = honest; some = level; under_it = subst (λ (n : ℕ). IsUnder n pager.store.pages i.levels (top i.root) None) (sym last_is) d.4.under_it },
           d.0,
           subst (λ (es : List Entry). IsDirectory from.pages (directory_of head.header) d.0 es) (sym d.4.entries_are) d.2,
+          subst (λ (es : List Entry). AreBelow (page_count from) es) (sym d.4.entries_are) d.3,
         );
   }
 
@@ -303,7 +304,7 @@ module _ (from : StoreFacts) (head : OldHeader) (i : IndexView) (pager : PagerVi
       by_level (suc n) low h = h.0
 
 -- a header of an old version is of version 1 or 2
-versions : (head : OldHeader) → IsOldHeader head → (head.version ≡ 1) ⊎ (head.version ≡ 2)
+pub versions : (head : OldHeader) → IsOldHeader head → (head.version ≡ 1) ⊎ (head.version ≡ 2)
 versions head is = by_version head.version is.version.0 is.version.1
   where
     by_version : (n : ℕ) → 1 ≤ n → n < 3 → (n ≡ 1) ⊎ (n ≡ 2)

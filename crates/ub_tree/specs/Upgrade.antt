@@ -21,12 +21,13 @@ use Rattle.ub_tree.specs.declared.fault.TreeFault.{TreeFault}
 use Rattle.ub_tree.specs.declared.fault.TreeFault.TheVariants.{Memory, Page, Store}
 use Rattle.ub_upgrade.specs.Bringing.{HasOldHeader, directory_of}
 use Rattle.ub_upgrade.specs.Levels.{index_pages}
-use Rattle.ub_upgrade.specs.Reading.{IsAskedFor, IsDirectory, IsNamed, IsRefused}
+use Rattle.ub_upgrade.specs.Reading.{AreBelow, IsAskedFor, IsDirectory, IsNamed, IsRefused}
 use Rattle.ub_store.specs.declared.fault.StoreFault.TheVariants as store
 use Rattle.ub_writing.specs.Marks.{HasMark}
 
 -- a tree stands over the pages of an old store with this header: it has its schema and its counts, and each of its pages but the first under its
--- own number; in version 2 that is all, and its index is where the header tells it; in version 1 its index tells the entries of the directory
+-- own number; in version 2 that is all, and its index is where the header tells it; in version 1 its index tells the entries of the directory,
+-- each of which names a page that there is
 pub record StandsOver (old : StoreFacts) (head : OldHeader) (t : TreeView) : Type 0 where
   pub honest : IsHonest t.store
   pub schema_is : t.schema ≡ head.header.schema
@@ -36,6 +37,7 @@ pub record StandsOver (old : StoreFacts) (head : OldHeader) (t : TreeView) : Typ
   pub by_index : head.version ≡ 2 → (page_count t.store ≡ page_count old) × (t.inner.index ≡ index_of head.header)
   pub by_directory : head.version ≡ 1 → IsIndexOn t.inner.index t.store
       × (chain : List ℕ) × IsDirectory old.pages (directory_of head.header) chain (entries_in t.inner.index t.store)
+      × AreBelow (page_count old) (entries_in t.inner.index t.store)
 
 -- the tree that an upgrade of a store with these facts makes: it has the schema and the counts that the header of the old table tells, and
 -- none of its dimensions is signed; it counts the regions that it tells of, which over honest stores are those that stand on the old

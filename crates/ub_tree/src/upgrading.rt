@@ -128,6 +128,7 @@ fn bring_over<O: PageStore, S: PageStore>(
     ensures header { IfOk result (λ brought. HasOldHeader (O.facts old.old) brought.0) }
     ensures last { IfOk result
         (λ brought. brought.1.last ≡ last_address brought.0.header.schema.dims) }
+    ensures root { IfOk result (λ brought. (1 ≤ brought.1.root) × (1 ≤ brought.1.levels)) }
     ensures stands { IsHonest (O.facts old.old) → IsHonest pager.old.store
         → IfOk result (λ brought. IsBrought brought.0 (O.facts old.old) pager.new.store.pages
         (root_in brought.1)) }
@@ -184,6 +185,7 @@ fn bring_rest<O: PageStore, S: PageStore>(
     requires some { 1 ≤ page_count (O.facts old.old) }
     requires one { page_count pager.old.store ≡ 1 }
     ensures last { IfOk result (λ index. index.last ≡ last_address head.now.header.schema.dims) }
+    ensures root { IfOk result (λ index. (1 ≤ index.root) × (1 ≤ index.levels)) }
     ensures stands { IsHonest (O.facts old.old) → IsHonest pager.old.store
         → IfOk result (λ index. IsBrought head.now (O.facts old.old) pager.new.store.pages
         (root_in index)) }
