@@ -14,6 +14,7 @@
 
 mod change;
 mod closing;
+mod counting;
 mod creation;
 pub mod fault;
 pub mod law;
@@ -25,6 +26,7 @@ mod room;
 mod seats;
 pub mod sink;
 pub mod tree;
+mod upgrading;
 mod walking;
 
 pub use fault::TreeFault;

@@ -4,3 +4,4 @@ pub mod SizeFacts
 pub mod ReadFacts
 pub mod WholeFacts
 pub mod LeafFacts
+pub mod BringFacts

@@ -3,3 +3,4 @@ pub mod Reading
 pub mod Levels
 pub mod Effects
 pub mod Building
+pub mod Bringing

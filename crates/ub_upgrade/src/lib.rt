@@ -24,12 +24,14 @@
 #![tactic(auto)]
 
 mod adding;
+pub mod bringing;
 pub mod building;
 mod chain;
 pub mod copying;
 pub mod fault;
 mod levels;
 
+pub use bringing::{bring_pages, read_head};
 pub use building::{Root, build_index};
 pub use copying::copy_pages;
 pub use fault::UpgradeFault;
