@@ -14,6 +14,8 @@ pub mod Tree
 pub mod Change
 pub mod Closing
 pub mod Opened
+pub mod Old
+pub mod Upgrade
 pub mod Others
 pub mod Holding
 pub mod Removal

@@ -25,6 +25,7 @@ mod room;
 mod seats;
 pub mod sink;
 pub mod tree;
+mod upgrading;
 mod walking;
 
 pub use fault::TreeFault;
