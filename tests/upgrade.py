@@ -286,7 +286,6 @@ def cases(count, rng, counts):
             yield whole, f"! {line}\n", None
 
 
-
 # ---- What was made
 
 
