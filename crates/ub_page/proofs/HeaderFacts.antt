@@ -1,14 +1,17 @@
 -- What the page of a header reads as.
 use Rattle.std.proofs.Common.{inl, inr, ◌≡◌, ◌≢◌, ◌≤◌, ◌<◌, ◌+◌, ◌-◌, ◌*◌, ◌^◌, ◌↔◌, ℕ, zero, suc, List, [], ◌∷◌, ◌++◌, true, false, Result, Ok, Err, IsOk, IfErr, length, take, drop, replicate, if◌then◌else◌, refl, sym, ap, arith, ◌∙◌, append_assoc, length-take-le}
 use Rattle.std.specs.Prelude.{IsErrOf, nat_lt}
+use Rattle.std.proofs.Math.Nat.{mul-div-le}
 use Rattle.std.proofs.lemmas.Bool.{cases_Bool, lt-ltb, ltb-true}
 use Rattle.std.proofs.lemmas.List.{length-append, length-replicate, length-drop}
 use Rattle.std.specs.List.{flat_map, AllByRecursion}
 use Rattle.ub_page.specs.Bytes.{number_bytes, number_at, layout, padded}
-use Rattle.ub_page.specs.Header.{numbers_of, names_of, number_fields, name_bytes, page_of, header_page, header_page_of, IsHeader, IsHeaderOf, AreInRange, AreSame, IsOfVersion, IsHeaderKind, IsFaultOf, IsHeaderFault, HasNames, columns_on, numbers_on, name_on, names_on, IsNameOn, AreNamesOn}
+use Rattle.ub_page.specs.Header.{numbers_of, names_of, number_fields, name_bytes, page_of, header_page, header_page_of, IsHeader, IsHeaderOf, IsOldHeader, IsOldVersion, AreInRangeOf, AreLevels, AreSame, IsOfVersion, IsHeaderKind, IsFaultOf, IsHeaderFault, IsOldHeaderFault, directory_pages, version_on, HasNames, columns_on, numbers_on, name_on, names_on, IsNameOn, AreNamesOn}
+use Rattle.ub_page.specs.declared.entries.TheConstants.{MAX_ENTRIES}
 use Rattle.ub_page.specs.declared.header.Header.{Header}
 use Rattle.ub_page.specs.declared.header.Numbers.{Numbers}
-use Rattle.ub_page.specs.declared.header.TheConstants.{FIRST_SIGNED, VERSION}
+use Rattle.ub_page.specs.declared.header.OldHeader.{OldHeader}
+use Rattle.ub_page.specs.declared.header.TheConstants.{FIRST_INDEXED, FIRST_SIGNED, MAX_LEVEL, VERSION}
 use Rattle.ub_page.proofs.BytesFacts.{length-number_bytes, read_at, layout_read, length-layout, AllFit}
 use Rattle.ub_page.proofs.DraftFacts.{of_front}
 use Rattle.ub_table.proofs.Laws.{name_block, length-name}
@@ -117,9 +120,9 @@ with_same : (n : Numbers) (state dims measures page_rows signed : ℕ) → state
     → record n { state = state; dims = dims; measures = measures; page_rows = page_rows; signed = signed } ≡ n
 with_same n state dims measures page_rows signed a b c d e = rw (a, b, c, d, e) refl
 
-pub same_numbers : (n : Numbers) (s : Schema) → s.dims ≡ n.dims → length s.columns ≡ n.dims + n.measures → s.page_rows ≡ n.page_rows → s.signed ≡ n.signed → n.state ≢ 1 → AreInRange n
+pub same_numbers : (version : ℕ) (n : Numbers) (s : Schema) → s.dims ≡ n.dims → length s.columns ≡ n.dims + n.measures → s.page_rows ≡ n.page_rows → s.signed ≡ n.signed → n.state ≢ 1 → AreInRangeOf version n
     → numbers_of (record { schema = s; next = n.next; rows = n.rows; regions = n.regions; root = n.root; levels = n.levels; unclean = false }) ≡ n
-same_numbers n s dims columns rows signed clean range =
+same_numbers version n s dims columns rows signed clean range =
     let few = range.state in
     let zero_state : 0 ≡ n.state = omega arith in
     let measures : length s.columns - s.dims ≡ n.measures = omega arith in
@@ -136,16 +139,27 @@ mask_read version signed byte is unsigned = elim (cases_Bool (nat_lt version FIR
 no_mask : (version byte : ℕ) → version < FIRST_SIGNED → (if nat_lt version FIRST_SIGNED then 0 else byte) ≡ 0
 no_mask version byte older = rw (lt-ltb version FIRST_SIGNED older) refl
 
+-- a page has room for the levels: a directory has no more pages than regions
+pub levels_fit : (version : ℕ) (n : Numbers) → AreLevels version n → 1 ≤ n.regions → n.regions < 2 ^ 32 → n.levels < 2 ^ 32
+levels_fit version n are some small = elim (cases_Bool (nat_lt version FIRST_INDEXED)) [
+  | inl first ↦
+      let is : n.levels ≡ directory_pages n.regions = rw first at are in
+      let most = mul-div-le (n.regions + (MAX_ENTRIES - 1)) MAX_ENTRIES in
+      omega arith
+  | inr later ↦
+      let level : (1 ≤ n.levels) × (n.levels ≤ MAX_LEVEL) = rw later at are in
+      let most = level.1 in
+      omega arith
+]
+
 -- the parts of a header that stand on a page of a version make a header of it
-pub is_header : (version : ℕ) (h : Header) (page : List ℕ) → numbers_of h ≡ numbers_on version page → AreInRange (numbers_on version page) → h.regions < 2 ^ 32 → h.root < 2 ^ 32
+pub is_header : (version : ℕ) (h : Header) (page : List ℕ) → numbers_of h ≡ numbers_on version page → AreInRangeOf version (numbers_on version page) → h.regions < 2 ^ 32 → h.root < 2 ^ 32
     → h.schema.name ≡ name_on 32 page → h.schema.columns ≡ names_on 65 (columns_on page) page → HasNames (columns_on page) page → IsHeaderOf version h
 is_header version h page numbers range regions root name columns names = record {
-  header = record {
-    numbers = rw numbers range;
-    regions = regions;
-    root = root;
-    names = rw (name, columns) (name_valid 32 page names.0, names_valid 65 (columns_on page) page names.1);
-  };
+  numbers = rw numbers range;
+  regions = regions;
+  root = root;
+  names = rw (name, columns) (name_valid 32 page names.0, names_valid 65 (columns_on page) page names.1);
   unsigned = λ older. ap (λ (n : Numbers). n.signed) numbers ∙ no_mask version (number_at 1 9 page) older;
 }
 
@@ -164,8 +178,7 @@ HasParts h page = HasPartsOf VERSION h page
 -- the parts of a header are read from its page
 pub parts : (version : ℕ) (h : Header) (page : List ℕ) → version < 256 → IsHeaderOf version h → page ≡ header_page_of version h → HasPartsOf version h page
 unfolding page_of
-parts version h page byte of_version e =
-    let is = of_version.header in
+parts version h page byte is e =
     let n = numbers_of h in
     let fields = number_fields version n in
     let names = flat_map name_bytes (names_of h) in
@@ -177,7 +190,7 @@ parts version h page byte of_version e =
     let mask = few h.schema.dims h.schema.signed counts.few_dims is.numbers.counts.mask in
     let next = is.numbers.last_next in
     let rows = is.numbers.rows in
-    let levels = is.numbers.levels.1 in
+    let levels = levels_fit version n is.numbers.levels is.numbers.regions is.regions in
     let regions = is.regions in
     let root = is.root in
     let fit : AllFit fields = (omega arith, (omega arith, (omega arith, (omega arith, (omega arith, (omega arith, (omega arith, (omega arith, (omega arith, (omega arith, (omega arith, (omega arith, (omega arith, tt))))))))))))) in
@@ -194,7 +207,7 @@ parts version h page byte of_version e =
     let columns : names_on 65 (length h.schema.columns) page ≡ h.schema.columns = cc in
     record {
       kind = (ats.0, ats.1.0);
-      numbers = rw (at5.0, dims, measures, at5.1.1.1.0, mask_read version h.schema.signed (number_at 1 9 page) at9.0 of_version.unsigned, at12.0, at12.1.0, at12.1.1.0, at12.1.1.1.0, at12.1.1.1.1.0) refl;
+      numbers = rw (at5.0, dims, measures, at5.1.1.1.0, mask_read version h.schema.signed (number_at 1 9 page) at9.0 is.unsigned, at12.0, at12.1.0, at12.1.1.0, at12.1.1.1.0, at12.1.1.1.1.0) refl;
       name = cc;
       columns = rw count columns;
       names = rw count (read.0.0, read.0.1, rw columns h.schema.distinct);
@@ -222,7 +235,7 @@ pub same_page : (version : ℕ) (a b : Header) → numbers_of a ≡ numbers_of b
 same_page version a b numbers name columns = rw (numbers, name, columns) refl
 
 -- a page that holds a clean header's parts and is not its page has another byte that is not zero
-pub padding_fault : (version : ℕ) (h : Header) (page : List ℕ) → version < 256 → numbers_of h ≡ numbers_on version page → AreInRange (numbers_on version page)
+pub padding_fault : (version : ℕ) (h : Header) (page : List ℕ) → version < 256 → numbers_of h ≡ numbers_on version page → AreInRangeOf version (numbers_on version page)
     → h.schema.name ≡ name_on 32 page → h.schema.columns ≡ names_on 65 (columns_on page) page → IsOfVersion version page → h.unclean ≡ false
     → HasNames (columns_on page) page → header_page_of version h ≢ page → IsFaultOf version page BadPadding
 padding_fault version h page byte numbers range name columns kind clean names other =
@@ -245,7 +258,7 @@ not_fault_of version h page byte is clean same Unclean fault =
     let zero_state = rw clean at state in
     let one = fault.1 in
     omega arith
-not_fault_of version h page byte is clean same BadCount fault = fault.2 (rw (parts version h page byte is same).numbers is.header.numbers)
+not_fault_of version h page byte is clean same BadCount fault = fault.2 (rw (parts version h page byte is same).numbers is.numbers)
 not_fault_of version h page byte is clean same BadName fault = fault.3 (parts version h page byte is same).names
 not_fault_of version h page byte is clean same BadPadding fault = fault.4 h is same
 not_fault_of version h page byte is clean same OldFormat fault = fault
@@ -253,25 +266,21 @@ not_fault_of version h page byte is clean same BadRow fault = fault
 not_fault_of version h page byte is clean same BadOrder fault = fault
 not_fault_of version h page byte is clean same OutOfRegion fault = fault
 
--- a header is one of the version that is written
-pub of_latest : (h : Header) → IsHeader h → IsHeaderOf VERSION h
-of_latest h is = record { header = is; unsigned = λ older. absurd (omega (arith, older)) }
-
 -- a page of the version that is written is one of a version that there has been
 pub kind_of : (page : List ℕ) → IsOfVersion VERSION page → IsHeaderKind page
 kind_of page kind = let version = kind.1 in (kind.0, omega arith, omega arith)
 
 -- the page of a clean header is not refused
 pub not_refused : (h : Header) (page : List ℕ) → IsHeader h → h.unclean ≡ false → page ≡ header_page h → (e : PageFault) → IsHeaderFault page e → ⊥
-not_refused h page is clean same WrongKind fault = fault (kind_of page (parts VERSION h page (omega arith) (of_latest h is) same).kind)
+not_refused h page is clean same WrongKind fault = fault (kind_of page (parts VERSION h page (omega arith) is same).kind)
 not_refused h page is clean same OldFormat fault =
-    let version = (parts VERSION h page (omega arith) (of_latest h is) same).kind.1 in
+    let version = (parts VERSION h page (omega arith) is same).kind.1 in
     let older = fault.1 in
     omega arith
-not_refused h page is clean same Unclean fault = not_fault_of VERSION h page (omega arith) (of_latest h is) clean same Unclean fault
-not_refused h page is clean same BadCount fault = not_fault_of VERSION h page (omega arith) (of_latest h is) clean same BadCount fault
-not_refused h page is clean same BadName fault = not_fault_of VERSION h page (omega arith) (of_latest h is) clean same BadName fault
-not_refused h page is clean same BadPadding fault = not_fault_of VERSION h page (omega arith) (of_latest h is) clean same BadPadding fault
+not_refused h page is clean same Unclean fault = not_fault_of VERSION h page (omega arith) is clean same Unclean fault
+not_refused h page is clean same BadCount fault = not_fault_of VERSION h page (omega arith) is clean same BadCount fault
+not_refused h page is clean same BadName fault = not_fault_of VERSION h page (omega arith) is clean same BadName fault
+not_refused h page is clean same BadPadding fault = not_fault_of VERSION h page (omega arith) is clean same BadPadding fault
 not_refused h page is clean same BadRow fault = fault
 not_refused h page is clean same BadOrder fault = fault
 not_refused h page is clean same OutOfRegion fault = fault
@@ -281,7 +290,7 @@ pub unclean_refused : (h : Header) (page : List ℕ) → IsHeader h → h.unclea
 unclean_refused h page is unclean same e fault = refused e fault
   where
     on : HasParts h page
-    on = parts VERSION h page (omega arith) (of_latest h is) same
+    on = parts VERSION h page (omega arith) is same
 
     marked : number_at 1 5 page ≡ 1
     marked = ap (λ (n : Numbers). n.state) on.numbers ∙ rw unclean refl
@@ -296,6 +305,46 @@ unclean_refused h page is unclean same e fault = refused e fault
     refused BadRow f = absurd f
     refused BadOrder f = absurd f
     refused OutOfRegion f = absurd f
+
+-- an old version stands on one byte
+pub old_byte : (version : ℕ) → IsOldVersion version → version < 256
+old_byte version is = let older = is.1 in omega arith
+
+-- where an old header tells of an index, its levels are the level of the root
+pub old_level : (old : OldHeader) → IsOldHeader old → old.version ≢ 1 → (1 ≤ old.header.levels) × (old.header.levels ≤ MAX_LEVEL)
+old_level old is other = elim (cases_Bool (nat_lt old.version FIRST_INDEXED)) [
+  | inl first ↦
+      let least = is.version.0 in
+      let below = ltb-true old.version FIRST_INDEXED first in
+      absurd (other (omega arith))
+  | inr later ↦ rw later at is.header.numbers.levels
+]
+
+-- the parts of an old header are read from its page
+pub old_parts : (old : OldHeader) (page : List ℕ) → IsOldHeader old → page ≡ header_page_of old.version old.header → HasPartsOf old.version old.header page
+old_parts old page is e = parts old.version old.header page (old_byte old.version is.version) is.header e
+
+-- the page of a clean old header is not refused
+pub old_not_refused : (old : OldHeader) (page : List ℕ) → IsOldHeader old → old.header.unclean ≡ false → page ≡ header_page_of old.version old.header
+    → (e : PageFault) → IsOldHeaderFault page e → ⊥
+old_not_refused old page is clean same e fault = no e fault
+  where
+    kind : IsOfVersion old.version page
+    kind = (old_parts old page is same).kind
+
+    none : (e : PageFault) → IsFaultOf (version_on page) page e → ⊥
+    none e f = not_fault_of old.version old.header page (old_byte old.version is.version) is.header clean same e (rw kind.1 at f)
+
+    no : (e : PageFault) → IsOldHeaderFault page e → ⊥
+    no WrongKind f = f (kind.0, rw kind.1 is.version)
+    no OldFormat f = none OldFormat f.1
+    no Unclean f = none Unclean f.1
+    no BadCount f = none BadCount f.1
+    no BadName f = none BadName f.1
+    no BadPadding f = none BadPadding f.1
+    no BadRow f = none BadRow f.1
+    no BadOrder f = none BadOrder f.1
+    no OutOfRegion f = none OutOfRegion f.1
 
 -- what is written one after the other is the page of all
 regrouped : (a1 a2 a3 a4 a5 a6 a7 a8 a9 a10 a11 a12 a13 b c : List ℕ) → padded (((((((((((((((a1 ++ a2) ++ a3) ++ a4) ++ a5) ++ a6) ++ a7) ++ a8) ++ a9) ++ a10) ++ a11) ++ a12) ++ a13) ++ b) ++ c)) ≡ padded ((a1 ++ (a2 ++ (a3 ++ (a4 ++ (a5 ++ (a6 ++ (a7 ++ (a8 ++ (a9 ++ (a10 ++ (a11 ++ (a12 ++ (a13 ++ []))))))))))))) ++ (b ++ c))

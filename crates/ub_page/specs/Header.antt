@@ -1,10 +1,13 @@
 -- The header page of a table, formats 1 to 3.
-use Rattle.std.specs.Prelude.{◌≡◌, ◌≢◌, ◌≤◌, ◌<◌, ◌+◌, ◌-◌, ◌^◌, ◌++◌, ℕ, zero, suc, nat_lt, List, [], ◌∷◌, length, take, drop, replicate, if◌then◌else◌}
+use Rattle.std.specs.Prelude.{◌≡◌, ◌≢◌, ◌≤◌, ◌<◌, ◌+◌, ◌-◌, ◌/◌, ◌^◌, ◌++◌, ℕ, zero, suc, nat_lt, List, [], ◌∷◌, length, take, drop, replicate, if◌then◌else◌}
+use Rattle.std.specs.Bool.{MatchBool}
 use Rattle.std.specs.List.{flat_map, AllByRecursion}
 use Rattle.ub_page.specs.Bytes.{number_bytes, number_at, layout, padded}
+use Rattle.ub_page.specs.declared.entries.TheConstants.{MAX_ENTRIES}
 use Rattle.ub_page.specs.declared.header.Header.{Header}
 use Rattle.ub_page.specs.declared.header.Numbers.{Numbers}
-use Rattle.ub_page.specs.declared.header.TheConstants.{FIRST_SIGNED, MAX_LEVEL, VERSION}
+use Rattle.ub_page.specs.declared.header.OldHeader.{OldHeader}
+use Rattle.ub_page.specs.declared.header.TheConstants.{FIRST_INDEXED, FIRST_SIGNED, MAX_LEVEL, VERSION}
 use Rattle.ub_table.specs.Block.{IsNameBlock}
 use Rattle.ub_table.specs.Name.{IsName}
 use Rattle.ub_table.specs.Schema.{AreDistinct, AreNumbers}
@@ -27,9 +30,19 @@ numbers_of h = record {
   levels = h.levels;
 }
 
--- each in its range: the mask of signed dimensions has bits for the dimensions alone, the root of the index has a level from 1 to 16, and
--- rows are numbered below the next number
-pub record AreInRange (n : Numbers) : Type 0 where
+-- how many pages a directory has that names so many regions
+abbrev pub directory_pages : ℕ → ℕ
+directory_pages regions = (regions + (MAX_ENTRIES - 1)) / MAX_ENTRIES
+
+-- the levels are those that a header of this version tells of: before the first version with an index, how many pages the directory
+-- has; from that one on, the level of the index's root, 1 to 16
+abbrev pub AreLevels : ℕ → Numbers → Type 0
+AreLevels version n =
+    MatchBool (nat_lt version FIRST_INDEXED) (n.levels ≡ directory_pages n.regions) ((1 ≤ n.levels) × (n.levels ≤ MAX_LEVEL))
+
+-- each in the range that it has in this version: the mask of signed dimensions has bits for the dimensions alone, the levels are those
+-- that the version tells of, and rows are numbered below the next number
+pub record AreInRangeOf (version : ℕ) (n : Numbers) : Type 0 where
   pub state : n.state ≤ 1
   pub counts : AreNumbers (n.dims + n.measures) n.dims n.page_rows n.signed
   pub some_next : 1 ≤ n.next
@@ -37,23 +50,36 @@ pub record AreInRange (n : Numbers) : Type 0 where
   pub rows : n.rows < n.next
   pub regions : 1 ≤ n.regions
   pub root : 1 ≤ n.root
-  pub levels : (1 ≤ n.levels) × (n.levels ≤ MAX_LEVEL)
+  pub levels : AreLevels version n
+
+-- and in the version that is written: the root of the index has a level from 1 to 16
+abbrev pub AreInRange : Numbers → Type 0
+AreInRange n = AreInRangeOf VERSION n
 
 -- the table's name, then the columns' names
 abbrev pub names_of : Header → List (List ℕ)
 names_of h = h.schema.name ∷ h.schema.columns
 
--- a header that a page can hold
-pub record IsHeader (h : Header) : Type 0 where
-  pub numbers : AreInRange (numbers_of h)
+-- a header that a page of this version can hold: before the first version that tells of signed dimensions, none is signed
+pub record IsHeaderOf (version : ℕ) (h : Header) : Type 0 where
+  pub numbers : AreInRangeOf version (numbers_of h)
   pub regions : h.regions < 2 ^ 32
   pub root : h.root < 2 ^ 32
   pub names : AllByRecursion IsName (names_of h)
-
--- a header that a page of this version can hold: before the first version that tells of signed dimensions, none is signed
-pub record IsHeaderOf (version : ℕ) (h : Header) : Type 0 where
-  pub header : IsHeader h
   pub unsigned : version < FIRST_SIGNED → h.schema.signed ≡ 0
+
+-- and one of the version that is written
+abbrev pub IsHeader : Header → Type 0
+IsHeader h = IsHeaderOf VERSION h
+
+-- a version before the one that is written: 1 or 2
+abbrev pub IsOldVersion : ℕ → Type 0
+IsOldVersion version = (1 ≤ version) × (version < VERSION)
+
+-- a header that a page of an old version can hold
+pub record IsOldHeader (old : OldHeader) : Type 0 where
+  pub version : IsOldVersion old.version
+  pub header : IsHeaderOf old.version old.header
 
 -- 'UBTR', the version, and the numbers, each with its bytes
 abbrev pub number_fields : ℕ → Numbers → List (ℕ × ℕ)
@@ -88,6 +114,10 @@ IsOfVersion version page = (number_at 4 0 page ≡ 0x55425452) × (version_on pa
 -- it begins with 'UBTR', and its version is one that there has been: from 1 to the one that is written
 abbrev pub IsHeaderKind : List ℕ → Type 0
 IsHeaderKind page = (number_at 4 0 page ≡ 0x55425452) × (1 ≤ version_on page) × (version_on page ≤ VERSION)
+
+-- it begins with 'UBTR', and its version is an old one
+abbrev pub IsOldKind : List ℕ → Type 0
+IsOldKind page = (number_at 4 0 page ≡ 0x55425452) × IsOldVersion (version_on page)
 
 -- the mask of signed dimensions on a page of this version
 abbrev pub mask_on : ℕ → List ℕ → ℕ
@@ -138,11 +168,13 @@ abbrev pub IsFaultOf : ℕ → List ℕ → PageFault → Type 0
 IsFaultOf version page WrongKind = ¬ (IsOfVersion version page)
 IsFaultOf version page Unclean = IsOfVersion version page × (number_at 1 5 page ≡ 1)
 IsFaultOf version page BadCount =
-    IsOfVersion version page × (number_at 1 5 page ≢ 1) × (¬ (AreInRange (numbers_on version page)))
+    IsOfVersion version page × (number_at 1 5 page ≢ 1) × (¬ (AreInRangeOf version (numbers_on version page)))
 IsFaultOf version page BadName =
-    IsOfVersion version page × (number_at 1 5 page ≢ 1) × AreInRange (numbers_on version page) × (¬ (HasNames (columns_on page) page))
+    IsOfVersion version page × (number_at 1 5 page ≢ 1) × AreInRangeOf version (numbers_on version page)
+    × (¬ (HasNames (columns_on page) page))
 IsFaultOf version page BadPadding =
-    IsOfVersion version page × (number_at 1 5 page ≢ 1) × AreInRange (numbers_on version page) × HasNames (columns_on page) page
+    IsOfVersion version page × (number_at 1 5 page ≢ 1) × AreInRangeOf version (numbers_on version page)
+    × HasNames (columns_on page) page
     × ((h : Header) → IsHeaderOf version h → page ≢ header_page_of version h)
 IsFaultOf version page _ = ⊥
 
@@ -151,6 +183,11 @@ abbrev pub IsHeaderFault : List ℕ → PageFault → Type 0
 IsHeaderFault page WrongKind = ¬ (IsHeaderKind page)
 IsHeaderFault page OldFormat = IsHeaderKind page × (version_on page < VERSION)
 IsHeaderFault page fault = IsFaultOf VERSION page fault
+
+-- the refusal by a reader of old headers is the first that holds of the page
+abbrev pub IsOldHeaderFault : List ℕ → PageFault → Type 0
+IsOldHeaderFault page WrongKind = ¬ (IsOldKind page)
+IsOldHeaderFault page fault = IsOldKind page × IsFaultOf (version_on page) page fault
 
 -- two headers agree in each part
 pub record AreSame (a b : Header) : Type 0 where

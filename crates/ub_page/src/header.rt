@@ -1,11 +1,13 @@
-ghost use Rattle.std.specs.Prelude.{◌≡◌, ◌≢◌, ◌+◌, ◌-◌, ◌*◌, ◌≤◌, ◌<◌, ◌^◌, ◌↔◌, ◌++◌, false, if◌then◌else◌, length, replicate, IsTrue, IsOk, IfOk, IfErr};
+ghost use Rattle.std.specs.Prelude.{ℕ, ◌≡◌, ◌≢◌, ◌+◌, ◌-◌, ◌*◌, ◌≤◌, ◌<◌, ◌^◌, ◌↔◌, ◌++◌, false, if◌then◌else◌, length, replicate, IsTrue, IsOk, IfOk, IfErr};
 ghost use Rattle.std.specs.List.{AllByRecursion, flat_map};
 ghost use Rattle.ub_page.specs.Bytes.{number_bytes, padded};
-ghost use Rattle.ub_page.specs.Header.{numbers_of, names_of, numbers_on, mask_on, columns_on, name_bytes, name_on, names_on, header_page, header_page_of, AreInRange, IsHeader, IsHeaderOf, AreSame, IsOfVersion, IsFaultOf, IsHeaderFault, IsNameOn, AreNamesOn, HasNames};
+ghost use Rattle.ub_page.specs.Header.{numbers_of, names_of, numbers_on, mask_on, columns_on, name_bytes, name_on, names_on, header_page, header_page_of, directory_pages, AreInRange, AreInRangeOf, AreLevels, IsHeader, IsHeaderOf, IsOldHeader, AreSame, IsOfVersion, IsFaultOf, IsHeaderFault, IsOldHeaderFault, IsNameOn, AreNamesOn, HasNames};
+ghost use Rattle.ub_page.specs.declared.header.OldHeader as spec;
 ghost use Rattle.ub_table.specs.Name.{IsName};
 ghost use Rattle.ub_table.specs.Schema.{AreNumbers};
 
 use crate::draft::Draft;
+use crate::entries::MAX_ENTRIES;
 use crate::page::{Page, are_equal, is_same, u8_at, u32_at};
 use ub_table::name::MAX_NAME_LEN;
 use ub_table::schema::is_mask;
@@ -19,6 +21,9 @@ pub const VERSION: u8 = 3;
 
 /// The first version whose headers tell which dimensions are signed.
 pub const FIRST_SIGNED: u8 = 3;
+
+/// The first version whose headers tell of an index. Those before it tell of a directory.
+pub const FIRST_INDEXED: u8 = 2;
 
 /// The highest level of the root of an index; the lowest one is 1.
 pub const MAX_LEVEL: u32 = 16;
@@ -40,6 +45,16 @@ pub struct Header {
     pub levels: u32,
     /// Whether the table was changed and not closed since.
     pub unclean: bool,
+}
+
+/// A header of a version before the one that is written. None of its dimensions is signed.
+#[derive(Drop)]
+pub struct OldHeader {
+    /// 1 or 2.
+    pub version: u8,
+    /// In version 2 as it is written now. In version 1 the root is the first page of the directory, and the levels are how
+    /// many pages that has: one for each 170 regions.
+    pub header: Header,
 }
 
 // The numbers of a header, as they stand on its page.
@@ -69,9 +84,10 @@ pub fn write_header(header: &Header, draft: &mut Draft)
 
 // Writes the page of a header in a version.
 fn spell(version: u8, header: &Header, draft: &mut Draft)
-    requires { AreInRange (numbers_of header.now) }
+    requires { AreInRangeOf version (numbers_of header.now) }
     ensures page { padded draft.new ≡ header_page_of version header.now }
-    ensures header { IsHeader header.now }
+    ensures small { (header.now.regions < 2 ^ 32) × (header.now.root < 2 ^ 32) }
+    ensures names { AllByRecursion IsName (names_of header.now) }
 {
     draft.clear();
     draft.put_u32(KIND);
@@ -146,13 +162,33 @@ pub fn read_header(page: &Page) -> Result<Header, PageFault>
     read_as(VERSION, page)
 }
 
+/// The header of an older version that the page holds, where it is clean. Otherwise the first of these that holds:
+/// `WrongKind` (the first four bytes are not 'UBTR', or the version is neither 1 nor 2), `Unclean`, `BadCount` (a number is
+/// out of the range that it has in that version), `BadName` (as `read_header` tells it), `BadPadding` (another byte is not
+/// zero, also the one that holds the mask since).
+pub fn read_old_header(page: &Page) -> Result<OldHeader, PageFault>
+    ensures found { IfOk result (λ old. IsOldHeader old × (old.header.unclean ≡ false)
+        × (page.now ≡ header_page_of old.version old.header)) }
+    ensures exact { (old : spec.OldHeader) → IsOldHeader old → old.header.unclean ≡ false
+        → page.now ≡ header_page_of old.version old.header → IsOk result
+        × IfOk result (λ read. (read.version ≡ old.version) × AreSame read.header old.header) }
+    ensures refused { IfErr result (IsOldHeaderFault page.now) }
+{
+    let version = u8_at(page, 4);
+    if !(1..VERSION).contains(&version) {
+        return Err(PageFault::WrongKind);
+    }
+    let header = read_as(version, page)?;
+    Ok(OldHeader { version, header })
+}
+
 // The clean header that the page holds in a version. Otherwise the first refusal that holds, `WrongKind` being also that of
 // another version. Before the first version that tells of signed dimensions, the byte of the mask is padding.
 fn read_as(version: u8, page: &Page) -> Result<Header, PageFault>
     ensures found { IfOk result
         (λ h. IsHeaderOf version h × (h.unclean ≡ false) × (page.now ≡ header_page_of version h)) }
-    ensures exact { (h : Header) → IsHeaderOf version h → h.unclean ≡ false → page.now ≡ header_page_of version h
-        → IsOk result × IfOk result (λ read. AreSame read h) }
+    ensures exact { (h : Header) → IsHeaderOf version h → h.unclean ≡ false
+        → page.now ≡ header_page_of version h → IsOk result × IfOk result (λ read. AreSame read h) }
     ensures refused { IfErr result (IsFaultOf version page.now) }
 {
     let header = parts_on(version, page)?;
@@ -167,7 +203,8 @@ fn read_as(version: u8, page: &Page) -> Result<Header, PageFault>
 // The header of this version whose parts stand on the page.
 fn parts_on(version: u8, page: &Page) -> Result<Header, PageFault>
     ensures numbers { IfOk result
-        (λ h. (numbers_of h ≡ numbers_on version page.now) × AreInRange (numbers_on version page.now)) }
+        (λ h. (numbers_of h ≡ numbers_on version page.now)
+        × AreInRangeOf version (numbers_on version page.now)) }
     ensures names { IfOk result (λ h. (h.schema.name ≡ name_on 32 page.now)
         × (h.schema.columns ≡ names_on 65 (columns_on page.now) page.now)) }
     ensures clean { IfOk result
@@ -183,7 +220,7 @@ fn parts_on(version: u8, page: &Page) -> Result<Header, PageFault>
     if numbers.state == 1 {
         return Err(PageFault::Unclean);
     }
-    if !are_in_range(&numbers) {
+    if !are_in_range(version, &numbers) {
         return Err(PageFault::BadCount);
     }
     let schema = read_schema(page, &numbers)?;
@@ -225,14 +262,31 @@ fn mask_at(version: u8, page: &Page) -> u8
     u8_at(page, 9)
 }
 
-fn are_in_range(numbers: &Numbers) -> bool
-    ensures { IsTrue result ↔ AreInRange numbers.now }
+// The numbers are in the ranges that they have in this version.
+fn are_in_range(version: u8, numbers: &Numbers) -> bool
+    ensures { IsTrue result ↔ AreInRangeOf version numbers.now }
 {
     let rows = (1..=MAX_ROW_NUMBER + 1).contains(&numbers.next) && numbers.rows < numbers.next;
-    let pages = numbers.regions >= 1
-        && numbers.root >= 1
-        && (1..=MAX_LEVEL).contains(&numbers.levels);
+    let pages = numbers.regions >= 1 && numbers.root >= 1 && are_levels(version, numbers);
     numbers.state <= 1 && has_counts(numbers) && rows && pages
+}
+
+// The level of an index's root, or in a version without one how many pages the directory has.
+fn are_levels(version: u8, numbers: &Numbers) -> bool
+    ensures { IsTrue result ↔ AreLevels version numbers.now }
+{
+    if version < FIRST_INDEXED {
+        return u64::from(numbers.levels) == pages_of_directory(numbers.regions);
+    }
+    (1..=MAX_LEVEL).contains(&numbers.levels)
+}
+
+// How many pages a directory of so many regions has.
+fn pages_of_directory(regions: u32) -> u64
+    ensures { result ≡ directory_pages regions }
+{
+    let most = MAX_ENTRIES as u64;
+    (u64::from(regions) + (most - 1)) / most
 }
 
 // The numbers that a schema has are in their ranges.

@@ -20,7 +20,7 @@ mod spelling;
 pub use directory::{Directory, read_directory, write_directory};
 pub use draft::Draft;
 pub use entries::{Entries, Entry};
-pub use header::{Header, MAX_LEVEL, read_header, write_header};
+pub use header::{Header, MAX_LEVEL, OldHeader, read_header, read_old_header, write_header};
 pub use page::Page;
 pub use region::{RegionPage, write_region};
 pub use ub_table::{Key, PageFault, Row, Schema};

@@ -14,6 +14,7 @@
 
 mod change;
 mod closing;
+mod counting;
 mod creation;
 pub mod fault;
 pub mod law;

@@ -52,6 +52,7 @@ unclean_of h is = record {
     regions = is.regions;
     root = is.root;
     names = is.names;
+    unsigned = is.unsigned;
   };
   unclean = refl;
   schema_is = refl;

@@ -1,4 +1,3 @@
-use Rattle.std.proofs.Common.{rules}
 use Rattle.ub_page.specs.Header.{numbers_of}
 use Rattle.ub_page.proofs.HeaderFacts.{written}
 use Rattle.ub_page.proofs.header.spell.Goals as goal
@@ -26,10 +25,5 @@ returns-clause-page c =
     (rw (c.state_of.ensures, c.dims.ensures.dims, c.measures.ensures.measures, c.page_rows.ensures.page_rows, c.signed.ensures.signed, c.name.ensures, c.columns.ensures.columns)
     (written c.args.version (numbers_of c.args.header.now) c.args.header.now.schema.name c.args.header.now.schema.columns))
 
-pub returns-clause-header : goal.returns-clause-header
-returns-clause-header c = record {
-  numbers = c.requires;
-  regions = search rules;
-  root = search rules;
-  names = (rw c.name.ensures at c.put_name.ensures.name, rw c.columns.ensures.columns at c.put_names.ensures.names);
-}
+pub returns-clause-names : goal.returns-clause-names
+returns-clause-names c = (rw c.name.ensures at c.put_name.ensures.name, rw c.columns.ensures.columns at c.put_names.ensures.names)

@@ -27,6 +27,10 @@ use Rattle.ub_writing.specs.Marks.{is_written}
 use Rattle.ub_zaddr.specs.Address.{last_address}
 use Rattle.ub_tree.proofs.tree.Tree.insert_within.Goals as goal
 
+pub returns-in_err-seat-clause-effect : goal.returns-in_err-seat-clause-effect
+returns-in_err-seat-clause-effect g c =
+    searched_by c.from_residual.result c.in_err-seat.field-0.0 c.args.self.now c.seat_of.new.self c.from_residual.ensures.1 c.in_err-seat.ensures.effect
+
 pub returns-in_err-read_at-clause-refused : goal.returns-in_err-read_at-clause-refused
 returns-in_err-read_at-clause-refused g c =
     let a = c.args.self.now in
