@@ -64,7 +64,7 @@ anew_of {A} source table old lent new out out_now status a from is opens upgrade
 -- ---- the tree in memory
 
 -- it counts as changed and works
-pub afoot : (from from_now : StoreFacts) (held : List (List ℕ)) (t : TreeView) → IsUpgraded from t → HasWorked from from_now (memory_facts held) t.store → IsAfoot t
+pub afoot : (from from_now : StoreFacts) (held : List (List ℕ)) (t : TreeView) → IsUpgraded from (memory_facts held) t → HasWorked from from_now (memory_facts held) t.store → IsAfoot t
 afoot from from_now held t is worked = record {
   changed = is.changed;
   working = is.working;

@@ -22,10 +22,10 @@ use Rattle.ub_tree.specs.declared.fault.TreeFault.{TreeFault}
 use Rattle.ub_tree.specs.declared.fault.TreeFault.TheVariants.{Store}
 use Rattle.ub_writing.specs.Closing.{IsClosed}
 
--- the tree that is made of a store of an older version: it counts what that one's header tells, and where the pages are those of a
+-- the tree that is made in memory of a store of an older version: it counts what that one's header tells, and where the pages are those of a
 -- closed table it has that table's regions
 pub record IsUpgradeOf (from : StoreFacts) (t : TreeView) : Type 0 where
-  pub upgraded : IsUpgraded from t
+  pub upgraded : IsUpgraded from (memory_facts []) t
   pub made : (version next : ℕ) (schema : Schema) (placed : List Placed) → IsHonest from → AreOldPages version from.pages schema placed next
       → HasTable schema placed next t
 

@@ -12,7 +12,7 @@ returns-in-Ok g c = record {
   left_is = worked_left _ _ _ _ c.in-Ok.ensures.effect;
   back = c.put_back.ensures;
   ended = c.keep_tree.ensures (g.F.Store.PageStore.facts c.args.store) (record {
-    upgraded = c.in-Ok.ensures.begun;
+    upgraded = rw c.new.ensures.pages at c.in-Ok.ensures.begun;
     made = λ version next schema placed honest old. c.in-Ok.ensures.made version next schema placed honest refl old;
   });
 }
