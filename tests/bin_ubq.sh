@@ -120,6 +120,8 @@ answers() {
     check "a wrong command line has status 2" ended 2
     ask load --help
     check "help of load needs no proof" grep -q '^Usage: ubq load ' "$room/out"
+    ask upgrade --help
+    check "nor does help of upgrade" grep -q '^Usage: ubq upgrade ' "$room/out"
     ask
     check "no words at all have status 2" ended 2
     check "and are shown how the program is called" grep -q '^Usage: ubq <COMMAND>' "$room/out"
@@ -173,6 +175,11 @@ scripts() {
     rm -f "$(sed -n 's/.*prover said: //p' "$room/err")"
     ask run "$room/none.ub" <(cat "$room/changes.sql")
     check "and one from a pipe" told 'changed by the proved program alone'
+    rm -f "$(sed -n 's/.*prover said: //p' "$room/err")"
+    ask upgrade tests/old/s.ub "$room/new.ub"
+    check "an upgrade needs it" told 'made by the proved program alone'
+    check "without one there is no answer" ended 125
+    check "and nothing is made" test ! -e "$room/new.ub"
     rm -f "$(sed -n 's/.*prover said: //p' "$room/err")"
     git checkout -q bin/prove
 
@@ -230,6 +237,8 @@ proof() {
     check "and changes it" wrote '-- inserted 6\n'
     ask run "$room/changed.ub" examples/between.sql
     check "which the next run sees" wrote 'x,y,m\n2,3,20\n3,0,5\n2,3,1\n3,3,-6\n-- rows 4, pages 1\n'
+    ask upgrade tests/old/gaps.ub "$room/gaps.ub"
+    check "a table of an older version is made anew" wrote '-- rows 16, regions 6\n'
     ask --prove
     check "and there is nothing more to prove" test "$(cat "$room/err")" = 'ubq: proved: crates/ubq/out/ubq'
     find crates -name '*.rt' -exec touch {} +

@@ -1,7 +1,8 @@
 #!/usr/bin/env python3
 """Makes each allocation of the program fail in turn, by hand. It runs `try`, `load` and `run` on the table of five rows and a script with a statement of every kind, and then
-`run` of a script that changes the table, each time on a new copy of it. It says how many runs told `! Memory` after whole texts of first statements, how many did without, and how
-many did anything else (which is wrong). A table that was changed must then open, and hold what those statements left, but for the first rows of a DELETE that was stopped.
+`run` of a script that changes the table, each time on a new copy of it; and `upgrade` of that table in formats 1 and 2. It says how many runs told `! Memory` after whole texts of
+first statements, how many did without, and how many did anything else (which is wrong). A table that was changed must then open, and hold what those statements left, but for the
+first rows of a DELETE that was stopped. The old file of an upgrade must be as it was, and after a refusal the new one too.
 
     tests/each_allocation.py [PROGRAM]      (needs cc; the program is built first where none is named)"""
 import pathlib
@@ -41,6 +42,8 @@ FIVE, SIX, LEFT = (1, 2, 3, 4, 5), (1, 2, 3, 4, 5, 6), (1, 3, 4)
 # The numbers of the rows that a table may have after so many of these statements were told.
 AFTER = [[FIVE], [SIX], [SIX, (1, 3, 4, 5, 6), (1, 3, 4, 6), LEFT], [LEFT], [LEFT + (7,)]]
 MEMORY = 5
+OLD = pathlib.Path(__file__).resolve().parent / "old"
+OLDER = {"one.ub": OLD / "s.ub", "two.ub": OLD / "format_2" / "s.ub"}
 ROUND = 40  # so many runs that did without the allocation, one after the other, end a command's round
 
 
@@ -72,10 +75,23 @@ def main():
         def run(words, due):
             if words[1] == "copy.ub":
                 shutil.copy(pathlib.Path(work, "s.ub"), pathlib.Path(work, "copy.ub"))
+            if words[0] == "upgrade":
+                pathlib.Path(work, "new.ub").write_text("what stood here")
             return failing_memory.ended(library, [program] + words, due, work)
+
+        def is_upgraded_well(old, text):
+            """Whether the old file is as it was, and the new one has its rows, or else is as it was where memory was refused."""
+            if pathlib.Path(work, old).read_bytes() != OLDER[old].read_bytes():
+                return False
+            if text == "! Memory\n":
+                return pathlib.Path(work, "new.ub").read_bytes() == b"what stood here"
+            status, rows, _ = failing_memory.ended(library, [program, "run", "new.ub", "all.sql"], 0, work)
+            return status == 0 and has_rows(rows, FIVE)
 
         def is_left_well(words, text):
             """Whether the table that was changed opens, and has what the statements left of which this is the text."""
+            if words[0] == "upgrade":
+                return is_upgraded_well(words[1], text)
             if words[1] != "copy.ub":
                 return True
             status, rows, _ = failing_memory.ended(library, [program, "run", "copy.ub", "all.sql"], 0, work)
@@ -84,6 +100,9 @@ def main():
 
         table = ["--dims", "2", "--page-rows", "2"]
         scripts = [["try", "s.csv", "every.sql"] + table, ["load", "s.csv", "s.ub"] + table, ["run", "s.ub", "every.sql"], ["run", "copy.ub", "changes.sql"]]
+        for old, file in OLDER.items():
+            shutil.copy(file, pathlib.Path(work, old))
+            scripts.append(["upgrade", old, "new.ub"])
         for words in scripts:
             if words[0] == "run":
                 run(["load", "s.csv", "s.ub"] + table, 0)

@@ -153,6 +153,40 @@ for old in s four gaps format_2/s format_2/four format_2/gaps; do
     try "a table of an older format, $old.ub" 3 all '! OldFormat page 0\n' run old.ub row1.sql
     try 'to which nothing is put' 3 all '! OldFormat page 0\n' run old.ub insert.sql
     holds 'and it stays as it was' cmp -s old.ub "$root/tests/old/$old.ub"
+    case $old in
+    *gaps) counts='-- rows 16, regions 6\n' csv=$root/tests/old/gaps.csv ;;
+    *four) counts='-- rows 18, regions 7\n' csv=$root/tests/old/four.csv ;;
+    *s) counts='-- rows 5, regions 3\n' csv=$root/examples/s.csv ;;
+    esac
+    printf 'what stood here' >new.ub
+    try "is made anew, $old.ub" 0 all "$counts" upgrade old.ub new.ub
+    holds 'and stays as it was' cmp -s old.ub "$root/tests/old/$old.ub"
+    "$root/tests/old/check.py" new.ub "$csv" >out 2>err
+    holds 'the new one is sound, with the same rows' test $? -eq 0
+    holds 'and of format 3, with no signed dimension' test "$(od -An -tu1 -j4 -N2 new.ub)$(od -An -tu1 -j9 -N1 new.ub)" = '   3   0   0'
+    try 'it is not made anew once more' 3 all '! WrongKind page 0\n' upgrade new.ub newer.ub
+    holds 'and nothing is made' test ! -e newer.ub
+    try 'nor by the same name' 2 all '! SameFile\n' upgrade old.ub old.ub
+    holds 'which looks at no file' cmp -s old.ub "$root/tests/old/$old.ub"
+    try 'by another name of it, it is there itself' 0 all "$counts" upgrade old.ub ./old.ub
+    holds 'the same as the new one' cmp -s old.ub new.ub
+done
+for old in s format_2/s; do
+    "$ubq" upgrade "$root/tests/old/$old.ub" new.ub >out 2>err
+    try 'the upgraded table is asked' 0 all "$row1" run new.ub row1.sql
+    try 'and goes on with the next number' 0 all '-- inserted 6\n' run new.ub insert.sql
+    cp new.ub kept.ub
+    { head -c 12288 "$root/tests/old/$old.ub" && printf '\0' && tail -c +12290 "$root/tests/old/$old.ub"; } >old.ub
+    try 'an old table with a page that is damaged' 3 all '! WrongKind page 3\n' upgrade old.ub new.ub
+    head -c 16384 "$root/tests/old/$old.ub" >old.ub
+    try 'or that is cut' 3 all '! NoPage\n' upgrade old.ub new.ub
+    head -c 16385 "$root/tests/old/$old.ub" >old.ub
+    try 'or cut within a page' 3 all '! BadSize\n' upgrade old.ub new.ub
+    try 'no old table' 4 all '! Device\n' upgrade missing.ub new.ub
+    try 'a folder for it' 4 all '! Device\n' upgrade . new.ub
+    holds 'the new one is as it was, byte for byte' cmp -s new.ub kept.ub
+    try 'a folder for the new one' 4 all '! Device\n' upgrade "$root/tests/old/$old.ub" .
+    try 'one in a folder that is not there' 4 all '! Device\n' upgrade "$root/tests/old/$old.ub" missing/new.ub
 done
 try 'no table file' 4 all '! Device\n' run missing.ub row1.sql
 try 'no script' 4 all '! Device\n' run s.ub missing.sql
@@ -180,6 +214,16 @@ if "${as[@]}" "$ubq" --version >out 2>err; then
     chmod a= s.ub
     try 'a table file that can not be read either' 4 all '! Device\n' run s.ub row1.sql
     chmod u=rw s.ub
+    cp "$root/tests/old/s.ub" only.ub
+    cp before.ub new.ub
+    chmod a=r only.ub new.ub
+    try 'an old table that can only be read, and so can the new one' 4 all '! Device\n' upgrade only.ub new.ub
+    holds 'which is as it was' cmp -s before.ub new.ub
+    rm -f new.ub
+    chmod a+w .
+    try 'and is made anew where that can be written' 0 all '-- rows 5, regions 3\n' upgrade only.ub new.ub
+    chmod go-w .
+    rm -f new.ub only.ub
 else
     skip 'a table file that can only be read' "no other user can run $ubq"
 fi
@@ -206,6 +250,8 @@ try 'no dimensions' 2 line 'Usage: ubq load --dims <D> <DATA> <TABLE>' load s.cs
 try 'the help' 0 line 'Usage: ubq <COMMAND>' --help
 try 'the help of load' 0 line 'Usage: ubq load [OPTIONS] --dims <D> <DATA> <TABLE>' load --help
 try 'the help of run' 0 line 'Usage: ubq run <TABLE> <SCRIPT>' run --help
+try 'the help of upgrade' 0 line 'Usage: ubq upgrade <OLD> <NEW>' upgrade --help
+try 'no new table' 2 line 'Usage: ubq upgrade <OLD> <NEW>' upgrade s.ub
 try 'the version' 0 all 'ubq 0.1.0\n' --version
 
 # ---- where nothing can be written
@@ -221,6 +267,10 @@ if [ -e /dev/full ]; then
     "$ubq" load s.csv late.ub --dims 2 --page-rows 2 >/dev/full 2>err
     holds 'a full device after the table was loaded' test $? -eq 4
     holds 'which is there all the same' cmp -s before.ub late.ub
+    "$ubq" upgrade "$root/tests/old/s.ub" late.ub >/dev/full 2>err
+    holds 'a full device after the table was made anew' test $? -eq 4
+    try 'which is there all the same' 0 all "$row1" run late.ub row1.sql
+    try 'a full device for the new table' 4 all '! Device\n' upgrade "$root/tests/old/s.ub" /dev/full
 fi
 
 echo "$right right, $wrong wrong"

@@ -27,6 +27,7 @@ use Rattle.ub_words.specs.declared.given.LoadWords.{LoadWords}
 use Rattle.ub_words.specs.declared.given.NextWords.{NextWords}
 use Rattle.ub_words.specs.declared.given.RunWords.{RunWords}
 use Rattle.ub_words.specs.declared.given.TryWords.{TryWords}
+use Rattle.ub_words.specs.declared.given.UpgradeWords.{UpgradeWords}
 use Rattle.ub_words.specs.declared.words.Asked.{Asked}
 use Rattle.ub_words.specs.declared.words.Asked.TheVariants as asked
 use Rattle.ub_shell.specs.Commands.{AsksStore, HasRead, HasRunTree, IsAskedOf, IsCopied, IsFileOf, IsTable, IsUnkept, IsUnopened, IsUnread, LoadsFile, RunsFile, TriesFiles, WritesFile, axes_asked}
@@ -35,6 +36,7 @@ use Rattle.ub_shell.specs.Ending.{Tells}
 use Rattle.ub_files.specs.Files.{FilesFacts, IsLent, IsText, IsTorn, LendsFile, OpensFile, PutsBack, ReadsFile, Returns, raised_by}
 use Rattle.ub_next.specs.Next.{IsNextAnswer, answer_text}
 use Rattle.ub_shell.specs.Ran.{HasEnded}
+use Rattle.ub_shell.specs.Upgrading.{UpgradesFile}
 use Rattle.ub_shell.specs.Status.{answer_status, store_fault_status, store_fault_text}
 use Rattle.ub_next.specs.declared.next.Neighbours.{Neighbours}
 use Rattle.ub_next.specs.declared.next.NextFault.{NextFault}
@@ -72,7 +74,7 @@ put_after path old lent new a store lends back = record {
 left_honest : {A : Type 0} (pages : List (List ℕ)) (made left : StoreFacts) (r : Result A StoreFault) → Copies pages made left r → IsHonest made → IsHonest left
 left_honest pages made left r is honest = rw (ap (λ (f : StoreFacts). f.honest) is.frame) honest
 
-never_both : {A E : Type 0} (a : A) (e : E) (r : Result A E) (P : Type 0) → r ≡ Ok a → r ≡ Err e → P
+pub never_both : {A E : Type 0} (a : A) (e : E) (r : Result A E) (P : Type 0) → r ≡ Ok a → r ≡ Err e → P
 never_both a e r P h k = cc
 
 -- a table whose pages were copied into the table file stands there
@@ -104,7 +106,7 @@ file_kept table text name axes page_rows rows regions pages old new u is = elim 
 abbrev failed_with : StoreFault → Result (Unit {0}) StoreFault
 failed_with fault = Err fault
 
-one_fault : (a b : StoreFault) → failed_with a ≡ failed_with b → a ≡ b
+pub one_fault : (a b : StoreFault) → failed_with a ≡ failed_with b → a ≡ b
 one_fault a b e = cc
 
 -- a table whose pages weren't copied into the table file isn't kept there
@@ -253,10 +255,15 @@ try_ends words a t old new out out_now status is by tries = inr (inr (inl (recor
   tries = tries;
 })))
 
+pub upgrade_ends : (words : List (List ℕ)) (a : Asked) (u : UpgradeWords) (old new : FilesFacts) (out out_now : OutFacts) (status : Status) → a ≡ asked.Upgrade u
+    → IsAskedBy words a → UpgradesFile u.old.now u.new.now old new out out_now status → HasEnded words old new out out_now status
+upgrade_ends words a u old new out out_now status is by upgrades =
+    inr (inr (inr (inl (record { source = u.old.now; table = u.new.now; asks = rw is at by; upgrades = upgrades }))))
+
 pub next_ends : (words : List (List ℕ)) (a : Asked) (n : NextWords) (files : FilesFacts) (out out_now : OutFacts) (status : Status) (answer : Result Neighbours NextFault)
     → a ≡ asked.Next n → IsAskedBy words a → IsNextAnswer n.low.now n.high.now n.address.now answer
     → Tells out out_now (answer_text answer) (answer_status answer) status → HasEnded words files files out out_now status
-next_ends words a n files out out_now status answer is by answers told = inr (inr (inr (inl (record {
+next_ends words a n files out out_now status answer is by answers told = inr (inr (inr (inr (inl (record {
   lo = n.low.now;
   hi = n.high.now;
   z = n.address.now;
@@ -265,14 +272,14 @@ next_ends words a n files out out_now status answer is by answers told = inr (in
   answers = answers;
   tells = told;
   files = refl;
-}))))
+})))))
 
 pub help_ends : (words : List (List ℕ)) (files : FilesFacts) (out out_now : OutFacts) (text bytes : List ℕ) (status : Status) → AsksHelp words × AreLines text → bytes ≡ text
     → Tells out out_now bytes Done status → HasEnded words files files out out_now status
 help_ends words files out out_now text bytes status by same told =
-    inr (inr (inr (inr (inl (record { asks = by.0; text = text; lines = by.1; tells = rw same at told; files = refl })))))
+    inr (inr (inr (inr (inr (inl (record { asks = by.0; text = text; lines = by.1; tells = rw same at told; files = refl }))))))
 
 pub wrong_ends : (words : List (List ℕ)) (files : FilesFacts) (out out_now : OutFacts) (text bytes : List ℕ) (status : Status) → AsksNothing words × AreLines text → bytes ≡ text
     → Tells out out_now bytes CommandLine status → HasEnded words files files out out_now status
 wrong_ends words files out out_now text bytes status by same told =
-    inr (inr (inr (inr (inr (inl (record { asks = by.0; text = text; lines = by.1; tells = rw same at told; files = refl }))))))
+    inr (inr (inr (inr (inr (inr (inl (record { asks = by.0; text = text; lines = by.1; tells = rw same at told; files = refl })))))))

@@ -4,21 +4,31 @@ use Rattle.std.proofs.lemmas.Bool.{cases_Bool}
 use Rattle.std.proofs.lemmas.Slice.Eq.{bytes_eq-Decides}
 use Rattle.std.specs.Str.{bytes_eq}
 use Rattle.std.specs.Prelude.{IsOk, IsTrue, Result}
-use Rattle.ub_store.specs.Facts.{StoreFacts}
+use Rattle.ub_store.specs.Facts.{StoreFacts, IsHonest}
 use Rattle.ub_store.specs.declared.fault.StoreFault.{StoreFault}
+use Rattle.ub_store.specs.declared.fault.StoreFault.TheVariants as store
 use Rattle.ub_files.specs.Files.{FilesFacts, Held, IsPutBack, IsStored, ReadsFile, absent, bytes, lent_out, pages, standard_input, torn, untold}
 use Rattle.ub_words.proofs.Laws.{no_help_taken}
 use Rattle.ub_words.specs.CommandLine.{AsksHelpAlone, AsksNext}
 use Rattle.ub_shell.specs.Commands.{IsRunOn, IsUntold}
 use Rattle.ub_shell.proofs.LeftFacts.{run_leaves, run_stays, where_ok}
-use Rattle.ub_shell.specs.Laws.{AskingLeavesTheTable, IsHeldStill, OnlyHelpIsWritten, UnchangedTablesAreLeft, WhatWasDoneStands, WrongWordsAreTold}
+use Rattle.ub_shell.specs.Laws.{AskingLeavesTheTable, IsClosedTable, IsHeldStill, IsOldTable, OnlyHelpIsWritten, UnchangedTablesAreLeft, UpgradedTablesAreTheSame, UpgradingLeavesTheOldTable, WhatWasDoneStands, WrongWordsAreTold}
+use Rattle.ub_shell.specs.Ending.{Tells}
+use Rattle.ub_shell.specs.Status.{store_fault_status, tree_fault_status}
+use Rattle.ub_shell.specs.Upgrading.{IsFileAnew, KeepsAnew}
 use Rattle.ub_shell.specs.declared.status.Status.{Status}
+use Rattle.ub_shell.specs.declared.status.Status.TheVariants.{Done}
 use Rattle.ub_exec.proofs.Laws.{sound_trees_stand}
 use Rattle.ub_script.specs.Output.{OutFacts}
 use Rattle.ub_script.specs.Script.{OnlyAsks}
 use Rattle.ub_table.specs.declared.schema.Schema.{Schema}
 use Rattle.ub_tree.specs.declared.fault.TreeFault.{TreeFault}
+use Rattle.ub_tree.specs.declared.fault.TreeFault.TheVariants as tree
 use Rattle.ub_tree.specs.declared.fault.TreeFault.TheVariants.{Failed}
+use Rattle.ub_tree.specs.Old.{AreOldPages}
+use Rattle.ub_tree.specs.Placed.{Placed, regions_in}
+use Rattle.ub_tree.specs.Stored.{AreSoundPages}
+use Rattle.ub_table.specs.Region.{Region}
 
 no_next : (words : List (List ℕ)) (lo hi z : List ℕ) → AsksHelpAlone words → AsksNext words lo hi z → ⊥
 no_next words lo hi z alone (inl by_clap) = no_help_taken words by_clap.1.0 alone
@@ -28,19 +38,21 @@ pub only_help_is_written : OnlyHelpIsWritten
 only_help_is_written words old new out out_now status alone (inl load) = absurd (no_help_taken words load.asks.1.0 alone)
 only_help_is_written words old new out out_now status alone (inr (inl run)) = absurd (no_help_taken words run.asks.1.0 alone)
 only_help_is_written words old new out out_now status alone (inr (inr (inl tried))) = absurd (no_help_taken words tried.asks.1.0 alone)
-only_help_is_written words old new out out_now status alone (inr (inr (inr (inl next)))) = absurd (no_next words _ _ _ alone next.asks)
-only_help_is_written words old new out out_now status alone (inr (inr (inr (inr (inl help))))) = inl help
-only_help_is_written words old new out out_now status alone (inr (inr (inr (inr (inr (inl wrong)))))) = absurd (wrong.asks.no_help alone)
-only_help_is_written words old new out out_now status alone (inr (inr (inr (inr (inr (inr memory)))))) = inr memory
+only_help_is_written words old new out out_now status alone (inr (inr (inr (inl upgrade)))) = absurd (no_help_taken words upgrade.asks.1.0 alone)
+only_help_is_written words old new out out_now status alone (inr (inr (inr (inr (inl next))))) = absurd (no_next words _ _ _ alone next.asks)
+only_help_is_written words old new out out_now status alone (inr (inr (inr (inr (inr (inl help)))))) = inl help
+only_help_is_written words old new out out_now status alone (inr (inr (inr (inr (inr (inr (inl wrong))))))) = absurd (wrong.asks.no_help alone)
+only_help_is_written words old new out out_now status alone (inr (inr (inr (inr (inr (inr (inr memory))))))) = inr memory
 
 pub wrong_words_are_told : WrongWordsAreTold
 wrong_words_are_told words old new out out_now status nothing no_help (inl load) = absurd (nothing.no_load _ _ _ _ _ _ load.asks)
 wrong_words_are_told words old new out out_now status nothing no_help (inr (inl run)) = absurd (nothing.no_run _ _ run.asks)
 wrong_words_are_told words old new out out_now status nothing no_help (inr (inr (inl tried))) = absurd (nothing.no_try _ _ _ _ _ _ tried.asks)
-wrong_words_are_told words old new out out_now status nothing no_help (inr (inr (inr (inl next)))) = absurd (nothing.no_next _ _ _ next.asks)
-wrong_words_are_told words old new out out_now status nothing no_help (inr (inr (inr (inr (inl help))))) = absurd (no_help help.asks)
-wrong_words_are_told words old new out out_now status nothing no_help (inr (inr (inr (inr (inr (inl wrong)))))) = inl wrong
-wrong_words_are_told words old new out out_now status nothing no_help (inr (inr (inr (inr (inr (inr memory)))))) = inr memory
+wrong_words_are_told words old new out out_now status nothing no_help (inr (inr (inr (inl upgrade)))) = absurd (nothing.no_upgrade _ _ upgrade.asks)
+wrong_words_are_told words old new out out_now status nothing no_help (inr (inr (inr (inr (inl next))))) = absurd (nothing.no_next _ _ _ next.asks)
+wrong_words_are_told words old new out out_now status nothing no_help (inr (inr (inr (inr (inr (inl help)))))) = absurd (no_help help.asks)
+wrong_words_are_told words old new out out_now status nothing no_help (inr (inr (inr (inr (inr (inr (inl wrong))))))) = inl wrong
+wrong_words_are_told words old new out out_now status nothing no_help (inr (inr (inr (inr (inr (inr (inr memory))))))) = inr memory
 
 -- ---- a table file that was only asked
 
@@ -97,6 +109,91 @@ asking_leaves_the_table table script old new out out_now status other asks (inl 
           put_back_same (run.mid.holds table) (new.holds table) asked.store asked.asks.left asked.lent.stored asked.asks.back.held same.0 (same.1 ∙ asked.lent.lent.unfailed)
       | inr unopened ↦ still_same (run.mid.holds table) (new.holds table) unopened.files.kept
     ])
+
+-- ---- a table file of an older version that was made anew
+
+-- what was kept of it leaves each other file
+anew_others : (source table : List ℕ) (from : StoreFacts) (old new : FilesFacts) (out out_now : OutFacts) (status : Status) → source ≢ table
+    → KeepsAnew table from old new out out_now status → new.holds source ≡ old.holds source
+anew_others source table from old new out out_now status apart (inl (rows, regions, file, told)) = file.copied.back.others source apart
+anew_others source table from old new out out_now status apart (inr (fault, unkept, told)) = unkept.uses.others source apart
+
+pub upgrading_leaves_the_old_table : UpgradingLeavesTheOldTable
+upgrading_leaves_the_old_table source table old new out out_now status apart (inl same) = absurd (apart same.same)
+upgrading_leaves_the_old_table source table old new out out_now status apart (inr (ne, inl anew)) =
+    let ends = anew.upgrades in
+    let held = ap (λ (s : StoreFacts). s.pages) ends.left_is in
+    let well = ap (λ (s : StoreFacts). s.failed_writes) ends.left_is ∙ anew.lent.lent.unfailed in
+    let mid = put_back_same (old.holds source) (ends.mid.holds source) anew.store ends.left anew.lent.stored ends.back.held held well in
+    subst (λ (now : Held). IsHeldStill (old.holds source) now) (sym (anew_others source table anew.store ends.mid new out out_now status apart ends.ended)) mid
+upgrading_leaves_the_old_table source table old new out out_now status apart (inr (ne, inr unopened)) =
+    still_same (old.holds source) (new.holds source) unopened.files.kept
+
+-- a fault never ends as all that was to be done
+told_done : (out out_now : OutFacts) (text : List ℕ) (wanted : Status) → Tells out out_now text wanted Done → Done ≡ wanted
+told_done out out_now text wanted (inl told) = told.0
+told_done out out_now text wanted (inr broken) = let bad = broken.0 in cc
+
+store_not_done : (fault : StoreFault) → Done ≡ store_fault_status fault → ⊥
+store_not_done store.NoPage e = let bad = e in cc
+store_not_done store.BadSize e = let bad = e in cc
+store_not_done store.Device e = let bad = e in cc
+store_not_done store.Memory e = let bad = e in cc
+
+tree_not_done : (fault : TreeFault) → Done ≡ tree_fault_status fault → ⊥
+tree_not_done tree.Memory e = let bad = e in cc
+tree_not_done Failed e = let bad = e in cc
+tree_not_done (tree.Store fault) e = store_not_done fault e
+tree_not_done tree.Full e = let bad = e in cc
+tree_not_done (tree.Page page fault) e = let bad = e in cc
+
+-- the pages of a closed table of an older version are those of the store that was lent
+module _ (version next : ℕ) (schema : Schema) (placed : List Placed) where
+  old_pages : (held : Held) (from : StoreFacts) → IsStored held from → IsOldTable held version schema placed next → AreOldPages version from.pages schema placed next
+  old_pages (pages all) from stored is = subst (λ (ps : List (List ℕ)). AreOldPages version ps schema placed next) (sym stored) is
+  old_pages untold from stored is = absurd is
+  old_pages absent from stored is = absurd is
+  old_pages (bytes text) from stored is = absurd is
+  old_pages torn from stored is = absurd is
+  old_pages lent_out from stored is = absurd is
+
+-- and what is put back, no write of which has failed, is told so
+closed_table : (held : Held) (left : StoreFacts) (schema : Schema) (placed : List Placed) (regions : List Region) (next : ℕ) → IsPutBack held left → left.failed_writes ≡ 0
+    → AreSoundPages left.pages schema placed next → regions_in placed ≡ regions → IsClosedTable held schema regions next
+closed_table untold left schema placed regions next back well sound same = tt
+closed_table (pages all) left schema placed regions next back well sound same =
+    (placed, subst (λ (ps : List (List ℕ)). AreSoundPages ps schema placed next) back sound, same)
+closed_table torn left schema placed regions next back well sound same = absurd (let failed = back.1 in omega arith)
+closed_table absent left schema placed regions next back well sound same = absurd back
+closed_table (bytes text) left schema placed regions next back well sound same = absurd back
+closed_table lent_out left schema placed regions next back well sound same = absurd back
+
+-- a table file that was made anew of a closed table
+file_anew : (table : List ℕ) (from : StoreFacts) (rows regions version next : ℕ) (schema : Schema) (placed : List Placed) (old new : FilesFacts) → IsTrue old.honest
+    → IsHonest from → AreOldPages version from.pages schema placed next → IsFileAnew table from rows regions old new → IsClosedTable (new.holds table) schema (regions_in placed) next
+file_anew table from rows regions version next schema placed old new honest from_honest sound file =
+    let has = file.table_is.upgrade.made version next schema placed from_honest sound in
+    let t = file.table_is.tree in
+    let w = file.copied in
+    let here = w.copies.copied (w.made_is.lent.honest honest) in
+    let as_made = subst (λ (ps : List (List ℕ)). AreSoundPages ps t.schema t.placed t.next) (sym here) (file.table_is.closed has.sound) in
+    let of_schema = subst (λ (s : Schema). AreSoundPages w.left.pages s t.placed t.next) has.schema_is as_made in
+    let of_next = subst (λ (n : ℕ). AreSoundPages w.left.pages schema t.placed n) has.next_is of_schema in
+    let well = ap (λ (s : StoreFacts). s.failed_writes) w.copies.frame ∙ w.made_is.lent.unfailed in
+    closed_table (new.holds table) w.left schema t.placed (regions_in placed) next w.back.held well of_next has.regions_are
+
+pub upgraded_tables_are_the_same : UpgradedTablesAreTheSame
+upgraded_tables_are_the_same source table old new out out_now version next schema placed honest sound (inl same) =
+    let bad = told_done _ _ _ _ same.tells in cc
+upgraded_tables_are_the_same source table old new out out_now version next schema placed honest sound (inr (ne, inr unopened)) =
+    absurd (store_not_done unopened.fault (told_done _ _ _ _ unopened.tells))
+upgraded_tables_are_the_same source table old new out out_now version next schema placed honest sound (inr (ne, inl anew)) = elim anew.upgrades.ended [
+  | inl kept ↦
+      let mid_honest : IsTrue anew.upgrades.mid.honest = rw (ap (λ (f : FilesFacts). f.honest) anew.upgrades.back.same) honest in
+      let here = old_pages version next schema placed (old.holds source) anew.store anew.lent.stored sound in
+      file_anew table anew.store kept.0 kept.1 version next schema placed anew.upgrades.mid new mid_honest (anew.lent.lent.honest honest) here kept.2
+  | inr unkept ↦ absurd (tree_not_done unkept.0 (told_done _ _ _ _ unkept.2))
+]
 
 -- ---- a table on which a script was run
 

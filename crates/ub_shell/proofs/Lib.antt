@@ -1,4 +1,5 @@
 pub mod EndFacts
 pub mod FileFacts
 pub mod LeftFacts
+pub mod UpgradeFacts
 pub mod Laws

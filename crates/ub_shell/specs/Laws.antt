@@ -1,5 +1,5 @@
 -- The laws of how a command ends. Each is what the function of its name in `law` ensures, and is proved in proofs/Laws.antt.
-use Rattle.std.specs.Prelude.{◌≡◌, ◌≢◌, ◌⊎◌, ℕ, false, List, Result, Ok, Err, IsOk}
+use Rattle.std.specs.Prelude.{◌≡◌, ◌≢◌, ◌⊎◌, ℕ, false, List, Result, Ok, Err, IsOk, IsTrue}
 use Rattle.ub_exec.specs.Stand.{Stand, IsStandOf}
 use Rattle.ub_words.specs.CommandLine.{AsksHelp, AsksHelpAlone, AsksNothing}
 use Rattle.ub_script.specs.Basis.{Basis, on_stand, over_any}
@@ -12,12 +12,16 @@ use Rattle.ub_script.specs.declared.fault.RunFault.TheVariants.{Memory, Write}
 use Rattle.ub_script.specs.declared.script.Summary.{Summary}
 use Rattle.ub_store.specs.Facts.{StoreFacts, IsHonest}
 use Rattle.ub_table.specs.declared.schema.Schema.{Schema}
-use Rattle.ub_tree.specs.Placed.{Placed}
+use Rattle.ub_table.specs.Region.{Region}
+use Rattle.ub_tree.specs.Old.{AreOldPages}
+use Rattle.ub_tree.specs.Placed.{Placed, regions_in}
 use Rattle.ub_tree.specs.Stored.{AreSoundPages}
-use Rattle.ub_files.specs.Files.{FilesFacts, Held, IsText, standard_input, untold}
+use Rattle.ub_files.specs.Files.{FilesFacts, Held, IsText, pages, standard_input, untold}
 use Rattle.ub_shell.specs.Commands.{IsRunOn, RunsFile}
 use Rattle.ub_shell.specs.Ran.{HasEnded, HasHelped, HasNoMemory, HasRefused}
+use Rattle.ub_shell.specs.Upgrading.{UpgradesFile}
 use Rattle.ub_shell.specs.declared.status.Status.{Status}
+use Rattle.ub_shell.specs.declared.status.Status.TheVariants.{Done}
 
 -- where the words ask for the help alone, only the help is written; or memory was refused
 abbrev pub OnlyHelpIsWritten : Type 0
@@ -43,6 +47,30 @@ IsOnlyAsking held = (script : List ℕ) (schema : Schema) → IsText held script
 abbrev pub AskingLeavesTheTable : Type 0
 AskingLeavesTheTable = (table script : List ℕ) (old new : FilesFacts) (out out_now : OutFacts) (status : Status) → table ≢ standard_input
     → IsOnlyAsking (old.holds script) → RunsFile table script old new out out_now status → IsHeldStill (old.holds table) (new.holds table)
+
+-- a table file of an older version is as it was, page for page, whatever it is and however making it anew at another path has ended
+abbrev pub UpgradingLeavesTheOldTable : Type 0
+UpgradingLeavesTheOldTable = (source table : List ℕ) (old new : FilesFacts) (out out_now : OutFacts) (status : Status) → source ≢ table
+    → UpgradesFile source table old new out out_now status → IsHeldStill (old.holds source) (new.holds source)
+
+-- where it is told what a path holds, it is the pages of a closed table of this schema, with these regions and this next number
+abbrev pub IsClosedTable : Held → Schema → List Region → ℕ → Type 0
+IsClosedTable untold schema regions next = Unit {0}
+IsClosedTable (pages all) schema regions next = (placed : List Placed) × AreSoundPages all schema placed next × (regions_in placed ≡ regions)
+IsClosedTable _ schema regions next = ⊥
+
+-- what a path holds is the pages of a closed table of this older version
+abbrev pub IsOldTable : Held → ℕ → Schema → List Placed → ℕ → Type 0
+IsOldTable (pages all) version schema placed next = AreOldPages version all schema placed next
+IsOldTable _ version schema placed next = ⊥
+
+-- where a closed table of an older version was made anew, and all was done, the new table file is a closed table with the same schema,
+-- regions, rows and next number
+abbrev pub UpgradedTablesAreTheSame : Type 0
+UpgradedTablesAreTheSame =
+    (source table : List ℕ) (old new : FilesFacts) (out out_now : OutFacts) (version next : ℕ) (schema : Schema) (placed : List Placed)
+    → IsTrue old.honest → IsOldTable (old.holds source) version schema placed next → UpgradesFile source table old new out out_now Done
+    → IsClosedTable (new.holds table) schema (regions_in placed) next
 
 -- a fault ended a statement of a script after the first ones, and the table that stood there is left so; or memory was refused before
 -- them all

@@ -1,5 +1,6 @@
 pub mod Status
 pub mod Ending
 pub mod Commands
+pub mod Upgrading
 pub mod Ran
 pub mod Laws

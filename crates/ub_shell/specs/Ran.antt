@@ -1,9 +1,10 @@
 -- How a command of the program has ended, by what its words ask for.
 use Rattle.std.specs.Prelude.{◌≡◌, ◌⊎◌, ℕ, List, Result, codes}
 use Rattle.ub_words.specs.Asked.{AreLines}
-use Rattle.ub_words.specs.CommandLine.{AsksHelp, AsksLoad, AsksNext, AsksNothing, AsksRun, AsksTry}
+use Rattle.ub_words.specs.CommandLine.{AsksHelp, AsksLoad, AsksNext, AsksNothing, AsksRun, AsksTry, AsksUpgrade}
 use Rattle.ub_shell.specs.Commands.{LoadsFile, RunsFile, TriesFiles}
 use Rattle.ub_shell.specs.Ending.{Tells, words_fault_status, words_fault_text}
+use Rattle.ub_shell.specs.Upgrading.{UpgradesFile}
 use Rattle.ub_shell.specs.Status.{answer_status}
 use Rattle.ub_script.specs.Output.{OutFacts}
 use Rattle.ub_table.specs.declared.axes.Axes.{Axes}
@@ -53,6 +54,13 @@ pub record HasRunFile (words : List (List ℕ)) (old new : FilesFacts) (out out_
   pub asks : AsksRun words table script
   pub runs : RunsFile table script old new out out_now status
 
+-- the words ask for a table file of an older version to be made anew
+pub record HasUpgradedFile (words : List (List ℕ)) (old new : FilesFacts) (out out_now : OutFacts) (status : Status) : Type 0 where
+  pub source : List ℕ
+  pub table : List ℕ
+  pub asks : AsksUpgrade words source table
+  pub upgrades : UpgradesFile source table old new out out_now status
+
 -- the words ask for the help or the version, and are told lines
 pub record HasHelped (words : List (List ℕ)) (old new : FilesFacts) (out out_now : OutFacts) (status : Status) : Type 0 where
   pub asks : AsksHelp words
@@ -78,7 +86,8 @@ pub record HasNoMemory (old new : FilesFacts) (out out_now : OutFacts) (status :
 abbrev pub HasEnded : List (List ℕ) → FilesFacts → FilesFacts → OutFacts → OutFacts → Status → Type 0
 HasEnded words old new out out_now status =
     HasLoadedFile words old new out out_now status ⊎ (HasRunFile words old new out out_now status ⊎ (HasTriedFiles words old new out out_now status
-    ⊎ (HasFound words old new out out_now status ⊎ (HasHelped words old new out out_now status ⊎ (HasRefused words old new out out_now status ⊎ HasNoMemory old new out out_now status)))))
+    ⊎ (HasUpgradedFile words old new out out_now status ⊎ (HasFound words old new out out_now status ⊎ (HasHelped words old new out out_now status
+    ⊎ (HasRefused words old new out out_now status ⊎ HasNoMemory old new out out_now status))))))
 
 -- the words weren't read, which is told
 abbrev pub HasNotRead : WordsFault → FilesFacts → FilesFacts → OutFacts → OutFacts → Status → Type 0

@@ -8,6 +8,7 @@ use crate::next::tell_next;
 use crate::running::run_file;
 use crate::status::{Status, tell, tell_memory};
 use crate::trial::try_files;
+use crate::upgrading::upgrade_file;
 use std::alloc::Global;
 use ub_files::Files;
 use ub_script::Out;
@@ -17,7 +18,7 @@ use ub_words::{Asked, read_words};
 /// `out`. The result is the status with which the program ends: 0 all was done, 1 a statement was refused, 2 the
 /// command line was, 3 the data were, 4 a file or the output failed, 5 memory was refused. After a fault the last line
 /// tells it, but for a failed write, after which nothing is written. Where the words ask for the help, only the help is
-/// written. A table file that was opened or made is put back, and none is made before the table to be loaded stands in memory.
+/// written. A table file that was opened or made is put back, and none is made before its table stands in memory.
 pub fn command<F: Files, W: Out>(alloc: Global, files: &mut F, words: &[String], out: &mut W) -> u8
     ensures { (status : Status) × (result ≡ status_code status)
         × HasEnded (map string_bytes words.now) (F.facts files.old) (F.facts files.new)
@@ -40,6 +41,7 @@ fn run_words<F: Files, W: Out>(
         Ok(Asked::Load(asked)) => load_file(alloc, files, asked, out),
         Ok(Asked::Run(asked)) => run_file(alloc, files, asked, out),
         Ok(Asked::Try(asked)) => try_files(alloc, files, asked, out),
+        Ok(Asked::Upgrade(asked)) => upgrade_file(alloc, files, asked, out),
         Ok(Asked::Next(asked)) => tell_next(alloc, asked.low, asked.high, asked.address, out),
         Ok(Asked::Help(text)) => tell(out, text.as_slice(), Status::Done),
         Ok(Asked::Wrong(text)) => tell(out, text.as_slice(), Status::CommandLine),

@@ -1,4 +1,4 @@
-ghost use Rattle.ub_shell.specs.Laws.{AskingLeavesTheTable, OnlyHelpIsWritten, UnchangedTablesAreLeft, WhatWasDoneStands, WrongWordsAreTold};
+ghost use Rattle.ub_shell.specs.Laws.{AskingLeavesTheTable, OnlyHelpIsWritten, UnchangedTablesAreLeft, UpgradedTablesAreTheSame, UpgradingLeavesTheOldTable, WhatWasDoneStands, WrongWordsAreTold};
 
 // Each function here does nothing, and its clause is a law of the definitions in specs/.
 
@@ -16,6 +16,18 @@ pub fn wrong_words_are_told()
 /// ended.
 pub fn asking_leaves_the_table()
     ensures { AskingLeavesTheTable }
+{}
+
+/// A table file of an older version is as it was, page for page, whatever it is and however making it anew at another path has
+/// ended.
+pub fn upgrading_leaves_the_old_table()
+    ensures { UpgradingLeavesTheOldTable }
+{}
+
+/// Where a closed table of an older version was made anew, and all was done, the new table file is a closed table with the same
+/// schema, regions, rows and next number.
+pub fn upgraded_tables_are_the_same()
+    ensures { UpgradedTablesAreTheSame }
 {}
 
 /// Where a script was run on a closed table, and the closing after it wasn't refused, a closed table is left, which stands where

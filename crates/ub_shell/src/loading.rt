@@ -1,24 +1,17 @@
-ghost use Rattle.std.specs.Prelude.{◌≡◌, ◌≤◌, ◌↔◌, ◌⊎◌, length, IsTrue, IfOk, IfErr};
-ghost use Rattle.ub_shell.specs.Commands.{axes_asked, loaded_line, IsFileOf, IsTable, IsUnkept, IsUnloaded, KeepsText, LoadsFile, WritesFile};
+ghost use Rattle.std.specs.Prelude.{IfOk, IfErr};
+ghost use Rattle.ub_shell.specs.Commands.{axes_asked, IsFileOf, IsTable, IsUnkept, IsUnloaded, KeepsText, LoadsFile};
 ghost use Rattle.ub_table.specs.Schema.{AreTableNumbers, IsMask};
 
-use crate::line::{Line, twice_numbered_line};
+use crate::making::{Counts, counts_line, is_same, write_pages};
 use crate::status::{Status, tell, tell_line, tell_load_fault, tell_store_fault};
 use std::alloc::Global;
-use ub_files::{Files, copy_pages};
+use ub_files::Files;
 use ub_load::{LoadFault, load};
 use ub_script::Out;
-use ub_store::{MemStore, StoreFault};
+use ub_store::MemStore;
 use ub_table::schema::is_mask;
 use ub_tree::TreeFault;
 use ub_words::LoadWords;
-
-// What is told of a table that was loaded.
-#[derive(Clone, Copy, PartialEq, Eq, Debug)]
-struct Counts {
-    rows: u32,
-    regions: u32,
-}
 
 // A table that was loaded, closed in memory.
 #[derive(Drop)]
@@ -54,13 +47,6 @@ pub fn load_file<F: Files, W: Out>(
         Ok(text) => keep_text(alloc, files, text.as_slice(), asked, out),
         Err(fault) => tell_store_fault(fault, out),
     }
-}
-
-// Whether both paths are the same text.
-fn is_same(path: &str, other: &str) -> bool
-    ensures { IsTrue result ↔ (path.now ≡ other.now) }
-{
-    path == other
 }
 
 // Keeps the table of a text in the table file, and tells how many rows and regions it has, or why it isn't kept.
@@ -134,24 +120,4 @@ fn load_pages(alloc: Global, text: &[u8], asked: LoadWords<'_>) -> Result<Loaded
         Ok(store) => Ok(Loaded { store, counts }),
         Err(refused) => Err(LoadFault::from(refused.fault)),
     }
-}
-
-// Makes the table file anew, with these pages.
-fn write_pages<F: Files>(files: &mut F, path: &str, pages: &mut MemStore) -> Result<(), StoreFault>
-    requires some { 1 ≤ length pages.old }
-    ensures faults { IfErr result (λ fault.
-        (fault ≡ StoreFault.Device) ⊎ (fault ≡ StoreFault.Memory)) }
-    ensures effect { WritesFile path.now pages.old (F.facts files.old) (F.facts files.new) result }
-{
-    let mut store = files.create(path)?;
-    let copied = copy_pages(pages, &mut store);
-    files.put_back(path, store);
-    copied
-}
-
-// The line for a table that was loaded.
-fn counts_line(counts: Counts) -> Line
-    ensures { result.bytes ≡ loaded_line counts.rows counts.regions }
-{
-    twice_numbered_line("-- rows ", counts.rows, ", regions ", counts.regions)
 }

@@ -1,6 +1,6 @@
 ghost use Rattle.std.specs.Prelude.{IfOk, codes};
 ghost use Rattle.clap.specs.Words.{App, Rule, with_rule, with_subcommand};
-ghost use Rattle.ub_words.specs.CommandLine.{IsArgFor, IsCommandFor, data_app, dims_rule, load_app, next_app, option_rule, page_rows_rule, run_app, signed_rule, try_app, ubq_app, word_rule};
+ghost use Rattle.ub_words.specs.CommandLine.{IsArgFor, IsCommandFor, data_app, dims_rule, load_app, next_app, option_rule, page_rows_rule, run_app, signed_rule, try_app, ubq_app, upgrade_app, word_rule};
 
 use clap::{Arg, Command, value_parser};
 use std::alloc::{AllocError, Global};
@@ -19,7 +19,7 @@ Status:
   0  all was done
   1  a statement was refused, and the others were run
   2  wrong arguments
-  3  a CSV file was refused, TABLE isn't a table file or is damaged, or it has no room for another row
+  3  a CSV file was refused, a table file is none or is damaged, or TABLE has no room for another row
   4  a file or the output failed
   5  memory was refused";
 
@@ -92,8 +92,8 @@ Status:
   0  all statements were answered
   1  a statement was refused, and the others were run
   2  wrong arguments
-  3  TABLE isn't a table file, is damaged, or was made by an older ubq, as ! OldFormat page 0: load its CSV file anew;
-     or it has no room for another row, as ! Full
+  3  TABLE isn't a table file, is damaged, or was made by an older ubq, as ! OldFormat page 0: ubq upgrade makes it
+     anew; or it has no room for another row, as ! Full
   4  a file or the output failed
   5  memory was refused";
 
@@ -110,6 +110,23 @@ Status:
   1  a statement was refused, and the others were run
   2  wrong arguments, DATA and SCRIPT are both standard input, or MASK names a dimension that isn't there, as ! BadMask
   3  DATA was refused, as ! BadNumber row 2 column 1; or the table has no room for another row, as ! Full
+  4  a file or the output failed
+  5  memory was refused";
+
+const UPGRADE_HELP: &str = "\
+Example:
+  ubq upgrade old.ub new.ub
+writes
+  -- rows 1000, regions 24
+
+OLD is a table file that an older ubq made, which ubq run refuses as ! OldFormat page 0. NEW gets its rows under their
+numbers, and goes on with the next one; none of its dimensions is signed. OLD is only read. It is read before NEW is
+touched; where OLD is refused NEW stays as it was. A table file of this version is refused, as ! WrongKind page 0.
+
+Status:
+  0  NEW holds the table of OLD
+  2  wrong arguments, or OLD and NEW are one path, as ! SameFile
+  3  OLD isn't a table file of an older version, or is damaged, as ! BadCount page 0
   4  a file or the output failed
   5  memory was refused";
 
@@ -255,6 +272,19 @@ fn try_command<'a>(alloc: Global) -> Making<'a>
     with_data(alloc, command, script_arg(alloc))
 }
 
+// The command `upgrade` as `clap` reads it.
+fn upgrade_command<'a>(alloc: Global) -> Making<'a>
+    ensures { IfOk result (IsCommandFor upgrade_app) }
+{
+    let old = "A table file that an older ubq made; it is left as it was";
+    let made = "The table file to make; what it held is lost";
+    let command = Command::new(alloc, "upgrade")
+        .about("Make a table file anew that an older ubq made")
+        .after_help(UPGRADE_HELP);
+    let command = with_arg(Ok(command), word_arg(alloc, "OLD", old));
+    with_arg(command, word_arg(alloc, "NEW", made))
+}
+
 // The command `next` as `clap` reads it.
 fn next_command<'a>(alloc: Global) -> Making<'a>
     ensures { IfOk result (IsCommandFor next_app) }
@@ -282,5 +312,6 @@ pub(crate) fn program<'a>(alloc: Global) -> Making<'a>
     let command = with_command(Ok(command), load_command(alloc));
     let command = with_command(command, run_command(alloc));
     let command = with_command(command, try_command(alloc));
+    let command = with_command(command, upgrade_command(alloc));
     with_command(command, next_command(alloc))
 }

@@ -1,6 +1,6 @@
 ghost use Rattle.std.specs.Prelude.{◌≡◌, ◌≤◌, ℕ, List, MatchOption, map, option_map, string_bytes};
 ghost use Rattle.clap.specs.Words.{first_of, found_of, rows_of, subcommand_rows_of};
-ghost use Rattle.ub_words.specs.CommandLine.{AreNextWords, IsDataGiven, IsLoadGiven, IsNextGiven, IsNumberGiven, IsRunGiven, IsTryGiven};
+ghost use Rattle.ub_words.specs.CommandLine.{AreNextWords, IsDataGiven, IsLoadGiven, IsNextGiven, IsNumberGiven, IsRunGiven, IsTryGiven, IsUpgradeGiven};
 
 use clap::ArgMatches;
 
@@ -42,6 +42,15 @@ pub struct RunWords<'a> {
     pub table: &'a str,
     /// The path of the script; `-` is standard input.
     pub script: &'a str,
+}
+
+/// What a command line says that asks for a table file of an older version to be made anew.
+#[derive(Clone, Copy)]
+pub struct UpgradeWords<'a> {
+    /// The path of the table file of an older version.
+    pub old: &'a str,
+    /// The path of the table file to make.
+    pub new: &'a str,
 }
 
 /// What a command line says that asks for the neighbours of an address in a box.
@@ -132,6 +141,18 @@ pub(crate) fn run_words<'a>(matches: &ArgMatches<'a>) -> Option<RunWords<'a>>
     Some(RunWords {
         table: text_given(matches, "TABLE")?,
         script: text_given(matches, "SCRIPT")?,
+    })
+}
+
+// What was given for the command `upgrade`.
+pub(crate) fn upgrade_words<'a>(matches: &ArgMatches<'a>) -> Option<UpgradeWords<'a>>
+    ensures { MatchOption result
+        ((old new : List ℕ) → ¬ (IsUpgradeGiven (rows_of (found_of matches.now)) old new))
+        (λ words. IsUpgradeGiven (rows_of (found_of matches.now)) words.old.now words.new.now) }
+{
+    Some(UpgradeWords {
+        old: text_given(matches, "OLD")?,
+        new: text_given(matches, "NEW")?,
     })
 }
 

@@ -5,8 +5,8 @@ ghost use Rattle.ub_words.specs.CommandLine.{AsksNothing, IsTaken, standard_inpu
 
 use crate::builder::program;
 use crate::given::{
-    LoadWords, NextWords, RunWords, TryWords, command_found, load_words, next_words, run_words,
-    three_after_next, try_words,
+    LoadWords, NextWords, RunWords, TryWords, UpgradeWords, command_found, load_words, next_words,
+    run_words, three_after_next, try_words, upgrade_words,
 };
 use clap::ArgMatches;
 use clap::error::ErrorKind;
@@ -24,6 +24,8 @@ pub enum Asked<'a> {
     Load(LoadWords<'a>),
     /// A run of a script on a table file.
     Run(RunWords<'a>),
+    /// A table file of an older version to be made anew.
+    Upgrade(UpgradeWords<'a>),
     /// The addresses of a box that are nearest to one.
     Next(NextWords<'a>),
     /// The help or the version: this is its text.
@@ -69,6 +71,8 @@ fn asked_by_command<'a>(
         asked_by_run(alloc, found)
     } else if name == "try" {
         asked_by_try(alloc, found)
+    } else if name == "upgrade" {
+        asked_by_upgrade(alloc, found)
     } else if name == "next" {
         asked_by_next(alloc, found)
     } else {
@@ -118,6 +122,17 @@ fn reads_input_twice(asked: &TryWords<'_>) -> bool
         × (asked.now.script.now ≡ standard_input)) }
 {
     asked.source.path == STANDARD_INPUT && asked.script == STANDARD_INPUT
+}
+
+// What words ask for that name the command `upgrade`.
+fn asked_by_upgrade<'a>(alloc: Global, found: &ArgMatches<'a>) -> Result<Asked<'a>, AllocError>
+    ensures { (words : List (List ℕ)) → IsTaken words (Some (codes "upgrade", rows_of (found_of found.now)))
+        → IfOk result (IsAskedBy words) }
+{
+    match upgrade_words(found) {
+        Some(asked) => Ok(Asked::Upgrade(asked)),
+        None => no_command(alloc),
+    }
 }
 
 // What words ask for that name the command `next`.
