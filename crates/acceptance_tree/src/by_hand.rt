@@ -1,7 +1,7 @@
 // The table of five rows on other pages, made by hand, byte for byte: its regions are on pages 1, 3 and 2, and the root of its index
 // is on page 4. It is opened, asked, changed, and closed, and the root stays there.
-use crate::samples::{Sheet, page_of, plane};
-use crate::trial::{Answer, DONE, NO_STEPS, Run, Step, all_go};
+use crate::samples::{Sheet, Table, page_of, schema_of};
+use crate::trial::{Answer, DONE, Run, Step, all_go};
 use ub_page::{Entry, Page};
 use ub_table::{Key, Row};
 
@@ -161,7 +161,7 @@ fn root_bytes() -> Page {
 
 // Whether the header and the root that are held against the store have these bytes.
 fn is_spelled() -> bool {
-    match plane() {
+    match schema_of(Table::Plane(2)) {
         Ok(schema) => {
             page_of(&schema, &HAND_MADE[0]) == header_bytes()
                 && page_of(&schema, &HAND_MADE[4]) == root_bytes()
@@ -170,9 +170,8 @@ fn is_spelled() -> bool {
     }
 }
 
-const STEPS: [(Step, Answer); 21] = [
-    (Step::Store(0, &HAND_MADE), DONE),
-    (Step::Open, DONE),
+const STEPS: [(Step, Answer); 20] = [
+    (Step::Stored(0, &HAND_MADE), DONE),
     (Step::Count, Ok([5, 3, 0, 0])),
     (Step::Walk, Ok([3, 0, 13, 3])),
     (Step::Span(0), Ok([0, 9, 1, 4])),
@@ -197,11 +196,12 @@ const STEPS: [(Step, Answer); 21] = [
 static RUNS: &[Run] = &[Run {
     shown: "a root on another page",
     first: &STEPS,
-    then: &NO_STEPS,
+    then: &[],
+    cases: &[],
 }];
 
 #[test]
 fn a_root_on_another_page_stays_there(rt: HostRuntime) {
     assert!(rt; is_spelled());
-    all_go(&rt, rt.alloc(), RUNS);
+    all_go(&rt, rt.alloc(), Table::Plane(2), RUNS);
 }

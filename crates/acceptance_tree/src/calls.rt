@@ -3,9 +3,8 @@
 // Each case is run over a store that fails at its first call, over one that fails at its second call, and so on, up to the
 // call after all that its steps make. So each step makes just the calls that stand beside it. After a failed read the same
 // step is answered as ever, and so are the others; after another failure the tree answers nothing any more.
-use crate::samples::{FIVE_ROWS, Sheet, plane_of};
-use crate::trial::{Answer, DEVICE, DONE, NOTHING, Step, Trial};
-use std::alloc::Global;
+use crate::samples::{FIVE_ROWS, Sheet, Table};
+use crate::trial::{Answer, DEVICE, DONE, NOTHING, Run, Step, Trial, all_go};
 use ub_page::Entry;
 use ub_table::Key;
 use ub_tree::TreeFault;
@@ -16,10 +15,10 @@ const FAILED: Answer = Err(TreeFault::Failed);
 
 // A step, what it answers, and the calls of the store that it makes, in order: `r` reads a page, `e` adds one, `w` writes one,
 // and `s` syncs. The runs tell reads and added pages from the others, and not a sync from a write.
-struct Made(Step, Answer, &'static [u8]);
+pub(crate) struct Made(Step, Answer, &'static [u8]);
 
-// Steps on the closed table that has these pages, four rows on a page. In the end it is closed.
-struct Case {
+// Steps on the closed table that has these pages. In the end it is closed.
+pub(crate) struct Case {
     sheets: &'static [Sheet],
     steps: &'static [Made],
 }
@@ -110,6 +109,14 @@ const TWO_LEVELS: [Sheet; 9] = [
         }],
     ),
 ];
+
+// Four rows on a page.
+static RUNS: &[Run] = &[Run {
+    shown: "calls with four rows on a page",
+    first: &[],
+    then: &[],
+    cases: &CASES,
+}];
 
 const CASES: [Case; 11] = [
     // Opening and reading.
@@ -304,6 +311,13 @@ const CASES: [Case; 11] = [
 
 // The closed table of five rows, two on a page: rows 1 and 4 in the first region, row 3 in the second, and rows 2 and 5 in the
 // third.
+static SMALL_RUNS: &[Run] = &[Run {
+    shown: "calls with two rows on a page",
+    first: &[],
+    then: &[],
+    cases: &SMALL,
+}];
+
 const SMALL: [Case; 3] = [
     // Both insertions find a full region.
     Case {
@@ -415,13 +429,14 @@ fn failed(told: [Answer; 3]) -> [Answer; 3] {
 // Whether a tree that had told this has failed: it tells the same, can begin anew, and answers nothing else, and closing it
 // hands the store back.
 fn is_stopped(trial: &mut Trial, before: [Answer; 3]) -> bool {
-    told(trial) == failed(before)
-        && is_refused(trial)
-        && told(trial) == failed(before)
-        && trial.answer(&Step::Begin) == DONE
-        && trial.answer(&Step::Trace) == DONE
-        && is_refused(trial)
-        && trial.answer(&Step::Close) == FAILED
+    let wanted = failed(before);
+    (told(trial) == wanted)
+        & is_refused(trial)
+        & (told(trial) == wanted)
+        & (trial.answer(&Step::Begin) == DONE)
+        & (trial.answer(&Step::Trace) == DONE)
+        & is_refused(trial)
+        & (trial.answer(&Step::Close) == FAILED)
 }
 
 // Whether all is left as it should be by a step that wrote, added or synced a page and failed: where it was the closing, the
@@ -442,7 +457,7 @@ fn has_pages(trial: &mut Trial, pages: usize) -> bool {
 // Whether a case goes so over a store of which so many calls go well, and the next one fails.
 fn goes_over(trial: &mut Trial, case: &Case, good: usize) -> bool {
     let k = (good as u64).saturating_add(1);
-    if trial.answer(&Step::Store(k, case.sheets)) != DONE {
+    if trial.take_store(k, case.sheets) != DONE {
         return false;
     }
     let mut left = good;
@@ -482,7 +497,7 @@ fn goes(trial: &mut Trial, case: &Case) -> bool {
 }
 
 // How many of these cases go so, up to the first that doesn't.
-fn count_right(trial: &mut Trial, cases: &[Case]) -> usize {
+pub(crate) fn count_cases(trial: &mut Trial, cases: &[Case]) -> usize {
     for (i, case) in cases.iter().enumerate() {
         if !goes(trial, case) {
             return i;
@@ -491,25 +506,8 @@ fn count_right(trial: &mut Trial, cases: &[Case]) -> usize {
     cases.len()
 }
 
-// How many of these cases of tables with so many rows on a page go so, up to the first that doesn't.
-fn cases_right(alloc: Global, page_rows: u32, cases: &[Case]) -> usize {
-    let Ok(schema) = plane_of(page_rows) else {
-        return 0;
-    };
-    let mut trial = Trial::new(alloc, schema);
-    count_right(&mut trial, cases)
-}
-
-// How many rows stand on a page, and the cases of such tables.
-static TABLES: &[(u32, &[Case])] = &[(4, &CASES), (2, &SMALL)];
-
 #[test]
 fn each_call_of_a_tree_makes_so_many_of_its_store(rt: HostRuntime) {
-    for (page_rows, cases) in TABLES {
-        let right = cases_right(rt.alloc(), *page_rows, cases);
-        assert!(rt;
-            right == cases.len(),
-            "{right} cases with {page_rows} rows on a page were right"
-        );
-    }
+    all_go(&rt, rt.alloc(), Table::Plane(4), RUNS);
+    all_go(&rt, rt.alloc(), Table::Plane(2), SMALL_RUNS);
 }
