@@ -4,7 +4,7 @@
 // call after all that its steps make. So each step makes just the calls that stand beside it. After a failed read the same
 // step is answered as ever, and so are the others; after another failure the tree answers nothing any more.
 use crate::samples::{FIVE_ROWS, Sheet, Table};
-use crate::trial::{Answer, DEVICE, DONE, NOTHING, Run, Step, Trial, all_go};
+use crate::trial::{Answer, DEVICE, DONE, NOTHING, Run, Step, Trial, goes};
 use ub_page::Entry;
 use ub_table::Key;
 use ub_tree::TreeFault;
@@ -111,14 +111,7 @@ const TWO_LEVELS: [Sheet; 9] = [
 ];
 
 // Four rows on a page.
-static RUNS: &[Run] = &[Run {
-    shown: "calls with four rows on a page",
-    first: &[],
-    then: &[],
-    cases: &CASES,
-}];
-
-const CASES: [Case; 11] = [
+const CHANGES: [Case; 3] = [
     // Opening and reading.
     Case {
         sheets: &FIVE_REGIONS,
@@ -171,6 +164,9 @@ const CASES: [Case; 11] = [
             Made(Step::Close, DONE, b"sws"),
         ],
     },
+];
+
+const REMOVALS: [Case; 5] = [
     // Removals of a row that isn't there.
     Case {
         sheets: &FIVE_REGIONS,
@@ -231,6 +227,9 @@ const CASES: [Case; 11] = [
             Made(Step::Close, DONE, b"sws"),
         ],
     },
+];
+
+const LEVELS: [Case; 3] = [
     // An index of two levels, whose regions are all on page 1.
     Case {
         sheets: &[
@@ -311,13 +310,6 @@ const CASES: [Case; 11] = [
 
 // The closed table of five rows, two on a page: rows 1 and 4 in the first region, row 3 in the second, and rows 2 and 5 in the
 // third.
-static SMALL_RUNS: &[Run] = &[Run {
-    shown: "calls with two rows on a page",
-    first: &[],
-    then: &[],
-    cases: &SMALL,
-}];
-
 const SMALL: [Case; 3] = [
     // Both insertions find a full region.
     Case {
@@ -364,6 +356,34 @@ const SMALL: [Case; 3] = [
         ],
     },
 ];
+
+static OF_CHANGES: Run = Run {
+    shown: "calls of readers and of insertions",
+    first: &[],
+    then: &[],
+    cases: &CHANGES,
+};
+
+static OF_REMOVALS: Run = Run {
+    shown: "calls of removals",
+    first: &[],
+    then: &[],
+    cases: &REMOVALS,
+};
+
+static OF_LEVELS: Run = Run {
+    shown: "calls with an index of two levels",
+    first: &[],
+    then: &[],
+    cases: &LEVELS,
+};
+
+static OF_TWO: Run = Run {
+    shown: "calls with two rows on a page",
+    first: &[],
+    then: &[],
+    cases: &SMALL,
+};
 
 // How many calls of the store the steps make.
 fn count_calls(steps: &[Made]) -> usize {
@@ -415,15 +435,13 @@ fn told(trial: &mut Trial) -> [Answer; 3] {
     ]
 }
 
-// How many rows and regions the same tree counts once it has failed.
-fn counted_failed(count: Answer) -> Answer {
-    let numbers = count?;
-    Ok([numbers[0], numbers[1], 1, 0])
-}
-
 // What the readers tell of the same tree once it has failed.
 fn failed(told: [Answer; 3]) -> [Answer; 3] {
-    [counted_failed(told[0]), told[1], told[2]]
+    let count = match told[0] {
+        Ok(numbers) => Ok([numbers[0], numbers[1], 1, 0]),
+        Err(fault) => Err(fault),
+    };
+    [count, told[1], told[2]]
 }
 
 // Whether a tree that had told this has failed: it tells the same, can begin anew, and answers nothing else, and closing it
@@ -487,7 +505,7 @@ fn goes_over(trial: &mut Trial, case: &Case, good: usize) -> bool {
 }
 
 // Whether a case goes so wherever its store fails, and where it doesn't.
-fn goes(trial: &mut Trial, case: &Case) -> bool {
+fn is_so(trial: &mut Trial, case: &Case) -> bool {
     for good in 0..=count_calls(case.steps) {
         if !goes_over(trial, case, good) {
             return false;
@@ -499,7 +517,7 @@ fn goes(trial: &mut Trial, case: &Case) -> bool {
 // How many of these cases go so, up to the first that doesn't.
 pub(crate) fn count_cases(trial: &mut Trial, cases: &[Case]) -> usize {
     for (i, case) in cases.iter().enumerate() {
-        if !goes(trial, case) {
+        if !is_so(trial, case) {
             return i;
         }
     }
@@ -508,6 +526,9 @@ pub(crate) fn count_cases(trial: &mut Trial, cases: &[Case]) -> usize {
 
 #[test]
 fn each_call_of_a_tree_makes_so_many_of_its_store(rt: HostRuntime) {
-    all_go(&rt, rt.alloc(), Table::Plane(4), RUNS);
-    all_go(&rt, rt.alloc(), Table::Plane(2), SMALL_RUNS);
+    let alloc = rt.alloc();
+    goes(&rt, alloc, Table::Plane(4), &OF_CHANGES);
+    goes(&rt, alloc, Table::Plane(4), &OF_REMOVALS);
+    goes(&rt, alloc, Table::Plane(4), &OF_LEVELS);
+    goes(&rt, alloc, Table::Plane(2), &OF_TWO);
 }

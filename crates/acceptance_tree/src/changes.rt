@@ -1,6 +1,6 @@
 // Tables that are made, changed and closed, and stores that fail at one of the calls.
 use crate::samples::{FIVE_ROWS, NO_ROWS, Sheet, Table};
-use crate::trial::{Answer, DEVICE, DONE, NO_PAGE, NOTHING, Run, Step, UNCLEAN, YES, all_go};
+use crate::trial::{Answer, DEVICE, DONE, NO_PAGE, NOTHING, Run, Step, UNCLEAN, YES, goes};
 use ub_page::Entry;
 use ub_table::{Key, PageFault};
 use ub_tree::TreeFault;
@@ -170,64 +170,79 @@ const RETRIED: [(Step, Answer); 8] = [
     (Step::Count, Ok([6, 4, 0, 0])),
 ];
 
-static RUNS: &[Run] = &[
-    Run {
-        shown: "puts rows into regions",
-        first: &PUT_ROWS,
-        then: &SPANS,
-        cases: &[],
-    },
-    Run {
-        shown: "regions that share an address both meet",
-        first: &SHARED,
-        then: &[],
-        cases: &[],
-    },
-    Run {
-        shown: "takes rows out",
-        first: &PUT_ROWS,
-        then: &REMOVALS,
-        cases: &[],
-    },
-    Run {
-        shown: "closes tables",
-        first: &CLOSED_EMPTY,
-        then: &[],
-        cases: &[],
-    },
-    Run {
-        shown: "closes tables",
-        first: &PUT_ROWS,
-        then: &CLOSED,
-        cases: &[],
-    },
-    Run {
-        shown: "creation and closing fail",
-        first: &FAILING,
-        then: &[],
-        cases: &[],
-    },
-    Run {
-        shown: "a changed table stays unclean until it is closed",
-        first: &CHANGED,
-        then: &CLOSINGS,
-        cases: &[],
-    },
-    Run {
-        shown: "no row is taken where no number is left",
-        first: &FULL,
-        then: &[],
-        cases: &[],
-    },
-    Run {
-        shown: "the first call after opening fails",
-        first: &RETRIED,
-        then: &[],
-        cases: &[],
-    },
-];
+static PUTS: Run = Run {
+    shown: "puts rows into regions",
+    first: &PUT_ROWS,
+    then: &SPANS,
+    cases: &[],
+};
+
+static BOTH_MEET: Run = Run {
+    shown: "regions that share an address both meet",
+    first: &SHARED,
+    then: &[],
+    cases: &[],
+};
+
+static TAKEN: Run = Run {
+    shown: "takes rows out",
+    first: &PUT_ROWS,
+    then: &REMOVALS,
+    cases: &[],
+};
+
+static EMPTY: Run = Run {
+    shown: "closes tables",
+    first: &CLOSED_EMPTY,
+    then: &[],
+    cases: &[],
+};
+
+static FIVE: Run = Run {
+    shown: "closes tables",
+    first: &PUT_ROWS,
+    then: &CLOSED,
+    cases: &[],
+};
+
+static ENDED: Run = Run {
+    shown: "creation and closing fail",
+    first: &FAILING,
+    then: &[],
+    cases: &[],
+};
+
+static STILL_UNCLEAN: Run = Run {
+    shown: "a changed table stays unclean until it is closed",
+    first: &CHANGED,
+    then: &CLOSINGS,
+    cases: &[],
+};
+
+static NO_NUMBER_LEFT: Run = Run {
+    shown: "no row is taken where no number is left",
+    first: &FULL,
+    then: &[],
+    cases: &[],
+};
+
+static AGAIN: Run = Run {
+    shown: "the first call after opening fails",
+    first: &RETRIED,
+    then: &[],
+    cases: &[],
+};
 
 #[test]
 fn tables_change_and_fail(rt: HostRuntime) {
-    all_go(&rt, rt.alloc(), Table::Plane(2), RUNS);
+    let alloc = rt.alloc();
+    goes(&rt, alloc, Table::Plane(2), &PUTS);
+    goes(&rt, alloc, Table::Plane(2), &BOTH_MEET);
+    goes(&rt, alloc, Table::Plane(2), &TAKEN);
+    goes(&rt, alloc, Table::Plane(2), &EMPTY);
+    goes(&rt, alloc, Table::Plane(2), &FIVE);
+    goes(&rt, alloc, Table::Plane(2), &ENDED);
+    goes(&rt, alloc, Table::Plane(2), &STILL_UNCLEAN);
+    goes(&rt, alloc, Table::Plane(2), &NO_NUMBER_LEFT);
+    goes(&rt, alloc, Table::Plane(2), &AGAIN);
 }

@@ -1,7 +1,7 @@
 // Rows deleted from the closed table of five rows, two on a page: its regions span 0 to 9 (rows 1 and 4), on page 1, 10 to 12 (row
 // 3), on page 4, and 13 to the last address (rows 2 and 5), on page 3.
 use crate::samples::{FIVE_ROWS, NO_ROWS, Table};
-use crate::trial::{Answer, DEVICE, DONE, Run, Step, all_go};
+use crate::trial::{Answer, DEVICE, DONE, Run, Step, goes};
 use ub_tree::TreeFault;
 
 const LAST: u128 = 18_446_744_073_709_551_615;
@@ -106,30 +106,33 @@ const WRITES_FAIL: [(Step, Answer); 32] = [
     (Step::Delete(None), FAILED),
 ];
 
-static RUNS: &[Run] = &[
-    Run {
-        shown: "takes the selected rows out",
-        first: &OF_TWO,
-        then: &OF_ALL,
-        cases: &[],
-    },
-    Run {
-        shown: "no row leaves the table unmarked",
-        first: &OF_NONE,
-        then: &OF_AN_EMPTY_TABLE,
-        cases: &[],
-    },
-    Run {
-        shown: "ends where the store fails",
-        first: &READS_FAIL,
-        then: &WRITES_FAIL,
-        cases: &[],
-    },
-];
+static ROWS: Run = Run {
+    shown: "takes the selected rows out",
+    first: &OF_TWO,
+    then: &OF_ALL,
+    cases: &[],
+};
+
+static NO_ROW: Run = Run {
+    shown: "no row leaves the table unmarked",
+    first: &OF_NONE,
+    then: &OF_AN_EMPTY_TABLE,
+    cases: &[],
+};
+
+static FAULTS: Run = Run {
+    shown: "ends where the store fails",
+    first: &READS_FAIL,
+    then: &WRITES_FAIL,
+    cases: &[],
+};
 
 #[test]
 fn takes_the_selected_rows_out(rt: HostRuntime) {
-    all_go(&rt, rt.alloc(), Table::Plane(2), RUNS);
+    let alloc = rt.alloc();
+    goes(&rt, alloc, Table::Plane(2), &ROWS);
+    goes(&rt, alloc, Table::Plane(2), &NO_ROW);
+    goes(&rt, alloc, Table::Plane(2), &FAULTS);
 }
 
 // The closed table of 140 rows at (0,0), (1,0), .. (139,0), in 70 regions of two rows.
@@ -144,46 +147,49 @@ const LONG: [(Step, Answer); 4] = [
 // 73rd call reads the first region again, before row 1 is taken out; two calls mark the table and write the region; row 2 is its
 // last, and the 76th call reads the next region, which fits on its page. A deletion of all rows that fails there takes so many; and
 // the next one takes all others.
-static FAILED_READS: &[Run] = &[
-    Run {
-        shown: "call 72",
-        first: &LONG,
-        then: &[
-            (Step::Again(72), DONE),
-            (Step::Delete(None), DEVICE),
-            (Step::Count, Ok([140, 70, 0, 0])),
-            (Step::Delete(None), Ok([140, 0, 0, 0])),
-            (Step::Count, Ok([0, 1, 0, 0])),
-        ],
-        cases: &[],
-    },
-    Run {
-        shown: "call 73",
-        first: &LONG,
-        then: &[
-            (Step::Again(73), DONE),
-            (Step::Delete(None), DEVICE),
-            (Step::Count, Ok([140, 70, 0, 0])),
-            (Step::Delete(None), Ok([140, 0, 0, 0])),
-            (Step::Count, Ok([0, 1, 0, 0])),
-        ],
-        cases: &[],
-    },
-    Run {
-        shown: "call 76",
-        first: &LONG,
-        then: &[
-            (Step::Again(76), DONE),
-            (Step::Delete(None), DEVICE),
-            (Step::Count, Ok([139, 70, 0, 0])),
-            (Step::Delete(None), Ok([139, 0, 0, 0])),
-            (Step::Count, Ok([0, 1, 0, 0])),
-        ],
-        cases: &[],
-    },
-];
+static AT_72: Run = Run {
+    shown: "call 72",
+    first: &LONG,
+    then: &[
+        (Step::Again(72), DONE),
+        (Step::Delete(None), DEVICE),
+        (Step::Count, Ok([140, 70, 0, 0])),
+        (Step::Delete(None), Ok([140, 0, 0, 0])),
+        (Step::Count, Ok([0, 1, 0, 0])),
+    ],
+    cases: &[],
+};
+
+static AT_73: Run = Run {
+    shown: "call 73",
+    first: &LONG,
+    then: &[
+        (Step::Again(73), DONE),
+        (Step::Delete(None), DEVICE),
+        (Step::Count, Ok([140, 70, 0, 0])),
+        (Step::Delete(None), Ok([140, 0, 0, 0])),
+        (Step::Count, Ok([0, 1, 0, 0])),
+    ],
+    cases: &[],
+};
+
+static AT_76: Run = Run {
+    shown: "call 76",
+    first: &LONG,
+    then: &[
+        (Step::Again(76), DONE),
+        (Step::Delete(None), DEVICE),
+        (Step::Count, Ok([139, 70, 0, 0])),
+        (Step::Delete(None), Ok([139, 0, 0, 0])),
+        (Step::Count, Ok([0, 1, 0, 0])),
+    ],
+    cases: &[],
+};
 
 #[test]
 fn the_first_rows_are_gone_where_a_read_fails(rt: HostRuntime) {
-    all_go(&rt, rt.alloc(), Table::Plane(2), FAILED_READS);
+    let alloc = rt.alloc();
+    goes(&rt, alloc, Table::Plane(2), &AT_72);
+    goes(&rt, alloc, Table::Plane(2), &AT_73);
+    goes(&rt, alloc, Table::Plane(2), &AT_76);
 }

@@ -6,7 +6,7 @@
 // regions fall into the right half, which then has 114.
 use crate::plans::{Ask, Work};
 use crate::samples::Table;
-use crate::trial::{Answer, DEVICE, DONE, Run, Step, YES, all_go};
+use crate::trial::{Answer, DEVICE, DONE, Run, Step, YES, goes};
 
 // The closed table.
 const MADE: [(Step, Answer); 4] = [
@@ -23,54 +23,66 @@ const ENDS: [(Step, Answer); 26] = [
     (Step::Again(1), DEVICE),
     (Step::Again(2), DEVICE),
     (Step::Again(3), DONE),
-    (Step::Plan(Ask::With(None), Work::Execute(&[])), DEVICE),
+    (
+        Step::Plan(Some(Ask::With(None)), Work::Execute(&[])),
+        DEVICE,
+    ),
     (Step::Close, DONE),
     (Step::Again(204), DONE),
-    (Step::Plan(Ask::With(None), Work::Execute(&[])), DEVICE),
+    (
+        Step::Plan(Some(Ask::With(None)), Work::Execute(&[])),
+        DEVICE,
+    ),
     (Step::Close, DONE),
     (Step::Again(205), DONE),
     (
-        Step::Plan(Ask::With(None), Work::Execute(&[])),
+        Step::Plan(Some(Ask::With(None)), Work::Execute(&[])),
         Ok([200, 400, 0, 0]),
     ),
     (Step::Close, DONE),
     (Step::Again(210), DONE),
     (
-        Step::Plan(Ask::With(None), Work::Execute(&[])),
+        Step::Plan(Some(Ask::With(None)), Work::Execute(&[])),
         Ok([200, 400, 0, 0]),
     ),
     (Step::Close, DONE),
     // The query of one point reads the page of the index on its way, and the region.
     (Step::Again(3), DONE),
-    (Step::Plan(Ask::With(Some(0)), Work::Execute(&[])), DEVICE),
+    (
+        Step::Plan(Some(Ask::With(Some(0))), Work::Execute(&[])),
+        DEVICE,
+    ),
     (Step::Close, DONE),
     (Step::Again(4), DONE),
-    (Step::Plan(Ask::With(Some(0)), Work::Execute(&[])), DEVICE),
+    (
+        Step::Plan(Some(Ask::With(Some(0))), Work::Execute(&[])),
+        DEVICE,
+    ),
     (Step::Close, DONE),
     (Step::Again(5), DONE),
     (
-        Step::Plan(Ask::With(Some(0)), Work::Execute(&[])),
+        Step::Plan(Some(Ask::With(Some(0))), Work::Execute(&[])),
         Ok([1, 1, 0, 0]),
     ),
     (Step::Close, DONE),
     (Step::Again(10), DONE),
     (
-        Step::Plan(Ask::With(Some(0)), Work::Execute(&[])),
+        Step::Plan(Some(Ask::With(Some(0))), Work::Execute(&[])),
         Ok([1, 1, 0, 0]),
     ),
     (Step::Close, DONE),
 ];
 
-static RUNS: &[Run] = &[Run {
+static QUERIES: Run = Run {
     shown: "queries read what they need",
     first: &MADE,
     then: &ENDS,
     cases: &[],
-}];
+};
 
 #[test]
 fn queries_of_all_rows_and_of_a_point_read_what_they_need(rt: HostRuntime) {
-    all_go(&rt, rt.alloc(), Table::Line, RUNS);
+    goes(&rt, rt.alloc(), Table::Line, &QUERIES);
 }
 
 // The store of the closed table has 204 pages, and the header and the pages of the index begin as they should: the next number is
@@ -112,14 +124,14 @@ const LEVELS: [(Step, Answer); 17] = [
     (Step::Bytes(2, 40, &[0; 4056]), YES),
 ];
 
-static LEVEL_RUNS: &[Run] = &[Run {
+static COMES_AND_GOES: Run = Run {
     shown: "a level comes and goes",
     first: &MADE,
     then: &LEVELS,
     cases: &[],
-}];
+};
 
 #[test]
 fn a_level_comes_and_goes(rt: HostRuntime) {
-    all_go(&rt, rt.alloc(), Table::Line, LEVEL_RUNS);
+    goes(&rt, rt.alloc(), Table::Line, &COMES_AND_GOES);
 }

@@ -1,6 +1,6 @@
 // Tables that are opened, from pages written by hand.
 use crate::samples::{Sheet, Table};
-use crate::trial::{Answer, DONE, NO_PAGE, NOTHING, Run, Step, UNCLEAN, all_go};
+use crate::trial::{Answer, DONE, NO_PAGE, NOTHING, Run, Step, UNCLEAN, goes};
 use ub_page::Entry;
 use ub_table::{Key, PageFault, Row};
 use ub_tree::TreeFault;
@@ -607,34 +607,39 @@ const REFUSED_ROOTS: [(Step, Answer); 24] = [
     (Step::Count, NOTHING),
 ];
 
-static RUNS: &[Run] = &[
-    Run {
-        shown: "refuses rows and pages of regions",
-        first: &REFUSED_ROWS,
-        then: &ONE_PAGE,
-        cases: &[],
-    },
-    Run {
-        shown: "reads roots",
-        first: &ROOTS,
-        then: &[],
-        cases: &[],
-    },
-    Run {
-        shown: "refuses headers and roots",
-        first: &REFUSED_HEADERS,
-        then: &REFUSED_ROOTS,
-        cases: &[],
-    },
-    Run {
-        shown: "opens closed tables",
-        first: &OPENED,
-        then: &[],
-        cases: &[],
-    },
-];
+static ROWS: Run = Run {
+    shown: "refuses rows and pages of regions",
+    first: &REFUSED_ROWS,
+    then: &ONE_PAGE,
+    cases: &[],
+};
+
+static ROOT_PAGES: Run = Run {
+    shown: "reads roots",
+    first: &ROOTS,
+    then: &[],
+    cases: &[],
+};
+
+static HEADERS: Run = Run {
+    shown: "refuses headers and roots",
+    first: &REFUSED_HEADERS,
+    then: &REFUSED_ROOTS,
+    cases: &[],
+};
+
+static CLOSED: Run = Run {
+    shown: "opens closed tables",
+    first: &OPENED,
+    then: &[],
+    cases: &[],
+};
 
 #[test]
 fn tables_are_opened_and_refused(rt: HostRuntime) {
-    all_go(&rt, rt.alloc(), Table::Plane(2), RUNS);
+    let alloc = rt.alloc();
+    goes(&rt, alloc, Table::Plane(2), &ROWS);
+    goes(&rt, alloc, Table::Plane(2), &ROOT_PAGES);
+    goes(&rt, alloc, Table::Plane(2), &HEADERS);
+    goes(&rt, alloc, Table::Plane(2), &CLOSED);
 }

@@ -1,11 +1,11 @@
 // Plans, and what is done by them over a tree.
-ghost use Rattle.std.specs.Prelude.{◌≡◌, ℕ, None, [], ◌∷◌, length, IfOk};
+ghost use Rattle.std.specs.Prelude.{◌≡◌, ℕ, None, [], ◌∷◌, length, IfOk, IsSome};
 ghost use Rattle.ub_query.specs.Posed.{IsPosed};
 ghost use Rattle.ub_query.specs.Shape.{asked};
 
-use crate::samples::{Store, Table, schema_of};
+use crate::samples::{Store, Table};
 use crate::sweep::{Turns, swept};
-use crate::trial::{Answer, NOTHING};
+use crate::trial::{Answer, DONE, NOTHING, Run, Step, YES, goes};
 use std::alloc::{AllocError, Global};
 use ub_exec::{Cells, ExecFault, delete, execute};
 use ub_plan::explain;
@@ -34,9 +34,8 @@ pub(crate) enum Work {
     Execute(&'static [i64]),
     // Explains it: 1 where the text has this line first, and then those of all rows in three regions.
     Explain(&'static str),
-    // Sweeps the rows, or the rows of each value: how many turns are these, and how many pages were fetched for them.
-    Rows(&'static Turns),
-    Values(&'static Turns),
+    // Sweeps by it: how many turns are these, and how many pages were fetched for them.
+    Sweep(&'static Turns),
 }
 
 // SELECT this item FROM t GROUP BY these columns ORDER BY these keys.
@@ -154,10 +153,13 @@ fn line_query(alloc: Global, ask: Ask) -> Result<Query, AllocError>
     }
 }
 
-// The query of a table of so many columns.
-fn query_of(alloc: Global, columns: usize, ask: Ask) -> Result<Query, AllocError>
-    ensures { IfOk result (λ q. IsPosed columns (asked q)) }
+// The query of a table of so many columns, or SELECT COUNT(*) FROM t ORDER BY x.
+fn query_of(alloc: Global, columns: usize, ask: Option<Ask>) -> Result<Query, AllocError>
+    ensures { IsSome ask → IfOk result (λ q. IsPosed columns (asked q)) }
 {
+    let Some(ask) = ask else {
+        return ordered(alloc, Item::Count, &[], &[by(0, false)]);
+    };
     match columns {
         1 => line_query(alloc, ask),
         3 => plane_query(alloc, ask),
@@ -180,11 +182,19 @@ fn planned(
     }
 }
 
-// What is answered where a plan of the query is carried out so, if there is one.
-pub(crate) fn by_plan(alloc: Global, tree: &mut Tree<Store>, ask: Ask, work: &Work) -> Answer {
+// What is answered where a plan of the query is carried out so, if there is one; without one, whether the other query is a scan.
+pub(crate) fn by_plan(
+    alloc: Global,
+    tree: &mut Tree<Store>,
+    ask: Option<Ask>,
+    work: &Work,
+) -> Answer {
     let columns = tree.schema().columns().len();
     match planned(alloc, tree.schema(), query_of(alloc, columns, ask)) {
-        Ok(plan) => carried_out(alloc, tree, columns, &plan, work),
+        Ok(plan) => match ask {
+            Some(_) => carried_out(alloc, tree, columns, &plan, work),
+            None => Ok([u128::from(matches!(plan.kind(), Kind::Scan)), 0, 0, 0]),
+        },
         Err(_) => NOTHING,
     }
 }
@@ -211,8 +221,7 @@ fn carried_out(
         }
         Work::Execute(numbers) => executed(alloc, tree, plan, numbers),
         Work::Explain(first) => explained(alloc, tree, plan, first),
-        Work::Rows(turns) => swept(alloc, tree, columns, plan, turns, false),
-        Work::Values(turns) => swept(alloc, tree, columns, plan, turns, true),
+        Work::Sweep(turns) => swept(alloc, tree, columns, plan, turns),
     }
 }
 
@@ -275,21 +284,14 @@ fn is_explained(text: &[u8], first: &[u8], rest: &[u8]) -> bool {
     first.len() <= text.len() && text.starts_with(first) && &text[first.len()..] == rest
 }
 
-// Whether SELECT COUNT(*) FROM t ORDER BY x, which no statement asks, reads the regions in the order of their keys.
-fn is_scanned(alloc: Global, schema: &Schema) -> bool {
-    match planned(
-        alloc,
-        schema,
-        ordered(alloc, Item::Count, &[], &[by(0, false)]),
-    ) {
-        Ok(plan) => matches!(plan.kind(), Kind::Scan),
-        Err(_) => false,
-    }
-}
+static RUN: Run = Run {
+    shown: "a count is scanned",
+    first: &[(Step::Five(0), DONE), (Step::Plan(None, Work::Delete), YES)],
+    then: &[],
+    cases: &[],
+};
 
 #[test]
 fn a_count_is_scanned_in_any_order(rt: HostRuntime) {
-    assert!(rt;
-        matches!(schema_of(Table::Plane(2)), Ok(schema) if is_scanned(rt.alloc(), &schema))
-    );
+    goes(&rt, rt.alloc(), Table::Plane(2), &RUN);
 }

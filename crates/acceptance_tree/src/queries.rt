@@ -3,14 +3,14 @@
 // the fifth call are the query's, and a store that fails at its sixth one fails at no call.
 use crate::plans::{Ask, Work};
 use crate::samples::Table;
-use crate::trial::{Answer, DEVICE, DONE, Run, Step, YES, all_go};
+use crate::trial::{Answer, DEVICE, DONE, Run, Step, YES, goes};
 
 // A sweep, which comes to the last region first: SELECT m FROM t ORDER BY x DESC, m. The regions are on the pages 3, 4 and 1.
 const SWEEP: [(Step, Answer); 26] = [
     (Step::Five(3), DONE),
     (
         Step::Plan(
-            Ask::Rows((0, true), (2, false)),
+            Some(Ask::Rows((0, true), (2, false))),
             Work::Execute(&[5, 1, 20, 10, 7]),
         ),
         DEVICE,
@@ -18,28 +18,28 @@ const SWEEP: [(Step, Answer); 26] = [
     (Step::Trace, Ok([1, 3, 0, 0])),
     (
         Step::Plan(
-            Ask::Rows((0, true), (2, false)),
+            Some(Ask::Rows((0, true), (2, false))),
             Work::Explain("plan sweep x desc\n"),
         ),
         YES,
     ),
     (
         Step::Plan(
-            Ask::Rows((0, true), (2, false)),
+            Some(Ask::Rows((0, true), (2, false))),
             Work::Execute(&[5, 1, 20, 10, 7]),
         ),
         Ok([3, 5, 5, 0]),
     ),
     (
         Step::Plan(
-            Ask::Rows((0, true), (2, false)),
+            Some(Ask::Rows((0, true), (2, false))),
             Work::Explain("plan sweep x desc\n"),
         ),
         YES,
     ),
     (
         Step::Plan(
-            Ask::Rows((0, true), (2, false)),
+            Some(Ask::Rows((0, true), (2, false))),
             Work::Execute(&[5, 1, 20, 10, 7]),
         ),
         Ok([3, 5, 5, 0]),
@@ -47,7 +47,7 @@ const SWEEP: [(Step, Answer); 26] = [
     (Step::Five(4), DONE),
     (
         Step::Plan(
-            Ask::Rows((0, true), (2, false)),
+            Some(Ask::Rows((0, true), (2, false))),
             Work::Execute(&[5, 1, 20, 10, 7]),
         ),
         DEVICE,
@@ -55,28 +55,28 @@ const SWEEP: [(Step, Answer); 26] = [
     (Step::Trace, Ok([2, 4, 0, 0])),
     (
         Step::Plan(
-            Ask::Rows((0, true), (2, false)),
+            Some(Ask::Rows((0, true), (2, false))),
             Work::Explain("plan sweep x desc\n"),
         ),
         YES,
     ),
     (
         Step::Plan(
-            Ask::Rows((0, true), (2, false)),
+            Some(Ask::Rows((0, true), (2, false))),
             Work::Execute(&[5, 1, 20, 10, 7]),
         ),
         Ok([3, 5, 5, 0]),
     ),
     (
         Step::Plan(
-            Ask::Rows((0, true), (2, false)),
+            Some(Ask::Rows((0, true), (2, false))),
             Work::Explain("plan sweep x desc\n"),
         ),
         YES,
     ),
     (
         Step::Plan(
-            Ask::Rows((0, true), (2, false)),
+            Some(Ask::Rows((0, true), (2, false))),
             Work::Execute(&[5, 1, 20, 10, 7]),
         ),
         Ok([3, 5, 5, 0]),
@@ -84,7 +84,7 @@ const SWEEP: [(Step, Answer); 26] = [
     (Step::Five(5), DONE),
     (
         Step::Plan(
-            Ask::Rows((0, true), (2, false)),
+            Some(Ask::Rows((0, true), (2, false))),
             Work::Execute(&[5, 1, 20, 10, 7]),
         ),
         DEVICE,
@@ -92,28 +92,28 @@ const SWEEP: [(Step, Answer); 26] = [
     (Step::Trace, Ok([3, 1, 0, 0])),
     (
         Step::Plan(
-            Ask::Rows((0, true), (2, false)),
+            Some(Ask::Rows((0, true), (2, false))),
             Work::Explain("plan sweep x desc\n"),
         ),
         YES,
     ),
     (
         Step::Plan(
-            Ask::Rows((0, true), (2, false)),
+            Some(Ask::Rows((0, true), (2, false))),
             Work::Execute(&[5, 1, 20, 10, 7]),
         ),
         Ok([3, 5, 5, 0]),
     ),
     (
         Step::Plan(
-            Ask::Rows((0, true), (2, false)),
+            Some(Ask::Rows((0, true), (2, false))),
             Work::Explain("plan sweep x desc\n"),
         ),
         YES,
     ),
     (
         Step::Plan(
-            Ask::Rows((0, true), (2, false)),
+            Some(Ask::Rows((0, true), (2, false))),
             Work::Execute(&[5, 1, 20, 10, 7]),
         ),
         Ok([3, 5, 5, 0]),
@@ -121,28 +121,28 @@ const SWEEP: [(Step, Answer); 26] = [
     (Step::Five(6), DONE),
     (
         Step::Plan(
-            Ask::Rows((0, true), (2, false)),
+            Some(Ask::Rows((0, true), (2, false))),
             Work::Explain("plan sweep x desc\n"),
         ),
         YES,
     ),
     (
         Step::Plan(
-            Ask::Rows((0, true), (2, false)),
+            Some(Ask::Rows((0, true), (2, false))),
             Work::Execute(&[5, 1, 20, 10, 7]),
         ),
         Ok([3, 5, 5, 0]),
     ),
     (
         Step::Plan(
-            Ask::Rows((0, true), (2, false)),
+            Some(Ask::Rows((0, true), (2, false))),
             Work::Explain("plan sweep x desc\n"),
         ),
         YES,
     ),
     (
         Step::Plan(
-            Ask::Rows((0, true), (2, false)),
+            Some(Ask::Rows((0, true), (2, false))),
             Work::Execute(&[5, 1, 20, 10, 7]),
         ),
         Ok([3, 5, 5, 0]),
@@ -154,7 +154,7 @@ const SCAN: [(Step, Answer); 26] = [
     (Step::Five(3), DONE),
     (
         Step::Plan(
-            Ask::Rows((2, false), (0, false)),
+            Some(Ask::Rows((2, false), (0, false))),
             Work::Execute(&[1, 5, 7, 10, 20]),
         ),
         DEVICE,
@@ -162,28 +162,28 @@ const SCAN: [(Step, Answer); 26] = [
     (Step::Trace, Ok([1, 1, 0, 0])),
     (
         Step::Plan(
-            Ask::Rows((2, false), (0, false)),
+            Some(Ask::Rows((2, false), (0, false))),
             Work::Explain("plan scan\n"),
         ),
         YES,
     ),
     (
         Step::Plan(
-            Ask::Rows((2, false), (0, false)),
+            Some(Ask::Rows((2, false), (0, false))),
             Work::Execute(&[1, 5, 7, 10, 20]),
         ),
         Ok([3, 5, 5, 0]),
     ),
     (
         Step::Plan(
-            Ask::Rows((2, false), (0, false)),
+            Some(Ask::Rows((2, false), (0, false))),
             Work::Explain("plan scan\n"),
         ),
         YES,
     ),
     (
         Step::Plan(
-            Ask::Rows((2, false), (0, false)),
+            Some(Ask::Rows((2, false), (0, false))),
             Work::Execute(&[1, 5, 7, 10, 20]),
         ),
         Ok([3, 5, 5, 0]),
@@ -191,7 +191,7 @@ const SCAN: [(Step, Answer); 26] = [
     (Step::Five(4), DONE),
     (
         Step::Plan(
-            Ask::Rows((2, false), (0, false)),
+            Some(Ask::Rows((2, false), (0, false))),
             Work::Execute(&[1, 5, 7, 10, 20]),
         ),
         DEVICE,
@@ -199,28 +199,28 @@ const SCAN: [(Step, Answer); 26] = [
     (Step::Trace, Ok([2, 4, 0, 0])),
     (
         Step::Plan(
-            Ask::Rows((2, false), (0, false)),
+            Some(Ask::Rows((2, false), (0, false))),
             Work::Explain("plan scan\n"),
         ),
         YES,
     ),
     (
         Step::Plan(
-            Ask::Rows((2, false), (0, false)),
+            Some(Ask::Rows((2, false), (0, false))),
             Work::Execute(&[1, 5, 7, 10, 20]),
         ),
         Ok([3, 5, 5, 0]),
     ),
     (
         Step::Plan(
-            Ask::Rows((2, false), (0, false)),
+            Some(Ask::Rows((2, false), (0, false))),
             Work::Explain("plan scan\n"),
         ),
         YES,
     ),
     (
         Step::Plan(
-            Ask::Rows((2, false), (0, false)),
+            Some(Ask::Rows((2, false), (0, false))),
             Work::Execute(&[1, 5, 7, 10, 20]),
         ),
         Ok([3, 5, 5, 0]),
@@ -228,7 +228,7 @@ const SCAN: [(Step, Answer); 26] = [
     (Step::Five(5), DONE),
     (
         Step::Plan(
-            Ask::Rows((2, false), (0, false)),
+            Some(Ask::Rows((2, false), (0, false))),
             Work::Execute(&[1, 5, 7, 10, 20]),
         ),
         DEVICE,
@@ -236,28 +236,28 @@ const SCAN: [(Step, Answer); 26] = [
     (Step::Trace, Ok([3, 3, 0, 0])),
     (
         Step::Plan(
-            Ask::Rows((2, false), (0, false)),
+            Some(Ask::Rows((2, false), (0, false))),
             Work::Explain("plan scan\n"),
         ),
         YES,
     ),
     (
         Step::Plan(
-            Ask::Rows((2, false), (0, false)),
+            Some(Ask::Rows((2, false), (0, false))),
             Work::Execute(&[1, 5, 7, 10, 20]),
         ),
         Ok([3, 5, 5, 0]),
     ),
     (
         Step::Plan(
-            Ask::Rows((2, false), (0, false)),
+            Some(Ask::Rows((2, false), (0, false))),
             Work::Explain("plan scan\n"),
         ),
         YES,
     ),
     (
         Step::Plan(
-            Ask::Rows((2, false), (0, false)),
+            Some(Ask::Rows((2, false), (0, false))),
             Work::Execute(&[1, 5, 7, 10, 20]),
         ),
         Ok([3, 5, 5, 0]),
@@ -265,50 +265,51 @@ const SCAN: [(Step, Answer); 26] = [
     (Step::Five(6), DONE),
     (
         Step::Plan(
-            Ask::Rows((2, false), (0, false)),
+            Some(Ask::Rows((2, false), (0, false))),
             Work::Explain("plan scan\n"),
         ),
         YES,
     ),
     (
         Step::Plan(
-            Ask::Rows((2, false), (0, false)),
+            Some(Ask::Rows((2, false), (0, false))),
             Work::Execute(&[1, 5, 7, 10, 20]),
         ),
         Ok([3, 5, 5, 0]),
     ),
     (
         Step::Plan(
-            Ask::Rows((2, false), (0, false)),
+            Some(Ask::Rows((2, false), (0, false))),
             Work::Explain("plan scan\n"),
         ),
         YES,
     ),
     (
         Step::Plan(
-            Ask::Rows((2, false), (0, false)),
+            Some(Ask::Rows((2, false), (0, false))),
             Work::Execute(&[1, 5, 7, 10, 20]),
         ),
         Ok([3, 5, 5, 0]),
     ),
 ];
 
-static RUNS: &[Run] = &[
-    Run {
-        shown: "a sweep is answered after a failed read",
-        first: &SWEEP,
-        then: &[],
-        cases: &[],
-    },
-    Run {
-        shown: "a scan is answered after a failed read",
-        first: &SCAN,
-        then: &[],
-        cases: &[],
-    },
-];
+static BY_SWEEP: Run = Run {
+    shown: "a sweep is answered after a failed read",
+    first: &SWEEP,
+    then: &[],
+    cases: &[],
+};
+
+static BY_SCAN: Run = Run {
+    shown: "a scan is answered after a failed read",
+    first: &SCAN,
+    then: &[],
+    cases: &[],
+};
 
 #[test]
 fn are_answered_after_a_failed_read(rt: HostRuntime) {
-    all_go(&rt, rt.alloc(), Table::Plane(2), RUNS);
+    let alloc = rt.alloc();
+    goes(&rt, alloc, Table::Plane(2), &BY_SWEEP);
+    goes(&rt, alloc, Table::Plane(2), &BY_SCAN);
 }

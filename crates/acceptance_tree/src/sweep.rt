@@ -4,7 +4,7 @@ ghost use Rattle.ub_query.specs.Posed.{IsPosed};
 
 use crate::plans::{Ask, Work};
 use crate::samples::{Store, Table};
-use crate::trial::{Answer, DONE, NOTHING, Run, Step, all_go};
+use crate::trial::{Answer, DONE, NOTHING, Run, Step, goes};
 use std::alloc::Global;
 use ub_planning::Plan;
 use ub_store::StoreFault;
@@ -42,8 +42,8 @@ fn is_fault(fault: SweepFault, given: Given) -> bool {
     }
 }
 
-// Whether the next turn of a sweep of rows, over a table of so many columns, gives this.
-fn gives_row(
+// Whether the next turn of a sweep, over a table of so many columns, gives this: of values where the query has groups.
+fn gives(
     sweep: &mut Sweep,
     tree: &mut Tree<Store>,
     columns: usize,
@@ -54,29 +54,16 @@ fn gives_row(
 {
     if tree.schema().columns().len() != columns {
         return false;
+    }
+    if plan.query().has_groups() {
+        return match sweep.next_value(tree, plan) {
+            Ok(Some(rows)) => matches!(given, Given::Rows(numbers) if are_numbered(&rows, numbers)),
+            Ok(None) => matches!(given, Given::Nothing),
+            Err(fault) => is_fault(fault, given),
+        };
     }
     match sweep.next(tree, plan) {
         Ok(Some(row)) => matches!(given, Given::Row(measure) if measure == row.measures[0]),
-        Ok(None) => matches!(given, Given::Nothing),
-        Err(fault) => is_fault(fault, given),
-    }
-}
-
-// Whether the next turn of a sweep of values gives this.
-fn gives_value(
-    sweep: &mut Sweep,
-    tree: &mut Tree<Store>,
-    columns: usize,
-    plan: &Plan,
-    given: Given,
-) -> bool
-    requires { IsPosed columns plan.now.asked }
-{
-    if tree.schema().columns().len() != columns {
-        return false;
-    }
-    match sweep.next_value(tree, plan) {
-        Ok(Some(rows)) => matches!(given, Given::Rows(numbers) if are_numbered(&rows, numbers)),
         Ok(None) => matches!(given, Given::Nothing),
         Err(fault) => is_fault(fault, given),
     }
@@ -108,7 +95,6 @@ fn take_turns(
     columns: usize,
     plan: &Plan,
     turns: &Turns,
-    is_by_value: bool,
 ) -> Answer
     requires { IsPosed columns plan.now.asked }
 {
@@ -116,11 +102,7 @@ fn take_turns(
         return NOTHING;
     }
     for (i, given) in turns.given.iter().enumerate() {
-        let is_given = if is_by_value {
-            gives_value(sweep, tree, columns, plan, *given)
-        } else {
-            gives_row(sweep, tree, columns, plan, *given)
-        };
+        let is_given = gives(sweep, tree, columns, plan, *given);
         let fetched = tree.trace().len();
         if !(is_given & is_at(turns.fetched, i, fetched) & is_at(turns.held, i, sweep.held())) {
             return Ok([i as u128, fetched as u128, 0, 0]);
@@ -136,12 +118,11 @@ pub(crate) fn swept(
     columns: usize,
     plan: &Plan,
     turns: &Turns,
-    is_by_value: bool,
 ) -> Answer
     requires { IsPosed columns plan.now.asked }
 {
     match Sweep::new(alloc, tree, plan) {
-        Ok(mut sweep) => take_turns(&mut sweep, tree, columns, plan, turns, is_by_value),
+        Ok(mut sweep) => take_turns(&mut sweep, tree, columns, plan, turns),
         Err(_) => NOTHING,
     }
 }
@@ -153,8 +134,8 @@ const SWEEPS: [(Step, Answer); 22] = [
     (Step::Five(0), DONE),
     (
         Step::Plan(
-            Ask::Rows((0, false), (0, false)),
-            Work::Rows(&Turns {
+            Some(Ask::Rows((0, false), (0, false))),
+            Work::Sweep(&Turns {
                 given: &[
                     Given::Row(7),
                     Given::Row(10),
@@ -174,8 +155,8 @@ const SWEEPS: [(Step, Answer); 22] = [
     (Step::Five(0), DONE),
     (
         Step::Plan(
-            Ask::Rows((1, true), (1, true)),
-            Work::Rows(&Turns {
+            Some(Ask::Rows((1, true), (1, true))),
+            Work::Sweep(&Turns {
                 given: &[
                     Given::Row(20),
                     Given::Row(1),
@@ -195,8 +176,8 @@ const SWEEPS: [(Step, Answer); 22] = [
     (Step::Five(0), DONE),
     (
         Step::Plan(
-            Ask::Rows((0, true), (2, false)),
-            Work::Rows(&Turns {
+            Some(Ask::Rows((0, true), (2, false))),
+            Work::Sweep(&Turns {
                 given: &[
                     Given::Row(5),
                     Given::Row(1),
@@ -216,8 +197,8 @@ const SWEEPS: [(Step, Answer); 22] = [
     (Step::Five(0), DONE),
     (
         Step::Plan(
-            Ask::Rows((0, true), (2, true)),
-            Work::Rows(&Turns {
+            Some(Ask::Rows((0, true), (2, true))),
+            Work::Sweep(&Turns {
                 given: &[
                     Given::Row(5),
                     Given::Row(20),
@@ -237,8 +218,8 @@ const SWEEPS: [(Step, Answer); 22] = [
     (Step::Five(0), DONE),
     (
         Step::Plan(
-            Ask::Rows((0, false), (2, false)),
-            Work::Rows(&Turns {
+            Some(Ask::Rows((0, false), (2, false))),
+            Work::Sweep(&Turns {
                 given: &[
                     Given::Row(7),
                     Given::Row(10),
@@ -260,8 +241,8 @@ const SWEEPS: [(Step, Answer); 22] = [
     (Step::Five(0), DONE),
     (
         Step::Plan(
-            Ask::Rows((0, true), (2, false)),
-            Work::Rows(&Turns {
+            Some(Ask::Rows((0, true), (2, false))),
+            Work::Sweep(&Turns {
                 given: &[
                     Given::Row(5),
                     Given::Row(1),
@@ -281,8 +262,8 @@ const SWEEPS: [(Step, Answer); 22] = [
     (Step::Five(0), DONE),
     (
         Step::Plan(
-            Ask::Rows((0, false), (2, false)),
-            Work::Rows(&Turns {
+            Some(Ask::Rows((0, false), (2, false))),
+            Work::Sweep(&Turns {
                 given: &[
                     Given::Row(7),
                     Given::Row(10),
@@ -304,8 +285,8 @@ const SWEEPS: [(Step, Answer); 22] = [
     (Step::Five(3), DONE),
     (
         Step::Plan(
-            Ask::Rows((0, true), (2, false)),
-            Work::Rows(&Turns {
+            Some(Ask::Rows((0, true), (2, false))),
+            Work::Sweep(&Turns {
                 given: &[
                     Given::Device,
                     Given::Failed,
@@ -325,8 +306,8 @@ const SWEEPS: [(Step, Answer); 22] = [
     (Step::Five(4), DONE),
     (
         Step::Plan(
-            Ask::Rows((0, true), (2, false)),
-            Work::Rows(&Turns {
+            Some(Ask::Rows((0, true), (2, false))),
+            Work::Sweep(&Turns {
                 given: &[
                     Given::Device,
                     Given::Failed,
@@ -346,8 +327,8 @@ const SWEEPS: [(Step, Answer); 22] = [
     (Step::Five(5), DONE),
     (
         Step::Plan(
-            Ask::Rows((0, true), (2, false)),
-            Work::Rows(&Turns {
+            Some(Ask::Rows((0, true), (2, false))),
+            Work::Sweep(&Turns {
                 given: &[
                     Given::Row(5),
                     Given::Device,
@@ -367,8 +348,8 @@ const SWEEPS: [(Step, Answer); 22] = [
     (Step::Five(6), DONE),
     (
         Step::Plan(
-            Ask::Rows((0, true), (2, false)),
-            Work::Rows(&Turns {
+            Some(Ask::Rows((0, true), (2, false))),
+            Work::Sweep(&Turns {
                 given: &[
                     Given::Row(5),
                     Given::Row(1),
@@ -387,14 +368,14 @@ const SWEEPS: [(Step, Answer); 22] = [
     ),
 ];
 
-static RUNS: &[Run] = &[Run {
+static RUN: Run = Run {
     shown: "gives rows in order",
     first: &SWEEPS,
     then: &[],
     cases: &[],
-}];
+};
 
 #[test]
 fn gives_rows_in_order_and_fetches_what_they_need(rt: HostRuntime) {
-    all_go(&rt, rt.alloc(), Table::Plane(2), RUNS);
+    goes(&rt, rt.alloc(), Table::Plane(2), &RUN);
 }

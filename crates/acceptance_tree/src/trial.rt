@@ -55,8 +55,8 @@ pub(crate) enum Step {
     // How many pages the trace notes, and the last of them, or 0.
     Trace,
     Begin,
-    // Carries out the plan of a query.
-    Plan(Ask, Work),
+    // Carries out the plan of a query, or tells 1 where that of SELECT COUNT(*) FROM t ORDER BY x, which no statement asks, is a scan.
+    Plan(Option<Ask>, Work),
     // How many pages the store has.
     Pages,
     // How many of these pages the store has, from the first on.
@@ -105,16 +105,14 @@ pub(crate) struct Trial {
     store: Option<Store>,
 }
 
-// Asserts that the steps and the cases of each of these runs, on such tables, are answered so.
-pub(crate) fn all_go(rt: &impl Abort, alloc: Global, table: Table, runs: &[Run]) {
-    for run in runs {
-        let right = count_right(alloc, table, run);
-        assert!(rt;
-            right == count(run),
-            "{}: {right} steps were right",
-            run.shown
-        );
-    }
+// Asserts that the steps and the cases of a run, on such a table, are answered so.
+pub(crate) fn goes(rt: &impl Abort, alloc: Global, table: Table, run: &Run) {
+    let right = count_right(alloc, table, run);
+    assert!(rt;
+        right == count(run),
+        "{}: {right} steps were right",
+        run.shown
+    );
 }
 
 // How many steps and cases a run has.
@@ -302,7 +300,7 @@ fn ask(alloc: Global, tree: &mut Tree<Store>, step: &Step) -> Answer {
         Step::Put(x, y, m) => put(tree, *x, *y, *m),
         Step::Fill(count) => fill(tree, *count),
         Step::Empty(count) => empty(tree, *count),
-        Step::Delete(x) => by_plan(alloc, tree, Ask::With(*x), &Work::Delete),
+        Step::Delete(x) => by_plan(alloc, tree, Some(Ask::With(*x)), &Work::Delete),
         Step::Plan(ask, work) => by_plan(alloc, tree, *ask, work),
         Step::Remove(z, number) => remove(tree, *z, *number),
         Step::Count => Ok([

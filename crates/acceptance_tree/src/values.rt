@@ -3,7 +3,7 @@
 use crate::plans::{Ask, Work};
 use crate::samples::Table;
 use crate::sweep::{Given, Turns};
-use crate::trial::{Answer, DONE, Run, Step, all_go};
+use crate::trial::{Answer, DONE, Run, Step, goes};
 
 // Sweeps of values.
 const SWEEPS: [(Step, Answer); 14] = [
@@ -12,8 +12,8 @@ const SWEEPS: [(Step, Answer); 14] = [
     (Step::Five(0), DONE),
     (
         Step::Plan(
-            Ask::Values(0, false),
-            Work::Values(&Turns {
+            Some(Ask::Values(0, false)),
+            Work::Sweep(&Turns {
                 given: &[
                     Given::Rows(&[4]),
                     Given::Rows(&[1]),
@@ -31,8 +31,8 @@ const SWEEPS: [(Step, Answer); 14] = [
     (Step::Five(0), DONE),
     (
         Step::Plan(
-            Ask::Values(0, true),
-            Work::Values(&Turns {
+            Some(Ask::Values(0, true)),
+            Work::Sweep(&Turns {
                 given: &[
                     Given::Rows(&[3]),
                     Given::Rows(&[2, 5]),
@@ -50,8 +50,8 @@ const SWEEPS: [(Step, Answer); 14] = [
     (Step::Five(0), DONE),
     (
         Step::Plan(
-            Ask::Values(1, false),
-            Work::Values(&Turns {
+            Some(Ask::Values(1, false)),
+            Work::Sweep(&Turns {
                 given: &[
                     Given::Rows(&[3]),
                     Given::Rows(&[1]),
@@ -69,8 +69,8 @@ const SWEEPS: [(Step, Answer); 14] = [
     (Step::Five(0), DONE),
     (
         Step::Plan(
-            Ask::Values(1, true),
-            Work::Values(&Turns {
+            Some(Ask::Values(1, true)),
+            Work::Sweep(&Turns {
                 given: &[
                     Given::Rows(&[2, 5]),
                     Given::Rows(&[4]),
@@ -90,8 +90,8 @@ const SWEEPS: [(Step, Answer); 14] = [
     (Step::Five(3), DONE),
     (
         Step::Plan(
-            Ask::Values(0, true),
-            Work::Values(&Turns {
+            Some(Ask::Values(0, true)),
+            Work::Sweep(&Turns {
                 given: &[
                     Given::Device,
                     Given::Failed,
@@ -109,8 +109,8 @@ const SWEEPS: [(Step, Answer); 14] = [
     (Step::Five(4), DONE),
     (
         Step::Plan(
-            Ask::Values(0, true),
-            Work::Values(&Turns {
+            Some(Ask::Values(0, true)),
+            Work::Sweep(&Turns {
                 given: &[
                     Given::Device,
                     Given::Failed,
@@ -128,8 +128,8 @@ const SWEEPS: [(Step, Answer); 14] = [
     (Step::Five(5), DONE),
     (
         Step::Plan(
-            Ask::Values(0, true),
-            Work::Values(&Turns {
+            Some(Ask::Values(0, true)),
+            Work::Sweep(&Turns {
                 given: &[
                     Given::Rows(&[3]),
                     Given::Device,
@@ -146,14 +146,14 @@ const SWEEPS: [(Step, Answer); 14] = [
     ),
 ];
 
-static RUNS: &[Run] = &[Run {
+static RUN: Run = Run {
     shown: "gives the rows of each value",
     first: &SWEEPS,
     then: &[],
     cases: &[],
-}];
+};
 
 #[test]
 fn gives_the_rows_of_a_value_and_none_after_a_fault(rt: HostRuntime) {
-    all_go(&rt, rt.alloc(), Table::Plane(2), RUNS);
+    goes(&rt, rt.alloc(), Table::Plane(2), &RUN);
 }
