@@ -263,8 +263,8 @@ module _ {E : Type 0} (fault : E → TreeFault) (facts : E → StoreFacts) (r : 
 
 -- what is made of the pages of an old table
 pub upgraded : (from new : StoreFacts) (head : OldHeader) (i : IndexView) (pager : PagerView) → HasOldHeader from head → (IsHonest from → IsHonest new → StandsOver from head (over head i pager))
-    → IsCounted (over head i pager) → pager.trace ≡ untouched → IsUpgraded from new (over head i pager)
-upgraded from new head i pager has stands counted trace = record {
+    → IsCounted (over head i pager) → (IsHonest new → HasMark head.header.schema pager.store.pages) → pager.trace ≡ untouched → IsUpgraded from new (over head i pager)
+upgraded from new head i pager has stands counted marked trace = record {
   head = head;
   header_is = has;
   schema_is = refl;
@@ -274,6 +274,7 @@ upgraded from new head i pager has stands counted trace = record {
   next_is = refl;
   stands = stands;
   counted = counted;
+  marked = marked;
   changed = refl;
   working = refl;
   trace_is = trace;

@@ -41,7 +41,7 @@ pub record StandsOver (old : StoreFacts) (head : OldHeader) (t : TreeView) : Typ
 
 -- the tree that an upgrade of a store with these facts makes: it has the schema and the counts that the header of the old table tells, and
 -- none of its dimensions is signed; it counts the regions that it tells of, which over honest stores are those that stand on the old
--- pages; it counts as changed, so that closing it writes and syncs it
+-- pages; its first page marks it as changed, and it counts as changed, so that closing it writes and syncs it
 pub record IsUpgraded (old new : StoreFacts) (t : TreeView) : Type 0 where
   pub head : OldHeader
   pub header_is : HasOldHeader old head
@@ -52,6 +52,7 @@ pub record IsUpgraded (old new : StoreFacts) (t : TreeView) : Type 0 where
   pub next_is : t.next ≡ head.header.next
   pub stands : IsHonest old → IsHonest new → StandsOver old head t
   pub counted : IsCounted t
+  pub marked : IsHonest new → HasMark t.schema t.store.pages
   pub changed : t.is_changed ≡ true
   pub working : t.is_failed ≡ false
   pub trace_is : t.trace ≡ untouched

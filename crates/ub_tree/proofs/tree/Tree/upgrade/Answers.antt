@@ -31,7 +31,8 @@ returns-in-Ok-bring_over-clause-begun g c =
     stands_over from b.head b.index p (ap (λ (x : StoreFacts). x.honest) b.ensures.effect.left.new_is ∙ begun) b.ensures.last b.ensures.root.1 (b.ensures.stands honest begun) in
     begun_of (λ refused. refused.fault) (λ refused. g.S.PageStore.facts refused.store) c.counted.result c.tree_over.result (IsUpgraded from new) c.counted.ensures.same c.counted.ensures.counted
     (λ counted. subst (IsUpgraded from new) (sym c.tree_over.ensures)
-    (upgraded from new b.head b.index p b.ensures.header stands (subst IsCounted c.tree_over.ensures counted) (b.ensures.effect.trace ∙ ap (λ (q : PagerView). q.trace) c.in-Ok.ensures.made)))
+    (upgraded from new b.head b.index p b.ensures.header stands (subst IsCounted c.tree_over.ensures counted)
+    (λ new_honest. b.ensures.marked (ap (λ (q : PagerView). q.store.honest) c.in-Ok.ensures.made ∙ new_honest)) (b.ensures.effect.trace ∙ ap (λ (q : PagerView). q.trace) c.in-Ok.ensures.made)))
 
 pub returns-in-Ok-bring_over-clause-unopened : goal.returns-in-Ok-bring_over-clause-unopened
 returns-in-Ok-bring_over-clause-unopened g c = λ new_honest.
