@@ -1,11 +1,9 @@
 -- The regions of a tree, counted one after the other.
-use Rattle.std.proofs.Common.{◌≡◌, ◌≤◌, ◌<◌, ◌+◌, ◌++◌, ◌⊎◌, ◌∙◌, inl, inr, ℕ, zero, suc, true, List, [], ◌∷◌, Option, Some, None, IfSome, Result, Ok, Err, IfOk, IfErr, length, map, option_map, take, slice_get, ap, sym, subst, refl, arith}
+use Rattle.std.proofs.Common.{◌≡◌, ◌≤◌, ◌<◌, ◌+◌, ◌++◌, ◌∙◌, inl, inr, ℕ, zero, suc, true, List, [], ◌∷◌, Option, Some, None, IfSome, Result, Ok, Err, IfOk, length, map, option_map, take, slice_get, ap, sym, subst, refl, arith}
 use Rattle.std.proofs.lemmas.List.{length-append, length-map, take_all}
-use Rattle.std.specs.Bool.{if◌then◌else◌}
 use Rattle.ub_index.specs.Searching.{region_of}
 use Rattle.ub_index.specs.View.{IsNextSeat}
 use Rattle.ub_index.specs.declared.seat.Seat.{Seat}
-use Rattle.ub_page.specs.Region.{RegionView}
 use Rattle.ub_region.specs.Regions.{firsts_of, index_holding, rows_of}
 use Rattle.ub_store.specs.Facts.{IsHonest}
 use Rattle.ub_table.proofs.Laws.{before_from, precedes_of}
@@ -16,7 +14,7 @@ use Rattle.ub_table.specs.declared.row.Row.{Row}
 use Rattle.ub_tree.proofs.EffectFacts.{sound_stored}
 use Rattle.ub_tree.proofs.ReadingFacts.{seat_told, taken_on}
 use Rattle.ub_tree.proofs.TreeFacts.{firsts_placed, seat_placed, seat_within}
-use Rattle.ub_tree.specs.Counted.{AreFrom, Checks, HasCounts, IsCounted, IsMiscounted}
+use Rattle.ub_tree.specs.Counted.{AreFrom, Checks, IsCounted, IsMiscounted}
 use Rattle.ub_tree.specs.Effects.{IsTakenIn, Searches}
 use Rattle.ub_tree.specs.Placed.{Placed, entry_of, regions_in}
 use Rattle.ub_tree.specs.Spans.{first_keys, Region as Span}
@@ -26,7 +24,7 @@ use Rattle.ub_tree.specs.declared.fault.TreeFault.{TreeFault}
 use Rattle.ub_tree.specs.declared.fault.TreeFault.TheVariants.{Page}
 use Rattle.ub_table.specs.declared.fault.PageFault.TheVariants.{BadCount}
 use Rattle.std.specs.Result.{IsErrAnd}
-use Rattle.ub_tree.specs.inner.Change.{IsOnSeat, IsReadAt, IsSeatIn, IsSeatOf, IsStored}
+use Rattle.ub_tree.specs.inner.Change.{IsOnSeat, IsSeatIn, IsSeatOf, IsStored}
 use Rattle.ub_tree.specs.inner.Counting.{CountsRegion, IsCountedTo, up_to_most}
 
 -- what stands on the page of a seat's region

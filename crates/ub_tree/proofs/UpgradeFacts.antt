@@ -1,18 +1,18 @@
 -- The pages of an old table, brought over: what stands on them, and why they aren't.
-use Rattle.std.proofs.Common.{◌≡◌, ◌≢◌, ◌≤◌, ◌<◌, ◌+◌, ◌++◌, ◌∙◌, ◌⊎◌, inl, inr, ℕ, zero, suc, true, false, nat_eq, List, [], ◌∷◌, Option, Some, None, Result, Ok, Err, IfErr, IfOk, OnErr, MatchResult, length, map, slice_get, ap, sym, subst, refl, arith}
+use Rattle.std.proofs.Common.{◌≡◌, ◌≢◌, ◌≤◌, ◌<◌, ◌++◌, ◌∙◌, ◌⊎◌, inl, inr, ℕ, zero, suc, true, false, List, [], ◌∷◌, Option, Some, None, Result, Ok, Err, IfErr, OnErr, MatchResult, length, map, slice_get, ap, sym, subst, refl, arith}
 use Rattle.std.proofs.lemmas.List.Elements.{All-from_recursion, recursion_from_All}
 use Rattle.std.proofs.lemmas.Option.{get_or_from_slice_get, slice_get_within}
-use Rattle.std.specs.List.{All, AllByRecursion, IsDistinct}
+use Rattle.std.specs.List.{All, AllByRecursion}
 use Rattle.std.specs.Result.{IsErrAnd}
 use Rattle.ub_index.proofs.Changes.{kept_index, kept_under}
-use Rattle.ub_index.proofs.Numbers.{apart_swap, distinct_apart, distinct_cons, distinct_first, distinct_join, distinct_left, distinct_rest, distinct_right, kept_pages}
+use Rattle.ub_index.proofs.Numbers.{distinct_apart, distinct_cons, distinct_first, distinct_join, distinct_left, distinct_right, kept_pages}
 use Rattle.ub_index.specs.Changed.{PagesStay}
 use Rattle.ub_index.specs.Changing.{IsOutside}
-use Rattle.ub_index.specs.Index.{IsUnder, NamesFitting, page_in, pages_under, top, under}
+use Rattle.ub_index.specs.Index.{IsUnder, NamesFitting, page_in, pages_under, top}
 use Rattle.ub_index.specs.Fitting.{IsNotTaken, IsUnfit}
 use Rattle.ub_index.specs.Way.{StopsAt}
 use Rattle.ub_index.specs.Opening.{IsOpenFault as IsRootFault, IsPassing as IsPassingRoot, IsRooted}
-use Rattle.ub_index.specs.View.{IndexView, IsIndexOn, Stops, entries_in, index_view}
+use Rattle.ub_index.specs.View.{IndexView, Stops, index_view}
 use Rattle.ub_index.specs.declared.fault.IndexFault.{IndexFault}
 use Rattle.ub_index.specs.declared.fault.IndexFault.TheVariants as index
 use Rattle.ub_page.specs.declared.entries.Entry.{Entry}
@@ -33,7 +33,7 @@ use Rattle.ub_tree.specs.Old.{AreOldPages, head_of}
 use Rattle.ub_tree.specs.Placed.{Placed, ArePlaced, entry_of}
 use Rattle.ub_tree.specs.Stored.{index_of}
 use Rattle.ub_tree.specs.Tree.{tree_view}
-use Rattle.ub_tree.specs.Upgrade.{IsOldRefused, IsUpgradeFault, IsUpgradePassing, StandsOver}
+use Rattle.ub_tree.specs.Upgrade.{IsUpgradeFault, IsUpgradePassing, StandsOver}
 use Rattle.ub_tree.specs.View.{TreeView}
 use Rattle.ub_tree.specs.Opened.{IsPassing}
 use Rattle.ub_tree.specs.declared.fault.TreeFault.{TreeFault}

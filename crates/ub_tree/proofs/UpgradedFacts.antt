@@ -1,5 +1,5 @@
 -- The tree that an upgrade makes: when it is sound, and why it is refused.
-use Rattle.std.proofs.Common.{◌≡◌, ◌≤◌, ◌<◌, ◌^◌, ◌∙◌, ◌⊎◌, inl, inr, ℕ, zero, suc, true, false, IsTrue, List, [], ◌∷◌, Option, Some, None, Result, Ok, Err, IfErr, IfOk, OnOk, MatchResult, length, map, slice_get, ap, sym, subst, refl, arith}
+use Rattle.std.proofs.Common.{◌≡◌, ◌≤◌, ◌<◌, ◌^◌, ◌∙◌, ◌⊎◌, inl, inr, ℕ, zero, suc, true, false, List, [], ◌∷◌, Option, Some, None, Result, Ok, Err, IfErr, IfOk, OnOk, MatchResult, length, map, slice_get, ap, sym, subst, refl, arith}
 use Rattle.std.proofs.lemmas.List.Elements.{recursion_from_All}
 use Rattle.std.proofs.lemmas.Option.{slice_get_within}
 use Rattle.std.specs.List.{AllByRecursion}
@@ -7,7 +7,7 @@ use Rattle.ub_index.proofs.FirstFacts.{ways_miss}
 use Rattle.ub_index.proofs.LeadFacts.{ways_are_one, ways_hold}
 use Rattle.ub_index.proofs.WayFacts.{never_stops, seat_is, way_in_full}
 use Rattle.ub_index.specs.Index.{page_in, top}
-use Rattle.ub_index.specs.View.{IndexView, IsIndexOn, IsSeatAt, Leads, Stops, entries_in}
+use Rattle.ub_index.specs.View.{IndexView, IsIndexOn, Leads, Stops, entries_in}
 use Rattle.ub_index.specs.Way.{HoldsKey, LeadsTo, StopsAt}
 use Rattle.ub_index.specs.declared.seat.Seat.{Seat}
 use Rattle.ub_page.proofs.PageLaws.{region_parts}
@@ -35,9 +35,9 @@ use Rattle.ub_tree.specs.Indexed.{HasIndex, entries_on, reserved}
 use Rattle.ub_tree.specs.Placed.{Placed, ArePlaced, entry_of, placed_of, regions_in}
 use Rattle.ub_tree.specs.Spans.{first_keys, Region as Span}
 use Rattle.ub_tree.specs.Told.{FallsTo, HasOverlap, IsRegionOf}
-use Rattle.ub_tree.specs.Tree.{known_pages, placed_in}
-use Rattle.ub_tree.specs.Upgrade.{HasTable, IsOldRefused, IsUnopened, IsUpgraded, IsUpgradeFault, IsUpgradePassing, StandsOver}
-use Rattle.ub_tree.specs.View.{TreeView, IsSound, region_count, regions}
+use Rattle.ub_tree.specs.Tree.{placed_in}
+use Rattle.ub_tree.specs.Upgrade.{HasTable, IsUnopened, IsUpgraded, IsUpgradeFault, IsUpgradePassing, StandsOver}
+use Rattle.ub_tree.specs.View.{TreeView, IsSound, regions}
 use Rattle.ub_tree.specs.declared.fault.TreeFault.{TreeFault}
 use Rattle.ub_tree.specs.declared.fault.TreeFault.TheVariants.{Full, Page, Store, Failed as HasFailed, Memory}
 use Rattle.ub_tree.specs.inner.Upgrading.{IsCarried}

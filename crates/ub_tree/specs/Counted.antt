@@ -1,5 +1,5 @@
 -- Whether the regions that a tree tells of, one after the other, are those that it counts.
-use Rattle.std.specs.Prelude.{◌≡◌, ◌≤◌, ◌⊎◌, List, [], ◌∷◌, Option, Some, None, length}
+use Rattle.std.specs.Prelude.{◌≡◌, ◌≤◌, ◌⊎◌, List, [], ◌∷◌, Option, Some, None, Result, IfErr, length}
 use Rattle.ub_region.specs.Regions.{rows_of}
 use Rattle.ub_table.specs.Keys.{origin}
 use Rattle.ub_table.specs.declared.fault.PageFault.TheVariants.{BadCount}
@@ -11,7 +11,6 @@ use Rattle.ub_tree.specs.Told.{IsRegionOf}
 use Rattle.ub_tree.specs.View.{TreeView, IsSound, region_count}
 use Rattle.ub_tree.specs.declared.fault.TreeFault.{TreeFault}
 use Rattle.ub_tree.specs.declared.fault.TreeFault.TheVariants.{Page}
-use Rattle.std.specs.Prelude.{Result, IfErr}
 
 -- these regions, from a key on, if there is one: the tree tells of each, its page spells it, and it begins where the one before
 -- ends; the next one would begin at `end`, if there is one

@@ -1,4 +1,5 @@
-// A table of an older format, over a new store.
+// A table of an older format, over a new store. First the new store is marked as changed; then all other pages are brought over,
+// the index that stands there is opened, and each region is read and counted once.
 ghost use Rattle.std.specs.Prelude.{◌≡◌, ◌≤◌, ℕ, List, true, false, Err, IfOk, IfErr, MatchResult, OnErr, OnOk};
 ghost use Rattle.ub_page.specs.Header.{IsOldHeader};
 ghost use Rattle.ub_page.specs.declared.header.OldHeader as spec;
@@ -30,7 +31,7 @@ use ub_zaddr::last;
 impl<S: PageStore> Tree<S> {
     /// The tree of a table of an older format, over a new store that has no pages: its regions stand on pages of the same numbers,
     /// each with the rows that it had, and numbers go on where they went on. It counts as changed: until it is closed the new store
-    /// isn't opened as a table. The old store is only read; each of its regions is read once, and so is its directory, or its index.
+    /// isn't opened as a table. The old store is only read, a page at a time; then each region is read where it stands now, and counted.
     ///
     /// Page comes where a page of the old store is refused: the first, as a header of an older format, or as BadCount where it tells
     /// of other counts than those of its regions and their rows; one of its directory, or of its index; or that of a region. Store with

@@ -1,5 +1,5 @@
 -- The header that was read, and why pages aren't brought over.
-use Rattle.std.proofs.Common.{◌≡◌, ◌≤◌, ◌∙◌, ℕ, Bool, Option, Some, Result, Ok, Err, IfErr, IfOk, IsOk, OnOk, ap, sym, subst, refl, arith}
+use Rattle.std.proofs.Common.{◌≡◌, ◌∙◌, ℕ, Bool, Option, Some, Result, Ok, Err, IfErr, ap, sym, arith}
 use Rattle.ub_page.specs.Header.{AreSame}
 use Rattle.ub_page.specs.declared.header.Header.{Header}
 use Rattle.ub_page.specs.declared.header.OldHeader.{OldHeader}

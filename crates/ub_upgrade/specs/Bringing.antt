@@ -8,8 +8,8 @@ use Rattle.ub_store.specs.Facts.{StoreFacts, IsPage, page_count}
 use Rattle.ub_store.specs.declared.fault.StoreFault.TheVariants as store
 use Rattle.ub_store.specs.declared.store.TheConstants.{MAX_PAGES}
 use Rattle.ub_zaddr.specs.Address.{last_address}
-use Rattle.ub_upgrade.specs.Building.{AreCopied, IsIndexOf}
-use Rattle.ub_upgrade.specs.Levels.{index_pages}
+use Rattle.ub_upgrade.specs.Building.{AreCopied}
+use Rattle.ub_upgrade.specs.Levels.{IsIndexOf, index_pages}
 use Rattle.ub_upgrade.specs.Reading.{HeadingView, AreBelow, IsAskedFor, IsDirectory, IsNamed, IsRefused, heading_of}
 use Rattle.ub_upgrade.specs.declared.building.Root.{Root}
 use Rattle.ub_upgrade.specs.declared.fault.UpgradeFault.{UpgradeFault}

@@ -1,16 +1,15 @@
 -- What the two calls do: pages are copied, and an index is built of an old directory.
-use Rattle.std.specs.Prelude.{◌≡◌, ◌≤◌, ◌<◌, ◌+◌, ◌⊎◌, ℕ, nat_eq, IsTrue, List, None, slice_get}
-use Rattle.std.specs.List.{AllByRecursion, IsDistinct}
-use Rattle.ub_index.specs.Index.{IsUnder, pages_under, top, under}
+use Rattle.std.specs.Prelude.{◌≡◌, ◌≤◌, ◌<◌, ◌+◌, ◌⊎◌, ℕ, IsTrue, List, slice_get}
 use Rattle.ub_index_page.specs.declared.index.TheConstants.{MAX_LEVEL}
 use Rattle.ub_page.specs.declared.entries.Entry.{Entry}
-use Rattle.ub_store.specs.Facts.{StoreFacts, IsHonest, IsPage, page_count}
+use Rattle.ub_store.specs.Facts.{StoreFacts, IsPage, page_count}
 use Rattle.ub_store.specs.declared.fault.StoreFault.TheVariants as store
 use Rattle.ub_store.specs.declared.store.TheConstants.{MAX_PAGES}
 use Rattle.ub_zaddr.specs.Address.{last_address}
-use Rattle.ub_upgrade.specs.Levels.{index_pages}
+use Rattle.ub_upgrade.specs.Levels.{Cut, IsIndexOf, index_pages}
 use Rattle.ub_upgrade.specs.Reading.{HeadingView, AreBelow, IsAskedFor, IsDirectory, IsNamed, IsRefused}
 use Rattle.ub_upgrade.specs.declared.building.Root.{Root}
+use Rattle.ub_upgrade.specs.declared.levels.Level.{Level}
 use Rattle.ub_upgrade.specs.declared.fault.UpgradeFault.{UpgradeFault}
 use Rattle.ub_upgrade.specs.declared.fault.UpgradeFault.TheVariants.{Page, Old, New}
 
@@ -48,20 +47,17 @@ IsBuildFault heading old new (New store.NoPage) = ⊥
 IsBuildFault heading old new (New store.BadSize) = MAX_PAGES < page_count new + index_pages heading.regions
 IsBuildFault heading old new (Page n fault) = (page : List ℕ) × IsPage old n page × IsRefused heading old n page fault
 
+-- a page that is refused is one of so many
+abbrev pub IsThere : ℕ → UpgradeFault → Type 0
+IsThere count (Page n fault) = n < count
+IsThere count _ = Unit {0}
+
 -- the root of an index stands on one of the pages that there are, which isn't the first, and its level is one that there can be
 pub record IsRoot (count : ℕ) (root : Root) : Type 0 where
   pub some : 1 ≤ root.page
   pub there : root.page < count
   pub low : 1 ≤ root.level
   pub high : root.level ≤ MAX_LEVEL
-
--- on these pages the index of these entries stands, in a space that ends with this address; each of its pages is reached once, and
--- has a number from `from` on
-pub record IsIndexOf (last : ℕ) (pages : List (List ℕ)) (from to : ℕ) (root : Root) (entries : List Entry) : Type 0 where
-  pub under_it : IsUnder last pages root.level (top root.page) None
-  pub entries_are : under pages root.level (top root.page) ≡ entries
-  pub reached : IsDistinct nat_eq (pages_under pages root.level (top root.page))
-  pub within : AllByRecursion (λ n. (from ≤ n) × (n < to)) (pages_under pages root.level (top root.page))
 
 -- the new store has the index of these entries behind the pages that it had
 abbrev pub HasBuilt : HeadingView → StoreFacts → StoreFacts → Root → List Entry → Type 0
@@ -72,3 +68,9 @@ abbrev pub IsBuilt : HeadingView → StoreFacts → StoreFacts → StoreFacts �
 IsBuilt heading from old new root =
     (chain : List ℕ) × (entries : List Entry) × IsDirectory from.pages heading chain entries × AreBelow (page_count from) entries
     × HasBuilt heading old new root entries
+
+-- the old pages hold a directory, each of whose entries names a page that there is; and this level tells its entries
+abbrev pub AreLeaves : HeadingView → StoreFacts → List (List ℕ) → Level → Type 0
+AreLeaves heading from pages low =
+    (chain : List ℕ) × (entries : List Entry) × IsDirectory from.pages heading chain entries × AreBelow (page_count from) entries
+    × Cut pages 1 low.first low.count entries

@@ -1,5 +1,5 @@
 -- What is left of the two stores where pages are brought over from the old one to the new one.
-use Rattle.std.specs.Prelude.{◌≡◌, ◌⊎◌, ◌≤◌, ℕ, List, IsTrue, Result, Err, IsErrOf, slice_get}
+use Rattle.std.specs.Prelude.{◌≡◌, ◌⊎◌, ℕ, Result, Err}
 use Rattle.ub_directory.specs.Writing.{Grows}
 use Rattle.ub_store.specs.Facts.{StoreFacts, raised}
 use Rattle.ub_store.specs.View.{PagerView}
@@ -27,13 +27,10 @@ Counts _ old new = HasNotFailed old new
 abbrev pub written : StoreFacts → StoreFacts → StoreFacts
 written old new = record old { pages = new.pages; synced = new.synced; failed_reads = new.failed_reads; failed_writes = new.failed_writes }
 
--- a call with this result that adds pages to the store of a pager, and may read those that there are: the pages that there were are
--- as they were, and no page is noted
-pub record AddsPages {A : Type 0} (old new : PagerView) (result : Result A StoreFault) : Type 0 where
+-- the store of a pager has got pages, or none, and its other ones are as they were; no page is noted
+pub record AddsPages (old new : PagerView) : Type 0 where
   pub same : new ≡ record old { store = written old.store new.store; cached = new.cached }
-  pub counts : Counts result old.store new.store
   pub grows : Grows old.store new.store
-  pub device : IsErrOf result store.Device → IsTrue old.store.can_fail
 
 -- the count of failed reads of the old store after a call with this result: its device's fault raises it by one
 abbrev pub counted_old : {A : Type 0} → Result A UpgradeFault → ℕ → ℕ

@@ -6,12 +6,14 @@ use Rattle.ub_zaddr.specs.Address.{last_address}
 use Rattle.ub_page.specs.Directory.{Listing, IsListing, directory_page, IsDirectoryFault}
 use Rattle.ub_page.specs.Entries.{IsEntry}
 use Rattle.ub_page.specs.declared.entries.Entry.{Entry}
-use Rattle.ub_store.specs.Facts.{StoreFacts, IsHonest, IsPage, page_count}
+use Rattle.ub_store.specs.Facts.{StoreFacts, IsHonest, IsPage}
 use Rattle.ub_table.specs.Keys.{origin, are_ascending}
 use Rattle.ub_table.specs.declared.fault.PageFault.TheVariants.{BadCount, BadOrder}
 use Rattle.ub_table.specs.declared.fault.PageFault.{PageFault}
 use Rattle.ub_directory.specs.Spans.{ArePlaces, first_keys}
+use Rattle.ub_table.specs.declared.row.Key.{Key}
 use Rattle.ub_upgrade.specs.Chain.{IsChain}
+use Rattle.ub_upgrade.specs.declared.chain.Place.{Place}
 
 -- what a header of format 1 tells of its directory: how many dimensions the table has, the page on which the directory begins, and
 -- how many regions it has
@@ -50,6 +52,17 @@ abbrev pub AreBegun : List Entry → Type 0
 AreBegun [] = Unit {0}
 AreBegun (entry ∷ entries) = (entry.first ≡ origin) × IsTrue (are_ascending (first_keys (entry ∷ entries)))
 
+-- where the last of these entries begins, if there is one
+abbrev pub last_first : List Entry → Option Key
+last_first [] = None
+last_first (entry ∷ []) = Some entry.first
+last_first (entry ∷ next ∷ entries) = last_first (next ∷ entries)
+
+-- these are the entries of the pages before a place
+pub record IsMet (before : List Entry) (place : Place) : Type 0 where
+  pub met : place.met ≡ length before
+  pub last : place.last ≡ last_first before
+
 -- from its first page on the directory was read, full pages in order, up to the page of this number, and not all regions were met
 pub record IsReadUpTo (store : StoreFacts) (heading : HeadingView) (chain : List ℕ) (entries : List Entry) (n : ℕ) : Type 0 where
   pub root_is : slice_get (chain ++ n ∷ []) 0 ≡ Some heading.root
@@ -80,13 +93,20 @@ IsPartFault heading before page fault =
 abbrev pub IsAskedFor : HeadingView → StoreFacts → ℕ → Type 0
 IsAskedFor heading store n = (chain : List ℕ) × (entries : List Entry) × IsReadUpTo store heading chain entries n
 
--- this page stands where the directory begins or goes on, and fits there, and one of its entries names a region's page of this number
-abbrev pub IsNamed : HeadingView → StoreFacts → ℕ → Type 0
-IsNamed heading store n =
-    (m : ℕ) × (page : List ℕ) × (chain : List ℕ) × (before : List Entry) × (part : Listing) × (i : ℕ) × (entry : Entry)
-    × IsPage store m page × IsReadUpTo store heading chain before m × IsListing heading.dims part × (page ≡ directory_page part)
-    × HasPart (heading.regions - length before) part × AreBegun (before ++ part.entries)
-    × (slice_get part.entries i ≡ Some entry) × (entry.page ≡ n)
+-- a page of the directory fits where that begins or goes on, and one of its entries names this page as a region's
+pub record IsNamed (heading : HeadingView) (store : StoreFacts) (n : ℕ) : Type 0 where
+  pub chain : List ℕ
+  pub before : List Entry
+  pub number : ℕ
+  pub asked : IsReadUpTo store heading chain before number
+  pub part : Listing
+  pub range : IsListing heading.dims part
+  pub page : IsPage store number (directory_page part)
+  pub fits : HasPart (heading.regions - length before) part
+  pub begun : AreBegun (before ++ part.entries)
+  pub index : ℕ
+  pub first : Key
+  pub names : slice_get part.entries index ≡ Some (record { first = first; page = n })
 
 -- each of these entries names a page below this number
 abbrev pub AreBelow : ℕ → List Entry → Type 0

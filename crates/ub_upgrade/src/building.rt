@@ -1,14 +1,17 @@
 // An index that is built of an old directory, behind all pages of the new store, level by level.
-ghost use Rattle.std.specs.Prelude.{◌≡◌, ◌≤◌, ◌+◌, ℕ, List, MatchResult, IfErr, IfOk, OnOk};
+ghost use Rattle.std.specs.Prelude.{◌≡◌, ◌≤◌, ◌<◌, ◌+◌, ℕ, List, MatchResult, IfErr, IfOk, OnOk};
 ghost use Rattle.ub_page.specs.declared.entries.Entry as spec;
 ghost use Rattle.ub_store.specs.Facts.{IsHonest, page_count};
-ghost use Rattle.ub_upgrade.specs.Building.{HasBuilt, IsBuildFault, IsBuilt, IsPassing, IsRoot};
+ghost use Rattle.ub_upgrade.specs.Building.{AreLeaves, HasBuilt, IsBuildFault, IsBuilt, IsPassing, IsRoot, IsThere};
 ghost use Rattle.ub_upgrade.specs.Effects.{BringsOver};
-ghost use Rattle.ub_upgrade.specs.Levels.{index_pages};
+ghost use Rattle.ub_upgrade.specs.Levels.{IsLast, index_pages, pages_for};
 ghost use Rattle.ub_upgrade.specs.Reading.{AreBelow, IsDirectory, heading_of};
 
+use crate::adding::add_index_page;
+use crate::chain::{Heading, Place, place_behind, read_part};
 use crate::fault::UpgradeFault;
-use ub_store::{Page, PageStore, Pager, StoreFault};
+use crate::levels::{Level, write_levels};
+use ub_store::{Page, PageStore, Pager};
 use ub_table::Schema;
 
 /// The root of an index: its page, and its level.
@@ -49,7 +52,8 @@ pub fn build_index<O: PageStore, S: PageStore>(
         (O.facts old.old) pager.old.store pager.new.store) }
     ensures exact { (chain : List ℕ) (entries : List spec.Entry)
         → IsHonest (O.facts old.old) → IsHonest pager.old.store
-        → IsDirectory (O.facts old.old).pages (heading_of schema.now.dims root regions) chain entries
+        → IsDirectory (O.facts old.old).pages (heading_of schema.now.dims root regions)
+        chain entries
         → AreBelow (page_count (O.facts old.old)) entries
         → MatchResult result (λ made. HasBuilt (heading_of schema.now.dims root regions)
         pager.old.store pager.new.store made entries) IsPassing }
@@ -58,7 +62,59 @@ pub fn build_index<O: PageStore, S: PageStore>(
         ≡ page_count pager.old.store + index_pages regions) }
     ensures refused { IfErr result (IsBuildFault (heading_of schema.now.dims root regions)
         (O.facts old.old) pager.old.store) }
+    ensures there { IfErr result (IsThere (page_count (O.facts old.old))) }
     ensures effect { BringsOver (O.facts old.old) (O.facts old.new) pager.old pager.new result }
 {
-    Err(UpgradeFault::New(StoreFault::Memory))
+    // Its contract tells the proof how many pages there can be.
+    let _pages = old.pages();
+    let heading = Heading {
+        schema,
+        root,
+        regions,
+    };
+    let leaves = write_leaves(old, pager, &heading, page)?;
+    match write_levels(pager, leaves) {
+        Ok(root) => Ok(root),
+        Err(fault) => Err(UpgradeFault::New(fault)),
+    }
+}
+
+// Puts the lowest level of the index: a page for each page of the directory.
+fn write_leaves<O: PageStore, S: PageStore>(
+    old: &mut O,
+    pager: &mut Pager<S>,
+    heading: &Heading,
+    page: &mut Page,
+) -> Result<Level, UpgradeFault>
+    requires root { 1 ≤ heading.now.root }
+    requires small { heading.now.root < 4294967296 }
+    requires regions { 1 ≤ heading.now.regions }
+    requires few { heading.now.regions < 4294967296 }
+    ensures last { IfOk result (IsLast pager.new.store) }
+    ensures small { OnOk result (page_count pager.new.store < 4294967296) }
+    ensures first { IfOk result (λ low. low.first ≡ page_count pager.old.store) }
+    ensures count { IfOk result (λ low. low.count ≡ pages_for heading.now.regions) }
+    ensures leaves { IsHonest (O.facts old.old) → IsHonest pager.old.store
+        → IfOk result (λ low. AreLeaves heading.now (O.facts old.old) pager.new.store.pages low) }
+    ensures refused { IfErr result (IsBuildFault heading.now (O.facts old.old) pager.old.store) }
+    ensures there { IfErr result (IsThere (page_count (O.facts old.old))) }
+    ensures effect { BringsOver (O.facts old.old) (O.facts old.new) pager.old pager.new result }
+{
+    let first = pager.pages();
+    let mut place = Place {
+        met: 0,
+        last: None,
+        next: heading.root,
+    };
+    while place.met < heading.regions {
+        let part = read_part(old, heading, &place, page)?;
+        if let Err(fault) = add_index_page(pager, part.entries(), 1) {
+            return Err(UpgradeFault::New(fault));
+        }
+        place = place_behind(&place, &part);
+    }
+    Ok(Level {
+        first,
+        count: pager.pages() - first,
+    })
 }

@@ -4,8 +4,9 @@ ghost use Rattle.ub_store.specs.Facts.{IsHonest, page_count};
 ghost use Rattle.ub_upgrade.specs.Building.{AreCopied, IsCopyFault};
 ghost use Rattle.ub_upgrade.specs.Effects.{BringsOver};
 
+use crate::adding::add_page;
 use crate::fault::UpgradeFault;
-use ub_store::{Page, PageStore, Pager, StoreFault};
+use ub_store::{Page, PageStore, Pager};
 
 /// Copies all pages of the old store but the first to the new one, which has its first page already, each under its own number.
 /// The page that is lent takes one after the other.
@@ -25,5 +26,9 @@ pub fn copy_pages<O: PageStore, S: PageStore>(
     ensures refused { IfErr result (IsCopyFault (O.facts old.old) pager.old.store) }
     ensures effect { BringsOver (O.facts old.old) (O.facts old.new) pager.old pager.new result }
 {
-    Err(UpgradeFault::Old(StoreFault::Memory))
+    for n in 1..old.pages() {
+        old.read_into(n, page).map_err(UpgradeFault::Old)?;
+        add_page(pager, page).map_err(UpgradeFault::New)?;
+    }
+    Ok(())
 }

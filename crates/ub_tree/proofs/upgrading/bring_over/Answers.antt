@@ -1,4 +1,4 @@
-use Rattle.std.proofs.Common.{◌≡◌, ◌∙◌, inr, ℕ, List, IfErr, MatchResult, ap, subst, sym}
+use Rattle.std.proofs.Common.{◌≡◌, ◌∙◌, inr, ℕ, List, ap, subst}
 use Rattle.ub_store.specs.Facts.{StoreFacts, IsHonest}
 use Rattle.ub_table.specs.declared.schema.Schema.{Schema}
 use Rattle.ub_tree.proofs.UpgradeFacts.{err_passes, err_refused, fault_moved, head_is, on_err_by, passing_up}

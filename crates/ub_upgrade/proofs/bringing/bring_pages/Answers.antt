@@ -1,5 +1,5 @@
-use Rattle.std.proofs.Common.{◌≡◌, ◌∙◌, IfErr, ap, arith, subst}
-use Rattle.ub_store.specs.Facts.{StoreFacts, page_count}
+use Rattle.std.proofs.Common.{IfErr, ap, arith, subst}
+use Rattle.ub_store.specs.Facts.{StoreFacts}
 use Rattle.ub_store.specs.View.{PagerView}
 use Rattle.ub_upgrade.proofs.BringFacts.{build_refused}
 use Rattle.ub_upgrade.specs.Bringing.{directory_of}

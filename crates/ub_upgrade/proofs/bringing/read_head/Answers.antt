@@ -1,4 +1,4 @@
-use Rattle.std.proofs.Common.{◌≡◌, List, Option, Some, refl, rules, slice_get}
+use Rattle.std.proofs.Common.{refl, rules, slice_get}
 use Rattle.ub_page.specs.Header.{header_page_of}
 use Rattle.ub_store.specs.Facts.{IsPage}
 use Rattle.ub_upgrade.proofs.BringFacts.{same_head, some_same}

@@ -1,4 +1,4 @@
-use Rattle.std.proofs.Common.{arith, refl}
+use Rattle.std.proofs.Common.{arith}
 use Rattle.std.proofs.lemmas.Grind.{common_steps}
 use Rattle.ub_writing.proofs.MarkFacts.{marked_first}
 use Rattle.ub_writing.proofs.order.write_mark.Goals as goal

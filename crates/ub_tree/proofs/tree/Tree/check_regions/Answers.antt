@@ -1,4 +1,4 @@
-use Rattle.std.proofs.Common.{◌≡◌, ◌∙◌, ◌≤◌, ◌<◌, ap, arith, subst, sym}
+use Rattle.std.proofs.Common.{◌∙◌, ◌≤◌, ◌<◌, ap, arith, subst, sym}
 use Rattle.ub_tree.proofs.CountFacts.{counted_all, counted_more, counted_none, counted_out, counted_wrong, counts_refused}
 use Rattle.ub_tree.specs.View.{TreeView, region_count}
 use Rattle.ub_tree.specs.inner.Counting.{CountsRegion}

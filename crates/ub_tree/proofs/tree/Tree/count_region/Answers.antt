@@ -1,6 +1,5 @@
-use Rattle.std.proofs.Common.{◌≡◌, ℕ, None, Option, IfOk, IfSome, arith, map, subst}
+use Rattle.std.proofs.Common.{ℕ, IfOk, IfSome, map, subst}
 use Rattle.ub_index.specs.View.{IsNextSeat}
-use Rattle.ub_index.specs.declared.seat.Seat.{Seat}
 use Rattle.ub_tree.proofs.CountFacts.{region_counted}
 use Rattle.ub_tree.specs.Placed.{entry_of}
 use Rattle.ub_tree.specs.View.{TreeView}

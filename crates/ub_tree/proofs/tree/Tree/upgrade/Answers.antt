@@ -1,12 +1,11 @@
-use Rattle.std.proofs.Common.{◌≡◌, ◌∙◌, inr, IfErr, Result, ap, subst, sym}
+use Rattle.std.proofs.Common.{◌∙◌, inr, ap, subst, sym}
 use Rattle.ub_store.specs.Facts.{StoreFacts, IsHonest}
 use Rattle.ub_store.specs.View.{PagerView}
-use Rattle.ub_tree.proofs.UpgradeFacts.{fault_moved, over, stands_over}
+use Rattle.ub_tree.proofs.UpgradeFacts.{over, stands_over}
 use Rattle.ub_tree.proofs.UpgradedFacts.{begun_of, count_fault, header_small, made_of, refused_of, table_over, unopened_of, upgraded}
 use Rattle.ub_tree.specs.Counted.{IsCounted, IsCountFault}
 use Rattle.ub_tree.specs.Upgrade.{HasTable, IsUnopened, IsUpgraded, IsUpgradeFault, StandsOver}
-use Rattle.ub_tree.specs.View.{TreeView, IsSound}
-use Rattle.ub_tree.specs.declared.fault.TreeFault.{TreeFault}
+use Rattle.ub_tree.specs.View.{TreeView}
 use Rattle.ub_tree.proofs.tree.Tree.upgrade.Goals as goal
 
 pub returns-in-Ok-bring_over-clause-made : goal.returns-in-Ok-bring_over-clause-made
