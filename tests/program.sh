@@ -188,6 +188,7 @@ for old in s format_2/s; do
     try 'a folder for the new one' 4 all '! Device\n' upgrade "$root/tests/old/$old.ub" .
     try 'one in a folder that is not there' 4 all '! Device\n' upgrade "$root/tests/old/$old.ub" missing/new.ub
 done
+rm -f new.ub
 try 'no table file' 4 all '! Device\n' run missing.ub row1.sql
 try 'no script' 4 all '! Device\n' run s.ub missing.sql
 mkdir folder

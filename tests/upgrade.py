@@ -206,7 +206,8 @@ def damages_of_entries(rng, old, put, number):
     yield "count of entries 0", put(own * PAGE + 2, b"\0\0"), f"BadCount page {own}"
     yield "count of entries 171", put(own * PAGE + 2, b"\0\253"), f"BadCount page {own}"
     yield "kind of what leads", put(own * PAGE, b"R"), f"WrongKind page {own}"
-    yield "padding of what leads", put(own * PAGE + rng.choice([8, 15, 4096 - 1]), b"\1"), f"BadPadding page {own}"
+    is_whole = struct.unpack_from(">H", old.pages[own], 2)[0] == ENTRIES
+    yield "padding of what leads", put(own * PAGE + rng.choice([8, 15, 9 if is_whole else PAGE - 1]), b"\1"), f"BadPadding page {own}"
 
 
 def damages_of_regions(rng, old, put):
@@ -262,7 +263,8 @@ def damages_of_index(rng, old, put, number):
     yield "a region too many counted", number(20, len(old.regions) + 1), "BadCount page 0"
     if len(old.regions) > 1:
         yield "a region too few counted", number(20, len(old.regions) - 1), "BadCount page 0"
-    yield "index that begins late", put(root + 35, b"\1"), f"OutOfRegion page {old.root}"
+    if old.pages[old.root][40:60] != bytes(19) + b"\1":
+        yield "index that begins late", put(root + 35, b"\1"), f"OutOfRegion page {old.root}"
     if old.levels > 1:
         yield "the root names itself", number(root + 36, old.root), f"BadCount page {old.root}"
         yield "the root names a region", number(root + 36, old.entries[0][1]), f"WrongKind page {old.entries[0][1]}"
