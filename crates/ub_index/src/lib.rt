@@ -77,6 +77,7 @@
 
 pub mod change;
 mod descent;
+pub mod entries;
 pub mod fault;
 mod goal;
 pub mod index;
@@ -90,6 +91,7 @@ mod told;
 mod turning;
 
 pub use change::Change;
+pub use entries::entries_at;
 pub use fault::IndexFault;
 pub use index::Index;
 pub use seat::Seat;
