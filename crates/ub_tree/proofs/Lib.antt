@@ -1,3 +1,5 @@
+pub mod NumberFacts
+pub mod CheckingFacts
 pub mod TreeFacts
 pub mod WayFacts
 pub mod NewFacts

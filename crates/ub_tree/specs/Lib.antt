@@ -17,5 +17,7 @@ pub mod Opened
 pub mod Others
 pub mod Holding
 pub mod Removal
+pub mod Numbers
+pub mod Checking
 pub mod Laws
 pub mod inner

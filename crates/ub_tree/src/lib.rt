@@ -13,10 +13,12 @@
 #![tactic(auto)]
 
 mod change;
+mod checking;
 mod closing;
 mod creation;
 pub mod fault;
 pub mod law;
+mod numbers;
 mod opening;
 pub mod read_fault;
 mod reading;
