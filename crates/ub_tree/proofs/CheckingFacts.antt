@@ -307,8 +307,10 @@ module _ (schema : Schema) (last level : ℕ) (entry : Entry) (end : Option Key)
       stops_in count before honest has n fault stops =
           let each = stops_here schema last level entries end mid now from to i e next h at next_is count before (still honest) has n fault stops in
           let here = subst (λ (s : StoreFacts). StopsEach (TakesAll (asked_by schema last count from s) level) (StopsIn (asked_by schema last count from s) level) entries end before n fault) same_store each in
-          inr (named honest,
-          subst (λ (es : List Entry). StopsEach (TakesAll (asked_by schema last count from old.store) level) (StopsIn (asked_by schema last count from old.store) level) es end before n fault) (entries_are honest) here)
+          inr (
+            named honest,
+            subst (λ (es : List Entry). StopsEach (TakesAll (asked_by schema last count from old.store) level) (StopsIn (asked_by schema last count from old.store) level) es end before n fault) (entries_are honest) here,
+          )
 
       below_fault : (f : TreeFault) → IsWalkFault schema last level e next now.store to f → IsWalkFault schema last (suc level) entry end old.store from f
       below_fault Full k = absurd k

@@ -1,5 +1,7 @@
 pub mod NumberFacts
 pub mod CheckingFacts
+pub mod ApartFacts
+pub mod TakenFacts
 pub mod TreeFacts
 pub mod WayFacts
 pub mod NewFacts
@@ -34,5 +36,7 @@ pub mod OpeningFacts
 pub mod ClosingFacts
 pub mod CreationFacts
 pub mod ReadFacts
+pub mod WellFacts
+pub mod CheckFacts
 pub mod Example
 pub mod Laws

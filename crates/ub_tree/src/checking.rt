@@ -1,6 +1,6 @@
 // The check of a whole table: from the root of its index on each page is read and looked at in full, before what it leads to. A
 // region's rows put their numbers into a set, so that no number is taken twice.
-ghost use Rattle.std.specs.Prelude.{◌≡◌, ◌≤◌, ◌<◌, ◌++◌, ◌⊎◌, ℕ, [], List, None, false, length, map, drop, IfErr, IsTrue, OnOk};
+ghost use Rattle.std.specs.Prelude.{◌≡◌, ◌≤◌, ◌<◌, ◌++◌, ◌⊎◌, ℕ, [], List, None, false, length, map, drop, Err, IfErr, IfOk, IsTrue, OnOk};
 ghost use Rattle.ub_index.specs.Index.{first_or, top};
 ghost use Rattle.ub_index_page.specs.declared.index.TheConstants.{MAX_LEVEL};
 ghost use Rattle.ub_region.specs.Regions.{rows_of};
@@ -9,20 +9,20 @@ ghost use Rattle.ub_tree.specs.Checking.{Checks, IsWell, TakesAll, asked_for};
 ghost use Rattle.ub_tree.specs.Numbers.{AreNew, HasJust};
 ghost use Rattle.ub_tree.specs.Opened.{IsPassing};
 ghost use Rattle.ub_tree.specs.Placed.{Placed, regions_in};
-ghost use Rattle.ub_tree.specs.View.{IsSound};
+ghost use Rattle.ub_tree.specs.View.{IsSound, region_count};
 ghost use Rattle.ub_tree.specs.inner.Checking.{HasTaken, TakesOn, Walks};
 
 use crate::fault::TreeFault;
 use crate::numbers::Numbers;
 use crate::reading::take_region;
 use crate::tree::Tree;
-use std::alloc::Global;
+use std::alloc::{AllocError, Global};
 use ub_directory::ORIGIN;
 use ub_index::entries_at;
 use ub_page::{Entry, RegionPage};
 use ub_store::{PageStore, Pager};
 use ub_table::{Key, PageFault, Schema};
-use ub_zaddr::last;
+use ub_zaddr::{Shape, last};
 
 /// What a check keeps as it goes.
 #[derive(Drop)]
@@ -35,6 +35,96 @@ pub struct Walk {
     pub numbers: Numbers,
     /// The region that was read last.
     pub region: RegionPage,
+}
+
+impl<S: PageStore> Tree<S> {
+    /// Whether the table's pages are sound, each of them: from the root of the index on each page is read that leads to a region, and
+    /// those of the regions, in the order of their keys. Pages to which no entry leads aren't looked at. Over an honest store Ok comes
+    /// just where all is sound, device and memory aside; nothing is changed, and no region is noted in the trace.
+    ///
+    /// Else the first fault is told: of each page, before what it leads to, what its reader refuses; BadCount where a page of the
+    /// index is of another level; OutOfRegion where a page doesn't begin with the key of the entry that names it, or doesn't end
+    /// before the next one; BadRow where a region has a row with a number that isn't below the next, or that was met before. One
+    /// region more than is counted is BadCount of page 0, before its page is read, and so are fewer regions, or other rows, at the
+    /// end. Store with NoPage comes where there is no such page, with Device where the store failed in this call; Memory where
+    /// memory was refused; Failed where the tree has failed.
+    ///
+    /// It takes memory for a bit for each number below the next, and for one page of the index a level.
+    pub fn check(&mut self) -> Result<(), TreeFault>
+        ensures well { IsHonest self.old.store → OnOk result (IsWell self.old) }
+        ensures exact { IsSound self.old → IfErr result IsPassing }
+        ensures failed { IsTrue self.old.is_failed → result ≡ Err TreeFault.Failed }
+        ensures effect { Checks self.old self.new result }
+    {
+        if self.has_failed() {
+            return Err(TreeFault::Failed);
+        }
+        let mut walk = new_walk(self.alloc, self.count, self.next, self.schema.shape())?;
+        self.check_with(&mut walk)
+    }
+
+    // The same with a walk that hasn't begun.
+    fn check_with(&mut self, walk: &mut Walk) -> Result<(), TreeFault>
+        requires begun { HasTaken (region_count self.old) walk.old [] }
+        requires bound { walk.old.numbers.bound ≡ self.old.next }
+        ensures well { IsHonest self.old.store → OnOk result (IsWell self.old) }
+        ensures effect { Checks self.old self.new result }
+    {
+        let (root, levels) = self.index.root();
+        let last = last(self.schema.shape());
+        let top = root_entry(root);
+        check_under(
+            self.alloc,
+            &mut self.pager,
+            &self.schema,
+            last,
+            levels,
+            &top,
+            None,
+            walk,
+        )?;
+        if walk.left != 0 {
+            return Err(miscounted());
+        }
+        if walk.rows != self.rows {
+            return Err(miscounted());
+        }
+        Ok(())
+    }
+}
+
+// Other regions or rows than are counted.
+fn miscounted() -> TreeFault
+    ensures { result ≡ TreeFault.Page 0 PageFault.BadCount }
+{
+    TreeFault::Page {
+        page: 0,
+        fault: PageFault::BadCount,
+    }
+}
+
+// A walk that hasn't begun, where so many regions are counted, and the next row gets this number.
+fn new_walk(alloc: Global, count: u32, next: u32, shape: Shape) -> Result<Walk, AllocError>
+    ensures begun { IfOk result (λ walk. HasTaken count walk []) }
+    ensures bound { IfOk result (λ walk. walk.numbers.bound ≡ next) }
+{
+    let numbers = Numbers::below(alloc, next)?;
+    Ok(Walk {
+        left: count,
+        rows: 0,
+        numbers,
+        region: RegionPage::empty(shape),
+    })
+}
+
+// The entry by which a root is named.
+fn root_entry(root: u32) -> Entry
+    ensures { result ≡ top root }
+{
+    Entry {
+        first: ORIGIN,
+        page: root,
+    }
 }
 
 // Takes what an entry of this level leads to. It calls itself once a level.
