@@ -13,14 +13,14 @@ use Rattle.ub_table.specs.declared.schema.Schema.{Schema}
 use Rattle.ub_tree.proofs.ReadingFacts.{searched_tree}
 use Rattle.ub_tree.proofs.SearchFacts.{known_is}
 use Rattle.ub_tree.proofs.TakenFacts.{walk_taken}
-use Rattle.ub_tree.proofs.WellFacts.{sound_counts, sound_never}
+use Rattle.ub_tree.proofs.WellFacts.{well_counts, well_never}
 use Rattle.ub_tree.specs.Checking.{Asked, Checks, IsCheckFault, IsWell, StopsIn, TakesAll, TakesTree, asked_for, asked_of}
 use Rattle.ub_tree.specs.Effects.{read_store}
 use Rattle.ub_tree.specs.Indexed.{entries_on}
 use Rattle.ub_tree.specs.Opened.{IsPassing}
 use Rattle.ub_tree.specs.Placed.{Placed, entry_of, placed_of, regions_in}
 use Rattle.ub_tree.specs.Tree.{tree_view}
-use Rattle.ub_tree.specs.View.{TreeView, IsSound}
+use Rattle.ub_tree.specs.View.{TreeView}
 use Rattle.ub_tree.specs.declared.checking.Walk.{Walk}
 use Rattle.ub_tree.specs.declared.fault.TreeFault.{TreeFault}
 use Rattle.ub_tree.specs.declared.fault.TreeFault.TheVariants.{Full, Page, Store, Failed as HasFailed, Memory}
@@ -117,24 +117,30 @@ module _ (schema : Schema) (index : IndexView) (count next rows : ℕ) (changed 
           fault_is = refl;
         })
 
--- a sound tree's check has no other fault than want of memory, or the device's
-pub check_passes : (t : TreeView) → t.inner.index.last < 2 ^ 128 → (IsHonest t.store → t.placed ≡ placed_of t.schema t.store.pages (entries_on t.inner.index t.store.pages)) → IsSound t
-    → (f : TreeFault) → IsCheckFault t f → IsPassing f
-check_passes t small told sound Full h = absurd h
-check_passes t small told sound HasFailed h = (let works = sound.working in cc)
-check_passes t small told sound Memory h = inl refl
-check_passes t small told sound (Page n fault) h = elim (h sound.honest) [
-  | inl stops ↦ absurd (sound_never t sound (sym (told sound.honest ∙ ap (λ (es : List Entry). placed_of t.schema t.store.pages es) sound.indexed.entries_are)) small n (Some fault) stops)
-  | inr counts ↦ absurd (sound_counts t sound (sym (told sound.honest ∙ ap (λ (es : List Entry). placed_of t.schema t.store.pages es) sound.indexed.entries_are)) n fault counts)
-]
-check_passes t small told sound (Store store.Device) h = inr refl
-check_passes t small told sound (Store store.Memory) h = absurd h
-check_passes t small told sound (Store store.BadSize) h = absurd h
-check_passes t small told sound (Store store.NoPage) h =
-    let stops = h sound.honest in
-    absurd (sound_never t sound (sym (told sound.honest ∙ ap (λ (es : List Entry). placed_of t.schema t.store.pages es) sound.indexed.entries_are)) small stops.0 None stops.1)
-
 -- nothing is changed by a check that hasn't begun
 pub not_begun : {T : Type 0} (r : Result T TreeFault) (a b : TreeView) → IsErrAnd r (λ x. x ≡ Memory) → b ≡ a → Checks a b r
 not_begun (Ok x) a b is same = absurd is
 not_begun (Err f) a b is same = rw is (record { same = same; faults = tt })
+
+-- the regions of a tree are those that its index tells on its store's pages
+pub view_told : (schema : Schema) (index : IndexView) (count next rows : ℕ) (changed failed : Bool) (old : PagerView) → IsHonest old.store
+    → (tree_view schema index count next rows changed failed old).placed ≡ placed_of schema old.store.pages (entries_on index old.store.pages)
+view_told schema index count next rows changed failed old honest = ap (λ (ps : List (List ℕ)). placed_of schema ps (entries_on index ps)) (known_is old.store honest)
+
+-- a tree whose pages are well is checked to its end
+pub well_passes : (t : TreeView) → t.inner.index.last < 2 ^ 128 → t.is_failed ≡ false → IsHonest t.store → IsWell t → (f : TreeFault) → IsCheckFault t f → IsPassing f
+well_passes t small works honest well Full h = absurd h
+well_passes t small works honest well HasFailed h = cc
+well_passes t small works honest well Memory h = inl refl
+well_passes t small works honest well (Page n fault) h = elim (h honest) [
+  | inl stops ↦ absurd (well_never t small well n (Some fault) stops)
+  | inr counts ↦ absurd (well_counts t well n fault counts)
+]
+well_passes t small works honest well (Store store.Device) h = inr refl
+well_passes t small works honest well (Store store.Memory) h = absurd h
+well_passes t small works honest well (Store store.BadSize) h = absurd h
+well_passes t small works honest well (Store store.NoPage) h = let stops = h honest in absurd (well_never t small well stops.0 None stops.1)
+
+pub err_passes : {T : Type 0} (r : Result T TreeFault) (P : TreeFault → Type 0) → IfErr r P → ((f : TreeFault) → P f → IsPassing f) → IfErr r IsPassing
+err_passes (Ok x) P h k = tt
+err_passes (Err f) P h k = k f h

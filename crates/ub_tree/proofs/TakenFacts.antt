@@ -238,3 +238,37 @@ module _ (asked : Asked) where
         named_not_refused asked.last small asked.pages [] origin (suc level) e end fault is.0 refused.1
     walk_never (suc level) e end before after n fault is h few (inr stops) =
         each_never level (walk_never level) (entries_of asked.pages e.page) end before after n fault is.1 h few stops.1
+
+  -- and takes all
+  take_one : (e : Entry) (end : Option Key) (before after : List Placed) → IsTaken asked (e ∷ []) end before after → length after ≤ asked.count → TakesRegion asked e end before after
+  take_one e end before after h few =
+      let long = ap (λ (ps : List Placed). length ps) h.after_is ∙ one_more before (placed_at asked.schema asked.pages e) in
+      record {
+        counted = omega arith;
+        region = (placed_at asked.schema asked.pages e).region;
+        stands = h.stands.0;
+        new = subst (λ (rows : List Row). AreNew asked.next (numbers_in before) (numbers_of rows)) (append-nil (placed_at asked.schema asked.pages e).region.rows) h.new;
+        after_is = h.after_is;
+      }
+
+  take_each : (level : ℕ) → ((e : Entry) (end : Option Key) (before after : List Placed) → IsUnder asked.last asked.pages level e end
+      → IsTaken asked (under asked.pages level e) end before after → length after ≤ asked.count → TakesAll asked level e end before after)
+      → (xs : List Entry) (end : Option Key) (before after : List Placed) → EachTo (IsUnder asked.last asked.pages level) xs end
+      → IsTaken asked (flat_map (under asked.pages level) xs) end before after → length after ≤ asked.count → TakesEach (TakesAll asked level) xs end before after
+  take_each level one [] end before after each h few = h.after_is ∙ append-nil before
+  take_each level one (x ∷ xs) end before after each h few =
+      let first = taken_left (under asked.pages level x) (flat_map (under asked.pages level) xs) end before after h in
+      let rest = taken_right (under asked.pages level x) (flat_map (under asked.pages level) xs) end before after h in
+      let long = ap (λ (ps : List Placed). length ps) rest.after_is
+      ∙ length-append (before ++ placed_of asked.schema asked.pages (under asked.pages level x)) (placed_of asked.schema asked.pages (flat_map (under asked.pages level) xs)) in (
+        before ++ placed_of asked.schema asked.pages (under asked.pages level x),
+        one x (first_or xs end) before (before ++ placed_of asked.schema asked.pages (under asked.pages level x)) each.0
+            (subst (λ (o : Option Key). IsTaken asked (under asked.pages level x) o before (before ++ placed_of asked.schema asked.pages (under asked.pages level x))) (first_under level xs end each.1) first)
+            (omega arith),
+        take_each level one xs end (before ++ placed_of asked.schema asked.pages (under asked.pages level x)) after each.1 rest few,
+      )
+
+  pub taken_walk : (level : ℕ) (e : Entry) (end : Option Key) (before after : List Placed) → IsUnder asked.last asked.pages level e end
+      → IsTaken asked (under asked.pages level e) end before after → length after ≤ asked.count → TakesAll asked level e end before after
+  taken_walk zero e end before after is h few = take_one e end before after h few
+  taken_walk (suc level) e end before after is h few = (is.0, take_each level (taken_walk level) (entries_of asked.pages e.page) end before after is.1 h few)

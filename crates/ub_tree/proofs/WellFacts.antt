@@ -22,7 +22,7 @@ use Rattle.ub_table.specs.declared.row.Key.{Key}
 use Rattle.ub_table.specs.declared.row.Row.{Row}
 use Rattle.ub_table.specs.declared.schema.Schema.{Schema}
 use Rattle.ub_tree.proofs.ApartFacts.{IsOnPage, all_differ, under_differ, under_from}
-use Rattle.ub_tree.proofs.TakenFacts.{IsTaken, new_below, new_differ, new_of, walk_never, walk_taken}
+use Rattle.ub_tree.proofs.TakenFacts.{IsTaken, new_below, new_differ, new_of, taken_walk, walk_never, walk_taken}
 use Rattle.ub_tree.specs.Checking.{Asked, IsMiscounted, IsWell, StandsHere, StopsTree, TakesTree, asked_for, asked_of, numbers_in, numbers_of}
 use Rattle.ub_tree.specs.Numbers.{AreNew, IsNone}
 use Rattle.ub_tree.proofs.TreeFacts.{entries_back, firsts_back, placed_at}
@@ -221,18 +221,32 @@ module _ (t : TreeView) (sound : IsSound t) (told : placed_of t.schema t.store.p
         after_is = sym placed_told;
       }
 
-  -- so a check of it stops nowhere, and counts what it counts
-  pub sound_never : t.inner.index.last < 2 ^ 128 → (n : ℕ) (fault : Option PageFault) → ¬ (StopsTree t n fault)
-  sound_never small n fault stops =
-      let count = sound.count_is in
-      walk_never (asked_of t) small t.inner.index.levels (top t.inner.index.root) None [] t.placed n fault sound.indexed.under_it sound_taken (omega arith) stops
+  -- so its pages are well
+  pub sound_well : IsWell t
+  sound_well = record {
+    takes = taken_walk (asked_of t) t.inner.index.levels (top t.inner.index.root) None [] t.placed sound.indexed.under_it sound_taken (let count = sound.count_is in omega arith);
+    count_is = sound.count_is;
+    rows_are = sound.rows_are;
+  }
 
-  pub sound_counts : (n : ℕ) (fault : PageFault) → ¬ (IsMiscounted t n fault)
-  sound_counts n fault h =
-      let walked = (walk_taken (asked_of t) t.inner.index.levels (top t.inner.index.root) None [] h.after h.takes).1.after_is in
-      let same : h.after ≡ t.placed = walked ∙ placed_told in
+-- a tree whose pages are well: its check stops nowhere, and counts what it counts
+module _ (t : TreeView) where
+  walked : (after : List Placed) → TakesTree t after
+      → IsUnder t.inner.index.last t.store.pages t.inner.index.levels (top t.inner.index.root) None
+      × IsTaken (asked_of t) (under t.store.pages t.inner.index.levels (top t.inner.index.root)) None [] after
+  walked after takes = walk_taken (asked_of t) t.inner.index.levels (top t.inner.index.root) None [] after takes
+
+  pub well_never : t.inner.index.last < 2 ^ 128 → IsWell t → (n : ℕ) (fault : Option PageFault) → ¬ (StopsTree t n fault)
+  well_never small well n fault stops =
+      let all = walked t.placed well.takes in
+      let count = well.count_is in
+      walk_never (asked_of t) small t.inner.index.levels (top t.inner.index.root) None [] t.placed n fault all.0 all.1 (omega arith) stops
+
+  pub well_counts : IsWell t → (n : ℕ) (fault : PageFault) → ¬ (IsMiscounted t n fault)
+  well_counts well n fault h =
+      let same : h.after ≡ t.placed = (walked h.after h.takes).1.after_is ∙ sym (walked t.placed well.takes).1.after_is in
       by_counts (subst (λ (ps : List Placed). (length ps < region_count t) ⊎ ((length ps ≡ region_count t) × (¬ (t.rows ≡ length (rows_of (regions_in ps)))))) same h.counts)
     where
       by_counts : (length t.placed < region_count t) ⊎ ((length t.placed ≡ region_count t) × (¬ (t.rows ≡ length (rows_of (regions_in t.placed))))) → ⊥
-      by_counts (inl less) = let count = sound.count_is in omega arith
-      by_counts (inr other) = other.1 sound.rows_are
+      by_counts (inl less) = let count = well.count_is in omega arith
+      by_counts (inr other) = other.1 well.rows_are

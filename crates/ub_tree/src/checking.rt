@@ -52,7 +52,9 @@ impl<S: PageStore> Tree<S> {
     /// It takes memory for a bit for each number below the next, and for one page of the index a level.
     pub fn check(&mut self) -> Result<(), TreeFault>
         ensures well { IsHonest self.old.store → OnOk result (IsWell self.old) }
-        ensures exact { IsSound self.old → IfErr result IsPassing }
+        ensures exact { IsHonest self.old.store → IsWell self.old → self.old.is_failed ≡ false
+            → IfErr result IsPassing }
+        ensures sound { IsSound self.old → IfErr result IsPassing }
         ensures failed { IsTrue self.old.is_failed → result ≡ Err TreeFault.Failed }
         ensures effect { Checks self.old self.new result }
     {
