@@ -122,11 +122,6 @@ pub not_begun : {T : Type 0} (r : Result T TreeFault) (a b : TreeView) → IsErr
 not_begun (Ok x) a b is same = absurd is
 not_begun (Err f) a b is same = rw is (record { same = same; faults = tt })
 
--- the regions of a tree are those that its index tells on its store's pages
-pub view_told : (schema : Schema) (index : IndexView) (count next rows : ℕ) (changed failed : Bool) (old : PagerView) → IsHonest old.store
-    → (tree_view schema index count next rows changed failed old).placed ≡ placed_of schema old.store.pages (entries_on index old.store.pages)
-view_told schema index count next rows changed failed old honest = ap (λ (ps : List (List ℕ)). placed_of schema ps (entries_on index ps)) (known_is old.store honest)
-
 -- a tree whose pages are well is checked to its end
 pub well_passes : (t : TreeView) → t.inner.index.last < 2 ^ 128 → t.is_failed ≡ false → IsHonest t.store → IsWell t → (f : TreeFault) → IsCheckFault t f → IsPassing f
 well_passes t small works honest well Full h = absurd h

@@ -25,6 +25,8 @@ use Rattle.ub_tree.proofs.ApartFacts.{IsOnPage, all_differ, under_differ, under_
 use Rattle.ub_tree.proofs.TakenFacts.{IsTaken, new_below, new_differ, new_of, taken_walk, walk_never, walk_taken}
 use Rattle.ub_tree.specs.Checking.{Asked, IsMiscounted, IsWell, StandsHere, StopsTree, TakesTree, asked_for, asked_of, numbers_in, numbers_of}
 use Rattle.ub_tree.specs.Numbers.{AreNew, IsNone}
+use Rattle.ub_page.proofs.PageLaws.{region_parts}
+use Rattle.ub_tree.proofs.StoredFacts.{IsSpelled, IsTold, placed_told}
 use Rattle.ub_tree.proofs.TreeFacts.{entries_back, firsts_back, placed_at}
 use Rattle.ub_tree.specs.Indexed.{HasIndex, reserved}
 use Rattle.ub_tree.proofs.CallFacts.{last_small}
@@ -200,25 +202,36 @@ module _ (facts : StoreFacts) (t : TreeView) (honest : IsHonest facts) (opened :
       }
 
 -- a sound tree's regions are taken
-module _ (t : TreeView) (sound : IsSound t) (told : placed_of t.schema t.store.pages (map entry_of t.placed) ≡ t.placed) where
+module _ (t : TreeView) (sound : IsSound t) where
+  told_each : (ps : List Placed) → AllByRecursion (IsRegion t.schema) (regions_in ps) → AllByRecursion (IsSpelled t.schema t.store.pages) ps
+      → AllByRecursion (IsTold t.schema t.store.pages) ps
+  told_each [] regions_are spelled = tt
+  told_each (p ∷ ps) regions_are spelled =
+      ((spelled.0, (region_parts t.schema p.region (region_page t.schema p.region) regions_are.0 refl).on), told_each ps regions_are.1 spelled.1)
+
+  told : placed_of t.schema t.store.pages (map entry_of t.placed) ≡ t.placed
+  told =
+      placed_told t.schema t.store.pages t.placed
+      (told_each t.placed sound.regions_are.each (recursion_from_All (IsSpelled t.schema t.store.pages) t.placed sound.placed_are.spelled))
+
   sound_entries : under t.store.pages t.inner.index.levels (top t.inner.index.root) ≡ map entry_of t.placed
   sound_entries = sound.indexed.entries_are
 
-  placed_told : placed_of t.schema t.store.pages (under t.store.pages t.inner.index.levels (top t.inner.index.root)) ≡ t.placed
-  placed_told = ap (λ (es : List Entry). placed_of t.schema t.store.pages es) sound_entries ∙ told
+  told_under : placed_of t.schema t.store.pages (under t.store.pages t.inner.index.levels (top t.inner.index.root)) ≡ t.placed
+  told_under = ap (λ (es : List Entry). placed_of t.schema t.store.pages es) sound_entries ∙ told
 
   sound_taken : IsTaken (asked_of t) (under t.store.pages t.inner.index.levels (top t.inner.index.root)) None [] t.placed
   sound_taken =
       let es = under t.store.pages t.inner.index.levels (top t.inner.index.root) in
-      let regions_are = subst (λ (ps : List Placed). AreRegions t.schema t.next (regions_in ps)) (sym placed_told) sound.regions_are in
+      let regions_are = subst (λ (ps : List Placed). AreRegions t.schema t.next (regions_in ps)) (sym told_under) sound.regions_are in
       let spelled = recursion_from_All (λ p. slice_get t.store.pages p.page ≡ Some (region_page t.schema p.region)) t.placed sound.placed_are.spelled in
       record {
         stands = each_stands (asked_of t) es regions_are.each regions_are.apart
-            (subst (λ (ps : List Placed). AllByRecursion (λ p. slice_get t.store.pages p.page ≡ Some (region_page t.schema p.region)) ps) (sym placed_told) spelled);
+            (subst (λ (ps : List Placed). AllByRecursion (λ p. slice_get t.store.pages p.page ≡ Some (region_page t.schema p.region)) ps) (sym told_under) spelled);
         new = new_of t.next [] (numbers_in (placed_of t.schema t.store.pages es))
             (numbers_below t.next (rows_of (regions_in (placed_of t.schema t.store.pages es))) regions_are.numbered)
             (none_met (numbers_in (placed_of t.schema t.store.pages es))) regions_are.distinct;
-        after_is = sym placed_told;
+        after_is = sym told_under;
       }
 
   -- so its pages are well
