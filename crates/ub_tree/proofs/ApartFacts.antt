@@ -1,6 +1,6 @@
 -- No two pages are one that an index and its regions stand on: pages of the index differ by their levels and first keys, those of
 -- regions by their first keys, and the one from the other by their kinds.
-use Rattle.std.proofs.Common.{◌≡◌, ◌≢◌, ◌≤◌, ◌<◌, ◌^◌, ◌++◌, inl, inr, ℕ, zero, suc, List, [], ◌∷◌, Option, Some, None, IfSome, nat_eq, map, slice_get, ap, refl, sym, ◌∙◌, arith, subst}
+use Rattle.std.proofs.Common.{◌≡◌, ◌≢◌, ◌≤◌, ◌<◌, ◌^◌, ◌++◌, ℕ, zero, suc, List, [], ◌∷◌, Option, Some, None, IfSome, nat_eq, map, slice_get, ap, refl, sym, ◌∙◌, arith, subst}
 use Rattle.std.specs.List.{AllByRecursion, IsDistinct, flat_map}
 use Rattle.ub_index.proofs.FitFacts.{page_is}
 use Rattle.ub_index.proofs.KeyFacts.{le_trans}
@@ -13,7 +13,7 @@ use Rattle.ub_index_page.specs.Index.{node_on}
 use Rattle.ub_page.proofs.PageLaws.{region_parts}
 use Rattle.ub_page.specs.Bytes.{number_at}
 use Rattle.ub_page.specs.Entries.{IsEntry}
-use Rattle.ub_page.specs.Region.{region_on, region_page}
+use Rattle.ub_page.specs.Region.{region_page}
 use Rattle.ub_page.specs.declared.entries.Entry.{Entry}
 use Rattle.ub_region.proofs.Laws.{all_after, all_append, all_more, up_tail}
 use Rattle.ub_region.specs.Regions.{firsts_of}

@@ -1,11 +1,11 @@
 -- The check of a tree: what its walk from the root comes to.
-use Rattle.std.proofs.Common.{◌≡◌, ◌≤◌, ◌<◌, ◌+◌, ◌^◌, ◌⊎◌, inl, inr, ℕ, Bool, true, false, List, [], ◌∷◌, Option, Some, None, Result, Ok, Err, IfErr, OnOk, length, map, min, ap, refl, sym, ◌∙◌, arith, subst}
+use Rattle.std.proofs.Common.{◌≡◌, ◌<◌, ◌^◌, inl, inr, ℕ, Bool, false, List, [], Some, None, Result, Ok, Err, IfErr, length, min, ap, refl, sym, ◌∙◌, arith, subst}
 use Rattle.std.specs.Result.{IsErrAnd}
 use Rattle.ub_index.specs.Index.{top, under}
 use Rattle.ub_index.specs.View.{IndexView}
 use Rattle.ub_page.specs.declared.entries.Entry.{Entry}
 use Rattle.ub_region.specs.Regions.{rows_of}
-use Rattle.ub_store.specs.Facts.{StoreFacts, IsHonest}
+use Rattle.ub_store.specs.Facts.{IsHonest}
 use Rattle.ub_store.specs.View.{PagerView, SameTrace}
 use Rattle.ub_store.specs.declared.fault.StoreFault.TheVariants as store
 use Rattle.ub_table.specs.declared.fault.PageFault.TheVariants.{BadCount}
@@ -18,7 +18,7 @@ use Rattle.ub_tree.specs.Checking.{Asked, Checks, IsCheckFault, IsWell, StopsIn,
 use Rattle.ub_tree.specs.Effects.{read_store}
 use Rattle.ub_tree.specs.Indexed.{entries_on}
 use Rattle.ub_tree.specs.Opened.{IsPassing}
-use Rattle.ub_tree.specs.Placed.{Placed, entry_of, placed_of, regions_in}
+use Rattle.ub_tree.specs.Placed.{Placed, placed_of, regions_in}
 use Rattle.ub_tree.specs.Tree.{tree_view}
 use Rattle.ub_tree.specs.View.{TreeView}
 use Rattle.ub_tree.specs.declared.checking.Walk.{Walk}

@@ -1,12 +1,11 @@
 -- A bit for each number: what one number more changes.
-use Rattle.std.proofs.Common.{◌≡◌, ◌≢◌, ◌<◌, ◌/◌, ◌%◌, ◌*◌, ◌^◌, ◌++◌, ◌⊎◌, ◌↔◌, inl, inr, ℕ, List, [], ◌∷◌, length, slice_index_or, slice_set, get_or, set, bit_or, ap, refl, sym, ◌∙◌, arith, subst}
+use Rattle.std.proofs.Common.{◌≡◌, ◌≢◌, ◌<◌, ◌/◌, ◌%◌, ◌*◌, ◌^◌, ◌++◌, inl, inr, ℕ, List, [], ◌∷◌, length, slice_index_or, slice_set, bit_or, ap, sym, ◌∙◌, arith, subst}
 use Rattle.std.proofs.lemmas.Bool.{cases_eq}
 use Rattle.std.proofs.lemmas.List.{get_or-set_same, get_or-set_other}
 use Rattle.std.proofs.lemmas.Nat.Bits.{bit_at-lt, bit_at_set_same, bit_at_set_other}
 use Rattle.std.specs.Int.{bit_at, w64}
-use Rattle.std.specs.List.{AllByRecursion}
 use Rattle.ub_region.proofs.Laws.{all_append, all_left, all_right}
-use Rattle.ub_tree.specs.Numbers.{HasJust, IsNone, NumbersView, bit_of, numbers_view}
+use Rattle.ub_tree.specs.Numbers.{HasJust, IsNone, bit_of, numbers_view}
 
 -- a number that isn't 1, of a bit, is 0
 not_one : (b : ℕ) → b < 2 → b ≢ 1 → b ≡ 0

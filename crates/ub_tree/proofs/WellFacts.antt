@@ -1,13 +1,13 @@
 -- What a check takes of a tree is what makes its pages sound, and over sound pages it takes all.
-use Rattle.std.proofs.Common.{◌≡◌, ◌≢◌, ◌≤◌, ◌<◌, ◌^◌, ◌++◌, ◌⊎◌, inl, inr, ℕ, zero, suc, true, false, List, [], ◌∷◌, Option, Some, None, IfSome, nat_eq, length, map, slice_get, ap, refl, sym, ◌∙◌, arith, subst}
+use Rattle.std.proofs.Common.{◌≡◌, ◌≤◌, ◌<◌, ◌^◌, ◌⊎◌, inl, inr, ℕ, List, [], ◌∷◌, Option, Some, None, length, map, slice_get, ap, refl, sym, ◌∙◌, arith, subst}
 use Rattle.std.proofs.lemmas.List.Elements.{All-from_recursion, recursion_from_All}
 use Rattle.std.proofs.lemmas.Option.{slice_get_within}
-use Rattle.std.specs.List.{All, AllByRecursion, IsDistinct}
+use Rattle.std.specs.List.{AllByRecursion}
 use Rattle.ub_directory.specs.Spans.{first_keys}
 use Rattle.ub_index.proofs.Numbers.{within_store}
 use Rattle.ub_index.proofs.PlaceFacts.{begins, each_entry, up}
-use Rattle.ub_index.specs.Index.{EachTo, IsUnder, first_or, pages_under, top, under}
-use Rattle.ub_index.specs.View.{IndexView, IsIndexOn, entries_in}
+use Rattle.ub_index.specs.Index.{EachTo, IsUnder, pages_under, top, under}
+use Rattle.ub_index.specs.View.{IndexView, IsIndexOn}
 use Rattle.ub_page.specs.Entries.{IsEntry}
 use Rattle.ub_page.specs.Header.{header_page}
 use Rattle.ub_page.specs.Region.{region_page}
@@ -15,15 +15,15 @@ use Rattle.ub_page.specs.declared.entries.Entry.{Entry}
 use Rattle.ub_region.proofs.Laws.{all_more, ascending_of}
 use Rattle.ub_region.specs.Regions.{AreApart, AreRegions, firsts_of, rows_of}
 use Rattle.ub_store.specs.Facts.{StoreFacts, IsHonest}
-use Rattle.ub_table.specs.Keys.{IsBefore, AreKeysAscending, are_ascending, origin}
-use Rattle.ub_table.specs.Region.{Region, IsRegion}
+use Rattle.ub_table.specs.Keys.{AreKeysAscending, origin}
+use Rattle.ub_table.specs.Region.{IsRegion}
 use Rattle.ub_table.specs.declared.fault.PageFault.{PageFault}
 use Rattle.ub_table.specs.declared.row.Key.{Key}
 use Rattle.ub_table.specs.declared.row.Row.{Row}
 use Rattle.ub_table.specs.declared.schema.Schema.{Schema}
 use Rattle.ub_tree.proofs.ApartFacts.{IsOnPage, all_differ, under_differ, under_from}
 use Rattle.ub_tree.proofs.TakenFacts.{IsTaken, new_below, new_differ, new_of, taken_walk, walk_never, walk_taken}
-use Rattle.ub_tree.specs.Checking.{Asked, IsMiscounted, IsWell, StandsHere, StopsTree, TakesTree, asked_for, asked_of, numbers_in, numbers_of}
+use Rattle.ub_tree.specs.Checking.{Asked, IsMiscounted, IsWell, StandsHere, StopsTree, TakesTree, asked_of, numbers_in, numbers_of}
 use Rattle.ub_tree.specs.Numbers.{AreNew, IsNone}
 use Rattle.ub_page.proofs.PageLaws.{region_parts}
 use Rattle.ub_tree.proofs.StoredFacts.{IsSpelled, IsTold, placed_told}
@@ -32,8 +32,8 @@ use Rattle.ub_tree.specs.Indexed.{HasIndex, reserved}
 use Rattle.ub_tree.proofs.CallFacts.{last_small}
 use Rattle.ub_tree.specs.Opened.{IsOpened, IsRooted}
 use Rattle.ub_tree.specs.Placed.{Placed, ArePlaced, entry_of, placed_of, regions_in}
-use Rattle.ub_tree.specs.Stored.{AreSoundPages, index_of}
-use Rattle.ub_tree.specs.View.{TreeView, IsSound, region_count, regions, tree_rows}
+use Rattle.ub_tree.specs.Stored.{AreSoundPages}
+use Rattle.ub_tree.specs.View.{TreeView, IsSound, region_count, regions}
 use Rattle.ub_zaddr.specs.Address.{last_address}
 
 -- what holds of the numbers of rows holds of the rows

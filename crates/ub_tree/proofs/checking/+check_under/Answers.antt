@@ -1,9 +1,8 @@
-use Rattle.std.proofs.Common.{Err, [], ◌≡◌, ◌≤◌, ◌<◌, ◌+◌, ◌-◌, ◌∙◌, suc, ℕ, List, Some, OnOk, drop, length, slice_get, slice_index_or, ap, arith, rules, refl, subst, sym}
+use Rattle.std.proofs.Common.{Err, [], ◌≡◌, ◌≤◌, ◌<◌, ◌+◌, ◌-◌, ◌∙◌, suc, ℕ, List, Some, OnOk, drop, length, slice_get, slice_index_or, ap, arith, rules, subst, sym}
 use Rattle.std.proofs.lemmas.Option.{slice_get-get_or}
 use Rattle.ub_index.specs.Descending.{Steps}
 use Rattle.ub_index.specs.Index.{NamesFitting, first_or}
 use Rattle.ub_page.specs.declared.entries.Entry.{Entry}
-use Rattle.ub_store.specs.Facts.{IsHonest}
 use Rattle.ub_tree.proofs.CheckingFacts.{below_stops, page_stops, page_taken, walked_more}
 use Rattle.ub_tree.specs.inner.Checking.{IsWalkedTo, TakesOn, Walks}
 use Rattle.ub_tree.proofs.checking.+check_under.Goals as goal

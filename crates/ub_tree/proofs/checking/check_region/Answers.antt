@@ -1,9 +1,8 @@
-use Rattle.std.proofs.Common.{◌≡◌, Bool, List, Some, ℕ, map, rules, slice_get, subst, sym, ap, ◌∙◌, ◌-◌, ◌++◌, refl}
+use Rattle.std.proofs.Common.{Bool, List, Some, ℕ, rules, subst, ap, ◌∙◌, ◌-◌, ◌++◌, refl}
 use Rattle.ub_store.specs.Facts.{IsHonest}
-use Rattle.ub_table.specs.Region.{keys_of}
 use Rattle.ub_tree.proofs.CheckingFacts.{keyed, region_not_new, region_taken, region_unread}
 use Rattle.ub_tree.proofs.ReadingFacts.{page_still}
-use Rattle.ub_tree.specs.Checking.{StandsHere, numbers_of}
+use Rattle.ub_tree.specs.Checking.{StandsHere}
 use Rattle.ub_tree.specs.Numbers.{AreNew, HasJust}
 use Rattle.ub_tree.specs.inner.Checking.{asked_by}
 use Rattle.ub_tree.proofs.checking.check_region.Goals as goal

@@ -1,4 +1,4 @@
-use Rattle.std.proofs.Common.{◌≡◌, ◌<◌, ◌∙◌, ℕ, [], Err, ap, arith, subst, sym}
+use Rattle.std.proofs.Common.{◌≡◌, ◌<◌, ◌∙◌, ℕ, [], ap, arith, subst, sym}
 use Rattle.ub_index.specs.Index.{top}
 use Rattle.ub_store.specs.View.{PagerView}
 use Rattle.ub_tree.proofs.CheckFacts.{run_ends, run_fewer, run_other, run_refused, run_well}
