@@ -13,7 +13,7 @@ use Rattle.ub_table.specs.declared.schema.Schema.{Schema}
 use Rattle.ub_tree.proofs.ReadingFacts.{searched_tree}
 use Rattle.ub_tree.proofs.SearchFacts.{known_is}
 use Rattle.ub_tree.proofs.TakenFacts.{walk_taken}
-use Rattle.ub_tree.proofs.WellFacts.{well_counts, well_never}
+use Rattle.ub_tree.proofs.OnceFacts.{well_first}
 use Rattle.ub_tree.specs.Checking.{Asked, Checks, IsCheckFault, IsWell, StopsIn, TakesAll, TakesTree, asked_for, asked_of}
 use Rattle.ub_tree.specs.Effects.{read_store}
 use Rattle.ub_tree.specs.Indexed.{entries_on}
@@ -127,14 +127,11 @@ pub well_passes : (t : TreeView) → t.inner.index.last < 2 ^ 128 → t.is_faile
 well_passes t small works honest well Full h = absurd h
 well_passes t small works honest well HasFailed h = cc
 well_passes t small works honest well Memory h = inl refl
-well_passes t small works honest well (Page n fault) h = elim (h honest) [
-  | inl stops ↦ absurd (well_never t small well n (Some fault) stops)
-  | inr counts ↦ absurd (well_counts t well n fault counts)
-]
+well_passes t small works honest well (Page n fault) h = absurd (well_first t small well (Page n fault) (h honest))
 well_passes t small works honest well (Store store.Device) h = inr refl
 well_passes t small works honest well (Store store.Memory) h = absurd h
 well_passes t small works honest well (Store store.BadSize) h = absurd h
-well_passes t small works honest well (Store store.NoPage) h = let stops = h honest in absurd (well_never t small well stops.0 None stops.1)
+well_passes t small works honest well (Store store.NoPage) h = absurd (well_first t small well (Store store.NoPage) (h honest))
 
 pub err_passes : {T : Type 0} (r : Result T TreeFault) (P : TreeFault → Type 0) → IfErr r P → ((f : TreeFault) → P f → IsPassing f) → IfErr r IsPassing
 err_passes (Ok x) P h k = tt

@@ -37,6 +37,7 @@ pub mod ClosingFacts
 pub mod CreationFacts
 pub mod ReadFacts
 pub mod WellFacts
+pub mod OnceFacts
 pub mod CheckFacts
 pub mod Example
 pub mod Laws

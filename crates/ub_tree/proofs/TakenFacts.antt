@@ -181,7 +181,7 @@ module _ (asked : Asked) where
       ((h.0, each.0), each.1)
 
   -- and where that stands a check doesn't stop
-  region_good : (e : Entry) (end : Option Key) (region : Region) (page : List ℕ) (fault : PageFault) → StandsHere asked e end region
+  pub region_good : (e : Entry) (end : Option Key) (region : Region) (page : List ℕ) (fault : PageFault) → StandsHere asked e end region
       → slice_get asked.pages e.page ≡ Some page → ¬ (IsRegionRefused asked.schema e.first end page fault)
   region_good e end region page fault h at (inl refused) =
       let same : page ≡ region_page asked.schema region = (let spelled = h.spelled in cc) in

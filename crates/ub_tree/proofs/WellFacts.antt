@@ -241,25 +241,3 @@ module _ (t : TreeView) (sound : IsSound t) where
     count_is = sound.count_is;
     rows_are = sound.rows_are;
   }
-
--- a tree whose pages are well: its check stops nowhere, and counts what it counts
-module _ (t : TreeView) where
-  walked : (after : List Placed) → TakesTree t after
-      → IsUnder t.inner.index.last t.store.pages t.inner.index.levels (top t.inner.index.root) None
-      × IsTaken (asked_of t) (under t.store.pages t.inner.index.levels (top t.inner.index.root)) None [] after
-  walked after takes = walk_taken (asked_of t) t.inner.index.levels (top t.inner.index.root) None [] after takes
-
-  pub well_never : t.inner.index.last < 2 ^ 128 → IsWell t → (n : ℕ) (fault : Option PageFault) → ¬ (StopsTree t n fault)
-  well_never small well n fault stops =
-      let all = walked t.placed well.takes in
-      let count = well.count_is in
-      walk_never (asked_of t) small t.inner.index.levels (top t.inner.index.root) None [] t.placed n fault all.0 all.1 (omega arith) stops
-
-  pub well_counts : IsWell t → (n : ℕ) (fault : PageFault) → ¬ (IsMiscounted t n fault)
-  well_counts well n fault h =
-      let same : h.after ≡ t.placed = (walked h.after h.takes).1.after_is ∙ sym (walked t.placed well.takes).1.after_is in
-      by_counts (subst (λ (ps : List Placed). (length ps < region_count t) ⊎ ((length ps ≡ region_count t) × (¬ (t.rows ≡ length (rows_of (regions_in ps)))))) same h.counts)
-    where
-      by_counts : (length t.placed < region_count t) ⊎ ((length t.placed ≡ region_count t) × (¬ (t.rows ≡ length (rows_of (regions_in t.placed))))) → ⊥
-      by_counts (inl less) = let count = well.count_is in omega arith
-      by_counts (inr other) = other.1 well.rows_are

@@ -5,7 +5,8 @@ use Rattle.ub_index.specs.Index.{NamesFitting, entries_of, first_or, top}
 use Rattle.ub_page.specs.Region.{region_page}
 use Rattle.ub_page.specs.declared.entries.Entry.{Entry}
 use Rattle.ub_region.specs.Regions.{rows_of}
-use Rattle.ub_store.specs.Facts.{IsHonest}
+use Rattle.ub_store.specs.Facts.{StoreFacts, IsHonest}
+use Rattle.ub_store.specs.View.{PagerView}
 use Rattle.ub_store.specs.declared.fault.StoreFault.TheVariants as store
 use Rattle.ub_table.specs.Region.{Region, IsRegion}
 use Rattle.ub_table.specs.declared.fault.PageFault.TheVariants.{BadCount, BadRow}
@@ -125,14 +126,20 @@ pub record IsMiscounted (t : TreeView) (n : ℕ) (fault : PageFault) : Type 0 wh
 abbrev pub StopsTree : TreeView → ℕ → Option PageFault → Type 0
 StopsTree t n fault = StopsIn (asked_of t) t.inner.index.levels (top t.inner.index.root) None [] n fault
 
--- what a check can answer: over an honest store a page's fault is the first on the walk, or that of the counts at its end
+-- the fault at which the check of a tree stops, the first on the walk, or that of the counts at its end; there is no other
+abbrev pub IsFirstFault : TreeView → TreeFault → Type 0
+IsFirstFault t (Page n fault) = StopsTree t n (Some fault) ⊎ IsMiscounted t n fault
+IsFirstFault t (Store store.NoPage) = (n : ℕ) × StopsTree t n None
+IsFirstFault t _ = ⊥
+
+-- what a check can answer: over an honest store the fault of a page, or that there is none, is the first
 abbrev pub IsCheckFault : TreeView → TreeFault → Type 0
 IsCheckFault t Full = ⊥
 IsCheckFault t Failed = IsTrue t.is_failed
 IsCheckFault t Memory = Unit {0}
-IsCheckFault t (Page n fault) = IsHonest t.store → StopsTree t n (Some fault) ⊎ IsMiscounted t n fault
+IsCheckFault t (Page n fault) = IsHonest t.store → IsFirstFault t (Page n fault)
 IsCheckFault t (Store store.Device) = IsTrue t.store.can_fail
-IsCheckFault t (Store store.NoPage) = IsHonest t.store → (n : ℕ) × StopsTree t n None
+IsCheckFault t (Store store.NoPage) = IsHonest t.store → IsFirstFault t (Store store.NoPage)
 IsCheckFault t (Store _) = ⊥
 
 -- a check of a tree: with the device's fault the store has one failed read more, and else nothing has changed

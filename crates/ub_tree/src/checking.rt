@@ -5,11 +5,13 @@ ghost use Rattle.ub_index.specs.Index.{first_or, top};
 ghost use Rattle.ub_index_page.specs.declared.index.TheConstants.{MAX_LEVEL};
 ghost use Rattle.ub_region.specs.Regions.{rows_of};
 ghost use Rattle.ub_store.specs.Facts.{IsHonest};
-ghost use Rattle.ub_tree.specs.Checking.{Checks, IsWell, TakesAll, asked_for};
+ghost use Rattle.ub_tree.specs.Checking.{Checks, IsFirstFault, IsWell};
+ghost use Rattle.ub_tree.specs.Holding.{Answers};
 ghost use Rattle.ub_tree.specs.Numbers.{AreNew, HasJust};
 ghost use Rattle.ub_tree.specs.Opened.{IsPassing};
 ghost use Rattle.ub_tree.specs.Placed.{Placed, regions_in};
 ghost use Rattle.ub_tree.specs.View.{IsSound, region_count};
+ghost use Rattle.ub_tree.specs.declared.fault.TreeFault as spec;
 ghost use Rattle.ub_tree.specs.inner.Checking.{HasTaken, TakesOn, Walks};
 
 use crate::fault::TreeFault;
@@ -55,6 +57,8 @@ impl<S: PageStore> Tree<S> {
         ensures exact { IsHonest self.old.store → IsWell self.old → self.old.is_failed ≡ false
             → IfErr result IsPassing }
         ensures sound { IsSound self.old → IfErr result IsPassing }
+        ensures stopped { (fault : spec.TreeFault) → IsHonest self.old.store
+            → self.old.is_failed ≡ false → IsFirstFault self.old fault → Answers result fault }
         ensures failed { IsTrue self.old.is_failed → result ≡ Err TreeFault.Failed }
         ensures effect { Checks self.old self.new result }
     {
