@@ -1,6 +1,6 @@
 -- A check stops at one page alone, for one fault.
-use Rattle.std.proofs.Common.{◌≡◌, ◌≢◌, ◌≤◌, ◌<◌, ◌+◌, ◌^◌, ◌++◌, ◌⊎◌, inl, inr, ℕ, zero, suc, List, [], ◌∷◌, false, Option, Some, None, Result, Ok, Err, IfErr, OnOk, length, slice_get, ap, refl, sym, ◌∙◌, arith, subst}
-use Rattle.std.proofs.lemmas.List.{append-nil, length-append}
+use Rattle.std.proofs.Common.{◌≡◌, ◌≢◌, ◌≤◌, ◌<◌, ◌^◌, ◌⊎◌, inl, inr, ℕ, zero, suc, List, [], ◌∷◌, false, Option, Some, None, Result, Ok, Err, IfErr, OnOk, length, slice_get, ap, refl, sym, ◌∙◌, arith, subst}
+use Rattle.std.proofs.lemmas.List.{length-append}
 use Rattle.std.proofs.lemmas.Option.{slice_get_within}
 use Rattle.ub_index.proofs.WayFacts.{named_not_refused}
 use Rattle.ub_index.specs.Fitting.{IsHeld, IsNotTaken, IsUnfit, IsUnfitAtEnds}
@@ -14,13 +14,12 @@ use Rattle.ub_region.specs.Regions.{rows_of}
 use Rattle.ub_store.specs.Facts.{IsHonest}
 use Rattle.ub_store.specs.declared.fault.StoreFault.TheVariants as store
 use Rattle.ub_table.specs.Keys.{origin}
-use Rattle.ub_table.specs.Region.{Region, IsRegion}
 use Rattle.ub_table.specs.declared.fault.PageFault.{PageFault}
 use Rattle.ub_table.specs.declared.fault.PageFault.TheVariants.{WrongKind, OldFormat, Unclean, BadCount, BadName, BadRow, BadOrder, OutOfRegion, BadPadding}
 use Rattle.ub_table.specs.declared.row.Key.{Key}
 use Rattle.ub_table.specs.declared.schema.Schema.{Schema}
 use Rattle.ub_tree.proofs.TakenFacts.{region_good, walk_never, walk_taken}
-use Rattle.ub_tree.specs.Checking.{Asked, StandsHere, StopsAtRegion, StopsEach, StopsIn, StopsTree, TakesAll, TakesEach, IsCheckFault, IsFirstFault, IsMiscounted, IsWell, asked_of}
+use Rattle.ub_tree.specs.Checking.{Asked, StopsAtRegion, StopsEach, StopsIn, StopsTree, TakesAll, TakesEach, IsCheckFault, IsFirstFault, IsMiscounted, IsWell, asked_of}
 use Rattle.ub_tree.specs.Effects.{IsRegionRefused}
 use Rattle.ub_tree.specs.Holding.{Answers}
 use Rattle.ub_tree.specs.Opened.{IsPassing}

@@ -1,5 +1,5 @@
 -- What a check takes of a tree is what makes its pages sound, and over sound pages it takes all.
-use Rattle.std.proofs.Common.{◌≡◌, ◌≤◌, ◌<◌, ◌^◌, ◌⊎◌, inl, inr, ℕ, List, [], ◌∷◌, Option, Some, None, length, map, slice_get, ap, refl, sym, ◌∙◌, arith, subst}
+use Rattle.std.proofs.Common.{◌≡◌, ◌≤◌, ◌<◌, ◌^◌, ℕ, List, [], ◌∷◌, Option, Some, None, length, map, slice_get, ap, refl, sym, ◌∙◌, arith, subst}
 use Rattle.std.proofs.lemmas.List.Elements.{All-from_recursion, recursion_from_All}
 use Rattle.std.proofs.lemmas.Option.{slice_get_within}
 use Rattle.std.specs.List.{AllByRecursion}
@@ -17,13 +17,12 @@ use Rattle.ub_region.specs.Regions.{AreApart, AreRegions, firsts_of, rows_of}
 use Rattle.ub_store.specs.Facts.{StoreFacts, IsHonest}
 use Rattle.ub_table.specs.Keys.{AreKeysAscending, origin}
 use Rattle.ub_table.specs.Region.{IsRegion}
-use Rattle.ub_table.specs.declared.fault.PageFault.{PageFault}
 use Rattle.ub_table.specs.declared.row.Key.{Key}
 use Rattle.ub_table.specs.declared.row.Row.{Row}
 use Rattle.ub_table.specs.declared.schema.Schema.{Schema}
 use Rattle.ub_tree.proofs.ApartFacts.{IsOnPage, all_differ, under_differ, under_from}
-use Rattle.ub_tree.proofs.TakenFacts.{IsTaken, new_below, new_differ, new_of, taken_walk, walk_never, walk_taken}
-use Rattle.ub_tree.specs.Checking.{Asked, IsMiscounted, IsWell, StandsHere, StopsTree, TakesTree, asked_of, numbers_in, numbers_of}
+use Rattle.ub_tree.proofs.TakenFacts.{IsTaken, new_below, new_differ, new_of, taken_walk, walk_taken}
+use Rattle.ub_tree.specs.Checking.{Asked, IsWell, StandsHere, TakesTree, asked_of, numbers_in, numbers_of}
 use Rattle.ub_tree.specs.Numbers.{AreNew, IsNone}
 use Rattle.ub_page.proofs.PageLaws.{region_parts}
 use Rattle.ub_tree.proofs.StoredFacts.{IsSpelled, IsTold, placed_told}
@@ -33,7 +32,7 @@ use Rattle.ub_tree.proofs.CallFacts.{last_small}
 use Rattle.ub_tree.specs.Opened.{IsOpened, IsRooted}
 use Rattle.ub_tree.specs.Placed.{Placed, ArePlaced, entry_of, placed_of, regions_in}
 use Rattle.ub_tree.specs.Stored.{AreSoundPages}
-use Rattle.ub_tree.specs.View.{TreeView, IsSound, region_count, regions}
+use Rattle.ub_tree.specs.View.{TreeView, IsSound, regions}
 use Rattle.ub_zaddr.specs.Address.{last_address}
 
 -- what holds of the numbers of rows holds of the rows
@@ -162,8 +161,8 @@ module _ (facts : StoreFacts) (t : TreeView) (honest : IsHonest facts) (opened :
   placed_are : ArePlaced t.schema t.placed (reserved t.inner.index t.store.pages) t.store.pages
   placed_are = well_placed t is_honest some_level some_root small_last (header_page opened.header) first_page well.takes
 
-  pub opened_pages : AreSoundPages t.store.pages t.schema t.placed t.next
-  opened_pages = record {
+  sound_pages : AreSoundPages t.store.pages t.schema t.placed t.next
+  sound_pages = record {
     header = opened.header;
     spelled = first_page;
     in_range = rooted.in_range;
@@ -176,6 +175,9 @@ module _ (facts : StoreFacts) (t : TreeView) (honest : IsHonest facts) (opened :
     well_formed = regions_are;
     placed_are = subst (λ (i : IndexView). ArePlaced t.schema t.placed (reserved i t.store.pages) t.store.pages) opened.index_is placed_are;
   }
+
+  pub opened_pages : AreSoundPages facts.pages t.schema t.placed t.next
+  opened_pages = subst (λ (ps : List (List ℕ)). AreSoundPages ps t.schema t.placed t.next) same_pages sound_pages
 
   pub opened_sound : IsSound t
   opened_sound =
@@ -197,7 +199,7 @@ module _ (facts : StoreFacts) (t : TreeView) (honest : IsHonest facts) (opened :
         some_next = omega arith;
         last_next = omega arith;
         few = omega arith;
-        closed = λ _. opened_pages;
+        closed = λ _. sound_pages;
         marked = λ e. (let un = opened.unchanged in cc);
       }
 
@@ -205,9 +207,9 @@ module _ (facts : StoreFacts) (t : TreeView) (honest : IsHonest facts) (opened :
 module _ (t : TreeView) (sound : IsSound t) where
   told_each : (ps : List Placed) → AllByRecursion (IsRegion t.schema) (regions_in ps) → AllByRecursion (IsSpelled t.schema t.store.pages) ps
       → AllByRecursion (IsTold t.schema t.store.pages) ps
-  told_each [] regions_are spelled = tt
-  told_each (p ∷ ps) regions_are spelled =
-      ((spelled.0, (region_parts t.schema p.region (region_page t.schema p.region) regions_are.0 refl).on), told_each ps regions_are.1 spelled.1)
+  told_each [] each spelled = tt
+  told_each (p ∷ ps) each spelled =
+      ((spelled.0, (region_parts t.schema p.region (region_page t.schema p.region) each.0 refl).on), told_each ps each.1 spelled.1)
 
   told : placed_of t.schema t.store.pages (map entry_of t.placed) ≡ t.placed
   told =

@@ -83,7 +83,7 @@ GrownIsNotFull = (t : TreeView) → IsSound t → IsOnlyGrown t → ¬ (IsIndexF
 -- a tree that was opened, and whose pages are well, is sound, and its pages are those of a closed table
 abbrev pub WellPagesAreSound : Type 0
 WellPagesAreSound = (store : StoreFacts) (t : TreeView) → IsHonest store → IsOpened store t → IsWell t
-    → AreSoundPages t.store.pages t.schema t.placed t.next × IsSound t
+    → AreSoundPages store.pages t.schema t.placed t.next × IsSound t
 
 -- the pages of a sound tree are well
 abbrev pub SoundTreesAreWell : Type 0

@@ -1,15 +1,13 @@
 // The check of a whole table: from the root of its index on each page is read and looked at in full, before what it leads to. A
 // region's rows put their numbers into a set, so that no number is taken twice.
-ghost use Rattle.std.specs.Prelude.{◌≡◌, ◌≤◌, ◌<◌, ◌++◌, ◌⊎◌, ℕ, [], List, None, false, length, map, drop, Err, IfErr, IfOk, IsTrue, OnOk};
+ghost use Rattle.std.specs.Prelude.{◌≡◌, ◌≤◌, ◌++◌, ℕ, [], List, false, map, drop, Err, IfErr, IfOk, IsTrue, OnOk};
 ghost use Rattle.ub_index.specs.Index.{first_or, top};
 ghost use Rattle.ub_index_page.specs.declared.index.TheConstants.{MAX_LEVEL};
-ghost use Rattle.ub_region.specs.Regions.{rows_of};
 ghost use Rattle.ub_store.specs.Facts.{IsHonest};
 ghost use Rattle.ub_tree.specs.Checking.{Checks, IsFirstFault, IsWell};
 ghost use Rattle.ub_tree.specs.Holding.{Answers};
 ghost use Rattle.ub_tree.specs.Numbers.{AreNew, HasJust};
 ghost use Rattle.ub_tree.specs.Opened.{IsPassing};
-ghost use Rattle.ub_tree.specs.Placed.{Placed, regions_in};
 ghost use Rattle.ub_tree.specs.View.{IsSound, region_count};
 ghost use Rattle.ub_tree.specs.declared.fault.TreeFault as spec;
 ghost use Rattle.ub_tree.specs.inner.Checking.{HasTaken, TakesOn, Walks};
