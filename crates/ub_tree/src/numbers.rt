@@ -28,7 +28,7 @@ impl Numbers {
         ensures bound { IfOk result (λ set. set.bound ≡ bound) }
         ensures none { IfOk result (λ set. HasJust set []) }
     {
-        let words = vec![in alloc; 0u64; (bound / 64 + 1) as usize]?;
+        let words = vec![in alloc; 0u64; bound.div_ceil(64) as usize]?;
         Ok(Numbers { bound, words })
     }
 
