@@ -14,7 +14,7 @@ use Rattle.ub_tree.proofs.ReadingFacts.{searched_tree}
 use Rattle.ub_tree.proofs.SearchFacts.{known_is}
 use Rattle.ub_tree.proofs.TakenFacts.{walk_taken}
 use Rattle.ub_tree.proofs.OnceFacts.{well_first}
-use Rattle.ub_tree.specs.Checking.{Asked, Checks, IsCheckFault, IsWell, StopsIn, TakesAll, TakesTree, asked_for, asked_of}
+use Rattle.ub_tree.specs.Checking.{Asked, ChecksPages, IsCheckFault, IsWell, StopsIn, TakesAll, TakesTree, asked_for, asked_of}
 use Rattle.ub_tree.specs.Effects.{read_store}
 use Rattle.ub_tree.specs.Indexed.{entries_on}
 use Rattle.ub_tree.specs.Opened.{IsPassing}
@@ -56,7 +56,7 @@ module _ (schema : Schema) (index : IndexView) (count next rows : ℕ) (changed 
 
   -- it isn't walked through
   pub run_refused : {T U : Type 0} (r : Result T TreeFault) (f : TreeFault) (new : PagerView) → IsErrAnd r (λ x. x ≡ f)
-      → Walks {A = U} schema last level entry None walk old new (Err f) → Checks tree (tree_view schema index count next rows changed failed new) r
+      → Walks {A = U} schema last level entry None walk old new (Err f) → ChecksPages tree (tree_view schema index count next rows changed failed new) r
   run_refused (Ok x) f new is h = absurd is
   run_refused {T = T} {U = U} (Err g) f new is h = record {
     same = searched_tree {T = T} (Err g) schema index count next rows changed failed old new
@@ -68,9 +68,9 @@ module _ (schema : Schema) (index : IndexView) (count next rows : ℕ) (changed 
 
   -- other regions are taken, or other rows, than are counted
   pub run_ends : {T : Type 0} (f : TreeFault) (new : PagerView) → f ≡ Page 0 BadCount → new.store ≡ old.store → SameTrace old new → IsCheckFault tree (Page 0 BadCount)
-      → Checks {A = T} tree (tree_view schema index count next rows changed failed new) (Err f)
+      → ChecksPages {A = T} tree (tree_view schema index count next rows changed failed new) (Err f)
   run_ends {T = T} f new is stores trace h =
-      subst (λ (x : TreeFault). Checks {A = T} tree (tree_view schema index count next rows changed failed new) (Err x)) (sym is) (record {
+      subst (λ (x : TreeFault). ChecksPages {A = T} tree (tree_view schema index count next rows changed failed new) (Err x)) (sym is) (record {
         same = searched_tree {T = T} (Err (Page 0 BadCount)) schema index count next rows changed failed old new stores trace;
         faults = h;
       })
@@ -118,7 +118,7 @@ module _ (schema : Schema) (index : IndexView) (count next rows : ℕ) (changed 
         })
 
 -- nothing is changed by a check that hasn't begun
-pub not_begun : {T : Type 0} (r : Result T TreeFault) (a b : TreeView) → IsErrAnd r (λ x. x ≡ Memory) → b ≡ a → Checks a b r
+pub not_begun : {T : Type 0} (r : Result T TreeFault) (a b : TreeView) → IsErrAnd r (λ x. x ≡ Memory) → b ≡ a → ChecksPages a b r
 not_begun (Ok x) a b is same = absurd is
 not_begun (Err f) a b is same = rw is (record { same = same; faults = tt })
 

@@ -19,7 +19,7 @@ use Rattle.ub_table.specs.declared.fault.PageFault.TheVariants.{WrongKind, OldFo
 use Rattle.ub_table.specs.declared.row.Key.{Key}
 use Rattle.ub_table.specs.declared.schema.Schema.{Schema}
 use Rattle.ub_tree.proofs.TakenFacts.{region_good, walk_never, walk_taken}
-use Rattle.ub_tree.specs.Checking.{Asked, StopsAtRegion, StopsEach, StopsIn, StopsTree, TakesAll, TakesEach, IsCheckFault, IsFirstFault, IsMiscounted, IsWell, asked_of}
+use Rattle.ub_tree.specs.Checking.{Asked, StopsAtRegion, StopsEach, StopsIn, StopsTree, TakesAll, TakesEach, IsCheckFault, IsFirstFault, EndsMiscounted, IsWell, asked_of}
 use Rattle.ub_tree.specs.Effects.{IsRegionRefused}
 use Rattle.ub_tree.specs.Holding.{Answers}
 use Rattle.ub_tree.specs.Opened.{IsPassing}
@@ -264,7 +264,7 @@ module _ (t : TreeView) (small : t.inner.index.last < 2 ^ 128) where
   stops_once : (n m : ℕ) (a b : Option PageFault) → StopsTree t n a → StopsTree t m b → (n ≡ m) × (a ≡ b)
   stops_once n m a b h k = walk_once (asked_of t) small t.inner.index.levels (top t.inner.index.root) None [] n m a b none_more h k
 
-  counts_apart : (n m : ℕ) (fault : PageFault) (a : Option PageFault) → IsMiscounted t n fault → ¬ (StopsTree t m a)
+  counts_apart : (n m : ℕ) (fault : PageFault) (a : Option PageFault) → EndsMiscounted t n fault → ¬ (StopsTree t m a)
   counts_apart n m fault a h stops = takes_never (asked_of t) small t.inner.index.levels (top t.inner.index.root) None [] h.after m a none_more h.takes stops
 
   pub first_once : (f g : TreeFault) → IsFirstFault t f → IsFirstFault t g → f ≡ g

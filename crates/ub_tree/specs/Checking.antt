@@ -114,7 +114,7 @@ pub record IsWell (t : TreeView) : Type 0 where
   pub rows_are : t.rows ≡ length (tree_rows t)
 
 -- other regions are taken than are counted, or other rows, which is told of page 0
-pub record IsMiscounted (t : TreeView) (n : ℕ) (fault : PageFault) : Type 0 where
+pub record EndsMiscounted (t : TreeView) (n : ℕ) (fault : PageFault) : Type 0 where
   pub after : List Placed
   pub takes : TakesTree t after
   pub counts : (length after < region_count t) ⊎ ((length after ≡ region_count t) × (¬ (t.rows ≡ length (rows_of (regions_in after)))))
@@ -127,7 +127,7 @@ StopsTree t n fault = StopsIn (asked_of t) t.inner.index.levels (top t.inner.ind
 
 -- the fault at which the check of a tree stops, the first on the walk, or that of the counts at its end; there is no other
 abbrev pub IsFirstFault : TreeView → TreeFault → Type 0
-IsFirstFault t (Page n fault) = StopsTree t n (Some fault) ⊎ IsMiscounted t n fault
+IsFirstFault t (Page n fault) = StopsTree t n (Some fault) ⊎ EndsMiscounted t n fault
 IsFirstFault t (Store store.NoPage) = (n : ℕ) × StopsTree t n None
 IsFirstFault t _ = ⊥
 
@@ -142,6 +142,6 @@ IsCheckFault t (Store store.NoPage) = IsHonest t.store → IsFirstFault t (Store
 IsCheckFault t (Store _) = ⊥
 
 -- a check of a tree: with the device's fault the store has one failed read more, and else nothing has changed
-pub record Checks {A : Type 0} (old new : TreeView) (result : Result A TreeFault) : Type 0 where
+pub record ChecksPages {A : Type 0} (old new : TreeView) (result : Result A TreeFault) : Type 0 where
   pub same : new ≡ record old { store = read_store result old.store }
   pub faults : IfErr result (IsCheckFault old)

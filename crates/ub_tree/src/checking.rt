@@ -4,7 +4,7 @@ ghost use Rattle.std.specs.Prelude.{◌≡◌, ◌≤◌, ◌++◌, ℕ, [], Lis
 ghost use Rattle.ub_index.specs.Index.{first_or, top};
 ghost use Rattle.ub_index_page.specs.declared.index.TheConstants.{MAX_LEVEL};
 ghost use Rattle.ub_store.specs.Facts.{IsHonest};
-ghost use Rattle.ub_tree.specs.Checking.{Checks, IsFirstFault, IsWell};
+ghost use Rattle.ub_tree.specs.Checking.{ChecksPages, IsFirstFault, IsWell};
 ghost use Rattle.ub_tree.specs.Holding.{Answers};
 ghost use Rattle.ub_tree.specs.Numbers.{AreNew, HasJust};
 ghost use Rattle.ub_tree.specs.Opened.{IsPassing};
@@ -58,7 +58,7 @@ impl<S: PageStore> Tree<S> {
         ensures stopped { (fault : spec.TreeFault) → IsHonest self.old.store
             → self.old.is_failed ≡ false → IsFirstFault self.old fault → Answers result fault }
         ensures failed { IsTrue self.old.is_failed → result ≡ Err TreeFault.Failed }
-        ensures effect { Checks self.old self.new result }
+        ensures effect { ChecksPages self.old self.new result }
     {
         if self.has_failed() {
             return Err(TreeFault::Failed);
@@ -72,7 +72,7 @@ impl<S: PageStore> Tree<S> {
         requires begun { HasTaken (region_count self.old) walk.old [] }
         requires bound { walk.old.numbers.bound ≡ self.old.next }
         ensures well { IsHonest self.old.store → OnOk result (IsWell self.old) }
-        ensures effect { Checks self.old self.new result }
+        ensures effect { ChecksPages self.old self.new result }
     {
         let (root, levels) = self.index.root();
         let last = last(self.schema.shape());
