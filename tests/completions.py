@@ -49,7 +49,7 @@ source $1
 # Lines by hand: what stands, the last word being the one to complete, and what is offered for it.
 LINES = [
     ("ubq l", ["load"]),
-    ("ubq ''", ["load", "run", "try", "upgrade", "describe", "next", "help"]),
+    ("ubq d", ["describe"]),
     ("ubq -", ["-h", "--help", "-V", "--version"]),
     ("ubq help up", ["upgrade"]),
     ("ubq help load ''", []),
@@ -160,7 +160,8 @@ def read_zsh():
         text = file.read()
     lists = {name: re.findall(r"'(.*)'", body) for name, body in re.findall(r"(?ms)^    (\w+)=\(\n(.*?)^    \)", text)}
     calls = {"": re.search(r"(?ms)_arguments -C (.*?) && ret=0", text).group(1)}
-    calls.update(re.findall(r"(?ms)^        (\w+)\)\n +_arguments (.*?) && ret=0", text))
+    for names, call in re.findall(r"(?ms)^        (\w+(?: \| \w+)*)\)\n +_arguments (.*?) && ret=0", text):
+        calls.update((name, call) for name in names.split(" | "))
     found = {}
     for command, call in calls.items():
         specs = [spec for name in re.findall(r"\$(\w+)", re.sub(r"'.*?'", "", call)) for spec in lists[name]]
