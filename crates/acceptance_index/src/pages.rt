@@ -20,6 +20,9 @@ pub(crate) enum Sheet {
     // Of a directory of format 1: regions that begin with the addresses from one on, the region of address z on page z + 1000; how
     // many they are, 170 at most; and the page that is named next, 0 for none.
     Directory(u32, u32, u32),
+    // Of a directory of format 1: 170 regions that begin with the addresses from one on, all on page 1; and the page that is named
+    // next, 0 for none.
+    Shared(u32, u32),
     // Zeros.
     Blank,
 }
@@ -33,6 +36,7 @@ fn head_of(sheet: &Sheet) -> (u32, u32) {
         }
         Sheet::Full(level, _) => (0x4900_00aa + *level.min(&255) * 65536, 0),
         Sheet::Directory(_, count, next) => (0x4400_0000 + *count.min(&170), *next),
+        Sheet::Shared(_, next) => (0x4400_00aa, *next),
         Sheet::Blank => (0, 0),
     }
 }
@@ -60,6 +64,7 @@ fn listed_at(sheet: &Sheet, i: u32) -> Option<Listed> {
                 None
             }
         }
+        Sheet::Shared(from, _) => Some((u128::from(from.wrapping_add(i)), 0, 1)),
         Sheet::Blank => None,
     }
 }
@@ -95,7 +100,7 @@ pub(crate) fn page_of(sheet: &Sheet) -> Page {
 }
 
 // Puts a blank page and these into a store of none.
-fn fill(store: &mut MemStore, pages: &[Sheet]) -> Result<(), StoreFault> {
+pub(crate) fn fill(store: &mut MemStore, pages: &[Sheet]) -> Result<(), StoreFault> {
     store.extend()?;
     for sheet in pages {
         let number = store.extend()?;

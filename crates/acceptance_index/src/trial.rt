@@ -1,6 +1,5 @@
 // Steps on an index and on the pager of its store, as data.
 use crate::keys::{is_list, leads, leads_to_all, meets_each, page_given};
-use crate::old_directories::read;
 use crate::opening::begins;
 use crate::pages::{Listed, Sheet, Tried, page_of, stored};
 use std::alloc::Global;
@@ -59,8 +58,6 @@ pub(crate) enum Step {
     Pages,
     // Whether a page begins with these bytes, and has zeros behind them.
     Begins(u32, &'static [u8; 40]),
-    // Whether the directory of format 1 that begins on a page has so many regions, and these pages.
-    Read(u32, u32, &'static [u32]),
 }
 
 // What a step answers.
@@ -200,7 +197,6 @@ fn ask(alloc: Global, held: &mut Held, pager: &mut Tried, step: &Step) -> Answer
         Step::Added => held.added(),
         Step::Grow => held.grow(pager),
         Step::Commit => held.commit(pager),
-        Step::Read(root, regions, chain) => read(alloc, pager, *root, *regions, chain),
         Step::Put(number, sheet) => ended(pager.put(*number, &page_of(sheet))),
         _ => held.search(pager, step),
     }

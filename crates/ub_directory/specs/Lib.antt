@@ -1,5 +1,3 @@
 pub mod Spans
 pub mod View
-pub mod Chain
-pub mod Reading
 pub mod Writing

@@ -32,5 +32,8 @@ pub mod OpeningFacts
 pub mod ClosingFacts
 pub mod CreationFacts
 pub mod ReadFacts
+pub mod CountFacts
+pub mod UpgradeFacts
+pub mod UpgradedFacts
 pub mod Example
 pub mod Laws

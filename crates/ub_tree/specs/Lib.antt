@@ -14,6 +14,9 @@ pub mod Tree
 pub mod Change
 pub mod Closing
 pub mod Opened
+pub mod Old
+pub mod Counted
+pub mod Upgrade
 pub mod Others
 pub mod Holding
 pub mod Removal

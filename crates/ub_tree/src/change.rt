@@ -73,7 +73,7 @@ impl<S: PageStore> Tree<S> {
     }
 
     // Reads the region of a seat. After a fault any region may stand there.
-    fn read_at(&mut self, seat: &Seat, region: &mut RegionPage) -> Result<(), TreeFault>
+    pub(crate) fn read_at(&mut self, seat: &Seat, region: &mut RegionPage) -> Result<(), TreeFault>
         requires { IsSeatOf self.old seat.now }
         ensures read { OnOk result (IsReadAt self.old seat.now region.new) }
         ensures there { OnOk result (seat.now.page < page_count self.old.store) }

@@ -3,6 +3,7 @@ use thiserror::Error;
 use ub_index::IndexFault;
 use ub_store::StoreFault;
 use ub_table::PageFault;
+use ub_upgrade::UpgradeFault;
 
 /// Why a tree didn't do what it was asked.
 #[derive(Clone, Copy, PartialEq, Eq, Debug, Error)]
@@ -51,6 +52,22 @@ impl From<IndexFault> for TreeFault {
             IndexFault::Page { page, fault } => TreeFault::Page { page, fault },
             IndexFault::Store(fault) => TreeFault::from(fault),
             IndexFault::Full => TreeFault::Full,
+        }
+    }
+}
+
+impl From<UpgradeFault> for TreeFault {
+    ghost use Rattle.std.specs.Prelude.{◌≡◌};
+    ghost use Rattle.ub_tree.specs.Faults.{upgrade_fault};
+
+    ghost from_gives = { λ fault e. e ≡ upgrade_fault fault };
+
+    /// The fault of one of the two stores, or of a page of the old one.
+    fn from(fault: UpgradeFault) -> TreeFault {
+        match fault {
+            UpgradeFault::Page { page, fault } => TreeFault::Page { page, fault },
+            UpgradeFault::Old(fault) => TreeFault::from(fault),
+            UpgradeFault::New(fault) => TreeFault::from(fault),
         }
     }
 }

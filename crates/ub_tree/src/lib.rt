@@ -2,18 +2,20 @@
 // region on a page. The definitions stand in specs/: `Spans` (the addresses that a region covers,
 // and which region a search asks for), `View` (what contracts see of a tree, and when it is sound),
 // `Indexed` (where its index stands), `Effects` (what a call leaves), `Stored` (the pages of a closed table), `Opened` (which pages are
-// opened), `Closing`; the functions of `law` ensure the laws of a sound tree. The code: `creation`
-// and `opening` to begin, `tree` to search and read, `change` to put rows in, `removal` to take
+// opened), `Old` and `Upgrade` (the pages of a table of an older format, and what is made of them), `Counted` (whether the regions are
+// those that are counted), `Closing`; the functions of `law` ensure the laws of a sound tree. The code: `creation`, `opening` and
+// `upgrading` to begin, `counting` to read each region once, `tree` to search and read, `change` to put rows in, `removal` to take
 // them out, `closing` to end; `seats` asks the index where a region is.
 //
 // What belongs here is what a tree does over a store. In which order its pages go out, and the mark of a changed table, stand in
-// `ub_writing`; where each region's page is, in `ub_index`; what regions are, in `ub_region`; how pages are spelled, and
-// stores kept, in the other crates below.
+// `ub_writing`; where each region's page is, in `ub_index`; how the pages of an older format are brought over, in `ub_upgrade`; what
+// regions are, in `ub_region`; how pages are spelled, and stores kept, in the other crates below.
 
 #![tactic(auto)]
 
 mod change;
 mod closing;
+mod counting;
 mod creation;
 pub mod fault;
 pub mod law;
@@ -25,6 +27,7 @@ mod room;
 mod seats;
 pub mod sink;
 pub mod tree;
+mod upgrading;
 mod walking;
 
 pub use fault::TreeFault;

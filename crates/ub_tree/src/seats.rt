@@ -1,4 +1,4 @@
-ghost use Rattle.std.specs.Prelude.{◌≡◌, ◌≢◌, ◌↔◌, ℕ, Some, map, IfErr, IfOk, IfSome, IsOk, IsTrue, MatchResult};
+ghost use Rattle.std.specs.Prelude.{◌≡◌, ◌≢◌, ◌↔◌, ℕ, Some, None, map, IfErr, IfOk, IfSome, IsOk, IsTrue, MatchResult};
 ghost use Rattle.ub_index.specs.Preparing.{HasFullWay};
 ghost use Rattle.ub_index.specs.Searching.{key_before};
 ghost use Rattle.ub_index.specs.View.{IsNextSeat, IsPreviousSeat};
@@ -46,6 +46,7 @@ impl<S: PageStore> Tree<S> {
         ensures begins { IfOk result (λ found. IfSome found
             (λ next. seat.now.next ≡ Some next.first)) }
         ensures falls { IfOk result (λ found. IfSome found (IsSeatOf self.old)) }
+        ensures last { IfOk result (λ found. found ≡ None → seat.now.next ≡ None) }
         ensures after { (i : ℕ) → IsStored self.old → IsSeatIn self.old i seat.now
             → IfOk result (IsNextSeat (map entry_of self.old.placed) i) }
         ensures effect { Searches self.old self.new result }

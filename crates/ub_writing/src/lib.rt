@@ -15,4 +15,4 @@ pub mod mark;
 mod order;
 
 pub use mark::Mark;
-pub use order::{write_first_pages, write_page, write_pages, write_table};
+pub use order::{write_first_pages, write_mark, write_page, write_pages, write_table};

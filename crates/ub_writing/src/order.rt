@@ -1,6 +1,6 @@
 // In which order the pages of a table go out.
 //
-// A table: first the header, marked as changed, and then the page of its one region; that of the index's root, which names it, is the
+// A table: first the header, marked as changed (`write_mark`), and then the page of its one region; that of the index's root, which names it, is the
 // tree's to put.
 // A change: first the header, marked as changed, unless it is marked already: a table of which any other page was written is not
 // opened until it is closed again. Where a region is split, the page of the new region comes next, and then that of the old one,
@@ -17,7 +17,7 @@ ghost use Rattle.ub_directory.specs.Writing.{WritesStore, put_store};
 ghost use Rattle.ub_writing.specs.Closing.{IsClosed, IsSaveFault, IsSaved, IsUnclosed};
 ghost use Rattle.ub_writing.specs.Creation.{IsLaidOut, IsLayoutFault, IsUncreated, empty_region};
 ghost use Rattle.ub_table.specs.declared.schema.Schema.{Schema};
-ghost use Rattle.ub_writing.specs.Marks.{IsMarkOf, Marks};
+ghost use Rattle.ub_writing.specs.Marks.{HasMark, IsMarkOf, Marks};
 ghost use Rattle.ub_writing.specs.Puts.{Puts, PutsTwo};
 ghost use Rattle.ub_writing.specs.declared.mark.Mark.TheVariants.{Written};
 
@@ -45,13 +45,29 @@ pub fn write_first_pages<S: PageStore>(
     ensures left { pager.new.store ≡ put_store result pager.old.store pager.new.store }
     ensures refused { IfErr result (IsLayoutFault pager.old.store) }
 {
-    pager.extend()?;
-    put_header(pager, &first_header(schema))?;
+    write_mark(pager, schema)?;
     pager.extend()?;
     pager.extend()?;
     let mut draft = Draft::new();
     pager.put(1, write_empty(schema, &mut draft))?;
     Ok(())
+}
+
+/// The first page of a store that has none: a header of this schema, marked unclean.
+///
+/// Memory comes where memory was refused, and Device where the store failed in this call.
+pub fn write_mark<S: PageStore>(pager: &mut Pager<S>, schema: &Schema) -> Result<(), StoreFault>
+    requires { page_count pager.old.store ≡ 0 }
+    ensures count { OnOk result (page_count pager.new.store ≡ 1) }
+    ensures marked { OnOk result (IsHonest pager.old.store
+        → HasMark schema.now pager.new.store.pages) }
+    ensures first { OnErr result (page_count pager.new.store ≤ 1) }
+    ensures trace { SameTrace pager.old pager.new }
+    ensures left { pager.new.store ≡ put_store result pager.old.store pager.new.store }
+    ensures refused { IfErr result (IsLayoutFault pager.old.store) }
+{
+    pager.extend()?;
+    put_header(pager, &first_header(schema))
 }
 
 // Spells the page of a region of no rows, which begins with the least key of all.

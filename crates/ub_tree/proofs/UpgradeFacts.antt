@@ -1,0 +1,398 @@
+-- The pages of an old table, brought over: what stands on them, and why they aren't.
+use Rattle.std.proofs.Common.{◌≡◌, ◌≢◌, ◌≤◌, ◌<◌, ◌++◌, ◌∙◌, ◌⊎◌, inl, inr, ℕ, zero, suc, true, false, List, [], ◌∷◌, Option, Some, None, Result, Ok, Err, IfErr, OnErr, MatchResult, length, map, slice_get, ap, sym, subst, refl, arith}
+use Rattle.std.proofs.lemmas.List.Elements.{All-from_recursion, recursion_from_All}
+use Rattle.std.proofs.lemmas.Option.{get_or_from_slice_get, slice_get_within}
+use Rattle.std.specs.List.{All, AllByRecursion}
+use Rattle.std.specs.Result.{IsErrAnd}
+use Rattle.ub_index.proofs.Changes.{kept_index, kept_under}
+use Rattle.ub_index.proofs.Numbers.{distinct_apart, distinct_cons, distinct_first, distinct_join, distinct_left, distinct_right, kept_pages}
+use Rattle.ub_index.specs.Changed.{PagesStay}
+use Rattle.ub_index.specs.Changing.{IsOutside}
+use Rattle.ub_index.specs.Index.{IsUnder, NamesFitting, page_in, pages_under, top}
+use Rattle.ub_index.specs.Fitting.{IsNotTaken, IsUnfit}
+use Rattle.ub_index.specs.Way.{StopsAt}
+use Rattle.ub_index.specs.Opening.{IsOpenFault as IsRootFault, IsPassing as IsPassingRoot, IsRooted}
+use Rattle.ub_index.specs.View.{IndexView, Stops, index_view}
+use Rattle.ub_index.specs.declared.fault.IndexFault.{IndexFault}
+use Rattle.ub_index.specs.declared.fault.IndexFault.TheVariants as index
+use Rattle.ub_page.specs.declared.entries.Entry.{Entry}
+use Rattle.ub_page.specs.declared.header.OldHeader.{OldHeader}
+use Rattle.ub_page.specs.Header.{IsOldHeader}
+use Rattle.ub_page.specs.Region.{region_page}
+use Rattle.ub_region.proofs.Laws.{all_append, all_more}
+use Rattle.ub_store.specs.Facts.{StoreFacts, IsHonest, page_count}
+use Rattle.ub_store.specs.View.{PagerView}
+use Rattle.ub_store.specs.declared.fault.StoreFault.TheVariants as store
+use Rattle.ub_table.specs.Keys.{origin}
+use Rattle.ub_table.specs.declared.fault.PageFault.{PageFault}
+use Rattle.ub_table.specs.declared.row.Key.{Key}
+use Rattle.ub_table.specs.declared.schema.Schema.{Schema}
+use Rattle.ub_tree.specs.Faults.{index_fault, upgrade_fault}
+use Rattle.ub_tree.specs.Indexed.{HasIndex, reserved}
+use Rattle.ub_tree.specs.Old.{AreOldPages, head_of}
+use Rattle.ub_tree.specs.Placed.{Placed, ArePlaced, entry_of}
+use Rattle.ub_tree.specs.Stored.{index_of}
+use Rattle.ub_tree.specs.Tree.{tree_view}
+use Rattle.ub_tree.specs.Upgrade.{IsUpgradeFault, IsUpgradePassing, StandsOver}
+use Rattle.ub_tree.specs.View.{TreeView}
+use Rattle.ub_tree.specs.Opened.{IsPassing}
+use Rattle.ub_tree.specs.declared.fault.TreeFault.{TreeFault}
+use Rattle.ub_tree.specs.declared.fault.TreeFault.TheVariants.{Full, Page, Store, Failed as HasFailed, Memory}
+use Rattle.ub_tree.specs.inner.Upgrading.{IsCarried, root_in}
+use Rattle.ub_upgrade.specs.Bringing.{HasIndexOf, HasOldHeader, IsBringFault, IsBrought, directory_of}
+use Rattle.ub_upgrade.specs.Building.{IsPassing as IsPassingPages}
+use Rattle.ub_upgrade.specs.Reading.{AreBelow, IsDirectory}
+use Rattle.ub_upgrade.specs.declared.building.Root.{Root}
+use Rattle.ub_upgrade.specs.declared.fault.UpgradeFault.{UpgradeFault}
+use Rattle.ub_upgrade.specs.declared.fault.UpgradeFault.TheVariants as upgrade
+use Rattle.ub_zaddr.specs.Address.{last_address}
+
+-- ---- what passes, and why pages aren't brought over
+
+pages_pass : (e : UpgradeFault) → IsPassingPages e → IsUpgradePassing (upgrade_fault e)
+pages_pass (upgrade.Page n fault) h = absurd h
+pages_pass (upgrade.Old store.Device) h = tt
+pages_pass (upgrade.Old store.NoPage) h = absurd h
+pages_pass (upgrade.Old store.Memory) h = tt
+pages_pass (upgrade.Old store.BadSize) h = absurd h
+pages_pass (upgrade.New store.Device) h = tt
+pages_pass (upgrade.New store.NoPage) h = absurd h
+pages_pass (upgrade.New store.Memory) h = tt
+pages_pass (upgrade.New store.BadSize) h = tt
+
+pub root_pass : (e : IndexFault) → IsPassingRoot e → IsUpgradePassing (index_fault e)
+root_pass (index.Page n fault) h = absurd h
+root_pass index.Full h = absurd h
+root_pass (index.Store store.Device) h = tt
+root_pass (index.Store store.NoPage) h = absurd h
+root_pass (index.Store store.Memory) h = tt
+root_pass (index.Store store.BadSize) h = absurd h
+
+pub err_passes : {T : Type 0} (r : Result T TreeFault) (Q : T → Type 0) (e : TreeFault) → IsErrAnd r (λ x. x ≡ e) → IsUpgradePassing e → MatchResult r Q IsUpgradePassing
+err_passes (Ok x) Q e is h = absurd is
+err_passes (Err f) Q e is h = subst IsUpgradePassing (sym is) h
+
+pub err_refused : {T : Type 0} (r : Result T TreeFault) (Q : TreeFault → Type 0) (e : TreeFault) → IsErrAnd r (λ x. x ≡ e) → Q e → IfErr r Q
+err_refused (Ok x) Q e is h = absurd is
+err_refused (Err f) Q e is h = subst Q (sym is) h
+
+pub bring_fault : (head : OldHeader) (from new : StoreFacts) → HasOldHeader from head → (e : UpgradeFault) → IsBringFault head from new e → IsUpgradeFault from new (upgrade_fault e)
+bring_fault head from new has (upgrade.Page n fault) h = λ honest _. (h.1, h.2 honest, inr (head, has, inl (h.0, h.3)))
+bring_fault head from new has (upgrade.Old store.Device) h = inl h
+bring_fault head from new has (upgrade.Old store.NoPage) h = (h.1, h.2, λ _ _. inr (head, has, inl (h.0, h.3)))
+bring_fault head from new has (upgrade.Old store.Memory) h = tt
+bring_fault head from new has (upgrade.Old store.BadSize) h = absurd h
+bring_fault head from new has (upgrade.New store.Device) h = inr h
+bring_fault head from new has (upgrade.New store.NoPage) h = absurd h
+bring_fault head from new has (upgrade.New store.Memory) h = tt
+bring_fault head from new has (upgrade.New store.BadSize) h = (head, has, h.0, h.1)
+
+-- ---- the index that stands on the new pages
+
+-- what the pages of an old table tell, in terms of the header that was read
+module _ (version next : ℕ) (schema : Schema) (placed : List Placed) (from : StoreFacts) (s : AreOldPages version from.pages schema placed next) (head : OldHeader)
+    (is : head ≡ head_of version s.header) where
+  abbrev entries : List Entry
+  entries = map entry_of placed
+
+  each_page : (p : Placed) → slice_get from.pages p.page ≡ Some (region_page schema p.region) → p.page < page_count from
+  each_page p at = slice_get_within from.pages p.page (region_page schema p.region) at
+
+  below_each : (ps : List Placed) → AllByRecursion (λ p. slice_get from.pages p.page ≡ Some (region_page schema p.region)) ps → AreBelow (page_count from) (map entry_of ps)
+  below_each [] h = tt
+  below_each (p ∷ ps) h = (each_page p h.0, below_each ps h.1)
+
+  spelled : AllByRecursion (λ p. slice_get from.pages p.page ≡ Some (region_page schema p.region)) placed
+  spelled = recursion_from_All (λ p. slice_get from.pages p.page ≡ Some (region_page schema p.region)) placed s.placed_are.spelled
+
+  pub below : AreBelow (page_count from) entries
+  below = below_each placed spelled
+
+  pub version_is : head.version ≡ version
+  version_is = ap (λ (h : OldHeader). h.version) is
+
+  pub directory_is : version ≡ 1 → (x : IsDirectory from.pages (directory_of s.header) s.numbers entries) → IsDirectory from.pages (directory_of head.header) s.numbers entries
+  directory_is first x = subst (λ (h : OldHeader). IsDirectory from.pages (directory_of h.header) s.numbers entries) (sym is) x
+
+  pub directory_told : version ≡ 1 → IsDirectory from.pages (directory_of head.header) s.numbers entries
+  directory_told one = elim s.told [
+    | inl first ↦ directory_is one first.1
+    | inr second ↦ (let two = second.0 in absurd (omega arith))
+  ]
+
+  -- why the pages aren't brought over
+  pub bring_passes : {T : Type 0} (r : Result T TreeFault) (Q : T → Type 0) (e : UpgradeFault) → IsErrAnd r (λ x. x ≡ upgrade_fault e)
+      → ((chain : List ℕ) (es : List Entry) → head.version ≡ 1 → IsDirectory from.pages (directory_of head.header) chain es → AreBelow (page_count from) es → IsPassingPages e)
+      → (head.version ≡ 2 → IsPassingPages e) → MatchResult r Q IsUpgradePassing
+  bring_passes r Q e told exact plain =
+      err_passes r Q (upgrade_fault e) told (pages_pass e (elim s.told [
+        | inl first ↦ exact s.numbers entries (version_is ∙ first.0) (directory_is first.0 first.1) below
+        | inr second ↦ plain (version_is ∙ second.0)
+      ]))
+
+  -- ---- no region stands on the first page, nor does the index or the directory
+
+  abbrev numbers_of_regions : List ℕ
+  numbers_of_regions = map (λ (p : Placed). p.page) placed
+
+  outside_pages : IsOutside 0 numbers_of_regions
+  outside_pages = (distinct_apart (0 ∷ s.numbers) numbers_of_regions s.placed_are.own).0
+
+  outside_numbers : IsOutside 0 s.numbers
+  outside_numbers = distinct_first 0 s.numbers (distinct_left (0 ∷ s.numbers) numbers_of_regions s.placed_are.own)
+
+  -- each page of a region is none of the first, and one that there is
+  abbrev IsInside : ℕ → Type 0
+  IsInside n = (1 ≤ n) × (n < page_count from)
+
+  inside_each : (ps : List Placed) → IsOutside 0 (map (λ (p : Placed). p.page) ps) → AllByRecursion (λ p. slice_get from.pages p.page ≡ Some (region_page schema p.region)) ps
+      → AllByRecursion IsInside (map (λ (p : Placed). p.page) ps)
+  inside_each [] out at = tt
+  inside_each (p ∷ ps) out at = ((positive p.page out.0, each_page p at.0), inside_each ps out.1 at.1)
+    where
+      positive : (n : ℕ) → 0 ≢ n → 1 ≤ n
+      positive zero differ = absurd (differ refl)
+      positive (suc n) differ = omega arith
+
+  inside : AllByRecursion IsInside numbers_of_regions
+  inside = inside_each placed outside_pages spelled
+
+  module _ (root : Root) (new : List (List ℕ)) (brought : IsBrought head from new root) (level : 1 ≤ root.level) (more : page_count from ≤ length new) (some : 1 ≤ page_count from)
+      (built : version ≡ 1 → HasIndexOf head from new root entries) where
+    abbrev last : ℕ
+    last = last_address head.header.schema.dims
+
+    abbrev view : IndexView
+    view = index_view root.page root.level last
+
+    moved_each : (ps : List Placed) → AllByRecursion IsInside (map (λ (p : Placed). p.page) ps) → AllByRecursion (λ p. slice_get from.pages p.page ≡ Some (region_page schema p.region)) ps
+        → AllByRecursion (λ p. slice_get new p.page ≡ Some (region_page schema p.region)) ps
+    moved_each [] in_it at = tt
+    moved_each (p ∷ ps) in_it at = (brought.copied p.page in_it.0.0 in_it.0.1 ∙ at.0, moved_each ps in_it.1 at.1)
+
+    moved : All (λ p. slice_get new p.page ≡ Some (region_page schema p.region)) placed
+    moved = All-from_recursion (λ p. slice_get new p.page ≡ Some (region_page schema p.region)) placed (moved_each placed inside spelled)
+
+    -- in version 1 the index stands behind the pages that there were
+    module _ (first : version ≡ 1) where
+      index_numbers : List ℕ
+      index_numbers = pages_under new root.level (top root.page)
+
+      behind : AllByRecursion (λ n. (page_count from ≤ n) × (n < length new)) (pages_under new root.level (top root.page))
+      behind = (built first).within
+
+      apart_one : (n : ℕ) → page_count from ≤ n → (ns : List ℕ) → AllByRecursion IsInside ns → IsOutside n ns
+      apart_one n far [] h = tt
+      apart_one n far (m ∷ ns) h = ((λ e. let less = h.0.1 in absurd (omega arith)), apart_one n far ns h.1)
+
+      built_indexed : HasIndex view new entries
+      built_indexed = record { some = level; under_it = (built first).under_it; entries_are = (built first).entries_are }
+
+      built_placed : ArePlaced schema placed (0 ∷ pages_under new root.level (top root.page)) new
+      built_placed =
+          let ns = pages_under new root.level (top root.page) in
+          let apart = all_more (λ n. (page_count from ≤ n) × (n < length new)) (λ n. IsOutside n numbers_of_regions) (λ n h. apart_one n h.0 numbers_of_regions inside) ns behind in
+          let zero_out : IsOutside 0 ns = all_more (λ n. (page_count from ≤ n) × (n < length new)) (λ n. 0 ≢ n) (λ n h e. let far = h.0 in absurd (omega arith)) ns behind in
+          record {
+            spelled = moved;
+            own = distinct_cons 0 (ns ++ numbers_of_regions) (all_append (λ m. 0 ≢ m) ns numbers_of_regions zero_out outside_pages)
+                (distinct_join ns numbers_of_regions (built first).reached (distinct_right (0 ∷ s.numbers) numbers_of_regions s.placed_are.own) apart);
+            within = All-from_recursion (λ n. n < length new) (0 ∷ ns)
+                (omega arith, all_more (λ n. (page_count from ≤ n) × (n < length new)) (λ n. n < length new) (λ n h. h.1) ns behind);
+          }
+
+    -- in version 2 it stands where it stood
+    module _ (second : version ≡ 2) (has : HasIndex (index_of s.header) from.pages entries) (numbers_are : s.numbers ≡ pages_under from.pages s.header.levels (top s.header.root)) where
+      copied : (n : ℕ) → 1 ≤ n → slice_get new n ≡ slice_get from.pages n
+      copied = (brought.index (version_is ∙ second)).0
+
+      as_many : length new ≡ page_count from
+      as_many = (brought.index (version_is ∙ second)).1
+
+      view_is : view ≡ index_of s.header
+      view_is =
+          ap (λ (r : Root). index_view r.page r.level last) (brought.index (version_is ∙ second)).2
+          ∙ ap (λ (h : OldHeader). index_of h.header) is
+
+      stay_each : (ns : List ℕ) → IsOutside 0 ns → PagesStay from.pages new ns
+      stay_each [] out = tt
+      stay_each (zero ∷ ns) out = absurd (out.0 refl)
+      stay_each (suc n ∷ ns) out = (copied (suc n) (omega arith), stay_each ns out.1)
+
+      stay : PagesStay from.pages new (pages_under from.pages s.header.levels (top s.header.root))
+      stay = subst (λ (ns : List ℕ). PagesStay from.pages new ns) numbers_are (stay_each s.numbers outside_numbers)
+
+      old_indexed : HasIndex (index_of s.header) new entries
+      old_indexed = record {
+        some = has.some;
+        under_it = kept_index (index_of s.header).last from.pages new s.header.levels (top s.header.root) None stay has.under_it;
+        entries_are = kept_under from.pages new s.header.levels (top s.header.root) stay ∙ has.entries_are;
+      }
+
+      old_placed : ArePlaced schema placed (reserved (index_of s.header) new) new
+      old_placed = subst (λ (ns : List ℕ). ArePlaced schema placed (0 ∷ ns) new) (numbers_are ∙ sym (kept_pages from.pages new s.header.levels (top s.header.root) stay)) (record {
+        spelled = moved;
+        own = s.placed_are.own;
+        within = subst (λ (n : ℕ). All (λ m. m < n) (0 ∷ s.numbers)) (sym as_many) s.placed_are.within;
+      })
+
+    abbrev IsThere : Type 0
+    IsThere = HasIndex view new entries × ArePlaced schema placed (reserved view new) new
+
+    there : IsThere
+    there = elim s.told [
+      | inl first ↦ (built_indexed first.0, built_placed first.0)
+      | inr second ↦ subst (λ (i : IndexView). HasIndex i new entries × ArePlaced schema placed (reserved i new) new) (sym (view_is second.0 second.1 second.2))
+          (old_indexed second.0 second.1 second.2, old_placed second.0 second.1 second.2)
+    ]
+
+    -- so the regions stand on the new pages
+    pub carried : IsCarried schema placed next head view new
+    carried = record {
+      schema_is = ap (λ (h : OldHeader). h.header.schema) is ∙ s.schema_is;
+      next_is = ap (λ (h : OldHeader). h.header.next) is ∙ s.next_is;
+      rows_are = ap (λ (h : OldHeader). h.header.rows) is ∙ s.rows_are;
+      regions_are = ap (λ (h : OldHeader). h.header.regions) is ∙ s.regions_are;
+      well_formed = s.well_formed;
+      indexed = there.0;
+      placed_are = there.1;
+    }
+
+    -- and the root fits
+    pub rooted : NamesFitting last new root.level (top root.page) None
+    rooted = by_level root.level level there.0.under_it
+      where
+        by_level : (n : ℕ) → 1 ≤ n → IsUnder last new n (top root.page) None → NamesFitting last new n (top root.page) None
+        by_level zero low h = absurd (omega arith)
+        by_level (suc n) low h = h.0
+
+-- ---- the tree over the pages that were brought over
+
+abbrev pub over : OldHeader → IndexView → PagerView → TreeView
+over head i pager = tree_view head.header.schema i head.header.regions head.header.next head.header.rows true false pager
+
+module _ (from : StoreFacts) (head : OldHeader) (i : IndexView) (pager : PagerView) (honest : IsHonest pager.store) (last_is : i.last ≡ last_address head.header.schema.dims) (level : 1 ≤ i.levels)
+    (brought : IsBrought head from pager.store.pages (root_in i)) where
+  index_is : head.version ≡ 2 → i ≡ index_of head.header
+  index_is second =
+      ap (λ (r : Root). index_view r.page r.level i.last) (brought.index second).2
+      ∙ ap (λ (n : ℕ). index_view head.header.root head.header.levels n) last_is
+
+  pub stands_over : StandsOver from head (over head i pager)
+  stands_over = record {
+    honest = honest;
+    schema_is = refl;
+    count_is = refl;
+    rows_are = refl;
+    pages_are = brought.copied;
+    by_index = λ second. ((brought.index second).1, index_is second);
+    by_directory = λ first.
+        let d = brought.directory first in (
+          record { honest = honest; some = level; under_it = subst (λ (n : ℕ). IsUnder n pager.store.pages i.levels (top i.root) None) (sym last_is) d.4.under_it },
+          d.0,
+          subst (λ (es : List Entry). IsDirectory from.pages (directory_of head.header) d.0 es) (sym d.4.entries_are) d.2,
+          subst (λ (es : List Entry). AreBelow (page_count from) es) (sym d.4.entries_are) d.3,
+        );
+  }
+
+  -- in version 1 the root of the index fits
+  pub built_root : head.version ≡ 1 → IsRooted i pager.store
+  built_root first = by_level i.levels level (subst (λ (n : ℕ). IsUnder n pager.store.pages i.levels (top i.root) None) (sym last_is) (brought.directory first).4.under_it)
+    where
+      by_level : (n : ℕ) → 1 ≤ n → IsUnder i.last pager.store.pages n (top i.root) None → NamesFitting i.last pager.store.pages n (top i.root) None
+      by_level zero low h = absurd (omega arith)
+      by_level (suc n) low h = h.0
+
+-- a header of an old version is of version 1 or 2
+pub versions : (head : OldHeader) → IsOldHeader head → (head.version ≡ 1) ⊎ (head.version ≡ 2)
+versions head is = by_version head.version is.version.0 is.version.1
+  where
+    by_version : (n : ℕ) → 1 ≤ n → n < 3 → (n ≡ 1) ⊎ (n ≡ 2)
+    by_version zero low high = absurd (omega arith)
+    by_version (suc zero) low high = inl refl
+    by_version (suc (suc zero)) low high = inr refl
+    by_version (suc (suc (suc n))) low high = absurd (omega arith)
+
+-- the way to each key stops at the root, where that isn't taken
+stops_at_root : (i : IndexView) (store : StoreFacts) (key : Key) (fault : Option PageFault) → 1 ≤ i.levels → IsNotTaken i.last store.pages [] i.levels (top i.root) None fault
+    → Stops i store [] key i.root fault
+stops_at_root i store key fault level h = by_level i.levels level h
+  where
+    by_level : (n : ℕ) → 1 ≤ n → IsNotTaken i.last store.pages [] n (top i.root) None fault → StopsAt i.last store.pages [] key n (top i.root) None i.root fault
+    by_level zero low h = absurd (omega arith)
+    by_level (suc n) low h = inl (refl, h)
+
+-- why the root of the index is refused
+module _ (from new : StoreFacts) (head : OldHeader) (i : IndexView) (pager : PagerView) (has : HasOldHeader from head) (more : page_count from ≤ page_count pager.store) (root_some : 1 ≤ i.root)
+    (fails : pager.store.can_fail ≡ new.can_fail) (still : IsHonest new → IsHonest pager.store) (last_is : i.last ≡ last_address head.header.schema.dims) (level : 1 ≤ i.levels)
+    (brought : IsHonest from → IsHonest new → IsBrought head from pager.store.pages (root_in i)) where
+  abbrev t : TreeView
+  t = over head i pager
+
+  -- over honest stores that comes in version 2 alone
+  second_of : (e : IndexFault) → (IsHonest pager.store → IsRooted i pager.store → IsPassingRoot e) → (¬ (IsPassingRoot e)) → IsHonest from → IsHonest new → head.version ≡ 2
+  second_of e exact never honest new_honest = elim (versions head has.is) [
+    | inl first ↦ absurd (never (exact (still new_honest) (built_root from head i pager (still new_honest) last_is level (brought honest new_honest) first)))
+    | inr second ↦ second
+  ]
+
+  stands : IsHonest from → IsHonest new → StandsOver from head t
+  stands honest new_honest = stands_over from head i pager (still new_honest) last_is level (brought honest new_honest)
+
+  pub root_fault : (e : IndexFault) → (IsHonest pager.store → IsRooted i pager.store → IsPassingRoot e) → IsRootFault i pager.store e → IsUpgradeFault from new (index_fault e)
+  root_fault index.Full exact h = absurd h
+  root_fault (index.Store store.Memory) exact h = tt
+  root_fault (index.Store store.Device) exact h = inr (sym fails ∙ h)
+  root_fault (index.Store store.BadSize) exact h = absurd h
+  root_fault (index.Store store.NoPage) exact h = (
+    i.root,
+    omega (arith, h, more),
+    λ honest new_honest. inr (head, has, inr (t, stands honest new_honest, inl (origin, [], stops_at_root i pager.store origin None level h))),
+  )
+  root_fault (index.Page n fault) exact h = λ honest new_honest.
+      let second = second_of (index.Page n fault) exact (λ never. never) honest new_honest in
+      let b = brought honest new_honest in
+      let at : slice_get pager.store.pages n ≡ Some h.1 = h.2 (still new_honest) in
+      let old_at : slice_get from.pages n ≡ Some h.1 = sym ((b.index second).0 n (subst (λ (m : ℕ). 1 ≤ m) (sym h.0) root_some)) ∙ at in
+      let at_root : slice_get pager.store.pages i.root ≡ Some h.1 = ap (slice_get pager.store.pages) (sym h.0) ∙ at in
+      let page : page_in pager.store.pages i.root ≡ h.1 = get_or_from_slice_get pager.store.pages i.root h.1 [] at_root in
+      let taken : IsNotTaken i.last pager.store.pages [] i.levels (top i.root) None (Some fault) =
+      (at_root ∙ ap (λ (x : List ℕ). Some x) (sym page), inl (subst (λ (x : List ℕ). IsUnfit i.last x i.levels (top i.root) None fault) (sym page) h.3)) in (
+        h.1,
+        old_at,
+        inr (
+          head,
+          has,
+          inr (
+            t,
+            stands honest new_honest,
+            inl (inl (λ _. inl (origin, [], subst (λ (m : ℕ). Stops i pager.store [] origin m (Some fault)) (sym h.0) (stops_at_root i pager.store origin (Some fault) level taken)))),
+          ),
+        ),
+      )
+
+-- ---- the steps together
+
+pub on_err_by : {T E : Type 0} (r : Result T E) (P : Type 0) → P → OnErr r P
+on_err_by (Ok x) P p = tt
+on_err_by (Err e) P p = p
+
+pub passing_up : (f : TreeFault) → IsPassing f → IsUpgradePassing f
+passing_up f (inl is) = rw is tt
+passing_up f (inr is) = rw is tt
+
+-- the header of the pages of an old table
+pub head_is : (version next : ℕ) (schema : Schema) (placed : List Placed) (from : StoreFacts) (s : AreOldPages version from.pages schema placed next) → HasOldHeader from (head_of version s.header)
+head_is version next schema placed from s = record { spelled = λ _. s.spelled; is = s.in_range; clean = s.clean }
+
+-- a refusal is told of the stores alone, not of what was done before
+pub fault_moved : (from a b : StoreFacts) → a.can_fail ≡ b.can_fail → (IsHonest b → IsHonest a) → (f : TreeFault) → IsUpgradeFault from a f → IsUpgradeFault from b f
+fault_moved from a b fails still Full h = absurd h
+fault_moved from a b fails still HasFailed h = absurd h
+fault_moved from a b fails still Memory h = tt
+fault_moved from a b fails still (Store store.Memory) h = absurd h
+fault_moved from a b fails still (Store store.Device) (inl old) = inl old
+fault_moved from a b fails still (Store store.Device) (inr new) = inr (sym fails ∙ new)
+fault_moved from a b fails still (Store store.NoPage) h = (h.0, h.1, λ honest new_honest. h.2 honest (still new_honest))
+fault_moved from a b fails still (Store store.BadSize) h = h
+fault_moved from a b fails still (Page n fault) h = λ honest new_honest. h honest (still new_honest)

@@ -1,0 +1,241 @@
+-- Reading a directory page by page.
+use Rattle.std.proofs.Common.{◌≡◌, ◌<◌, ◌≤◌, ◌+◌, ◌-◌, ◌*◌, ◌↔◌, ◌&&◌, ◌++◌, inl, inr, ℕ, zero, suc, get_or, Bool, true, false, IsTrue, List, [], ◌∷◌, Some, None, Err, length, take, drop, ◌∙◌, sym, ap, subst, refl, arith, slice_get, slice_index_or}
+use Rattle.std.proofs.lemmas.Bool.{and_parts, cases_eq, cases_lt}
+use Rattle.std.proofs.lemmas.List.{length-append, length-take, length-drop, take-append-le, drop-append-le}
+use Rattle.std.proofs.lemmas.List.Elements.{All-from_recursion}
+use Rattle.std.specs.List.{AllByRecursion}
+use Rattle.ub_zaddr.specs.Address.{last_address}
+use Rattle.ub_page.specs.Directory.{Listing, IsListing, directory_page}
+use Rattle.ub_page.specs.Entries.{AreAscending, IsEntry}
+use Rattle.ub_page.specs.declared.entries.Entry.{Entry}
+use Rattle.ub_region.proofs.Laws.{all_more, all_append}
+use Rattle.ub_store.specs.Facts.{StoreFacts, IsHonest, IsPage, page_count}
+use Rattle.ub_table.proofs.Laws.{precedes_of}
+use Rattle.ub_table.specs.Keys.{origin, precedes, is_same, are_ascending}
+use Rattle.ub_upgrade.specs.Reading.{HeadingView, Spells, AreBelow, AreFull, AreBegun, HasPart, IsAskedFor, IsNamed, IsReadUpTo, IsReadWhole, last_first}
+use Rattle.ub_upgrade.specs.Building.{IsBuildFault}
+use Rattle.ub_upgrade.specs.declared.fault.UpgradeFault.TheVariants.{Old}
+use Rattle.ub_store.specs.declared.fault.StoreFault.{StoreFault}
+use Rattle.ub_store.specs.declared.fault.StoreFault.TheVariants as store
+use Rattle.std.specs.Result.{IsErrOf}
+use Rattle.ub_directory.specs.Spans.{ArePlaces, first_keys}
+use Rattle.ub_upgrade.specs.Chain.{IsChain}
+use Rattle.ub_directory.proofs.Laws.{same_key}
+use Rattle.ub_table.specs.declared.row.Key.{Key}
+
+and_true : (b : Bool) → (b && true) ≡ b
+and_true true = refl
+and_true false = refl
+
+-- entries after others are in order where the first of them is after the last of those
+joined : (xs ys : List Entry) (key : Key) (f : Entry) → are_ascending (first_keys xs) ≡ true → are_ascending (first_keys ys) ≡ true → last_first xs ≡ Some key → slice_get ys 0 ≡ Some f
+    → are_ascending (first_keys (xs ++ ys)) ≡ precedes key f.first
+joined [] ys key f up rest last first = cc
+joined (x ∷ []) [] key f up rest last first = cc
+joined (x ∷ []) (y ∷ ys) key f up rest last first =
+    let same : x.first ≡ key = cc in
+    let also : y ≡ f = cc in
+    ap (λ (b : Bool). precedes x.first y.first && b) rest ∙ and_true (precedes x.first y.first)
+    ∙ ap (λ (k : Key). precedes k y.first) same ∙ ap (λ (e : Entry). precedes key e.first) also
+joined (x ∷ z ∷ xs) ys key f up rest last first =
+    let parts = and_parts _ _ up in
+    ap (λ (b : Bool). b && are_ascending (first_keys ((z ∷ xs) ++ ys))) parts.0 ∙ joined (z ∷ xs) ys key f parts.1 rest last first
+
+pub ascends : (entries : List Entry) → AreAscending entries → are_ascending (first_keys entries) ≡ true
+ascends [] up = refl
+ascends (x ∷ []) up = refl
+ascends (x ∷ y ∷ entries) up =
+    ap (λ (b : Bool). b && are_ascending (first_keys (y ∷ entries))) (precedes_of x.first y.first up.0) ∙ ascends (y ∷ entries) up.1
+
+pub begun_after : (before entries : List Entry) (key : Key) (d : Entry) (b : Bool) → AreBegun before → AreAscending entries → last_first before ≡ Some key → 1 ≤ length entries
+    → b ≡ precedes key (get_or entries 0 d).first → (b ≡ true) ↔ AreBegun (before ++ entries)
+begun_after [] entries key d b begun up last some tells = cc
+begun_after (x ∷ before) [] key d b begun up last some tells = absurd (omega arith)
+begun_after (x ∷ before) (y ∷ entries) key d b begun up last some tells =
+    let same = joined (x ∷ before) (y ∷ entries) key y begun.1 (ascends (y ∷ entries) up) last refl in
+    (λ t. (begun.0, same ∙ sym tells ∙ t), λ h. tells ∙ sym same ∙ h.1)
+
+some_last : (x : Entry) (xs : List Entry) → last_first (x ∷ xs) ≡ None → ⊥
+some_last x [] e = cc
+some_last x (y ∷ xs) e = some_last y xs e
+
+pub begun_first : (before entries : List Entry) (d : Entry) (b : Bool) → last_first before ≡ None → AreAscending entries → 1 ≤ length entries
+    → b ≡ is_same (get_or entries 0 d).first origin → (b ≡ true) ↔ AreBegun (before ++ entries)
+begun_first (x ∷ before) entries d b none up some tells = absurd (some_last x before none)
+begun_first [] [] d b none up some tells = absurd (omega arith)
+begun_first [] (y ∷ entries) d b none up some tells =
+    (λ t. (same_key y.first origin (sym tells ∙ t), ascends (y ∷ entries) up), λ h. tells ∙ rw h.0 refl)
+
+-- the last of entries after others
+pub last_behind : (xs ys : List Entry) (d : Entry) → 1 ≤ length ys → last_first (xs ++ ys) ≡ Some (get_or ys (length ys - 1) d).first
+last_behind [] [] d some = absurd (omega arith)
+last_behind [] (y ∷ []) d some = refl
+last_behind [] (y ∷ z ∷ ys) d some =
+    let last : length (y ∷ z ∷ ys) - 1 ≡ suc (length (z ∷ ys) - 1) = omega arith in
+    last_behind [] (z ∷ ys) d (omega arith) ∙ ap (λ (k : ℕ). Some (get_or (y ∷ z ∷ ys) k d).first) (sym last)
+last_behind (x ∷ []) [] d some = absurd (omega arith)
+last_behind (x ∷ []) (y ∷ ys) d some = last_behind [] (y ∷ ys) d some
+last_behind (x ∷ z ∷ xs) ys d some = last_behind (z ∷ xs) ys d some
+
+-- a list of no more than so many
+take_all : {X : Type 0} (k : ℕ) (xs : List X) → length xs ≤ k → take k xs ≡ xs
+take_all zero [] le = refl
+take_all (suc k) [] le = refl
+take_all zero (x ∷ xs) le = absurd (omega arith)
+take_all (suc k) (x ∷ xs) le = ap (λ ys. x ∷ ys) (take_all k xs (omega arith))
+
+drop_all : {X : Type 0} (k : ℕ) (xs : List X) → length xs ≤ k → drop k xs ≡ []
+drop_all zero [] le = refl
+drop_all (suc k) [] le = refl
+drop_all zero (x ∷ xs) le = absurd (omega arith)
+drop_all (suc k) (x ∷ xs) le = drop_all k xs (omega arith)
+
+-- the first page of a chain that goes on
+pub first_goes_on : (chain : List ℕ) (n m : ℕ) → slice_index_or (chain ++ n ∷ []) 0 m ≡ slice_index_or chain 0 n
+first_goes_on [] n m = refl
+first_goes_on (a ∷ chain) n m = refl
+
+first_kept : (chain : List ℕ) (n m : ℕ) → slice_get ((chain ++ n ∷ []) ++ m ∷ []) 0 ≡ slice_get (chain ++ n ∷ []) 0
+first_kept [] n m = refl
+first_kept (a ∷ chain) n m = refl
+
+long_front : (entries : List Entry) → length (take 170 entries) ≡ 170 → 170 ≤ length entries
+long_front entries long = omega (arith, length-take 170 entries)
+
+module _ (dims : ℕ) (pages : List (List ℕ)) where
+  pub full_length : (chain : List ℕ) (entries : List Entry) (n : ℕ) → AreFull dims pages chain entries n → length entries ≡ 170 * length chain
+  full_length [] entries n h = ap length h
+  full_length (a ∷ chain) entries n h =
+      let rest = full_length chain (drop 170 entries) n h.2 in
+      omega (arith, rest, length-drop 170 entries, long_front entries h.1)
+
+  full_some : (chain : List ℕ) (entries : List Entry) (n : ℕ) → AreFull dims pages chain entries n → AllByRecursion (λ n. 1 ≤ n) chain
+  full_some [] entries n h = tt
+  full_some (a ∷ chain) entries n h = (h.0.some, full_some chain (drop 170 entries) n h.2)
+
+  -- a full page more
+  full_next : (chain : List ℕ) (entries : List Entry) (n : ℕ) (part : Listing) → AreFull dims pages chain entries n → Spells dims pages n part → length part.entries ≡ 170
+      → AreFull dims pages (chain ++ n ∷ []) (entries ++ part.entries) part.next
+  full_next [] entries n part h spells long =
+      let whole : take 170 part.entries ≡ part.entries = take_all 170 part.entries (omega arith) in
+      let none : drop 170 part.entries ≡ [] = drop_all 170 part.entries (omega arith) in
+      rw h (rw whole spells, rw whole long, none)
+  full_next (a ∷ chain) entries n part h spells long =
+      let more = long_front entries h.1 in
+      let front : take 170 (entries ++ part.entries) ≡ take 170 entries = take-append-le 170 entries part.entries more in
+      let behind : drop 170 (entries ++ part.entries) ≡ drop 170 entries ++ part.entries = drop-append-le 170 entries part.entries more in
+      (rw (front, first_goes_on chain n part.next) h.0, rw front h.1, rw behind (full_next chain (drop 170 entries) n part h.2 spells long))
+
+  -- the last page
+  chain_whole : (chain : List ℕ) (entries : List Entry) (n : ℕ) (part : Listing) → AreFull dims pages chain entries n → Spells dims pages n part → part.next ≡ 0
+      → IsChain pages (chain ++ n ∷ []) (entries ++ part.entries)
+  chain_whole [] entries n part h spells end =
+      rw h (spells.range.some, spells.range.few, subst (λ (k : ℕ). slice_get pages n ≡ Some (directory_page (record { entries = part.entries; next = k }))) end spells.page)
+  chain_whole (a ∷ []) entries n part h spells end =
+      let more = long_front entries h.1 in
+      let front : take 170 (entries ++ part.entries) ≡ take 170 entries = take-append-le 170 entries part.entries more in
+      let behind : drop 170 (entries ++ part.entries) ≡ drop 170 entries ++ part.entries = drop-append-le 170 entries part.entries more in
+      (rw front h.0.page, rw front h.1, rw behind (chain_whole [] (drop 170 entries) n part h.2 spells end))
+  chain_whole (a ∷ b ∷ chain) entries n part h spells end =
+      let more = long_front entries h.1 in
+      let front : take 170 (entries ++ part.entries) ≡ take 170 entries = take-append-le 170 entries part.entries more in
+      let behind : drop 170 (entries ++ part.entries) ≡ drop 170 entries ++ part.entries = drop-append-le 170 entries part.entries more in
+      (rw front h.0.page, rw front h.1, rw behind (chain_whole (b ∷ chain) (drop 170 entries) n part h.2 spells end))
+
+places_of : (last : ℕ) (entries : List Entry) → 1 ≤ length entries → AreBegun entries → AllByRecursion (IsEntry last) entries → ArePlaces last entries
+places_of last [] some begun each = absurd (omega arith)
+places_of last (e ∷ entries) some begun each =
+    (ap (λ k. Some k) begun.0, All-from_recursion (λ e. e.first.z ≤ last) (e ∷ entries) (all_more (IsEntry last) (λ e. e.first.z ≤ last) (λ e h. h.z) (e ∷ entries) each), begun.1)
+
+-- a page of the directory was read that fits
+module _ (old : StoreFacts) (heading : HeadingView) (chain : List ℕ) (entries : List Entry) (n : ℕ) (page : List ℕ) (part : Listing) (h : IsReadUpTo old heading chain entries n)
+    (at : IsPage old n page) (range : IsListing heading.dims part) (page_is : page ≡ directory_page part) (fits : HasPart (heading.regions - length entries) part)
+    (begun : AreBegun (entries ++ part.entries)) where
+  spells : IsHonest old → Spells heading.dims old.pages n part
+  spells is = record { some = h.some_page; range = range; page = at is ∙ ap (λ p. Some p) page_is }
+
+  each_is : AllByRecursion (IsEntry (last_address heading.dims)) (entries ++ part.entries)
+  each_is = all_append (IsEntry (last_address heading.dims)) entries part.entries h.each range.entries
+
+  pub part_full : length entries + 170 < heading.regions → IsReadUpTo old heading (chain ++ n ∷ []) (entries ++ part.entries) part.next × (length (entries ++ part.entries) ≡ length entries + 170)
+  part_full more =
+      let long : length part.entries ≡ 170 = omega (arith, fits.0) in
+      let all = length-append entries part.entries in (
+        record {
+          root_is = first_kept chain n part.next ∙ h.root_is;
+          some_page = elim (cases_eq part.next 0) [
+            | inl e ↦ let few = fits.1.0 e in absurd (omega arith)
+            | inr ne ↦ omega arith
+          ];
+          small = range.next;
+          full = λ is. full_next heading.dims old.pages chain entries n part (h.full is) (spells is) long;
+          each = each_is;
+          begun = begun;
+          more = omega arith;
+        },
+        omega arith,
+      )
+
+  pub part_whole : heading.regions ≤ length entries + 170 → IsReadWhole old heading (chain ++ n ∷ []) (entries ++ part.entries)
+  part_whole last =
+      let more = h.more in
+      let some = range.some in
+      let long : length part.entries ≡ heading.regions - length entries = omega (arith, fits.0) in
+      let all = length-append entries part.entries in
+      let end : part.next ≡ 0 = fits.1.1 (omega arith) in
+      let places = places_of (last_address heading.dims) (entries ++ part.entries) (omega arith) begun each_is in
+      let pages = length-append chain (n ∷ []) in
+      record {
+        each = All-from_recursion (IsEntry (last_address heading.dims)) (entries ++ part.entries) each_is;
+        places = places;
+        regions_are = omega arith;
+        root_is = h.root_is;
+        some_chain = omega arith;
+        directory = λ is. (
+            record {
+              root_is = h.root_is;
+              some_pages = all_append (λ n. 1 ≤ n) chain (n ∷ []) (full_some heading.dims old.pages chain entries n (h.full is)) (h.some_page, tt);
+              directory = chain_whole heading.dims old.pages chain entries n part (h.full is) (spells is) end;
+              regions_are = omega arith;
+              each = each_is;
+              places = places;
+            }
+            );
+      }
+
+-- ---- a region's page that isn't there
+
+pub not_below : (count : ℕ) (entries : List Entry) → ¬ (AreBelow count entries) → (i : ℕ) × (entry : Entry) × (slice_get entries i ≡ Some entry) × (count ≤ entry.page)
+not_below count [] none = absurd (none tt)
+not_below count (x ∷ entries) none = elim (cases_lt x.page count) [
+  | inl less ↦ let rest = not_below count entries (λ all. none (less, all)) in (suc rest.0, rest.1, rest.2, rest.3)
+  | inr past ↦ (0, x, refl, past)
+]
+
+pub named_missing : (heading : HeadingView) (old new : StoreFacts) (chain : List ℕ) (before : List Entry) (n met : ℕ) (page : List ℕ) (part : Listing) → IsReadUpTo old heading chain before n → met ≡ length before
+    → IsPage old n page → IsListing heading.dims part → page ≡ directory_page part → HasPart (heading.regions - met) part → AreBegun (before ++ part.entries)
+    → ¬ (AreBelow (page_count old) part.entries) → IsBuildFault heading old new (Old store.NoPage)
+named_missing heading old new chain before n met page part up is at range page_is fits begun none =
+    let far = not_below (page_count old) part.entries none in
+    let named : IsNamed heading old far.1.page = record {
+      chain = chain;
+      before = before;
+      number = n;
+      asked = up;
+      part = part;
+      range = range;
+      page = λ honest. at honest ∙ ap (λ (p : List ℕ). Some p) page_is;
+      fits = subst (λ (m : ℕ). HasPart (heading.regions - m) part) is fits;
+      begun = begun;
+      index = far.0;
+      first = far.1.first;
+      names = far.2;
+    } in
+    (far.1.page, far.3, inr named)
+
+pub read_refused : (U : Type 0) (fault : StoreFault) (heading : HeadingView) (old new : StoreFacts) (n : ℕ) → (IsErrOf {T = U} (Err fault) store.Device → IsTrue old.can_fail)
+    → (IsErrOf {T = U} (Err fault) store.NoPage → page_count old ≤ n) → (¬ (IsErrOf {T = U} (Err fault) store.BadSize)) → IsAskedFor heading old n → IsBuildFault heading old new (Old fault)
+read_refused U store.Device heading old new n device missing size asked = device refl
+read_refused U store.NoPage heading old new n device missing size asked = (n, missing refl, inl asked)
+read_refused U store.Memory heading old new n device missing size asked = tt
+read_refused U store.BadSize heading old new n device missing size asked = absurd (size refl)

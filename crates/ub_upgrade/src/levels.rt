@@ -1,0 +1,80 @@
+// The levels of an index above its lowest one.
+ghost use Rattle.std.specs.Prelude.{◌≡◌, ◌<◌, ◌≤◌, ◌+◌, IfErr, IfOk, OnOk};
+ghost use Rattle.ub_index.specs.Making.{IsGrowFault};
+ghost use Rattle.ub_index_page.specs.declared.index.TheConstants.{MAX_LEVEL};
+ghost use Rattle.ub_store.specs.Facts.{IsHonest, page_count};
+ghost use Rattle.ub_upgrade.specs.Building.{IsRoot};
+ghost use Rattle.ub_upgrade.specs.Effects.{AddsPages, Counts};
+ghost use Rattle.ub_upgrade.specs.Levels.{Cut, IsLast, IsRaised, names_of, pages_above, pages_for, most_pages};
+
+use crate::adding::add_names;
+use crate::building::Root;
+use ub_index_page::MAX_ENTRIES;
+use ub_store::{PageStore, Pager, StoreFault};
+
+/// A level of an index: the number of its first page, and how many pages it has. Their numbers follow each other, and they are the
+/// last ones of the store.
+#[derive(Clone, Copy)]
+pub struct Level {
+    pub first: u32,
+    pub count: u32,
+}
+
+// Puts the level above one, behind all pages: a page for each 170 of that one.
+fn write_level<S: PageStore>(
+    pager: &mut Pager<S>,
+    low: Level,
+    level: u32,
+) -> Result<Level, StoreFault>
+    requires high { level ≤ MAX_LEVEL }
+    requires last { IsLast pager.old.store low }
+    ensures last { IfOk result (IsLast pager.new.store) }
+    ensures small { OnOk result (page_count pager.new.store < 4294967296) }
+    ensures first { IfOk result (λ up. up.first ≡ page_count pager.old.store) }
+    ensures count { IfOk result (λ up. up.count ≡ pages_for low.count) }
+    ensures cut { IsHonest pager.old.store
+        → IfOk result (λ up. Cut pager.new.store.pages level up.first up.count
+        (names_of pager.old.store.pages low.first low.count)) }
+    ensures adds { AddsPages pager.old pager.new }
+    ensures counts { Counts result pager.old.store pager.new.store }
+    ensures refused { IfErr result (IsGrowFault (pages_for low.count) pager.old.store) }
+{
+    let first = pager.pages();
+    let mut named = 0;
+    while named < low.count {
+        let count = (low.count - named).min(MAX_ENTRIES as u32);
+        add_names(pager, low.first + named, count as usize, level)?;
+        named += count;
+    }
+    Ok(Level {
+        first,
+        count: pager.pages() - first,
+    })
+}
+
+/// Puts all levels above the lowest one, up to the one that has one page alone.
+pub fn write_levels<S: PageStore>(pager: &mut Pager<S>, leaves: Level) -> Result<Root, StoreFault>
+    requires last { IsLast pager.old.store leaves }
+    requires some { 1 ≤ leaves.count }
+    requires few { leaves.count ≤ most_pages 1 }
+    requires first { 1 ≤ leaves.first }
+    ensures root { IfOk result (IsRoot (page_count pager.new.store)) }
+    ensures count { IfOk result (λ _. page_count pager.new.store
+        ≡ page_count pager.old.store + pages_above 4 leaves.count) }
+    ensures raised { IsHonest pager.old.store
+        → IfOk result (IsRaised pager.old.store.pages pager.new.store.pages leaves) }
+    ensures adds { AddsPages pager.old pager.new }
+    ensures counts { Counts result pager.old.store pager.new.store }
+    ensures refused { IfErr result (IsGrowFault (pages_above 4 leaves.count) pager.old.store) }
+{
+    let mut low = leaves;
+    let mut level = 1;
+    while low.count > 1 {
+        low = write_level(pager, low, level + 1)?;
+        level += 1;
+    }
+    Ok(Root {
+        page: low.first,
+        level,
+    })
+}
