@@ -1,8 +1,8 @@
 // The table of five rows on other pages, made by hand, byte for byte: its regions are on pages 1, 3 and 2, and the root of its index
 // is on page 4. It is opened, asked, changed, and closed, and the root stays there.
-use crate::samples::{Sheet, page_of, plane};
-use crate::trial::{Answer, DONE, NO_STEPS, Run, Step, all_go};
-use ub_page::{Entry, Page};
+use crate::samples::{Sheet, Table};
+use crate::trial::{Answer, DONE, Run, Step, YES, goes};
+use ub_page::Entry;
 use ub_table::{Key, Row};
 
 const LAST: u128 = 18_446_744_073_709_551_615;
@@ -124,55 +124,41 @@ const JOINED: [Sheet; 6] = [
     ),
 ];
 
-// The header's bytes before the zeros: its kind, version 3, clean, two dimensions, a measure, two rows a page; the next number, the
-// rows, the regions, the root and its level; and the names t, x, y and m, each in 33 bytes.
-static HEADER_HEAD: [u8; 32] = [
+// The header's bytes before the names: its kind, version 3, clean, two dimensions, a measure, two rows a page; the next number, the
+// rows, the regions, the root and its level.
+const HEADER_HEAD: [u8; 32] = [
     0x55, 0x42, 0x54, 0x52, 3, 0, 2, 1, 2, 0, 0, 0, 0, 0, 0, 6, 0, 0, 0, 5, 0, 0, 0, 3, 0, 0, 0, 4,
     0, 0, 0, 1,
 ];
 
-static NAMES: [u8; 4] = [0x74, 0x78, 0x79, 0x6d];
-
 // The root's bytes before the zeros: its kind, its level, its count; and of each entry the address, the number and the page.
-static ROOT_HEAD: [u8; 88] = [
+const ROOT_HEAD: [u8; 88] = [
     0x49, 1, 0, 3, 0, 0, 0, 0, 0, 0, 0, 0, 0, 0, 0, 0, //
     0, 0, 0, 0, 0, 0, 0, 0, 0, 0, 0, 0, 0, 0, 0, 0, 0, 0, 0, 0, 0, 0, 0, 1, //
     0, 0, 0, 0, 0, 0, 0, 0, 0, 0, 0, 0, 0, 0, 0, 10, 0, 0, 0, 0, 0, 0, 0, 3, //
     0, 0, 0, 0, 0, 0, 0, 0, 0, 0, 0, 0, 0, 0, 0, 13, 0, 0, 0, 0, 0, 0, 0, 2,
 ];
 
-// The header, byte for byte.
-fn header_bytes() -> Page {
-    let mut page = [0; 4096];
-    page[..32].copy_from_slice(&HEADER_HEAD);
-    for i in 0..4usize {
-        page[32 + 33 * i] = 1;
-        page[33 + 33 * i] = NAMES[i];
-    }
-    page
-}
+// The header and the root that are held against the store, byte for byte: behind the header's numbers the names t, x, y and m, each in
+// 33 bytes, and then zeros.
+const SPELLED: [(Step, Answer); 13] = [
+    (Step::Stored(0, &HAND_MADE), DONE),
+    (Step::Close, DONE),
+    (Step::Bytes(0, 0, &HEADER_HEAD), YES),
+    (Step::Bytes(0, 32, &[1, 0x74]), YES),
+    (Step::Bytes(0, 34, &[0; 31]), YES),
+    (Step::Bytes(0, 65, &[1, 0x78]), YES),
+    (Step::Bytes(0, 67, &[0; 31]), YES),
+    (Step::Bytes(0, 98, &[1, 0x79]), YES),
+    (Step::Bytes(0, 100, &[0; 31]), YES),
+    (Step::Bytes(0, 131, &[1, 0x6d]), YES),
+    (Step::Bytes(0, 133, &[0; 3963]), YES),
+    (Step::Bytes(4, 0, &ROOT_HEAD), YES),
+    (Step::Bytes(4, 88, &[0; 4008]), YES),
+];
 
-// The root, byte for byte.
-fn root_bytes() -> Page {
-    let mut page = [0; 4096];
-    page[..88].copy_from_slice(&ROOT_HEAD);
-    page
-}
-
-// Whether the header and the root that are held against the store have these bytes.
-fn is_spelled() -> bool {
-    match plane() {
-        Ok(schema) => {
-            page_of(&schema, &HAND_MADE[0]) == header_bytes()
-                && page_of(&schema, &HAND_MADE[4]) == root_bytes()
-        }
-        Err(_) => false,
-    }
-}
-
-const STEPS: [(Step, Answer); 21] = [
-    (Step::Store(0, &HAND_MADE), DONE),
-    (Step::Open, DONE),
+const STEPS: [(Step, Answer); 20] = [
+    (Step::Stored(0, &HAND_MADE), DONE),
     (Step::Count, Ok([5, 3, 0, 0])),
     (Step::Walk, Ok([3, 0, 13, 3])),
     (Step::Span(0), Ok([0, 9, 1, 4])),
@@ -194,14 +180,14 @@ const STEPS: [(Step, Answer); 21] = [
     (Step::Walk, Ok([3, 0, 13, 3])),
 ];
 
-static RUNS: &[Run] = &[Run {
+static RUN: Run = Run {
     shown: "a root on another page",
-    first: &STEPS,
-    then: &NO_STEPS,
-}];
+    first: &SPELLED,
+    then: &STEPS,
+    cases: &[],
+};
 
 #[test]
 fn a_root_on_another_page_stays_there(rt: HostRuntime) {
-    assert!(rt; is_spelled());
-    all_go(&rt, rt.alloc(), RUNS);
+    goes(&rt, rt.alloc(), Table::Plane(2), &RUN);
 }

@@ -3,9 +3,8 @@
 // Each case is run over a store that fails at its first call, over one that fails at its second call, and so on, up to the
 // call after all that its steps make. So each step makes just the calls that stand beside it. After a failed read the same
 // step is answered as ever, and so are the others; after another failure the tree answers nothing any more.
-use crate::samples::{FIVE_ROWS, Sheet, plane_of};
-use crate::trial::{Answer, DEVICE, DONE, NOTHING, Step, Trial};
-use std::alloc::Global;
+use crate::samples::{FIVE_ROWS, Sheet, Table};
+use crate::trial::{Answer, DEVICE, DONE, NOTHING, Run, Step, Trial, goes};
 use ub_page::Entry;
 use ub_table::Key;
 use ub_tree::TreeFault;
@@ -16,10 +15,10 @@ const FAILED: Answer = Err(TreeFault::Failed);
 
 // A step, what it answers, and the calls of the store that it makes, in order: `r` reads a page, `e` adds one, `w` writes one,
 // and `s` syncs. The runs tell reads and added pages from the others, and not a sync from a write.
-struct Made(Step, Answer, &'static [u8]);
+pub(crate) struct Made(Step, Answer, &'static [u8]);
 
-// Steps on the closed table that has these pages, four rows on a page. In the end it is closed.
-struct Case {
+// Steps on the closed table that has these pages. In the end it is closed.
+pub(crate) struct Case {
     sheets: &'static [Sheet],
     steps: &'static [Made],
 }
@@ -111,7 +110,8 @@ const TWO_LEVELS: [Sheet; 9] = [
     ),
 ];
 
-const CASES: [Case; 11] = [
+// Four rows on a page.
+const CHANGES: [Case; 3] = [
     // Opening and reading.
     Case {
         sheets: &FIVE_REGIONS,
@@ -164,6 +164,9 @@ const CASES: [Case; 11] = [
             Made(Step::Close, DONE, b"sws"),
         ],
     },
+];
+
+const REMOVALS: [Case; 5] = [
     // Removals of a row that isn't there.
     Case {
         sheets: &FIVE_REGIONS,
@@ -224,6 +227,9 @@ const CASES: [Case; 11] = [
             Made(Step::Close, DONE, b"sws"),
         ],
     },
+];
+
+const LEVELS: [Case; 3] = [
     // An index of two levels, whose regions are all on page 1.
     Case {
         sheets: &[
@@ -351,6 +357,34 @@ const SMALL: [Case; 3] = [
     },
 ];
 
+static OF_CHANGES: Run = Run {
+    shown: "calls of readers and of insertions",
+    first: &[],
+    then: &[],
+    cases: &CHANGES,
+};
+
+static OF_REMOVALS: Run = Run {
+    shown: "calls of removals",
+    first: &[],
+    then: &[],
+    cases: &REMOVALS,
+};
+
+static OF_LEVELS: Run = Run {
+    shown: "calls with an index of two levels",
+    first: &[],
+    then: &[],
+    cases: &LEVELS,
+};
+
+static OF_TWO: Run = Run {
+    shown: "calls with two rows on a page",
+    first: &[],
+    then: &[],
+    cases: &SMALL,
+};
+
 // How many calls of the store the steps make.
 fn count_calls(steps: &[Made]) -> usize {
     let mut count = 0usize;
@@ -401,27 +435,26 @@ fn told(trial: &mut Trial) -> [Answer; 3] {
     ]
 }
 
-// How many rows and regions the same tree counts once it has failed.
-fn counted_failed(count: Answer) -> Answer {
-    let numbers = count?;
-    Ok([numbers[0], numbers[1], 1, 0])
-}
-
 // What the readers tell of the same tree once it has failed.
 fn failed(told: [Answer; 3]) -> [Answer; 3] {
-    [counted_failed(told[0]), told[1], told[2]]
+    let count = match told[0] {
+        Ok(numbers) => Ok([numbers[0], numbers[1], 1, 0]),
+        Err(fault) => Err(fault),
+    };
+    [count, told[1], told[2]]
 }
 
 // Whether a tree that had told this has failed: it tells the same, can begin anew, and answers nothing else, and closing it
 // hands the store back.
 fn is_stopped(trial: &mut Trial, before: [Answer; 3]) -> bool {
-    told(trial) == failed(before)
-        && is_refused(trial)
-        && told(trial) == failed(before)
-        && trial.answer(&Step::Begin) == DONE
-        && trial.answer(&Step::Trace) == DONE
-        && is_refused(trial)
-        && trial.answer(&Step::Close) == FAILED
+    let wanted = failed(before);
+    (told(trial) == wanted)
+        & is_refused(trial)
+        & (told(trial) == wanted)
+        & (trial.answer(&Step::Begin) == DONE)
+        & (trial.answer(&Step::Trace) == DONE)
+        & is_refused(trial)
+        & (trial.answer(&Step::Close) == FAILED)
 }
 
 // Whether all is left as it should be by a step that wrote, added or synced a page and failed: where it was the closing, the
@@ -442,7 +475,7 @@ fn has_pages(trial: &mut Trial, pages: usize) -> bool {
 // Whether a case goes so over a store of which so many calls go well, and the next one fails.
 fn goes_over(trial: &mut Trial, case: &Case, good: usize) -> bool {
     let k = (good as u64).saturating_add(1);
-    if trial.answer(&Step::Store(k, case.sheets)) != DONE {
+    if trial.take_store(k, case.sheets) != DONE {
         return false;
     }
     let mut left = good;
@@ -472,7 +505,7 @@ fn goes_over(trial: &mut Trial, case: &Case, good: usize) -> bool {
 }
 
 // Whether a case goes so wherever its store fails, and where it doesn't.
-fn goes(trial: &mut Trial, case: &Case) -> bool {
+fn is_so(trial: &mut Trial, case: &Case) -> bool {
     for good in 0..=count_calls(case.steps) {
         if !goes_over(trial, case, good) {
             return false;
@@ -482,34 +515,20 @@ fn goes(trial: &mut Trial, case: &Case) -> bool {
 }
 
 // How many of these cases go so, up to the first that doesn't.
-fn count_right(trial: &mut Trial, cases: &[Case]) -> usize {
+pub(crate) fn count_cases(trial: &mut Trial, cases: &[Case]) -> usize {
     for (i, case) in cases.iter().enumerate() {
-        if !goes(trial, case) {
+        if !is_so(trial, case) {
             return i;
         }
     }
     cases.len()
 }
 
-// How many of these cases of tables with so many rows on a page go so, up to the first that doesn't.
-fn cases_right(alloc: Global, page_rows: u32, cases: &[Case]) -> usize {
-    let Ok(schema) = plane_of(page_rows) else {
-        return 0;
-    };
-    let mut trial = Trial::new(alloc, schema);
-    count_right(&mut trial, cases)
-}
-
-// How many rows stand on a page, and the cases of such tables.
-static TABLES: &[(u32, &[Case])] = &[(4, &CASES), (2, &SMALL)];
-
 #[test]
 fn each_call_of_a_tree_makes_so_many_of_its_store(rt: HostRuntime) {
-    for (page_rows, cases) in TABLES {
-        let right = cases_right(rt.alloc(), *page_rows, cases);
-        assert!(rt;
-            right == cases.len(),
-            "{right} cases with {page_rows} rows on a page were right"
-        );
-    }
+    let alloc = rt.alloc();
+    goes(&rt, alloc, Table::Plane(4), &OF_CHANGES);
+    goes(&rt, alloc, Table::Plane(4), &OF_REMOVALS);
+    goes(&rt, alloc, Table::Plane(4), &OF_LEVELS);
+    goes(&rt, alloc, Table::Plane(2), &OF_TWO);
 }

@@ -1,6 +1,6 @@
 // Tables that are made, changed and closed, and stores that fail at one of the calls.
-use crate::samples::{FIVE_ROWS, NO_ROWS, Sheet};
-use crate::trial::{Answer, DEVICE, DONE, NO_PAGE, NO_STEPS, NOTHING, Run, Step, UNCLEAN, all_go};
+use crate::samples::{FIVE_ROWS, NO_ROWS, Sheet, Table};
+use crate::trial::{Answer, DEVICE, DONE, NO_PAGE, NOTHING, Run, Step, UNCLEAN, YES, goes};
 use ub_page::Entry;
 use ub_table::{Key, PageFault};
 use ub_tree::TreeFault;
@@ -75,9 +75,8 @@ const NO_NUMBER: [Sheet; 3] = [
 ];
 
 // Two calls open it, and none is made for a row. The third one reads its region, for a deletion.
-const FULL: [(Step, Answer); 8] = [
-    (Step::Store(3, &NO_NUMBER), DONE),
-    (Step::Open, DONE),
+const FULL: [(Step, Answer); 7] = [
+    (Step::Stored(3, &NO_NUMBER), DONE),
     (Step::Put(0, 0, 0), Err(TreeFault::Full)),
     (Step::Delete(None), DEVICE),
     (Step::Delete(None), DONE),
@@ -114,9 +113,8 @@ const FAILING: [(Step, Answer); 15] = [
 
 // Opening reads the header and the root of the index. The row is put into the second region, whose page is read, and for which the
 // header is marked before the page is written. So the sixth call is the first of the closing.
-const CHANGED: [(Step, Answer); 5] = [
-    (Step::Store(6, &FIVE_ROWS), DONE),
-    (Step::Open, DONE),
+const CHANGED: [(Step, Answer); 4] = [
+    (Step::Five(6), DONE),
     (Step::Put(3, 0, 1), Ok([6, 0, 0, 0])),
     (Step::Close, DEVICE),
     (Step::Open, UNCLEAN),
@@ -125,50 +123,44 @@ const CHANGED: [(Step, Answer); 5] = [
 // The row is put into the third region, which is full: its page is read and a page is added; the header is marked, both halves are
 // written, and then the root, which has four entries then. So closing begins with the ninth call: it syncs, writes the header, and
 // syncs.
-const CLOSINGS: [(Step, Answer); 37] = [
-    (Step::Store(8, &FIVE_ROWS), DONE),
-    (Step::Open, DONE),
+const CLOSINGS: [(Step, Answer); 32] = [
+    (Step::Five(8), DONE),
     (Step::Put(3, 3, 0), DEVICE),
     (Step::Count, Ok([5, 3, 1, 0])),
     (Step::Close, Err(TreeFault::Failed)),
-    (Step::List, Ok([3, 0, 0, 0])),
+    (Step::Bytes(2, 2, &[0, 3]), YES),
     (Step::Open, UNCLEAN),
     (Step::Count, NOTHING),
-    (Step::Store(9, &FIVE_ROWS), DONE),
-    (Step::Open, DONE),
+    (Step::Five(9), DONE),
     (Step::Put(3, 3, 0), Ok([6, 0, 0, 0])),
     (Step::Close, DEVICE),
-    (Step::List, Ok([4, 0, 0, 0])),
+    (Step::Bytes(2, 2, &[0, 4]), YES),
     (Step::Open, UNCLEAN),
     (Step::Count, NOTHING),
-    (Step::Store(10, &FIVE_ROWS), DONE),
-    (Step::Open, DONE),
+    (Step::Five(10), DONE),
     (Step::Put(3, 3, 0), Ok([6, 0, 0, 0])),
     (Step::Close, DEVICE),
-    (Step::List, Ok([4, 0, 0, 0])),
+    (Step::Bytes(2, 2, &[0, 4]), YES),
     (Step::Open, UNCLEAN),
     (Step::Count, NOTHING),
-    (Step::Store(11, &FIVE_ROWS), DONE),
-    (Step::Open, DONE),
+    (Step::Five(11), DONE),
     (Step::Put(3, 3, 0), Ok([6, 0, 0, 0])),
     (Step::Close, DEVICE),
-    (Step::List, Ok([4, 0, 0, 0])),
+    (Step::Bytes(2, 2, &[0, 4]), YES),
     (Step::Open, DONE),
     (Step::Count, Ok([6, 4, 0, 0])),
     (Step::Close, DONE),
-    (Step::Store(0, &FIVE_ROWS), DONE),
-    (Step::Open, DONE),
+    (Step::Five(0), DONE),
     (Step::Put(3, 3, 0), Ok([6, 0, 0, 0])),
     (Step::Close, DONE),
-    (Step::List, Ok([4, 0, 0, 0])),
+    (Step::Bytes(2, 2, &[0, 4]), YES),
     (Step::Open, DONE),
     (Step::Count, Ok([6, 4, 0, 0])),
 ];
 
 // The third call is the reading of the region that the row goes to, at address 3, where there are rows at 3 and 4.
-const RETRIED: [(Step, Answer); 9] = [
-    (Step::Store(3, &FIVE_ROWS), DONE),
-    (Step::Open, DONE),
+const RETRIED: [(Step, Answer); 8] = [
+    (Step::Five(3), DONE),
     (Step::Put(1, 1, 0), DEVICE),
     (Step::Count, Ok([5, 3, 0, 0])),
     (Step::Put(1, 1, 0), Ok([6, 0, 0, 0])),
@@ -178,55 +170,79 @@ const RETRIED: [(Step, Answer); 9] = [
     (Step::Count, Ok([6, 4, 0, 0])),
 ];
 
-static RUNS: &[Run] = &[
-    Run {
-        shown: "puts rows into regions",
-        first: &PUT_ROWS,
-        then: &SPANS,
-    },
-    Run {
-        shown: "regions that share an address both meet",
-        first: &SHARED,
-        then: &NO_STEPS,
-    },
-    Run {
-        shown: "takes rows out",
-        first: &PUT_ROWS,
-        then: &REMOVALS,
-    },
-    Run {
-        shown: "closes tables",
-        first: &CLOSED_EMPTY,
-        then: &NO_STEPS,
-    },
-    Run {
-        shown: "closes tables",
-        first: &PUT_ROWS,
-        then: &CLOSED,
-    },
-    Run {
-        shown: "creation and closing fail",
-        first: &FAILING,
-        then: &NO_STEPS,
-    },
-    Run {
-        shown: "a changed table stays unclean until it is closed",
-        first: &CHANGED,
-        then: &CLOSINGS,
-    },
-    Run {
-        shown: "no row is taken where no number is left",
-        first: &FULL,
-        then: &NO_STEPS,
-    },
-    Run {
-        shown: "the first call after opening fails",
-        first: &RETRIED,
-        then: &NO_STEPS,
-    },
-];
+static PUTS: Run = Run {
+    shown: "puts rows into regions",
+    first: &PUT_ROWS,
+    then: &SPANS,
+    cases: &[],
+};
+
+static BOTH_MEET: Run = Run {
+    shown: "regions that share an address both meet",
+    first: &SHARED,
+    then: &[],
+    cases: &[],
+};
+
+static TAKEN: Run = Run {
+    shown: "takes rows out",
+    first: &PUT_ROWS,
+    then: &REMOVALS,
+    cases: &[],
+};
+
+static EMPTY: Run = Run {
+    shown: "closes tables",
+    first: &CLOSED_EMPTY,
+    then: &[],
+    cases: &[],
+};
+
+static FIVE: Run = Run {
+    shown: "closes tables",
+    first: &PUT_ROWS,
+    then: &CLOSED,
+    cases: &[],
+};
+
+static ENDED: Run = Run {
+    shown: "creation and closing fail",
+    first: &FAILING,
+    then: &[],
+    cases: &[],
+};
+
+static STILL_UNCLEAN: Run = Run {
+    shown: "a changed table stays unclean until it is closed",
+    first: &CHANGED,
+    then: &CLOSINGS,
+    cases: &[],
+};
+
+static NO_NUMBER_LEFT: Run = Run {
+    shown: "no row is taken where no number is left",
+    first: &FULL,
+    then: &[],
+    cases: &[],
+};
+
+static AGAIN: Run = Run {
+    shown: "the first call after opening fails",
+    first: &RETRIED,
+    then: &[],
+    cases: &[],
+};
 
 #[test]
 fn tables_change_and_fail(rt: HostRuntime) {
-    all_go(&rt, rt.alloc(), RUNS);
+    let alloc = rt.alloc();
+    goes(&rt, alloc, Table::Plane(2), &PUTS);
+    goes(&rt, alloc, Table::Plane(2), &BOTH_MEET);
+    goes(&rt, alloc, Table::Plane(2), &TAKEN);
+    goes(&rt, alloc, Table::Plane(2), &EMPTY);
+    goes(&rt, alloc, Table::Plane(2), &FIVE);
+    goes(&rt, alloc, Table::Plane(2), &ENDED);
+    goes(&rt, alloc, Table::Plane(2), &STILL_UNCLEAN);
+    goes(&rt, alloc, Table::Plane(2), &NO_NUMBER_LEFT);
+    goes(&rt, alloc, Table::Plane(2), &AGAIN);
 }

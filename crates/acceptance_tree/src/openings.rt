@@ -1,6 +1,6 @@
 // Tables that are opened, from pages written by hand.
-use crate::samples::{FIVE_ROWS, Sheet};
-use crate::trial::{Answer, DONE, NO_PAGE, NO_STEPS, NOTHING, Run, Step, UNCLEAN, all_go};
+use crate::samples::{Sheet, Table};
+use crate::trial::{Answer, DONE, NO_PAGE, NOTHING, Run, Step, UNCLEAN, goes};
 use ub_page::Entry;
 use ub_table::{Key, PageFault, Row};
 use ub_tree::TreeFault;
@@ -47,9 +47,8 @@ const OUT_OF_REGION: Answer = Err(TreeFault::Page {
 });
 
 // The table of five rows.
-const OPENED: [(Step, Answer); 8] = [
-    (Step::Store(0, &FIVE_ROWS), DONE),
-    (Step::Open, DONE),
+const OPENED: [(Step, Answer); 7] = [
+    (Step::Five(0), DONE),
     (Step::Count, Ok([5, 3, 0, 0])),
     (Step::Trace, DONE),
     (Step::Span(0), Ok([0, 9, 1, 4])),
@@ -60,9 +59,9 @@ const OPENED: [(Step, Answer); 8] = [
 
 // A row at (1,1) is put into a table of one region. There is no number left; the region has a row already of the number that is
 // next, at the new row's point.
-const REFUSED_ROWS: [(Step, Answer); 8] = [
+const REFUSED_ROWS: [(Step, Answer); 6] = [
     (
-        Step::Store(
+        Step::Stored(
             0,
             &[
                 Sheet::Header(16_777_216, 0, 1, false),
@@ -72,11 +71,10 @@ const REFUSED_ROWS: [(Step, Answer); 8] = [
         ),
         DONE,
     ),
-    (Step::Open, DONE),
     (Step::Put(1, 1, 0), Err(TreeFault::Full)),
     (Step::Count, Ok([0, 1, 0, 0])),
     (
-        Step::Store(
+        Step::Stored(
             0,
             &[
                 Sheet::Header(2, 1, 1, false),
@@ -93,7 +91,6 @@ const REFUSED_ROWS: [(Step, Answer); 8] = [
         ),
         DONE,
     ),
-    (Step::Open, DONE),
     (
         Step::Put(1, 1, 0),
         Err(TreeFault::Page {
@@ -105,9 +102,9 @@ const REFUSED_ROWS: [(Step, Answer); 8] = [
 ];
 
 // Two entries of the index name one page, which is the first region's.
-const ONE_PAGE: [(Step, Answer); 4] = [
+const ONE_PAGE: [(Step, Answer); 3] = [
     (
-        Step::Store(
+        Step::Stored(
             0,
             &[
                 Sheet::Header(1, 0, 2, false),
@@ -129,7 +126,6 @@ const ONE_PAGE: [(Step, Answer); 4] = [
         ),
         DONE,
     ),
-    (Step::Open, DONE),
     (Step::Span(0), Ok([0, 9, 0, 0])),
     (
         Step::Span(10),
@@ -142,9 +138,9 @@ const ONE_PAGE: [(Step, Answer); 4] = [
 
 // The header is unclean; there is no page; page 0 is no header; it is one of format 1, or 2; the root is page 0; its level is none that
 // there can be.
-const REFUSED_HEADERS: [(Step, Answer); 16] = [
+const REFUSED_HEADERS: [(Step, Answer); 8] = [
     (
-        Step::Store(
+        Step::Stored(
             0,
             &[
                 Sheet::Header(1, 0, 1, true),
@@ -152,31 +148,26 @@ const REFUSED_HEADERS: [(Step, Answer); 16] = [
                 Sheet::Part(1, 0, 1),
             ],
         ),
-        DONE,
+        UNCLEAN,
     ),
-    (Step::Open, UNCLEAN),
-    (Step::Store(0, &[]), DONE),
-    (Step::Open, NO_PAGE),
-    (Step::Store(0, &[Sheet::Blank, Sheet::Part(1, 0, 1)]), DONE),
+    (Step::Stored(0, &[]), NO_PAGE),
     (
-        Step::Open,
+        Step::Stored(0, &[Sheet::Blank, Sheet::Part(1, 0, 1)]),
         Err(TreeFault::Page {
             page: 0,
             fault: PageFault::WrongKind,
         }),
     ),
     (
-        Step::Store(0, &[Sheet::Old(1), Sheet::Blank, Sheet::Part(1, 0, 1)]),
-        DONE,
+        Step::Stored(0, &[Sheet::Old(1), Sheet::Blank, Sheet::Part(1, 0, 1)]),
+        OLD_FORMAT,
     ),
-    (Step::Open, OLD_FORMAT),
     (
-        Step::Store(0, &[Sheet::Old(2), Sheet::Blank, Sheet::Part(1, 0, 1)]),
-        DONE,
+        Step::Stored(0, &[Sheet::Old(2), Sheet::Blank, Sheet::Part(1, 0, 1)]),
+        OLD_FORMAT,
     ),
-    (Step::Open, OLD_FORMAT),
     (
-        Step::Store(
+        Step::Stored(
             0,
             &[
                 Sheet::Rooted(1, 0, 1, 0, 1),
@@ -184,11 +175,10 @@ const REFUSED_HEADERS: [(Step, Answer); 16] = [
                 Sheet::Part(1, 0, 1),
             ],
         ),
-        DONE,
+        BAD_HEADER,
     ),
-    (Step::Open, BAD_HEADER),
     (
-        Step::Store(
+        Step::Stored(
             0,
             &[
                 Sheet::Rooted(1, 0, 1, 2, 0),
@@ -196,11 +186,10 @@ const REFUSED_HEADERS: [(Step, Answer); 16] = [
                 Sheet::Part(1, 0, 1),
             ],
         ),
-        DONE,
+        BAD_HEADER,
     ),
-    (Step::Open, BAD_HEADER),
     (
-        Step::Store(
+        Step::Stored(
             0,
             &[
                 Sheet::Rooted(1, 0, 1, 2, 17),
@@ -208,15 +197,14 @@ const REFUSED_HEADERS: [(Step, Answer); 16] = [
                 Sheet::Part(1, 0, 1),
             ],
         ),
-        DONE,
+        BAD_HEADER,
     ),
-    (Step::Open, BAD_HEADER),
 ];
 
 // Tables of no rows. Of the index the root alone is read: how many regions there are is the header's to tell.
-const ROOTS: [(Step, Answer); 34] = [
+const ROOTS: [(Step, Answer); 25] = [
     (
-        Step::Store(
+        Step::Stored(
             0,
             &[
                 Sheet::Header(1, 0, 1, false),
@@ -226,10 +214,9 @@ const ROOTS: [(Step, Answer); 34] = [
         ),
         DONE,
     ),
-    (Step::Open, DONE),
     (Step::Count, Ok([0, 1, 0, 0])),
     (
-        Step::Store(
+        Step::Stored(
             0,
             &[
                 Sheet::Header(1, 0, 170, false),
@@ -239,11 +226,10 @@ const ROOTS: [(Step, Answer); 34] = [
         ),
         DONE,
     ),
-    (Step::Open, DONE),
     (Step::Count, Ok([0, 170, 0, 0])),
     // A root of level 2. No page below it is read, so that what stands there is told later.
     (
-        Step::Store(
+        Step::Stored(
             0,
             &[
                 Sheet::Rooted(1, 0, 171, 2, 2),
@@ -267,10 +253,9 @@ const ROOTS: [(Step, Answer); 34] = [
         ),
         DONE,
     ),
-    (Step::Open, DONE),
     (Step::Count, Ok([0, 171, 0, 0])),
     (
-        Step::Store(
+        Step::Stored(
             0,
             &[
                 Sheet::Rooted(1, 0, 171, 2, 2),
@@ -293,14 +278,13 @@ const ROOTS: [(Step, Answer); 34] = [
         ),
         DONE,
     ),
-    (Step::Open, DONE),
     (Step::Count, Ok([0, 171, 0, 0])),
     (Step::Seek(169), DONE),
     (Step::Seek(170), NO_PAGE),
     // Below the root: page 3 has another level than is due; it begins with another key than the entry that names it; it ends behind
     // the next entry's key; it is of a region.
     (
-        Step::Store(
+        Step::Stored(
             0,
             &[
                 Sheet::Rooted(1, 0, 5, 2, 2),
@@ -323,7 +307,6 @@ const ROOTS: [(Step, Answer); 34] = [
         ),
         DONE,
     ),
-    (Step::Open, DONE),
     (Step::Count, Ok([0, 5, 0, 0])),
     (
         Step::Seek(0),
@@ -333,7 +316,7 @@ const ROOTS: [(Step, Answer); 34] = [
         }),
     ),
     (
-        Step::Store(
+        Step::Stored(
             0,
             &[
                 Sheet::Rooted(1, 0, 5, 2, 2),
@@ -356,7 +339,6 @@ const ROOTS: [(Step, Answer); 34] = [
         ),
         DONE,
     ),
-    (Step::Open, DONE),
     (Step::Count, Ok([0, 5, 0, 0])),
     (
         Step::Seek(0),
@@ -366,7 +348,7 @@ const ROOTS: [(Step, Answer); 34] = [
         }),
     ),
     (
-        Step::Store(
+        Step::Stored(
             0,
             &[
                 Sheet::Rooted(1, 0, 5, 2, 2),
@@ -389,7 +371,6 @@ const ROOTS: [(Step, Answer); 34] = [
         ),
         DONE,
     ),
-    (Step::Open, DONE),
     (Step::Count, Ok([0, 5, 0, 0])),
     (
         Step::Seek(0),
@@ -399,7 +380,7 @@ const ROOTS: [(Step, Answer); 34] = [
         }),
     ),
     (
-        Step::Store(
+        Step::Stored(
             0,
             &[
                 Sheet::Rooted(1, 0, 5, 2, 2),
@@ -422,7 +403,6 @@ const ROOTS: [(Step, Answer); 34] = [
         ),
         DONE,
     ),
-    (Step::Open, DONE),
     (Step::Count, Ok([0, 5, 0, 0])),
     (
         Step::Seek(0),
@@ -433,7 +413,7 @@ const ROOTS: [(Step, Answer); 34] = [
     ),
     // The root names itself, as a page below it.
     (
-        Step::Store(
+        Step::Stored(
             0,
             &[
                 Sheet::Rooted(1, 0, 5, 2, 2),
@@ -449,25 +429,23 @@ const ROOTS: [(Step, Answer); 34] = [
         ),
         DONE,
     ),
-    (Step::Open, DONE),
     (Step::Count, Ok([0, 5, 0, 0])),
     (Step::Seek(0), BAD_COUNT),
 ];
 
 // Roots that are refused.
-const REFUSED_ROOTS: [(Step, Answer); 36] = [
+const REFUSED_ROOTS: [(Step, Answer); 24] = [
     // It is no page of an index: it is blank, or of a region.
     (
-        Step::Store(
+        Step::Stored(
             0,
             &[Sheet::Header(1, 0, 1, false), Sheet::Blank, Sheet::Blank],
         ),
-        DONE,
+        WRONG_KIND,
     ),
-    (Step::Open, WRONG_KIND),
     (Step::Count, NOTHING),
     (
-        Step::Store(
+        Step::Stored(
             0,
             &[
                 Sheet::Header(1, 0, 1, false),
@@ -475,13 +453,12 @@ const REFUSED_ROOTS: [(Step, Answer); 36] = [
                 Sheet::Region(0, &[]),
             ],
         ),
-        DONE,
+        WRONG_KIND,
     ),
-    (Step::Open, WRONG_KIND),
     (Step::Count, NOTHING),
     // Its level isn't the one that the header tells, which is lower, or higher; it is none that there can be.
     (
-        Step::Store(
+        Step::Stored(
             0,
             &[
                 Sheet::Header(1, 0, 1, false),
@@ -489,12 +466,11 @@ const REFUSED_ROOTS: [(Step, Answer); 36] = [
                 Sheet::Part(2, 0, 1),
             ],
         ),
-        DONE,
+        BAD_COUNT,
     ),
-    (Step::Open, BAD_COUNT),
     (Step::Count, NOTHING),
     (
-        Step::Store(
+        Step::Stored(
             0,
             &[
                 Sheet::Rooted(1, 0, 1, 2, 2),
@@ -502,12 +478,11 @@ const REFUSED_ROOTS: [(Step, Answer); 36] = [
                 Sheet::Part(1, 0, 1),
             ],
         ),
-        DONE,
+        BAD_COUNT,
     ),
-    (Step::Open, BAD_COUNT),
     (Step::Count, NOTHING),
     (
-        Step::Store(
+        Step::Stored(
             0,
             &[
                 Sheet::Header(1, 0, 1, false),
@@ -515,12 +490,11 @@ const REFUSED_ROOTS: [(Step, Answer); 36] = [
                 Sheet::Part(0, 0, 1),
             ],
         ),
-        DONE,
+        BAD_COUNT,
     ),
-    (Step::Open, BAD_COUNT),
     (Step::Count, NOTHING),
     (
-        Step::Store(
+        Step::Stored(
             0,
             &[
                 Sheet::Rooted(1, 0, 1, 2, 16),
@@ -528,13 +502,12 @@ const REFUSED_ROOTS: [(Step, Answer); 36] = [
                 Sheet::Part(17, 0, 1),
             ],
         ),
-        DONE,
+        BAD_COUNT,
     ),
-    (Step::Open, BAD_COUNT),
     (Step::Count, NOTHING),
     // It has no entry.
     (
-        Step::Store(
+        Step::Stored(
             0,
             &[
                 Sheet::Header(1, 0, 1, false),
@@ -542,13 +515,12 @@ const REFUSED_ROOTS: [(Step, Answer); 36] = [
                 Sheet::Part(1, 0, 0),
             ],
         ),
-        DONE,
+        BAD_COUNT,
     ),
-    (Step::Open, BAD_COUNT),
     (Step::Count, NOTHING),
     // An entry names page 0; two entries begin with one key.
     (
-        Step::Store(
+        Step::Stored(
             0,
             &[
                 Sheet::Header(1, 0, 1, false),
@@ -562,12 +534,11 @@ const REFUSED_ROOTS: [(Step, Answer); 36] = [
                 ),
             ],
         ),
-        DONE,
+        BAD_ROW,
     ),
-    (Step::Open, BAD_ROW),
     (Step::Count, NOTHING),
     (
-        Step::Store(
+        Step::Stored(
             0,
             &[
                 Sheet::Header(1, 0, 2, false),
@@ -587,13 +558,12 @@ const REFUSED_ROOTS: [(Step, Answer); 36] = [
                 ),
             ],
         ),
-        DONE,
+        BAD_ORDER,
     ),
-    (Step::Open, BAD_ORDER),
     (Step::Count, NOTHING),
     // It doesn't begin with the least key of all.
     (
-        Step::Store(
+        Step::Stored(
             0,
             &[
                 Sheet::Header(1, 0, 1, false),
@@ -601,12 +571,11 @@ const REFUSED_ROOTS: [(Step, Answer); 36] = [
                 Sheet::Part(1, 1, 1),
             ],
         ),
-        DONE,
+        OUT_OF_REGION,
     ),
-    (Step::Open, OUT_OF_REGION),
     (Step::Count, NOTHING),
     (
-        Step::Store(
+        Step::Stored(
             0,
             &[
                 Sheet::Header(1, 0, 1, false),
@@ -620,13 +589,12 @@ const REFUSED_ROOTS: [(Step, Answer); 36] = [
                 ),
             ],
         ),
-        DONE,
+        OUT_OF_REGION,
     ),
-    (Step::Open, OUT_OF_REGION),
     (Step::Count, NOTHING),
     // There is no such page.
     (
-        Step::Store(
+        Step::Stored(
             0,
             &[
                 Sheet::Rooted(1, 0, 1, 3, 1),
@@ -634,36 +602,44 @@ const REFUSED_ROOTS: [(Step, Answer); 36] = [
                 Sheet::Part(1, 0, 1),
             ],
         ),
-        DONE,
+        NO_PAGE,
     ),
-    (Step::Open, NO_PAGE),
     (Step::Count, NOTHING),
 ];
 
-static RUNS: &[Run] = &[
-    Run {
-        shown: "refuses rows and pages of regions",
-        first: &REFUSED_ROWS,
-        then: &ONE_PAGE,
-    },
-    Run {
-        shown: "reads roots",
-        first: &ROOTS,
-        then: &NO_STEPS,
-    },
-    Run {
-        shown: "refuses headers and roots",
-        first: &REFUSED_HEADERS,
-        then: &REFUSED_ROOTS,
-    },
-    Run {
-        shown: "opens closed tables",
-        first: &OPENED,
-        then: &NO_STEPS,
-    },
-];
+static ROWS: Run = Run {
+    shown: "refuses rows and pages of regions",
+    first: &REFUSED_ROWS,
+    then: &ONE_PAGE,
+    cases: &[],
+};
+
+static ROOT_PAGES: Run = Run {
+    shown: "reads roots",
+    first: &ROOTS,
+    then: &[],
+    cases: &[],
+};
+
+static HEADERS: Run = Run {
+    shown: "refuses headers and roots",
+    first: &REFUSED_HEADERS,
+    then: &REFUSED_ROOTS,
+    cases: &[],
+};
+
+static CLOSED: Run = Run {
+    shown: "opens closed tables",
+    first: &OPENED,
+    then: &[],
+    cases: &[],
+};
 
 #[test]
 fn tables_are_opened_and_refused(rt: HostRuntime) {
-    all_go(&rt, rt.alloc(), RUNS);
+    let alloc = rt.alloc();
+    goes(&rt, alloc, Table::Plane(2), &ROWS);
+    goes(&rt, alloc, Table::Plane(2), &ROOT_PAGES);
+    goes(&rt, alloc, Table::Plane(2), &HEADERS);
+    goes(&rt, alloc, Table::Plane(2), &CLOSED);
 }

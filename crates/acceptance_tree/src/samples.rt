@@ -3,7 +3,6 @@ use std::alloc::Global;
 use ub_page::{Entry, Page};
 use ub_store::{FaultyStore, MemStore, PageStore, StoreFault};
 use ub_table::{Key, Name, PageFault, Row, Schema};
-use ub_tree::Tree;
 
 // A store in memory that fails at one call, or at none.
 pub(crate) type Store = FaultyStore<MemStore>;
@@ -107,15 +106,23 @@ pub(crate) const FIVE_ROWS: [Sheet; 5] = [
     ),
 ];
 
-// Two dimensions, one measure, two rows on a page.
-pub(crate) fn plane() -> Result<Schema, PageFault> {
-    plane_of(2)
+// What columns a table has, and how many rows are on a page.
+#[derive(Clone, Copy)]
+pub(crate) enum Table {
+    // Two dimensions, one measure, so many rows on a page.
+    Plane(u32),
+    // One dimension, no measure, two rows on a page.
+    Line,
 }
 
-// The same with so many rows on a page.
-pub(crate) fn plane_of(page_rows: u32) -> Result<Schema, PageFault> {
+// The schema of such a table.
+pub(crate) fn schema_of(table: Table) -> Result<Schema, PageFault> {
     let columns = [Name::new(b"x")?, Name::new(b"y")?, Name::new(b"m")?];
-    Schema::new(Name::new(b"t")?, &columns, 2, page_rows, 0)
+    let name = Name::new(b"t")?;
+    match table {
+        Table::Plane(page_rows) => Schema::new(name, &columns, 2, page_rows, 0),
+        Table::Line => Schema::new(name, &columns[..1], 1, 2, 0),
+    }
 }
 
 // The numbers of a header of the plane that are the same in each, and its names t, x, y and m: each with its offset and its width.
@@ -255,9 +262,13 @@ pub(crate) fn stored(
     Ok(FaultyStore::new(store, k))
 }
 
-// The closed table of five rows, opened over a store that fails at its k-th call.
-pub(crate) fn opened(alloc: Global, k: u64) -> Option<Tree<Store>> {
-    let schema = plane().ok()?;
-    let store = stored(alloc, &schema, &FIVE_ROWS, k).ok()?;
-    Tree::open(alloc, store).ok()
+// A store of the same pages, that fails at its k-th call. Each page is read twice, since a store fails once.
+pub(crate) fn copied(alloc: Global, store: &mut Store, k: u64) -> Result<Store, StoreFault> {
+    let mut copy = MemStore::new(alloc);
+    for n in 0..store.pages() {
+        let first = store.read_page(n);
+        let page = first.or(store.read_page(n))?;
+        copy.extend().and(copy.write_page(n, &page))?;
+    }
+    Ok(FaultyStore::new(copy, k))
 }

@@ -1,6 +1,7 @@
 // Steps on a tree and on its store, as data.
-use crate::deletions::deleted;
-use crate::samples::{Sheet, Store, page_of, plane, stored};
+use crate::calls::{Case, count_cases};
+use crate::plans::{Ask, Work, by_plan};
+use crate::samples::{FIVE_ROWS, Sheet, Store, Table, copied, page_of, schema_of, stored};
 use std::alloc::Global;
 use std::process::Abort;
 use ub_bigmin::ZBox;
@@ -13,14 +14,23 @@ use ub_zaddr::{Point, Shape};
 // A step on a tree, or on the store that it left.
 #[derive(Clone, Copy)]
 pub(crate) enum Step {
-    // Takes a store of these pages that fails at its k-th call, in place of all that there is.
-    Store(u64, &'static [Sheet]),
+    // Opens a store of these pages that fails at its k-th call, in place of all that there is.
+    Stored(u64, &'static [Sheet]),
+    // Opens the closed table of five rows so.
+    Five(u64),
+    // Opens the table that was closed so.
+    Again(u64),
     // Makes an empty table in a store that fails at its k-th call.
     Create(u64),
+    // Opens the store.
     Open,
     Close,
     // Puts in a row with these coordinates and this measure: its number.
     Put(u32, u32, i64),
+    // Puts in so many rows, at the coordinates 0, 1, .. of the first dimension, and at 0 of another one: how many they are.
+    Fill(u32),
+    // Takes these rows out of a table of one dimension, the first one first: how many were there, up to the first that wasn't.
+    Empty(u32),
     // Takes out the row of an address and a number: 1 where it was there.
     Remove(u128, u32),
     // Deletes the rows whose x is this, or all: how many they were.
@@ -45,18 +55,22 @@ pub(crate) enum Step {
     // How many pages the trace notes, and the last of them, or 0.
     Trace,
     Begin,
-    // How many entries page 2 of the store has, which is of the index.
-    List,
+    // Carries out the plan of a query, or tells 1 where that of SELECT COUNT(*) FROM t ORDER BY x, which no statement asks, is a scan.
+    Plan(Option<Ask>, Work),
     // How many pages the store has.
     Pages,
     // How many of these pages the store has, from the first on.
     Holds(&'static [Sheet]),
+    // 1 where a page of the store has these bytes from an offset on.
+    Bytes(u32, usize, &'static [u8]),
 }
 
 // What a step answers: numbers, and zeros behind them.
 pub(crate) type Answer = Result<[u128; 4], TreeFault>;
 
 pub(crate) const DONE: Answer = Ok([0; 4]);
+
+pub(crate) const YES: Answer = Ok([1, 0, 0, 0]);
 
 pub(crate) const NO_PAGE: Answer = Err(TreeFault::Store(StoreFault::NoPage));
 
@@ -71,17 +85,18 @@ pub(crate) const DEVICE: Answer = Err(TreeFault::Store(StoreFault::Device));
 // The answer where there is no region for a step, no tree or no store.
 pub(crate) const NOTHING: Answer = Ok([u128::MAX; 4]);
 
-// For a run where nothing follows.
-pub(crate) const NO_STEPS: [(Step, Answer); 0] = [];
-
-// What is tried: what it shows, steps, and steps that follow them on the same tree.
+// What is tried: what it shows, steps, steps that follow them on the same tree, and cases of calls.
 pub(crate) struct Run {
     pub(crate) shown: &'static str,
     pub(crate) first: &'static [(Step, Answer)],
     pub(crate) then: &'static [(Step, Answer)],
+    pub(crate) cases: &'static [Case],
 }
 
-// A tree of the plane, or the store that it left.
+// The pages of the closed table of five rows.
+static FIVE: &[Sheet] = &FIVE_ROWS;
+
+// A tree, or the store that it left.
 #[derive(Drop)]
 pub(crate) struct Trial {
     alloc: Global,
@@ -90,41 +105,53 @@ pub(crate) struct Trial {
     store: Option<Store>,
 }
 
-// Asserts that the steps of each of these runs are answered so.
-pub(crate) fn all_go(rt: &impl Abort, alloc: Global, runs: &[Run]) {
-    for run in runs {
-        let right = steps_right(alloc, run.first, run.then);
-        assert!(rt;
-            right == run.first.len().saturating_add(run.then.len()),
-            "{}: {right} steps were right",
-            run.shown
-        );
+// Asserts that the steps and the cases of a run, on such a table, are answered so.
+pub(crate) fn goes(rt: &impl Abort, alloc: Global, table: Table, run: &Run) {
+    let right = count_right(alloc, table, run);
+    assert!(rt;
+        right == count(run),
+        "{}: {right} steps were right",
+        run.shown
+    );
+}
+
+// How many steps and cases a run has.
+fn count(run: &Run) -> usize {
+    let steps = run.first.len().saturating_add(run.then.len());
+    steps.saturating_add(run.cases.len())
+}
+
+// How many of them are answered so.
+fn count_right(alloc: Global, table: Table, run: &Run) -> usize {
+    match schema_of(table) {
+        Ok(schema) => {
+            let mut trial = Trial {
+                alloc,
+                schema,
+                tree: None,
+                store: None,
+            };
+            trial.count_run(run)
+        }
+        Err(_) => 0,
     }
 }
 
-// How many of these steps, and then of those, are answered so, up to the first wrong one of each.
-fn steps_right(alloc: Global, first: &[(Step, Answer)], then: &[(Step, Answer)]) -> usize {
-    let Ok(schema) = plane() else {
-        return 0;
-    };
-    let mut trial = Trial::new(alloc, schema);
-    let right = trial.count_right(first);
-    right.saturating_add(trial.count_right(then))
-}
+// Lets a tree go. No other step drops one.
+fn release(_tree: Option<Tree<Store>>) {}
 
 impl Trial {
-    // No tree and no store yet.
-    pub(crate) fn new(alloc: Global, schema: Schema) -> Trial {
-        Trial {
-            alloc,
-            schema,
-            tree: None,
-            store: None,
-        }
+    // How many steps of a run are answered so, up to the first wrong one of its first steps, of those that follow, and of its cases.
+    fn count_run(&mut self, run: &Run) -> usize {
+        let first = self.count_steps(run.first);
+        let then = self.count_steps(run.then);
+        first
+            .saturating_add(then)
+            .saturating_add(count_cases(self, run.cases))
     }
 
     // How many of these steps are answered so, up to the first wrong one.
-    fn count_right(&mut self, steps: &[(Step, Answer)]) -> usize {
+    fn count_steps(&mut self, steps: &[(Step, Answer)]) -> usize {
         for (i, (step, wanted)) in steps.iter().enumerate() {
             if self.answer(step) != *wanted {
                 return i;
@@ -136,7 +163,9 @@ impl Trial {
     // What a step answers.
     pub(crate) fn answer(&mut self, step: &Step) -> Answer {
         match step {
-            Step::Store(k, sheets) => self.take_store(*k, sheets),
+            Step::Stored(k, sheets) => self.open_pages(*k, sheets),
+            Step::Five(k) => self.open_pages(*k, FIVE),
+            Step::Again(k) => self.open_again(*k),
             Step::Create(k) => {
                 let store = FaultyStore::new(MemStore::new(self.alloc), *k);
                 let made = Tree::create(self.alloc, store, &self.schema);
@@ -144,26 +173,53 @@ impl Trial {
             }
             Step::Open => self.open(),
             Step::Close => self.close(),
-            Step::Delete(x) => match &mut self.tree {
-                Some(tree) => deleted(self.alloc, tree, *x),
-                None => NOTHING,
-            },
-            Step::List | Step::Pages | Step::Holds(_) => match &mut self.store {
+            Step::Pages | Step::Holds(_) | Step::Bytes(_, _, _) => match &mut self.store {
                 Some(store) => look(&self.schema, store, step),
                 None => NOTHING,
             },
             _ => match &mut self.tree {
-                Some(tree) => ask(tree, step),
+                Some(tree) => ask(self.alloc, tree, step),
                 None => NOTHING,
             },
         }
     }
 
-    // Takes a store of these pages that fails at its k-th call.
-    fn take_store(&mut self, k: u64, sheets: &[Sheet]) -> Answer {
-        self.tree = None;
-        self.store = Some(stored(self.alloc, &self.schema, sheets, k)?);
-        DONE
+    // Takes a store of these pages that fails at its k-th call, in place of all that there is.
+    pub(crate) fn take_store(&mut self, k: u64, sheets: &[Sheet]) -> Answer {
+        release(self.tree.take());
+        let store = stored(self.alloc, &self.schema, sheets, k);
+        self.keep(store)
+    }
+
+    // Takes a store that was made.
+    fn keep(&mut self, made: Result<Store, StoreFault>) -> Answer {
+        match made {
+            Ok(store) => {
+                self.store = Some(store);
+                DONE
+            }
+            Err(fault) => Err(TreeFault::Store(fault)),
+        }
+    }
+
+    // The same as `take_store`, and opens it.
+    fn open_pages(&mut self, k: u64, sheets: &[Sheet]) -> Answer {
+        match self.take_store(k, sheets) {
+            Ok(_) => self.open(),
+            Err(fault) => Err(fault),
+        }
+    }
+
+    // Opens a store of the same pages that fails at its k-th call.
+    fn open_again(&mut self, k: u64) -> Answer {
+        let copy = match &mut self.store {
+            Some(store) => copied(self.alloc, store, k),
+            None => Err(StoreFault::NoPage),
+        };
+        match self.keep(copy) {
+            Ok(_) => self.open(),
+            Err(fault) => Err(fault),
+        }
     }
 
     // Opens the store.
@@ -181,14 +237,17 @@ impl Trial {
     fn take(&mut self, tree: Result<Tree<Store>, Rejected<Store, TreeFault>>) -> Answer {
         match tree {
             Ok(tree) => {
-                self.tree = Some(tree);
+                release(self.tree.replace(tree));
                 DONE
             }
-            Err(refused) => {
-                self.store = Some(refused.store);
-                Err(refused.fault)
-            }
+            Err(refused) => self.take_back(refused),
         }
+    }
+
+    // Takes the store that is handed back.
+    fn take_back(&mut self, refused: Rejected<Store, TreeFault>) -> Answer {
+        self.store = Some(refused.store);
+        Err(refused.fault)
     }
 
     // Closes the tree.
@@ -197,14 +256,8 @@ impl Trial {
             return NOTHING;
         };
         match tree.close() {
-            Ok(store) => {
-                self.store = Some(store);
-                DONE
-            }
-            Err(refused) => {
-                self.store = Some(refused.store);
-                Err(refused.fault)
-            }
+            Ok(store) => self.keep(Ok(store)),
+            Err(refused) => self.take_back(refused),
         }
     }
 }
@@ -212,17 +265,21 @@ impl Trial {
 // What a step on a store answers.
 fn look(schema: &Schema, store: &mut Store, step: &Step) -> Answer {
     match step {
-        Step::List => list(store),
+        Step::Bytes(number, at, bytes) => has(store, *number, *at, bytes),
         Step::Holds(sheets) => have(schema, store, sheets),
         _ => Ok([u128::from(store.pages()), 0, 0, 0]),
     }
 }
 
-// How many entries page 2 has.
-fn list(store: &mut Store) -> Answer {
-    let page = store.read_page(2)?;
-    let count = u128::from(page[2]) * 256 + u128::from(page[3]);
-    Ok([count, 0, 0, 0])
+// 1 where a page of a store has these bytes from an offset on.
+fn has(store: &mut Store, number: u32, at: usize, bytes: &[u8]) -> Answer {
+    match store.read_page(number) {
+        Ok(page) => {
+            let is_so = at <= page.len() && page[at..].starts_with(bytes);
+            Ok([u128::from(is_so), 0, 0, 0])
+        }
+        Err(fault) => Err(TreeFault::Store(fault)),
+    }
 }
 
 // How many of these pages a store has.
@@ -238,9 +295,13 @@ fn have(schema: &Schema, store: &mut Store, sheets: &[Sheet]) -> Answer {
 }
 
 // What a step on a tree answers.
-fn ask(tree: &mut Tree<Store>, step: &Step) -> Answer {
+fn ask(alloc: Global, tree: &mut Tree<Store>, step: &Step) -> Answer {
     match step {
         Step::Put(x, y, m) => put(tree, *x, *y, *m),
+        Step::Fill(count) => fill(tree, *count),
+        Step::Empty(count) => empty(tree, *count),
+        Step::Delete(x) => by_plan(alloc, tree, Some(Ask::With(*x)), &Work::Delete),
+        Step::Plan(ask, work) => by_plan(alloc, tree, *ask, work),
         Step::Remove(z, number) => remove(tree, *z, *number),
         Step::Count => Ok([
             u128::from(tree.rows()),
@@ -274,27 +335,56 @@ fn shape_of(schema: &Schema) -> [u128; 4] {
     ]
 }
 
+// The number of a row that is put in, or the fault.
+fn numbered(put: Result<u32, TreeFault>) -> Answer {
+    match put {
+        Ok(number) => Ok([u128::from(number), 0, 0, 0]),
+        Err(fault) => Err(fault),
+    }
+}
+
 // The number of a row that is put in.
 fn put(tree: &mut Tree<Store>, x: u32, y: u32, m: i64) -> Answer {
-    if tree.schema().dims() != 2 || tree.schema().measures() != 1 {
-        return Err(TreeFault::Failed);
+    match (tree.schema().dims(), tree.schema().measures()) {
+        (1, 0) => numbered(tree.insert(&[x], &[])),
+        (2, 1) => numbered(tree.insert(&[x, y], &[m])),
+        _ => NOTHING,
     }
-    let number = tree.insert(&[x, y], &[m])?;
-    Ok([u128::from(number), 0, 0, 0])
+}
+
+// Puts in so many rows.
+fn fill(tree: &mut Tree<Store>, count: u32) -> Answer {
+    for x in 0..count {
+        put(tree, x, 0, 0)?;
+    }
+    Ok([u128::from(count), 0, 0, 0])
 }
 
 // 1 where a row was there that is taken out.
 fn remove(tree: &mut Tree<Store>, z: u128, number: u32) -> Answer {
-    let is_there = tree.remove(Key { z, number })?;
-    Ok([u128::from(is_there), 0, 0, 0])
+    match tree.remove(Key { z, number }) {
+        Ok(is_there) => Ok([u128::from(is_there), 0, 0, 0]),
+        Err(fault) => Err(fault),
+    }
+}
+
+// Takes out the rows of one dimension.
+fn empty(tree: &mut Tree<Store>, count: u32) -> Answer {
+    for x in 0..count {
+        if remove(tree, u128::from(x), x + 1) != YES {
+            return Ok([u128::from(x), 0, 0, 0]);
+        }
+    }
+    Ok([u128::from(count), 0, 0, 0])
 }
 
 // Whether there is a region whose span ends at z or later.
 fn seek(tree: &mut Tree<Store>, z: u128) -> Answer {
-    if tree.seek(z, None)?.is_none() {
-        return NOTHING;
+    match tree.seek(z, None) {
+        Ok(Some(_)) => DONE,
+        Ok(None) => NOTHING,
+        Err(fault) => Err(fault),
     }
-    DONE
 }
 
 // What stands in the region whose span ends at z or later, on its own page or on another one.
