@@ -4,9 +4,17 @@ use std::alloc::Global;
 use ub_page::Page;
 use ub_store::{FaultyStore, MemStore, PageStore, StoreFault};
 
-// Other bytes on a page: its number, where they begin, and what they are.
+// A number on a page: the page, where it begins, how many bytes it has, the highest one first, and the number.
 #[derive(Clone, Copy)]
-pub(crate) struct Patch(pub(crate) u32, pub(crate) usize, pub(crate) &'static [u8]);
+pub(crate) struct Patch(
+    pub(crate) u32,
+    pub(crate) usize,
+    pub(crate) u32,
+    pub(crate) u128,
+);
+
+// No number.
+pub(crate) const NO_PATCH: Patch = Patch(0, 0, 0, 0);
 
 // Pages of a table.
 #[derive(Clone, Copy)]
@@ -18,11 +26,12 @@ pub(crate) enum Pages {
     Line(u32, u32),
 }
 
-// A table of an older format: its pages, but for some bytes.
+// A table of an older format: its pages, but for some numbers, and one more.
 #[derive(Clone, Copy)]
 pub(crate) struct Old {
     pub(crate) pages: Pages,
     pub(crate) patches: &'static [Patch],
+    pub(crate) last: Patch,
 }
 
 // The header of the table of five rows in format 1: its kind, the version, clean, two dimensions, a measure, two rows a page; the
@@ -199,10 +208,10 @@ fn chain_of(regions: u32) -> u32 {
     regions.saturating_add(169) / 170
 }
 
-// How many pages an old table has.
+// How many pages an old table has: 100 at most where they are written out.
 fn count_pages(pages: &Pages) -> u32 {
     match pages {
-        Pages::Bytes(pages) => pages.len() as u32,
+        Pages::Bytes(pages) => pages.len().min(100) as u32,
         Pages::Line(regions, _) => chain_of(*regions)
             .saturating_add(*regions)
             .saturating_add(1),
@@ -230,12 +239,18 @@ fn page_of(old: &Old, number: u32) -> Page {
         }
         Pages::Line(regions, rows) => spell_line(&mut page, regions, rows, number),
     }
-    for Patch(patched, at, bytes) in old.patches {
-        if *patched == number {
-            overwrite(&mut page, *at, bytes);
-        }
+    for patch in old.patches {
+        apply(&mut page, patch, number);
     }
+    apply(&mut page, &old.last, number);
     page
+}
+
+// Puts a number into the page of this number, if it is one of it.
+fn apply(page: &mut [u8], patch: &Patch, number: u32) {
+    if patch.0 == number {
+        poke(page, patch.1, patch.2, patch.3);
+    }
 }
 
 // Spells a page of a table of one dimension.

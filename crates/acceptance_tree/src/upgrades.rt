@@ -1,8 +1,8 @@
 // Tables of the formats 1 and 2 that are upgraded, that are refused, and whose stores fail. The old table is the same afterwards, byte
 // for byte, in each case; and a new store whose upgrade was refused is never opened.
 use crate::old_tables::{
-    DIRECTORY, EMPTY_1, EMPTY_2, FIRST, FIVE_1, FIVE_2, INDEX, LEFT, LEVELS_2, Old, Pages, Patch,
-    RIGHT, ROOT, SECOND, THIRD, is_old,
+    DIRECTORY, EMPTY_1, EMPTY_2, FIRST, FIVE_1, FIVE_2, INDEX, LEFT, LEVELS_2, NO_PATCH, Old,
+    Pages, Patch, RIGHT, ROOT, SECOND, THIRD, is_old,
 };
 use crate::samples::{Store, Table, schema_of};
 use crate::trial::{Answer, DEVICE, DONE, NO_PAGE, Step, Trial, UNCLEAN, YES, trial_of};
@@ -24,9 +24,9 @@ enum Told {
     NoPage,
 }
 
-// Bytes of an old table that are others, and why it is refused then.
+// A number that stands on a page of an old table, and why it is refused then.
 #[derive(Clone, Copy)]
-struct Hurt(&'static [Patch], Told);
+struct Hurt(Patch, Told);
 
 // The call at which the old store fails, if it does, that of the new one, and the answer of the upgrade: if that goes well, both fail at
 // their next call.
@@ -39,8 +39,10 @@ enum Try {
     Makes(Old, &'static [(Step, Answer)]),
     // With each of these it is refused, and so is the new store, with this answer, where it is opened.
     Refuses(Pages, Answer, &'static [Hurt]),
-    // The upgrade of the table of five rows makes these calls of the stores in this order, and ends at each that fails: `o` reads a page of the old one; `r`
-    // reads a page of the new one, `e` adds one, and `w` writes one.
+    // With all these numbers it is refused so, and the new store as unclean.
+    Refuse(Pages, &'static [Patch], Told),
+    // The upgrade of the table of five rows makes these calls of the stores in this order, and ends at each that fails: `o` reads a page
+    // of the old one; `e` adds a page to the new one, `w` writes one there, and `r` reads one. A `w` isn't told from an `r`.
     Calls(Old, &'static [u8]),
     // The upgrades of an old table that end so, where the stores fail.
     Ends(Old, &'static [End]),
@@ -51,6 +53,7 @@ fn count(tried: &Try) -> usize {
     match tried {
         Try::Makes(_, steps) => steps.len(),
         Try::Refuses(_, _, hurts) => hurts.len(),
+        Try::Refuse(_, _, _) => 1,
         Try::Calls(_, calls) => calls.len().saturating_add(1),
         Try::Ends(_, ends) => ends.len(),
     }
@@ -61,7 +64,11 @@ fn count_right(trial: &mut Trial, tried: &Try) -> usize {
     match tried {
         Try::Makes(old, steps) => count_made(trial, old, steps),
         Try::Refuses(pages, opened, hurts) => count_refused(trial, *pages, *opened, hurts),
-        Try::Calls(old, calls) => count_calls(trial, old, calls),
+        Try::Refuse(pages, patches, told) => {
+            let old = old_of(*pages, patches, NO_PATCH);
+            usize::from(is_refused(trial, &old, told, UNCLEAN))
+        }
+        Try::Calls(old, calls) => count_stops(trial, old, calls),
         Try::Ends(old, ends) => count_ends(trial, old, ends),
     }
 }
@@ -83,10 +90,19 @@ fn count_steps(trial: &mut Trial, store: &mut Store, old: &Old, steps: &[(Step, 
     if is_old(store, old) { right } else { 0 }
 }
 
+// An old table of these pages with these numbers.
+fn old_of(pages: Pages, patches: &'static [Patch], last: Patch) -> Old {
+    Old {
+        pages,
+        patches,
+        last,
+    }
+}
+
 // How many of these tables are refused so.
 fn count_refused(trial: &mut Trial, pages: Pages, opened: Answer, hurts: &[Hurt]) -> usize {
-    for (i, Hurt(patches, told)) in hurts.iter().enumerate() {
-        let old = Old { pages, patches };
+    for (i, Hurt(patch, told)) in hurts.iter().enumerate() {
+        let old = old_of(pages, &[], *patch);
         if !is_refused(trial, &old, told, opened) {
             return i;
         }
@@ -119,7 +135,7 @@ fn answer_of(told: &Told) -> Answer {
 
 // How many calls of both stores come in this order, each of which ends the upgrade where it fails; and one more where it goes well if
 // none does.
-fn count_calls(trial: &mut Trial, old: &Old, calls: &[u8]) -> usize {
+fn count_stops(trial: &mut Trial, old: &Old, calls: &[u8]) -> usize {
     for i in 0..=calls.len() {
         if !fails_at(trial, old, calls, i) {
             return i;
@@ -128,32 +144,15 @@ fn count_calls(trial: &mut Trial, old: &Old, calls: &[u8]) -> usize {
     calls.len().saturating_add(1)
 }
 
-// How many of the first i calls read the old store.
-fn count_reads(calls: &[u8], i: usize) -> usize {
+// How many of the first i calls are such ones.
+fn count_calls(calls: &[u8], i: usize, wanted: u8) -> usize {
     let mut count = 0usize;
     for (j, call) in calls.iter().enumerate() {
-        if j < i && *call == b'o' {
+        if j < i && *call == wanted {
             count = count.saturating_add(1);
         }
     }
     count
-}
-
-// Whether that is so of the i-th call: both stores fail at the call after those before it.
-fn fails_at(trial: &mut Trial, old: &Old, calls: &[u8], i: usize) -> bool {
-    let of_old = count_reads(calls, i);
-    let of_new = i.saturating_sub(of_old);
-    match trial.old_store(old, nth(of_old)) {
-        Ok(mut store) => stops_at(
-            trial,
-            &mut store,
-            old,
-            nth(of_new),
-            calls.get(i).copied(),
-            i,
-        ),
-        Err(_) => false,
-    }
 }
 
 // The number of the call after so many.
@@ -161,25 +160,34 @@ fn nth(calls: usize) -> u64 {
     (calls as u64).saturating_add(1)
 }
 
-// The same over the store of the old table, and a new one that fails at its k-th call: this call is the next of all.
-fn stops_at(
-    trial: &mut Trial,
-    store: &mut Store,
-    old: &Old,
-    k: u64,
-    call: Option<u8>,
-    i: usize,
-) -> bool {
-    let answer = trial.upgrade(store, k);
-    match call {
+// Whether that is so of the i-th call: both stores fail at the call after those before it.
+fn fails_at(trial: &mut Trial, old: &Old, calls: &[u8], i: usize) -> bool {
+    match trial.old_store(old, nth(count_calls(calls, i, b'o'))) {
+        Ok(mut store) => stops_at(trial, &mut store, old, calls, i),
+        Err(_) => false,
+    }
+}
+
+// The same over the store of the old table, and a new one.
+fn stops_at(trial: &mut Trial, store: &mut Store, old: &Old, calls: &[u8], i: usize) -> bool {
+    let of_new = i.saturating_sub(count_calls(calls, i, b'o'));
+    let answer = trial.upgrade(store, nth(of_new));
+    match calls.get(i) {
         Some(call) => {
             (answer == DEVICE)
-                & has_failed(trial, store, call == b'o')
-                & (trial.answer(&Step::Open) == opened_after(i))
+                & has_failed(trial, store, *call == b'o')
+                & is_left(trial, calls, i)
                 & goes_again(trial, store, old)
         }
         None => (answer == DONE) & is_at_end(trial, store, old),
     }
+}
+
+// Whether the new store has the pages that the first i calls added, and isn't opened as a table.
+fn is_left(trial: &mut Trial, calls: &[u8], i: usize) -> bool {
+    let pages = count_calls(calls, i, b'e');
+    (trial.answer(&Step::Pages) == Ok([pages as u128, 0, 0, 0]))
+        & (trial.answer(&Step::Open) == opened_after(i))
 }
 
 // Whether the old store has failed, or else the new one, and not the other one: that one fails at its next call.
@@ -281,19 +289,20 @@ fn count_wanted(tries: &[Try]) -> usize {
 }
 
 // Asserts that all of this is right.
-fn all_go(rt: &impl Abort, alloc: Global, shown: &str, tries: &[Try]) {
+fn all_go(rt: &impl Abort, alloc: Global, tries: &[Try]) {
     let right = count_new(alloc, tries);
-    assert!(rt; right == count_wanted(tries), "{shown}: {right} were right");
+    assert!(rt; right == count_wanted(tries), "{right} were right");
 }
 
-// Old tables that are upgraded, and what the trees answer.
-static MADE: &[Try] = &[
+// The table of five rows in format 1.
+static FIVE_OF_1: &[Try] = &[
     // The table of five rows in format 1: the index is put on page 5, and the directory stays where it was, though nothing names it. Then row
     // 6 parts the first region.
     Try::Makes(
         Old {
             pages: Pages::Bytes(&FIVE_1),
             patches: &[],
+            last: NO_PATCH,
         },
         &[
             (Step::Count, Ok([5, 3, 0, 0])),
@@ -349,11 +358,16 @@ static MADE: &[Try] = &[
             (Step::Walk, Ok([4, 0, 13, 4])),
         ],
     ),
+];
+
+// The same in format 2.
+static FIVE_OF_2: &[Try] = &[
     // The same in format 2: each page but the first is what it was.
     Try::Makes(
         Old {
             pages: Pages::Bytes(&FIVE_2),
             patches: &[],
+            last: NO_PATCH,
         },
         &[
             (Step::Count, Ok([5, 3, 0, 0])),
@@ -407,11 +421,16 @@ static MADE: &[Try] = &[
             (Step::Walk, Ok([4, 0, 13, 4])),
         ],
     ),
+];
+
+// The same with two levels.
+static LEVELS_OF_2: &[Try] = &[
     // The same with an index of two levels.
     Try::Makes(
         Old {
             pages: Pages::Bytes(&LEVELS_2),
             patches: &[],
+            last: NO_PATCH,
         },
         &[
             (Step::Count, Ok([5, 3, 0, 0])),
@@ -469,16 +488,21 @@ static MADE: &[Try] = &[
             (Step::Walk, Ok([4, 0, 13, 4])),
         ],
     ),
+];
+
+// Rows keep their numbers, and the next row gets the number that it would have got.
+static NUMBERS: &[Try] = &[
     // Numbers with gaps: 9, 40, 30, 20 and 50, and the next is 51; in format 1.
     Try::Makes(
         Old {
             pages: Pages::Bytes(&FIVE_1),
             patches: &[
-                Patch(0, 12, &[0, 0, 0, 51]),
-                Patch(1, 24, &[0, 0, 0, 9, 0, 0, 0, 40]),
-                Patch(2, 24, &[0, 0, 0, 20, 0, 0, 0, 50]),
-                Patch(3, 24, &[0, 0, 0, 30]),
+                Patch(0, 12, 4, 51),
+                Patch(1, 24, 8, 0x900000028),
+                Patch(2, 24, 8, 0x1400000032),
+                Patch(3, 24, 4, 30),
             ],
+            last: NO_PATCH,
         },
         &[
             (Step::Count, Ok([5, 3, 0, 0])),
@@ -499,11 +523,12 @@ static MADE: &[Try] = &[
         Old {
             pages: Pages::Bytes(&FIVE_2),
             patches: &[
-                Patch(0, 12, &[0, 0, 0, 51]),
-                Patch(1, 24, &[0, 0, 0, 9, 0, 0, 0, 40]),
-                Patch(2, 24, &[0, 0, 0, 20, 0, 0, 0, 50]),
-                Patch(3, 24, &[0, 0, 0, 30]),
+                Patch(0, 12, 4, 51),
+                Patch(1, 24, 8, 0x900000028),
+                Patch(2, 24, 8, 0x1400000032),
+                Patch(3, 24, 4, 30),
             ],
+            last: NO_PATCH,
         },
         &[
             (Step::Count, Ok([5, 3, 0, 0])),
@@ -523,10 +548,8 @@ static MADE: &[Try] = &[
     Try::Makes(
         Old {
             pages: Pages::Bytes(&FIVE_1),
-            patches: &[
-                Patch(0, 12, &[1, 0, 0, 0]),
-                Patch(2, 28, &[0, 255, 255, 255]),
-            ],
+            patches: &[Patch(0, 12, 4, 0x1000000), Patch(2, 28, 4, 0xffffff)],
+            last: NO_PATCH,
         },
         &[
             (Step::Count, Ok([5, 3, 0, 0])),
@@ -547,10 +570,8 @@ static MADE: &[Try] = &[
     Try::Makes(
         Old {
             pages: Pages::Bytes(&FIVE_2),
-            patches: &[
-                Patch(0, 12, &[1, 0, 0, 0]),
-                Patch(2, 28, &[0, 255, 255, 255]),
-            ],
+            patches: &[Patch(0, 12, 4, 0x1000000), Patch(2, 28, 4, 0xffffff)],
+            last: NO_PATCH,
         },
         &[
             (Step::Count, Ok([5, 3, 0, 0])),
@@ -567,15 +588,21 @@ static MADE: &[Try] = &[
             (Step::Count, Ok([5, 3, 0, 0])),
         ],
     ),
+];
+
+// Regions without a row.
+static WITHOUT_ROWS: &[Try] = &[
     // The second region has no row; in format 1.
     Try::Makes(
         Old {
             pages: Pages::Bytes(&FIVE_1),
             patches: &[
-                Patch(0, 16, &[0, 0, 0, 4]),
-                Patch(3, 3, &[0]),
-                Patch(3, 24, &[0; 20]),
+                Patch(0, 16, 4, 4),
+                Patch(3, 3, 1, 0),
+                Patch(3, 24, 16, 0),
+                Patch(3, 40, 4, 0),
             ],
+            last: NO_PATCH,
         },
         &[
             (Step::Count, Ok([4, 3, 0, 0])),
@@ -591,10 +618,12 @@ static MADE: &[Try] = &[
         Old {
             pages: Pages::Bytes(&FIVE_2),
             patches: &[
-                Patch(0, 16, &[0, 0, 0, 4]),
-                Patch(3, 3, &[0]),
-                Patch(3, 24, &[0; 20]),
+                Patch(0, 16, 4, 4),
+                Patch(3, 3, 1, 0),
+                Patch(3, 24, 16, 0),
+                Patch(3, 40, 4, 0),
             ],
+            last: NO_PATCH,
         },
         &[
             (Step::Count, Ok([4, 3, 0, 0])),
@@ -610,6 +639,7 @@ static MADE: &[Try] = &[
         Old {
             pages: Pages::Bytes(&EMPTY_1),
             patches: &[],
+            last: NO_PATCH,
         },
         &[
             (Step::Count, Ok([0, 1, 0, 0])),
@@ -650,6 +680,7 @@ static MADE: &[Try] = &[
         Old {
             pages: Pages::Bytes(&EMPTY_2),
             patches: &[],
+            last: NO_PATCH,
         },
         &[
             (Step::Count, Ok([0, 1, 0, 0])),
@@ -673,11 +704,16 @@ static MADE: &[Try] = &[
             (Step::Count, Ok([1, 1, 0, 0])),
         ],
     ),
+];
+
+// A directory of one full page.
+static FULL_PAGE: &[Try] = &[
     // 170 regions of two rows each, with one page of the directory, which is full.
     Try::Makes(
         Old {
             pages: Pages::Line(170, 2),
             patches: &[],
+            last: NO_PATCH,
         },
         &[
             (Step::Count, Ok([340, 170, 0, 0])),
@@ -727,11 +763,16 @@ static MADE: &[Try] = &[
             (Step::Span(LINE_LAST), Ok([338, LINE_LAST, 339, 340])),
         ],
     ),
+];
+
+// A directory of two pages.
+static TWO_PAGES: &[Try] = &[
     // 171 regions of two rows each, with two pages of the directory.
     Try::Makes(
         Old {
             pages: Pages::Line(171, 2),
             patches: &[],
+            last: NO_PATCH,
         },
         &[
             (Step::Count, Ok([342, 171, 0, 0])),
@@ -817,11 +858,16 @@ static MADE: &[Try] = &[
             (Step::Span(LINE_LAST), Ok([340, LINE_LAST, 341, 342])),
         ],
     ),
+];
+
+// A directory of two full pages.
+static TWO_FULL_PAGES: &[Try] = &[
     // 340 regions of two rows each, with two pages of the directory which are full.
     Try::Makes(
         Old {
             pages: Pages::Line(340, 2),
             patches: &[],
+            last: NO_PATCH,
         },
         &[
             (Step::Count, Ok([680, 340, 0, 0])),
@@ -907,11 +953,16 @@ static MADE: &[Try] = &[
             (Step::Span(LINE_LAST), Ok([678, LINE_LAST, 679, 680])),
         ],
     ),
+];
+
+// A directory of three pages.
+static THREE_PAGES: &[Try] = &[
     // 341 regions of two rows each, with three pages of the directory.
     Try::Makes(
         Old {
             pages: Pages::Line(341, 2),
             patches: &[],
+            last: NO_PATCH,
         },
         &[
             (Step::Count, Ok([682, 341, 0, 0])),
@@ -1021,11 +1072,16 @@ static MADE: &[Try] = &[
             (Step::Span(LINE_LAST), Ok([680, LINE_LAST, 681, 682])),
         ],
     ),
+];
+
+// Regions of 64 rows.
+static FULL_REGIONS: &[Try] = &[
     // Full pages of 64 rows.
     Try::Makes(
         Old {
             pages: Pages::Line(1, 64),
             patches: &[],
+            last: NO_PATCH,
         },
         &[
             (Step::Count, Ok([64, 1, 0, 0])),
@@ -1054,6 +1110,7 @@ static MADE: &[Try] = &[
         Old {
             pages: Pages::Line(3, 64),
             patches: &[],
+            last: NO_PATCH,
         },
         &[
             (Step::Count, Ok([192, 3, 0, 0])),
@@ -1077,6 +1134,7 @@ static FAILING: &[Try] = &[
         Old {
             pages: Pages::Bytes(&FIVE_1),
             patches: &[],
+            last: NO_PATCH,
         },
         b"oewoewoewoewoewoewrrrr",
     ),
@@ -1084,6 +1142,7 @@ static FAILING: &[Try] = &[
         Old {
             pages: Pages::Bytes(&FIVE_2),
             patches: &[],
+            last: NO_PATCH,
         },
         b"oewoewoewoewoewrrrr",
     ),
@@ -1091,6 +1150,7 @@ static FAILING: &[Try] = &[
         Old {
             pages: Pages::Bytes(&LEVELS_2),
             patches: &[],
+            last: NO_PATCH,
         },
         b"oewoewoewoewoewoewoewrrrrrr",
     ),
@@ -1101,6 +1161,7 @@ static FAILING: &[Try] = &[
         Old {
             pages: Pages::Line(171, 2),
             patches: &[],
+            last: NO_PATCH,
         },
         &[
             End(2, 0, DEVICE),
@@ -1127,598 +1188,470 @@ static FAILING: &[Try] = &[
     ),
 ];
 
-// Old tables with other bytes, and why they are refused: each fault in its place, and of two the one that is told first.
-static REFUSED: &[Try] = &[
+// Headers that are refused: each fault in its place, and of two the one that is told first.
+static HEADERS_OF_1: &[Try] = &[
     // Headers of format 1. Nothing was written before they are refused.
     Try::Refuses(
         Pages::Bytes(&FIVE_1),
         NO_PAGE,
         &[
-            Hurt(&[Patch(0, 0, &[0x51])], Told::On(0, PageFault::WrongKind)),
-            Hurt(&[Patch(0, 1, &[0x51])], Told::On(0, PageFault::WrongKind)),
-            Hurt(&[Patch(0, 2, &[0x51])], Told::On(0, PageFault::WrongKind)),
-            Hurt(&[Patch(0, 3, &[0x51])], Told::On(0, PageFault::WrongKind)),
-            Hurt(&[Patch(0, 4, &[0])], Told::On(0, PageFault::WrongKind)),
-            Hurt(&[Patch(0, 4, &[3])], Told::On(0, PageFault::WrongKind)),
-            Hurt(&[Patch(0, 4, &[4])], Told::On(0, PageFault::WrongKind)),
-            Hurt(&[Patch(0, 4, &[255])], Told::On(0, PageFault::WrongKind)),
-            Hurt(&[Patch(0, 4, &[3, 1])], Told::On(0, PageFault::WrongKind)),
-            Hurt(&[Patch(0, 5, &[1])], Told::On(0, PageFault::Unclean)),
-            Hurt(&[Patch(0, 5, &[1, 0])], Told::On(0, PageFault::Unclean)),
-            Hurt(&[Patch(0, 5, &[2])], Told::On(0, PageFault::BadCount)),
-            Hurt(&[Patch(0, 6, &[0])], Told::On(0, PageFault::BadCount)),
-            Hurt(&[Patch(0, 6, &[5])], Told::On(0, PageFault::BadCount)),
-            Hurt(&[Patch(0, 7, &[5])], Told::On(0, PageFault::BadCount)),
-            Hurt(&[Patch(0, 8, &[1])], Told::On(0, PageFault::BadCount)),
-            Hurt(&[Patch(0, 8, &[65])], Told::On(0, PageFault::BadCount)),
+            Hurt(Patch(0, 0, 1, 81), Told::On(0, PageFault::WrongKind)),
+            Hurt(Patch(0, 1, 1, 81), Told::On(0, PageFault::WrongKind)),
+            Hurt(Patch(0, 2, 1, 81), Told::On(0, PageFault::WrongKind)),
+            Hurt(Patch(0, 3, 1, 81), Told::On(0, PageFault::WrongKind)),
+            Hurt(Patch(0, 4, 1, 0), Told::On(0, PageFault::WrongKind)),
+            Hurt(Patch(0, 4, 1, 3), Told::On(0, PageFault::WrongKind)),
+            Hurt(Patch(0, 4, 1, 4), Told::On(0, PageFault::WrongKind)),
+            Hurt(Patch(0, 4, 1, 255), Told::On(0, PageFault::WrongKind)),
+            Hurt(Patch(0, 4, 2, 769), Told::On(0, PageFault::WrongKind)),
+            Hurt(Patch(0, 5, 1, 1), Told::On(0, PageFault::Unclean)),
+            Hurt(Patch(0, 5, 2, 256), Told::On(0, PageFault::Unclean)),
+            Hurt(Patch(0, 5, 1, 2), Told::On(0, PageFault::BadCount)),
+            Hurt(Patch(0, 6, 1, 0), Told::On(0, PageFault::BadCount)),
+            Hurt(Patch(0, 6, 1, 5), Told::On(0, PageFault::BadCount)),
+            Hurt(Patch(0, 7, 1, 5), Told::On(0, PageFault::BadCount)),
+            Hurt(Patch(0, 8, 1, 1), Told::On(0, PageFault::BadCount)),
+            Hurt(Patch(0, 8, 1, 65), Told::On(0, PageFault::BadCount)),
+            Hurt(Patch(0, 12, 4, 0), Told::On(0, PageFault::BadCount)),
+            Hurt(Patch(0, 12, 4, 0x1000001), Told::On(0, PageFault::BadCount)),
+            Hurt(Patch(0, 16, 4, 6), Told::On(0, PageFault::BadCount)),
+            Hurt(Patch(0, 20, 4, 0), Told::On(0, PageFault::BadCount)),
+            Hurt(Patch(0, 24, 4, 0), Told::On(0, PageFault::BadCount)),
+            Hurt(Patch(0, 28, 4, 0), Told::On(0, PageFault::BadCount)),
+            Hurt(Patch(0, 28, 4, 2), Told::On(0, PageFault::BadCount)),
+            Hurt(Patch(0, 20, 4, 171), Told::On(0, PageFault::BadCount)),
             Hurt(
-                &[Patch(0, 12, &[0, 0, 0, 0])],
+                Patch(0, 28, 4, 0xffffffff),
                 Told::On(0, PageFault::BadCount),
             ),
-            Hurt(
-                &[Patch(0, 12, &[1, 0, 0, 1])],
-                Told::On(0, PageFault::BadCount),
-            ),
-            Hurt(
-                &[Patch(0, 16, &[0, 0, 0, 6])],
-                Told::On(0, PageFault::BadCount),
-            ),
-            Hurt(
-                &[Patch(0, 20, &[0, 0, 0, 0])],
-                Told::On(0, PageFault::BadCount),
-            ),
-            Hurt(
-                &[Patch(0, 24, &[0, 0, 0, 0])],
-                Told::On(0, PageFault::BadCount),
-            ),
-            Hurt(
-                &[Patch(0, 28, &[0, 0, 0, 0])],
-                Told::On(0, PageFault::BadCount),
-            ),
-            Hurt(
-                &[Patch(0, 28, &[0, 0, 0, 2])],
-                Told::On(0, PageFault::BadCount),
-            ),
-            Hurt(
-                &[Patch(0, 20, &[0, 0, 0, 171])],
-                Told::On(0, PageFault::BadCount),
-            ),
-            Hurt(
-                &[Patch(0, 28, &[255, 255, 255, 255])],
-                Told::On(0, PageFault::BadCount),
-            ),
-            Hurt(
-                &[Patch(0, 28, &[0, 0, 0, 0, 0])],
-                Told::On(0, PageFault::BadCount),
-            ),
-            Hurt(&[Patch(0, 32, &[0])], Told::On(0, PageFault::BadName)),
-            Hurt(&[Patch(0, 32, &[33])], Told::On(0, PageFault::BadName)),
-            Hurt(&[Patch(0, 33, &[0x30])], Told::On(0, PageFault::BadName)),
-            Hurt(&[Patch(0, 34, &[1])], Told::On(0, PageFault::BadName)),
-            Hurt(
-                &[Patch(0, 32, &[2, 0x62, 0x79])],
-                Told::On(0, PageFault::BadName),
-            ),
-            Hurt(&[Patch(0, 66, &[0x2d])], Told::On(0, PageFault::BadName)),
-            Hurt(&[Patch(0, 65, &[0])], Told::On(0, PageFault::BadName)),
-            Hurt(&[Patch(0, 99, &[0x78])], Told::On(0, PageFault::BadName)),
-            Hurt(&[Patch(0, 131, &[0])], Told::On(0, PageFault::BadName)),
-            Hurt(&[Patch(0, 132, &[0x79])], Told::On(0, PageFault::BadName)),
-            Hurt(&[Patch(0, 163, &[1, 1])], Told::On(0, PageFault::BadName)),
-            Hurt(&[Patch(0, 9, &[1])], Told::On(0, PageFault::BadPadding)),
-            Hurt(&[Patch(0, 9, &[3])], Told::On(0, PageFault::BadPadding)),
-            Hurt(&[Patch(0, 10, &[1])], Told::On(0, PageFault::BadPadding)),
-            Hurt(&[Patch(0, 11, &[1])], Told::On(0, PageFault::BadPadding)),
-            Hurt(&[Patch(0, 164, &[1])], Told::On(0, PageFault::BadPadding)),
-            Hurt(&[Patch(0, 4095, &[1])], Told::On(0, PageFault::BadPadding)),
+            Hurt(Patch(0, 28, 5, 0), Told::On(0, PageFault::BadCount)),
+            Hurt(Patch(0, 32, 1, 0), Told::On(0, PageFault::BadName)),
+            Hurt(Patch(0, 32, 1, 33), Told::On(0, PageFault::BadName)),
+            Hurt(Patch(0, 33, 1, 48), Told::On(0, PageFault::BadName)),
+            Hurt(Patch(0, 34, 1, 1), Told::On(0, PageFault::BadName)),
+            Hurt(Patch(0, 32, 3, 0x26279), Told::On(0, PageFault::BadName)),
+            Hurt(Patch(0, 66, 1, 45), Told::On(0, PageFault::BadName)),
+            Hurt(Patch(0, 65, 1, 0), Told::On(0, PageFault::BadName)),
+            Hurt(Patch(0, 99, 1, 120), Told::On(0, PageFault::BadName)),
+            Hurt(Patch(0, 131, 1, 0), Told::On(0, PageFault::BadName)),
+            Hurt(Patch(0, 132, 1, 121), Told::On(0, PageFault::BadName)),
+            Hurt(Patch(0, 163, 2, 257), Told::On(0, PageFault::BadName)),
+            Hurt(Patch(0, 9, 1, 1), Told::On(0, PageFault::BadPadding)),
+            Hurt(Patch(0, 9, 1, 3), Told::On(0, PageFault::BadPadding)),
+            Hurt(Patch(0, 10, 1, 1), Told::On(0, PageFault::BadPadding)),
+            Hurt(Patch(0, 11, 1, 1), Told::On(0, PageFault::BadPadding)),
+            Hurt(Patch(0, 164, 1, 1), Told::On(0, PageFault::BadPadding)),
+            Hurt(Patch(0, 4095, 1, 1), Told::On(0, PageFault::BadPadding)),
         ],
     ),
+    // A table of no pages.
+    Try::Refuses(Pages::Bytes(&[]), NO_PAGE, &[Hurt(NO_PATCH, Told::NoPage)]),
+];
+
+// The same of format 2.
+static HEADERS_OF_2: &[Try] = &[
     // Headers of format 2. Nothing was written before they are refused.
     Try::Refuses(
         Pages::Bytes(&FIVE_2),
         NO_PAGE,
         &[
-            Hurt(&[Patch(0, 0, &[0x51])], Told::On(0, PageFault::WrongKind)),
-            Hurt(&[Patch(0, 1, &[0x51])], Told::On(0, PageFault::WrongKind)),
-            Hurt(&[Patch(0, 2, &[0x51])], Told::On(0, PageFault::WrongKind)),
-            Hurt(&[Patch(0, 3, &[0x51])], Told::On(0, PageFault::WrongKind)),
-            Hurt(&[Patch(0, 4, &[0])], Told::On(0, PageFault::WrongKind)),
-            Hurt(&[Patch(0, 4, &[3])], Told::On(0, PageFault::WrongKind)),
-            Hurt(&[Patch(0, 4, &[4])], Told::On(0, PageFault::WrongKind)),
-            Hurt(&[Patch(0, 4, &[255])], Told::On(0, PageFault::WrongKind)),
-            Hurt(&[Patch(0, 4, &[3, 1])], Told::On(0, PageFault::WrongKind)),
-            Hurt(&[Patch(0, 5, &[1])], Told::On(0, PageFault::Unclean)),
-            Hurt(&[Patch(0, 5, &[1, 0])], Told::On(0, PageFault::Unclean)),
-            Hurt(&[Patch(0, 5, &[2])], Told::On(0, PageFault::BadCount)),
-            Hurt(&[Patch(0, 6, &[0])], Told::On(0, PageFault::BadCount)),
-            Hurt(&[Patch(0, 6, &[5])], Told::On(0, PageFault::BadCount)),
-            Hurt(&[Patch(0, 7, &[5])], Told::On(0, PageFault::BadCount)),
-            Hurt(&[Patch(0, 8, &[1])], Told::On(0, PageFault::BadCount)),
-            Hurt(&[Patch(0, 8, &[65])], Told::On(0, PageFault::BadCount)),
-            Hurt(
-                &[Patch(0, 12, &[0, 0, 0, 0])],
-                Told::On(0, PageFault::BadCount),
-            ),
-            Hurt(
-                &[Patch(0, 12, &[1, 0, 0, 1])],
-                Told::On(0, PageFault::BadCount),
-            ),
-            Hurt(
-                &[Patch(0, 16, &[0, 0, 0, 6])],
-                Told::On(0, PageFault::BadCount),
-            ),
-            Hurt(
-                &[Patch(0, 20, &[0, 0, 0, 0])],
-                Told::On(0, PageFault::BadCount),
-            ),
-            Hurt(
-                &[Patch(0, 24, &[0, 0, 0, 0])],
-                Told::On(0, PageFault::BadCount),
-            ),
-            Hurt(
-                &[Patch(0, 28, &[0, 0, 0, 0])],
-                Told::On(0, PageFault::BadCount),
-            ),
-            Hurt(
-                &[Patch(0, 28, &[0, 0, 0, 17])],
-                Told::On(0, PageFault::BadCount),
-            ),
-            Hurt(
-                &[Patch(0, 28, &[1, 0, 0, 1])],
-                Told::On(0, PageFault::BadCount),
-            ),
-            Hurt(
-                &[Patch(0, 28, &[0, 0, 0, 0, 0])],
-                Told::On(0, PageFault::BadCount),
-            ),
-            Hurt(&[Patch(0, 32, &[0])], Told::On(0, PageFault::BadName)),
-            Hurt(&[Patch(0, 32, &[33])], Told::On(0, PageFault::BadName)),
-            Hurt(&[Patch(0, 33, &[0x30])], Told::On(0, PageFault::BadName)),
-            Hurt(&[Patch(0, 34, &[1])], Told::On(0, PageFault::BadName)),
-            Hurt(
-                &[Patch(0, 32, &[2, 0x62, 0x79])],
-                Told::On(0, PageFault::BadName),
-            ),
-            Hurt(&[Patch(0, 66, &[0x2d])], Told::On(0, PageFault::BadName)),
-            Hurt(&[Patch(0, 65, &[0])], Told::On(0, PageFault::BadName)),
-            Hurt(&[Patch(0, 99, &[0x78])], Told::On(0, PageFault::BadName)),
-            Hurt(&[Patch(0, 131, &[0])], Told::On(0, PageFault::BadName)),
-            Hurt(&[Patch(0, 132, &[0x79])], Told::On(0, PageFault::BadName)),
-            Hurt(&[Patch(0, 163, &[1, 1])], Told::On(0, PageFault::BadName)),
-            Hurt(&[Patch(0, 9, &[1])], Told::On(0, PageFault::BadPadding)),
-            Hurt(&[Patch(0, 9, &[3])], Told::On(0, PageFault::BadPadding)),
-            Hurt(&[Patch(0, 10, &[1])], Told::On(0, PageFault::BadPadding)),
-            Hurt(&[Patch(0, 11, &[1])], Told::On(0, PageFault::BadPadding)),
-            Hurt(&[Patch(0, 164, &[1])], Told::On(0, PageFault::BadPadding)),
-            Hurt(&[Patch(0, 4095, &[1])], Told::On(0, PageFault::BadPadding)),
+            Hurt(Patch(0, 0, 1, 81), Told::On(0, PageFault::WrongKind)),
+            Hurt(Patch(0, 1, 1, 81), Told::On(0, PageFault::WrongKind)),
+            Hurt(Patch(0, 2, 1, 81), Told::On(0, PageFault::WrongKind)),
+            Hurt(Patch(0, 3, 1, 81), Told::On(0, PageFault::WrongKind)),
+            Hurt(Patch(0, 4, 1, 0), Told::On(0, PageFault::WrongKind)),
+            Hurt(Patch(0, 4, 1, 3), Told::On(0, PageFault::WrongKind)),
+            Hurt(Patch(0, 4, 1, 4), Told::On(0, PageFault::WrongKind)),
+            Hurt(Patch(0, 4, 1, 255), Told::On(0, PageFault::WrongKind)),
+            Hurt(Patch(0, 4, 2, 769), Told::On(0, PageFault::WrongKind)),
+            Hurt(Patch(0, 5, 1, 1), Told::On(0, PageFault::Unclean)),
+            Hurt(Patch(0, 5, 2, 256), Told::On(0, PageFault::Unclean)),
+            Hurt(Patch(0, 5, 1, 2), Told::On(0, PageFault::BadCount)),
+            Hurt(Patch(0, 6, 1, 0), Told::On(0, PageFault::BadCount)),
+            Hurt(Patch(0, 6, 1, 5), Told::On(0, PageFault::BadCount)),
+            Hurt(Patch(0, 7, 1, 5), Told::On(0, PageFault::BadCount)),
+            Hurt(Patch(0, 8, 1, 1), Told::On(0, PageFault::BadCount)),
+            Hurt(Patch(0, 8, 1, 65), Told::On(0, PageFault::BadCount)),
+            Hurt(Patch(0, 12, 4, 0), Told::On(0, PageFault::BadCount)),
+            Hurt(Patch(0, 12, 4, 0x1000001), Told::On(0, PageFault::BadCount)),
+            Hurt(Patch(0, 16, 4, 6), Told::On(0, PageFault::BadCount)),
+            Hurt(Patch(0, 20, 4, 0), Told::On(0, PageFault::BadCount)),
+            Hurt(Patch(0, 24, 4, 0), Told::On(0, PageFault::BadCount)),
+            Hurt(Patch(0, 28, 4, 0), Told::On(0, PageFault::BadCount)),
+            Hurt(Patch(0, 28, 4, 17), Told::On(0, PageFault::BadCount)),
+            Hurt(Patch(0, 28, 4, 0x1000001), Told::On(0, PageFault::BadCount)),
+            Hurt(Patch(0, 28, 5, 0), Told::On(0, PageFault::BadCount)),
+            Hurt(Patch(0, 32, 1, 0), Told::On(0, PageFault::BadName)),
+            Hurt(Patch(0, 32, 1, 33), Told::On(0, PageFault::BadName)),
+            Hurt(Patch(0, 33, 1, 48), Told::On(0, PageFault::BadName)),
+            Hurt(Patch(0, 34, 1, 1), Told::On(0, PageFault::BadName)),
+            Hurt(Patch(0, 32, 3, 0x26279), Told::On(0, PageFault::BadName)),
+            Hurt(Patch(0, 66, 1, 45), Told::On(0, PageFault::BadName)),
+            Hurt(Patch(0, 65, 1, 0), Told::On(0, PageFault::BadName)),
+            Hurt(Patch(0, 99, 1, 120), Told::On(0, PageFault::BadName)),
+            Hurt(Patch(0, 131, 1, 0), Told::On(0, PageFault::BadName)),
+            Hurt(Patch(0, 132, 1, 121), Told::On(0, PageFault::BadName)),
+            Hurt(Patch(0, 163, 2, 257), Told::On(0, PageFault::BadName)),
+            Hurt(Patch(0, 9, 1, 1), Told::On(0, PageFault::BadPadding)),
+            Hurt(Patch(0, 9, 1, 3), Told::On(0, PageFault::BadPadding)),
+            Hurt(Patch(0, 10, 1, 1), Told::On(0, PageFault::BadPadding)),
+            Hurt(Patch(0, 11, 1, 1), Told::On(0, PageFault::BadPadding)),
+            Hurt(Patch(0, 164, 1, 1), Told::On(0, PageFault::BadPadding)),
+            Hurt(Patch(0, 4095, 1, 1), Told::On(0, PageFault::BadPadding)),
         ],
     ),
-    // A table of no pages.
-    Try::Refuses(Pages::Bytes(&[]), NO_PAGE, &[Hurt(&[], Told::NoPage)]),
+];
+
+// Regions, entries, and counts that are refused.
+static REGIONS_OF_1: &[Try] = &[
     // Regions, entries that name other pages, and counts, in format 1.
     Try::Refuses(
         Pages::Bytes(&FIVE_1),
         UNCLEAN,
         &[
-            Hurt(&[Patch(1, 0, &[0x53])], Told::On(1, PageFault::WrongKind)),
-            Hurt(&[Patch(1, 1, &[1])], Told::On(1, PageFault::BadCount)),
-            Hurt(&[Patch(1, 2, &[0])], Told::On(1, PageFault::BadCount)),
-            Hurt(&[Patch(1, 3, &[3])], Told::On(1, PageFault::BadCount)),
-            Hurt(&[Patch(1, 11, &[1])], Told::On(1, PageFault::BadRow)),
-            Hurt(&[Patch(1, 20, &[1])], Told::On(1, PageFault::BadRow)),
+            Hurt(Patch(1, 0, 1, 83), Told::On(1, PageFault::WrongKind)),
+            Hurt(Patch(1, 1, 1, 1), Told::On(1, PageFault::BadCount)),
+            Hurt(Patch(1, 2, 1, 0), Told::On(1, PageFault::BadCount)),
+            Hurt(Patch(1, 3, 1, 3), Told::On(1, PageFault::BadCount)),
+            Hurt(Patch(1, 11, 1, 1), Told::On(1, PageFault::BadRow)),
+            Hurt(Patch(1, 20, 1, 1), Told::On(1, PageFault::BadRow)),
+            Hurt(Patch(1, 24, 4, 0), Told::On(1, PageFault::BadRow)),
+            Hurt(Patch(1, 24, 4, 0x1000000), Told::On(1, PageFault::BadRow)),
+            Hurt(Patch(1, 64, 1, 1), Told::On(1, PageFault::BadPadding)),
+            Hurt(Patch(1, 4095, 1, 1), Told::On(1, PageFault::BadPadding)),
+            Hurt(Patch(2, 0, 1, 83), Told::On(2, PageFault::WrongKind)),
+            Hurt(Patch(2, 1, 1, 1), Told::On(2, PageFault::BadCount)),
+            Hurt(Patch(2, 2, 1, 0), Told::On(2, PageFault::BadCount)),
+            Hurt(Patch(2, 3, 1, 3), Told::On(2, PageFault::BadCount)),
+            Hurt(Patch(2, 11, 1, 1), Told::On(2, PageFault::BadRow)),
+            Hurt(Patch(2, 20, 1, 1), Told::On(2, PageFault::BadRow)),
+            Hurt(Patch(2, 24, 4, 0), Told::On(2, PageFault::BadRow)),
+            Hurt(Patch(2, 24, 4, 0x1000000), Told::On(2, PageFault::BadRow)),
             Hurt(
-                &[Patch(1, 24, &[0, 0, 0, 0])],
-                Told::On(1, PageFault::BadRow),
-            ),
-            Hurt(
-                &[Patch(1, 24, &[1, 0, 0, 0])],
-                Told::On(1, PageFault::BadRow),
-            ),
-            Hurt(
-                &[Patch(
-                    1,
-                    24,
-                    &[
-                        0, 0, 0, 1, 0, 0, 0, 1, 0, 0, 0, 1, 0, 0, 0, 1, 0, 0, 0, 1, 0, 0, 0, 1,
-                    ],
-                )],
-                Told::On(1, PageFault::BadOrder),
-            ),
-            Hurt(&[Patch(1, 64, &[1])], Told::On(1, PageFault::BadPadding)),
-            Hurt(&[Patch(1, 4095, &[1])], Told::On(1, PageFault::BadPadding)),
-            Hurt(&[Patch(2, 0, &[0x53])], Told::On(2, PageFault::WrongKind)),
-            Hurt(&[Patch(2, 1, &[1])], Told::On(2, PageFault::BadCount)),
-            Hurt(&[Patch(2, 2, &[0])], Told::On(2, PageFault::BadCount)),
-            Hurt(&[Patch(2, 3, &[3])], Told::On(2, PageFault::BadCount)),
-            Hurt(&[Patch(2, 11, &[1])], Told::On(2, PageFault::BadRow)),
-            Hurt(&[Patch(2, 20, &[1])], Told::On(2, PageFault::BadRow)),
-            Hurt(
-                &[Patch(2, 24, &[0, 0, 0, 0])],
-                Told::On(2, PageFault::BadRow),
-            ),
-            Hurt(
-                &[Patch(2, 24, &[1, 0, 0, 0])],
-                Told::On(2, PageFault::BadRow),
-            ),
-            Hurt(
-                &[Patch(2, 24, &[0, 0, 0, 5, 0, 0, 0, 5])],
+                Patch(2, 24, 8, 0x500000005),
                 Told::On(2, PageFault::BadOrder),
             ),
-            Hurt(&[Patch(2, 64, &[1])], Told::On(2, PageFault::BadPadding)),
-            Hurt(&[Patch(2, 4095, &[1])], Told::On(2, PageFault::BadPadding)),
-            Hurt(&[Patch(3, 0, &[0x53])], Told::On(3, PageFault::WrongKind)),
-            Hurt(&[Patch(3, 1, &[1])], Told::On(3, PageFault::BadCount)),
-            Hurt(&[Patch(3, 2, &[0])], Told::On(3, PageFault::BadCount)),
-            Hurt(&[Patch(3, 3, &[3])], Told::On(3, PageFault::BadCount)),
-            Hurt(&[Patch(3, 11, &[1])], Told::On(3, PageFault::BadRow)),
-            Hurt(&[Patch(3, 20, &[1])], Told::On(3, PageFault::BadRow)),
+            Hurt(Patch(2, 64, 1, 1), Told::On(2, PageFault::BadPadding)),
+            Hurt(Patch(2, 4095, 1, 1), Told::On(2, PageFault::BadPadding)),
+            Hurt(Patch(3, 0, 1, 83), Told::On(3, PageFault::WrongKind)),
+            Hurt(Patch(3, 1, 1, 1), Told::On(3, PageFault::BadCount)),
+            Hurt(Patch(3, 2, 1, 0), Told::On(3, PageFault::BadCount)),
+            Hurt(Patch(3, 3, 1, 3), Told::On(3, PageFault::BadCount)),
+            Hurt(Patch(3, 11, 1, 1), Told::On(3, PageFault::BadRow)),
+            Hurt(Patch(3, 20, 1, 1), Told::On(3, PageFault::BadRow)),
+            Hurt(Patch(3, 24, 4, 0), Told::On(3, PageFault::BadRow)),
+            Hurt(Patch(3, 24, 4, 0x1000000), Told::On(3, PageFault::BadRow)),
+            Hurt(Patch(3, 44, 1, 1), Told::On(3, PageFault::BadPadding)),
+            Hurt(Patch(3, 4095, 1, 1), Told::On(3, PageFault::BadPadding)),
             Hurt(
-                &[Patch(3, 24, &[0, 0, 0, 0])],
-                Told::On(3, PageFault::BadRow),
-            ),
-            Hurt(
-                &[Patch(3, 24, &[1, 0, 0, 0])],
-                Told::On(3, PageFault::BadRow),
-            ),
-            Hurt(&[Patch(3, 44, &[1])], Told::On(3, PageFault::BadPadding)),
-            Hurt(&[Patch(3, 4095, &[1])], Told::On(3, PageFault::BadPadding)),
-            Hurt(
-                &[Patch(
-                    1,
-                    24,
-                    &[
-                        0, 0, 0, 4, 0, 0, 0, 1, 0, 0, 0, 0, 0, 0, 0, 1, 0, 0, 0, 2, 0, 0, 0, 1, 0,
-                        0, 0, 0, 0, 0, 0, 7, 0, 0, 0, 0, 0, 0, 0, 10,
-                    ],
-                )],
-                Told::On(1, PageFault::BadOrder),
-            ),
-            Hurt(
-                &[Patch(2, 24, &[0, 0, 0, 5, 0, 0, 0, 2])],
+                Patch(2, 24, 8, 0x500000002),
                 Told::On(2, PageFault::BadOrder),
             ),
-            Hurt(&[Patch(1, 19, &[4])], Told::On(1, PageFault::OutOfRegion)),
-            Hurt(&[Patch(3, 19, &[11])], Told::On(3, PageFault::OutOfRegion)),
-            Hurt(&[Patch(2, 19, &[14])], Told::On(2, PageFault::OutOfRegion)),
-            Hurt(&[Patch(1, 23, &[1])], Told::On(1, PageFault::OutOfRegion)),
-            Hurt(&[Patch(1, 19, &[3])], Told::On(1, PageFault::OutOfRegion)),
-            Hurt(&[Patch(3, 19, &[9])], Told::On(3, PageFault::OutOfRegion)),
-            Hurt(&[Patch(3, 23, &[1])], Told::On(3, PageFault::OutOfRegion)),
-            Hurt(&[Patch(2, 19, &[12])], Told::On(2, PageFault::OutOfRegion)),
-            Hurt(&[Patch(2, 23, &[1])], Told::On(2, PageFault::OutOfRegion)),
+            Hurt(Patch(1, 19, 1, 4), Told::On(1, PageFault::OutOfRegion)),
+            Hurt(Patch(3, 19, 1, 11), Told::On(3, PageFault::OutOfRegion)),
+            Hurt(Patch(2, 19, 1, 14), Told::On(2, PageFault::OutOfRegion)),
+            Hurt(Patch(1, 23, 1, 1), Told::On(1, PageFault::OutOfRegion)),
+            Hurt(Patch(1, 19, 1, 3), Told::On(1, PageFault::OutOfRegion)),
+            Hurt(Patch(3, 19, 1, 9), Told::On(3, PageFault::OutOfRegion)),
+            Hurt(Patch(3, 23, 1, 1), Told::On(3, PageFault::OutOfRegion)),
+            Hurt(Patch(2, 19, 1, 12), Told::On(2, PageFault::OutOfRegion)),
+            Hurt(Patch(2, 23, 1, 1), Told::On(2, PageFault::OutOfRegion)),
             Hurt(
-                &[Patch(1, 36, &[0, 0, 0, 3, 0, 0, 0, 1, 0, 0, 0, 0])],
+                Patch(1, 36, 12, 0x30000000100000000),
                 Told::On(1, PageFault::OutOfRegion),
             ),
             Hurt(
-                &[Patch(3, 28, &[0, 0, 0, 2, 0, 0, 0, 3])],
+                Patch(3, 28, 8, 0x200000003),
                 Told::On(3, PageFault::OutOfRegion),
             ),
             Hurt(
-                &[Patch(3, 28, &[0, 0, 0, 3, 0, 0, 0, 3])],
+                Patch(3, 28, 8, 0x300000003),
                 Told::On(3, PageFault::OutOfRegion),
             ),
-            Hurt(&[Patch(4, 36, &[0, 0, 0, 5])], Told::NoPage),
-            Hurt(&[Patch(4, 60, &[0, 0, 0, 5])], Told::NoPage),
-            Hurt(&[Patch(4, 84, &[0, 0, 0, 5])], Told::NoPage),
-            Hurt(&[Patch(4, 84, &[255, 255, 255, 255])], Told::NoPage),
-            Hurt(
-                &[Patch(4, 60, &[0, 0, 0, 4])],
-                Told::On(4, PageFault::WrongKind),
-            ),
-            Hurt(
-                &[Patch(4, 60, &[0, 0, 0, 1])],
-                Told::On(1, PageFault::OutOfRegion),
-            ),
-            Hurt(
-                &[Patch(4, 84, &[0, 0, 0, 3])],
-                Told::On(3, PageFault::OutOfRegion),
-            ),
-            Hurt(
-                &[Patch(4, 36, &[0, 0, 0, 3])],
-                Told::On(3, PageFault::OutOfRegion),
-            ),
-            Hurt(
-                &[Patch(0, 16, &[0, 0, 0, 4])],
-                Told::On(0, PageFault::BadCount),
-            ),
-            Hurt(
-                &[Patch(0, 16, &[0, 0, 0, 0])],
-                Told::On(0, PageFault::BadCount),
-            ),
-            Hurt(
-                &[Patch(0, 12, &[0, 0, 0, 7]), Patch(0, 16, &[0, 0, 0, 6])],
-                Told::On(0, PageFault::BadCount),
-            ),
-            Hurt(
-                &[Patch(0, 20, &[0, 0, 0, 1])],
-                Told::On(4, PageFault::BadCount),
-            ),
-            Hurt(
-                &[Patch(0, 20, &[0, 0, 0, 2])],
-                Told::On(4, PageFault::BadCount),
-            ),
-            Hurt(
-                &[Patch(0, 20, &[0, 0, 0, 4])],
-                Told::On(4, PageFault::BadCount),
-            ),
-            Hurt(
-                &[Patch(0, 20, &[0, 0, 0, 170])],
-                Told::On(4, PageFault::BadCount),
-            ),
-            Hurt(
-                &[Patch(0, 24, &[0, 0, 0, 1])],
-                Told::On(1, PageFault::WrongKind),
-            ),
-            Hurt(&[Patch(0, 24, &[0, 0, 0, 5])], Told::NoPage),
-            Hurt(&[Patch(0, 24, &[255, 255, 255, 255])], Told::NoPage),
+            Hurt(Patch(4, 36, 4, 5), Told::NoPage),
+            Hurt(Patch(4, 60, 4, 5), Told::NoPage),
+            Hurt(Patch(4, 84, 4, 5), Told::NoPage),
+            Hurt(Patch(4, 84, 4, 0xffffffff), Told::NoPage),
+            Hurt(Patch(4, 60, 4, 4), Told::On(4, PageFault::WrongKind)),
+            Hurt(Patch(4, 60, 4, 1), Told::On(1, PageFault::OutOfRegion)),
+            Hurt(Patch(4, 84, 4, 3), Told::On(3, PageFault::OutOfRegion)),
+            Hurt(Patch(4, 36, 4, 3), Told::On(3, PageFault::OutOfRegion)),
+            Hurt(Patch(0, 16, 4, 4), Told::On(0, PageFault::BadCount)),
+            Hurt(Patch(0, 16, 4, 0), Told::On(0, PageFault::BadCount)),
+            Hurt(Patch(0, 20, 4, 1), Told::On(4, PageFault::BadCount)),
+            Hurt(Patch(0, 20, 4, 2), Told::On(4, PageFault::BadCount)),
+            Hurt(Patch(0, 20, 4, 4), Told::On(4, PageFault::BadCount)),
+            Hurt(Patch(0, 20, 4, 170), Told::On(4, PageFault::BadCount)),
+            Hurt(Patch(0, 24, 4, 1), Told::On(1, PageFault::WrongKind)),
+            Hurt(Patch(0, 24, 4, 5), Told::NoPage),
+            Hurt(Patch(0, 24, 4, 0xffffffff), Told::NoPage),
         ],
     ),
+    Try::Refuse(
+        Pages::Bytes(&FIVE_1),
+        &[
+            Patch(1, 24, 16, 0x1000000010000000100000001),
+            Patch(1, 40, 8, 0x100000001),
+        ],
+        Told::On(1, PageFault::BadOrder),
+    ),
+    Try::Refuse(
+        Pages::Bytes(&FIVE_1),
+        &[
+            Patch(1, 24, 16, 0x4000000010000000000000001),
+            Patch(1, 40, 16, 0x2000000010000000000000007),
+            Patch(1, 56, 8, 10),
+        ],
+        Told::On(1, PageFault::BadOrder),
+    ),
+    Try::Refuse(
+        Pages::Bytes(&FIVE_1),
+        &[Patch(0, 12, 4, 7), Patch(0, 16, 4, 6)],
+        Told::On(0, PageFault::BadCount),
+    ),
+];
+
+// The same in format 2.
+static REGIONS_OF_2: &[Try] = &[
     // Regions, entries that name other pages, and counts, in format 2.
     Try::Refuses(
         Pages::Bytes(&FIVE_2),
         UNCLEAN,
         &[
-            Hurt(&[Patch(1, 0, &[0x53])], Told::On(1, PageFault::WrongKind)),
-            Hurt(&[Patch(1, 1, &[1])], Told::On(1, PageFault::BadCount)),
-            Hurt(&[Patch(1, 2, &[0])], Told::On(1, PageFault::BadCount)),
-            Hurt(&[Patch(1, 3, &[3])], Told::On(1, PageFault::BadCount)),
-            Hurt(&[Patch(1, 11, &[1])], Told::On(1, PageFault::BadRow)),
-            Hurt(&[Patch(1, 20, &[1])], Told::On(1, PageFault::BadRow)),
+            Hurt(Patch(1, 0, 1, 83), Told::On(1, PageFault::WrongKind)),
+            Hurt(Patch(1, 1, 1, 1), Told::On(1, PageFault::BadCount)),
+            Hurt(Patch(1, 2, 1, 0), Told::On(1, PageFault::BadCount)),
+            Hurt(Patch(1, 3, 1, 3), Told::On(1, PageFault::BadCount)),
+            Hurt(Patch(1, 11, 1, 1), Told::On(1, PageFault::BadRow)),
+            Hurt(Patch(1, 20, 1, 1), Told::On(1, PageFault::BadRow)),
+            Hurt(Patch(1, 24, 4, 0), Told::On(1, PageFault::BadRow)),
+            Hurt(Patch(1, 24, 4, 0x1000000), Told::On(1, PageFault::BadRow)),
+            Hurt(Patch(1, 64, 1, 1), Told::On(1, PageFault::BadPadding)),
+            Hurt(Patch(1, 4095, 1, 1), Told::On(1, PageFault::BadPadding)),
+            Hurt(Patch(2, 0, 1, 83), Told::On(2, PageFault::WrongKind)),
+            Hurt(Patch(2, 1, 1, 1), Told::On(2, PageFault::BadCount)),
+            Hurt(Patch(2, 2, 1, 0), Told::On(2, PageFault::BadCount)),
+            Hurt(Patch(2, 3, 1, 3), Told::On(2, PageFault::BadCount)),
+            Hurt(Patch(2, 11, 1, 1), Told::On(2, PageFault::BadRow)),
+            Hurt(Patch(2, 20, 1, 1), Told::On(2, PageFault::BadRow)),
+            Hurt(Patch(2, 24, 4, 0), Told::On(2, PageFault::BadRow)),
+            Hurt(Patch(2, 24, 4, 0x1000000), Told::On(2, PageFault::BadRow)),
             Hurt(
-                &[Patch(1, 24, &[0, 0, 0, 0])],
-                Told::On(1, PageFault::BadRow),
-            ),
-            Hurt(
-                &[Patch(1, 24, &[1, 0, 0, 0])],
-                Told::On(1, PageFault::BadRow),
-            ),
-            Hurt(
-                &[Patch(
-                    1,
-                    24,
-                    &[
-                        0, 0, 0, 1, 0, 0, 0, 1, 0, 0, 0, 1, 0, 0, 0, 1, 0, 0, 0, 1, 0, 0, 0, 1,
-                    ],
-                )],
-                Told::On(1, PageFault::BadOrder),
-            ),
-            Hurt(&[Patch(1, 64, &[1])], Told::On(1, PageFault::BadPadding)),
-            Hurt(&[Patch(1, 4095, &[1])], Told::On(1, PageFault::BadPadding)),
-            Hurt(&[Patch(2, 0, &[0x53])], Told::On(2, PageFault::WrongKind)),
-            Hurt(&[Patch(2, 1, &[1])], Told::On(2, PageFault::BadCount)),
-            Hurt(&[Patch(2, 2, &[0])], Told::On(2, PageFault::BadCount)),
-            Hurt(&[Patch(2, 3, &[3])], Told::On(2, PageFault::BadCount)),
-            Hurt(&[Patch(2, 11, &[1])], Told::On(2, PageFault::BadRow)),
-            Hurt(&[Patch(2, 20, &[1])], Told::On(2, PageFault::BadRow)),
-            Hurt(
-                &[Patch(2, 24, &[0, 0, 0, 0])],
-                Told::On(2, PageFault::BadRow),
-            ),
-            Hurt(
-                &[Patch(2, 24, &[1, 0, 0, 0])],
-                Told::On(2, PageFault::BadRow),
-            ),
-            Hurt(
-                &[Patch(2, 24, &[0, 0, 0, 5, 0, 0, 0, 5])],
+                Patch(2, 24, 8, 0x500000005),
                 Told::On(2, PageFault::BadOrder),
             ),
-            Hurt(&[Patch(2, 64, &[1])], Told::On(2, PageFault::BadPadding)),
-            Hurt(&[Patch(2, 4095, &[1])], Told::On(2, PageFault::BadPadding)),
-            Hurt(&[Patch(3, 0, &[0x53])], Told::On(3, PageFault::WrongKind)),
-            Hurt(&[Patch(3, 1, &[1])], Told::On(3, PageFault::BadCount)),
-            Hurt(&[Patch(3, 2, &[0])], Told::On(3, PageFault::BadCount)),
-            Hurt(&[Patch(3, 3, &[3])], Told::On(3, PageFault::BadCount)),
-            Hurt(&[Patch(3, 11, &[1])], Told::On(3, PageFault::BadRow)),
-            Hurt(&[Patch(3, 20, &[1])], Told::On(3, PageFault::BadRow)),
+            Hurt(Patch(2, 64, 1, 1), Told::On(2, PageFault::BadPadding)),
+            Hurt(Patch(2, 4095, 1, 1), Told::On(2, PageFault::BadPadding)),
+            Hurt(Patch(3, 0, 1, 83), Told::On(3, PageFault::WrongKind)),
+            Hurt(Patch(3, 1, 1, 1), Told::On(3, PageFault::BadCount)),
+            Hurt(Patch(3, 2, 1, 0), Told::On(3, PageFault::BadCount)),
+            Hurt(Patch(3, 3, 1, 3), Told::On(3, PageFault::BadCount)),
+            Hurt(Patch(3, 11, 1, 1), Told::On(3, PageFault::BadRow)),
+            Hurt(Patch(3, 20, 1, 1), Told::On(3, PageFault::BadRow)),
+            Hurt(Patch(3, 24, 4, 0), Told::On(3, PageFault::BadRow)),
+            Hurt(Patch(3, 24, 4, 0x1000000), Told::On(3, PageFault::BadRow)),
+            Hurt(Patch(3, 44, 1, 1), Told::On(3, PageFault::BadPadding)),
+            Hurt(Patch(3, 4095, 1, 1), Told::On(3, PageFault::BadPadding)),
             Hurt(
-                &[Patch(3, 24, &[0, 0, 0, 0])],
-                Told::On(3, PageFault::BadRow),
-            ),
-            Hurt(
-                &[Patch(3, 24, &[1, 0, 0, 0])],
-                Told::On(3, PageFault::BadRow),
-            ),
-            Hurt(&[Patch(3, 44, &[1])], Told::On(3, PageFault::BadPadding)),
-            Hurt(&[Patch(3, 4095, &[1])], Told::On(3, PageFault::BadPadding)),
-            Hurt(
-                &[Patch(
-                    1,
-                    24,
-                    &[
-                        0, 0, 0, 4, 0, 0, 0, 1, 0, 0, 0, 0, 0, 0, 0, 1, 0, 0, 0, 2, 0, 0, 0, 1, 0,
-                        0, 0, 0, 0, 0, 0, 7, 0, 0, 0, 0, 0, 0, 0, 10,
-                    ],
-                )],
-                Told::On(1, PageFault::BadOrder),
-            ),
-            Hurt(
-                &[Patch(2, 24, &[0, 0, 0, 5, 0, 0, 0, 2])],
+                Patch(2, 24, 8, 0x500000002),
                 Told::On(2, PageFault::BadOrder),
             ),
-            Hurt(&[Patch(1, 19, &[4])], Told::On(1, PageFault::OutOfRegion)),
-            Hurt(&[Patch(3, 19, &[11])], Told::On(3, PageFault::OutOfRegion)),
-            Hurt(&[Patch(2, 19, &[14])], Told::On(2, PageFault::OutOfRegion)),
-            Hurt(&[Patch(1, 23, &[1])], Told::On(1, PageFault::OutOfRegion)),
-            Hurt(&[Patch(1, 19, &[3])], Told::On(1, PageFault::OutOfRegion)),
-            Hurt(&[Patch(3, 19, &[9])], Told::On(3, PageFault::OutOfRegion)),
-            Hurt(&[Patch(3, 23, &[1])], Told::On(3, PageFault::OutOfRegion)),
-            Hurt(&[Patch(2, 19, &[12])], Told::On(2, PageFault::OutOfRegion)),
-            Hurt(&[Patch(2, 23, &[1])], Told::On(2, PageFault::OutOfRegion)),
+            Hurt(Patch(1, 19, 1, 4), Told::On(1, PageFault::OutOfRegion)),
+            Hurt(Patch(3, 19, 1, 11), Told::On(3, PageFault::OutOfRegion)),
+            Hurt(Patch(2, 19, 1, 14), Told::On(2, PageFault::OutOfRegion)),
+            Hurt(Patch(1, 23, 1, 1), Told::On(1, PageFault::OutOfRegion)),
+            Hurt(Patch(1, 19, 1, 3), Told::On(1, PageFault::OutOfRegion)),
+            Hurt(Patch(3, 19, 1, 9), Told::On(3, PageFault::OutOfRegion)),
+            Hurt(Patch(3, 23, 1, 1), Told::On(3, PageFault::OutOfRegion)),
+            Hurt(Patch(2, 19, 1, 12), Told::On(2, PageFault::OutOfRegion)),
+            Hurt(Patch(2, 23, 1, 1), Told::On(2, PageFault::OutOfRegion)),
             Hurt(
-                &[Patch(1, 36, &[0, 0, 0, 3, 0, 0, 0, 1, 0, 0, 0, 0])],
+                Patch(1, 36, 12, 0x30000000100000000),
                 Told::On(1, PageFault::OutOfRegion),
             ),
             Hurt(
-                &[Patch(3, 28, &[0, 0, 0, 2, 0, 0, 0, 3])],
+                Patch(3, 28, 8, 0x200000003),
                 Told::On(3, PageFault::OutOfRegion),
             ),
             Hurt(
-                &[Patch(3, 28, &[0, 0, 0, 3, 0, 0, 0, 3])],
+                Patch(3, 28, 8, 0x300000003),
                 Told::On(3, PageFault::OutOfRegion),
             ),
-            Hurt(&[Patch(4, 36, &[0, 0, 0, 5])], Told::NoPage),
-            Hurt(&[Patch(4, 60, &[0, 0, 0, 5])], Told::NoPage),
-            Hurt(&[Patch(4, 84, &[0, 0, 0, 5])], Told::NoPage),
-            Hurt(&[Patch(4, 84, &[255, 255, 255, 255])], Told::NoPage),
-            Hurt(
-                &[Patch(4, 60, &[0, 0, 0, 4])],
-                Told::On(4, PageFault::WrongKind),
-            ),
-            Hurt(
-                &[Patch(4, 60, &[0, 0, 0, 1])],
-                Told::On(1, PageFault::OutOfRegion),
-            ),
-            Hurt(
-                &[Patch(4, 84, &[0, 0, 0, 3])],
-                Told::On(3, PageFault::OutOfRegion),
-            ),
-            Hurt(
-                &[Patch(4, 36, &[0, 0, 0, 3])],
-                Told::On(3, PageFault::OutOfRegion),
-            ),
-            Hurt(
-                &[Patch(0, 16, &[0, 0, 0, 4])],
-                Told::On(0, PageFault::BadCount),
-            ),
-            Hurt(
-                &[Patch(0, 16, &[0, 0, 0, 0])],
-                Told::On(0, PageFault::BadCount),
-            ),
-            Hurt(
-                &[Patch(0, 12, &[0, 0, 0, 7]), Patch(0, 16, &[0, 0, 0, 6])],
-                Told::On(0, PageFault::BadCount),
-            ),
-            Hurt(
-                &[Patch(0, 20, &[0, 0, 0, 1])],
-                Told::On(0, PageFault::BadCount),
-            ),
-            Hurt(
-                &[Patch(0, 20, &[0, 0, 0, 2])],
-                Told::On(0, PageFault::BadCount),
-            ),
-            Hurt(
-                &[Patch(0, 20, &[0, 0, 0, 4])],
-                Told::On(0, PageFault::BadCount),
-            ),
-            Hurt(
-                &[Patch(0, 20, &[0, 0, 0, 170])],
-                Told::On(0, PageFault::BadCount),
-            ),
-            Hurt(
-                &[Patch(0, 24, &[0, 0, 0, 1])],
-                Told::On(1, PageFault::WrongKind),
-            ),
-            Hurt(&[Patch(0, 24, &[0, 0, 0, 5])], Told::NoPage),
-            Hurt(&[Patch(0, 24, &[255, 255, 255, 255])], Told::NoPage),
-            Hurt(
-                &[Patch(0, 28, &[0, 0, 0, 2])],
-                Told::On(4, PageFault::BadCount),
-            ),
-            Hurt(
-                &[Patch(0, 28, &[0, 0, 0, 16])],
-                Told::On(4, PageFault::BadCount),
-            ),
+            Hurt(Patch(4, 36, 4, 5), Told::NoPage),
+            Hurt(Patch(4, 60, 4, 5), Told::NoPage),
+            Hurt(Patch(4, 84, 4, 5), Told::NoPage),
+            Hurt(Patch(4, 84, 4, 0xffffffff), Told::NoPage),
+            Hurt(Patch(4, 60, 4, 4), Told::On(4, PageFault::WrongKind)),
+            Hurt(Patch(4, 60, 4, 1), Told::On(1, PageFault::OutOfRegion)),
+            Hurt(Patch(4, 84, 4, 3), Told::On(3, PageFault::OutOfRegion)),
+            Hurt(Patch(4, 36, 4, 3), Told::On(3, PageFault::OutOfRegion)),
+            Hurt(Patch(0, 16, 4, 4), Told::On(0, PageFault::BadCount)),
+            Hurt(Patch(0, 16, 4, 0), Told::On(0, PageFault::BadCount)),
+            Hurt(Patch(0, 20, 4, 1), Told::On(0, PageFault::BadCount)),
+            Hurt(Patch(0, 20, 4, 2), Told::On(0, PageFault::BadCount)),
+            Hurt(Patch(0, 20, 4, 4), Told::On(0, PageFault::BadCount)),
+            Hurt(Patch(0, 20, 4, 170), Told::On(0, PageFault::BadCount)),
+            Hurt(Patch(0, 24, 4, 1), Told::On(1, PageFault::WrongKind)),
+            Hurt(Patch(0, 24, 4, 5), Told::NoPage),
+            Hurt(Patch(0, 24, 4, 0xffffffff), Told::NoPage),
+            Hurt(Patch(0, 28, 4, 2), Told::On(4, PageFault::BadCount)),
+            Hurt(Patch(0, 28, 4, 16), Told::On(4, PageFault::BadCount)),
         ],
     ),
+    Try::Refuse(
+        Pages::Bytes(&FIVE_2),
+        &[
+            Patch(1, 24, 16, 0x1000000010000000100000001),
+            Patch(1, 40, 8, 0x100000001),
+        ],
+        Told::On(1, PageFault::BadOrder),
+    ),
+    Try::Refuse(
+        Pages::Bytes(&FIVE_2),
+        &[
+            Patch(1, 24, 16, 0x4000000010000000000000001),
+            Patch(1, 40, 16, 0x2000000010000000000000007),
+            Patch(1, 56, 8, 10),
+        ],
+        Told::On(1, PageFault::BadOrder),
+    ),
+    Try::Refuse(
+        Pages::Bytes(&FIVE_2),
+        &[Patch(0, 12, 4, 7), Patch(0, 16, 4, 6)],
+        Told::On(0, PageFault::BadCount),
+    ),
+];
+
+// Directories that are refused.
+static DIRECTORIES: &[Try] = &[
     // A directory of one page.
     Try::Refuses(
         Pages::Bytes(&FIVE_1),
         UNCLEAN,
         &[
-            Hurt(&[Patch(4, 0, &[0x49])], Told::On(4, PageFault::WrongKind)),
-            Hurt(&[Patch(4, 0, &[0x52])], Told::On(4, PageFault::WrongKind)),
-            Hurt(&[Patch(4, 2, &[0, 0])], Told::On(4, PageFault::BadCount)),
-            Hurt(&[Patch(4, 2, &[0, 171])], Told::On(4, PageFault::BadCount)),
-            Hurt(&[Patch(4, 2, &[1, 3])], Told::On(4, PageFault::BadCount)),
-            Hurt(&[Patch(4, 2, &[0, 2])], Told::On(4, PageFault::BadPadding)),
+            Hurt(Patch(4, 0, 1, 73), Told::On(4, PageFault::WrongKind)),
+            Hurt(Patch(4, 0, 1, 82), Told::On(4, PageFault::WrongKind)),
+            Hurt(Patch(4, 2, 2, 0), Told::On(4, PageFault::BadCount)),
+            Hurt(Patch(4, 2, 2, 171), Told::On(4, PageFault::BadCount)),
+            Hurt(Patch(4, 2, 2, 259), Told::On(4, PageFault::BadCount)),
+            Hurt(Patch(4, 2, 2, 2), Told::On(4, PageFault::BadPadding)),
             Hurt(
-                &[Patch(4, 2, &[0, 2]), Patch(4, 64, &[0; 24])],
-                Told::On(4, PageFault::BadCount),
-            ),
-            Hurt(
-                &[Patch(4, 2, &[0, 4, 0, 0, 0, 0, 0, 0, 0, 0, 0, 0, 0, 0])],
+                Patch(4, 2, 14, 0x4000000000000000000000000),
                 Told::On(4, PageFault::BadRow),
             ),
-            Hurt(
-                &[Patch(4, 4, &[0, 0, 0, 1])],
-                Told::On(4, PageFault::BadCount),
-            ),
-            Hurt(
-                &[Patch(4, 4, &[0, 0, 0, 4])],
-                Told::On(4, PageFault::BadCount),
-            ),
-            Hurt(
-                &[Patch(4, 4, &[0, 0, 0, 5])],
-                Told::On(4, PageFault::BadCount),
-            ),
-            Hurt(&[Patch(4, 23, &[1])], Told::On(4, PageFault::BadRow)),
-            Hurt(&[Patch(4, 32, &[1])], Told::On(4, PageFault::BadRow)),
-            Hurt(
-                &[Patch(4, 36, &[0, 0, 0, 0])],
-                Told::On(4, PageFault::BadRow),
-            ),
-            Hurt(&[Patch(4, 47, &[1])], Told::On(4, PageFault::BadRow)),
-            Hurt(
-                &[Patch(4, 60, &[0, 0, 0, 0])],
-                Told::On(4, PageFault::BadRow),
-            ),
-            Hurt(
-                &[Patch(4, 84, &[0, 0, 0, 0])],
-                Told::On(4, PageFault::BadRow),
-            ),
-            Hurt(&[Patch(4, 55, &[0])], Told::On(4, PageFault::BadOrder)),
-            Hurt(&[Patch(4, 55, &[13])], Told::On(4, PageFault::BadOrder)),
-            Hurt(&[Patch(4, 79, &[10])], Told::On(4, PageFault::BadOrder)),
-            Hurt(&[Patch(4, 79, &[9])], Told::On(4, PageFault::BadOrder)),
-            Hurt(&[Patch(4, 31, &[1])], Told::On(4, PageFault::BadOrder)),
-            Hurt(&[Patch(4, 35, &[1])], Told::On(4, PageFault::BadOrder)),
-            Hurt(&[Patch(4, 1, &[1])], Told::On(4, PageFault::BadPadding)),
-            Hurt(&[Patch(4, 8, &[1])], Told::On(4, PageFault::BadPadding)),
-            Hurt(&[Patch(4, 15, &[1])], Told::On(4, PageFault::BadPadding)),
-            Hurt(&[Patch(4, 88, &[1])], Told::On(4, PageFault::BadPadding)),
-            Hurt(&[Patch(4, 4095, &[1])], Told::On(4, PageFault::BadPadding)),
+            Hurt(Patch(4, 4, 4, 1), Told::On(4, PageFault::BadCount)),
+            Hurt(Patch(4, 4, 4, 4), Told::On(4, PageFault::BadCount)),
+            Hurt(Patch(4, 4, 4, 5), Told::On(4, PageFault::BadCount)),
+            Hurt(Patch(4, 23, 1, 1), Told::On(4, PageFault::BadRow)),
+            Hurt(Patch(4, 32, 1, 1), Told::On(4, PageFault::BadRow)),
+            Hurt(Patch(4, 36, 4, 0), Told::On(4, PageFault::BadRow)),
+            Hurt(Patch(4, 47, 1, 1), Told::On(4, PageFault::BadRow)),
+            Hurt(Patch(4, 60, 4, 0), Told::On(4, PageFault::BadRow)),
+            Hurt(Patch(4, 84, 4, 0), Told::On(4, PageFault::BadRow)),
+            Hurt(Patch(4, 55, 1, 0), Told::On(4, PageFault::BadOrder)),
+            Hurt(Patch(4, 55, 1, 13), Told::On(4, PageFault::BadOrder)),
+            Hurt(Patch(4, 79, 1, 10), Told::On(4, PageFault::BadOrder)),
+            Hurt(Patch(4, 79, 1, 9), Told::On(4, PageFault::BadOrder)),
+            Hurt(Patch(4, 31, 1, 1), Told::On(4, PageFault::BadOrder)),
+            Hurt(Patch(4, 35, 1, 1), Told::On(4, PageFault::BadOrder)),
+            Hurt(Patch(4, 1, 1, 1), Told::On(4, PageFault::BadPadding)),
+            Hurt(Patch(4, 8, 1, 1), Told::On(4, PageFault::BadPadding)),
+            Hurt(Patch(4, 15, 1, 1), Told::On(4, PageFault::BadPadding)),
+            Hurt(Patch(4, 88, 1, 1), Told::On(4, PageFault::BadPadding)),
+            Hurt(Patch(4, 4095, 1, 1), Told::On(4, PageFault::BadPadding)),
         ],
     ),
+    Try::Refuse(
+        Pages::Bytes(&FIVE_1),
+        &[Patch(4, 2, 2, 2), Patch(4, 64, 16, 0), Patch(4, 80, 8, 0)],
+        Told::On(4, PageFault::BadCount),
+    ),
+    // A directory of two pages.
+    Try::Refuses(
+        Pages::Line(171, 2),
+        UNCLEAN,
+        &[
+            Hurt(Patch(1, 4, 4, 0), Told::On(1, PageFault::BadCount)),
+            Hurt(Patch(1, 4, 4, 1), Told::On(1, PageFault::BadCount)),
+            Hurt(Patch(1, 4, 4, 3), Told::On(3, PageFault::WrongKind)),
+            Hurt(Patch(2, 4, 4, 1), Told::On(2, PageFault::BadCount)),
+            Hurt(Patch(2, 4, 4, 2), Told::On(2, PageFault::BadCount)),
+            Hurt(Patch(1, 4, 4, 174), Told::NoPage),
+            Hurt(Patch(1, 2, 2, 169), Told::On(1, PageFault::BadPadding)),
+            Hurt(Patch(2, 2, 2, 2), Told::On(2, PageFault::BadRow)),
+            Hurt(Patch(2, 0, 1, 73), Told::On(2, PageFault::WrongKind)),
+            Hurt(Patch(2, 16, 16, 338), Told::On(2, PageFault::BadOrder)),
+            Hurt(Patch(2, 16, 16, 337), Told::On(2, PageFault::BadOrder)),
+            Hurt(Patch(2, 16, 16, 0), Told::On(2, PageFault::BadOrder)),
+            Hurt(Patch(2, 36, 4, 174), Told::NoPage),
+            Hurt(Patch(1, 4092, 4, 174), Told::NoPage),
+            Hurt(Patch(2, 36, 4, 172), Told::On(172, PageFault::OutOfRegion)),
+            Hurt(Patch(2, 36, 4, 2), Told::On(2, PageFault::WrongKind)),
+            Hurt(Patch(172, 0, 1, 83), Told::On(172, PageFault::WrongKind)),
+            Hurt(Patch(173, 0, 1, 83), Told::On(173, PageFault::WrongKind)),
+            Hurt(Patch(173, 4095, 1, 1), Told::On(173, PageFault::BadPadding)),
+            Hurt(Patch(0, 20, 4, 340), Told::On(2, PageFault::BadCount)),
+            Hurt(Patch(0, 16, 4, 341), Told::On(0, PageFault::BadCount)),
+        ],
+    ),
+    Try::Refuse(
+        Pages::Line(171, 2),
+        &[
+            Patch(1, 2, 2, 169),
+            Patch(1, 4072, 16, 0),
+            Patch(1, 4088, 8, 0),
+        ],
+        Told::On(1, PageFault::BadCount),
+    ),
+    Try::Refuse(
+        Pages::Line(171, 2),
+        &[Patch(2, 2, 2, 2), Patch(2, 40, 16, 342), Patch(2, 56, 8, 3)],
+        Told::On(2, PageFault::BadCount),
+    ),
+    Try::Refuse(
+        Pages::Line(171, 2),
+        &[Patch(0, 20, 4, 170), Patch(0, 28, 4, 1)],
+        Told::On(1, PageFault::BadCount),
+    ),
+    Try::Refuse(
+        Pages::Line(171, 2),
+        &[Patch(0, 20, 4, 341), Patch(0, 28, 4, 3)],
+        Told::On(2, PageFault::BadCount),
+    ),
+];
+
+// Indexes that are refused.
+static INDEXES: &[Try] = &[
     // An index of one page.
     Try::Refuses(
         Pages::Bytes(&FIVE_2),
         UNCLEAN,
         &[
-            Hurt(&[Patch(4, 0, &[0x44])], Told::On(4, PageFault::WrongKind)),
-            Hurt(&[Patch(4, 0, &[0x52])], Told::On(4, PageFault::WrongKind)),
-            Hurt(&[Patch(4, 2, &[0, 0])], Told::On(4, PageFault::BadCount)),
-            Hurt(&[Patch(4, 2, &[0, 171])], Told::On(4, PageFault::BadCount)),
-            Hurt(&[Patch(4, 2, &[1, 3])], Told::On(4, PageFault::BadCount)),
-            Hurt(&[Patch(4, 1, &[0])], Told::On(4, PageFault::BadCount)),
-            Hurt(&[Patch(4, 1, &[17])], Told::On(4, PageFault::BadCount)),
-            Hurt(&[Patch(4, 1, &[2])], Told::On(4, PageFault::BadCount)),
-            Hurt(&[Patch(4, 23, &[1])], Told::On(4, PageFault::BadRow)),
-            Hurt(&[Patch(4, 32, &[1])], Told::On(4, PageFault::BadRow)),
-            Hurt(
-                &[Patch(4, 36, &[0, 0, 0, 0])],
-                Told::On(4, PageFault::BadRow),
-            ),
-            Hurt(&[Patch(4, 47, &[1])], Told::On(4, PageFault::BadRow)),
-            Hurt(
-                &[Patch(4, 60, &[0, 0, 0, 0])],
-                Told::On(4, PageFault::BadRow),
-            ),
-            Hurt(
-                &[Patch(4, 84, &[0, 0, 0, 0])],
-                Told::On(4, PageFault::BadRow),
-            ),
-            Hurt(&[Patch(4, 55, &[0])], Told::On(4, PageFault::BadOrder)),
-            Hurt(&[Patch(4, 55, &[13])], Told::On(4, PageFault::BadOrder)),
-            Hurt(&[Patch(4, 79, &[10])], Told::On(4, PageFault::BadOrder)),
-            Hurt(&[Patch(4, 79, &[9])], Told::On(4, PageFault::BadOrder)),
-            Hurt(&[Patch(4, 4, &[1])], Told::On(4, PageFault::BadPadding)),
-            Hurt(&[Patch(4, 8, &[1])], Told::On(4, PageFault::BadPadding)),
-            Hurt(&[Patch(4, 15, &[1])], Told::On(4, PageFault::BadPadding)),
-            Hurt(&[Patch(4, 88, &[1])], Told::On(4, PageFault::BadPadding)),
-            Hurt(&[Patch(4, 4095, &[1])], Told::On(4, PageFault::BadPadding)),
-            Hurt(&[Patch(4, 31, &[1])], Told::On(4, PageFault::OutOfRegion)),
-            Hurt(&[Patch(4, 35, &[1])], Told::On(4, PageFault::OutOfRegion)),
+            Hurt(Patch(4, 0, 1, 68), Told::On(4, PageFault::WrongKind)),
+            Hurt(Patch(4, 0, 1, 82), Told::On(4, PageFault::WrongKind)),
+            Hurt(Patch(4, 2, 2, 0), Told::On(4, PageFault::BadCount)),
+            Hurt(Patch(4, 2, 2, 171), Told::On(4, PageFault::BadCount)),
+            Hurt(Patch(4, 2, 2, 259), Told::On(4, PageFault::BadCount)),
+            Hurt(Patch(4, 1, 1, 0), Told::On(4, PageFault::BadCount)),
+            Hurt(Patch(4, 1, 1, 17), Told::On(4, PageFault::BadCount)),
+            Hurt(Patch(4, 1, 1, 2), Told::On(4, PageFault::BadCount)),
+            Hurt(Patch(4, 23, 1, 1), Told::On(4, PageFault::BadRow)),
+            Hurt(Patch(4, 32, 1, 1), Told::On(4, PageFault::BadRow)),
+            Hurt(Patch(4, 36, 4, 0), Told::On(4, PageFault::BadRow)),
+            Hurt(Patch(4, 47, 1, 1), Told::On(4, PageFault::BadRow)),
+            Hurt(Patch(4, 60, 4, 0), Told::On(4, PageFault::BadRow)),
+            Hurt(Patch(4, 84, 4, 0), Told::On(4, PageFault::BadRow)),
+            Hurt(Patch(4, 55, 1, 0), Told::On(4, PageFault::BadOrder)),
+            Hurt(Patch(4, 55, 1, 13), Told::On(4, PageFault::BadOrder)),
+            Hurt(Patch(4, 79, 1, 10), Told::On(4, PageFault::BadOrder)),
+            Hurt(Patch(4, 79, 1, 9), Told::On(4, PageFault::BadOrder)),
+            Hurt(Patch(4, 4, 1, 1), Told::On(4, PageFault::BadPadding)),
+            Hurt(Patch(4, 8, 1, 1), Told::On(4, PageFault::BadPadding)),
+            Hurt(Patch(4, 15, 1, 1), Told::On(4, PageFault::BadPadding)),
+            Hurt(Patch(4, 88, 1, 1), Told::On(4, PageFault::BadPadding)),
+            Hurt(Patch(4, 4095, 1, 1), Told::On(4, PageFault::BadPadding)),
+            Hurt(Patch(4, 31, 1, 1), Told::On(4, PageFault::OutOfRegion)),
+            Hurt(Patch(4, 35, 1, 1), Told::On(4, PageFault::OutOfRegion)),
         ],
     ),
     // An index of two levels.
@@ -1726,174 +1659,129 @@ static REFUSED: &[Try] = &[
         Pages::Bytes(&LEVELS_2),
         UNCLEAN,
         &[
-            Hurt(&[Patch(6, 1, &[1])], Told::On(6, PageFault::BadCount)),
-            Hurt(&[Patch(6, 1, &[3])], Told::On(6, PageFault::BadCount)),
-            Hurt(&[Patch(4, 1, &[2])], Told::On(4, PageFault::BadCount)),
-            Hurt(&[Patch(5, 1, &[2])], Told::On(5, PageFault::BadCount)),
-            Hurt(&[Patch(4, 1, &[0])], Told::On(4, PageFault::BadCount)),
-            Hurt(&[Patch(5, 1, &[17])], Told::On(5, PageFault::BadCount)),
-            Hurt(
-                &[Patch(0, 28, &[0, 0, 0, 1])],
-                Told::On(6, PageFault::BadCount),
-            ),
-            Hurt(&[Patch(4, 0, &[0x44])], Told::On(4, PageFault::WrongKind)),
-            Hurt(&[Patch(5, 0, &[0x52])], Told::On(5, PageFault::WrongKind)),
-            Hurt(&[Patch(6, 39, &[1])], Told::On(1, PageFault::WrongKind)),
-            Hurt(&[Patch(6, 63, &[3])], Told::On(3, PageFault::WrongKind)),
-            Hurt(&[Patch(4, 31, &[1])], Told::On(4, PageFault::OutOfRegion)),
-            Hurt(&[Patch(5, 31, &[14])], Told::On(5, PageFault::OutOfRegion)),
-            Hurt(&[Patch(5, 31, &[12])], Told::On(5, PageFault::OutOfRegion)),
-            Hurt(&[Patch(5, 35, &[1])], Told::On(5, PageFault::OutOfRegion)),
-            Hurt(&[Patch(6, 31, &[1])], Told::On(6, PageFault::OutOfRegion)),
-            Hurt(&[Patch(6, 55, &[14])], Told::On(5, PageFault::OutOfRegion)),
-            Hurt(&[Patch(6, 55, &[10])], Told::On(4, PageFault::OutOfRegion)),
-            Hurt(&[Patch(6, 55, &[9])], Told::On(4, PageFault::OutOfRegion)),
-            Hurt(&[Patch(4, 55, &[13])], Told::On(4, PageFault::OutOfRegion)),
-            Hurt(&[Patch(4, 55, &[14])], Told::On(4, PageFault::OutOfRegion)),
-            Hurt(&[Patch(6, 63, &[4])], Told::On(4, PageFault::OutOfRegion)),
-            Hurt(&[Patch(6, 63, &[6])], Told::On(6, PageFault::BadCount)),
-            Hurt(&[Patch(6, 39, &[6])], Told::On(6, PageFault::BadCount)),
-            Hurt(&[Patch(6, 63, &[7])], Told::NoPage),
-            Hurt(&[Patch(6, 39, &[7])], Told::NoPage),
-            Hurt(&[Patch(4, 63, &[7])], Told::NoPage),
-            Hurt(&[Patch(5, 39, &[7])], Told::NoPage),
-            Hurt(&[Patch(0, 27, &[7])], Told::NoPage),
-            Hurt(
-                &[Patch(0, 20, &[0, 0, 0, 1])],
-                Told::On(0, PageFault::BadCount),
-            ),
-            Hurt(
-                &[Patch(0, 20, &[0, 0, 0, 2])],
-                Told::On(0, PageFault::BadCount),
-            ),
-            Hurt(
-                &[Patch(0, 20, &[0, 0, 0, 4])],
-                Told::On(0, PageFault::BadCount),
-            ),
-            Hurt(
-                &[Patch(0, 16, &[0, 0, 0, 4])],
-                Told::On(0, PageFault::BadCount),
-            ),
-            Hurt(
-                &[Patch(4, 2, &[0, 1]), Patch(4, 40, &[0; 24])],
-                Told::On(0, PageFault::BadCount),
-            ),
+            Hurt(Patch(6, 1, 1, 1), Told::On(6, PageFault::BadCount)),
+            Hurt(Patch(6, 1, 1, 3), Told::On(6, PageFault::BadCount)),
+            Hurt(Patch(4, 1, 1, 2), Told::On(4, PageFault::BadCount)),
+            Hurt(Patch(5, 1, 1, 2), Told::On(5, PageFault::BadCount)),
+            Hurt(Patch(4, 1, 1, 0), Told::On(4, PageFault::BadCount)),
+            Hurt(Patch(5, 1, 1, 17), Told::On(5, PageFault::BadCount)),
+            Hurt(Patch(0, 28, 4, 1), Told::On(6, PageFault::BadCount)),
+            Hurt(Patch(4, 0, 1, 68), Told::On(4, PageFault::WrongKind)),
+            Hurt(Patch(5, 0, 1, 82), Told::On(5, PageFault::WrongKind)),
+            Hurt(Patch(6, 39, 1, 1), Told::On(1, PageFault::WrongKind)),
+            Hurt(Patch(6, 63, 1, 3), Told::On(3, PageFault::WrongKind)),
+            Hurt(Patch(4, 31, 1, 1), Told::On(4, PageFault::OutOfRegion)),
+            Hurt(Patch(5, 31, 1, 14), Told::On(5, PageFault::OutOfRegion)),
+            Hurt(Patch(5, 31, 1, 12), Told::On(5, PageFault::OutOfRegion)),
+            Hurt(Patch(5, 35, 1, 1), Told::On(5, PageFault::OutOfRegion)),
+            Hurt(Patch(6, 31, 1, 1), Told::On(6, PageFault::OutOfRegion)),
+            Hurt(Patch(6, 55, 1, 14), Told::On(5, PageFault::OutOfRegion)),
+            Hurt(Patch(6, 55, 1, 10), Told::On(4, PageFault::OutOfRegion)),
+            Hurt(Patch(6, 55, 1, 9), Told::On(4, PageFault::OutOfRegion)),
+            Hurt(Patch(4, 55, 1, 13), Told::On(4, PageFault::OutOfRegion)),
+            Hurt(Patch(4, 55, 1, 14), Told::On(4, PageFault::OutOfRegion)),
+            Hurt(Patch(6, 63, 1, 4), Told::On(4, PageFault::OutOfRegion)),
+            Hurt(Patch(6, 63, 1, 6), Told::On(6, PageFault::BadCount)),
+            Hurt(Patch(6, 39, 1, 6), Told::On(6, PageFault::BadCount)),
+            Hurt(Patch(6, 63, 1, 7), Told::NoPage),
+            Hurt(Patch(6, 39, 1, 7), Told::NoPage),
+            Hurt(Patch(4, 63, 1, 7), Told::NoPage),
+            Hurt(Patch(5, 39, 1, 7), Told::NoPage),
+            Hurt(Patch(0, 27, 1, 7), Told::NoPage),
+            Hurt(Patch(0, 20, 4, 1), Told::On(0, PageFault::BadCount)),
+            Hurt(Patch(0, 20, 4, 2), Told::On(0, PageFault::BadCount)),
+            Hurt(Patch(0, 20, 4, 4), Told::On(0, PageFault::BadCount)),
+            Hurt(Patch(0, 16, 4, 4), Told::On(0, PageFault::BadCount)),
         ],
     ),
-    // A directory of two pages.
-    Try::Refuses(
-        Pages::Line(171, 2),
-        UNCLEAN,
-        &[
-            Hurt(
-                &[Patch(1, 4, &[0, 0, 0, 0])],
-                Told::On(1, PageFault::BadCount),
-            ),
-            Hurt(
-                &[Patch(1, 4, &[0, 0, 0, 1])],
-                Told::On(1, PageFault::BadCount),
-            ),
-            Hurt(
-                &[Patch(1, 4, &[0, 0, 0, 3])],
-                Told::On(3, PageFault::WrongKind),
-            ),
-            Hurt(
-                &[Patch(2, 4, &[0, 0, 0, 1])],
-                Told::On(2, PageFault::BadCount),
-            ),
-            Hurt(
-                &[Patch(2, 4, &[0, 0, 0, 2])],
-                Told::On(2, PageFault::BadCount),
-            ),
-            Hurt(&[Patch(1, 4, &[0, 0, 0, 174])], Told::NoPage),
-            Hurt(
-                &[Patch(1, 2, &[0, 169])],
-                Told::On(1, PageFault::BadPadding),
-            ),
-            Hurt(
-                &[Patch(1, 2, &[0, 169]), Patch(1, 4072, &[0; 24])],
-                Told::On(1, PageFault::BadCount),
-            ),
-            Hurt(&[Patch(2, 2, &[0, 2])], Told::On(2, PageFault::BadRow)),
-            Hurt(&[Patch(2, 0, &[0x49])], Told::On(2, PageFault::WrongKind)),
-            Hurt(
-                &[
-                    Patch(2, 2, &[0, 2]),
-                    Patch(
-                        2,
-                        40,
-                        &[
-                            0, 0, 0, 0, 0, 0, 0, 0, 0, 0, 0, 0, 0, 0, 1, 86, 0, 0, 0, 0, 0, 0, 0, 3,
-                        ],
-                    ),
-                ],
-                Told::On(2, PageFault::BadCount),
-            ),
-            Hurt(
-                &[Patch(2, 16, &[0, 0, 0, 0, 0, 0, 0, 0, 0, 0, 0, 0, 0, 0, 1, 82])],
-                Told::On(2, PageFault::BadOrder),
-            ),
-            Hurt(
-                &[Patch(2, 16, &[0, 0, 0, 0, 0, 0, 0, 0, 0, 0, 0, 0, 0, 0, 1, 81])],
-                Told::On(2, PageFault::BadOrder),
-            ),
-            Hurt(
-                &[Patch(2, 16, &[0, 0, 0, 0, 0, 0, 0, 0, 0, 0, 0, 0, 0, 0, 0, 0])],
-                Told::On(2, PageFault::BadOrder),
-            ),
-            Hurt(&[Patch(2, 36, &[0, 0, 0, 174])], Told::NoPage),
-            Hurt(&[Patch(1, 4092, &[0, 0, 0, 174])], Told::NoPage),
-            Hurt(
-                &[Patch(2, 36, &[0, 0, 0, 172])],
-                Told::On(172, PageFault::OutOfRegion),
-            ),
-            Hurt(
-                &[Patch(2, 36, &[0, 0, 0, 2])],
-                Told::On(2, PageFault::WrongKind),
-            ),
-            Hurt(
-                &[Patch(172, 0, &[0x53])],
-                Told::On(172, PageFault::WrongKind),
-            ),
-            Hurt(
-                &[Patch(173, 0, &[0x53])],
-                Told::On(173, PageFault::WrongKind),
-            ),
-            Hurt(
-                &[Patch(173, 4095, &[1])],
-                Told::On(173, PageFault::BadPadding),
-            ),
-            Hurt(
-                &[Patch(0, 20, &[0, 0, 1, 84])],
-                Told::On(2, PageFault::BadCount),
-            ),
-            Hurt(
-                &[Patch(0, 16, &[0, 0, 1, 85])],
-                Told::On(0, PageFault::BadCount),
-            ),
-            Hurt(
-                &[Patch(0, 20, &[0, 0, 0, 170]), Patch(0, 28, &[0, 0, 0, 1])],
-                Told::On(1, PageFault::BadCount),
-            ),
-            Hurt(
-                &[Patch(0, 20, &[0, 0, 1, 85]), Patch(0, 28, &[0, 0, 0, 3])],
-                Told::On(2, PageFault::BadCount),
-            ),
-        ],
+    Try::Refuse(
+        Pages::Bytes(&LEVELS_2),
+        &[Patch(4, 2, 2, 1), Patch(4, 40, 16, 0), Patch(4, 56, 8, 0)],
+        Told::On(0, PageFault::BadCount),
     ),
 ];
 
 #[test]
-fn old_tables_are_upgraded(rt: HostRuntime) {
-    all_go(&rt, rt.alloc(), "upgraded tables", MADE);
+fn upgrades_five_rows_of_format_1(rt: HostRuntime) {
+    all_go(&rt, rt.alloc(), FIVE_OF_1);
 }
 
 #[test]
-fn damaged_old_tables_are_refused(rt: HostRuntime) {
-    all_go(&rt, rt.alloc(), "refused tables", REFUSED);
+fn upgrades_five_rows_of_format_2(rt: HostRuntime) {
+    all_go(&rt, rt.alloc(), FIVE_OF_2);
 }
 
 #[test]
-fn each_call_of_an_upgrade_fails_once(rt: HostRuntime) {
-    all_go(&rt, rt.alloc(), "failing calls", FAILING);
+fn upgrades_an_index_of_two_levels(rt: HostRuntime) {
+    all_go(&rt, rt.alloc(), LEVELS_OF_2);
+}
+
+#[test]
+fn keeps_the_numbers_of_rows(rt: HostRuntime) {
+    all_go(&rt, rt.alloc(), NUMBERS);
+}
+
+#[test]
+fn upgrades_regions_without_rows(rt: HostRuntime) {
+    all_go(&rt, rt.alloc(), WITHOUT_ROWS);
+}
+
+#[test]
+fn upgrades_170_regions(rt: HostRuntime) {
+    all_go(&rt, rt.alloc(), FULL_PAGE);
+}
+
+#[test]
+fn upgrades_171_regions(rt: HostRuntime) {
+    all_go(&rt, rt.alloc(), TWO_PAGES);
+}
+
+#[test]
+fn upgrades_340_regions(rt: HostRuntime) {
+    all_go(&rt, rt.alloc(), TWO_FULL_PAGES);
+}
+
+#[test]
+fn upgrades_341_regions(rt: HostRuntime) {
+    all_go(&rt, rt.alloc(), THREE_PAGES);
+}
+
+#[test]
+fn upgrades_full_regions(rt: HostRuntime) {
+    all_go(&rt, rt.alloc(), FULL_REGIONS);
+}
+
+#[test]
+fn each_call_fails_once(rt: HostRuntime) {
+    all_go(&rt, rt.alloc(), FAILING);
+}
+
+#[test]
+fn refuses_headers_of_format_1(rt: HostRuntime) {
+    all_go(&rt, rt.alloc(), HEADERS_OF_1);
+}
+
+#[test]
+fn refuses_headers_of_format_2(rt: HostRuntime) {
+    all_go(&rt, rt.alloc(), HEADERS_OF_2);
+}
+
+#[test]
+fn refuses_regions_of_format_1(rt: HostRuntime) {
+    all_go(&rt, rt.alloc(), REGIONS_OF_1);
+}
+
+#[test]
+fn refuses_regions_of_format_2(rt: HostRuntime) {
+    all_go(&rt, rt.alloc(), REGIONS_OF_2);
+}
+
+#[test]
+fn refuses_directories(rt: HostRuntime) {
+    all_go(&rt, rt.alloc(), DIRECTORIES);
+}
+
+#[test]
+fn refuses_indexes(rt: HostRuntime) {
+    all_go(&rt, rt.alloc(), INDEXES);
 }
