@@ -1,5 +1,6 @@
 // Tests of trees over stores, and of sweeps and queries over trees, by their public calls alone. `trial` has the steps that
-// they are made of. The values come from worked rows and hand arithmetic, never from the program's own output.
+// they are made of, and owns the tree; `plans` has what is done by a plan. The values come from worked rows and hand arithmetic,
+// never from the program's own output.
 #![tactic(auto)]
 
 #[cfg(test)]

@@ -182,7 +182,7 @@ fn planned(
     }
 }
 
-// What is answered where a plan of the query is carried out so, if there is one; without one, whether the other query is a scan.
+// What is answered where a plan of the query is carried out so, if there is one. Without a query, 1 where the count is a scan.
 pub(crate) fn by_plan(
     alloc: Global,
     tree: &mut Tree<Store>,
@@ -191,11 +191,25 @@ pub(crate) fn by_plan(
 ) -> Answer {
     let columns = tree.schema().columns().len();
     match planned(alloc, tree.schema(), query_of(alloc, columns, ask)) {
-        Ok(plan) => match ask {
-            Some(_) => carried_out(alloc, tree, columns, &plan, work),
-            None => Ok([u128::from(matches!(plan.kind(), Kind::Scan)), 0, 0, 0]),
-        },
+        Ok(plan) => answer_by(alloc, tree, columns, &plan, ask, work),
         Err(_) => NOTHING,
+    }
+}
+
+// The same of its plan.
+fn answer_by(
+    alloc: Global,
+    tree: &mut Tree<Store>,
+    columns: usize,
+    plan: &Plan,
+    ask: Option<Ask>,
+    work: &Work,
+) -> Answer
+    requires { IsSome ask → IsPosed columns plan.now.asked }
+{
+    match ask {
+        Some(_) => carried_out(alloc, tree, columns, plan, work),
+        None => Ok([u128::from(matches!(plan.kind(), Kind::Scan)), 0, 0, 0]),
     }
 }
 

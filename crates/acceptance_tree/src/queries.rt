@@ -5,292 +5,89 @@ use crate::plans::{Ask, Work};
 use crate::samples::Table;
 use crate::trial::{Answer, DEVICE, DONE, Run, Step, YES, goes};
 
-// A sweep, which comes to the last region first: SELECT m FROM t ORDER BY x DESC, m. The regions are on the pages 3, 4 and 1.
+// All five rows are given, of the three regions.
+const ALL: Answer = Ok([3, 5, 5, 0]);
+
+// SELECT m FROM t ORDER BY x DESC, m: its measures, and how it is explained.
+const SWEEP_ROWS: Step = Step::Plan(
+    Some(Ask::Rows((0, true), (2, false))),
+    Work::Execute(&[5, 1, 20, 10, 7]),
+);
+
+const SWEEP_LINES: Step = Step::Plan(
+    Some(Ask::Rows((0, true), (2, false))),
+    Work::Explain("plan sweep x desc\n"),
+);
+
+// SELECT m FROM t ORDER BY m, x: the same.
+const SCAN_ROWS: Step = Step::Plan(
+    Some(Ask::Rows((2, false), (0, false))),
+    Work::Execute(&[1, 5, 7, 10, 20]),
+);
+
+const SCAN_LINES: Step = Step::Plan(
+    Some(Ask::Rows((2, false), (0, false))),
+    Work::Explain("plan scan\n"),
+);
+
+// A sweep, which comes to the last region first. The regions are on the pages 3, 4 and 1.
 const SWEEP: [(Step, Answer); 26] = [
     (Step::Five(3), DONE),
-    (
-        Step::Plan(
-            Some(Ask::Rows((0, true), (2, false))),
-            Work::Execute(&[5, 1, 20, 10, 7]),
-        ),
-        DEVICE,
-    ),
+    (SWEEP_ROWS, DEVICE),
     (Step::Trace, Ok([1, 3, 0, 0])),
-    (
-        Step::Plan(
-            Some(Ask::Rows((0, true), (2, false))),
-            Work::Explain("plan sweep x desc\n"),
-        ),
-        YES,
-    ),
-    (
-        Step::Plan(
-            Some(Ask::Rows((0, true), (2, false))),
-            Work::Execute(&[5, 1, 20, 10, 7]),
-        ),
-        Ok([3, 5, 5, 0]),
-    ),
-    (
-        Step::Plan(
-            Some(Ask::Rows((0, true), (2, false))),
-            Work::Explain("plan sweep x desc\n"),
-        ),
-        YES,
-    ),
-    (
-        Step::Plan(
-            Some(Ask::Rows((0, true), (2, false))),
-            Work::Execute(&[5, 1, 20, 10, 7]),
-        ),
-        Ok([3, 5, 5, 0]),
-    ),
+    (SWEEP_LINES, YES),
+    (SWEEP_ROWS, ALL),
+    (SWEEP_LINES, YES),
+    (SWEEP_ROWS, ALL),
     (Step::Five(4), DONE),
-    (
-        Step::Plan(
-            Some(Ask::Rows((0, true), (2, false))),
-            Work::Execute(&[5, 1, 20, 10, 7]),
-        ),
-        DEVICE,
-    ),
+    (SWEEP_ROWS, DEVICE),
     (Step::Trace, Ok([2, 4, 0, 0])),
-    (
-        Step::Plan(
-            Some(Ask::Rows((0, true), (2, false))),
-            Work::Explain("plan sweep x desc\n"),
-        ),
-        YES,
-    ),
-    (
-        Step::Plan(
-            Some(Ask::Rows((0, true), (2, false))),
-            Work::Execute(&[5, 1, 20, 10, 7]),
-        ),
-        Ok([3, 5, 5, 0]),
-    ),
-    (
-        Step::Plan(
-            Some(Ask::Rows((0, true), (2, false))),
-            Work::Explain("plan sweep x desc\n"),
-        ),
-        YES,
-    ),
-    (
-        Step::Plan(
-            Some(Ask::Rows((0, true), (2, false))),
-            Work::Execute(&[5, 1, 20, 10, 7]),
-        ),
-        Ok([3, 5, 5, 0]),
-    ),
+    (SWEEP_LINES, YES),
+    (SWEEP_ROWS, ALL),
+    (SWEEP_LINES, YES),
+    (SWEEP_ROWS, ALL),
     (Step::Five(5), DONE),
-    (
-        Step::Plan(
-            Some(Ask::Rows((0, true), (2, false))),
-            Work::Execute(&[5, 1, 20, 10, 7]),
-        ),
-        DEVICE,
-    ),
+    (SWEEP_ROWS, DEVICE),
     (Step::Trace, Ok([3, 1, 0, 0])),
-    (
-        Step::Plan(
-            Some(Ask::Rows((0, true), (2, false))),
-            Work::Explain("plan sweep x desc\n"),
-        ),
-        YES,
-    ),
-    (
-        Step::Plan(
-            Some(Ask::Rows((0, true), (2, false))),
-            Work::Execute(&[5, 1, 20, 10, 7]),
-        ),
-        Ok([3, 5, 5, 0]),
-    ),
-    (
-        Step::Plan(
-            Some(Ask::Rows((0, true), (2, false))),
-            Work::Explain("plan sweep x desc\n"),
-        ),
-        YES,
-    ),
-    (
-        Step::Plan(
-            Some(Ask::Rows((0, true), (2, false))),
-            Work::Execute(&[5, 1, 20, 10, 7]),
-        ),
-        Ok([3, 5, 5, 0]),
-    ),
+    (SWEEP_LINES, YES),
+    (SWEEP_ROWS, ALL),
+    (SWEEP_LINES, YES),
+    (SWEEP_ROWS, ALL),
     (Step::Five(6), DONE),
-    (
-        Step::Plan(
-            Some(Ask::Rows((0, true), (2, false))),
-            Work::Explain("plan sweep x desc\n"),
-        ),
-        YES,
-    ),
-    (
-        Step::Plan(
-            Some(Ask::Rows((0, true), (2, false))),
-            Work::Execute(&[5, 1, 20, 10, 7]),
-        ),
-        Ok([3, 5, 5, 0]),
-    ),
-    (
-        Step::Plan(
-            Some(Ask::Rows((0, true), (2, false))),
-            Work::Explain("plan sweep x desc\n"),
-        ),
-        YES,
-    ),
-    (
-        Step::Plan(
-            Some(Ask::Rows((0, true), (2, false))),
-            Work::Execute(&[5, 1, 20, 10, 7]),
-        ),
-        Ok([3, 5, 5, 0]),
-    ),
+    (SWEEP_LINES, YES),
+    (SWEEP_ROWS, ALL),
+    (SWEEP_LINES, YES),
+    (SWEEP_ROWS, ALL),
 ];
 
-// A scan: SELECT m FROM t ORDER BY m, x. The regions are on the pages 1, 4 and 3.
+// A scan. The regions are on the pages 1, 4 and 3.
 const SCAN: [(Step, Answer); 26] = [
     (Step::Five(3), DONE),
-    (
-        Step::Plan(
-            Some(Ask::Rows((2, false), (0, false))),
-            Work::Execute(&[1, 5, 7, 10, 20]),
-        ),
-        DEVICE,
-    ),
+    (SCAN_ROWS, DEVICE),
     (Step::Trace, Ok([1, 1, 0, 0])),
-    (
-        Step::Plan(
-            Some(Ask::Rows((2, false), (0, false))),
-            Work::Explain("plan scan\n"),
-        ),
-        YES,
-    ),
-    (
-        Step::Plan(
-            Some(Ask::Rows((2, false), (0, false))),
-            Work::Execute(&[1, 5, 7, 10, 20]),
-        ),
-        Ok([3, 5, 5, 0]),
-    ),
-    (
-        Step::Plan(
-            Some(Ask::Rows((2, false), (0, false))),
-            Work::Explain("plan scan\n"),
-        ),
-        YES,
-    ),
-    (
-        Step::Plan(
-            Some(Ask::Rows((2, false), (0, false))),
-            Work::Execute(&[1, 5, 7, 10, 20]),
-        ),
-        Ok([3, 5, 5, 0]),
-    ),
+    (SCAN_LINES, YES),
+    (SCAN_ROWS, ALL),
+    (SCAN_LINES, YES),
+    (SCAN_ROWS, ALL),
     (Step::Five(4), DONE),
-    (
-        Step::Plan(
-            Some(Ask::Rows((2, false), (0, false))),
-            Work::Execute(&[1, 5, 7, 10, 20]),
-        ),
-        DEVICE,
-    ),
+    (SCAN_ROWS, DEVICE),
     (Step::Trace, Ok([2, 4, 0, 0])),
-    (
-        Step::Plan(
-            Some(Ask::Rows((2, false), (0, false))),
-            Work::Explain("plan scan\n"),
-        ),
-        YES,
-    ),
-    (
-        Step::Plan(
-            Some(Ask::Rows((2, false), (0, false))),
-            Work::Execute(&[1, 5, 7, 10, 20]),
-        ),
-        Ok([3, 5, 5, 0]),
-    ),
-    (
-        Step::Plan(
-            Some(Ask::Rows((2, false), (0, false))),
-            Work::Explain("plan scan\n"),
-        ),
-        YES,
-    ),
-    (
-        Step::Plan(
-            Some(Ask::Rows((2, false), (0, false))),
-            Work::Execute(&[1, 5, 7, 10, 20]),
-        ),
-        Ok([3, 5, 5, 0]),
-    ),
+    (SCAN_LINES, YES),
+    (SCAN_ROWS, ALL),
+    (SCAN_LINES, YES),
+    (SCAN_ROWS, ALL),
     (Step::Five(5), DONE),
-    (
-        Step::Plan(
-            Some(Ask::Rows((2, false), (0, false))),
-            Work::Execute(&[1, 5, 7, 10, 20]),
-        ),
-        DEVICE,
-    ),
+    (SCAN_ROWS, DEVICE),
     (Step::Trace, Ok([3, 3, 0, 0])),
-    (
-        Step::Plan(
-            Some(Ask::Rows((2, false), (0, false))),
-            Work::Explain("plan scan\n"),
-        ),
-        YES,
-    ),
-    (
-        Step::Plan(
-            Some(Ask::Rows((2, false), (0, false))),
-            Work::Execute(&[1, 5, 7, 10, 20]),
-        ),
-        Ok([3, 5, 5, 0]),
-    ),
-    (
-        Step::Plan(
-            Some(Ask::Rows((2, false), (0, false))),
-            Work::Explain("plan scan\n"),
-        ),
-        YES,
-    ),
-    (
-        Step::Plan(
-            Some(Ask::Rows((2, false), (0, false))),
-            Work::Execute(&[1, 5, 7, 10, 20]),
-        ),
-        Ok([3, 5, 5, 0]),
-    ),
+    (SCAN_LINES, YES),
+    (SCAN_ROWS, ALL),
+    (SCAN_LINES, YES),
+    (SCAN_ROWS, ALL),
     (Step::Five(6), DONE),
-    (
-        Step::Plan(
-            Some(Ask::Rows((2, false), (0, false))),
-            Work::Explain("plan scan\n"),
-        ),
-        YES,
-    ),
-    (
-        Step::Plan(
-            Some(Ask::Rows((2, false), (0, false))),
-            Work::Execute(&[1, 5, 7, 10, 20]),
-        ),
-        Ok([3, 5, 5, 0]),
-    ),
-    (
-        Step::Plan(
-            Some(Ask::Rows((2, false), (0, false))),
-            Work::Explain("plan scan\n"),
-        ),
-        YES,
-    ),
-    (
-        Step::Plan(
-            Some(Ask::Rows((2, false), (0, false))),
-            Work::Execute(&[1, 5, 7, 10, 20]),
-        ),
-        Ok([3, 5, 5, 0]),
-    ),
+    (SCAN_LINES, YES),
+    (SCAN_ROWS, ALL),
+    (SCAN_LINES, YES),
+    (SCAN_ROWS, ALL),
 ];
 
 static BY_SWEEP: Run = Run {
