@@ -24,6 +24,9 @@ pub(crate) enum Pages {
     // A table of format 1 of one dimension and no measure: so many regions, of so many rows each, which fill their pages. The row k
     // is at k - 1. The directory is on page 1 and those after it, and the regions' pages follow in order.
     Line(u32, u32),
+    // A table of format 1 of four dimensions and four measures, with one region of 64 rows on page 1, and the directory on page 2. All
+    // its numbers are 0, but those of the first measure are -1.
+    Wide,
 }
 
 // A table of an older format: its pages, but for some numbers, and one more.
@@ -215,6 +218,7 @@ fn count_pages(pages: &Pages) -> u32 {
         Pages::Line(regions, _) => chain_of(*regions)
             .saturating_add(*regions)
             .saturating_add(1),
+        Pages::Wide => 3,
     }
 }
 
@@ -238,6 +242,7 @@ fn page_of(old: &Old, number: u32) -> Page {
             }
         }
         Pages::Line(regions, rows) => spell_line(&mut page, regions, rows, number),
+        Pages::Wide => spell_wide(&mut page, number),
     }
     for patch in old.patches {
         apply(&mut page, patch, number);
@@ -274,11 +279,16 @@ static LINE: &[(usize, u32, u128)] = &[
     (65, 2, 0x0178),
 ];
 
-// Spells the header of such a table.
-fn spell_header(page: &mut [u8], regions: u32, rows: u32) {
-    for (at, width, number) in LINE {
+// Spells these numbers.
+fn spell(page: &mut [u8], numbers: &[(usize, u32, u128)]) {
+    for (at, width, number) in numbers {
         poke(page, *at, *width, *number);
     }
+}
+
+// Spells the header of such a table.
+fn spell_header(page: &mut [u8], regions: u32, rows: u32) {
+    spell(page, LINE);
     let count = u128::from(regions.wrapping_mul(rows));
     poke(page, 8, 1, u128::from(rows));
     poke(page, 12, 4, count + 1);
@@ -327,6 +337,49 @@ fn spell_rows(page: &mut [u8], region: u32, rows: u32) {
         let at = (i as usize).wrapping_mul(4).wrapping_add(24);
         poke(page, at, 4, u128::from(x) + 1);
         poke(page, at.wrapping_add(width), 4, u128::from(x));
+    }
+}
+
+// The header of the wide table: the next number is 65, there are 64 rows and one region, and the directory is on page 2, of one page;
+// the names t, and a to h.
+static WIDE: &[(usize, u32, u128)] = &[
+    (0, 4, 0x5542_5452),
+    (4, 1, 1),
+    (6, 3, 0x04_0440),
+    (12, 4, 65),
+    (16, 4, 64),
+    (20, 4, 1),
+    (24, 4, 2),
+    (28, 4, 1),
+    (32, 2, 0x0174),
+    (65, 2, 0x0161),
+    (98, 2, 0x0162),
+    (131, 2, 0x0163),
+    (164, 2, 0x0164),
+    (197, 2, 0x0165),
+    (230, 2, 0x0166),
+    (263, 2, 0x0167),
+    (296, 2, 0x0168),
+];
+
+// Its directory.
+static WIDE_DIRECTORY: &[(usize, u32, u128)] = &[(0, 4, 0x4400_0001), (36, 4, 1)];
+
+// Spells a page of it.
+fn spell_wide(page: &mut [u8], number: u32) {
+    match number {
+        0 => spell(page, WIDE),
+        1 => spell_wide_rows(page),
+        _ => spell(page, WIDE_DIRECTORY),
+    }
+}
+
+// Spells its region.
+fn spell_wide_rows(page: &mut [u8]) {
+    poke(page, 0, 4, 0x5204_0440);
+    for i in 0..64usize {
+        poke(page, 24 + 4 * i, 4, i as u128 + 1);
+        poke(page, 1304 + 8 * i, 8, 0xffff_ffff_ffff_ffff);
     }
 }
 

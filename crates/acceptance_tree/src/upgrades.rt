@@ -1,5 +1,6 @@
-// Tables of the formats 1 and 2 that are upgraded, that are refused, and whose stores fail. The old table is the same afterwards, byte
-// for byte, in each case; and a new store whose upgrade was refused is never opened.
+// Tables of the formats 1 and 2 that are upgraded, that are refused, and whose stores fail. In each case the old table is the same
+// afterwards, byte for byte, and a new store whose upgrade was refused isn't opened as a table. What stands in the pages comes from
+// the description of the formats, and the answers from hand arithmetic.
 use crate::old_tables::{
     DIRECTORY, EMPTY_1, EMPTY_2, FIRST, FIVE_1, FIVE_2, INDEX, LEFT, LEVELS_2, NO_PATCH, Old,
     Pages, Patch, RIGHT, ROOT, SECOND, THIRD, is_old,
@@ -17,6 +18,9 @@ const LAST: u128 = 18_446_744_073_709_551_615;
 // The last address of one dimension.
 const LINE_LAST: u128 = 4_294_967_295;
 
+// That of four.
+const WIDE_LAST: u128 = 340_282_366_920_938_463_463_374_607_431_768_211_455;
+
 // Why an upgrade is refused: this page of the old store, or one that it doesn't have.
 #[derive(Clone, Copy)]
 enum Told {
@@ -28,8 +32,8 @@ enum Told {
 #[derive(Clone, Copy)]
 struct Hurt(Patch, Told);
 
-// The call at which the old store fails, if it does, that of the new one, and the answer of the upgrade: if that goes well, both fail at
-// their next call.
+// The call at which the old store fails, or 0 for none, that of the new one, and the answer of the upgrade. If that goes well, both
+// fail later.
 #[derive(Clone, Copy)]
 struct End(u64, u64, Answer);
 
@@ -41,8 +45,8 @@ enum Try {
     Refuses(Pages, Answer, &'static [Hurt]),
     // With all these numbers it is refused so, and the new store as unclean.
     Refuse(Pages, &'static [Patch], Told),
-    // The upgrade of the table of five rows makes these calls of the stores in this order, and ends at each that fails: `o` reads a page
-    // of the old one; `e` adds a page to the new one, `w` writes one there, and `r` reads one. A `w` isn't told from an `r`.
+    // The upgrade of the table of five rows makes these calls of the stores in this order, and ends at each that fails: `o` reads a
+    // page of the old one; `e` adds a page to the new one, `w` writes one there, and `r` reads one. A `w` isn't told from an `r`.
     Calls(Old, &'static [u8]),
     // The upgrades of an old table that end so, where the stores fail.
     Ends(Old, &'static [End]),
@@ -133,8 +137,8 @@ fn answer_of(told: &Told) -> Answer {
     }
 }
 
-// How many calls of both stores come in this order, each of which ends the upgrade where it fails; and one more where it goes well if
-// none does.
+// How many calls of both stores come in this order, each of which ends the upgrade where it fails; and one more where it goes well
+// if none does.
 fn count_stops(trial: &mut Trial, old: &Old, calls: &[u8]) -> usize {
     for i in 0..=calls.len() {
         if !fails_at(trial, old, calls, i) {
@@ -191,10 +195,10 @@ fn is_left(trial: &mut Trial, calls: &[u8], i: usize) -> bool {
 }
 
 // Whether the old store has failed, or else the new one, and not the other one: that one fails at its next call.
-fn has_failed(trial: &mut Trial, store: &mut Store, is_old: bool) -> bool {
+fn has_failed(trial: &mut Trial, store: &mut Store, of_old: bool) -> bool {
     let is_due = store.read_page(0) == Err(StoreFault::Device);
     let is_new_due = trial.answer(&Step::Bytes(0, 0, &[])) == DEVICE;
-    (is_due != is_old) & (is_new_due == is_old)
+    (is_due != of_old) & (is_new_due == of_old)
 }
 
 // What opening the new store answers after so many calls: it has no page, one of zeros, or one that tells of a change.
@@ -218,7 +222,7 @@ fn goes_again(trial: &mut Trial, store: &mut Store, old: &Old) -> bool {
         & is_old(store, old)
 }
 
-// Whether both stores fail at their next call, after an upgrade that went well, and the old one has its pages.
+// Whether both stores still fail after an upgrade that went well, the old one at its next call, and that has its pages.
 fn is_at_end(trial: &mut Trial, store: &mut Store, old: &Old) -> bool {
     (store.read_page(0) == Err(StoreFault::Device))
         & (trial.answer(&Step::Close) == DEVICE)
@@ -296,8 +300,8 @@ fn all_go(rt: &impl Abort, alloc: Global, tries: &[Try]) {
 
 // The table of five rows in format 1.
 static FIVE_OF_1: &[Try] = &[
-    // The table of five rows in format 1: the index is put on page 5, and the directory stays where it was, though nothing names it. Then row
-    // 6 parts the first region.
+    // The table of five rows in format 1: the index is put on page 5, and the directory stays where it was, though nothing names
+    // it. Then row 6 parts the first region.
     Try::Makes(
         Old {
             pages: Pages::Bytes(&FIVE_1),
@@ -1125,10 +1129,54 @@ static FULL_REGIONS: &[Try] = &[
             (Step::Count, Ok([193, 4, 0, 0])),
         ],
     ),
+    // The page of 64 rows of four dimensions and four measures, the longest that there is.
+    Try::Makes(
+        Old {
+            pages: Pages::Wide,
+            patches: &[],
+            last: NO_PATCH,
+        },
+        &[
+            (Step::Count, Ok([64, 1, 0, 0])),
+            (Step::Shape, Ok([4, 4, 8, 64])),
+            (Step::Span(0), Ok([0, WIDE_LAST, 1, 64])),
+            (Step::Close, DONE),
+            (Step::Pages, Ok([4, 0, 0, 0])),
+            (
+                Step::Bytes(
+                    0,
+                    4,
+                    &[
+                        3, 0, 4, 4, 64, 0, 0, 0, 0, 0, 0, 65, 0, 0, 0, 64, 0, 0, 0, 1, 0, 0, 0, 3,
+                        0, 0, 0, 1, 1, 0x74,
+                    ],
+                ),
+                YES,
+            ),
+            (Step::Bytes(0, 296, &[1, 0x68]), YES),
+            (Step::Bytes(1, 0, &[0x52, 4, 4, 64]), YES),
+            (Step::Bytes(1, 1304, &[255; 512]), YES),
+            (Step::Bytes(1, 1816, &[0; 2280]), YES),
+            (
+                Step::Bytes(
+                    3,
+                    0,
+                    &[
+                        0x49, 1, 0, 1, 0, 0, 0, 0, 0, 0, 0, 0, 0, 0, 0, 0, 0, 0, 0, 0, 0, 0, 0, 0,
+                        0, 0, 0, 0, 0, 0, 0, 0, 0, 0, 0, 0, 0, 0, 0, 1,
+                    ],
+                ),
+                YES,
+            ),
+            (Step::Open, DONE),
+            (Step::Count, Ok([64, 1, 0, 0])),
+            (Step::Span(0), Ok([0, WIDE_LAST, 1, 64])),
+        ],
+    ),
 ];
 
-// The first page is read, and the new one is marked; then each page is read and written; of format 1 the directory is read, and its
-// index is written; then the root is read, and the other pages of the index, and each region.
+// The first page is read, and the new one is marked; then each page is read and written; of format 1 the directory is read, and
+// its index is written; then the root is read, and the other pages of the index, and each region.
 static FAILING: &[Try] = &[
     Try::Calls(
         Old {
@@ -1154,9 +1202,10 @@ static FAILING: &[Try] = &[
         },
         b"oewoewoewoewoewoewoewrrrrrr",
     ),
-    // 171 regions. The calls of the old store are 174 for its pages, and two for those of the directory once more. Those of the new one are 2 for
-    // each of 174 pages and of two pages of the lowest level, 2 that read where these begin, 2 for the root and one that reads it; and then one
-    // for each region, and one that reads the second page of the lowest level again, which other pages have driven out.
+    // 171 regions. The calls of the old store are 174 for its pages, and two for those of the directory once more. Those of the
+    // new one are 2 for each of 174 pages and of two pages of the lowest level, 2 that read where these begin, 2 for the root and one
+    // that reads it; and then one for each region, and one that reads the second page of the lowest level again, which other pages
+    // have driven out.
     Try::Ends(
         Old {
             pages: Pages::Line(171, 2),
@@ -1195,17 +1244,21 @@ static HEADERS_OF_1: &[Try] = &[
         Pages::Bytes(&FIVE_1),
         NO_PAGE,
         &[
+            // Another kind.
             Hurt(Patch(0, 0, 1, 81), Told::On(0, PageFault::WrongKind)),
             Hurt(Patch(0, 1, 1, 81), Told::On(0, PageFault::WrongKind)),
             Hurt(Patch(0, 2, 1, 81), Told::On(0, PageFault::WrongKind)),
             Hurt(Patch(0, 3, 1, 81), Told::On(0, PageFault::WrongKind)),
+            // A version that there wasn't, or that of today, changed or not.
             Hurt(Patch(0, 4, 1, 0), Told::On(0, PageFault::WrongKind)),
             Hurt(Patch(0, 4, 1, 3), Told::On(0, PageFault::WrongKind)),
             Hurt(Patch(0, 4, 1, 4), Told::On(0, PageFault::WrongKind)),
             Hurt(Patch(0, 4, 1, 255), Told::On(0, PageFault::WrongKind)),
             Hurt(Patch(0, 4, 2, 769), Told::On(0, PageFault::WrongKind)),
+            // Changed, whatever else.
             Hurt(Patch(0, 5, 1, 1), Told::On(0, PageFault::Unclean)),
             Hurt(Patch(0, 5, 2, 256), Told::On(0, PageFault::Unclean)),
+            // Numbers out of their ranges.
             Hurt(Patch(0, 5, 1, 2), Told::On(0, PageFault::BadCount)),
             Hurt(Patch(0, 6, 1, 0), Told::On(0, PageFault::BadCount)),
             Hurt(Patch(0, 6, 1, 5), Told::On(0, PageFault::BadCount)),
@@ -1224,7 +1277,9 @@ static HEADERS_OF_1: &[Try] = &[
                 Patch(0, 28, 4, 0xffffffff),
                 Told::On(0, PageFault::BadCount),
             ),
+            // A number before a name.
             Hurt(Patch(0, 28, 5, 0), Told::On(0, PageFault::BadCount)),
+            // Names: no letter, too many of them, a digit first, bytes behind it, a keyword, a minus, and columns of one name.
             Hurt(Patch(0, 32, 1, 0), Told::On(0, PageFault::BadName)),
             Hurt(Patch(0, 32, 1, 33), Told::On(0, PageFault::BadName)),
             Hurt(Patch(0, 33, 1, 48), Told::On(0, PageFault::BadName)),
@@ -1235,7 +1290,9 @@ static HEADERS_OF_1: &[Try] = &[
             Hurt(Patch(0, 99, 1, 120), Told::On(0, PageFault::BadName)),
             Hurt(Patch(0, 131, 1, 0), Told::On(0, PageFault::BadName)),
             Hurt(Patch(0, 132, 1, 121), Told::On(0, PageFault::BadName)),
+            // A name before the bytes that nothing uses.
             Hurt(Patch(0, 163, 2, 257), Told::On(0, PageFault::BadName)),
+            // The byte that has the mask of signed dimensions since, and others that nothing uses.
             Hurt(Patch(0, 9, 1, 1), Told::On(0, PageFault::BadPadding)),
             Hurt(Patch(0, 9, 1, 3), Told::On(0, PageFault::BadPadding)),
             Hurt(Patch(0, 10, 1, 1), Told::On(0, PageFault::BadPadding)),
@@ -1255,17 +1312,21 @@ static HEADERS_OF_2: &[Try] = &[
         Pages::Bytes(&FIVE_2),
         NO_PAGE,
         &[
+            // Another kind.
             Hurt(Patch(0, 0, 1, 81), Told::On(0, PageFault::WrongKind)),
             Hurt(Patch(0, 1, 1, 81), Told::On(0, PageFault::WrongKind)),
             Hurt(Patch(0, 2, 1, 81), Told::On(0, PageFault::WrongKind)),
             Hurt(Patch(0, 3, 1, 81), Told::On(0, PageFault::WrongKind)),
+            // A version that there wasn't, or that of today, changed or not.
             Hurt(Patch(0, 4, 1, 0), Told::On(0, PageFault::WrongKind)),
             Hurt(Patch(0, 4, 1, 3), Told::On(0, PageFault::WrongKind)),
             Hurt(Patch(0, 4, 1, 4), Told::On(0, PageFault::WrongKind)),
             Hurt(Patch(0, 4, 1, 255), Told::On(0, PageFault::WrongKind)),
             Hurt(Patch(0, 4, 2, 769), Told::On(0, PageFault::WrongKind)),
+            // Changed, whatever else.
             Hurt(Patch(0, 5, 1, 1), Told::On(0, PageFault::Unclean)),
             Hurt(Patch(0, 5, 2, 256), Told::On(0, PageFault::Unclean)),
+            // Numbers out of their ranges.
             Hurt(Patch(0, 5, 1, 2), Told::On(0, PageFault::BadCount)),
             Hurt(Patch(0, 6, 1, 0), Told::On(0, PageFault::BadCount)),
             Hurt(Patch(0, 6, 1, 5), Told::On(0, PageFault::BadCount)),
@@ -1280,7 +1341,9 @@ static HEADERS_OF_2: &[Try] = &[
             Hurt(Patch(0, 28, 4, 0), Told::On(0, PageFault::BadCount)),
             Hurt(Patch(0, 28, 4, 17), Told::On(0, PageFault::BadCount)),
             Hurt(Patch(0, 28, 4, 0x1000001), Told::On(0, PageFault::BadCount)),
+            // A number before a name.
             Hurt(Patch(0, 28, 5, 0), Told::On(0, PageFault::BadCount)),
+            // Names: no letter, too many of them, a digit first, bytes behind it, a keyword, a minus, and columns of one name.
             Hurt(Patch(0, 32, 1, 0), Told::On(0, PageFault::BadName)),
             Hurt(Patch(0, 32, 1, 33), Told::On(0, PageFault::BadName)),
             Hurt(Patch(0, 33, 1, 48), Told::On(0, PageFault::BadName)),
@@ -1291,7 +1354,9 @@ static HEADERS_OF_2: &[Try] = &[
             Hurt(Patch(0, 99, 1, 120), Told::On(0, PageFault::BadName)),
             Hurt(Patch(0, 131, 1, 0), Told::On(0, PageFault::BadName)),
             Hurt(Patch(0, 132, 1, 121), Told::On(0, PageFault::BadName)),
+            // A name before the bytes that nothing uses.
             Hurt(Patch(0, 163, 2, 257), Told::On(0, PageFault::BadName)),
+            // The byte that has the mask of signed dimensions since, and others that nothing uses.
             Hurt(Patch(0, 9, 1, 1), Told::On(0, PageFault::BadPadding)),
             Hurt(Patch(0, 9, 1, 3), Told::On(0, PageFault::BadPadding)),
             Hurt(Patch(0, 10, 1, 1), Told::On(0, PageFault::BadPadding)),
@@ -1309,6 +1374,7 @@ static REGIONS_OF_1: &[Try] = &[
         Pages::Bytes(&FIVE_1),
         UNCLEAN,
         &[
+            // The region on page 1.
             Hurt(Patch(1, 0, 1, 83), Told::On(1, PageFault::WrongKind)),
             Hurt(Patch(1, 1, 1, 1), Told::On(1, PageFault::BadCount)),
             Hurt(Patch(1, 2, 1, 0), Told::On(1, PageFault::BadCount)),
@@ -1319,6 +1385,7 @@ static REGIONS_OF_1: &[Try] = &[
             Hurt(Patch(1, 24, 4, 0x1000000), Told::On(1, PageFault::BadRow)),
             Hurt(Patch(1, 64, 1, 1), Told::On(1, PageFault::BadPadding)),
             Hurt(Patch(1, 4095, 1, 1), Told::On(1, PageFault::BadPadding)),
+            // The region on page 2.
             Hurt(Patch(2, 0, 1, 83), Told::On(2, PageFault::WrongKind)),
             Hurt(Patch(2, 1, 1, 1), Told::On(2, PageFault::BadCount)),
             Hurt(Patch(2, 2, 1, 0), Told::On(2, PageFault::BadCount)),
@@ -1333,6 +1400,7 @@ static REGIONS_OF_1: &[Try] = &[
             ),
             Hurt(Patch(2, 64, 1, 1), Told::On(2, PageFault::BadPadding)),
             Hurt(Patch(2, 4095, 1, 1), Told::On(2, PageFault::BadPadding)),
+            // The region on page 3.
             Hurt(Patch(3, 0, 1, 83), Told::On(3, PageFault::WrongKind)),
             Hurt(Patch(3, 1, 1, 1), Told::On(3, PageFault::BadCount)),
             Hurt(Patch(3, 2, 1, 0), Told::On(3, PageFault::BadCount)),
@@ -1347,6 +1415,7 @@ static REGIONS_OF_1: &[Try] = &[
                 Patch(2, 24, 8, 0x500000002),
                 Told::On(2, PageFault::BadOrder),
             ),
+            // A first key behind a row; another one than the entry's.
             Hurt(Patch(1, 19, 1, 4), Told::On(1, PageFault::OutOfRegion)),
             Hurt(Patch(3, 19, 1, 11), Told::On(3, PageFault::OutOfRegion)),
             Hurt(Patch(2, 19, 1, 14), Told::On(2, PageFault::OutOfRegion)),
@@ -1356,6 +1425,7 @@ static REGIONS_OF_1: &[Try] = &[
             Hurt(Patch(3, 23, 1, 1), Told::On(3, PageFault::OutOfRegion)),
             Hurt(Patch(2, 19, 1, 12), Told::On(2, PageFault::OutOfRegion)),
             Hurt(Patch(2, 23, 1, 1), Told::On(2, PageFault::OutOfRegion)),
+            // A row at the next region's first key, or behind it.
             Hurt(
                 Patch(1, 36, 12, 0x30000000100000000),
                 Told::On(1, PageFault::OutOfRegion),
@@ -1368,6 +1438,7 @@ static REGIONS_OF_1: &[Try] = &[
                 Patch(3, 28, 8, 0x300000003),
                 Told::On(3, PageFault::OutOfRegion),
             ),
+            // Entries that name other pages.
             Hurt(Patch(4, 36, 4, 5), Told::NoPage),
             Hurt(Patch(4, 60, 4, 5), Told::NoPage),
             Hurt(Patch(4, 84, 4, 5), Told::NoPage),
@@ -1376,6 +1447,7 @@ static REGIONS_OF_1: &[Try] = &[
             Hurt(Patch(4, 60, 4, 1), Told::On(1, PageFault::OutOfRegion)),
             Hurt(Patch(4, 84, 4, 3), Told::On(3, PageFault::OutOfRegion)),
             Hurt(Patch(4, 36, 4, 3), Told::On(3, PageFault::OutOfRegion)),
+            // Counts of rows and of regions, and the root.
             Hurt(Patch(0, 16, 4, 4), Told::On(0, PageFault::BadCount)),
             Hurt(Patch(0, 16, 4, 0), Told::On(0, PageFault::BadCount)),
             Hurt(Patch(0, 20, 4, 1), Told::On(4, PageFault::BadCount)),
@@ -1418,6 +1490,7 @@ static REGIONS_OF_2: &[Try] = &[
         Pages::Bytes(&FIVE_2),
         UNCLEAN,
         &[
+            // The region on page 1.
             Hurt(Patch(1, 0, 1, 83), Told::On(1, PageFault::WrongKind)),
             Hurt(Patch(1, 1, 1, 1), Told::On(1, PageFault::BadCount)),
             Hurt(Patch(1, 2, 1, 0), Told::On(1, PageFault::BadCount)),
@@ -1428,6 +1501,7 @@ static REGIONS_OF_2: &[Try] = &[
             Hurt(Patch(1, 24, 4, 0x1000000), Told::On(1, PageFault::BadRow)),
             Hurt(Patch(1, 64, 1, 1), Told::On(1, PageFault::BadPadding)),
             Hurt(Patch(1, 4095, 1, 1), Told::On(1, PageFault::BadPadding)),
+            // The region on page 2.
             Hurt(Patch(2, 0, 1, 83), Told::On(2, PageFault::WrongKind)),
             Hurt(Patch(2, 1, 1, 1), Told::On(2, PageFault::BadCount)),
             Hurt(Patch(2, 2, 1, 0), Told::On(2, PageFault::BadCount)),
@@ -1442,6 +1516,7 @@ static REGIONS_OF_2: &[Try] = &[
             ),
             Hurt(Patch(2, 64, 1, 1), Told::On(2, PageFault::BadPadding)),
             Hurt(Patch(2, 4095, 1, 1), Told::On(2, PageFault::BadPadding)),
+            // The region on page 3.
             Hurt(Patch(3, 0, 1, 83), Told::On(3, PageFault::WrongKind)),
             Hurt(Patch(3, 1, 1, 1), Told::On(3, PageFault::BadCount)),
             Hurt(Patch(3, 2, 1, 0), Told::On(3, PageFault::BadCount)),
@@ -1456,6 +1531,7 @@ static REGIONS_OF_2: &[Try] = &[
                 Patch(2, 24, 8, 0x500000002),
                 Told::On(2, PageFault::BadOrder),
             ),
+            // A first key behind a row; another one than the entry's.
             Hurt(Patch(1, 19, 1, 4), Told::On(1, PageFault::OutOfRegion)),
             Hurt(Patch(3, 19, 1, 11), Told::On(3, PageFault::OutOfRegion)),
             Hurt(Patch(2, 19, 1, 14), Told::On(2, PageFault::OutOfRegion)),
@@ -1465,6 +1541,7 @@ static REGIONS_OF_2: &[Try] = &[
             Hurt(Patch(3, 23, 1, 1), Told::On(3, PageFault::OutOfRegion)),
             Hurt(Patch(2, 19, 1, 12), Told::On(2, PageFault::OutOfRegion)),
             Hurt(Patch(2, 23, 1, 1), Told::On(2, PageFault::OutOfRegion)),
+            // A row at the next region's first key, or behind it.
             Hurt(
                 Patch(1, 36, 12, 0x30000000100000000),
                 Told::On(1, PageFault::OutOfRegion),
@@ -1477,6 +1554,7 @@ static REGIONS_OF_2: &[Try] = &[
                 Patch(3, 28, 8, 0x300000003),
                 Told::On(3, PageFault::OutOfRegion),
             ),
+            // Entries that name other pages.
             Hurt(Patch(4, 36, 4, 5), Told::NoPage),
             Hurt(Patch(4, 60, 4, 5), Told::NoPage),
             Hurt(Patch(4, 84, 4, 5), Told::NoPage),
@@ -1485,6 +1563,7 @@ static REGIONS_OF_2: &[Try] = &[
             Hurt(Patch(4, 60, 4, 1), Told::On(1, PageFault::OutOfRegion)),
             Hurt(Patch(4, 84, 4, 3), Told::On(3, PageFault::OutOfRegion)),
             Hurt(Patch(4, 36, 4, 3), Told::On(3, PageFault::OutOfRegion)),
+            // Counts of rows and of regions, and the root.
             Hurt(Patch(0, 16, 4, 4), Told::On(0, PageFault::BadCount)),
             Hurt(Patch(0, 16, 4, 0), Told::On(0, PageFault::BadCount)),
             Hurt(Patch(0, 20, 4, 1), Told::On(0, PageFault::BadCount)),
@@ -1571,6 +1650,7 @@ static DIRECTORIES: &[Try] = &[
         Pages::Line(171, 2),
         UNCLEAN,
         &[
+            // The next page.
             Hurt(Patch(1, 4, 4, 0), Told::On(1, PageFault::BadCount)),
             Hurt(Patch(1, 4, 4, 1), Told::On(1, PageFault::BadCount)),
             Hurt(Patch(1, 4, 4, 3), Told::On(3, PageFault::WrongKind)),
@@ -1580,13 +1660,16 @@ static DIRECTORIES: &[Try] = &[
             Hurt(Patch(1, 2, 2, 169), Told::On(1, PageFault::BadPadding)),
             Hurt(Patch(2, 2, 2, 2), Told::On(2, PageFault::BadRow)),
             Hurt(Patch(2, 0, 1, 73), Told::On(2, PageFault::WrongKind)),
+            // Keys that don't go on after the first page.
             Hurt(Patch(2, 16, 16, 338), Told::On(2, PageFault::BadOrder)),
             Hurt(Patch(2, 16, 16, 337), Told::On(2, PageFault::BadOrder)),
             Hurt(Patch(2, 16, 16, 0), Told::On(2, PageFault::BadOrder)),
             Hurt(Patch(2, 36, 4, 174), Told::NoPage),
             Hurt(Patch(1, 4092, 4, 174), Told::NoPage),
+            // A region of the first page, and a page of the directory, in the second page's entry.
             Hurt(Patch(2, 36, 4, 172), Told::On(172, PageFault::OutOfRegion)),
             Hurt(Patch(2, 36, 4, 2), Told::On(2, PageFault::WrongKind)),
+            // The last regions.
             Hurt(Patch(172, 0, 1, 83), Told::On(172, PageFault::WrongKind)),
             Hurt(Patch(173, 0, 1, 83), Told::On(173, PageFault::WrongKind)),
             Hurt(Patch(173, 4095, 1, 1), Told::On(173, PageFault::BadPadding)),
@@ -1659,6 +1742,7 @@ static INDEXES: &[Try] = &[
         Pages::Bytes(&LEVELS_2),
         UNCLEAN,
         &[
+            // Levels.
             Hurt(Patch(6, 1, 1, 1), Told::On(6, PageFault::BadCount)),
             Hurt(Patch(6, 1, 1, 3), Told::On(6, PageFault::BadCount)),
             Hurt(Patch(4, 1, 1, 2), Told::On(4, PageFault::BadCount)),
@@ -1666,10 +1750,12 @@ static INDEXES: &[Try] = &[
             Hurt(Patch(4, 1, 1, 0), Told::On(4, PageFault::BadCount)),
             Hurt(Patch(5, 1, 1, 17), Told::On(5, PageFault::BadCount)),
             Hurt(Patch(0, 28, 4, 1), Told::On(6, PageFault::BadCount)),
+            // Kinds.
             Hurt(Patch(4, 0, 1, 68), Told::On(4, PageFault::WrongKind)),
             Hurt(Patch(5, 0, 1, 82), Told::On(5, PageFault::WrongKind)),
             Hurt(Patch(6, 39, 1, 1), Told::On(1, PageFault::WrongKind)),
             Hurt(Patch(6, 63, 1, 3), Told::On(3, PageFault::WrongKind)),
+            // Where a page begins, and where it ends.
             Hurt(Patch(4, 31, 1, 1), Told::On(4, PageFault::OutOfRegion)),
             Hurt(Patch(5, 31, 1, 14), Told::On(5, PageFault::OutOfRegion)),
             Hurt(Patch(5, 31, 1, 12), Told::On(5, PageFault::OutOfRegion)),
@@ -1680,14 +1766,17 @@ static INDEXES: &[Try] = &[
             Hurt(Patch(6, 55, 1, 9), Told::On(4, PageFault::OutOfRegion)),
             Hurt(Patch(4, 55, 1, 13), Told::On(4, PageFault::OutOfRegion)),
             Hurt(Patch(4, 55, 1, 14), Told::On(4, PageFault::OutOfRegion)),
+            // A page twice, and the root below itself.
             Hurt(Patch(6, 63, 1, 4), Told::On(4, PageFault::OutOfRegion)),
             Hurt(Patch(6, 63, 1, 6), Told::On(6, PageFault::BadCount)),
             Hurt(Patch(6, 39, 1, 6), Told::On(6, PageFault::BadCount)),
+            // Pages that there aren't.
             Hurt(Patch(6, 63, 1, 7), Told::NoPage),
             Hurt(Patch(6, 39, 1, 7), Told::NoPage),
             Hurt(Patch(4, 63, 1, 7), Told::NoPage),
             Hurt(Patch(5, 39, 1, 7), Told::NoPage),
             Hurt(Patch(0, 27, 1, 7), Told::NoPage),
+            // Other counts.
             Hurt(Patch(0, 20, 4, 1), Told::On(0, PageFault::BadCount)),
             Hurt(Patch(0, 20, 4, 2), Told::On(0, PageFault::BadCount)),
             Hurt(Patch(0, 20, 4, 4), Told::On(0, PageFault::BadCount)),
