@@ -14,6 +14,8 @@ mod deletions;
 #[cfg(test)]
 mod levels;
 #[cfg(test)]
+mod old_tables;
+#[cfg(test)]
 mod openings;
 #[cfg(test)]
 mod plans;
@@ -25,5 +27,7 @@ mod samples;
 mod sweep;
 #[cfg(test)]
 mod trial;
+#[cfg(test)]
+mod upgrades;
 #[cfg(test)]
 mod values;

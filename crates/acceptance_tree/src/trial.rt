@@ -1,5 +1,6 @@
 // Steps on a tree and on its store, as data.
 use crate::calls::{Case, count_cases};
+use crate::old_tables::{Old, old_store};
 use crate::plans::{Ask, Work, by_plan};
 use crate::samples::{FIVE_ROWS, Sheet, Store, Table, copied, page_of, schema_of, stored};
 use std::alloc::Global;
@@ -125,15 +126,20 @@ fn count(run: &Run) -> usize {
 fn count_right(alloc: Global, table: Table, run: &Run) -> usize {
     match schema_of(table) {
         Ok(schema) => {
-            let mut trial = Trial {
-                alloc,
-                schema,
-                tree: None,
-                store: None,
-            };
+            let mut trial = trial_of(alloc, schema);
             trial.count_run(run)
         }
         Err(_) => 0,
+    }
+}
+
+// A trial of tables of this schema, with no tree and no store.
+pub(crate) fn trial_of(alloc: Global, schema: Schema) -> Trial {
+    Trial {
+        alloc,
+        schema,
+        tree: None,
+        store: None,
     }
 }
 
@@ -151,7 +157,7 @@ impl Trial {
     }
 
     // How many of these steps are answered so, up to the first wrong one.
-    fn count_steps(&mut self, steps: &[(Step, Answer)]) -> usize {
+    pub(crate) fn count_steps(&mut self, steps: &[(Step, Answer)]) -> usize {
         for (i, (step, wanted)) in steps.iter().enumerate() {
             if self.answer(step) != *wanted {
                 return i;
@@ -231,6 +237,18 @@ impl Trial {
             }
             None => NOTHING,
         }
+    }
+
+    // Upgrades an old table, over a new store that fails at its k-th call.
+    pub(crate) fn upgrade(&mut self, old: &mut Store, k: u64) -> Answer {
+        let new = FaultyStore::new(MemStore::new(self.alloc), k);
+        let made = Tree::upgrade(self.alloc, old, new);
+        self.take(made)
+    }
+
+    // A store of an old table, that fails at its k-th call.
+    pub(crate) fn old_store(&self, old: &Old, k: u64) -> Result<Store, StoreFault> {
+        old_store(self.alloc, old, k)
     }
 
     // Takes a tree, or the store that is handed back in its place.
