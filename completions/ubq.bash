@@ -49,7 +49,7 @@ _ubq_read() {
 }
 
 _ubq() {
-    local commands=(load run try upgrade describe next help) help=(-h --help)
+    local commands=(load run try upgrade describe check next help) help=(-h --help)
     local table=(--dims --signed --page-rows --name)
     local current=${COMP_WORDS[COMP_CWORD]} word command= waiting= plain=no given=' ' taken=0 files=0 options=("${help[@]}")
     COMPREPLY=()
@@ -60,7 +60,7 @@ _ubq() {
     '') options+=(-V --version) ;;
     load | try) files=2 options+=("${table[@]}") ;;
     run | upgrade) files=2 ;;
-    describe) files=1 ;;
+    describe | check) files=1 ;;
     next) ;;
     *) options=() ;;
     esac
