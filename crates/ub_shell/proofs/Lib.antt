@@ -2,4 +2,5 @@ pub mod EndFacts
 pub mod FileFacts
 pub mod LeftFacts
 pub mod UpgradeFacts
+pub mod DescribeFacts
 pub mod Laws

@@ -18,6 +18,7 @@ use Rattle.ub_tree.specs.Placed.{Placed, regions_in}
 use Rattle.ub_tree.specs.Stored.{AreSoundPages}
 use Rattle.ub_files.specs.Files.{FilesFacts, Held, IsText, pages, standard_input, untold}
 use Rattle.ub_shell.specs.Commands.{IsRunOn, RunsFile}
+use Rattle.ub_shell.specs.Described.{DescribesFile}
 use Rattle.ub_shell.specs.Ran.{HasEnded, HasHelped, HasNoMemory, HasRefused}
 use Rattle.ub_shell.specs.Upgrading.{UpgradesFile}
 use Rattle.ub_shell.specs.declared.status.Status.{Status}
@@ -47,6 +48,11 @@ IsOnlyAsking held = (script : List ℕ) (schema : Schema) → IsText held script
 abbrev pub AskingLeavesTheTable : Type 0
 AskingLeavesTheTable = (table script : List ℕ) (old new : FilesFacts) (out out_now : OutFacts) (status : Status) → table ≢ standard_input
     → IsOnlyAsking (old.holds script) → RunsFile table script old new out out_now status → IsHeldStill (old.holds table) (new.holds table)
+
+-- a table file that was described is as it was, page for page, whatever it is and however that has ended
+abbrev pub DescribingLeavesTheTable : Type 0
+DescribingLeavesTheTable = (table : List ℕ) (old new : FilesFacts) (out out_now : OutFacts) (status : Status)
+    → DescribesFile table old new out out_now status → IsHeldStill (old.holds table) (new.holds table)
 
 -- a table file of an older version is as it was, page for page, whatever it is and however making it anew at another path has ended
 abbrev pub UpgradingLeavesTheOldTable : Type 0
