@@ -1,6 +1,6 @@
 ghost use Rattle.std.specs.Prelude.{IfOk, codes};
 ghost use Rattle.clap.specs.Words.{App, Rule, with_rule, with_subcommand};
-ghost use Rattle.ub_words.specs.CommandLine.{IsArgFor, IsCommandFor, data_app, describe_app, dims_rule, load_app, next_app, option_rule, page_rows_rule, run_app, signed_rule, try_app, ubq_app, upgrade_app, word_rule};
+ghost use Rattle.ub_words.specs.CommandLine.{IsArgFor, IsCommandFor, check_app, data_app, describe_app, dims_rule, load_app, next_app, option_rule, page_rows_rule, run_app, signed_rule, try_app, ubq_app, upgrade_app, word_rule};
 
 use clap::{Arg, Command, value_parser};
 use std::alloc::{AllocError, Global};
@@ -165,6 +165,24 @@ Status:
   0  TABLE was described
   2  wrong arguments
   3  TABLE isn't a table file, is damaged, or is marked as changed, as ! Unclean page 0
+  4  a file or the output failed
+  5  memory was refused";
+
+const CHECK_HELP: &str = "\
+Example:
+  ubq check sales.ub
+writes
+  -- rows 400, regions 34
+
+That line says that TABLE is sound: it was read from the root of its index on, each page can be read and stands where its
+entry says, each row stands in its region, no two rows have one number, each number is below the next one, and there are
+as many rows and regions as the header tells. Pages that the index doesn't lead to aren't looked at. Otherwise the first
+fault is told, as ! BadRow page 7. TABLE is only read.
+
+Status:
+  0  TABLE is sound
+  2  wrong arguments
+  3  TABLE isn't a table file, is damaged, or is refused as OldFormat or Unclean, as ubq run --help says
   4  a file or the output failed
   5  memory was refused";
 
@@ -335,6 +353,17 @@ fn describe_command<'a>(alloc: Global) -> Making<'a>
     with_arg(Ok(command), word_arg(alloc, "TABLE", table))
 }
 
+// The command `check` as `clap` reads it.
+fn check_command<'a>(alloc: Global) -> Making<'a>
+    ensures { IfOk result (IsCommandFor check_app) }
+{
+    let table = "The table file to check; it is only read";
+    let command = Command::new(alloc, "check")
+        .about("Check each page of a table file")
+        .after_help(CHECK_HELP);
+    with_arg(Ok(command), word_arg(alloc, "TABLE", table))
+}
+
 // The command `next` as `clap` reads it.
 fn next_command<'a>(alloc: Global) -> Making<'a>
     ensures { IfOk result (IsCommandFor next_app) }
@@ -364,5 +393,6 @@ pub(crate) fn program<'a>(alloc: Global) -> Making<'a>
     let command = with_command(command, try_command(alloc));
     let command = with_command(command, upgrade_command(alloc));
     let command = with_command(command, describe_command(alloc));
+    let command = with_command(command, check_command(alloc));
     with_command(command, next_command(alloc))
 }
