@@ -145,6 +145,15 @@ try 'a table file that is not there' 4 all '! Device\n' describe missing.ub
 try 'a folder' 4 all '! Device\n' describe .
 try 'a text' 3 all '! BadSize\n' describe s.csv
 
+# ---- whether its pages are well
+try 'a table file is checked' 0 all '-- rows 5, regions 3\n' check s.ub
+holds 'and stays as it was' cmp -s before.ub s.ub
+try 'one of format 1 is not' 3 all '! OldFormat page 0\n' check "$root/tests/old/s.ub"
+try 'a table file to check that is not there' 4 all '! Device\n' check missing.ub
+try 'a text to check' 3 all '! BadSize\n' check s.csv
+{ head -c 4096 s.ub && printf '\0' && tail -c +4098 s.ub; } >kind.ub
+try 'a region that is none' 3 all '! WrongKind page 1\n' check kind.ub
+
 # ---- files that are refused
 : >none.ub
 try 'a file of no bytes is not described' 3 all '! NoPage\n' describe none.ub
@@ -218,6 +227,7 @@ if "${as[@]}" "$ubq" --version >out 2>err; then
     chmod a+rx .
     chmod a=r s.ub
     try 'a table file that can only be read' 0 all "$row1" run s.ub row1.sql
+    try 'and is checked' 0 all '-- rows 5, regions 3\n' check s.ub
     try 'and is described' 0 all "${facts_of_s}levels 1\nformat 3\n" describe s.ub
     try 'and is not loaded into' 4 all '! Device\n' load s.csv s.ub --dims 2
     try 'no row is put into it' 4 all '! Device\n' run s.ub insert.sql
@@ -266,6 +276,7 @@ try 'the help of load' 0 line 'Usage: ubq load [OPTIONS] --dims <D> <DATA> <TABL
 try 'the help of run' 0 line 'Usage: ubq run <TABLE> <SCRIPT>' run --help
 try 'standard input in the help of run' 0 line '       ubq run <TABLE> -         (the script is read from standard input)' run --help
 try 'and where the script is missing' 2 line '       ubq run <TABLE> -         (the script is read from standard input)' run s.ub
+try 'the help of check' 0 line 'Usage: ubq check <TABLE>' check --help
 try 'the help of describe' 0 line 'Usage: ubq describe <TABLE>' describe --help
 try 'the help of upgrade' 0 line 'Usage: ubq upgrade <OLD> <NEW>' upgrade --help
 try 'no new table' 2 line 'Usage: ubq upgrade <OLD> <NEW>' upgrade s.ub

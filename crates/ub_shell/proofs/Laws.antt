@@ -12,7 +12,8 @@ use Rattle.ub_words.proofs.Laws.{no_help_taken}
 use Rattle.ub_words.specs.CommandLine.{AsksHelpAlone, AsksNext}
 use Rattle.ub_shell.specs.Commands.{IsRunOn, IsUntold}
 use Rattle.ub_shell.proofs.LeftFacts.{run_leaves, run_stays, where_ok}
-use Rattle.ub_shell.specs.Laws.{AskingLeavesTheTable, DescribingLeavesTheTable, IsClosedTable, IsHeldStill, IsOldTable, OnlyHelpIsWritten, UnchangedTablesAreLeft, UpgradedTablesAreTheSame, UpgradingLeavesTheOldTable, WhatWasDoneStands, WrongWordsAreTold}
+use Rattle.ub_shell.specs.Laws.{AskingLeavesTheTable, CheckingLeavesTheTable, DescribingLeavesTheTable, IsClosedTable, IsHeldStill, IsOldTable, OnlyHelpIsWritten, UnchangedTablesAreLeft, UpgradedTablesAreTheSame, UpgradingLeavesTheOldTable, WhatWasDoneStands, WrongWordsAreTold}
+use Rattle.ub_shell.specs.Checked.{IsChecked, IsIll}
 use Rattle.ub_shell.specs.Described.{IsDescribed, IsUndescribed}
 use Rattle.ub_shell.specs.Ending.{Tells}
 use Rattle.ub_shell.specs.Status.{store_fault_status, tree_fault_status}
@@ -41,10 +42,11 @@ only_help_is_written words old new out out_now status alone (inr (inl run)) = ab
 only_help_is_written words old new out out_now status alone (inr (inr (inl tried))) = absurd (no_help_taken words tried.asks.1.0 alone)
 only_help_is_written words old new out out_now status alone (inr (inr (inr (inl upgrade)))) = absurd (no_help_taken words upgrade.asks.1.0 alone)
 only_help_is_written words old new out out_now status alone (inr (inr (inr (inr (inl described))))) = absurd (no_help_taken words described.asks.1.0 alone)
-only_help_is_written words old new out out_now status alone (inr (inr (inr (inr (inr (inl next)))))) = absurd (no_next words _ _ _ alone next.asks)
-only_help_is_written words old new out out_now status alone (inr (inr (inr (inr (inr (inr (inl help))))))) = inl help
-only_help_is_written words old new out out_now status alone (inr (inr (inr (inr (inr (inr (inr (inl wrong)))))))) = absurd (wrong.asks.no_help alone)
-only_help_is_written words old new out out_now status alone (inr (inr (inr (inr (inr (inr (inr (inr memory)))))))) = inr memory
+only_help_is_written words old new out out_now status alone (inr (inr (inr (inr (inr (inl check)))))) = absurd (no_help_taken words check.asks.1.0 alone)
+only_help_is_written words old new out out_now status alone (inr (inr (inr (inr (inr (inr (inl next))))))) = absurd (no_next words _ _ _ alone next.asks)
+only_help_is_written words old new out out_now status alone (inr (inr (inr (inr (inr (inr (inr (inl help)))))))) = inl help
+only_help_is_written words old new out out_now status alone (inr (inr (inr (inr (inr (inr (inr (inr (inl wrong))))))))) = absurd (wrong.asks.no_help alone)
+only_help_is_written words old new out out_now status alone (inr (inr (inr (inr (inr (inr (inr (inr (inr memory))))))))) = inr memory
 
 pub wrong_words_are_told : WrongWordsAreTold
 wrong_words_are_told words old new out out_now status nothing no_help (inl load) = absurd (nothing.no_load _ _ _ _ _ _ load.asks)
@@ -52,10 +54,11 @@ wrong_words_are_told words old new out out_now status nothing no_help (inr (inl 
 wrong_words_are_told words old new out out_now status nothing no_help (inr (inr (inl tried))) = absurd (nothing.no_try _ _ _ _ _ _ tried.asks)
 wrong_words_are_told words old new out out_now status nothing no_help (inr (inr (inr (inl upgrade)))) = absurd (nothing.no_upgrade _ _ upgrade.asks)
 wrong_words_are_told words old new out out_now status nothing no_help (inr (inr (inr (inr (inl described))))) = absurd (nothing.no_describe _ described.asks)
-wrong_words_are_told words old new out out_now status nothing no_help (inr (inr (inr (inr (inr (inl next)))))) = absurd (nothing.no_next _ _ _ next.asks)
-wrong_words_are_told words old new out out_now status nothing no_help (inr (inr (inr (inr (inr (inr (inl help))))))) = absurd (no_help help.asks)
-wrong_words_are_told words old new out out_now status nothing no_help (inr (inr (inr (inr (inr (inr (inr (inl wrong)))))))) = inl wrong
-wrong_words_are_told words old new out out_now status nothing no_help (inr (inr (inr (inr (inr (inr (inr (inr memory)))))))) = inr memory
+wrong_words_are_told words old new out out_now status nothing no_help (inr (inr (inr (inr (inr (inl check)))))) = absurd (nothing.no_check _ check.asks)
+wrong_words_are_told words old new out out_now status nothing no_help (inr (inr (inr (inr (inr (inr (inl next))))))) = absurd (nothing.no_next _ _ _ next.asks)
+wrong_words_are_told words old new out out_now status nothing no_help (inr (inr (inr (inr (inr (inr (inr (inl help)))))))) = absurd (no_help help.asks)
+wrong_words_are_told words old new out out_now status nothing no_help (inr (inr (inr (inr (inr (inr (inr (inr (inl wrong))))))))) = inl wrong
+wrong_words_are_told words old new out out_now status nothing no_help (inr (inr (inr (inr (inr (inr (inr (inr (inr memory))))))))) = inr memory
 
 -- ---- a table file that was only asked
 
@@ -125,6 +128,19 @@ describing_leaves_the_table table old new out out_now status (inl told) =
     let same = described_left told.store told.describes.left told.describes.ended in
     put_back_same (old.holds table) (new.holds table) told.store told.describes.left told.lent.stored told.describes.back.held same.0 (same.1 ∙ told.lent.lent.unfailed)
 describing_leaves_the_table table old new out out_now status (inr unopened) = still_same (old.holds table) (new.holds table) unopened.files.kept
+
+-- ---- a table file that was checked
+
+checked_left : {out out_now : OutFacts} {status : Status} (from left : StoreFacts) → IsChecked from left out out_now status ⊎ IsIll from left out out_now status
+    → (left.pages ≡ from.pages) × (left.failed_writes ≡ from.failed_writes)
+checked_left from left (inl told) = (ap (λ (s : StoreFacts). s.pages) told.left_is, ap (λ (s : StoreFacts). s.failed_writes) told.left_is)
+checked_left from left (inr told) = (ap (λ (s : StoreFacts). s.pages) told.left_is, ap (λ (s : StoreFacts). s.failed_writes) told.left_is)
+
+pub checking_leaves_the_table : CheckingLeavesTheTable
+checking_leaves_the_table table old new out out_now status (inl told) =
+    let same = checked_left told.store told.checks.left told.checks.ended in
+    put_back_same (old.holds table) (new.holds table) told.store told.checks.left told.lent.stored told.checks.back.held same.0 (same.1 ∙ told.lent.lent.unfailed)
+checking_leaves_the_table table old new out out_now status (inr unopened) = still_same (old.holds table) (new.holds table) unopened.files.kept
 
 -- ---- a table file of an older version that was made anew
 

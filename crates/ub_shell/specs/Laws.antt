@@ -18,6 +18,7 @@ use Rattle.ub_tree.specs.Placed.{Placed, regions_in}
 use Rattle.ub_tree.specs.Stored.{AreSoundPages}
 use Rattle.ub_files.specs.Files.{FilesFacts, Held, IsText, pages, standard_input, untold}
 use Rattle.ub_shell.specs.Commands.{IsRunOn, RunsFile}
+use Rattle.ub_shell.specs.Checked.{ChecksFile}
 use Rattle.ub_shell.specs.Described.{DescribesFile}
 use Rattle.ub_shell.specs.Ran.{HasEnded, HasHelped, HasNoMemory, HasRefused}
 use Rattle.ub_shell.specs.Upgrading.{UpgradesFile}
@@ -53,6 +54,11 @@ AskingLeavesTheTable = (table script : List ℕ) (old new : FilesFacts) (out out
 abbrev pub DescribingLeavesTheTable : Type 0
 DescribingLeavesTheTable = (table : List ℕ) (old new : FilesFacts) (out out_now : OutFacts) (status : Status)
     → DescribesFile table old new out out_now status → IsHeldStill (old.holds table) (new.holds table)
+
+-- a table file that was checked is as it was, page for page, whatever it is and however that has ended
+abbrev pub CheckingLeavesTheTable : Type 0
+CheckingLeavesTheTable = (table : List ℕ) (old new : FilesFacts) (out out_now : OutFacts) (status : Status)
+    → ChecksFile table old new out out_now status → IsHeldStill (old.holds table) (new.holds table)
 
 -- a table file of an older version is as it was, page for page, whatever it is and however making it anew at another path has ended
 abbrev pub UpgradingLeavesTheOldTable : Type 0
