@@ -1,5 +1,8 @@
 -- What describing a table file leaves of files, step by step.
-use Rattle.std.proofs.Common.{◌≡◌, ◌∙◌, ℕ, List, Result, Ok, Err, IfOk, inl, inr, ap, refl, subst}
+use Rattle.std.proofs.Common.{◌≡◌, ◌∙◌, ◌+◌, ◌++◌, ℕ, List, [], ◌∷◌, Result, Ok, Err, IfOk, inl, inr, ap, arith, refl, subst, sym}
+use Rattle.std.proofs.lemmas.List.{flat_map_more, map-id}
+use Rattle.std.proofs.lemmas.List.FromFn.{map-range_with_len_more}
+use Rattle.std.specs.List.{flat_map, range_with_len}
 use Rattle.std.specs.Prelude.{IfErr, IsErrAnd}
 use Rattle.ub_files.specs.Files.{FilesFacts, IsLent, OpensFile, PutsBack}
 use Rattle.ub_script.specs.Output.{OutFacts}
@@ -17,7 +20,16 @@ use Rattle.ub_tree.specs.declared.fault.TreeFault.{TreeFault}
 use Rattle.ub_tree.specs.declared.fault.TreeFault.TheVariants.{Memory}
 use Rattle.ub_upgrade.specs.Bringing.{HasOldHeader}
 use Rattle.ub_upgrade.specs.declared.fault.UpgradeFault.TheVariants.{Old}
-pub use Rattle.ub_page.proofs.WriteFacts.{column_step}
+
+-- one line more
+range_more : (n : ℕ) → range_with_len 0 (n + 1) ≡ range_with_len 0 n ++ n ∷ []
+range_more n = sym (map-id (range_with_len 0 (n + 1))) ∙ map-range_with_len_more (λ (i : ℕ). i) 0 n n (omega arith) ∙ ap (λ (ns : List ℕ). ns ++ n ∷ []) (map-id (range_with_len 0 n))
+
+pub column_step : (line : ℕ → List ℕ) (n : ℕ) (start before after : List ℕ) → before ≡ start ++ flat_map line (range_with_len 0 n) → after ≡ before ++ line n
+    → after ≡ start ++ flat_map line (range_with_len 0 (n + 1))
+column_step line n start before after is put =
+    put ∙ ap (λ (s : List ℕ). s ++ line n) is ∙ flat_map_more line start (range_with_len 0 n) n
+    ∙ ap (λ (ns : List ℕ). start ++ flat_map line ns) (sym (range_more n))
 
 -- the store in the table file was lent and put back
 pub description_of : {A : Type 0} (table : List ℕ) (old lent new : FilesFacts) (out out_now : OutFacts) (status : Status) (a : A) (store : StoreFacts)
