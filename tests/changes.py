@@ -1,7 +1,7 @@
 #!/usr/bin/env python3
 """Compares what the program makes of small random scripts of INSERT, DELETE, SELECT and EXPLAIN with a model that is written apart from it.
 
-The model is a list of rows and a list of regions, into which rows are put and out of which they are taken by the rules of the README: so the
+The model is a list of rows and a list of regions, into which rows are put and out of which they are taken by the rules of `ub_region` (specs/Rows.antt, Joins.antt): so the
 number of each row, the rows of each query, and the pages and regions that it tells, are those of the table that the statements before it
 left. Every second script is one run on a table in memory; the others are parted among several runs on a table file.
 

@@ -1,7 +1,7 @@
 #!/usr/bin/env python3
 """Compares the pages and rows that the program tells of small random tables and queries with a model that is written apart from it.
 
-The model inserts rows into regions by the rules of the README, splits full ones, and finds which regions a sweep comes to by trying
+The model inserts rows into regions by the rules of `ub_region` (specs/Rows.antt), splits full ones, and finds which regions a sweep comes to by trying
 every point of a small space. Coordinates lie below 8, and beyond them each region's span is followed to the end of the space by the
 points that can be least or greatest there. Run by hand: tests/sweeps.py [HOW MANY [SEED [PROGRAM]]]. It prints how many were right and
 wrong. Its model of regions and queries also serves tests/changes.py.

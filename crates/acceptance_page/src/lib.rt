@@ -1,5 +1,5 @@
 // Tests of addresses, tables, regions, pages, stores and files, by their public calls alone. A
-// module is named after the crate that it tests; `page` has two more beside it. The values come
+// module is named after the crate that it tests; `page` has three more beside it. The values come
 // from worked rows and hand arithmetic, never from the program's own output.
 #![tactic(auto)]
 
@@ -9,6 +9,8 @@ mod bigmin;
 mod calls;
 #[cfg(test)]
 mod file;
+#[cfg(test)]
+mod old_headers;
 #[cfg(test)]
 mod page;
 #[cfg(test)]

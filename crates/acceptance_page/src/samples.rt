@@ -47,7 +47,7 @@ pub(crate) fn page_of(bytes: &[(usize, u8)], changes: &[(usize, u8)]) -> Page {
 }
 
 // Puts a number into a page, on so many bytes from an offset on, the highest byte first.
-fn poke(page: &mut [u8], at: usize, width: u32, number: u128) {
+pub(crate) fn poke(page: &mut [u8], at: usize, width: u32, number: u128) {
     let mut rest = number;
     for i in 0..width {
         let place = at.wrapping_add((width - 1 - i) as usize);

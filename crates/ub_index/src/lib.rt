@@ -48,6 +48,7 @@
 //  - Where a search would go back on a leaf, the leaf is checked in full, and refused for what is wrong with it. Where the ways
 //    to two leaves contradict each other, so that a later region would not begin later, OutOfRegion of the root is told.
 //  - A change checks each page on its way in full, held or not, since it spells the entries anew that stand there.
+//  - Who looks at all pages asks for them one by one (`entries`): each is checked in full, held or not.
 //
 // CHANGES. A change is one region's entry that goes, or gets another one behind it. It goes down as a search does and back up
 // (`turning`), and tells each page above by which entries to name what it led to (`told`):
@@ -77,6 +78,7 @@
 
 pub mod change;
 mod descent;
+pub mod entries;
 pub mod fault;
 mod goal;
 pub mod index;
@@ -90,6 +92,7 @@ mod told;
 mod turning;
 
 pub use change::Change;
+pub use entries::entries_at;
 pub use fault::IndexFault;
 pub use index::Index;
 pub use seat::Seat;

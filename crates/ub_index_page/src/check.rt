@@ -5,7 +5,7 @@ ghost use Rattle.ub_page.specs.Entries.{AreAscending, IsEntry, entries_on};
 ghost use Rattle.ub_index_page.specs.Index.{Node, IsNode, index_page, head_on, node_on, IsBlankBehind, IsIndexFault};
 
 use crate::index::{Head, read_head};
-use crate::slots::{entry_at, first_at};
+use crate::slots::entry_at;
 use ub_page::Page;
 use ub_page::entries::{MAX_ENTRIES, is_in_range};
 use ub_page::page::{is_blank_from, u32_at, u64_at};
@@ -21,16 +21,40 @@ pub fn check_index(last: u128, page: &Page) -> Result<Head, PageFault>
     ensures refused { IfErr result (IsIndexFault last page.now) }
 {
     let head = read_head(page)?;
-    if !are_in_range(page, head.count, last) {
-        return Err(PageFault::BadRow);
-    }
-    if !are_ascending(page, head.count) {
+    if !are_well(page, head.count, last) {
+        if !are_in_range(page, head.count, last) {
+            return Err(PageFault::BadRow);
+        }
         return Err(PageFault::BadOrder);
     }
     if !is_blank_behind(page, head.count) {
         return Err(PageFault::BadPadding);
     }
     Ok(head)
+}
+
+// Whether the first so many entries are in range and begin one after the other. Each is read once.
+fn are_well(page: &Page, count: usize, last: u128) -> bool
+    requires some { 1 ≤ count }
+    requires few { count ≤ MAX_ENTRIES }
+    ensures { IsTrue result ↔ (AllByRecursion (IsEntry last) (entries_on 16 count page.now)
+        × AreAscending (entries_on 16 count page.now)) }
+{
+    let mut before = entry_at(page, 0);
+    if !is_in_range(&before, last) {
+        return false;
+    }
+    for slot in 1..count {
+        let entry = entry_at(page, slot);
+        if !is_in_range(&entry, last) {
+            return false;
+        }
+        if !before.first.is_before(&entry.first) {
+            return false;
+        }
+        before = entry;
+    }
+    true
 }
 
 // Whether the first so many entries are in range.
@@ -42,23 +66,6 @@ fn are_in_range(page: &Page, count: usize, last: u128) -> bool
         if !is_in_range(&entry_at(page, slot), last) {
             return false;
         }
-    }
-    true
-}
-
-// Whether the first so many entries begin one after the other.
-fn are_ascending(page: &Page, count: usize) -> bool
-    requires some { 1 ≤ count }
-    requires few { count ≤ MAX_ENTRIES }
-    ensures { IsTrue result ↔ AreAscending (entries_on 16 count page.now) }
-{
-    let mut before = first_at(page, 0);
-    for slot in 1..count {
-        let first = first_at(page, slot);
-        if !before.is_before(&first) {
-            return false;
-        }
-        before = first;
     }
     true
 }

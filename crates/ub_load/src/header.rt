@@ -26,7 +26,8 @@ pub fn read_schema(
     requires mask { IsMask axes.dims axes.signed }
     ensures schema { IfOk result (IsSchemaOf (fields_of header.now) axes page_rows name.now) }
     ensures few_columns { OnOk result (length (fields_of header.now) ≤ axes.dims + 4) }
-    ensures accepted { OnOk result (header_refusal axes.dims name.now (columns_of (fields_of header.now)) ≡ None) }
+    ensures accepted { OnOk result
+        (header_refusal axes.dims name.now (columns_of (fields_of header.now)) ≡ None) }
     ensures refused { IfErr result
         (λ f. header_refusal axes.dims name.now (columns_of (fields_of header.now)) ≡ Some f) }
 {
@@ -49,7 +50,8 @@ fn read_names(header: &ByteRecord, filler: Name) -> Result<[Name; 8], LoadFault>
     ensures names { IfOk result
         (λ all. take (length (fields_of header.now)) all ≡ columns_of (fields_of header.now)) }
     ensures accepted { OnOk result (names_refusal (columns_of (fields_of header.now)) ≡ None) }
-    ensures refused { IfErr result (λ fault. names_refusal (columns_of (fields_of header.now)) ≡ Some fault) }
+    ensures refused { IfErr result
+        (λ fault. names_refusal (columns_of (fields_of header.now)) ≡ Some fault) }
 {
     let mut names = [filler; 8];
     for place in 0..header.len() {

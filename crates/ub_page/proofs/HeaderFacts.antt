@@ -15,7 +15,7 @@ use Rattle.ub_page.specs.declared.header.TheConstants.{FIRST_INDEXED, FIRST_SIGN
 use Rattle.ub_page.proofs.BytesFacts.{length-number_bytes, read_at, layout_read, length-layout, AllFit}
 use Rattle.ub_page.proofs.DraftFacts.{of_front}
 use Rattle.ub_table.proofs.Laws.{name_block, length-name}
-use Rattle.ub_table.proofs.MaskFacts.{few}
+use Rattle.ub_table.proofs.Laws.{few}
 use Rattle.ub_table.specs.Block.{IsNameBlock}
 use Rattle.ub_table.specs.Name.{IsName}
 use Rattle.ub_table.specs.declared.fault.PageFault.TheVariants.{WrongKind, OldFormat, Unclean, BadCount, BadName, BadRow, BadOrder, OutOfRegion, BadPadding}

@@ -18,8 +18,7 @@ use Rattle.ub_query.specs.declared.condition.Operator.TheVariants.{Less, Greater
 use Rattle.ub_query.specs.declared.query.Aggregate.TheVariants.{Sum}
 use Rattle.ub_query.specs.declared.query.Item.{Item}
 use Rattle.ub_query.specs.declared.query.Item.TheVariants.{Column, Count, Aggregate}
-use Rattle.ub_table.proofs.Laws.{shift_is, values_ascend}
-use Rattle.ub_table.proofs.ValueFacts.{values_of_a_dimension}
+use Rattle.ub_table.proofs.Laws.{shift_is, values_ascend, values_of_a_dimension}
 use Rattle.ub_table.specs.Value.{shift, value_at}
 use Rattle.ub_table.specs.declared.axes.Axes.{Axes}
 use Rattle.ub_table.specs.declared.row.Row.{Row}

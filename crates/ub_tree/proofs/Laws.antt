@@ -18,12 +18,13 @@ use Rattle.ub_index.proofs.Numbers.{distinct_right}
 use Rattle.ub_index.specs.View.{entries_in}
 use Rattle.ub_index_page.specs.declared.index.TheConstants.{MAX_LEVEL}
 use Rattle.ub_tree.specs.Handing.{AreMetBy}
-use Rattle.ub_tree.specs.Laws.{SpansAscend, PagesDiffer, SpansCoverTheSpace, RowsLieInSpans, RegionsAreTold, NextIsTheFirst, NextIsLater, AnswersAreThoseThatMeet, AnswersAreRegionsThatMeet, AnswersAscend, GrownIsNotFull}
+use Rattle.ub_tree.specs.Laws.{SpansAscend, PagesDiffer, SpansCoverTheSpace, RowsLieInSpans, RegionsAreTold, NextIsTheFirst, NextIsLater, AnswersAreThoseThatMeet, AnswersAreRegionsThatMeet, AnswersAscend, GrownIsNotFull, WellPagesAreSound, SoundTreesAreWell}
 use Rattle.ub_tree.specs.Placed.{Placed, entry_of, regions_in}
 use Rattle.ub_tree.specs.Indexed.{reserved}
 use Rattle.ub_tree.specs.Spans.{first_keys, regions_of, First, IsLater, Meets, Region as Span}
 use Rattle.ub_tree.specs.Told.{pager_of}
 use Rattle.ub_tree.specs.View.{TreeView, IsSound, regions, spans_of}
+use Rattle.ub_tree.proofs.WellFacts.{opened_pages, opened_sound, sound_well}
 use Rattle.ub_zaddr.specs.Address.{last_address}
 pub use Rattle.ub_tree.proofs.AnswerFacts.{HasAnswers, HasAnswers-none, HasAnswers-more, answers_ended, answers_later, answers_there, left_after, left_less}
 pub use Rattle.ub_tree.proofs.NewFacts.{new_values, numbered_row}
@@ -174,3 +175,9 @@ grown_is_not_full t sound grown full =
     let low : t.inner.index.levels < MAX_LEVEL = filled_low_levels t.inner.index t.store (sound_index t sound) grown (let less : length entries < 2 ^ 32 = omega arith in less) in
     let same : t.inner.index.levels ≡ MAX_LEVEL = full.0 in
     omega arith
+
+pub well_pages_are_sound : WellPagesAreSound
+well_pages_are_sound facts t honest opened well = (opened_pages facts t honest opened well, opened_sound facts t honest opened well)
+
+pub sound_trees_are_well : SoundTreesAreWell
+sound_trees_are_well = sound_well

@@ -1,3 +1,7 @@
+pub mod NumberFacts
+pub mod CheckingFacts
+pub mod ApartFacts
+pub mod TakenFacts
 pub mod TreeFacts
 pub mod WayFacts
 pub mod NewFacts
@@ -35,5 +39,8 @@ pub mod ReadFacts
 pub mod CountFacts
 pub mod UpgradeFacts
 pub mod UpgradedFacts
+pub mod WellFacts
+pub mod OnceFacts
+pub mod CheckFacts
 pub mod Example
 pub mod Laws

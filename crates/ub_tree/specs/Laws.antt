@@ -8,10 +8,14 @@ use Rattle.ub_region.specs.Those.{AreThose}
 use Rattle.ub_table.specs.Keys.{IsBefore}
 use Rattle.ub_table.specs.Region.{Region, key_of}
 use Rattle.ub_table.specs.declared.row.Row.{Row}
+use Rattle.ub_store.specs.Facts.{StoreFacts, IsHonest}
 use Rattle.ub_tree.specs.Calls.{StandsAt}
+use Rattle.ub_tree.specs.Checking.{IsWell}
 use Rattle.ub_tree.specs.Effects.{IsIndexFull}
 use Rattle.ub_tree.specs.Grown.{IsOnlyGrown}
+use Rattle.ub_tree.specs.Opened.{IsOpened}
 use Rattle.ub_tree.specs.Spans.{First, IsLater, Meets, Region as Span}
+use Rattle.ub_tree.specs.Stored.{AreSoundPages}
 use Rattle.ub_tree.specs.Told.{AreAnswers, GivesNext, IsRegionOf}
 use Rattle.ub_tree.specs.View.{TreeView, IsSound, spans_of}
 use Rattle.ub_zaddr.specs.Address.{last_address}
@@ -75,3 +79,12 @@ AnswersAscend = (t : TreeView) (boxes : List Corners) (answers : List Span) (i j
 -- the index of a sound tree into which rows were only put isn't full: there would be more regions than can be counted
 abbrev pub GrownIsNotFull : Type 0
 GrownIsNotFull = (t : TreeView) → IsSound t → IsOnlyGrown t → ¬ (IsIndexFull t)
+
+-- a tree that was opened, and whose pages are well, is sound, and its pages are those of a closed table
+abbrev pub WellPagesAreSound : Type 0
+WellPagesAreSound = (store : StoreFacts) (t : TreeView) → IsHonest store → IsOpened store t → IsWell t
+    → AreSoundPages store.pages t.schema t.placed t.next × IsSound t
+
+-- the pages of a sound tree are well
+abbrev pub SoundTreesAreWell : Type 0
+SoundTreesAreWell = (t : TreeView) → IsSound t → IsWell t

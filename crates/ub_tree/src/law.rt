@@ -1,4 +1,4 @@
-ghost use Rattle.ub_tree.specs.Laws.{SpansAscend, PagesDiffer, SpansCoverTheSpace, RowsLieInSpans, RegionsAreTold, NextIsTheFirst, NextIsLater, AnswersAreThoseThatMeet, AnswersAreRegionsThatMeet, AnswersAscend, GrownIsNotFull};
+ghost use Rattle.ub_tree.specs.Laws.{SpansAscend, PagesDiffer, SpansCoverTheSpace, RowsLieInSpans, RegionsAreTold, NextIsTheFirst, NextIsLater, AnswersAreThoseThatMeet, AnswersAreRegionsThatMeet, AnswersAscend, GrownIsNotFull, WellPagesAreSound, SoundTreesAreWell};
 
 // Each function here does nothing, and its clause is a law of the definitions in specs/. So the law is proved, and is read
 // beside the code.
@@ -57,4 +57,15 @@ pub fn answers_ascend()
 /// The index of a sound tree into which rows were only put, and none taken out, isn't full.
 pub fn grown_is_not_full()
     ensures { GrownIsNotFull }
+{}
+
+/// A tree that was opened, and whose pages are well, is sound, and its pages are those of a closed table. So `check` answers Ok
+/// just where they are, device and memory aside.
+pub fn well_pages_are_sound()
+    ensures { WellPagesAreSound }
+{}
+
+/// The pages of a sound tree are well.
+pub fn sound_trees_are_well()
+    ensures { SoundTreesAreWell }
 {}

@@ -2,9 +2,9 @@
 // region on a page. The definitions stand in specs/: `Spans` (the addresses that a region covers,
 // and which region a search asks for), `View` (what contracts see of a tree, and when it is sound),
 // `Indexed` (where its index stands), `Effects` (what a call leaves), `Stored` (the pages of a closed table), `Opened` (which pages are
-// opened), `Closing`; the functions of `law` ensure the laws of a sound tree. The code: `creation`
+// opened), `Closing`, `Checking` (where a check of all pages stops); the functions of `law` ensure the laws of a sound tree. The code: `creation`
 // and `opening` to begin, `tree` to search and read, `change` to put rows in, `removal` to take
-// them out, `closing` to end; `seats` asks the index where a region is.
+// them out, `closing` to end, `checking` to look at all pages; `seats` asks the index where a region is.
 //
 // What belongs here is what a tree does over a store. In which order its pages go out, and the mark of a changed table, stand in
 // `ub_writing`; where each region's page is, in `ub_index`; what regions are, in `ub_region`; how pages are spelled, and
@@ -13,11 +13,13 @@
 #![tactic(auto)]
 
 mod change;
+mod checking;
 mod closing;
 mod counting;
 mod creation;
 pub mod fault;
 pub mod law;
+mod numbers;
 mod opening;
 pub mod read_fault;
 mod reading;

@@ -24,8 +24,8 @@ returns-then-not-are_in_range-clause-exact c = λ node is e.
     ) in
     absurd (not_refused node c.args.page.now c.args.last small is e BadRow fault)
 
-pub returns-then-not-are_ascending-clause-exact : goal.returns-then-not-are_ascending-clause-exact
-returns-then-not-are_ascending-clause-exact c = λ node is e.
+pub returns-then-not-are_well-clause-exact : goal.returns-then-not-are_well-clause-exact
+returns-then-not-are_well-clause-exact c = λ node is e.
     let small : c.args.last < 256 ^ 16 = omega arith in
     let head = c.in_ok-head.ensures.passed in
     let count = ap (λ (h : Head). h.count) c.in_ok-head.ensures.head in
@@ -35,7 +35,7 @@ returns-then-not-are_ascending-clause-exact c = λ node is e.
       head.1,
       entries,
       λ all.
-          let yes : c.are_ascending.result ≡ true = c.are_ascending.ensures.1 (rw count all) in let not_so = c.if-not-are_ascending.true in cc,
+          let yes : c.are_well.result ≡ true = c.are_well.ensures.1 (rw count (entries, all)) in let not_so = c.if-not-are_well.true in cc,
     ) in
     absurd (not_refused node c.args.page.now c.args.last small is e BadOrder fault)
 
@@ -44,8 +44,9 @@ returns-then-not-is_blank_behind-clause-refused c =
     let small : c.args.last < 256 ^ 16 = omega arith in
     let head = c.in_ok-head.ensures.passed in
     let count = ap (λ (h : Head). h.count) c.in_ok-head.ensures.head in
-    let entries : HasNodeEntries c.args.last c.args.page.now = rw count at (c.are_in_range.ensures.0 c.if-not-are_in_range.false) in
-    let order : HasNodeOrder c.args.page.now = rw count at (c.are_ascending.ensures.0 c.if-not-are_ascending.false) in
+    let well = c.are_well.ensures.0 c.if-not-are_well.false in
+    let entries : HasNodeEntries c.args.last c.args.page.now = rw count at well.0 in
+    let order : HasNodeOrder c.args.page.now = rw count at well.1 in
     padding_fault c.args.page.now c.args.last small head.0 head.1 entries order
     (λ blank. let yes : c.is_blank_behind.result ≡ true = c.is_blank_behind.ensures.1 (rw count blank) in let not_so = c.if-not-is_blank_behind.true in cc)
 
@@ -54,8 +55,9 @@ returns-then-not-is_blank_behind-clause-exact c = λ node is e.
     let small : c.args.last < 256 ^ 16 = omega arith in
     let head = c.in_ok-head.ensures.passed in
     let count = ap (λ (h : Head). h.count) c.in_ok-head.ensures.head in
-    let entries : HasNodeEntries c.args.last c.args.page.now = rw count at (c.are_in_range.ensures.0 c.if-not-are_in_range.false) in
-    let order : HasNodeOrder c.args.page.now = rw count at (c.are_ascending.ensures.0 c.if-not-are_ascending.false) in
+    let well = c.are_well.ensures.0 c.if-not-are_well.false in
+    let entries : HasNodeEntries c.args.last c.args.page.now = rw count at well.0 in
+    let order : HasNodeOrder c.args.page.now = rw count at well.1 in
     let fault : IsIndexFault c.args.last c.args.page.now BadPadding = padding_fault c.args.page.now c.args.last small head.0 head.1 entries order
     (λ blank. let yes : c.is_blank_behind.result ≡ true = c.is_blank_behind.ensures.1 (rw count blank) in let not_so = c.if-not-is_blank_behind.true in cc) in
     absurd (not_refused node c.args.page.now c.args.last small is e BadPadding fault)
@@ -64,7 +66,8 @@ pub returns-clause-found : goal.returns-clause-found
 returns-clause-found c =
     let head = c.in_ok-head.ensures.passed in
     let count = ap (λ (h : Head). h.count) c.in_ok-head.ensures.head in
-    let entries : HasNodeEntries c.args.last c.args.page.now = rw count at (c.are_in_range.ensures.0 c.if-not-are_in_range.false) in
-    let order : HasNodeOrder c.args.page.now = rw count at (c.are_ascending.ensures.0 c.if-not-are_ascending.false) in
+    let well = c.are_well.ensures.0 c.if-not-are_well.false in
+    let entries : HasNodeEntries c.args.last c.args.page.now = rw count at well.0 in
+    let order : HasNodeOrder c.args.page.now = rw count at well.1 in
     let blank : IsBlankBehind (number_at 2 2 c.args.page.now) c.args.page.now = rw count at (c.is_blank_behind.ensures.0 c.if-not-is_blank_behind.false) in
     (is_node c.args.page.now c.args.last head.1 entries order, spelled c.args.page.now c.told-page c.fits-page head.0 head.1 blank)
