@@ -12,7 +12,7 @@ use Rattle.ub_words.proofs.Laws.{no_help_taken}
 use Rattle.ub_words.specs.CommandLine.{AsksHelpAlone, AsksNext}
 use Rattle.ub_shell.specs.Commands.{IsRunOn, IsUntold}
 use Rattle.ub_shell.proofs.LeftFacts.{run_leaves, run_stays, where_ok}
-use Rattle.ub_shell.specs.Laws.{AskingLeavesTheTable, CheckingLeavesTheTable, DescribingLeavesTheTable, IsClosedTable, IsHeldStill, IsOldTable, OnlyHelpIsWritten, UnchangedTablesAreLeft, UpgradedTablesAreTheSame, UpgradingLeavesTheOldTable, WhatWasDoneStands, WrongWordsAreTold}
+use Rattle.ub_shell.specs.Laws.{AskingLeavesTheTable, CheckedTablesAreSound, CheckingLeavesTheTable, DescribingLeavesTheTable, IsClosedTable, IsHeldStill, IsOldTable, IsSoundTable, OnlyHelpIsWritten, UnchangedTablesAreLeft, UpgradedTablesAreTheSame, UpgradingLeavesTheOldTable, WhatWasDoneStands, WrongWordsAreTold}
 use Rattle.ub_shell.specs.Checked.{IsChecked, IsIll}
 use Rattle.ub_shell.specs.Described.{IsDescribed, IsUndescribed}
 use Rattle.ub_shell.specs.Ending.{Tells}
@@ -24,6 +24,7 @@ use Rattle.ub_exec.proofs.Laws.{sound_trees_stand}
 use Rattle.ub_script.specs.Output.{OutFacts}
 use Rattle.ub_script.specs.Script.{OnlyAsks}
 use Rattle.ub_table.specs.declared.schema.Schema.{Schema}
+use Rattle.ub_tree.proofs.Laws.{well_pages_are_sound}
 use Rattle.ub_tree.specs.declared.fault.TreeFault.{TreeFault}
 use Rattle.ub_tree.specs.declared.fault.TreeFault.TheVariants as tree
 use Rattle.ub_tree.specs.declared.fault.TreeFault.TheVariants.{Failed}
@@ -225,6 +226,32 @@ upgraded_tables_are_the_same source table old new out out_now version next schem
       let here = old_pages version next schema placed (old.holds source) anew.store anew.lent.stored sound in
       file_anew table anew.store kept.0 kept.1 version next schema placed anew.upgrades.mid new mid_honest (anew.lent.lent.honest honest) here kept.2
   | inr unkept ↦ absurd (tree_not_done unkept.0 (told_done _ _ _ _ unkept.2))
+]
+
+-- ---- a table file that was checked, with nothing wrong
+
+sound_table : (held : Held) (from : StoreFacts) (schema : Schema) (placed : List Placed) (next : ℕ) → IsStored held from → AreSoundPages from.pages schema placed next
+    → IsSoundTable held
+sound_table untold from schema placed next stored sound = tt
+sound_table (pages all) from schema placed next stored sound =
+    (schema, placed, next, subst (λ (ps : List (List ℕ)). AreSoundPages ps schema placed next) stored sound)
+sound_table absent from schema placed next stored sound = absurd stored
+sound_table (bytes text) from schema placed next stored sound = absurd stored
+sound_table torn from schema placed next stored sound = absurd stored
+sound_table lent_out from schema placed next stored sound = absurd stored
+
+pub checked_tables_are_sound : CheckedTablesAreSound
+checked_tables_are_sound table old new out out_now honest (inr unopened) =
+    absurd (store_not_done unopened.fault (told_done _ _ _ _ unopened.tells))
+checked_tables_are_sound table old new out out_now honest (inl told) = elim told.checks.ended [
+  | inl well ↦
+      let t = well.is.tree in
+      let opened = well.is.tree_is.opened in
+      let here = told.lent.lent.honest honest in
+      let there : IsHonest t.store = subst (λ (s : StoreFacts). IsHonest s) (sym opened.store_is) here in
+      let sound = (well_pages_are_sound told.store t here opened (well.is.well there)).0 in
+      sound_table (old.holds table) told.store t.schema t.placed t.next told.lent.stored sound
+  | inr ill ↦ absurd (tree_not_done ill.fault (told_done _ _ _ _ ill.tells))
 ]
 
 -- ---- a table on which a script was run

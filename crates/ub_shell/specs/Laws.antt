@@ -71,6 +71,17 @@ IsClosedTable untold schema regions next = Unit {0}
 IsClosedTable (pages all) schema regions next = (placed : List Placed) × AreSoundPages all schema placed next × (regions_in placed ≡ regions)
 IsClosedTable _ schema regions next = ⊥
 
+-- where it is told what a path holds, it is the pages of a closed table
+abbrev pub IsSoundTable : Held → Type 0
+IsSoundTable untold = Unit {0}
+IsSoundTable (pages all) = (schema : Schema) × (placed : List Placed) × (next : ℕ) × AreSoundPages all schema placed next
+IsSoundTable _ = ⊥
+
+-- a table file that was checked, with nothing wrong, is a closed table
+abbrev pub CheckedTablesAreSound : Type 0
+CheckedTablesAreSound = (table : List ℕ) (old new : FilesFacts) (out out_now : OutFacts) → IsTrue old.honest
+    → ChecksFile table old new out out_now Done → IsSoundTable (old.holds table)
+
 -- what a path holds is the pages of a closed table of this older version
 abbrev pub IsOldTable : Held → ℕ → Schema → List Placed → ℕ → Type 0
 IsOldTable (pages all) version schema placed next = AreOldPages version all schema placed next

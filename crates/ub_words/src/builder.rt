@@ -144,15 +144,14 @@ const DESCRIBE_HELP: &str = "\
 Example:
   ubq describe sales.ub
 writes
-  table sales
+  table t
   dimension day
-  dimension zone
-  measure minutes
-  measure fare
-  rows 400
-  next 401
-  regions 34
-  page-rows 16
+  dimension shop
+  measure price
+  rows 1000
+  next 1001
+  regions 24
+  page-rows 64
   levels 1
   format 3
 
@@ -172,7 +171,7 @@ const CHECK_HELP: &str = "\
 Example:
   ubq check sales.ub
 writes
-  -- rows 400, regions 34
+  -- rows 1000, regions 24
 
 That line says that TABLE is sound: it was read from the root of its index on, each page can be read and stands where its
 entry says, each row stands in its region, no two rows have one number, each number is below the next one, and there are
