@@ -111,7 +111,12 @@ answers() {
     ask run no.ub examples/between.sql
     check "and so is a table" wrote '! Device\n'
     check "with that status" ended 4
+    ask describe tests/old/s.ub
+    check "a table file is described" wrote 'table t\ndimension x\ndimension y\nmeasure m\nrows 5\nnext 6\nregions 3\npage-rows 2\ndirectory-pages 1\nformat 1\n'
+    check "by the build that is not proved" is_unproved
     cp examples/s.csv "$room/none.ub"
+    ask describe "$room/none.ub"
+    check "one that is none is not" wrote '! BadSize\n'
     ask run "$room/none.ub" examples/between.sql
     check "a table file that is none is refused" ended 3
     check "and stands as it was" cmp -s examples/s.csv "$room/none.ub"

@@ -133,8 +133,30 @@ try 'a mask that no table has' 2 line "error: invalid value '16' for '--signed <
 try 'a table with none made signed' 0 all '-- rows 5, regions 3\n' load <("$ubq" run s.ub all.sql | grep -v '^-- ') both.ub --dims 2 --page-rows 2 --signed 3
 try 'answers the same' 0 all "$row1" run both.ub row1.sql
 
+# ---- what a table file tells by its header
+facts_of_s='table t\ndimension x\ndimension y\nmeasure m\nrows 5\nnext 6\nregions 3\npage-rows 2\n'
+try 'a table file is described' 0 all "${facts_of_s}levels 1\nformat 3\n" describe s.ub
+holds 'and stays as it was' cmp -s before.ub s.ub
+try 'one of format 1' 0 all "${facts_of_s}directory-pages 1\nformat 1\n" describe "$root/tests/old/s.ub"
+try 'one of format 2' 0 all "${facts_of_s}levels 1\nformat 2\n" describe "$root/tests/old/format_2/s.ub"
+head -c 4096 "$root/tests/old/s.ub" >cut.ub
+try 'of whose pages there is the first alone' 0 all "${facts_of_s}directory-pages 1\nformat 1\n" describe cut.ub
+try 'a table file that is not there' 4 all '! Device\n' describe missing.ub
+try 'a folder' 4 all '! Device\n' describe .
+try 'a text' 3 all '! BadSize\n' describe s.csv
+
+# ---- whether its pages are well
+try 'a table file is checked' 0 all '-- rows 5, regions 3\n' check s.ub
+holds 'and stays as it was' cmp -s before.ub s.ub
+try 'one of format 1 is not' 3 all '! OldFormat page 0\n' check "$root/tests/old/s.ub"
+try 'a table file to check that is not there' 4 all '! Device\n' check missing.ub
+try 'a text to check' 3 all '! BadSize\n' check s.csv
+{ head -c 4096 s.ub && printf '\0' && tail -c +4098 s.ub; } >kind.ub
+try 'a region that is none' 3 all '! WrongKind page 1\n' check kind.ub
+
 # ---- files that are refused
 : >none.ub
+try 'a file of no bytes is not described' 3 all '! NoPage\n' describe none.ub
 try 'a file of no bytes' 3 all '! NoPage\n' run none.ub row1.sql
 for size in 1 100 4095 4097 20479; do
     head -c $size s.ub >cut.ub
@@ -206,6 +228,8 @@ if "${as[@]}" "$ubq" --version >out 2>err; then
     chmod a+rx .
     chmod a=r s.ub
     try 'a table file that can only be read' 0 all "$row1" run s.ub row1.sql
+    try 'and is checked' 0 all '-- rows 5, regions 3\n' check s.ub
+    try 'and is described' 0 all "${facts_of_s}levels 1\nformat 3\n" describe s.ub
     try 'and is not loaded into' 4 all '! Device\n' load s.csv s.ub --dims 2
     try 'no row is put into it' 4 all '! Device\n' run s.ub insert.sql
     try 'none is put where there is room' 4 all '! Device\n' run s.ub <(printf 'INSERT INTO t VALUES (3, 0, 6);')
@@ -251,14 +275,20 @@ try 'no dimensions' 2 line 'Usage: ubq load --dims <D> <DATA> <TABLE>' load s.cs
 try 'the help' 0 line 'Usage: ubq <COMMAND>' --help
 try 'the help of load' 0 line 'Usage: ubq load [OPTIONS] --dims <D> <DATA> <TABLE>' load --help
 try 'the help of run' 0 line 'Usage: ubq run <TABLE> <SCRIPT>' run --help
+try 'standard input in the help of run' 0 line '       ubq run <TABLE> -         (the script is read from standard input)' run --help
+try 'and where the script is missing' 2 line '       ubq run <TABLE> -         (the script is read from standard input)' run s.ub
+try 'the help of check' 0 line 'Usage: ubq check <TABLE>' check --help
+try 'the help of describe' 0 line 'Usage: ubq describe <TABLE>' describe --help
 try 'the help of upgrade' 0 line 'Usage: ubq upgrade <OLD> <NEW>' upgrade --help
 try 'no new table' 2 line 'Usage: ubq upgrade <OLD> <NEW>' upgrade s.ub
-try 'the version' 0 all 'ubq 0.1.0\n' --version
+try 'the version' 0 all 'ubq 0.1.0 (table format 3)\n' --version
 
 # ---- where nothing can be written
 if [ -e /dev/full ]; then
     try 'a full device for a table file' 4 all '! Device\n' load s.csv /dev/full --dims 2
     try 'and as one that is asked: it has no bytes' 3 all '! NoPage\n' run /dev/full row1.sql
+    "$ubq" describe before.ub >/dev/full 2>err
+    holds 'a full device for what a table file tells' test $? -eq 4
     "$ubq" run before.ub row1.sql >/dev/full 2>err
     holds 'a full device for what is written' test $? -eq 4
     cp before.ub told.ub

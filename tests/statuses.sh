@@ -49,7 +49,7 @@ truncate -s 4G "$room/large.csv"
 ends 0 'x,y,m\n2,3,20\n3,0,5\n2,3,1\n-- rows 3, pages 3\n' \
     try "$room/table.csv" "$room/script.sql" --dims 2 --page-rows 2
 ends 0 'next 36\nprev 15\n' next 2,2 6,3 19
-ends 0 'ubq 0.1.0\n' --version
+ends 0 'ubq 0.1.0 (table format 3)\n' --version
 begins 0 'Answer SQL queries over a table of whole numbers, kept as a UB-tree in one file' --help
 ends 1 '! UnknownTable at 14\n' try "$room/table.csv" "$room/other.sql" --dims 2
 ends 2 '! BadPoint\n' next 2,2 6 19

@@ -23,6 +23,8 @@ use Rattle.ub_tree.specs.declared.fault.TreeFault.TheVariants as tree
 use Rattle.ub_table.specs.declared.axes.Axes.{Axes}
 use Rattle.ub_words.specs.Asked.{AreLines, IsAskedBy}
 use Rattle.ub_words.specs.CommandLine.{AsksHelp, AsksNothing}
+use Rattle.ub_words.specs.declared.given.CheckWords.{CheckWords}
+use Rattle.ub_words.specs.declared.given.DescribeWords.{DescribeWords}
 use Rattle.ub_words.specs.declared.given.LoadWords.{LoadWords}
 use Rattle.ub_words.specs.declared.given.NextWords.{NextWords}
 use Rattle.ub_words.specs.declared.given.RunWords.{RunWords}
@@ -32,6 +34,8 @@ use Rattle.ub_words.specs.declared.words.Asked.{Asked}
 use Rattle.ub_words.specs.declared.words.Asked.TheVariants as asked
 use Rattle.ub_shell.specs.Commands.{AsksStore, HasRead, HasRunTree, IsAskedOf, IsCopied, IsFileOf, IsTable, IsUnkept, IsUnopened, IsUnread, LoadsFile, RunsFile, TriesFiles, WritesFile, axes_asked}
 use Rattle.ub_files.specs.Copying.{Copies}
+use Rattle.ub_shell.specs.Checked.{ChecksFile}
+use Rattle.ub_shell.specs.Described.{DescribesFile}
 use Rattle.ub_shell.specs.Ending.{Tells}
 use Rattle.ub_files.specs.Files.{FilesFacts, IsLent, IsText, IsTorn, LendsFile, OpensFile, PutsBack, ReadsFile, Returns, raised_by}
 use Rattle.ub_next.specs.Next.{IsNextAnswer, answer_text}
@@ -260,10 +264,20 @@ pub upgrade_ends : (words : List (List ℕ)) (a : Asked) (u : UpgradeWords) (old
 upgrade_ends words a u old new out out_now status is by upgrades =
     inr (inr (inr (inl (record { source = u.old.now; table = u.new.now; asks = rw is at by; upgrades = upgrades }))))
 
+pub describe_ends : (words : List (List ℕ)) (a : Asked) (d : DescribeWords) (old new : FilesFacts) (out out_now : OutFacts) (status : Status) → a ≡ asked.Describe d
+    → IsAskedBy words a → DescribesFile d.table.now old new out out_now status → HasEnded words old new out out_now status
+describe_ends words a d old new out out_now status is by describes =
+    inr (inr (inr (inr (inl (record { table = d.table.now; asks = rw is at by; describes = describes })))))
+
+pub check_ends : (words : List (List ℕ)) (a : Asked) (k : CheckWords) (old new : FilesFacts) (out out_now : OutFacts) (status : Status) → a ≡ asked.Check k
+    → IsAskedBy words a → ChecksFile k.table.now old new out out_now status → HasEnded words old new out out_now status
+check_ends words a k old new out out_now status is by checks =
+    inr (inr (inr (inr (inr (inl (record { table = k.table.now; asks = rw is at by; checks = checks }))))))
+
 pub next_ends : (words : List (List ℕ)) (a : Asked) (n : NextWords) (files : FilesFacts) (out out_now : OutFacts) (status : Status) (answer : Result Neighbours NextFault)
     → a ≡ asked.Next n → IsAskedBy words a → IsNextAnswer n.low.now n.high.now n.address.now answer
     → Tells out out_now (answer_text answer) (answer_status answer) status → HasEnded words files files out out_now status
-next_ends words a n files out out_now status answer is by answers told = inr (inr (inr (inr (inl (record {
+next_ends words a n files out out_now status answer is by answers told = inr (inr (inr (inr (inr (inr (inl (record {
   lo = n.low.now;
   hi = n.high.now;
   z = n.address.now;
@@ -272,14 +286,14 @@ next_ends words a n files out out_now status answer is by answers told = inr (in
   answers = answers;
   tells = told;
   files = refl;
-})))))
+})))))))
 
 pub help_ends : (words : List (List ℕ)) (files : FilesFacts) (out out_now : OutFacts) (text bytes : List ℕ) (status : Status) → AsksHelp words × AreLines text → bytes ≡ text
     → Tells out out_now bytes Done status → HasEnded words files files out out_now status
 help_ends words files out out_now text bytes status by same told =
-    inr (inr (inr (inr (inr (inl (record { asks = by.0; text = text; lines = by.1; tells = rw same at told; files = refl }))))))
+    inr (inr (inr (inr (inr (inr (inr (inl (record { asks = by.0; text = text; lines = by.1; tells = rw same at told; files = refl }))))))))
 
 pub wrong_ends : (words : List (List ℕ)) (files : FilesFacts) (out out_now : OutFacts) (text bytes : List ℕ) (status : Status) → AsksNothing words × AreLines text → bytes ≡ text
     → Tells out out_now bytes CommandLine status → HasEnded words files files out out_now status
 wrong_ends words files out out_now text bytes status by same told =
-    inr (inr (inr (inr (inr (inr (inl (record { asks = by.0; text = text; lines = by.1; tells = rw same at told; files = refl })))))))
+    inr (inr (inr (inr (inr (inr (inr (inr (inl (record { asks = by.0; text = text; lines = by.1; tells = rw same at told; files = refl })))))))))

@@ -12,7 +12,9 @@ use Rattle.ub_words.proofs.Laws.{no_help_taken}
 use Rattle.ub_words.specs.CommandLine.{AsksHelpAlone, AsksNext}
 use Rattle.ub_shell.specs.Commands.{IsRunOn, IsUntold}
 use Rattle.ub_shell.proofs.LeftFacts.{run_leaves, run_stays, where_ok}
-use Rattle.ub_shell.specs.Laws.{AskingLeavesTheTable, IsClosedTable, IsHeldStill, IsOldTable, OnlyHelpIsWritten, UnchangedTablesAreLeft, UpgradedTablesAreTheSame, UpgradingLeavesTheOldTable, WhatWasDoneStands, WrongWordsAreTold}
+use Rattle.ub_shell.specs.Laws.{AskingLeavesTheTable, CheckedTablesAreSound, CheckingLeavesTheTable, DescribingLeavesTheTable, IsClosedTable, IsHeldStill, IsOldTable, IsSoundTable, OnlyHelpIsWritten, UnchangedTablesAreLeft, UpgradedTablesAreTheSame, UpgradingLeavesTheOldTable, WhatWasDoneStands, WrongWordsAreTold}
+use Rattle.ub_shell.specs.Checked.{IsChecked, IsIll}
+use Rattle.ub_shell.specs.Described.{IsDescribed, IsUndescribed}
 use Rattle.ub_shell.specs.Ending.{Tells}
 use Rattle.ub_shell.specs.Status.{store_fault_status, tree_fault_status}
 use Rattle.ub_shell.specs.Upgrading.{IsFileAnew, KeepsAnew}
@@ -22,6 +24,7 @@ use Rattle.ub_exec.proofs.Laws.{sound_trees_stand}
 use Rattle.ub_script.specs.Output.{OutFacts}
 use Rattle.ub_script.specs.Script.{OnlyAsks}
 use Rattle.ub_table.specs.declared.schema.Schema.{Schema}
+use Rattle.ub_tree.proofs.Laws.{well_pages_are_sound}
 use Rattle.ub_tree.specs.declared.fault.TreeFault.{TreeFault}
 use Rattle.ub_tree.specs.declared.fault.TreeFault.TheVariants as tree
 use Rattle.ub_tree.specs.declared.fault.TreeFault.TheVariants.{Failed}
@@ -39,20 +42,24 @@ only_help_is_written words old new out out_now status alone (inl load) = absurd 
 only_help_is_written words old new out out_now status alone (inr (inl run)) = absurd (no_help_taken words run.asks.1.0 alone)
 only_help_is_written words old new out out_now status alone (inr (inr (inl tried))) = absurd (no_help_taken words tried.asks.1.0 alone)
 only_help_is_written words old new out out_now status alone (inr (inr (inr (inl upgrade)))) = absurd (no_help_taken words upgrade.asks.1.0 alone)
-only_help_is_written words old new out out_now status alone (inr (inr (inr (inr (inl next))))) = absurd (no_next words _ _ _ alone next.asks)
-only_help_is_written words old new out out_now status alone (inr (inr (inr (inr (inr (inl help)))))) = inl help
-only_help_is_written words old new out out_now status alone (inr (inr (inr (inr (inr (inr (inl wrong))))))) = absurd (wrong.asks.no_help alone)
-only_help_is_written words old new out out_now status alone (inr (inr (inr (inr (inr (inr (inr memory))))))) = inr memory
+only_help_is_written words old new out out_now status alone (inr (inr (inr (inr (inl described))))) = absurd (no_help_taken words described.asks.1.0 alone)
+only_help_is_written words old new out out_now status alone (inr (inr (inr (inr (inr (inl check)))))) = absurd (no_help_taken words check.asks.1.0 alone)
+only_help_is_written words old new out out_now status alone (inr (inr (inr (inr (inr (inr (inl next))))))) = absurd (no_next words _ _ _ alone next.asks)
+only_help_is_written words old new out out_now status alone (inr (inr (inr (inr (inr (inr (inr (inl help)))))))) = inl help
+only_help_is_written words old new out out_now status alone (inr (inr (inr (inr (inr (inr (inr (inr (inl wrong))))))))) = absurd (wrong.asks.no_help alone)
+only_help_is_written words old new out out_now status alone (inr (inr (inr (inr (inr (inr (inr (inr (inr memory))))))))) = inr memory
 
 pub wrong_words_are_told : WrongWordsAreTold
 wrong_words_are_told words old new out out_now status nothing no_help (inl load) = absurd (nothing.no_load _ _ _ _ _ _ load.asks)
 wrong_words_are_told words old new out out_now status nothing no_help (inr (inl run)) = absurd (nothing.no_run _ _ run.asks)
 wrong_words_are_told words old new out out_now status nothing no_help (inr (inr (inl tried))) = absurd (nothing.no_try _ _ _ _ _ _ tried.asks)
 wrong_words_are_told words old new out out_now status nothing no_help (inr (inr (inr (inl upgrade)))) = absurd (nothing.no_upgrade _ _ upgrade.asks)
-wrong_words_are_told words old new out out_now status nothing no_help (inr (inr (inr (inr (inl next))))) = absurd (nothing.no_next _ _ _ next.asks)
-wrong_words_are_told words old new out out_now status nothing no_help (inr (inr (inr (inr (inr (inl help)))))) = absurd (no_help help.asks)
-wrong_words_are_told words old new out out_now status nothing no_help (inr (inr (inr (inr (inr (inr (inl wrong))))))) = inl wrong
-wrong_words_are_told words old new out out_now status nothing no_help (inr (inr (inr (inr (inr (inr (inr memory))))))) = inr memory
+wrong_words_are_told words old new out out_now status nothing no_help (inr (inr (inr (inr (inl described))))) = absurd (nothing.no_describe _ described.asks)
+wrong_words_are_told words old new out out_now status nothing no_help (inr (inr (inr (inr (inr (inl check)))))) = absurd (nothing.no_check _ check.asks)
+wrong_words_are_told words old new out out_now status nothing no_help (inr (inr (inr (inr (inr (inr (inl next))))))) = absurd (nothing.no_next _ _ _ next.asks)
+wrong_words_are_told words old new out out_now status nothing no_help (inr (inr (inr (inr (inr (inr (inr (inl help)))))))) = absurd (no_help help.asks)
+wrong_words_are_told words old new out out_now status nothing no_help (inr (inr (inr (inr (inr (inr (inr (inr (inl wrong))))))))) = inl wrong
+wrong_words_are_told words old new out out_now status nothing no_help (inr (inr (inr (inr (inr (inr (inr (inr (inr memory))))))))) = inr memory
 
 -- ---- a table file that was only asked
 
@@ -109,6 +116,32 @@ asking_leaves_the_table table script old new out out_now status other asks (inl 
           put_back_same (run.mid.holds table) (new.holds table) asked.store asked.asks.left asked.lent.stored asked.asks.back.held same.0 (same.1 ∙ asked.lent.lent.unfailed)
       | inr unopened ↦ still_same (run.mid.holds table) (new.holds table) unopened.files.kept
     ])
+
+-- ---- a table file that was described
+
+described_left : {out out_now : OutFacts} {status : Status} (from left : StoreFacts) → IsDescribed from left out out_now status ⊎ IsUndescribed from left out out_now status
+    → (left.pages ≡ from.pages) × (left.failed_writes ≡ from.failed_writes)
+described_left from left (inl told) = (ap (λ (s : StoreFacts). s.pages) told.left_is, ap (λ (s : StoreFacts). s.failed_writes) told.left_is)
+described_left from left (inr told) = (ap (λ (s : StoreFacts). s.pages) told.left_is, ap (λ (s : StoreFacts). s.failed_writes) told.left_is)
+
+pub describing_leaves_the_table : DescribingLeavesTheTable
+describing_leaves_the_table table old new out out_now status (inl told) =
+    let same = described_left told.store told.describes.left told.describes.ended in
+    put_back_same (old.holds table) (new.holds table) told.store told.describes.left told.lent.stored told.describes.back.held same.0 (same.1 ∙ told.lent.lent.unfailed)
+describing_leaves_the_table table old new out out_now status (inr unopened) = still_same (old.holds table) (new.holds table) unopened.files.kept
+
+-- ---- a table file that was checked
+
+checked_left : {out out_now : OutFacts} {status : Status} (from left : StoreFacts) → IsChecked from left out out_now status ⊎ IsIll from left out out_now status
+    → (left.pages ≡ from.pages) × (left.failed_writes ≡ from.failed_writes)
+checked_left from left (inl told) = (ap (λ (s : StoreFacts). s.pages) told.left_is, ap (λ (s : StoreFacts). s.failed_writes) told.left_is)
+checked_left from left (inr told) = (ap (λ (s : StoreFacts). s.pages) told.left_is, ap (λ (s : StoreFacts). s.failed_writes) told.left_is)
+
+pub checking_leaves_the_table : CheckingLeavesTheTable
+checking_leaves_the_table table old new out out_now status (inl told) =
+    let same = checked_left told.store told.checks.left told.checks.ended in
+    put_back_same (old.holds table) (new.holds table) told.store told.checks.left told.lent.stored told.checks.back.held same.0 (same.1 ∙ told.lent.lent.unfailed)
+checking_leaves_the_table table old new out out_now status (inr unopened) = still_same (old.holds table) (new.holds table) unopened.files.kept
 
 -- ---- a table file of an older version that was made anew
 
@@ -193,6 +226,32 @@ upgraded_tables_are_the_same source table old new out out_now version next schem
       let here = old_pages version next schema placed (old.holds source) anew.store anew.lent.stored sound in
       file_anew table anew.store kept.0 kept.1 version next schema placed anew.upgrades.mid new mid_honest (anew.lent.lent.honest honest) here kept.2
   | inr unkept ↦ absurd (tree_not_done unkept.0 (told_done _ _ _ _ unkept.2))
+]
+
+-- ---- a table file that was checked, with nothing wrong
+
+sound_table : (held : Held) (from : StoreFacts) (schema : Schema) (placed : List Placed) (next : ℕ) → IsStored held from → AreSoundPages from.pages schema placed next
+    → IsSoundTable held
+sound_table untold from schema placed next stored sound = tt
+sound_table (pages all) from schema placed next stored sound =
+    (schema, placed, next, subst (λ (ps : List (List ℕ)). AreSoundPages ps schema placed next) stored sound)
+sound_table absent from schema placed next stored sound = absurd stored
+sound_table (bytes text) from schema placed next stored sound = absurd stored
+sound_table torn from schema placed next stored sound = absurd stored
+sound_table lent_out from schema placed next stored sound = absurd stored
+
+pub checked_tables_are_sound : CheckedTablesAreSound
+checked_tables_are_sound table old new out out_now honest (inr unopened) =
+    absurd (store_not_done unopened.fault (told_done _ _ _ _ unopened.tells))
+checked_tables_are_sound table old new out out_now honest (inl told) = elim told.checks.ended [
+  | inl well ↦
+      let t = well.is.tree in
+      let opened = well.is.tree_is.opened in
+      let here = told.lent.lent.honest honest in
+      let there : IsHonest t.store = subst (λ (s : StoreFacts). IsHonest s) (sym opened.store_is) here in
+      let sound = (well_pages_are_sound told.store t here opened (well.is.well there)).0 in
+      sound_table (old.holds table) told.store t.schema t.placed t.next told.lent.stored sound
+  | inr ill ↦ absurd (tree_not_done ill.fault (told_done _ _ _ _ ill.tells))
 ]
 
 -- ---- a table on which a script was run

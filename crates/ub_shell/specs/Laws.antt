@@ -18,6 +18,8 @@ use Rattle.ub_tree.specs.Placed.{Placed, regions_in}
 use Rattle.ub_tree.specs.Stored.{AreSoundPages}
 use Rattle.ub_files.specs.Files.{FilesFacts, Held, IsText, pages, standard_input, untold}
 use Rattle.ub_shell.specs.Commands.{IsRunOn, RunsFile}
+use Rattle.ub_shell.specs.Checked.{ChecksFile}
+use Rattle.ub_shell.specs.Described.{DescribesFile}
 use Rattle.ub_shell.specs.Ran.{HasEnded, HasHelped, HasNoMemory, HasRefused}
 use Rattle.ub_shell.specs.Upgrading.{UpgradesFile}
 use Rattle.ub_shell.specs.declared.status.Status.{Status}
@@ -48,6 +50,16 @@ abbrev pub AskingLeavesTheTable : Type 0
 AskingLeavesTheTable = (table script : List ℕ) (old new : FilesFacts) (out out_now : OutFacts) (status : Status) → table ≢ standard_input
     → IsOnlyAsking (old.holds script) → RunsFile table script old new out out_now status → IsHeldStill (old.holds table) (new.holds table)
 
+-- a table file that was described is as it was, page for page, whatever it is and however that has ended
+abbrev pub DescribingLeavesTheTable : Type 0
+DescribingLeavesTheTable = (table : List ℕ) (old new : FilesFacts) (out out_now : OutFacts) (status : Status)
+    → DescribesFile table old new out out_now status → IsHeldStill (old.holds table) (new.holds table)
+
+-- a table file that was checked is as it was, page for page, whatever it is and however that has ended
+abbrev pub CheckingLeavesTheTable : Type 0
+CheckingLeavesTheTable = (table : List ℕ) (old new : FilesFacts) (out out_now : OutFacts) (status : Status)
+    → ChecksFile table old new out out_now status → IsHeldStill (old.holds table) (new.holds table)
+
 -- a table file of an older version is as it was, page for page, whatever it is and however making it anew at another path has ended
 abbrev pub UpgradingLeavesTheOldTable : Type 0
 UpgradingLeavesTheOldTable = (source table : List ℕ) (old new : FilesFacts) (out out_now : OutFacts) (status : Status) → source ≢ table
@@ -58,6 +70,17 @@ abbrev pub IsClosedTable : Held → Schema → List Region → ℕ → Type 0
 IsClosedTable untold schema regions next = Unit {0}
 IsClosedTable (pages all) schema regions next = (placed : List Placed) × AreSoundPages all schema placed next × (regions_in placed ≡ regions)
 IsClosedTable _ schema regions next = ⊥
+
+-- where it is told what a path holds, it is the pages of a closed table
+abbrev pub IsSoundTable : Held → Type 0
+IsSoundTable untold = Unit {0}
+IsSoundTable (pages all) = (schema : Schema) × (placed : List Placed) × (next : ℕ) × AreSoundPages all schema placed next
+IsSoundTable _ = ⊥
+
+-- a table file that was checked, with nothing wrong, is a closed table
+abbrev pub CheckedTablesAreSound : Type 0
+CheckedTablesAreSound = (table : List ℕ) (old new : FilesFacts) (out out_now : OutFacts) → IsTrue old.honest
+    → ChecksFile table old new out out_now Done → IsSoundTable (old.holds table)
 
 -- what a path holds is the pages of a closed table of this older version
 abbrev pub IsOldTable : Held → ℕ → Schema → List Placed → ℕ → Type 0

@@ -1,8 +1,10 @@
 -- How a command of the program has ended, by what its words ask for.
 use Rattle.std.specs.Prelude.{◌≡◌, ◌⊎◌, ℕ, List, Result, codes}
 use Rattle.ub_words.specs.Asked.{AreLines}
-use Rattle.ub_words.specs.CommandLine.{AsksHelp, AsksLoad, AsksNext, AsksNothing, AsksRun, AsksTry, AsksUpgrade}
+use Rattle.ub_words.specs.CommandLine.{AsksCheck, AsksDescribe, AsksHelp, AsksLoad, AsksNext, AsksNothing, AsksRun, AsksTry, AsksUpgrade}
 use Rattle.ub_shell.specs.Commands.{LoadsFile, RunsFile, TriesFiles}
+use Rattle.ub_shell.specs.Checked.{ChecksFile}
+use Rattle.ub_shell.specs.Described.{DescribesFile}
 use Rattle.ub_shell.specs.Ending.{Tells, words_fault_status, words_fault_text}
 use Rattle.ub_shell.specs.Upgrading.{UpgradesFile}
 use Rattle.ub_shell.specs.Status.{answer_status}
@@ -61,6 +63,18 @@ pub record HasUpgradedFile (words : List (List ℕ)) (old new : FilesFacts) (out
   pub asks : AsksUpgrade words source table
   pub upgrades : UpgradesFile source table old new out out_now status
 
+-- the words ask for what a table file tells
+pub record HasDescribed (words : List (List ℕ)) (old new : FilesFacts) (out out_now : OutFacts) (status : Status) : Type 0 where
+  pub table : List ℕ
+  pub asks : AsksDescribe words table
+  pub describes : DescribesFile table old new out out_now status
+
+-- the words ask whether the pages of a table file are well
+pub record HasChecked (words : List (List ℕ)) (old new : FilesFacts) (out out_now : OutFacts) (status : Status) : Type 0 where
+  pub table : List ℕ
+  pub asks : AsksCheck words table
+  pub checks : ChecksFile table old new out out_now status
+
 -- the words ask for the help or the version, and are told lines
 pub record HasHelped (words : List (List ℕ)) (old new : FilesFacts) (out out_now : OutFacts) (status : Status) : Type 0 where
   pub asks : AsksHelp words
@@ -86,8 +100,9 @@ pub record HasNoMemory (old new : FilesFacts) (out out_now : OutFacts) (status :
 abbrev pub HasEnded : List (List ℕ) → FilesFacts → FilesFacts → OutFacts → OutFacts → Status → Type 0
 HasEnded words old new out out_now status =
     HasLoadedFile words old new out out_now status ⊎ (HasRunFile words old new out out_now status ⊎ (HasTriedFiles words old new out out_now status
-    ⊎ (HasUpgradedFile words old new out out_now status ⊎ (HasFound words old new out out_now status ⊎ (HasHelped words old new out out_now status
-    ⊎ (HasRefused words old new out out_now status ⊎ HasNoMemory old new out out_now status))))))
+    ⊎ (HasUpgradedFile words old new out out_now status ⊎ (HasDescribed words old new out out_now status
+    ⊎ (HasChecked words old new out out_now status ⊎ (HasFound words old new out out_now status ⊎ (HasHelped words old new out out_now status
+    ⊎ (HasRefused words old new out out_now status ⊎ HasNoMemory old new out out_now status))))))))
 
 -- the words weren't read, which is told
 abbrev pub HasNotRead : WordsFault → FilesFacts → FilesFacts → OutFacts → OutFacts → Status → Type 0

@@ -3,6 +3,8 @@ ghost use Rattle.ub_shell.specs.Ran.{HasEnded};
 ghost use Rattle.ub_shell.specs.Status.{status_code};
 ghost use Rattle.ub_shell.specs.declared.status.Status.{Status};
 
+use crate::checking::check_file;
+use crate::describing::describe_file;
 use crate::loading::load_file;
 use crate::next::tell_next;
 use crate::running::run_file;
@@ -42,6 +44,8 @@ fn run_words<F: Files, W: Out>(
         Ok(Asked::Run(asked)) => run_file(alloc, files, asked, out),
         Ok(Asked::Try(asked)) => try_files(alloc, files, asked, out),
         Ok(Asked::Upgrade(asked)) => upgrade_file(alloc, files, asked, out),
+        Ok(Asked::Describe(asked)) => describe_file(alloc, files, asked, out),
+        Ok(Asked::Check(asked)) => check_file(alloc, files, asked, out),
         Ok(Asked::Next(asked)) => tell_next(alloc, asked.low, asked.high, asked.address, out),
         Ok(Asked::Help(text)) => tell(out, text.as_slice(), Status::Done),
         Ok(Asked::Wrong(text)) => tell(out, text.as_slice(), Status::CommandLine),

@@ -1,4 +1,4 @@
-ghost use Rattle.ub_shell.specs.Laws.{AskingLeavesTheTable, OnlyHelpIsWritten, UnchangedTablesAreLeft, UpgradedTablesAreTheSame, UpgradingLeavesTheOldTable, WhatWasDoneStands, WrongWordsAreTold};
+ghost use Rattle.ub_shell.specs.Laws.{AskingLeavesTheTable, CheckedTablesAreSound, CheckingLeavesTheTable, DescribingLeavesTheTable, OnlyHelpIsWritten, UnchangedTablesAreLeft, UpgradedTablesAreTheSame, UpgradingLeavesTheOldTable, WhatWasDoneStands, WrongWordsAreTold};
 
 // Each function here does nothing, and its clause is a law of the definitions in specs/.
 
@@ -16,6 +16,21 @@ pub fn wrong_words_are_told()
 /// ended.
 pub fn asking_leaves_the_table()
     ensures { AskingLeavesTheTable }
+{}
+
+/// A table file that was described is as it was, page for page, whatever it is and however that has ended.
+pub fn describing_leaves_the_table()
+    ensures { DescribingLeavesTheTable }
+{}
+
+/// A table file that was checked is as it was, page for page, whatever it is and however that has ended.
+pub fn checking_leaves_the_table()
+    ensures { CheckingLeavesTheTable }
+{}
+
+/// A table file that was checked, with nothing wrong, is a closed table.
+pub fn checked_tables_are_sound()
+    ensures { CheckedTablesAreSound }
 {}
 
 /// A table file of an older version is as it was, page for page, whatever it is and however making it anew at another path has

@@ -1,14 +1,18 @@
 // The program's commands over the words of its command line, files and whatever bytes are written to.
 //
 // `command` runs what the command line asks for: `load` makes a table file (`loading`), `run` runs a script on one, which it may
-// change (`running`), `try` runs one on a table in memory (`trial`), `upgrade` makes one of an older version anew (`upgrading`), and
-// `next` tells the addresses of a box. `closing` puts a table file back, and `making` makes one of pages in memory. `status` is how a command ends, and `line` the lines that it tells. `program` is the last step, over any writer. What
+// change (`running`), `try` runs one on a table in memory (`trial`), `upgrade` makes one of an older version anew (`upgrading`),
+// `describe` tells what one holds (`describing`, and `description` for the text), `check` whether each page of
+// one is well (`checking`), and `next` tells the addresses of a box. `closing` puts a table file back, and `making` makes one of pages in memory. `status` is how a command ends, and `line` the lines that it tells. `program` is the last step, over any writer. What
 // words ask for is read by `ub_words`, files come from a source of `ub_files`, the neighbours of an address from `ub_next`, and
 // scripts belong to `ub_script`; names of these that a program needs are passed on here.
 #![tactic(auto)]
 
+pub mod checking;
 pub mod closing;
 pub mod command;
+pub mod describing;
+pub mod description;
 pub mod law;
 pub mod line;
 pub mod loading;

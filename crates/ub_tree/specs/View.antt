@@ -39,6 +39,10 @@ tree_rows t = rows_of (regions t)
 abbrev pub region_count : TreeView → ℕ
 region_count t = t.inner.count
 
+-- how many levels the index of a tree has
+abbrev pub level_count : TreeView → ℕ
+level_count t = t.inner.index.levels
+
 -- the regions with their spans, in order
 abbrev pub spans_in : Schema → List Placed → List Span
 spans_in schema placed = spans.regions_of (last_address schema.dims) (map entry_of placed)

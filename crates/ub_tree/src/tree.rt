@@ -6,7 +6,7 @@ ghost use Rattle.ub_tree.specs.Calls.{StandsAt};
 ghost use Rattle.ub_tree.specs.Effects.{IsTakenIn, ReadsRegion, Searches};
 ghost use Rattle.ub_tree.specs.Spans.{IsLater, Meets, First};
 ghost use Rattle.ub_tree.specs.Told.{GivesNext, IsRegionOf};
-ghost use Rattle.ub_tree.specs.View.{IsSound, region_count, spans_of};
+ghost use Rattle.ub_tree.specs.View.{IsSound, level_count, region_count, spans_of};
 
 use crate::fault::TreeFault;
 use crate::reading::take_region;
@@ -71,6 +71,13 @@ impl<S: PageStore> Tree<S> {
         ensures placed { IsSound self.now → result ≡ length self.now.placed }
     {
         self.count
+    }
+
+    /// How many levels the index has: 1 to 16.
+    pub fn levels(&self) -> u32
+        ensures { result ≡ level_count self.now }
+    {
+        self.index.root().1
     }
 
     /// How many rows there are.

@@ -11,7 +11,7 @@ use Rattle.clap.specs.declared.parser.matches.ArgMatches.{ArgMatches}
 use Rattle.clap.specs.declared.error.kind.ErrorKind.{ErrorKind}
 use Rattle.clap.specs.declared.error.kind.ErrorKind.TheVariants as kind
 use Rattle.clap.proofs.OnLiterals.{clap_on_literals}
-use Rattle.ub_words.specs.CommandLine.{AreNextWords, AsksHelpAlone, AsksNothing, IsLoadGiven, IsNextGiven, IsRunGiven, IsTaken, IsTryGiven, IsUpgradeGiven, standard_input, ubq_app}
+use Rattle.ub_words.specs.CommandLine.{AreNextWords, AsksHelpAlone, AsksNothing, IsCheckGiven, IsDescribeGiven, IsLoadGiven, IsNextGiven, IsRunGiven, IsTaken, IsTryGiven, IsUpgradeGiven, standard_input, ubq_app}
 
 -- the program's command line is one whose matches `clap` tells
 pub ubq_is_simple : is_simple ubq_app ≡ true
@@ -81,15 +81,50 @@ upgrade≢run = apart (codes "upgrade") (codes "run") refl
 pub upgrade≢next : codes "upgrade" ≢ codes "next"
 upgrade≢next = apart (codes "upgrade") (codes "next") refl
 
--- words by which a command was found ask for nothing, if it is none of the five, or what was given for it is not enough
+pub describe≢try : codes "describe" ≢ codes "try"
+describe≢try = apart (codes "describe") (codes "try") refl
+
+pub describe≢load : codes "describe" ≢ codes "load"
+describe≢load = apart (codes "describe") (codes "load") refl
+
+pub describe≢run : codes "describe" ≢ codes "run"
+describe≢run = apart (codes "describe") (codes "run") refl
+
+pub describe≢upgrade : codes "describe" ≢ codes "upgrade"
+describe≢upgrade = apart (codes "describe") (codes "upgrade") refl
+
+pub describe≢next : codes "describe" ≢ codes "next"
+describe≢next = apart (codes "describe") (codes "next") refl
+
+pub check≢try : codes "check" ≢ codes "try"
+check≢try = apart (codes "check") (codes "try") refl
+
+pub check≢load : codes "check" ≢ codes "load"
+check≢load = apart (codes "check") (codes "load") refl
+
+pub check≢run : codes "check" ≢ codes "run"
+check≢run = apart (codes "check") (codes "run") refl
+
+pub check≢upgrade : codes "check" ≢ codes "upgrade"
+check≢upgrade = apart (codes "check") (codes "upgrade") refl
+
+pub check≢describe : codes "check" ≢ codes "describe"
+check≢describe = apart (codes "check") (codes "describe") refl
+
+pub check≢next : codes "check" ≢ codes "next"
+check≢next = apart (codes "check") (codes "next") refl
+
+-- words by which a command was found ask for nothing, if it is none of the seven, or what was given for it is not enough
 pub nothing_by : (words : List (List ℕ)) (name : List ℕ) (rows : List Row) → IsTaken words (both name rows)
     → (name ≡ codes "try" → (source script table : List ℕ) (dims page_rows signed : ℕ) → IsTryGiven rows source script table dims page_rows signed
     → (source ≡ standard_input) × (script ≡ standard_input))
     → (name ≡ codes "load" → (source table other : List ℕ) (dims page_rows signed : ℕ) → ¬ (IsLoadGiven rows source table other dims page_rows signed))
     → (name ≡ codes "run" → (table script : List ℕ) → ¬ (IsRunGiven rows table script))
     → (name ≡ codes "upgrade" → (old new : List ℕ) → ¬ (IsUpgradeGiven rows old new))
+    → (name ≡ codes "describe" → (table : List ℕ) → ¬ (IsDescribeGiven rows table))
+    → (name ≡ codes "check" → (table : List ℕ) → ¬ (IsCheckGiven rows table))
     → (name ≡ codes "next" → (lo hi z : List ℕ) → ¬ (IsNextGiven rows lo hi z)) → AsksNothing words
-nothing_by words name rows taken by_try by_load by_run by_upgrade by_next = record {
+nothing_by words name rows taken by_try by_load by_run by_upgrade by_describe by_check by_next = record {
   no_try = λ source script table dims page_rows signed asks.
       let same = same_found _ _ _ _ (sym taken.1 ∙ asks.1.1) in
       asks.3 (by_try same.0 source script table dims page_rows signed (subst (λ (r : List Row). IsTryGiven r source script table dims page_rows signed) (sym same.1) asks.2));
@@ -102,6 +137,12 @@ nothing_by words name rows taken by_try by_load by_run by_upgrade by_next = reco
   no_upgrade = λ old new asks.
       let same = same_found _ _ _ _ (sym taken.1 ∙ asks.1.1) in
       by_upgrade same.0 old new (subst (λ (r : List Row). IsUpgradeGiven r old new) (sym same.1) asks.2);
+  no_describe = λ table asks.
+      let same = same_found _ _ _ _ (sym taken.1 ∙ asks.1.1) in
+      by_describe same.0 table (subst (λ (r : List Row). IsDescribeGiven r table) (sym same.1) asks.2);
+  no_check = λ table asks.
+      let same = same_found _ _ _ _ (sym taken.1 ∙ asks.1.1) in
+      by_check same.0 table (subst (λ (r : List Row). IsCheckGiven r table) (sym same.1) asks.2);
   no_next = λ lo hi z asks. elim asks [
     | inl by_clap ↦
         let same = same_found _ _ _ _ (sym taken.1 ∙ by_clap.1.1) in
@@ -116,33 +157,46 @@ pub nothing_by_try : (words : List (List ℕ)) (rows : List Row) → IsTaken wor
     → ((source script name : List ℕ) (dims page_rows signed : ℕ) → IsTryGiven rows source script name dims page_rows signed
     → (source ≡ standard_input) × (script ≡ standard_input)) → AsksNothing words
 nothing_by_try words rows taken none =
-    nothing_by words (codes "try") rows taken (λ e. none) (λ e. absurd (load≢try (sym e))) (λ e. absurd (run≢try (sym e))) (λ e. absurd (upgrade≢try (sym e))) (λ e. absurd (try≢next e))
+    nothing_by words (codes "try") rows taken (λ e. none) (λ e. absurd (load≢try (sym e))) (λ e. absurd (run≢try (sym e))) (λ e. absurd (upgrade≢try (sym e))) (λ e. absurd (describe≢try (sym e))) (λ e. absurd (check≢try (sym e))) (λ e. absurd (try≢next e))
 
 pub nothing_by_load : (words : List (List ℕ)) (rows : List Row) → IsTaken words (both (codes "load") rows)
     → ((source table name : List ℕ) (dims page_rows signed : ℕ) → ¬ (IsLoadGiven rows source table name dims page_rows signed)) → AsksNothing words
 nothing_by_load words rows taken none =
-    nothing_by words (codes "load") rows taken (λ e. absurd (load≢try e)) (λ e. none) (λ e. absurd (load≢run e)) (λ e. absurd (upgrade≢load (sym e))) (λ e. absurd (load≢next e))
+    nothing_by words (codes "load") rows taken (λ e. absurd (load≢try e)) (λ e. none) (λ e. absurd (load≢run e)) (λ e. absurd (upgrade≢load (sym e))) (λ e. absurd (describe≢load (sym e))) (λ e. absurd (check≢load (sym e))) (λ e. absurd (load≢next e))
 
 pub nothing_by_run : (words : List (List ℕ)) (rows : List Row) → IsTaken words (both (codes "run") rows)
     → ((table script : List ℕ) → ¬ (IsRunGiven rows table script)) → AsksNothing words
 nothing_by_run words rows taken none =
-    nothing_by words (codes "run") rows taken (λ e. absurd (run≢try e)) (λ e. absurd (load≢run (sym e))) (λ e. none) (λ e. absurd (upgrade≢run (sym e))) (λ e. absurd (run≢next e))
+    nothing_by words (codes "run") rows taken (λ e. absurd (run≢try e)) (λ e. absurd (load≢run (sym e))) (λ e. none) (λ e. absurd (upgrade≢run (sym e))) (λ e. absurd (describe≢run (sym e))) (λ e. absurd (check≢run (sym e))) (λ e. absurd (run≢next e))
 
 pub nothing_by_upgrade : (words : List (List ℕ)) (rows : List Row) → IsTaken words (both (codes "upgrade") rows)
     → ((old new : List ℕ) → ¬ (IsUpgradeGiven rows old new)) → AsksNothing words
 nothing_by_upgrade words rows taken none =
     nothing_by words (codes "upgrade") rows taken (λ e. absurd (upgrade≢try e)) (λ e. absurd (upgrade≢load e)) (λ e. absurd (upgrade≢run e)) (λ e. none)
-    (λ e. absurd (upgrade≢next e))
+    (λ e. absurd (describe≢upgrade (sym e))) (λ e. absurd (check≢upgrade (sym e))) (λ e. absurd (upgrade≢next e))
+
+pub nothing_by_describe : (words : List (List ℕ)) (rows : List Row) → IsTaken words (both (codes "describe") rows)
+    → ((table : List ℕ) → ¬ (IsDescribeGiven rows table)) → AsksNothing words
+nothing_by_describe words rows taken none =
+    nothing_by words (codes "describe") rows taken (λ e. absurd (describe≢try e)) (λ e. absurd (describe≢load e)) (λ e. absurd (describe≢run e)) (λ e. absurd (describe≢upgrade e))
+    (λ e. none) (λ e. absurd (check≢describe (sym e))) (λ e. absurd (describe≢next e))
+
+pub nothing_by_check : (words : List (List ℕ)) (rows : List Row) → IsTaken words (both (codes "check") rows)
+    → ((table : List ℕ) → ¬ (IsCheckGiven rows table)) → AsksNothing words
+nothing_by_check words rows taken none =
+    nothing_by words (codes "check") rows taken (λ e. absurd (check≢try e)) (λ e. absurd (check≢load e)) (λ e. absurd (check≢run e)) (λ e. absurd (check≢upgrade e))
+    (λ e. absurd (check≢describe e)) (λ e. none) (λ e. absurd (check≢next e))
 
 pub nothing_by_next : (words : List (List ℕ)) (rows : List Row) → IsTaken words (both (codes "next") rows)
     → ((lo hi z : List ℕ) → ¬ (IsNextGiven rows lo hi z)) → AsksNothing words
 nothing_by_next words rows taken none =
-    nothing_by words (codes "next") rows taken (λ e. absurd (try≢next (sym e))) (λ e. absurd (load≢next (sym e))) (λ e. absurd (run≢next (sym e))) (λ e. absurd (upgrade≢next (sym e))) (λ e. none)
+    nothing_by words (codes "next") rows taken (λ e. absurd (try≢next (sym e))) (λ e. absurd (load≢next (sym e))) (λ e. absurd (run≢next (sym e))) (λ e. absurd (upgrade≢next (sym e))) (λ e. absurd (describe≢next (sym e)))
+    (λ e. absurd (check≢next (sym e))) (λ e. none)
 
 pub nothing_by_other : (words : List (List ℕ)) (name : List ℕ) (rows : List Row) → IsTaken words (both name rows)
-    → name ≢ codes "load" → name ≢ codes "run" → name ≢ codes "try" → name ≢ codes "upgrade" → name ≢ codes "next" → AsksNothing words
-nothing_by_other words name rows taken load run try upgrade next =
-    nothing_by words name rows taken (λ e. absurd (try e)) (λ e. absurd (load e)) (λ e. absurd (run e)) (λ e. absurd (upgrade e)) (λ e. absurd (next e))
+    → name ≢ codes "load" → name ≢ codes "run" → name ≢ codes "try" → name ≢ codes "upgrade" → name ≢ codes "describe" → name ≢ codes "check" → name ≢ codes "next" → AsksNothing words
+nothing_by_other words name rows taken load run try upgrade describe check next =
+    nothing_by words name rows taken (λ e. absurd (try e)) (λ e. absurd (load e)) (λ e. absurd (run e)) (λ e. absurd (upgrade e)) (λ e. absurd (describe e)) (λ e. absurd (check e)) (λ e. absurd (next e))
 
 -- words by which no command was found
 pub nothing_by_none : (words : List (List ℕ)) (found : Option (List ℕ × List Row)) → None ≡ found → IsTaken words found → AsksNothing words
@@ -151,6 +205,8 @@ nothing_by_none words found is taken = record {
   no_load = λ source table other dims page_rows signed asks. let bad = is ∙ (sym taken.1 ∙ asks.1.1) in cc;
   no_run = λ table script asks. let bad = is ∙ (sym taken.1 ∙ asks.1.1) in cc;
   no_upgrade = λ old new asks. let bad = is ∙ (sym taken.1 ∙ asks.1.1) in cc;
+  no_describe = λ table asks. let bad = is ∙ (sym taken.1 ∙ asks.1.1) in cc;
+  no_check = λ table asks. let bad = is ∙ (sym taken.1 ∙ asks.1.1) in cc;
   no_next = λ lo hi z asks. elim asks [
     | inl by_clap ↦ let bad = is ∙ (sym taken.1 ∙ by_clap.1.1) in cc
     | inr by_place ↦ by_place.0 taken.0
@@ -165,6 +221,8 @@ nothing_by_refusal words refused no_help none = record {
   no_load = λ source table name dims page_rows signed asks. refused asks.1.0;
   no_run = λ table script asks. refused asks.1.0;
   no_upgrade = λ old new asks. refused asks.1.0;
+  no_describe = λ table asks. refused asks.1.0;
+  no_check = λ table asks. refused asks.1.0;
   no_next = λ lo hi z asks. elim asks [
     | inl by_clap ↦ refused by_clap.1.0
     | inr by_place ↦ none lo hi z by_place.1

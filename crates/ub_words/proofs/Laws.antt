@@ -3,10 +3,10 @@ use Rattle.std.proofs.Common.{◌≡◌, ◌≢◌, ◌∙◌, ℕ, List, [], �
 use Rattle.clap.specs.Words.{IsAmong, Row, fault_of}
 use Rattle.clap.specs.declared.error.kind.ErrorKind.{ErrorKind}
 use Rattle.clap.specs.declared.error.kind.ErrorKind.TheVariants as kind
-use Rattle.ub_words.specs.CommandLine.{AsksHelp, AsksLoad, AsksNext, AsksRun, AsksTry, AsksUpgrade, IsDataGiven, IsLoadGiven, IsNextGiven, IsRunGiven, IsTaken, IsTryGiven, IsUpgradeGiven, ubq_app}
+use Rattle.ub_words.specs.CommandLine.{AsksCheck, AsksDescribe, AsksHelp, AsksLoad, AsksNext, AsksRun, AsksTry, AsksUpgrade, IsCheckGiven, IsDataGiven, IsDescribeGiven, IsLoadGiven, IsNextGiven, IsRunGiven, IsTaken, IsTryGiven, IsUpgradeGiven, ubq_app}
 use Rattle.ub_words.specs.Laws.{HelpIsHelp, OneThingIsAsked}
-use Rattle.ub_words.specs.declared.words.Asked.TheVariants.{Try, Load, Run, Upgrade, Next, Help, Wrong}
-use Rattle.ub_words.proofs.AskFacts.{load≢next, load≢run, load≢try, one_text, run≢next, run≢try, same_found, try≢next, upgrade≢load, upgrade≢next, upgrade≢run, upgrade≢try}
+use Rattle.ub_words.specs.declared.words.Asked.TheVariants.{Try, Load, Run, Upgrade, Describe, Check, Next, Help, Wrong}
+use Rattle.ub_words.proofs.AskFacts.{check≢describe, check≢load, check≢next, check≢run, check≢try, check≢upgrade, describe≢load, describe≢next, describe≢run, describe≢try, describe≢upgrade, load≢next, load≢run, load≢try, one_text, run≢next, run≢try, same_found, try≢next, upgrade≢load, upgrade≢next, upgrade≢run, upgrade≢try}
 use Rattle.ub_words.proofs.GivenFacts.{number_only}
 pub use Rattle.ub_words.proofs.AskFacts.{no_help_taken}
 
@@ -50,6 +50,18 @@ same_upgrade words o n u v a b =
     let given = subst (λ (r : List Row). IsUpgradeGiven r o n) rows a.2 in
     (one_text _ o u given.old_is b.2.old_is, one_text _ n v given.new_is b.2.new_is)
 
+same_describe : (words : List (List ℕ)) (t u : List ℕ) → AsksDescribe words t → AsksDescribe words u → t ≡ u
+same_describe words t u a b =
+    let rows = (same_found _ _ a.0 b.0 (sym a.1.1 ∙ b.1.1)).1 in
+    let given = subst (λ (r : List Row). IsDescribeGiven r t) rows a.2 in
+    one_text _ t u given b.2
+
+same_check : (words : List (List ℕ)) (t u : List ℕ) → AsksCheck words t → AsksCheck words u → t ≡ u
+same_check words t u a b =
+    let rows = (same_found _ _ a.0 b.0 (sym a.1.1 ∙ b.1.1)).1 in
+    let given = subst (λ (r : List Row). IsCheckGiven r t) rows a.2 in
+    one_text _ t u given b.2
+
 -- `clap` finds this command
 abbrev Names : List (List ℕ) → List ℕ → Type 0
 Names words name = (rows : List Row) × IsTaken words (Some (name, rows))
@@ -86,6 +98,8 @@ one_thing_is_asked words (Try a) (Try b) is same = same_try words _ _ _ _ _ _ _ 
 one_thing_is_asked words (Try a) (Load b) is same = absurd (load≢try (one_name words _ _ (same.0, same.1) (is.0, is.1)))
 one_thing_is_asked words (Try a) (Run b) is same = absurd (run≢try (one_name words _ _ (same.0, same.1) (is.0, is.1)))
 one_thing_is_asked words (Try a) (Upgrade b) is same = absurd (upgrade≢try (one_name words _ _ (same.0, same.1) (is.0, is.1)))
+one_thing_is_asked words (Try a) (Describe b) is same = absurd (describe≢try (one_name words _ _ (same.0, same.1) (is.0, is.1)))
+one_thing_is_asked words (Try a) (Check b) is same = absurd (check≢try (one_name words _ _ (same.0, same.1) (is.0, is.1)))
 one_thing_is_asked words (Try a) (Next b) is same = absurd (not_next words _ _ _ _ (is.0, is.1) try≢next same)
 one_thing_is_asked words (Try a) (Help b) is same = absurd (no_help words _ (is.0, is.1) same.0)
 one_thing_is_asked words (Try a) (Wrong b) is same = absurd (same.0.no_try _ _ _ _ _ _ is)
@@ -93,6 +107,8 @@ one_thing_is_asked words (Load a) (Load b) is same = same_load words _ _ _ _ _ _
 one_thing_is_asked words (Load a) (Try b) is same = absurd (load≢try (one_name words _ _ (is.0, is.1) (same.0, same.1)))
 one_thing_is_asked words (Load a) (Run b) is same = absurd (load≢run (one_name words _ _ (is.0, is.1) (same.0, same.1)))
 one_thing_is_asked words (Load a) (Upgrade b) is same = absurd (upgrade≢load (one_name words _ _ (same.0, same.1) (is.0, is.1)))
+one_thing_is_asked words (Load a) (Describe b) is same = absurd (describe≢load (one_name words _ _ (same.0, same.1) (is.0, is.1)))
+one_thing_is_asked words (Load a) (Check b) is same = absurd (check≢load (one_name words _ _ (same.0, same.1) (is.0, is.1)))
 one_thing_is_asked words (Load a) (Next b) is same = absurd (not_next words _ _ _ _ (is.0, is.1) load≢next same)
 one_thing_is_asked words (Load a) (Help b) is same = absurd (no_help words _ (is.0, is.1) same.0)
 one_thing_is_asked words (Load a) (Wrong b) is same = absurd (same.0.no_load _ _ _ _ _ _ is)
@@ -100,6 +116,8 @@ one_thing_is_asked words (Run a) (Run b) is same = same_run words _ _ _ _ is sam
 one_thing_is_asked words (Run a) (Try b) is same = absurd (run≢try (one_name words _ _ (is.0, is.1) (same.0, same.1)))
 one_thing_is_asked words (Run a) (Load b) is same = absurd (load≢run (one_name words _ _ (same.0, same.1) (is.0, is.1)))
 one_thing_is_asked words (Run a) (Upgrade b) is same = absurd (upgrade≢run (one_name words _ _ (same.0, same.1) (is.0, is.1)))
+one_thing_is_asked words (Run a) (Describe b) is same = absurd (describe≢run (one_name words _ _ (same.0, same.1) (is.0, is.1)))
+one_thing_is_asked words (Run a) (Check b) is same = absurd (check≢run (one_name words _ _ (same.0, same.1) (is.0, is.1)))
 one_thing_is_asked words (Run a) (Next b) is same = absurd (not_next words _ _ _ _ (is.0, is.1) run≢next same)
 one_thing_is_asked words (Run a) (Help b) is same = absurd (no_help words _ (is.0, is.1) same.0)
 one_thing_is_asked words (Run a) (Wrong b) is same = absurd (same.0.no_run _ _ is)
@@ -107,13 +125,35 @@ one_thing_is_asked words (Upgrade a) (Upgrade b) is same = same_upgrade words _ 
 one_thing_is_asked words (Upgrade a) (Try b) is same = absurd (upgrade≢try (one_name words _ _ (is.0, is.1) (same.0, same.1)))
 one_thing_is_asked words (Upgrade a) (Load b) is same = absurd (upgrade≢load (one_name words _ _ (is.0, is.1) (same.0, same.1)))
 one_thing_is_asked words (Upgrade a) (Run b) is same = absurd (upgrade≢run (one_name words _ _ (is.0, is.1) (same.0, same.1)))
+one_thing_is_asked words (Upgrade a) (Describe b) is same = absurd (describe≢upgrade (one_name words _ _ (same.0, same.1) (is.0, is.1)))
+one_thing_is_asked words (Upgrade a) (Check b) is same = absurd (check≢upgrade (one_name words _ _ (same.0, same.1) (is.0, is.1)))
 one_thing_is_asked words (Upgrade a) (Next b) is same = absurd (not_next words _ _ _ _ (is.0, is.1) upgrade≢next same)
 one_thing_is_asked words (Upgrade a) (Help b) is same = absurd (no_help words _ (is.0, is.1) same.0)
 one_thing_is_asked words (Upgrade a) (Wrong b) is same = absurd (same.0.no_upgrade _ _ is)
+one_thing_is_asked words (Describe a) (Describe b) is same = same_describe words _ _ is same
+one_thing_is_asked words (Describe a) (Try b) is same = absurd (describe≢try (one_name words _ _ (is.0, is.1) (same.0, same.1)))
+one_thing_is_asked words (Describe a) (Load b) is same = absurd (describe≢load (one_name words _ _ (is.0, is.1) (same.0, same.1)))
+one_thing_is_asked words (Describe a) (Run b) is same = absurd (describe≢run (one_name words _ _ (is.0, is.1) (same.0, same.1)))
+one_thing_is_asked words (Describe a) (Upgrade b) is same = absurd (describe≢upgrade (one_name words _ _ (is.0, is.1) (same.0, same.1)))
+one_thing_is_asked words (Describe a) (Check b) is same = absurd (check≢describe (one_name words _ _ (same.0, same.1) (is.0, is.1)))
+one_thing_is_asked words (Describe a) (Next b) is same = absurd (not_next words _ _ _ _ (is.0, is.1) describe≢next same)
+one_thing_is_asked words (Describe a) (Help b) is same = absurd (no_help words _ (is.0, is.1) same.0)
+one_thing_is_asked words (Describe a) (Wrong b) is same = absurd (same.0.no_describe _ is)
+one_thing_is_asked words (Check a) (Check b) is same = same_check words _ _ is same
+one_thing_is_asked words (Check a) (Try b) is same = absurd (check≢try (one_name words _ _ (is.0, is.1) (same.0, same.1)))
+one_thing_is_asked words (Check a) (Load b) is same = absurd (check≢load (one_name words _ _ (is.0, is.1) (same.0, same.1)))
+one_thing_is_asked words (Check a) (Run b) is same = absurd (check≢run (one_name words _ _ (is.0, is.1) (same.0, same.1)))
+one_thing_is_asked words (Check a) (Upgrade b) is same = absurd (check≢upgrade (one_name words _ _ (is.0, is.1) (same.0, same.1)))
+one_thing_is_asked words (Check a) (Describe b) is same = absurd (check≢describe (one_name words _ _ (is.0, is.1) (same.0, same.1)))
+one_thing_is_asked words (Check a) (Next b) is same = absurd (not_next words _ _ _ _ (is.0, is.1) check≢next same)
+one_thing_is_asked words (Check a) (Help b) is same = absurd (no_help words _ (is.0, is.1) same.0)
+one_thing_is_asked words (Check a) (Wrong b) is same = absurd (same.0.no_check _ is)
 one_thing_is_asked words (Next a) (Try b) is same = absurd (not_next words _ _ _ _ (same.0, same.1) try≢next is)
 one_thing_is_asked words (Next a) (Load b) is same = absurd (not_next words _ _ _ _ (same.0, same.1) load≢next is)
 one_thing_is_asked words (Next a) (Run b) is same = absurd (not_next words _ _ _ _ (same.0, same.1) run≢next is)
 one_thing_is_asked words (Next a) (Upgrade b) is same = absurd (not_next words _ _ _ _ (same.0, same.1) upgrade≢next is)
+one_thing_is_asked words (Next a) (Describe b) is same = absurd (not_next words _ _ _ _ (same.0, same.1) describe≢next is)
+one_thing_is_asked words (Next a) (Check b) is same = absurd (not_next words _ _ _ _ (same.0, same.1) check≢next is)
 one_thing_is_asked words (Next a) (Next b) is same = same_next words _ _ _ _ _ _ is same
 one_thing_is_asked words (Next a) (Help b) is same = tt
 one_thing_is_asked words (Next a) (Wrong b) is same = absurd (same.0.no_next _ _ _ is)
@@ -121,6 +161,8 @@ one_thing_is_asked words (Help a) (Try b) is same = absurd (no_help words _ (sam
 one_thing_is_asked words (Help a) (Load b) is same = absurd (no_help words _ (same.0, same.1) is.0)
 one_thing_is_asked words (Help a) (Run b) is same = absurd (no_help words _ (same.0, same.1) is.0)
 one_thing_is_asked words (Help a) (Upgrade b) is same = absurd (no_help words _ (same.0, same.1) is.0)
+one_thing_is_asked words (Help a) (Describe b) is same = absurd (no_help words _ (same.0, same.1) is.0)
+one_thing_is_asked words (Help a) (Check b) is same = absurd (no_help words _ (same.0, same.1) is.0)
 one_thing_is_asked words (Help a) (Next b) is same = tt
 one_thing_is_asked words (Help a) (Help b) is same = tt
 one_thing_is_asked words (Help a) (Wrong b) is same = tt
@@ -128,6 +170,8 @@ one_thing_is_asked words (Wrong a) (Try b) is same = absurd (is.0.no_try _ _ _ _
 one_thing_is_asked words (Wrong a) (Load b) is same = absurd (is.0.no_load _ _ _ _ _ _ same)
 one_thing_is_asked words (Wrong a) (Run b) is same = absurd (is.0.no_run _ _ same)
 one_thing_is_asked words (Wrong a) (Upgrade b) is same = absurd (is.0.no_upgrade _ _ same)
+one_thing_is_asked words (Wrong a) (Describe b) is same = absurd (is.0.no_describe _ same)
+one_thing_is_asked words (Wrong a) (Check b) is same = absurd (is.0.no_check _ same)
 one_thing_is_asked words (Wrong a) (Next b) is same = absurd (is.0.no_next _ _ _ same)
 one_thing_is_asked words (Wrong a) (Help b) is same = tt
 one_thing_is_asked words (Wrong a) (Wrong b) is same = tt
@@ -137,6 +181,8 @@ help_is_help words (Try a) alone is = absurd (no_help_taken words is.1.0 alone)
 help_is_help words (Load a) alone is = absurd (no_help_taken words is.1.0 alone)
 help_is_help words (Run a) alone is = absurd (no_help_taken words is.1.0 alone)
 help_is_help words (Upgrade a) alone is = absurd (no_help_taken words is.1.0 alone)
+help_is_help words (Describe a) alone is = absurd (no_help_taken words is.1.0 alone)
+help_is_help words (Check a) alone is = absurd (no_help_taken words is.1.0 alone)
 help_is_help words (Next a) alone (inl by_clap) = absurd (no_help_taken words by_clap.1.0 alone)
 help_is_help words (Next a) alone (inr by_place) = absurd (by_place.2 alone)
 help_is_help words (Help text) alone is = tt

@@ -1,8 +1,8 @@
 -- What was read of the words of a command line, held against what they ask for.
 use Rattle.std.specs.Prelude.{◌≡◌, ℕ, List, ◌++◌, codes}
-use Rattle.ub_words.specs.CommandLine.{AsksHelp, AsksLoad, AsksNext, AsksNothing, AsksRun, AsksTry, AsksUpgrade}
+use Rattle.ub_words.specs.CommandLine.{AsksCheck, AsksDescribe, AsksHelp, AsksLoad, AsksNext, AsksNothing, AsksRun, AsksTry, AsksUpgrade}
 use Rattle.ub_words.specs.declared.words.Asked.{Asked}
-use Rattle.ub_words.specs.declared.words.Asked.TheVariants.{Try, Load, Run, Upgrade, Next, Help, Wrong}
+use Rattle.ub_words.specs.declared.words.Asked.TheVariants.{Try, Load, Run, Upgrade, Describe, Check, Next, Help, Wrong}
 
 -- whole lines, one at least
 abbrev pub AreLines : List ℕ → Type 0
@@ -14,6 +14,8 @@ IsAskedBy words (Try asked) = AsksTry words asked.source.path.now asked.script.n
 IsAskedBy words (Load asked) = AsksLoad words asked.source.path.now asked.table.now asked.source.name.now asked.source.dims asked.source.page_rows asked.source.signed
 IsAskedBy words (Run asked) = AsksRun words asked.table.now asked.script.now
 IsAskedBy words (Upgrade asked) = AsksUpgrade words asked.old.now asked.new.now
+IsAskedBy words (Describe asked) = AsksDescribe words asked.table.now
+IsAskedBy words (Check asked) = AsksCheck words asked.table.now
 IsAskedBy words (Next asked) = AsksNext words asked.low.now asked.high.now asked.address.now
 IsAskedBy words (Help text) = AsksHelp words × AreLines text.items
 IsAskedBy words (Wrong text) = AsksNothing words × AreLines text.items

@@ -61,6 +61,14 @@ try_app = data_app (new_app (codes "try")) (word_rule (codes "SCRIPT"))
 abbrev pub upgrade_app : App
 upgrade_app = with_rule (with_rule (new_app (codes "upgrade")) (word_rule (codes "OLD"))) (word_rule (codes "NEW"))
 
+-- `describe TABLE`
+abbrev pub describe_app : App
+describe_app = with_rule (new_app (codes "describe")) (word_rule (codes "TABLE"))
+
+-- `check TABLE`
+abbrev pub check_app : App
+check_app = with_rule (new_app (codes "check")) (word_rule (codes "TABLE"))
+
 -- the program before its commands are added: it has a version, and wants a command
 abbrev pub bare_app : App
 bare_app = record (new_app (codes "ubq")) {
@@ -70,7 +78,7 @@ bare_app = record (new_app (codes "ubq")) {
 -- the whole command line
 unfoldable pub ubq_app : App
 ubq_app =
-    with_subcommand (with_subcommand (with_subcommand (with_subcommand (with_subcommand bare_app load_app.top) run_app.top) try_app.top) upgrade_app.top) next_app.top
+    with_subcommand (with_subcommand (with_subcommand (with_subcommand (with_subcommand (with_subcommand (with_subcommand bare_app load_app.top) run_app.top) try_app.top) upgrade_app.top) describe_app.top) check_app.top) next_app.top
 
 -- an argument that `clap` reads so, and that no subcommand shares
 abbrev pub IsArgFor : Rule → Arg → Type 0
@@ -124,6 +132,14 @@ pub record IsUpgradeGiven (rows : List Row) (old new : List ℕ) : Type 0 where
   pub old_is : first_of (codes "OLD") rows ≡ Some old
   pub new_is : first_of (codes "NEW") rows ≡ Some new
 
+-- what was given for the command `describe`
+abbrev pub IsDescribeGiven : List Row → List ℕ → Type 0
+IsDescribeGiven rows table = first_of (codes "TABLE") rows ≡ Some table
+
+-- what was given for the command `check`
+abbrev pub IsCheckGiven : List Row → List ℕ → Type 0
+IsCheckGiven rows table = first_of (codes "TABLE") rows ≡ Some table
+
 -- what was given for the command `next`
 pub record IsNextGiven (rows : List Row) (lo hi z : List ℕ) : Type 0 where
   pub lo_is : first_of (codes "LO") rows ≡ Some lo
@@ -157,6 +173,14 @@ AsksRun words table script = (rows : List Row) × IsTaken words (Some (codes "ru
 abbrev pub AsksUpgrade : List (List ℕ) → List ℕ → List ℕ → Type 0
 AsksUpgrade words old new = (rows : List Row) × IsTaken words (Some (codes "upgrade", rows)) × IsUpgradeGiven rows old new
 
+-- the words ask for what the header of this table file tells
+abbrev pub AsksDescribe : List (List ℕ) → List ℕ → Type 0
+AsksDescribe words table = (rows : List Row) × IsTaken words (Some (codes "describe", rows)) × IsDescribeGiven rows table
+
+-- the words ask whether the pages of this table file are sound
+abbrev pub AsksCheck : List (List ℕ) → List ℕ → Type 0
+AsksCheck words table = (rows : List Row) × IsTaken words (Some (codes "check", rows)) × IsCheckGiven rows table
+
 -- the words ask for the help or the version, as `clap` may answer them
 abbrev pub AsksHelp : List (List ℕ) → Type 0
 AsksHelp words = IsAmong kind.DisplayHelp (fault_of ubq_app words) ⊎ IsAmong kind.DisplayVersion (fault_of ubq_app words)
@@ -178,5 +202,7 @@ pub record AsksNothing (words : List (List ℕ)) : Type 0 where
   pub no_load : (source table name : List ℕ) (dims page_rows signed : ℕ) → ¬ (AsksLoad words source table name dims page_rows signed)
   pub no_run : (table script : List ℕ) → ¬ (AsksRun words table script)
   pub no_upgrade : (old new : List ℕ) → ¬ (AsksUpgrade words old new)
+  pub no_describe : (table : List ℕ) → ¬ (AsksDescribe words table)
+  pub no_check : (table : List ℕ) → ¬ (AsksCheck words table)
   pub no_next : (lo hi z : List ℕ) → ¬ (AsksNext words lo hi z)
   pub no_help : ¬ (AsksHelpAlone words)

@@ -1,6 +1,6 @@
 ghost use Rattle.std.specs.Prelude.{IfOk, codes};
 ghost use Rattle.clap.specs.Words.{App, Rule, with_rule, with_subcommand};
-ghost use Rattle.ub_words.specs.CommandLine.{IsArgFor, IsCommandFor, data_app, dims_rule, load_app, next_app, option_rule, page_rows_rule, run_app, signed_rule, try_app, ubq_app, upgrade_app, word_rule};
+ghost use Rattle.ub_words.specs.CommandLine.{IsArgFor, IsCommandFor, check_app, data_app, describe_app, dims_rule, load_app, next_app, option_rule, page_rows_rule, run_app, signed_rule, try_app, ubq_app, upgrade_app, word_rule};
 
 use clap::{Arg, Command, value_parser};
 use std::alloc::{AllocError, Global};
@@ -35,7 +35,8 @@ sign. It is read before TABLE is touched; where DATA is refused TABLE stays as i
 A dimension that --signed names has the values -2147483648 to 2147483647. MASK is a sum: 1 for the first dimension, 2 for
 the second, 4 for the third, 8 for the fourth. So of day, zone and temp
   ubq load days.csv days.ub --dims 3 --signed 6
-has zone (2) and temp (4) signed. A negative number in another dimension is refused, as ! OutOfRange row 1 column 1.
+has zone (2) and temp (4) signed. DATA is mostly refused as ! OutOfRange row 1 column 1 where a negative number stands in
+a dimension that isn't signed: name that one by --signed.
 
 Status:
   0  TABLE holds the rows of DATA
@@ -43,6 +44,11 @@ Status:
   3  DATA was refused, as ! BadNumber row 2 column 1
   4  a file or the output failed
   5  memory was refused";
+
+// The usage line of `run`, which stands in its help and where one of its words is missing.
+const RUN_USAGE: &str = "\
+ubq run <TABLE> <SCRIPT>
+       ubq run <TABLE> -         (the script is read from standard input)";
 
 const RUN_HELP: &str = "\
 Example:
@@ -57,6 +63,10 @@ in the script, in bytes from 0. Each statement runs on the table that those befo
 What was put in or taken out stands in TABLE once the run has ended, also after a fault, unless TABLE can't be written.
 A run that is interrupted while it changes TABLE leaves a file that is refused, as ! Unclean page 0: copy it first. A
 script that only asks leaves TABLE as it was, byte for byte.
+
+Two refusals of TABLE say what to do:
+  ! OldFormat page 0   an older ubq made TABLE: ubq upgrade TABLE NEW makes it anew, with all its rows
+  ! Unclean page 0     a run was interrupted while it changed TABLE: take the copy, or load the table again
 
 Statements, each ended by a semicolon:
   statement   = select | insert | delete
@@ -92,8 +102,8 @@ Status:
   0  all statements were answered
   1  a statement was refused, and the others were run
   2  wrong arguments
-  3  TABLE isn't a table file, is damaged, or was made by an older ubq, as ! OldFormat page 0: ubq upgrade makes it
-     anew; or it has no room for another row, as ! Full
+  3  TABLE isn't a table file, is damaged, or is refused as OldFormat or Unclean; or it has no room for another row, as
+     ! Full
   4  a file or the output failed
   5  memory was refused";
 
@@ -127,6 +137,51 @@ Status:
   0  NEW holds the table of OLD
   2  wrong arguments, or OLD and NEW are one path, as ! SameFile
   3  OLD isn't a table file of an older version, or is damaged, as ! BadCount page 0
+  4  a file or the output failed
+  5  memory was refused";
+
+const DESCRIBE_HELP: &str = "\
+Example:
+  ubq describe sales.ub
+writes
+  table t
+  dimension day
+  dimension shop
+  measure price
+  rows 1000
+  next 1001
+  regions 24
+  page-rows 64
+  levels 1
+  format 3
+
+A signed dimension has signed after its name. The counts are those that the header of TABLE tells: rows, the number that
+the next row gets, regions, the most rows of a page, the levels of the index, and the version of the table file. Of a
+table file of an older version the header alone is read; one of format 1 has directory-pages in place of levels. TABLE is
+only read.
+
+Status:
+  0  TABLE was described
+  2  wrong arguments
+  3  TABLE isn't a table file, is damaged, or is marked as changed, as ! Unclean page 0
+  4  a file or the output failed
+  5  memory was refused";
+
+const CHECK_HELP: &str = "\
+Example:
+  ubq check sales.ub
+writes
+  -- rows 1000, regions 24
+
+That line says that TABLE is sound: it was read from the root of its index on, each page can be read and stands where its
+entry says, each row stands in its region, no two rows have one number, each number is below the next one, and there are
+as many rows and regions as the header tells. Pages that the index doesn't lead to aren't looked at. Otherwise the first
+fault is told, as ! BadRow page 7. TABLE is only read.
+
+Status:
+  0  TABLE is sound
+  2  wrong arguments
+  3  TABLE isn't a table file, is damaged, or is refused as OldFormat or Unclean, as ubq run --help says
   4  a file or the output failed
   5  memory was refused";
 
@@ -257,6 +312,7 @@ fn run_command<'a>(alloc: Global) -> Making<'a>
     let table = "A table file that `load` made; INSERT and DELETE change it";
     let command = Command::new(alloc, "run")
         .about("Run a script of statements on a table file")
+        .override_usage(RUN_USAGE)
         .after_help(RUN_HELP);
     let command = with_arg(Ok(command), word_arg(alloc, "TABLE", table));
     with_arg(command, script_arg(alloc))
@@ -285,6 +341,28 @@ fn upgrade_command<'a>(alloc: Global) -> Making<'a>
     with_arg(command, word_arg(alloc, "NEW", made))
 }
 
+// The command `describe` as `clap` reads it.
+fn describe_command<'a>(alloc: Global) -> Making<'a>
+    ensures { IfOk result (IsCommandFor describe_app) }
+{
+    let table = "A table file, also one that an older ubq made; it is only read";
+    let command = Command::new(alloc, "describe")
+        .about("Say what a table file holds, as its header tells it")
+        .after_help(DESCRIBE_HELP);
+    with_arg(Ok(command), word_arg(alloc, "TABLE", table))
+}
+
+// The command `check` as `clap` reads it.
+fn check_command<'a>(alloc: Global) -> Making<'a>
+    ensures { IfOk result (IsCommandFor check_app) }
+{
+    let table = "The table file to check; it is only read";
+    let command = Command::new(alloc, "check")
+        .about("Check each page of a table file")
+        .after_help(CHECK_HELP);
+    with_arg(Ok(command), word_arg(alloc, "TABLE", table))
+}
+
 // The command `next` as `clap` reads it.
 fn next_command<'a>(alloc: Global) -> Making<'a>
     ensures { IfOk result (IsCommandFor next_app) }
@@ -305,7 +383,7 @@ pub(crate) fn program<'a>(alloc: Global) -> Making<'a>
     ensures { IfOk result (IsCommandFor ubq_app) }
 {
     let command = Command::new(alloc, "ubq")
-        .version("0.1.0")
+        .version("0.1.0 (table format 3)")
         .about("Answer SQL queries over a table of whole numbers, kept as a UB-tree in one file")
         .after_help(PROGRAM_HELP)
         .subcommand_required(true);
@@ -313,5 +391,7 @@ pub(crate) fn program<'a>(alloc: Global) -> Making<'a>
     let command = with_command(command, run_command(alloc));
     let command = with_command(command, try_command(alloc));
     let command = with_command(command, upgrade_command(alloc));
+    let command = with_command(command, describe_command(alloc));
+    let command = with_command(command, check_command(alloc));
     with_command(command, next_command(alloc))
 }

@@ -1,6 +1,6 @@
 ghost use Rattle.std.specs.Prelude.{◌≡◌, ◌≤◌, ℕ, List, MatchOption, map, option_map, string_bytes};
 ghost use Rattle.clap.specs.Words.{first_of, found_of, rows_of, subcommand_rows_of};
-ghost use Rattle.ub_words.specs.CommandLine.{AreNextWords, IsDataGiven, IsLoadGiven, IsNextGiven, IsNumberGiven, IsRunGiven, IsTryGiven, IsUpgradeGiven};
+ghost use Rattle.ub_words.specs.CommandLine.{AreNextWords, IsCheckGiven, IsDataGiven, IsDescribeGiven, IsLoadGiven, IsNextGiven, IsNumberGiven, IsRunGiven, IsTryGiven, IsUpgradeGiven};
 
 use clap::ArgMatches;
 
@@ -51,6 +51,20 @@ pub struct UpgradeWords<'a> {
     pub old: &'a str,
     /// The path of the table file to make.
     pub new: &'a str,
+}
+
+/// What a command line says that asks for what a table file's header tells.
+#[derive(Clone, Copy)]
+pub struct DescribeWords<'a> {
+    /// The path of the table file.
+    pub table: &'a str,
+}
+
+/// What a command line says that asks whether a table file's pages are sound.
+#[derive(Clone, Copy)]
+pub struct CheckWords<'a> {
+    /// The path of the table file.
+    pub table: &'a str,
 }
 
 /// What a command line says that asks for the neighbours of an address in a box.
@@ -153,6 +167,28 @@ pub(crate) fn upgrade_words<'a>(matches: &ArgMatches<'a>) -> Option<UpgradeWords
     Some(UpgradeWords {
         old: text_given(matches, "OLD")?,
         new: text_given(matches, "NEW")?,
+    })
+}
+
+// What was given for the command `describe`.
+pub(crate) fn describe_words<'a>(matches: &ArgMatches<'a>) -> Option<DescribeWords<'a>>
+    ensures { MatchOption result
+        ((table : List ℕ) → ¬ (IsDescribeGiven (rows_of (found_of matches.now)) table))
+        (λ words. IsDescribeGiven (rows_of (found_of matches.now)) words.table.now) }
+{
+    Some(DescribeWords {
+        table: text_given(matches, "TABLE")?,
+    })
+}
+
+// What was given for the command `check`.
+pub(crate) fn check_words<'a>(matches: &ArgMatches<'a>) -> Option<CheckWords<'a>>
+    ensures { MatchOption result
+        ((table : List ℕ) → ¬ (IsCheckGiven (rows_of (found_of matches.now)) table))
+        (λ words. IsCheckGiven (rows_of (found_of matches.now)) words.table.now) }
+{
+    Some(CheckWords {
+        table: text_given(matches, "TABLE")?,
     })
 }
 

@@ -9,5 +9,7 @@ mod given;
 pub mod law;
 mod words;
 
-pub use given::{DataWords, LoadWords, NextWords, RunWords, TryWords, UpgradeWords};
+pub use given::{
+    CheckWords, DataWords, DescribeWords, LoadWords, NextWords, RunWords, TryWords, UpgradeWords,
+};
 pub use words::{Asked, STANDARD_INPUT, read_words};

@@ -5,8 +5,9 @@ ghost use Rattle.ub_words.specs.CommandLine.{AsksNothing, IsTaken, standard_inpu
 
 use crate::builder::program;
 use crate::given::{
-    LoadWords, NextWords, RunWords, TryWords, UpgradeWords, command_found, load_words, next_words,
-    run_words, three_after_next, try_words, upgrade_words,
+    CheckWords, DescribeWords, LoadWords, NextWords, RunWords, TryWords, UpgradeWords, check_words,
+    command_found, describe_words, load_words, next_words, run_words, three_after_next, try_words,
+    upgrade_words,
 };
 use clap::ArgMatches;
 use clap::error::ErrorKind;
@@ -26,6 +27,10 @@ pub enum Asked<'a> {
     Run(RunWords<'a>),
     /// A table file of an older version to be made anew.
     Upgrade(UpgradeWords<'a>),
+    /// What the header of a table file tells.
+    Describe(DescribeWords<'a>),
+    /// Whether the pages of a table file are sound.
+    Check(CheckWords<'a>),
     /// The addresses of a box that are nearest to one.
     Next(NextWords<'a>),
     /// The help or the version: this is its text.
@@ -73,6 +78,10 @@ fn asked_by_command<'a>(
         asked_by_try(alloc, found)
     } else if name == "upgrade" {
         asked_by_upgrade(alloc, found)
+    } else if name == "describe" {
+        asked_by_describe(alloc, found)
+    } else if name == "check" {
+        asked_by_check(alloc, found)
     } else if name == "next" {
         asked_by_next(alloc, found)
     } else {
@@ -131,6 +140,28 @@ fn asked_by_upgrade<'a>(alloc: Global, found: &ArgMatches<'a>) -> Result<Asked<'
 {
     match upgrade_words(found) {
         Some(asked) => Ok(Asked::Upgrade(asked)),
+        None => no_command(alloc),
+    }
+}
+
+// What words ask for that name the command `describe`.
+fn asked_by_describe<'a>(alloc: Global, found: &ArgMatches<'a>) -> Result<Asked<'a>, AllocError>
+    ensures { (words : List (List ℕ)) → IsTaken words (Some (codes "describe", rows_of (found_of found.now)))
+        → IfOk result (IsAskedBy words) }
+{
+    match describe_words(found) {
+        Some(asked) => Ok(Asked::Describe(asked)),
+        None => no_command(alloc),
+    }
+}
+
+// What words ask for that name the command `check`.
+fn asked_by_check<'a>(alloc: Global, found: &ArgMatches<'a>) -> Result<Asked<'a>, AllocError>
+    ensures { (words : List (List ℕ)) → IsTaken words (Some (codes "check", rows_of (found_of found.now)))
+        → IfOk result (IsAskedBy words) }
+{
+    match check_words(found) {
+        Some(asked) => Ok(Asked::Check(asked)),
         None => no_command(alloc),
     }
 }

@@ -1,4 +1,4 @@
-use Rattle.ub_shell.proofs.FileFacts.{help_ends, load_ends, next_ends, run_ends, try_ends, upgrade_ends, wrong_ends}
+use Rattle.ub_shell.proofs.FileFacts.{check_ends, describe_ends, help_ends, load_ends, next_ends, run_ends, try_ends, upgrade_ends, wrong_ends}
 use Rattle.ub_shell.proofs.command.run_words.Goals as goal
 
 pub returns-in-Ok-Load : goal.returns-in-Ok-Load
@@ -12,6 +12,12 @@ returns-in-Ok-Try g c = try_ends _ c.in-Ok-Try.field-0 c.in-Ok-Try.asked _ _ _ _
 
 pub returns-in-Ok-Upgrade : goal.returns-in-Ok-Upgrade
 returns-in-Ok-Upgrade g c = upgrade_ends _ c.in-Ok-Upgrade.field-0 c.in-Ok-Upgrade.asked _ _ _ _ _ c.in-Ok-Upgrade.field-0-is c.in-Ok-Upgrade.ensures c.upgrade_file.ensures
+
+pub returns-in-Ok-Describe : goal.returns-in-Ok-Describe
+returns-in-Ok-Describe g c = describe_ends _ c.in-Ok-Describe.field-0 c.in-Ok-Describe.asked _ _ _ _ _ c.in-Ok-Describe.field-0-is c.in-Ok-Describe.ensures c.describe_file.ensures
+
+pub returns-in-Ok-Check : goal.returns-in-Ok-Check
+returns-in-Ok-Check g c = check_ends _ c.in-Ok-Check.field-0 c.in-Ok-Check.asked _ _ _ _ _ c.in-Ok-Check.field-0-is c.in-Ok-Check.ensures c.check_file.ensures
 
 pub returns-in-Ok-Next : goal.returns-in-Ok-Next
 returns-in-Ok-Next g c =

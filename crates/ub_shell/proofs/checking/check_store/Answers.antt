@@ -1,0 +1,11 @@
+use Rattle.std.proofs.Common.{inl}
+use Rattle.ub_shell.proofs.CheckFacts.{told_counts}
+use Rattle.ub_shell.proofs.checking.check_store.Goals as goal
+
+pub returns-in-Ok : goal.returns-in-Ok
+returns-in-Ok g c = record {
+  left = g.F.Store.PageStore.facts c.checked_in-left.result.0;
+  back = c.put_back.ensures;
+  ended = inl (told_counts c.checked_in-left.result.1 c.in-Ok.counts (g.F.Store.PageStore.facts c.args.store) (g.F.Store.PageStore.facts c.checked_in-left.result.0)
+      _ _ _ _ c.in-Ok.is c.checked_in-left.ensures.well c.checked_in-left.ensures.left c.counts_line.ensures c.tell_line.ensures);
+}

@@ -1,0 +1,162 @@
+-- What a table file tells by its header, as `ubq describe` writes it; and what is told where it can't be opened.
+use Rattle.std.specs.Prelude.{◌≡◌, ◌≢◌, ◌⊎◌, ◌==◌, ◌++◌, ℕ, nat_lt, if◌then◌else◌, List, [], Err, codes, decimal, length}
+use Rattle.std.specs.List.{flat_map, range_with_len, slice_index_or}
+use Rattle.ub_files.specs.Files.{FilesFacts, IsLent, Returns}
+use Rattle.ub_page.specs.declared.header.Header.{Header}
+use Rattle.ub_page.specs.declared.header.OldHeader.{OldHeader}
+use Rattle.ub_page.specs.declared.header.TheConstants.{VERSION}
+use Rattle.ub_script.specs.Output.{OutFacts}
+use Rattle.ub_shell.specs.Commands.{IsUnopened}
+use Rattle.ub_shell.specs.Ending.{Tells}
+use Rattle.ub_shell.specs.Status.{tree_fault_status, tree_fault_text}
+use Rattle.ub_shell.specs.declared.description.Numbers.{Numbers}
+use Rattle.ub_shell.specs.declared.status.Status.{Status}
+use Rattle.ub_shell.specs.declared.status.Status.TheVariants.{Done}
+use Rattle.ub_store.specs.Facts.{StoreFacts, IsHonest}
+use Rattle.ub_table.specs.Value.{is_signed}
+use Rattle.ub_table.specs.declared.fault.PageFault.TheVariants.{OldFormat}
+use Rattle.ub_table.specs.declared.schema.Schema.{Schema}
+use Rattle.ub_tree.specs.Effects.{read_store}
+use Rattle.ub_tree.specs.Faults.{upgrade_fault}
+use Rattle.ub_tree.specs.Opened.{IsOpened, IsOpenFault, IsPassing, IsRooted}
+use Rattle.ub_tree.specs.View.{TreeView, level_count, region_count}
+use Rattle.ub_tree.specs.declared.fault.TreeFault.{TreeFault}
+use Rattle.ub_tree.specs.declared.fault.TreeFault.TheVariants.{Page}
+use Rattle.ub_upgrade.specs.Bringing.{HasOldHeader, IsHeadFault}
+use Rattle.ub_upgrade.specs.declared.fault.UpgradeFault.{UpgradeFault}
+
+-- ---- what a header tells
+
+-- what a table is made of; how many rows it has, the number that the next one gets, and how many regions it has; how many levels its
+-- index has, or in version 1 how many pages its directory; and the version of its pages
+pub record Description : Type 0 where
+  pub schema : Schema
+  pub rows : ℕ
+  pub next : ℕ
+  pub regions : ℕ
+  pub levels : ℕ
+  pub version : ℕ
+
+-- of these numbers
+abbrev pub description : Schema → Numbers → Description
+description schema n = record { schema = schema; rows = n.rows; next = n.next; regions = n.regions; levels = n.levels; version = n.version }
+
+-- that of a tree, whose pages are of the version that is written now
+abbrev pub described : TreeView → Description
+described t = record { schema = t.schema; rows = t.rows; next = t.next; regions = region_count t; levels = level_count t; version = VERSION }
+
+-- and that of a header of an older version
+abbrev pub described_old : OldHeader → Description
+described_old old = record {
+  schema = old.header.schema;
+  rows = old.header.rows;
+  next = old.header.next;
+  regions = old.header.regions;
+  levels = old.header.levels;
+  version = old.version;
+}
+
+-- ---- its text
+
+-- a line: a word, a space, and what is told
+abbrev pub fact_line : List ℕ → List ℕ → List ℕ
+fact_line word told = word ++ (codes " " ++ (told ++ codes "\n"))
+
+-- the name of a column; after it stands whether it is a signed dimension
+abbrev pub column_name : Schema → ℕ → List ℕ
+column_name schema column = slice_index_or schema.columns column []
+
+abbrev pub sign_text : ℕ → ℕ → List ℕ
+sign_text mask dim = if is_signed mask dim then codes " signed" else []
+
+-- a column of a table: a dimension, or a measure
+abbrev pub column_line : Schema → ℕ → List ℕ
+column_line schema column =
+    if nat_lt column schema.dims
+    then fact_line (codes "dimension") (column_name schema column ++ sign_text schema.signed column)
+    else fact_line (codes "measure") (column_name schema column)
+
+-- the columns in their order, the dimensions first
+abbrev pub column_lines : Schema → List ℕ
+column_lines schema = flat_map (column_line schema) (range_with_len 0 (length schema.columns))
+
+-- a line with a number
+abbrev pub number_line : List ℕ → ℕ → List ℕ
+number_line word number = fact_line word (decimal number)
+
+-- what is counted by the levels of a header of a version
+abbrev pub levels_word : ℕ → List ℕ
+levels_word version = if version == 1 then codes "directory-pages" else codes "levels"
+
+-- the counts of a table, and its version
+abbrev pub count_lines : Description → List ℕ
+count_lines d =
+    number_line (codes "rows") d.rows ++ (number_line (codes "next") d.next ++ (number_line (codes "regions") d.regions
+    ++ (number_line (codes "page-rows") d.schema.page_rows ++ (number_line (levels_word d.version) d.levels
+    ++ number_line (codes "format") d.version))))
+
+-- a line for each fact: the table's name, its columns, and its counts
+unfoldable pub description_text : Description → List ℕ
+description_text d = fact_line (codes "table") d.schema.name ++ (column_lines d.schema ++ count_lines d)
+
+-- ---- which store tells what
+
+-- the store tells this: by the tree that is opened in it; or by its header, which is one of an older version
+abbrev pub IsToldBy : StoreFacts → Description → Type 0
+IsToldBy store d =
+    ((t : TreeView) × IsOpened store t × (d ≡ described t))
+    ⊎ ((head : OldHeader) × HasOldHeader store head × (d ≡ described_old head))
+
+-- the text is that of what the store tells; or of what its header tells, which is one of an older version
+abbrev pub IsTextOf : StoreFacts → List ℕ → Type 0
+IsTextOf store text = (d : Description) × IsToldBy store d × (text ≡ description_text d)
+
+abbrev pub IsOldText : StoreFacts → List ℕ → Type 0
+IsOldText store text = (head : OldHeader) × HasOldHeader store head × (text ≡ description_text (described_old head))
+
+-- the fault of opening a store whose table is of an older version
+abbrev pub of_old_format : TreeFault
+of_old_format = Page 0 OldFormat
+
+-- the store's header of an older version can't be read, for this reason
+abbrev pub IsOldFault : StoreFacts → TreeFault → Type 0
+IsOldFault store fault = (head : UpgradeFault) × IsHeadFault store head × (fault ≡ upgrade_fault head)
+
+-- why a store tells nothing: it can't be opened, for another reason than that its table is of an older version; or it is for that, and
+-- its header of an older version can't be read
+abbrev pub IsDescribeFault : StoreFacts → TreeFault → Type 0
+IsDescribeFault store fault =
+    ((fault ≢ of_old_format) × IsOpenFault store fault)
+    ⊎ (IsOpenFault store of_old_format × IsOldFault store fault)
+
+-- a store told this, which was written, and it is left as it was
+pub record IsDescribed (store left : StoreFacts) (out out_now : OutFacts) (status : Status) : Type 0 where
+  pub description : Description
+  pub is : IsToldBy store description
+  pub left_is : left ≡ store
+  pub tells : Tells out out_now (description_text description) Done status
+
+-- it told nothing, and why was written; where a table can be opened, that was for want of memory, or as the store failed; it is left as
+-- it was, but for a read that may have failed
+pub record IsUndescribed (store left : StoreFacts) (out out_now : OutFacts) (status : Status) : Type 0 where
+  pub fault : TreeFault
+  pub is : IsDescribeFault store fault
+  pub passing : (header : Header) → IsHonest store → IsRooted store.pages header → IsPassing fault
+  pub left_is : left ≡ read_store {A = Description} (Err fault) store
+  pub tells : Tells out out_now (tree_fault_text fault) (tree_fault_status fault) status
+
+-- what a store tells was written, or why it tells nothing, and what is left of it was put back
+pub record DescribesStore (Back : StoreFacts → Type 0) (store : StoreFacts) (out out_now : OutFacts) (status : Status) : Type 0 where
+  pub left : StoreFacts
+  pub back : Back left
+  pub ended : IsDescribed store left out out_now status ⊎ IsUndescribed store left out out_now status
+
+-- that is so of the store in the table file
+pub record IsDescriptionOf (table : List ℕ) (old new : FilesFacts) (out out_now : OutFacts) (status : Status) : Type 0 where
+  pub store : StoreFacts
+  pub lent : IsLent old table store
+  pub describes : DescribesStore (λ left. Returns table old new left) store out out_now status
+
+-- what the table file of this path tells was written, or why it tells nothing
+abbrev pub DescribesFile : List ℕ → FilesFacts → FilesFacts → OutFacts → OutFacts → Status → Type 0
+DescribesFile table old new out out_now status = IsDescriptionOf table old new out out_now status ⊎ IsUnopened table old new out out_now status
