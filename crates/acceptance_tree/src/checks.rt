@@ -3,7 +3,7 @@
 // bytes are wrong comes from the description of the formats, and which fault is the first from the order of the keys.
 use crate::calls::{Case, FIVE_REGIONS, Made, TWO_LEVELS, told};
 use crate::old_tables::{
-    EMPTY_2, FIRST, FIVE_2, HEADER_2, INDEX, LEVELS_2, Old, Pages, Patch, SECOND, THIRD,
+    EMPTY_2, FIRST, FIVE_2, HEADER_2, INDEX, LEVELS_2, NO_PATCH, Old, Pages, Patch, SECOND, THIRD,
 };
 use crate::samples::{Sheet, Table, schema_of};
 use crate::trial::{Answer, DEVICE, DONE, NO_PAGE, Run, Step, Trial, goes, trial_of};
@@ -146,7 +146,7 @@ static SOUND: &[Try] = &[
     Try::Each(
         Pages::Bytes(&EMPTY_2),
         &[
-            Hurt(Patch(0, 0, 0, 0), Told::Well),
+            Hurt(NO_PATCH, Told::Well),
             Hurt(Patch(0, 12, 4, 2), Told::Well),
             Hurt(Patch(0, 12, 4, 16777216), Told::Well),
         ],
@@ -154,13 +154,14 @@ static SOUND: &[Try] = &[
     Try::Each(
         Pages::Bytes(&FIVE_2),
         &[
-            Hurt(Patch(0, 0, 0, 0), Told::Well),
-            // The next number, and measures and points, are others.
+            Hurt(NO_PATCH, Told::Well),
+            // The next number, measures and points are others: the points are still before the next region.
             Hurt(Patch(0, 12, 4, 7), Told::Well),
             Hurt(Patch(0, 12, 4, 16777216), Told::Well),
             Hurt(Patch(1, 48, 8, 0x8000_0000_0000_0000), Told::Well),
             Hurt(Patch(3, 36, 8, 0xffff_ffff_ffff_ffff), Told::Well),
-            Hurt(Patch(3, 28, 8, 0x3_0000_0000), Told::Well),
+            Hurt(Patch(3, 28, 8, 0x3_0000_0001), Told::Well),
+            Hurt(Patch(3, 28, 8, 0x2_0000_0002), Told::Well),
             Hurt(
                 Patch(2, 32, 16, 0xffff_ffff_ffff_ffff_ffff_ffff_ffff_ffff),
                 Told::Well,
@@ -170,7 +171,7 @@ static SOUND: &[Try] = &[
     Try::Each(
         Pages::Bytes(&LEVELS_2),
         &[
-            Hurt(Patch(0, 0, 0, 0), Told::Well),
+            Hurt(NO_PATCH, Told::Well),
             Hurt(Patch(0, 12, 4, 7), Told::Well),
         ],
     ),
@@ -178,7 +179,7 @@ static SOUND: &[Try] = &[
         Pages::Bytes(&SPARE),
         &[
             // The page that nothing leads to: a region, and pages of no kind.
-            Hurt(Patch(0, 0, 0, 0), Told::Well),
+            Hurt(NO_PATCH, Told::Well),
             Hurt(Patch(5, 0, 1, 0), Told::Well),
             Hurt(Patch(5, 0, 1, 255), Told::Well),
             Hurt(Patch(5, 3, 1, 255), Told::Well),
