@@ -199,14 +199,14 @@ impl Trial {
         self.keep(store)
     }
 
-    // Takes a store of such a table that doesn't fail, in place of all that there is.
+    // Takes a store of an old table, which doesn't fail, in place of all that there is.
     pub(crate) fn take_old(&mut self, old: &Old) -> Answer {
         release(self.tree.take());
         let store = self.old_store(old, 0);
         self.keep(store)
     }
 
-    // Whether the store has the pages of such a table, byte for byte.
+    // Whether the store has the pages of an old table, byte for byte.
     pub(crate) fn has_old(&mut self, old: &Old) -> bool {
         match &mut self.store {
             Some(store) => is_old(store, old),
