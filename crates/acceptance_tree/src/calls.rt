@@ -15,17 +15,17 @@ const FAILED: Answer = Err(TreeFault::Failed);
 
 // A step, what it answers, and the calls of the store that it makes, in order: `r` reads a page, `e` adds one, `w` writes one,
 // and `s` syncs. The runs tell reads and added pages from the others, and not a sync from a write.
-pub(crate) struct Made(Step, Answer, &'static [u8]);
+pub(crate) struct Made(pub(crate) Step, pub(crate) Answer, pub(crate) &'static [u8]);
 
 // Steps on the closed table that has these pages. In the end it is closed.
 pub(crate) struct Case {
-    sheets: &'static [Sheet],
-    steps: &'static [Made],
+    pub(crate) sheets: &'static [Sheet],
+    pub(crate) steps: &'static [Made],
 }
 
 // The closed table of 14 rows whose regions begin with the addresses 0, 1, 4, 16 and 64, which are those of the points (0,0),
 // (0,1), (0,2), (0,4) and (0,8). All their rows are there: 2, 2, 4, 2 and 4. So the third region and the last one are full.
-const FIVE_REGIONS: [Sheet; 7] = [
+pub(crate) const FIVE_REGIONS: [Sheet; 7] = [
     Sheet::Header(15, 14, 5, false),
     Sheet::Equal(0, 0, 1, 2),
     Sheet::Index(
@@ -60,7 +60,7 @@ const FIVE_REGIONS: [Sheet; 7] = [
 ];
 
 // The same table whose last region has a page of the index for itself.
-const TWO_LEVELS: [Sheet; 9] = [
+pub(crate) const TWO_LEVELS: [Sheet; 9] = [
     Sheet::Rooted(15, 14, 5, 2, 2),
     Sheet::Equal(0, 0, 1, 2),
     Sheet::Index(
@@ -406,7 +406,7 @@ fn count_added(calls: &[u8]) -> usize {
 }
 
 // What is asked of a tree that has failed, but for the readers.
-static REFUSED: [Step; 7] = [
+static REFUSED: [Step; 8] = [
     Step::Put(0, 0, 0),
     Step::Remove(0, 1),
     Step::Seek(0),
@@ -414,6 +414,7 @@ static REFUSED: [Step; 7] = [
     Step::Span(0),
     Step::Least(1),
     Step::Walk,
+    Step::Check,
 ];
 
 // Whether a tree that has failed answers all of that as Failed.
@@ -427,7 +428,7 @@ fn is_refused(trial: &mut Trial) -> bool {
 }
 
 // What the readers of a tree tell: of its rows and regions, its schema, and its trace.
-fn told(trial: &mut Trial) -> [Answer; 3] {
+pub(crate) fn told(trial: &mut Trial) -> [Answer; 3] {
     [
         trial.answer(&Step::Count),
         trial.answer(&Step::Shape),

@@ -10,6 +10,8 @@ mod calls;
 #[cfg(test)]
 mod changes;
 #[cfg(test)]
+mod checks;
+#[cfg(test)]
 mod deletions;
 #[cfg(test)]
 mod levels;

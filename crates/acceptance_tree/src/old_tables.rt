@@ -53,7 +53,7 @@ const HEADER_1: [u8; 164] = [
 ];
 
 // In format 2: the root of the index is on page 4, of level 1.
-const HEADER_2: [u8; 164] = [
+pub(crate) const HEADER_2: [u8; 164] = [
     0x55, 0x42, 0x54, 0x52, 2, 0, 2, 1, 2, 0, 0, 0, 0, 0, 0, 6, 0, 0, 0, 5, 0, 0, 0, 3, 0, 0, 0, 4,
     0, 0, 0, 1, //
     1, 0x74, 0, 0, 0, 0, 0, 0, 0, 0, 0, 0, 0, 0, 0, 0, 0, 0, 0, 0, 0, 0, 0, 0, 0, 0, 0, 0, 0, 0, 0,

@@ -1,6 +1,6 @@
 // Steps on a tree and on its store, as data.
 use crate::calls::{Case, count_cases};
-use crate::old_tables::{Old, old_store};
+use crate::old_tables::{Old, is_old, old_store};
 use crate::plans::{Ask, Work, by_plan};
 use crate::samples::{FIVE_ROWS, Sheet, Store, Table, copied, page_of, schema_of, stored};
 use std::alloc::Global;
@@ -53,6 +53,8 @@ pub(crate) enum Step {
     Walk,
     // The same of the regions that meet the box from a corner with these coordinates on.
     Meet(u32),
+    // Checks the whole table.
+    Check,
     // How many pages the trace notes, and the last of them, or 0.
     Trace,
     Begin,
@@ -197,6 +199,21 @@ impl Trial {
         self.keep(store)
     }
 
+    // Takes a store of an old table, which doesn't fail, in place of all that there is.
+    pub(crate) fn take_old(&mut self, old: &Old) -> Answer {
+        release(self.tree.take());
+        let store = self.old_store(old, 0);
+        self.keep(store)
+    }
+
+    // Whether the store has the pages of an old table, byte for byte.
+    pub(crate) fn has_old(&mut self, old: &Old) -> bool {
+        match &mut self.store {
+            Some(store) => is_old(store, old),
+            None => false,
+        }
+    }
+
     // Takes a store that was made.
     fn keep(&mut self, made: Result<Store, StoreFault>) -> Answer {
         match made {
@@ -334,6 +351,7 @@ fn ask(alloc: Global, tree: &mut Tree<Store>, step: &Step) -> Answer {
         Step::Least(page) => read_region(tree, &least_on(*page)),
         Step::Walk => meet(tree, 0, true),
         Step::Meet(low) => meet(tree, *low, false),
+        Step::Check => checked(tree),
         Step::Trace => traced(tree.trace()),
         Step::Begin => {
             tree.begin();
@@ -487,6 +505,14 @@ fn number_at(page: &RegionPage, i: usize) -> u128 {
         u128::from(page.row(i).number)
     } else {
         0
+    }
+}
+
+// What the check of the whole table answers.
+fn checked(tree: &mut Tree<Store>) -> Answer {
+    match tree.check() {
+        Ok(()) => DONE,
+        Err(fault) => Err(fault),
     }
 }
 

@@ -95,7 +95,7 @@ fn count_steps(trial: &mut Trial, store: &mut Store, old: &Old, steps: &[(Step, 
 }
 
 // An old table of these pages with these numbers.
-fn old_of(pages: Pages, patches: &'static [Patch], last: Patch) -> Old {
+pub(crate) fn old_of(pages: Pages, patches: &'static [Patch], last: Patch) -> Old {
     Old {
         pages,
         patches,
