@@ -636,6 +636,23 @@ def a_key_of_another(rng, data, table):
             one_off(rng, data, one + 16, 4)
 
 
+def a_late_end(rng, data, table):
+    """The last entry of a page of the index has the first key of the next page of its level, or nearly."""
+    due = rng.choice([1, 1, 2])
+    pages = [one for one in table.index if one[1] == due]
+    if len(pages) > 1:
+        i = rng.randrange(len(pages) - 1)
+        z, n = pages[i + 1][2][0][0]
+        put(data, pages[i][0] * PAGE + 16 + 24 * (len(pages[i][2]) - 1), entry((z, n + rng.choice([0, 0, 1])), 0)[:20])
+
+
+def an_uncounted_region(rng, data, table):
+    """The header counts one region less, and the last one's page isn't one: it isn't looked at."""
+    if len(table.regions) > 1:
+        put(data, 20, struct.pack(">I", table.head.regions - 1))
+        put(data, table.regions[-1][0] * PAGE, rng.choice([bytes(PAGE), rng.randbytes(PAGE), b"R" + bytes(PAGE - 1)]))
+
+
 def a_first_key(rng, data, table):
     """A region begins with another key; where it isn't so in its entry alone, the entry says it too."""
     place, below = an_entry(rng, table, False)
@@ -704,7 +721,7 @@ def a_region_left_out(rng, data, table):
 
 AIMED = [nothing, a_cut, some_bytes, pages_exchanged, an_index_page_twice, a_region_twice, a_region_copied, a_number_twice, a_number_at_the_next]
 AIMED += [a_header_count, a_total, garbage, an_entry_key, a_key_of_another, a_first_key, a_page_count, a_coordinate, measures, another_next]
-AIMED += [a_row_left_out, a_region_left_out]
+AIMED += [a_row_left_out, a_region_left_out, a_late_end, an_uncounted_region]
 
 
 def aimed(rng, whole, table):
