@@ -43,7 +43,7 @@ fn tells(alloc: Global, line: &str, is_help: bool, wanted: &str) -> bool {
 }
 
 // Command lines, whether they are told the help, and one of the lines that they are told.
-static TOLD: [(&str, bool, &str); 16] = [
+static TOLD: [(&str, bool, &str); 18] = [
     ("ubq --help", true, "Usage: ubq <COMMAND>"),
     (
         "ubq try --help",
@@ -63,7 +63,18 @@ static TOLD: [(&str, bool, &str); 16] = [
     (
         "ubq load --help",
         true,
-        "has zone (2) and temp (4) signed. A negative number in another dimension is refused, as ! OutOfRange row 1 column 1.",
+        "has zone (2) and temp (4) signed. DATA is mostly refused as ! OutOfRange row 1 column 1 where a negative number stands in",
+    ),
+    (
+        "ubq load --help",
+        true,
+        "a dimension that isn't signed: name that one by --signed.",
+    ),
+    // That a script can come from standard input, where it is missing.
+    (
+        "ubq run t.ub",
+        false,
+        "       ubq run <TABLE> -         (the script is read from standard input)",
     ),
     (
         "ubq next --help",
