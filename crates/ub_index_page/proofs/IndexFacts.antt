@@ -1,12 +1,15 @@
 -- What a page of an index reads as, and which page is spelled by what stands on it.
-use Rattle.std.proofs.Common.{◌≡◌, ◌≤◌, ◌<◌, ◌+◌, ◌-◌, ◌*◌, ◌^◌, ℕ, zero, suc, List, ◌++◌, length, take, drop, get_or, replicate, ◌↔◌, refl, sym, ap, arith, ◌∙◌}
+use Rattle.std.proofs.Common.{◌≡◌, ◌≤◌, ◌<◌, ◌+◌, ◌-◌, ◌*◌, ◌^◌, ℕ, zero, suc, List, ◌++◌, length, take, drop, get_or, replicate, ◌↔◌, refl, sym, ap, arith, ◌∙◌, inl, inr}
 use Rattle.std.proofs.lemmas.List.{length-take-le, take-append-drop}
 use Rattle.std.specs.List.{flat_map, AllByRecursion}
 use Rattle.ub_page.specs.Bytes.{number_at, layout, padded}
 use Rattle.ub_page.specs.Entries.{AreAscending, IsEntry, entry_fields, entry_bytes, page_fields, entries_page, key_on, entry_on, entries_on}
 use Rattle.ub_page.specs.declared.entries.Entry.{Entry}
 use Rattle.ub_page.proofs.PageLaws.{fields_read, length-entries_on, entries_next, short_ascending, layout_back, joined}
+use Rattle.ub_index_page.specs.Named.{IsNamed}
+use Rattle.ub_table.proofs.Laws.{before_parts}
 use Rattle.ub_table.specs.Keys.{IsBefore}
+use Rattle.ub_table.specs.declared.row.Key.{Key}
 use Rattle.ub_table.specs.declared.fault.PageFault.TheVariants.{WrongKind, OldFormat, Unclean, BadCount, BadName, BadRow, BadOrder, OutOfRegion, BadPadding}
 use Rattle.ub_table.specs.declared.fault.PageFault.{PageFault}
 use Rattle.ub_index_page.specs.Index.{Node, IsNode, index_page, head_on, node_on, IsIndexKind, HasHead, HasNodeEntries, HasNodeOrder, IsBlankBehind, IsHeadFault, IsIndexFault}
@@ -141,3 +144,46 @@ order_step i count page some more =
 -- where one entry is left, they ascend
 pub order_end : (i count : ℕ) (page : List ℕ) → 1 ≤ i → count ≤ i → AreAscending (entries_on (16 + 24 * (i - 1)) (count - (i - 1)) page)
 order_end i count page some done = short_ascending _ (rw (length-entries_on (16 + 24 * (i - 1)) (count - (i - 1)) page) (omega arith))
+
+-- the entries from a slot on are in range and begin one after the other
+abbrev pub AreWellFrom : ℕ → ℕ → ℕ → List ℕ → Type 0
+AreWellFrom last i count page =
+    AllByRecursion (IsEntry last) (entries_on (16 + 24 * i) (count - i) page) × AreAscending (entries_on (16 + 24 * i) (count - i) page)
+
+pub before_address : (a b : Key) → IsBefore a b → a.z ≤ b.z
+before_address a b is = elim (before_parts a b is) [
+  | inl less ↦ omega arith
+  | inr same ↦ let z = same.0 in omega arith
+]
+
+-- so are those from the next one on, and the first one is before that
+pub well_rest : (last i count : ℕ) (page : List ℕ) → 1 ≤ i → i < count → AreWellFrom last (i - 1) count page
+    → IsBefore (key_on (16 + 24 * (i - 1)) page) (key_on (16 + 24 * i) page) × AreWellFrom last (i + 1 - 1) count page
+well_rest last i count page some more all =
+    let range = (range_step last (i - 1) count page (omega arith)).0 all.0 in
+    let order = (order_step i count page some more).0 all.1 in
+    let same : i - 1 + 1 ≡ i + 1 - 1 = omega arith in
+    (order.0, (rw same at range.1, order.1))
+
+-- one more is, which is named and before them, since its address is no higher than theirs
+pub well_more : (last i count : ℕ) (page : List ℕ) → 1 ≤ i → i < count → IsNamed (entry_on (16 + 24 * (i - 1)) page)
+    → number_at 4 (16 + 24 * (i - 1) + 20) page < 2 ^ 32 → IsBefore (key_on (16 + 24 * (i - 1)) page) (key_on (16 + 24 * i) page)
+    → AreWellFrom last (i + 1 - 1) count page → AreWellFrom last (i - 1) count page
+well_more last i count page some more named small before rest =
+    let same : i + 1 - 1 ≡ i = omega arith in
+    let back : i - 1 + 1 ≡ i = omega arith in
+    let next = (range_step last i count page more).0 (rw same at rest.0) in
+    let z : number_at 16 (16 + 24 * i) page ≤ last = next.0.z in
+    let up : number_at 16 (16 + 24 * (i - 1)) page ≤ number_at 16 (16 + 24 * i) page = before_address _ _ before in
+    let here : IsEntry last (entry_on (16 + 24 * (i - 1)) page) = record { z = omega arith; number = named.0; some_page = named.1; page = small } in
+    ((range_step last (i - 1) count page (omega arith)).1 (here, rw back (rw same at rest.0)), (order_step i count page some more).1 (before, rest.1))
+
+-- the last one is where its address is in the space
+pub well_last : (last i count : ℕ) (page : List ℕ) → 1 ≤ i → i ≡ count → IsNamed (entry_on (16 + 24 * (i - 1)) page)
+    → number_at 4 (16 + 24 * (i - 1) + 20) page < 2 ^ 32 → AreWellFrom last (i - 1) count page ↔ (number_at 16 (16 + 24 * (i - 1)) page ≤ last)
+well_last last i count page some done named small =
+    let step = range_step last (i - 1) count page (omega arith) in
+    let none : count - (i - 1 + 1) ≡ 0 = omega arith in (
+      λ all. (step.0 all.0).0.z,
+      λ z. (step.1 (record { z = z; number = named.0; some_page = named.1; page = small }, rw none tt), order_end i count page some (omega arith)),
+    )

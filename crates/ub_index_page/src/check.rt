@@ -3,13 +3,14 @@ ghost use Rattle.std.specs.Prelude.{◌≡◌, ◌≤◌, ◌↔◌, IsTrue, IsO
 ghost use Rattle.std.specs.List.{AllByRecursion};
 ghost use Rattle.ub_page.specs.Entries.{AreAscending, IsEntry, entries_on};
 ghost use Rattle.ub_index_page.specs.Index.{Node, IsNode, index_page, head_on, node_on, IsBlankBehind, IsIndexFault};
+ghost use Rattle.ub_index_page.specs.Named.{IsNamed};
 
 use crate::index::{Head, read_head};
 use crate::slots::entry_at;
-use ub_page::Page;
 use ub_page::entries::{MAX_ENTRIES, is_in_range};
 use ub_page::page::{is_blank_from, u32_at, u64_at};
-use ub_table::PageFault;
+use ub_page::{Entry, Page};
+use ub_table::{MAX_ROW_NUMBER, PageFault};
 
 /// What the first bytes tell of a page of an index, all bytes of which are well, in a space that ends with the address
 /// `last`. It is refused as by `read_index`, and no entry is kept. Takes no memory.
@@ -33,7 +34,8 @@ pub fn check_index(last: u128, page: &Page) -> Result<Head, PageFault>
     Ok(head)
 }
 
-// Whether the first so many entries are in range and begin one after the other. Each is read once.
+// Whether the first so many entries are in range and begin one after the other. Each is read once, and the last one's address
+// alone is held against the last of the space, since none before it is higher.
 fn are_well(page: &Page, count: usize, last: u128) -> bool
     requires some { 1 ≤ count }
     requires few { count ≤ MAX_ENTRIES }
@@ -41,12 +43,12 @@ fn are_well(page: &Page, count: usize, last: u128) -> bool
         × AreAscending (entries_on 16 count page.now)) }
 {
     let mut before = entry_at(page, 0);
-    if !is_in_range(&before, last) {
+    if !is_named(&before) {
         return false;
     }
     for slot in 1..count {
         let entry = entry_at(page, slot);
-        if !is_in_range(&entry, last) {
+        if !is_named(&entry) {
             return false;
         }
         if !before.first.is_before(&entry.first) {
@@ -54,7 +56,14 @@ fn are_well(page: &Page, count: usize, last: u128) -> bool
         }
         before = entry;
     }
-    true
+    before.first.z <= last
+}
+
+// Whether an entry's number is at most 16777215, and its page not the first one.
+fn is_named(entry: &Entry) -> bool
+    ensures { IsTrue result ↔ IsNamed entry.now }
+{
+    entry.first.number <= MAX_ROW_NUMBER && entry.page >= 1
 }
 
 // Whether the first so many entries are in range.

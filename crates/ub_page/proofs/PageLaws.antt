@@ -17,7 +17,7 @@ use Rattle.ub_table.specs.declared.schema.Schema.{Schema}
 pub use Rattle.ub_page.proofs.DirectoryFacts.{HasListing}
 pub use Rattle.ub_page.proofs.EntryFacts.{HasFields, small_address, fields_read, length-entries_on, entries_next, short_ascending}
 pub use Rattle.ub_page.proofs.HeaderFacts.{HasParts, HasPartsOf}
-pub use Rattle.ub_page.proofs.RegionFacts.{HasRegion}
+pub use Rattle.ub_page.proofs.RegionFacts.{HasRegion, number_lt}
 pub use Rattle.ub_page.proofs.SpelledFacts.{layout_back, joined}
 
 pub listing_parts : (listing : Listing) (page : List ℕ) (d : ℕ) → d ≤ 4 → IsListing d listing → page ≡ directory_page listing → HasListing listing page

@@ -8,7 +8,7 @@ ghost use Rattle.ub_page.specs.Columns.{block, blank_dims, blank_measures, point
 
 use crate::page::{Page, i64_at, u32_at};
 use ub_table::{Key, MAX_ROWS, Row};
-use ub_zaddr::Shape;
+use ub_zaddr::{Shape, interleave_first};
 
 /// The keys of the rows.
 pub type Keys = [Key; MAX_ROWS];
@@ -91,29 +91,46 @@ fn read_measure(
 }
 
 /// Puts in the first places the keys of so many rows with these dimensions: the address of each is
-/// made here, once for a page.
+/// made here, once for a page, by the loop for their number of dimensions.
 pub fn read_keys(keys: &mut Keys, page: &Page, shape: Shape, dims: &Dims, count: usize)
     requires { count ≤ MAX_ROWS }
     ensures keys { take count keys.new
         ≡ map (key_in shape page.now dims.now) (range_with_len 0 count) }
     ensures long { length keys.new ≡ MAX_ROWS }
 {
-    for i in 0..count {
-        keys[i] = read_key(page, shape, dims, i);
+    match shape.dims() {
+        1 => read_keys_in::<1>(keys, page, dims, count),
+        2 => read_keys_in::<2>(keys, page, dims, count),
+        3 => read_keys_in::<3>(keys, page, dims, count),
+        _ => read_keys_in::<4>(keys, page, dims, count),
     }
 }
 
-// The key of the row at an index.
-fn read_key(page: &Page, shape: Shape, dims: &Dims, i: usize) -> Key
-    requires { i < MAX_ROWS }
-    ensures { result ≡ key_in shape page.now dims.now i }
+// The same in a space of D dimensions.
+fn read_keys_in<const D: usize>(keys: &mut Keys, page: &Page, dims: &Dims, count: usize)
+    requires some { 1 ≤ D }
+    requires within { D ≤ 4 }
+    requires few { count ≤ MAX_ROWS }
+    ensures keys { take count keys.new
+        ≡ map (key_in D page.now dims.now) (range_with_len 0 count) }
+    ensures long { length keys.new ≡ MAX_ROWS }
 {
-    let row = Row {
+    for i in 0..count {
+        keys[i] = read_key::<D>(page, dims, i);
+    }
+}
+
+// The key of the row at an index, in such a space.
+fn read_key<const D: usize>(page: &Page, dims: &Dims, i: usize) -> Key
+    requires some { 1 ≤ D }
+    requires within { D ≤ 4 }
+    requires at { i < MAX_ROWS }
+    ensures { result ≡ key_in D page.now dims.now i }
+{
+    Key {
+        z: interleave_first::<D>(&point_at(dims, i)),
         number: u32_at(page, 24 + 4 * i),
-        dims: point_at(dims, i),
-        measures: [0; 4],
-    };
-    row.key(shape)
+    }
 }
 
 // The dimensions of the row at an index.

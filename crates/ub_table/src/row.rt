@@ -1,7 +1,7 @@
 ghost use Rattle.std.specs.Prelude.{◌≡◌, ◌+◌, ◌<◌};
 ghost use Rattle.ub_table.specs.Keys.{precedes};
 
-use ub_zaddr::{Point, Shape, interleave};
+use ub_zaddr::{Shape, interleave_places};
 
 /// The greatest number that a row can have.
 pub const MAX_ROW_NUMBER: u32 = 16_777_215;
@@ -36,12 +36,9 @@ impl Row {
     pub fn key(&self, shape: Shape) -> Key
         ensures { result ≡ key_of shape self.now }
     {
-        match Point::new(shape, &self.dims[..shape.dims() as usize]) {
-            Ok(point) => Key {
-                z: interleave(shape, &point),
-                number: self.number,
-            },
-            Err(_) => unreachable!(),
+        Key {
+            z: interleave_places(shape, &self.dims),
+            number: self.number,
         }
     }
 }

@@ -1,6 +1,7 @@
 -- An address by the bits of each coordinate on their own.
-use Rattle.std.proofs.Common.{◌≡◌, ◌≤◌, ◌<◌, ◌+◌, ◌-◌, ◌*◌, ◌/◌, ◌%◌, ◌^◌, ◌==◌, ◌&&◌, ℕ, zero, suc, Bool, true, List, length, slice_index, refl, sym, ap, arith, ◌∙◌, bit_or}
+use Rattle.std.proofs.Common.{◌≡◌, ◌≤◌, ◌<◌, ◌+◌, ◌-◌, ◌*◌, ◌/◌, ◌%◌, ◌^◌, ◌==◌, ◌&&◌, ℕ, zero, suc, Bool, true, List, length, slice_index, take, refl, sym, ap, arith, ◌∙◌, bit_or}
 use Rattle.std.proofs.Math.Nat.{add-mul, mul_assoc, mod-eq_of_lt}
+use Rattle.std.proofs.lemmas.List.{get_or-take, length-take-le, take_all}
 use Rattle.std.proofs.lemmas.Nat.{pow-add, shl_whole, or_shifted}
 use Rattle.std.proofs.lemmas.Bool.Decides.{Decides-below_and, Decides-eqb}
 use Rattle.std.specs.Int.{bit_at}
@@ -56,6 +57,28 @@ address_three p e = let sum = address-spaced p 3 e in omega arith
 pub address_four : (p : List ℕ) → length p ≡ 4
     → 8 * spaced 4 32 (slice_index p 0) + 4 * spaced 4 32 (slice_index p 1) + 2 * spaced 4 32 (slice_index p 2) + spaced 4 32 (slice_index p 3) ≡ address p
 address_four p e = let sum = address-spaced p 4 e in omega arith
+
+-- ---- the first of four places
+first_of : (n i : ℕ) (p : List ℕ) → i < n → slice_index (take n p) i ≡ slice_index p i
+first_of n i p lt = get_or-take n p i 0 lt
+
+pub places_one : (p : List ℕ) → length p ≡ 4 → slice_index p 0 < 2 ^ 32 → slice_index p 0 ≡ address (take 1 p)
+places_one p e small =
+    let first = first_of 1 0 p (omega arith) in
+    rw first at (address_one (take 1 p) (length-take-le 1 p (omega arith)) (rw first small))
+
+pub places_two : (p : List ℕ) → length p ≡ 4 → 2 * spaced 2 32 (slice_index p 0) + spaced 2 32 (slice_index p 1) ≡ address (take 2 p)
+places_two p e =
+    rw (first_of 2 0 p (omega arith), first_of 2 1 p (omega arith)) at (address_two (take 2 p) (length-take-le 2 p (omega arith)))
+
+pub places_three : (p : List ℕ) → length p ≡ 4
+    → 4 * spaced 3 32 (slice_index p 0) + 2 * spaced 3 32 (slice_index p 1) + spaced 3 32 (slice_index p 2) ≡ address (take 3 p)
+places_three p e =
+    rw (first_of 3 0 p (omega arith), first_of 3 1 p (omega arith), first_of 3 2 p (omega arith)) at (address_three (take 3 p) (length-take-le 3 p (omega arith)))
+
+pub places_four : (p : List ℕ) → length p ≡ 4
+    → 8 * spaced 4 32 (slice_index p 0) + 4 * spaced 4 32 (slice_index p 1) + 2 * spaced 4 32 (slice_index p 2) + spaced 4 32 (slice_index p 3) ≡ address (take 4 p)
+places_four p e = rw (take_all 4 p (omega arith)) (address_four p e)
 
 -- ---- parts joined by a shift
 

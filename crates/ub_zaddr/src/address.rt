@@ -1,4 +1,4 @@
-ghost use Rattle.std.specs.Prelude.{◌≡◌, ℕ, ◌-◌, ◌^◌, ◌<◌, ◌≤◌, ◌↔◌, List, length, drop, replicate, slice_index, All, IsErr, IfOk, IfErr};
+ghost use Rattle.std.specs.Prelude.{◌≡◌, ℕ, ◌-◌, ◌^◌, ◌<◌, ◌≤◌, ◌↔◌, List, length, take, drop, replicate, slice_index, All, IsErr, IfOk, IfErr};
 ghost use Rattle.std.specs.Int.{bit_at};
 ghost use Rattle.ub_zaddr.specs.Address.{address, last_address, place, IsPoint, IsAtMost};
 
@@ -27,7 +27,7 @@ pub fn interleave(shape: Shape, point: &Point) -> u128
     // no other point of the shape has this address
     ensures one_to_one { (other : List ℕ) → IsPoint shape other → address other ≡ result → other ≡ point.now }
 {
-    interleaved(point.values())
+    interleave_places(shape, point.places())
 }
 
 /// The point of this shape that has the address z, by taking the bits apart. `TooLarge` above the last address.
@@ -43,18 +43,30 @@ pub fn spread(shape: Shape, z: u128) -> Result<Point, ZFault>
     Ok(Point::of_places(shape, coordinates(shape.dims(), z)))
 }
 
-// The bits of one to four words in turn, that of the first highest.
-fn interleaved(values: &[u32]) -> u128
-    requires some { 1 ≤ length values.now }
-    requires within { length values.now ≤ 4 }
-    ensures { result ≡ address values.now }
+/// The address of the point of this shape whose coordinates stand in the first places. The places after them are not
+/// looked at.
+pub fn interleave_places(shape: Shape, places: &[u32; 4]) -> u128
+    ensures { result ≡ address (take shape places.now) }
 {
-    match values {
-        [x] => u128::from(*x),
-        [x, y] => u128::from(two_in_turn(*x, *y)),
-        [x, y, z] => three_in_turn(*x, *y, *z),
-        [x, y, z, w] => four_in_turn(*x, *y, *z, *w),
-        _ => unreachable!(),
+    match shape.dims() {
+        1 => interleave_first::<1>(places),
+        2 => interleave_first::<2>(places),
+        3 => interleave_first::<3>(places),
+        _ => interleave_first::<4>(places),
+    }
+}
+
+/// The same in a space of D dimensions, for a loop over points of one space: nothing in it asks for their number.
+pub fn interleave_first<const D: usize>(places: &[u32; 4]) -> u128
+    requires some { 1 ≤ D }
+    requires within { D ≤ 4 }
+    ensures { result ≡ address (take D places.now) }
+{
+    match D {
+        1 => u128::from(places[0]),
+        2 => u128::from(two_in_turn(places[0], places[1])),
+        3 => three_in_turn(places[0], places[1], places[2]),
+        _ => four_in_turn(places[0], places[1], places[2], places[3]),
     }
 }
 

@@ -12,7 +12,7 @@ mod shape;
 mod spacing;
 mod tables;
 
-pub use address::{interleave, last, spread};
+pub use address::{interleave, interleave_first, interleave_places, last, spread};
 pub use fault::ZFault;
 pub use point::Point;
 pub use shape::Shape;

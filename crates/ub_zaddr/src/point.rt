@@ -67,4 +67,12 @@ impl Point {
     {
         &self.places[..self.count]
     }
+
+    // The coordinates in the first places, and 0 in those after them.
+    pub(crate) fn places(&self) -> &[u32; 4]
+        ensures places { take (length self.now) result.now ≡ self.now }
+        ensures words { All (λ x. x < 2 ^ 32) self.now }
+    {
+        &self.places
+    }
 }

@@ -1,12 +1,14 @@
 use Rattle.std.proofs.Common.{◌≡◌, ◌↔◌, ◌+◌, ◌*◌, ◌-◌}
 use Rattle.std.specs.List.{AllByRecursion}
 use Rattle.ub_page.specs.Entries.{AreAscending, IsEntry, entries_on, entry_on}
+use Rattle.ub_index_page.specs.Named.{IsNamed}
+use Rattle.ub_index_page.proofs.IndexFacts.{AreWellFrom}
 use Rattle.ub_index_page.proofs.check.are_well.Given as goal
 
 abbrev pub invariant-loop-slot : goal.invariant-loop-slot
 invariant-loop-slot l = record {
   before : l.before ≡ entry_on (16 + 24 * (l.slot - 1)) l.page;
+  named : IsNamed l.before;
   so_far : (AllByRecursion (IsEntry l.last) (entries_on 16 l.count l.page) × AreAscending (entries_on 16 l.count l.page))
-      ↔ (AllByRecursion (IsEntry l.last) (entries_on (16 + 24 * l.slot) (l.count - l.slot) l.page)
-      × AreAscending (entries_on (16 + 24 * (l.slot - 1)) (l.count - (l.slot - 1)) l.page));
+      ↔ AreWellFrom l.last (l.slot - 1) l.count l.page;
 }

@@ -1,10 +1,10 @@
 use Rattle.std.proofs.Common.{◌≡◌, length, map, take}
 use Rattle.std.specs.List.{range_with_len}
 use Rattle.ub_page.specs.Columns.{key_in}
-use Rattle.ub_page.proofs.columns.read_keys.Given as goal
+use Rattle.ub_page.proofs.columns.read_keys_in.Given as goal
 
 abbrev pub invariant-loop-i : goal.invariant-loop-i
-invariant-loop-i l = record {
-  first : take l.i l.keys ≡ map (key_in l.shape l.page l.dims) (range_with_len 0 l.i);
+invariant-loop-i g l = record {
+  first : take l.i l.keys ≡ map (key_in g.row.D l.page l.dims) (range_with_len 0 l.i);
   long : length l.keys ≡ 64;
 }

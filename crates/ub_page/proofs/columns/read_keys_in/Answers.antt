@@ -2,12 +2,12 @@ use Rattle.std.proofs.Common.{arith, ◌∙◌}
 use Rattle.std.proofs.lemmas.List.{length-set}
 use Rattle.ub_page.specs.Columns.{key_in}
 use Rattle.ub_page.proofs.PlacesFacts.{first_more}
-use Rattle.ub_page.proofs.columns.read_keys.Goals as goal
+use Rattle.ub_page.proofs.columns.read_keys_in.Goals as goal
 
 pub loop-i-preserved : goal.loop-i-preserved
-loop-i-preserved c =
+loop-i-preserved g c =
     let long = c.loop-i.invariant.long in
     record {
-      first = first_more (key_in c.args.shape c.args.page.now c.args.dims.now) c.loop-i.keys c.loop-i.i c.read_key.result (omega arith) c.loop-i.invariant.first c.read_key.ensures;
+      first = first_more (key_in g.row.D c.args.page.now c.args.dims.now) c.loop-i.keys c.loop-i.i c.read_key.result (omega arith) c.loop-i.invariant.first c.read_key.ensures;
       long = length-set c.loop-i.keys c.loop-i.i c.read_key.result ∙ long;
     }
