@@ -1,5 +1,5 @@
 -- What a page of an index reads as, and which page is spelled by what stands on it.
-use Rattle.std.proofs.Common.{◌≡◌, ◌≤◌, ◌<◌, ◌+◌, ◌-◌, ◌*◌, ◌^◌, ℕ, zero, suc, List, ◌++◌, length, take, drop, get_or, replicate, ◌↔◌, refl, sym, ap, arith, ◌∙◌, inl, inr}
+use Rattle.std.proofs.Common.{◌≡◌, ◌&&◌, Bool, true, false, IsTrue, ◌≤◌, ◌<◌, ◌+◌, ◌-◌, ◌*◌, ◌^◌, ℕ, zero, suc, List, ◌++◌, length, take, drop, get_or, replicate, ◌↔◌, refl, sym, ap, arith, ◌∙◌, inl, inr}
 use Rattle.std.proofs.lemmas.List.{length-take-le, take-append-drop}
 use Rattle.std.specs.List.{flat_map, AllByRecursion}
 use Rattle.ub_page.specs.Bytes.{number_at, layout, padded}
@@ -177,6 +177,11 @@ well_more last i count page some more named small before rest =
     let up : number_at 16 (16 + 24 * (i - 1)) page ≤ number_at 16 (16 + 24 * i) page = before_address _ _ before in
     let here : IsEntry last (entry_on (16 + 24 * (i - 1)) page) = record { z = omega arith; number = named.0; some_page = named.1; page = small } in
     ((range_step last (i - 1) count page (omega arith)).1 (here, rw back (rw same at rest.0)), (order_step i count page some more).1 (before, rest.1))
+
+-- two tests that both pass
+pub both_pass : (a b : Bool) → IsTrue (a && b) ↔ (IsTrue a × IsTrue b)
+both_pass true b = (λ yes. (refl, yes), λ both. both.1)
+both_pass false b = (λ no. (let wrong : false ≡ true = no in cc), λ both. both.0)
 
 -- the last one is where its address is in the space
 pub well_last : (last i count : ℕ) (page : List ℕ) → 1 ≤ i → i ≡ count → IsNamed (entry_on (16 + 24 * (i - 1)) page)

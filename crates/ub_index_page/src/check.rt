@@ -34,8 +34,9 @@ pub fn check_index(last: u128, page: &Page) -> Result<Head, PageFault>
     Ok(head)
 }
 
-// Whether the first so many entries are in range and begin one after the other. Each is read once, and the last one's address
-// alone is held against the last of the space, since none before it is higher.
+// Whether the first so many entries are in range and begin one after the other. Each is read once, and none ends the loop, so
+// that nothing hangs on what stands there; the last one's address alone is held against the last of the space, since none before
+// it is higher.
 fn are_well(page: &Page, count: usize, last: u128) -> bool
     requires some { 1 ≤ count }
     requires few { count ≤ MAX_ENTRIES }
@@ -43,20 +44,13 @@ fn are_well(page: &Page, count: usize, last: u128) -> bool
         × AreAscending (entries_on 16 count page.now)) }
 {
     let mut before = entry_at(page, 0);
-    if !is_named(&before) {
-        return false;
-    }
+    let mut are_well = is_named(&before);
     for slot in 1..count {
         let entry = entry_at(page, slot);
-        if !is_named(&entry) {
-            return false;
-        }
-        if !before.first.is_before(&entry.first) {
-            return false;
-        }
+        are_well &= is_named(&entry) & before.first.is_before(&entry.first);
         before = entry;
     }
-    before.first.z <= last
+    are_well && before.first.z <= last
 }
 
 // Whether an entry's number is at most 16777215, and its page not the first one.

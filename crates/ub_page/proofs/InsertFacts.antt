@@ -1,7 +1,8 @@
 -- A row that is put in among those of columns.
 use Rattle.std.proofs.Common.{◌≡◌, ◌<◌, ◌≤◌, ◌+◌, ◌-◌, ℕ, zero, suc, List, [], ◌∷◌, ◌++◌, length, take, drop, set, get_or, refl, sym, ap, ◌∙◌, arith}
 use Rattle.std.proofs.Math.Seq.{take-append_seam}
-use Rattle.std.proofs.lemmas.List.{length-take-le}
+use Rattle.std.proofs.lemmas.List.{length-take-le, take_more_set}
+use Rattle.std.proofs.lemmas.List.Edits.{insert_end}
 use Rattle.std.specs.List.{insert}
 use Rattle.ub_page.specs.Columns.{across}
 
@@ -25,6 +26,12 @@ module _ {A : Type 0} where
       let start : index + 1 ≡ suc index = omega arith in
       let more : len + 1 ≡ suc len = omega arith in
       rw (is, end, start, more) (shifted xs index (len - index) len x (omega arith) lt)
+
+  -- one put behind the last of them
+  pub put_last : (xs : List A) (index len : ℕ) (x : A) → index ≡ len → len < length xs → take (len + 1) (set xs index x) ≡ insert (take len xs) index x
+  put_last xs index len x is lt =
+      let long : length (take len xs) ≡ index = length-take-le len xs (omega arith) ∙ sym is in
+      rw is (take_more_set xs len x lt) ∙ sym (rw long at (insert_end (take len xs) x))
 
   -- four columns, in each of which a value was put
   pub across_four : (rest : A) (columns : List (List A)) (a b c d values : List A) (i : ℕ) → length columns ≡ 4 → length values ≡ 4

@@ -1,5 +1,6 @@
 pub mod BytesFacts
 pub mod ColumnFacts
+pub mod CutFacts
 pub mod DirectoryFacts
 pub mod DraftFacts
 pub mod EntryFacts

@@ -6,7 +6,8 @@ ghost use Rattle.std.specs.Int.{w64, cast_signed};
 ghost use Rattle.ub_page.specs.Bytes.{number_at};
 ghost use Rattle.ub_page.specs.Columns.{block, blank_dims, blank_measures, point_in, values_in, key_in, row_in};
 
-use crate::page::{Page, i64_at, u32_at};
+use crate::page::{Page, u32_at};
+use byteorder::{BigEndian, ByteOrder};
 use ub_table::{Key, MAX_ROWS, Row};
 use ub_zaddr::{Shape, interleave_first};
 
@@ -43,9 +44,8 @@ fn read_dim(column: &mut [u32; MAX_ROWS], page: &Page, dim: usize, offset: usize
     ensures { column.new
         ≡ block MAX_ROWS 0 (λ i. number_at 4 (offset + 4 * (count * dim + i)) page.now) count }
 {
-    for i in 0..count {
-        column[i] = u32_at(page, offset + 4 * (count * dim + i));
-    }
+    let start = offset + 4 * (count * dim);
+    BigEndian::read_u32_into(&page[start..start + 4 * count], &mut column[..count]);
 }
 
 /// Puts in the columns the measures of so many rows, the first of which begin at an offset of the
@@ -85,9 +85,8 @@ fn read_measure(
     ensures { column.new ≡ block MAX_ROWS (pos 0)
         (λ i. cast_signed w64 (number_at 8 (offset + 8 * (count * measure + i)) page.now)) count }
 {
-    for i in 0..count {
-        column[i] = i64_at(page, offset + 8 * (count * measure + i));
-    }
+    let start = offset + 8 * (count * measure);
+    BigEndian::read_i64_into(&page[start..start + 8 * count], &mut column[..count]);
 }
 
 /// Puts in the first places the keys of so many rows with these dimensions: the address of each is
@@ -178,7 +177,9 @@ pub fn put_in<T: Copy>(column: &mut [T; MAX_ROWS], len: usize, index: usize, val
     ensures above { (j : ℕ) (d : T) → index ≤ j → j < len
         → slice_index_or column.new (j + 1) d ≡ slice_index_or column.old j d }
 {
-    column.copy_within(index..len, index + 1);
+    if index < len {
+        column.copy_within(index..len, index + 1);
+    }
     column[index] = value;
 }
 

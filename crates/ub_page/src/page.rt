@@ -1,5 +1,4 @@
 ghost use Rattle.std.specs.Prelude.{◌≡◌, ◌+◌, ◌-◌, ◌<◌, ◌≤◌, ◌^◌, ◌↔◌, IsTrue, drop, length, replicate};
-ghost use Rattle.std.specs.Int.{w64, cast_signed};
 ghost use Rattle.ub_page.specs.Bytes.{number_at};
 
 use byteorder::{BigEndian, ByteOrder};
@@ -37,14 +36,6 @@ pub fn u64_at(page: &Page, offset: usize) -> u64
     ensures { result ≡ number_at 8 offset page.now }
 {
     BigEndian::read_u64(&page[offset..])
-}
-
-// The same eight bytes in two's complement.
-pub(crate) fn i64_at(page: &Page, offset: usize) -> i64
-    requires { offset + 8 ≤ 4096 }
-    ensures { result ≡ cast_signed w64 (number_at 8 offset page.now) }
-{
-    u64_at(page, offset).cast_signed()
 }
 
 // The number in the sixteen bytes from an offset on.

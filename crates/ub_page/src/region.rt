@@ -382,12 +382,11 @@ fn is_first(shape: Shape, key: &Key) -> bool
 fn are_numbered(keys: &[Key]) -> bool
     ensures { IsTrue result ↔ AllByRecursion IsKeyNumbered keys.now }
 {
+    let mut are_numbered = true;
     for key in keys {
-        if key.number == 0 || key.number > MAX_ROW_NUMBER {
-            return false;
-        }
+        are_numbered &= (key.number >= 1) & (key.number <= MAX_ROW_NUMBER);
     }
-    true
+    are_numbered
 }
 
 // Whether each key is before the next.

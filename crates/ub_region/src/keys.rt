@@ -8,11 +8,11 @@ ghost use Rattle.ub_region.specs.Rows.{separator, insert_row};
 use ub_table::{Key, Row};
 use ub_zaddr::Shape;
 
-/// Whether two keys are one.
+/// Whether two keys are one: by row number first, in which most differ.
 pub fn is_equal(a: &Key, b: &Key) -> bool
     ensures { result ≡ is_same a.now b.now }
 {
-    a.z == b.z && a.number == b.number
+    a.number == b.number && a.z == b.z
 }
 
 /// Whether this is the key of a row, whose address is made only where the number is the key's.

@@ -1,4 +1,4 @@
-use Rattle.std.proofs.Common.{◌≡◌, ◌↔◌, ◌+◌, ◌*◌, ◌-◌}
+use Rattle.std.proofs.Common.{◌≡◌, ◌↔◌, ◌+◌, ◌*◌, ◌-◌, IsTrue}
 use Rattle.std.specs.List.{AllByRecursion}
 use Rattle.ub_page.specs.Entries.{AreAscending, IsEntry, entries_on, entry_on}
 use Rattle.ub_index_page.specs.Named.{IsNamed}
@@ -8,7 +8,7 @@ use Rattle.ub_index_page.proofs.check.are_well.Given as goal
 abbrev pub invariant-loop-slot : goal.invariant-loop-slot
 invariant-loop-slot l = record {
   before : l.before ≡ entry_on (16 + 24 * (l.slot - 1)) l.page;
-  named : IsNamed l.before;
+  named : IsTrue l.are_well → IsNamed l.before;
   so_far : (AllByRecursion (IsEntry l.last) (entries_on 16 l.count l.page) × AreAscending (entries_on 16 l.count l.page))
-      ↔ AreWellFrom l.last (l.slot - 1) l.count l.page;
+      ↔ (IsTrue l.are_well × AreWellFrom l.last (l.slot - 1) l.count l.page);
 }

@@ -1,11 +1,15 @@
-use Rattle.std.proofs.Common.{◌+◌, ◌*◌, pos, rules, arith}
-use Rattle.std.proofs.lemmas.Int.{to_z-of_z}
+use Rattle.std.proofs.Common.{◌≡◌, ◌+◌, ◌*◌, ◌∙◌, pos, ap, length, arith}
+use Rattle.std.proofs.lemmas.List.{length-take-le}
 use Rattle.std.specs.Int.{w64, cast_signed}
 use Rattle.ub_page.specs.Bytes.{number_at}
-use Rattle.ub_page.proofs.PlacesFacts.{block_more}
+use Rattle.ub_page.proofs.CutFacts.{block_read, number_cut}
 use Rattle.ub_page.proofs.columns.read_measure.Goals as goal
 
-pub loop-i-preserved : goal.loop-i-preserved
-loop-i-preserved c =
-    rw (to_z-of_z w64 c.i64_at.result (search rules), c.i64_at.ensures, c.loop-i.invariant)
-    (block_more 64 (pos 0) (λ i. cast_signed w64 (number_at 8 (c.args.offset + 8 * (c.args.count * c.args.measure + i)) c.args.page.now)) c.loop-i.i (omega arith))
+pub returns : goal.returns
+returns c =
+    let a = c.args in
+    let room = c.requires.count in
+    let places = c.told-column in
+    let long : length c.read_i64_into.new.dst ≡ a.count = c.read_i64_into.auto.dst ∙ length-take-le a.count a.column.now (omega arith) in
+    block_read 64 a.count (pos 0) (λ i. cast_signed w64 (number_at 8 (a.offset + 8 * (a.count * a.measure + i)) a.page.now)) c.read_i64_into.new.dst a.column.now c.requires.blank long
+    (λ i less. c.read_i64_into.ensures (pos 0) i (omega arith) ∙ ap (cast_signed w64) (number_cut 8 (a.offset + 8 * (a.count * a.measure)) _ i _ a.page.now (omega arith) (omega arith)))
