@@ -1,5 +1,6 @@
 -- What one place of the search reads, and each row of the decision table on it.
-use Rattle.std.proofs.Common.{◌≡◌, ◌<◌, ◌+◌, ◌-◌, ◌*◌, ◌/◌, ◌%◌, ℕ, List, length, refl, sym, ap, ◌∙◌, arith, Bool, true, false, cond, ◌↔◌, slice_index, slice_set, Option, Some}
+use Rattle.std.proofs.Common.{◌≡◌, ◌≤◌, ◌<◌, ◌+◌, ◌-◌, ◌*◌, ◌/◌, ◌%◌, ℕ, List, length, refl, sym, ap, ◌∙◌, arith, Bool, true, false, cond, ◌↔◌, slice_index, slice_set, Option, Some}
+use mathlib.Core.Bool.{not, beq}
 use Rattle.std.specs.Prelude.{IsTrue}
 use Rattle.std.specs.Int.{bit_at}
 use Rattle.std.proofs.lemmas.Nat.{mod_below, div_below, div-add-mod'}
@@ -54,6 +55,42 @@ at_place b z k shape dims low high lows highs below above low_word high_word tz 
       high_is = ap (λ (n : ℕ). bit_at n (k / dims)) (sym is_high) ∙ bit_is th (bit_at high_word (k / dims)) bh (bit_at-lt high_word (k / dims));
     }
 
+-- what a comparison of two bits tells
+pub same_bits : (l h : Bool) → not (beq l h) ≡ false → h ≡ l
+same_bits true true e = refl
+same_bits false false e = refl
+same_bits true false e = let wrong : true ≡ false = e in cc
+same_bits false true e = let wrong : true ≡ false = e in cc
+
+pub equal_bits : (z l : Bool) → beq z l ≡ true → l ≡ z
+equal_bits true true e = refl
+equal_bits false false e = refl
+equal_bits true false e = let wrong : false ≡ true = e in cc
+equal_bits false true e = let wrong : false ≡ true = e in cc
+
+pub other_bits : (z l : Bool) → beq z l ≡ false → l ≡ not z
+other_bits true false e = refl
+other_bits false true e = refl
+other_bits true true e = let wrong : true ≡ false = e in cc
+other_bits false false e = let wrong : true ≡ false = e in cc
+
+-- a place stands in some dimension, and in some bit of its coordinate
+pub dimension_below : (k d : ℕ) → 1 ≤ d → d - 1 - k % d < d
+dimension_below k d some = omega arith
+
+pub rest_below : (k d : ℕ) → 1 ≤ d → k % d ≤ d - 1
+rest_below k d some = let pos : 0 < d = omega arith in let small = mod_below k d pos in omega arith
+
+pub bit_below : (k d n : ℕ) → 1 ≤ d → d ≡ n → k < 32 * n → k / d < 32
+bit_below k d n some same within = let pos : 0 < d = omega arith in let room : k < 32 * d = omega arith in div_below k d 32 pos room
+
+-- the corners of what is left have the shape of the box
+pub low_length : (b : Corners) (z k d : ℕ) (low high : List ℕ) (below above : Option ℕ) → IsBox d b → IsAround b z k low high below above → length low ≡ d
+low_length b z k d low high below above box a = a.ordered.0 ∙ (a.to.0 ∙ box.hi.0)
+
+pub high_length : (b : Corners) (z k d : ℕ) (low high : List ℕ) (below above : Option ℕ) → IsBox d b → IsAround b z k low high below above → length high ≡ d
+high_length b z k d low high below above box a = a.to.0 ∙ box.hi.0
+
 module _ (b : Corners) (z k d i c : ℕ) (low high : List ℕ) (below above : Option ℕ) where
   corner_low : (zb lb hb : ℕ) → IsAt b z k d i c low high below above zb lb hb → bit_at (address low) k ≡ lb
   corner_low zb lb hb h =
@@ -64,11 +101,32 @@ module _ (b : Corners) (z k d i c : ℕ) (low high : List ℕ) (below above : Op
   corner_high zb lb hb h =
       ap (λ (n : ℕ). bit_at (address high) n) h.at ∙ bit_at-address d high i c (IsPoint-below d high b.hi h.around.to h.box.hi) h.i_in h.c_in ∙ h.high_is
 
+  -- the same bits by what they are known to be
+  pub at_row : (tz tl th rz rl rh : Bool) → IsAt b z k d i c low high below above (cond tz 1 0) (cond tl 1 0) (cond th 1 0)
+      → tz ≡ rz → tl ≡ rl → th ≡ rh → IsAt b z k d i c low high below above (cond rz 1 0) (cond rl 1 0) (cond rh 1 0)
+  at_row tz tl th rz rl rh h ez el eh = record {
+    box = h.box;
+    i_in = h.i_in;
+    c_in = h.c_in;
+    at = h.at;
+    around = h.around;
+    z_is = h.z_is ∙ ap (λ (t : Bool). cond t 1 0) ez;
+    low_is = h.low_is ∙ ap (λ (t : Bool). cond t 1 0) el;
+    high_is = h.high_is ∙ ap (λ (t : Bool). cond t 1 0) eh;
+  }
+
   pub step_same : (n : ℕ) → IsAt b z k d i c low high below above n n n → IsAround b z k low high below above
   step_same n h = around_agree d b h.box.hi h.box.ordered z low high below above k h.around (corner_low n n n h ∙ sym h.z_is) (corner_high n n n h ∙ sym h.z_is)
 
-  pub step_never : (n : ℕ) → IsAt b z k d i c low high below above n 1 0 → ⊥
+  step_never : (n : ℕ) → IsAt b z k d i c low high below above n 1 0 → ⊥
   step_never n h = around_never d b h.box.hi h.box.ordered z low high below above k h.around (corner_low n 1 0 h) (corner_high n 1 0 h)
+
+  -- where the corners' bits differ, they are 0 and 1
+  pub cut_bits : (n : ℕ) (tl th : Bool) → IsAt b z k d i c low high below above n (cond tl 1 0) (cond th 1 0) → not (beq tl th) ≡ true → (tl ≡ false) × (th ≡ true)
+  cut_bits n false true h e = (refl, refl)
+  cut_bits n true false h e = absurd (step_never n h)
+  cut_bits n true true h e = let wrong : false ≡ true = e in cc
+  cut_bits n false false h e = let wrong : false ≡ true = e in cc
 
   pub step_above : (n : ℕ) → n ≡ address low → IsAt b z k d i c low high below above 0 1 1 → AreNeighbours b z below (Some n)
   step_above n e h = rw e (neighbours_box_above d b h.box.hi h.box.ordered z low high below above k h.around h.z_is (corner_low 0 1 1 h))

@@ -65,10 +65,10 @@ pub fn find_neighbours(zbox: &ZBox, z: u128) -> Neighbours
     }
 }
 
-// One place of the search: the decision table of Tropf and Herzog on the bits of the address and of the corners there.
-// Where the corners' bits are 0 and 1, `middle` cuts their range in this dimension into the half whose bit is 0 and the
-// half whose bit is 1.
-fn take_step(zbox: &ZBox, z: u128, place: u32, mut search: Search) -> Step
+// One place of the search: the decision table of Tropf and Herzog on the bits of the address and of the corners there,
+// whose rows 010 and 110 never come. Where the corners' bits are 0 and 1, `middle` cuts their range in this dimension
+// into the half whose bit is 0, up to `under`, and the half whose bit is 1, from `over` on.
+fn take_step(zbox: &ZBox, z: u128, place: u32, search: Search) -> Step
     requires place { place < 32 * length zbox.now.lo }
     requires around { IsAround zbox.now z (place + 1) search.low search.high search.below
         search.above }
@@ -78,46 +78,44 @@ fn take_step(zbox: &ZBox, z: u128, place: u32, mut search: Search) -> Step
     let dims = shape.dims();
     let bit = place / dims;
     let dimension = (dims - 1 - place % dims) as usize;
-    let low = search.low.values()[dimension];
     let high = search.high.values()[dimension];
-    let middle = middle_of(high, bit);
-    match (
-        is_set(z, place),
-        is_set(u128::from(low), bit),
-        is_set(u128::from(high), bit),
-    ) {
-        // 000
-        (false, false, false) => Step::Onward(search),
-        // 001
-        (false, false, true) => {
-            let over = load(shape, &search.low, dimension, middle);
-            search.above = Some(interleave(shape, &over));
-            search.high = load(shape, &search.high, dimension, middle - 1);
-            Step::Onward(search)
+    let z_bit = is_set(z, place);
+    let low_bit = is_set(u128::from(search.low.values()[dimension]), bit);
+    let high_bit = is_set(u128::from(high), bit);
+    if low_bit != high_bit {
+        let middle = middle_of(high, bit);
+        let under = load(shape, &search.high, dimension, middle - 1);
+        let over = load(shape, &search.low, dimension, middle);
+        if z_bit {
+            // 101
+            Step::Onward(Search {
+                low: over,
+                below: Some(interleave(shape, &under)),
+                ..search
+            })
+        } else {
+            // 001
+            Step::Onward(Search {
+                high: under,
+                above: Some(interleave(shape, &over)),
+                ..search
+            })
         }
-        // 010
-        (false, true, false) => unreachable!(),
-        // 011
-        (false, true, true) => {
-            search.above = Some(interleave(shape, &search.low));
-            Step::Done(search)
-        }
+    } else if z_bit == low_bit {
+        // 000 and 111
+        Step::Onward(search)
+    } else if z_bit {
         // 100
-        (true, false, false) => {
-            search.below = Some(interleave(shape, &search.high));
-            Step::Done(search)
-        }
-        // 101
-        (true, false, true) => {
-            let under = load(shape, &search.high, dimension, middle - 1);
-            search.below = Some(interleave(shape, &under));
-            search.low = load(shape, &search.low, dimension, middle);
-            Step::Onward(search)
-        }
-        // 110
-        (true, true, false) => unreachable!(),
-        // 111
-        (true, true, true) => Step::Onward(search),
+        Step::Done(Search {
+            below: Some(interleave(shape, &search.high)),
+            ..search
+        })
+    } else {
+        // 011
+        Step::Done(Search {
+            above: Some(interleave(shape, &search.low)),
+            ..search
+        })
     }
 }
 
