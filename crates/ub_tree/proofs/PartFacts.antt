@@ -66,10 +66,11 @@ unready_answers t seat (Err f) e is few led = (
   λ honest falls full fewer levels way. rw is (led honest falls),
 )
 
--- what a parting answers that goes on once the index was made ready: it isn't refused for want of a level, nor is a page
+-- over an honest store the index has fewer levels than one can have, or a page on the way to the region of a seat isn't full
 abbrev pub HasRoom : TreeView → Seat → Type 0
 HasRoom t seat = IsHonest t.store → t.inner.index.levels ≡ MAX_LEVEL → HasFullWay t.inner.index t.store seat.first → ⊥
 
+-- what a parting answers, once the index was made ready: nothing is refused, or something that is no fault of a page
 pub parted_answers : {A : Type 0} (t : TreeView) (seat : Seat) (x : A) → region_count t ≢ 4294967295 → HasRoom t seat → AnswersSeat (Unit {0}) t seat (Ok x)
 parted_answers t seat x few room = (
   λ full many. absurd (few many),
