@@ -186,3 +186,8 @@ module _ (a c : TreeView) (seat : Seat) (of : IsSeatOf a seat) where
 pub mark_stays : (was now : Mark) → (now ≡ was) ⊎ (now ≡ Written) → is_written was ≡ true → is_written now ≡ true
 mark_stays was now (inl same) is = ap is_written same ∙ is
 mark_stays was now (inr written) is = ap is_written written
+
+-- nothing is told of what a call gives that was refused
+pub refused_none : {T : Type 0} (P : Type 0) (r : Result T TreeFault) (e : TreeFault) → IsErrAnd r (λ x. x ≡ e) → OnOk r P
+refused_none P (Ok x) e is = absurd is
+refused_none P (Err f) e is = tt

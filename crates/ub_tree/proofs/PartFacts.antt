@@ -7,7 +7,7 @@ use Rattle.ub_index.proofs.Numbers.{distinct_first, distinct_left}
 use Rattle.ub_index.specs.Changing.{IsOutside, IsUnspelled}
 use Rattle.ub_index.specs.Index.{pages_under, top}
 use Rattle.ub_index.specs.Making.{IsPutFault, PutsSheets}
-use Rattle.ub_index.specs.Preparing.{ChangeView, IsWithinSeat, NeedsPages, entry_at}
+use Rattle.ub_index.specs.Preparing.{ChangeView, HasFullWay, IsWithinSeat, NeedsPages, entry_at}
 use Rattle.ub_index.specs.declared.seat.Seat.{Seat}
 use Rattle.ub_index.specs.declared.sheet.Sheet.{Sheet}
 use Rattle.ub_index_page.specs.declared.index.TheConstants.{MAX_LEVEL}
@@ -23,7 +23,7 @@ use Rattle.ub_table.specs.declared.schema.Schema.{Schema}
 use Rattle.ub_tree.proofs.EffectFacts.{left_by, sound_stored, writes_both, writes_told, writes_wider}
 use Rattle.ub_tree.proofs.IndexedFacts.{seat_of_key}
 use Rattle.ub_tree.proofs.TreeFacts.{each_get}
-use Rattle.ub_tree.specs.Effects.{Changes, HasEnded, IsLeft, IsMarkedFirst, written_store}
+use Rattle.ub_tree.specs.Effects.{Changes, HasEnded, IsFull, IsLeft, IsMarkedFirst, written_store}
 use Rattle.ub_tree.specs.Holding.{AnswersSeat, HasNoRoom}
 use Rattle.ub_tree.specs.Indexed.{Inner}
 use Rattle.ub_tree.specs.Others.{AddsEntry, AreOthersKept, KeepsOthers, WritesIndex}
@@ -33,7 +33,7 @@ use Rattle.ub_tree.specs.Told.{FallsSurely}
 use Rattle.ub_tree.specs.View.{TreeView, IsSound, region_count}
 use Rattle.ub_tree.specs.declared.fault.TreeFault.{TreeFault}
 use Rattle.ub_tree.specs.declared.fault.TreeFault.TheVariants.{Full, Page, Store, Failed as HasFailed, Memory}
-use Rattle.ub_tree.specs.inner.Change.{GrowsTo, HasStopped, IsAddReady, IsIndexFault, IsPut, IsSeatOf, IsSpelledAt, IsWriteFault, StoresAt, WritesBoth}
+use Rattle.ub_tree.specs.inner.Change.{GrowsTo, HasStopped, IsAddReady, IsGrowthLeft, IsIndexFault, IsPut, IsSeatOf, IsSpelledAt, IsWriteFault, StoresAt, WritesBoth}
 use Rattle.ub_writing.specs.Marks.{HasMark, IsMarkOf, Marks, PutsMark, first_page, is_written}
 use Rattle.ub_writing.specs.declared.mark.Mark.{Mark}
 use Rattle.ub_writing.specs.declared.mark.Mark.TheVariants.{Due, Written}
@@ -65,6 +65,67 @@ unready_answers t seat (Err f) e is few led = (
       absurd (no_page_told e page fault (led honest falls) (sym is ∙ same)),
   λ honest falls full fewer levels way. rw is (led honest falls),
 )
+
+-- over an honest store the index has fewer levels than one can have, or a page on the way to the region of a seat isn't full
+abbrev pub HasRoom : TreeView → Seat → Type 0
+HasRoom t seat = IsHonest t.store → t.inner.index.levels ≡ MAX_LEVEL → HasFullWay t.inner.index t.store seat.first → ⊥
+
+-- what a parting answers, once the index was made ready: nothing is refused, or something that is no fault of a page
+pub parted_answers : {A : Type 0} (t : TreeView) (seat : Seat) (x : A) → region_count t ≢ 4294967295 → HasRoom t seat → AnswersSeat (Unit {0}) t seat (Ok x)
+parted_answers t seat x few room = (
+  λ full many. absurd (few many),
+  λ honest falls page fault told. cc,
+  λ honest falls full fewer levels way. absurd (room honest levels way),
+)
+
+pub unparted_answers : {A : Type 0} (t : TreeView) (seat : Seat) (r : Result A TreeFault) (e : TreeFault) → IsErrAnd r (λ x. x ≡ e) → region_count t ≢ 4294967295
+    → ((page : ℕ) (fault : PageFault) → e ≡ Page page fault → ⊥) → HasRoom t seat → AnswersSeat (Unit {0}) t seat r
+unparted_answers t seat (Ok x) e is few apart room = absurd is
+unparted_answers t seat (Err f) e is few apart room = (
+  λ full many. absurd (few many),
+  λ honest falls page fault told.
+      let same : f ≡ Page page fault = cc in
+      absurd (apart page fault (sym is ∙ same)),
+  λ honest falls full fewer levels way. absurd (room honest levels way),
+)
+
+-- the store wasn't given the pages
+module _ (a g : TreeView) (seat : Seat) (first : Key) (change : ChangeView) (there : seat.page < page_count a.store) (ready : IsAddReady a seat first change) (high : a.inner.index.levels ≤ MAX_LEVEL) where
+  full_then : 4294967295 < page_count a.store + (change.next - change.start) → IsFull a
+  full_then over =
+      let start = ready.start in
+      let some = ready.some in
+      let few = ready.few in (
+        high,
+        omega arith,
+        λ honest.
+            let only = (ready.needed honest).only in
+            let same : only.0 ≡ change.next - (page_count a.store + 1) = (let is = only.2 in omega arith) in
+            inr (seat.first, change.next - (page_count a.store + 1), subst (NeedsPages a.inner.index a.store seat.first) same only.1, omega arith),
+      )
+
+  growth_left : (e : TreeFault) → IsGrowthLeft (page_count a.store + (change.next - change.start)) a g e → IsLeft a g e
+  growth_left Full x = absurd x
+  growth_left HasFailed x = absurd x
+  growth_left Memory x = x
+  growth_left (Page page fault) x = absurd x
+  growth_left (Store store.Device) x = (x.0, inr x.1)
+  growth_left (Store store.NoPage) x = absurd x
+  growth_left (Store store.BadSize) x = (full_then x.0, x.1)
+  growth_left (Store store.Memory) x = absurd x
+
+  pub growth_refused : {T U : Type 0} (r : Result T TreeFault) (e : TreeFault) → IsErrAnd r (λ x. x ≡ e) → GrowsTo {A = U} (page_count a.store + (change.next - change.start)) a g (Err e) → Changes a g r
+  growth_refused r e is grew = left_by {U = TreeFault} r e a g is (record {
+    frame = grew.frame ∙ ap (λ (v : TreeView). record a { placed = v.placed; rows = v.rows; next = v.next; is_changed = v.is_changed; is_failed = v.is_failed; store = v.store; inner = v.inner }) (sym grew.frame);
+    marked = record {
+      kept = λ honest unmarked m some lt. grew.grows.kept honest m lt;
+      marked = λ sound changed.
+          let had = sound.marked (sym (ap (λ (v : TreeView). v.is_changed) grew.frame) ∙ changed) in
+          (had.0, had.1, grew.grows.kept sound.honest 0 (omega arith) ∙ had.2);
+    };
+    done = tt;
+    left = growth_left e grew.left;
+  })
 
 -- the page of an entry is among those of the regions
 page_at : (placed : List Placed) (i : ℕ) (e : Entry) → slice_get (map entry_of placed) i ≡ Some e → slice_get (map (λ (p : Placed). p.page) placed) i ≡ Some e.page

@@ -340,3 +340,8 @@ read_removal t (Store store.Memory) h = tt
 pub searched_removal : {T : Type 0} (r : Result T TreeFault) (e : TreeFault) (a m : TreeView) → IsErrAnd r (λ x. x ≡ e) → m ≡ a → IsReadFault m e → IfErr r (IsRemovalFault a)
 searched_removal (Ok x) e a m is same h = tt
 searched_removal (Err f) e a m is same h = rw is (subst (λ (v : TreeView). IsRemovalFault v e) same (read_removal m e h))
+
+-- a write that the device refused, as a removal answers it
+pub written_removal : {T : Type 0} (r : Result T TreeFault) (a : TreeView) → IfErr r (λ fault. fault ≡ Store store.Device) → IfErr r (IsRemovalFault a)
+written_removal (Ok x) a h = tt
+written_removal (Err f) a h = rw h tt

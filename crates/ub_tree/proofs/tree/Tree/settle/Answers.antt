@@ -1,9 +1,11 @@
-use Rattle.std.proofs.Common.{◌≡◌, ◌/◌, ◌∙◌, inl, inr, refl, ap, sym, subst, length, nat_lt, true, false}
+use Rattle.std.proofs.Common.{◌≡◌, ◌/◌, ◌∙◌, IfErr, inl, inr, refl, ap, sym, subst, length, nat_lt, true, false}
 use Rattle.ub_tree.specs.Holding.{IsSeatOrBefore}
 use Rattle.ub_tree.specs.View.{TreeView}
-use Rattle.ub_tree.specs.inner.Change.{IsSeatOf}
-use Rattle.ub_tree.proofs.EffectFacts.{changed_by, searched_by, then_changed}
-use Rattle.ub_tree.proofs.RemovalFacts.{searched_removal, settled_alone, settled_before, settled_large, settled_next, taken_alone, taken_joined}
+use Rattle.ub_table.specs.Region.{IsRegion}
+use Rattle.ub_tree.specs.Removal.{IsRemovalFault}
+use Rattle.ub_tree.specs.inner.Change.{AreRowsFrom, IsSeatOf, IsSeatThere}
+use Rattle.ub_tree.proofs.EffectFacts.{changed_by, refused_none, searched_by, then_changed}
+use Rattle.ub_tree.proofs.RemovalFacts.{searched_removal, written_removal, settled_alone, settled_before, settled_large, settled_next, taken_alone, taken_joined}
 use Rattle.ub_tree.proofs.tree.Tree.settle.Goals as goal
 
 pub returns-then-not-are_few-clause-written : goal.returns-then-not-are_few-clause-written
@@ -90,3 +92,109 @@ pub returns-in_err-before-clause-faults : goal.returns-in_err-before-clause-faul
 returns-in_err-before-clause-faults g c =
     searched_removal c.from_residual-in_err-before.result c.in_err-before.field-0.0 c.args.self.now c.join_next.new.self c.from_residual-in_err-before.ensures.1
     c.in_ok-next.ensures.effect.same c.in_err-before.ensures.effect.faults
+
+pub rewrite-requires-clause-seat : goal.rewrite-requires-clause-seat
+rewrite-requires-clause-seat g c = c.requires.seat
+
+pub rewrite-requires-clause-region : goal.rewrite-requires-clause-region
+rewrite-requires-clause-region g c = rw c.as_slice.ensures.rows c.requires.rows.0
+
+pub returns-then-not-are_few-clause-faults : goal.returns-then-not-are_few-clause-faults
+returns-then-not-are_few-clause-faults g c = written_removal c.rewrite.result c.args.self.now c.rewrite.ensures.faults
+
+pub returns-then-not-are_few-clause-stays : goal.returns-then-not-are_few-clause-stays
+returns-then-not-are_few-clause-stays g c = c.rewrite.ensures.stays
+
+pub join_next-requires-clause-seat : goal.join_next-requires-clause-seat
+join_next-requires-clause-seat g c = c.requires.seat.seat_is
+
+pub join_next-requires-clause-rows : goal.join_next-requires-clause-rows
+join_next-requires-clause-rows g c = c.requires.rows
+
+pub returns-in_err-next-clause-same : goal.returns-in_err-next-clause-same
+returns-in_err-next-clause-same g c = refused_none _ c.from_residual.result c.in_err-next.field-0.0 c.from_residual.ensures.1
+
+pub returns-in_err-next-clause-written : goal.returns-in_err-next-clause-written
+returns-in_err-next-clause-written g c = λ i stored at each. refused_none _ c.from_residual.result c.in_err-next.field-0.0 c.from_residual.ensures.1
+
+pub returns-in_err-next-clause-faults : goal.returns-in_err-next-clause-faults
+returns-in_err-next-clause-faults g c =
+    searched_removal c.from_residual.result c.in_err-next.field-0.0 c.args.self.now c.args.self.now c.from_residual.ensures.1 refl c.in_err-next.ensures.effect.faults
+
+pub join_at-requires-clause-seat : goal.join_at-requires-clause-seat
+join_at-requires-clause-seat g c = subst (λ (v : TreeView). IsSeatThere v c.args.seat.now) (sym c.in_ok-next.ensures.effect.same) c.requires.seat
+
+pub join_at-requires-clause-next : goal.join_at-requires-clause-next
+join_at-requires-clause-next g c =
+    let found = rw c.in-Some.is at c.in_ok-next.ensures.found in
+    (subst (λ (v : TreeView). IsSeatOf v c.in-Some.next) (sym c.in_ok-next.ensures.effect.same) found.0, found.1)
+
+pub join_at-requires-clause-region : goal.join_at-requires-clause-region
+join_at-requires-clause-region g c =
+    let good = rw c.in-Some.is at c.in_ok-next.ensures.rows in
+    rw c.as_slice-in-Some.ensures.rows (subst (λ (v : TreeView). IsRegion v.schema (record { first = c.args.seat.now.first; rows = c.join_next.new.room.rows })) (sym c.in_ok-next.ensures.effect.same) good)
+
+pub returns-in-Some-clause-faults : goal.returns-in-Some-clause-faults
+returns-in-Some-clause-faults g c = subst (λ (v : TreeView). IfErr c.join_at.result (IsRemovalFault v)) c.in_ok-next.ensures.effect.same c.join_at.ensures.faults
+
+pub returns-in-Some-clause-stays : goal.returns-in-Some-clause-stays
+returns-in-Some-clause-stays g c = λ was. c.join_at.ensures.stays (subst (λ (v : TreeView). v.is_changed ≡ true) (sym c.in_ok-next.ensures.effect.same) was)
+
+pub returns-in_err-next-clause-stays : goal.returns-in_err-next-clause-stays
+returns-in_err-next-clause-stays g c = λ was. subst (λ (v : TreeView). v.is_changed ≡ true) (sym c.in_err-next.ensures.effect.same) was
+
+pub join_before-requires-clause-seat : goal.join_before-requires-clause-seat
+join_before-requires-clause-seat g c = subst (λ (v : TreeView). IsSeatOf v c.args.seat.now) (sym c.in_ok-next.ensures.effect.same) c.requires.seat.seat_is
+
+pub join_before-requires-clause-rows : goal.join_before-requires-clause-rows
+join_before-requires-clause-rows g c =
+    let left = rw c.in_default.is at c.in_ok-next.ensures.rows in
+    rw left (subst (λ (v : TreeView). AreRowsFrom v.schema c.args.seat.now.first c.args.seat.now.next c.args.room.now.rows) (sym c.in_ok-next.ensures.effect.same) c.requires.rows)
+
+pub returns-in_err-before-clause-same : goal.returns-in_err-before-clause-same
+returns-in_err-before-clause-same g c = refused_none _ c.from_residual-in_err-before.result c.in_err-before.field-0.0 c.from_residual-in_err-before.ensures.1
+
+pub returns-in_err-before-clause-written : goal.returns-in_err-before-clause-written
+returns-in_err-before-clause-written g c = λ i stored at each. refused_none _ c.from_residual-in_err-before.result c.in_err-before.field-0.0 c.from_residual-in_err-before.ensures.1
+
+pub returns-in_err-before-clause-stays : goal.returns-in_err-before-clause-stays
+returns-in_err-before-clause-stays g c =
+    λ was. ap (λ (v : TreeView). v.is_changed) c.in_err-before.ensures.effect.same ∙ (ap (λ (v : TreeView). v.is_changed) c.in_ok-next.ensures.effect.same ∙ was)
+
+pub join_at-requires-in-Some-2-clause-seat : goal.join_at-requires-in-Some-2-clause-seat
+join_at-requires-in-Some-2-clause-seat g c =
+    subst (λ (v : TreeView). IsSeatThere v c.in-Some-2.before) (sym c.in_ok-before.ensures.effect.same) (rw c.in-Some-2.is at c.in_ok-before.ensures.there)
+
+pub join_at-requires-in-Some-2-clause-next : goal.join_at-requires-in-Some-2-clause-next
+join_at-requires-in-Some-2-clause-next g c =
+    let same = c.in_ok-before.ensures.effect.same ∙ c.in_ok-next.ensures.effect.same in
+    (subst (λ (v : TreeView). IsSeatOf v c.args.seat.now) (sym same) c.requires.seat.seat_is, rw c.in-Some-2.is at c.in_ok-before.ensures.ends)
+
+pub join_at-requires-in-Some-2-clause-region : goal.join_at-requires-in-Some-2-clause-region
+join_at-requires-in-Some-2-clause-region g c =
+    let good = rw c.in-Some-2.is at c.in_ok-before.ensures.rows in
+    rw c.as_slice-in-Some-2.ensures.rows (subst (λ (v : TreeView). IsRegion v.schema (record { first = c.in-Some-2.before.first; rows = c.join_before.new.room.rows })) (sym c.in_ok-before.ensures.effect.same) good)
+
+pub returns-in-Some-2-clause-faults : goal.returns-in-Some-2-clause-faults
+returns-in-Some-2-clause-faults g c =
+    subst (λ (v : TreeView). IfErr c.join_at-in-Some-2.result (IsRemovalFault v)) (c.in_ok-before.ensures.effect.same ∙ c.in_ok-next.ensures.effect.same) c.join_at-in-Some-2.ensures.faults
+
+pub returns-in-Some-2-clause-stays : goal.returns-in-Some-2-clause-stays
+returns-in-Some-2-clause-stays g c =
+    λ was. c.join_at-in-Some-2.ensures.stays (subst (λ (v : TreeView). v.is_changed ≡ true) (sym (c.in_ok-before.ensures.effect.same ∙ c.in_ok-next.ensures.effect.same)) was)
+
+pub rewrite-requires-2-clause-seat : goal.rewrite-requires-2-clause-seat
+rewrite-requires-2-clause-seat g c = subst (λ (v : TreeView). IsSeatThere v c.args.seat.now) (sym (c.in_ok-before.ensures.effect.same ∙ c.in_ok-next.ensures.effect.same)) c.requires.seat
+
+pub rewrite-requires-2-clause-region : goal.rewrite-requires-2-clause-region
+rewrite-requires-2-clause-region g c =
+    let same = c.in_ok-before.ensures.effect.same ∙ c.in_ok-next.ensures.effect.same in
+    let left = (rw c.in_default-2.is at c.in_ok-before.ensures.rows) ∙ (rw c.in_default.is at c.in_ok-next.ensures.rows) in
+    rw c.as_slice-2.ensures.rows (rw left (subst (λ (v : TreeView). IsRegion v.schema (record { first = c.args.seat.now.first; rows = c.args.room.now.rows })) (sym same) c.requires.rows.0))
+
+pub returns-clause-faults : goal.returns-clause-faults
+returns-clause-faults g c = written_removal c.rewrite-2.result c.args.self.now c.rewrite-2.ensures.faults
+
+pub returns-clause-stays : goal.returns-clause-stays
+returns-clause-stays g c =
+    λ was. c.rewrite-2.ensures.stays (subst (λ (v : TreeView). v.is_changed ≡ true) (sym (c.in_ok-before.ensures.effect.same ∙ c.in_ok-next.ensures.effect.same)) was)
