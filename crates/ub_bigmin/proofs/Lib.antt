@@ -12,5 +12,6 @@ pub mod CellFacts
 pub mod WordFacts
 pub mod JumpFacts
 pub mod NeedFacts
+pub mod LandingFacts
 pub mod NextFacts
 pub mod BoxLaws
