@@ -1,4 +1,5 @@
 pub mod BreakFacts
+pub mod FillFacts
 pub mod FirstFacts
 pub mod KeptFacts
 pub mod KeyFacts

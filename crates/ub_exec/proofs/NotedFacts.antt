@@ -198,7 +198,7 @@ carries_none x p t new kept none = record {
 pub carries_failed : {A : Type 0} (e : ReadFault) (p : PlanView) (t new : TreeView) → KeepsTrace t new → CarriesOut {A = A} p t new (Err e)
 carries_failed e p t new kept = record { notes = notes_none (Err e) t new kept; scans = λ apart some. tt; sweeps = λ dim is_descending of all. tt }
 
-is_swept : (kind : Kind) (dim : ℕ) (is_descending : Bool) → kind ≡ Sweep dim is_descending → IsSwept kind
+pub is_swept : (kind : Kind) (dim : ℕ) (is_descending : Bool) → kind ≡ Sweep dim is_descending → IsSwept kind
 is_swept Empty dim is_descending is = cc
 is_swept Scan dim is_descending is = cc
 is_swept (Sweep other goes) dim is_descending is = tt

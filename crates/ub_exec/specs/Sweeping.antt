@@ -1,8 +1,14 @@
 -- How a sweep is asked for its rows, or for those of a value.
-use Rattle.std.specs.Prelude.{◌≡◌, ◌<◌, ◌≤◌, ◌++◌, [], ℕ, false, List, Option, Some, None, IfSome, map}
+use Rattle.std.specs.Prelude.{◌≡◌, ◌<◌, ◌≤◌, ◌++◌, [], ℕ, Bool, false, List, Option, Some, None, IfSome, map}
 use Rattle.std.specs.List.{AllByRecursion}
-use Rattle.ub_exec.specs.Reading.{IsIn}
-use Rattle.ub_tetris.specs.Sweep.{AreItsRegions, AwaitedRegion, SweepView, rows_left}
+use Rattle.ub_answer.specs.Shaped.{IsShaped}
+use Rattle.ub_exec.specs.Answers.{IsAnswer, begun}
+use Rattle.ub_exec.specs.Reading.{HasSweptAll, IsIn}
+use Rattle.ub_exec.specs.Visits.{HasFetched}
+use Rattle.ub_planning.specs.Plan.{PlanView}
+use Rattle.ub_query.specs.declared.cell.Cell.{Cell}
+use Rattle.ub_tetris.specs.Awaited.{AreMetAlong}
+use Rattle.ub_tetris.specs.Sweep.{AreItsRegions, AwaitedRegion, HasBegun, IsStarted, IsSweepOf, SweepView, rows_left}
 use Rattle.ub_tree.specs.View.{TreeView}
 
 -- so many rows are as many as the limit says, or more; without a limit none are
@@ -30,3 +36,21 @@ pub record ComesOn {A : Type 0} (s new_s : SweepView) (old new : TreeView) (foun
 pub record ComesToAll (s : SweepView) (old new : TreeView) : Type 0 where
   pub taken : AllByRecursion (λ a. IsIn old a.region) s.awaited
   pub trace_is : new.trace.pages ≡ old.trace.pages ++ map (λ a. a.region.page) s.awaited
+
+-- it was begun by the plan, over any tree: no page stands in the trace, and it awaits all regions that the tree tells of for the
+-- plan's boxes
+pub record IsBegun (p : PlanView) (t : TreeView) (s : SweepView) : Type 0 where
+  pub fresh : t ≡ begun t
+  pub started : IsStarted t s
+  pub met : (dim : ℕ) (is_descending : Bool) → IsSweepOf t.schema p dim is_descending
+      → AreMetAlong p.covering.boxes dim is_descending t s.awaited
+
+-- the rows of a sweep that was begun were put in, until the limit was filled or none was left: each has as many cells as the
+-- query has items, and they are no more than its limit. Over a sound tree they are what the query means, and the regions that
+-- its plan visits were fetched; over any tree no region was passed over where there is no limit
+pub record Fills (p : PlanView) (old new : TreeView) (s : SweepView) (cells : List (List Cell)) : Type 0 where
+  pub shaped : IsShaped p.asked cells
+  pub answers : HasBegun p old s → p.asked.group ≡ [] → IsAnswer old p.asked cells
+  pub fetches : HasBegun p old s → p.asked.group ≡ [] → HasFetched p old new
+  pub sweeps : (dim : ℕ) (is_descending : Bool) → IsSweepOf old.schema p dim is_descending → p.asked.limit ≡ None
+      → HasSweptAll p.covering.boxes dim is_descending old new

@@ -2,7 +2,7 @@ ghost use Rattle.std.specs.Prelude.{◌≡◌, ◌<◌, ◌++◌, ℕ, true, fal
 ghost use Rattle.ub_answer.specs.Shaped.{IsShaped};
 ghost use Rattle.ub_exec.specs.Answers.{IsReady, IsAnswer, IsSwept, begun};
 ghost use Rattle.ub_exec.specs.Reading.{HasSweptAll, NotesPages};
-ghost use Rattle.ub_exec.specs.Sweeping.{ComesOn, IsAtWork, IsFilled};
+ghost use Rattle.ub_exec.specs.Sweeping.{ComesOn, Fills, IsAtWork, IsBegun, IsFilled};
 ghost use Rattle.ub_exec.specs.Visits.{HasFetched, HasFetchedFirst};
 ghost use Rattle.ub_planning.specs.Visits.{Event};
 ghost use Rattle.ub_query.specs.Posed.{IsPosed};
@@ -44,14 +44,36 @@ pub(crate) fn swept_rows<S: PageStore>(
     ensures notes { NotesPages (begun tree.old) tree.new result }
     ensures effect { ReadsTree tree.old tree.new result }
 {
-    let mut sweep = begin_sweep(alloc, tree, plan)?;
+    match begin_sweep(alloc, tree, plan) {
+        Ok(mut sweep) => filled_rows(alloc, &mut sweep, tree, plan),
+        Err(fault) => Err(fault),
+    }
+}
+
+// The rows that a sweep gives which was begun, until the limit is filled or it has none left. The sweep is the caller's, so that
+// the rows are all that is let go where a fault comes.
+fn filled_rows<S: PageStore>(
+    alloc: Global,
+    sweep: &mut Sweep,
+    tree: &mut Tree<S>,
+    plan: &Plan,
+) -> Result<Cells, ReadFault>
+    requires posed { IsPosed (length tree.old.schema.columns) plan.now.asked }
+    requires begun { IsBegun plan.now tree.old sweep.old }
+    ensures fills { IfOk result (Fills plan.now tree.old tree.new sweep.old) }
+    ensures broken { HasBegun plan.now tree.old sweep.old → plan.now.asked.group ≡ []
+        → OnErr result ((count : ℕ) × HasFetchedFirst plan.now tree.old tree.new count) }
+    ensures notes { NotesPages tree.old tree.new result }
+    ensures effect { ReadsTree tree.old tree.new result }
+{
     let query = plan.query();
     let mut rows = Cells::none(alloc);
     while !is_filled(query.limit, rows.len()) {
-        let Some(row) = next_row(&mut sweep, tree, plan)? else {
-            return Ok(rows);
-        };
-        rows.push_row(tree.schema(), query.items.as_slice(), &row)?;
+        match next_row(sweep, tree, plan) {
+            Ok(Some(row)) => rows.push_row(tree.schema(), query.items.as_slice(), &row)?,
+            Ok(None) => return Ok(rows),
+            Err(fault) => return Err(fault),
+        }
     }
     Ok(rows)
 }

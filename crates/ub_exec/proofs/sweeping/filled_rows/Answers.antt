@@ -1,0 +1,106 @@
+use Rattle.std.proofs.Common.{◌≡◌, ◌∙◌, ◌++◌, ◌∷◌, [], List, Ok, Err, length, map, refl, ap, subst, sym}
+use Rattle.std.specs.List.{AllByRecursion}
+use Rattle.ub_exec.proofs.FillFacts.{HasFilled-none, HasFilled-more, broken_asking, broken_putting, comes_down, fills_ended, fills_full, notes_after, notes_broken, reads_after}
+use Rattle.ub_exec.proofs.FirstFacts.{on_err}
+use Rattle.ub_exec.proofs.NotedFacts.{notes_err, notes_ok}
+use Rattle.ub_exec.proofs.SweptFacts.{filled_is, left_is}
+use Rattle.ub_query.specs.Cells.{row_cell}
+use Rattle.ub_query.specs.Posed.{IsPosed}
+use Rattle.ub_query.specs.Shape.{Asked, asked}
+use Rattle.ub_query.specs.declared.query.Item.{Item}
+use Rattle.ub_table.specs.declared.schema.Schema.{Schema}
+use Rattle.ub_tree.proofs.Laws.{reads_by}
+use Rattle.ub_exec.proofs.sweeping.filled_rows.Goals as goal
+
+pub loop-query-init : goal.loop-query-init
+loop-query-init g c = record { filled = HasFilled-none c.args.plan.now c.args.tree.now c.args.sweep.now c.none-rows.result c.requires.begun c.none-rows.ensures }
+
+pub next_row-requires-clause-posed : goal.next_row-requires-clause-posed
+next_row-requires-clause-posed g c =
+    subst (λ (schema : Schema). IsPosed (length schema.columns) c.args.plan.now.asked) (sym c.loop-query.invariant.filled.kept.regions.schema) c.requires.posed
+
+pub next_row-requires-clause-works : goal.next_row-requires-clause-works
+next_row-requires-clause-works g c = c.loop-query.invariant.filled.works
+
+pub push_row-requires-clause-wide : goal.push_row-requires-clause-wide
+push_row-requires-clause-wide g c =
+    let items : c.as_slice.result.now ≡ c.args.plan.now.asked.items = c.as_slice.ensures ∙ ap (λ (q : Asked). q.items) c.query-query.ensures in
+    subst (λ (items : List Item). AllByRecursion (λ cells. length cells ≡ length items) c.loop-query.rows) (sym items) c.loop-query.invariant.filled.wide
+
+pub loop-query-preserved : goal.loop-query-preserved
+loop-query-preserved g c =
+    let items : c.as_slice.result.now ≡ c.args.plan.now.asked.items = c.as_slice.ensures ∙ ap (λ (q : Asked). q.items) c.query-query.ensures in
+    let pushed : c.push_row.new.self ≡ c.loop-query.rows ++ map (row_cell c.next_row.new.tree.schema c.in-Ok-Some.row) c.args.plan.now.asked.items ∷ [] =
+    c.in_ok-push_row-in-Ok-Some.ensures ∙ ap (λ (schema : Schema). c.loop-query.rows ++ map (row_cell schema c.in-Ok-Some.row) c.as_slice.result.now ∷ []) c.schema.ensures
+    ∙ ap (λ (items : List Item). c.loop-query.rows ++ map (row_cell c.next_row.new.tree.schema c.in-Ok-Some.row) items ∷ []) items in
+    record {
+      filled = HasFilled-more c.args.plan.now c.args.tree.now c.loop-query.tree c.args.sweep.now c.loop-query.sweep c.loop-query.rows c.requires.begun.fresh c.loop-query.invariant.filled
+          (left_is (asked c.query-query.result.now) c.args.plan.now.asked c.len.result c.loop-query.rows c.query-query.ensures c.len.ensures (c.is_filled.ensures.left c.loop-query-test.true))
+          c.next_row.new.tree c.next_row.new.sweep c.in-Ok-Some.field-0 c.in-Ok-Some.ensures.notes c.in-Ok-Some.ensures.effect
+          c.in-Ok-Some.ensures.next c.in-Ok-Some.ensures.comes c.in-Ok-Some.row c.in-Ok-Some.field-0-is c.push_row.new.self pushed c.in-Ok-Some.ensures.works;
+    }
+
+pub loop-query-smaller : goal.loop-query-smaller
+loop-query-smaller g c =
+    comes_down c.args.plan.now c.args.tree.now c.loop-query.tree c.args.sweep.now c.loop-query.sweep c.loop-query.rows c.requires.begun.fresh c.loop-query.invariant.filled
+    (left_is (asked c.query-query.result.now) c.args.plan.now.asked c.len.result c.loop-query.rows c.query-query.ensures c.len.ensures (c.is_filled.ensures.left c.loop-query-test.true))
+    c.next_row.new.tree c.next_row.new.sweep c.in-Ok-Some.field-0 c.in-Ok-Some.ensures.notes c.in-Ok-Some.ensures.effect c.in-Ok-Some.ensures.next c.in-Ok-Some.ensures.comes c.in-Ok-Some.row c.in-Ok-Some.field-0-is
+
+pub returns-in_err-push_row-in-Ok-Some-clause-broken : goal.returns-in_err-push_row-in-Ok-Some-clause-broken
+returns-in_err-push_row-in-Ok-Some-clause-broken g c begins plain =
+    on_err c.from_residual.result _
+    (broken_putting c.args.plan.now c.args.tree.now c.loop-query.tree c.args.sweep.now c.loop-query.sweep c.loop-query.rows c.requires.begun.fresh c.loop-query.invariant.filled
+    (left_is (asked c.query-query.result.now) c.args.plan.now.asked c.len.result c.loop-query.rows c.query-query.ensures c.len.ensures (c.is_filled.ensures.left c.loop-query-test.true))
+    c.next_row.new.tree c.next_row.new.sweep c.in-Ok-Some.field-0 c.in-Ok-Some.ensures.notes c.in-Ok-Some.ensures.effect c.in-Ok-Some.ensures.next c.in-Ok-Some.ensures.comes c.in-Ok-Some.row c.in-Ok-Some.field-0-is begins plain)
+
+pub returns-in_err-push_row-in-Ok-Some-clause-notes : goal.returns-in_err-push_row-in-Ok-Some-clause-notes
+returns-in_err-push_row-in-Ok-Some-clause-notes g c =
+    notes_err {B = Unit {0}} c.from_residual.result _ (Ok tt) c.args.tree.now c.next_row.new.tree c.from_residual.ensures.1
+    (notes_after c.args.plan.now c.args.tree.now c.loop-query.tree c.args.sweep.now c.loop-query.sweep c.loop-query.rows c.requires.begun.fresh c.loop-query.invariant.filled
+    (left_is (asked c.query-query.result.now) c.args.plan.now.asked c.len.result c.loop-query.rows c.query-query.ensures c.len.ensures (c.is_filled.ensures.left c.loop-query-test.true))
+    c.next_row.new.tree c.next_row.new.sweep c.in-Ok-Some.field-0 c.in-Ok-Some.ensures.notes c.in-Ok-Some.ensures.effect tt)
+
+pub returns-in-Ok-None-clause-fills : goal.returns-in-Ok-None-clause-fills
+returns-in-Ok-None-clause-fills g c =
+    fills_ended c.args.plan.now c.args.tree.now c.loop-query.tree c.args.sweep.now c.loop-query.sweep c.loop-query.rows c.requires.begun.fresh c.loop-query.invariant.filled
+    (left_is (asked c.query-query.result.now) c.args.plan.now.asked c.len.result c.loop-query.rows c.query-query.ensures c.len.ensures (c.is_filled.ensures.left c.loop-query-test.true))
+    c.next_row.new.tree c.next_row.new.sweep c.in-Ok-None.field-0 c.in-Ok-None.ensures.notes c.in-Ok-None.ensures.effect c.in-Ok-None.ensures.next c.in-Ok-None.ensures.comes c.in-Ok-None.field-0-is
+
+pub returns-in-Ok-None-clause-notes : goal.returns-in-Ok-None-clause-notes
+returns-in-Ok-None-clause-notes g c =
+    notes_after c.args.plan.now c.args.tree.now c.loop-query.tree c.args.sweep.now c.loop-query.sweep c.loop-query.rows c.requires.begun.fresh c.loop-query.invariant.filled
+    (left_is (asked c.query-query.result.now) c.args.plan.now.asked c.len.result c.loop-query.rows c.query-query.ensures c.len.ensures (c.is_filled.ensures.left c.loop-query-test.true))
+    c.next_row.new.tree c.next_row.new.sweep c.in-Ok-None.field-0 c.in-Ok-None.ensures.notes c.in-Ok-None.ensures.effect _
+
+pub returns-in-Ok-None-clause-effect : goal.returns-in-Ok-None-clause-effect
+returns-in-Ok-None-clause-effect g c =
+    reads_after c.args.plan.now c.args.tree.now c.loop-query.tree c.args.sweep.now c.loop-query.sweep c.loop-query.rows c.requires.begun.fresh c.loop-query.invariant.filled
+    (left_is (asked c.query-query.result.now) c.args.plan.now.asked c.len.result c.loop-query.rows c.query-query.ensures c.len.ensures (c.is_filled.ensures.left c.loop-query-test.true))
+    c.next_row.new.tree c.next_row.new.sweep c.in-Ok-None.field-0 c.in-Ok-None.ensures.notes c.in-Ok-None.ensures.effect _
+
+pub returns-in-Err-clause-broken : goal.returns-in-Err-clause-broken
+returns-in-Err-clause-broken g c =
+    broken_asking c.args.plan.now c.args.tree.now c.loop-query.tree c.args.sweep.now c.loop-query.sweep c.loop-query.rows c.requires.begun.fresh c.loop-query.invariant.filled
+    (left_is (asked c.query-query.result.now) c.args.plan.now.asked c.len.result c.loop-query.rows c.query-query.ensures c.len.ensures (c.is_filled.ensures.left c.loop-query-test.true))
+    c.next_row.new.tree c.next_row.new.sweep c.in-Err.fault c.in-Err.ensures.notes c.in-Err.ensures.effect c.in-Err.ensures.broken
+
+pub returns-in-Err-clause-notes : goal.returns-in-Err-clause-notes
+returns-in-Err-clause-notes g c =
+    notes_broken c.args.plan.now c.args.tree.now c.loop-query.tree c.args.sweep.now c.loop-query.sweep c.loop-query.rows c.requires.begun.fresh c.loop-query.invariant.filled
+    (left_is (asked c.query-query.result.now) c.args.plan.now.asked c.len.result c.loop-query.rows c.query-query.ensures c.len.ensures (c.is_filled.ensures.left c.loop-query-test.true))
+    c.next_row.new.tree c.next_row.new.sweep c.in-Err.fault c.in-Err.ensures.notes
+
+pub returns-in-Err-clause-effect : goal.returns-in-Err-clause-effect
+returns-in-Err-clause-effect g c =
+    reads_by (Err c.in-Err.fault) c.in-Err.fault c.args.tree.now c.loop-query.tree c.next_row.new.tree refl c.loop-query.invariant.filled.kept.traced c.in-Err.ensures.effect
+
+pub returns-clause-fills : goal.returns-clause-fills
+returns-clause-fills g c =
+    fills_full c.args.plan.now c.args.tree.now c.loop-query.tree c.args.sweep.now c.loop-query.sweep c.loop-query.rows c.requires.begun.fresh c.loop-query.invariant.filled
+    (filled_is (asked c.query-query.result.now) c.args.plan.now.asked c.len.result c.loop-query.rows c.query-query.ensures c.len.ensures (c.is_filled.ensures.filled c.loop-query-test.false))
+
+pub returns-clause-notes : goal.returns-clause-notes
+returns-clause-notes g c = notes_ok tt _ c.args.tree.now c.loop-query.tree c.loop-query.invariant.filled.notes
+
+pub returns-clause-effect : goal.returns-clause-effect
+returns-clause-effect g c = record { same = c.loop-query.invariant.filled.kept.traced; faults = tt }
