@@ -22,6 +22,7 @@ pub mod PutFacts
 pub mod WriteFacts
 pub mod ShrinkFacts
 pub mod EffectFacts
+pub mod RefusedFacts
 pub mod FilledFacts
 pub mod PartFacts
 pub mod DropFacts
