@@ -39,6 +39,7 @@ pub mod CreationFacts
 pub mod ReadFacts
 pub mod CountFacts
 pub mod UpgradeFacts
+pub mod BroughtFacts
 pub mod UpgradedFacts
 pub mod WellFacts
 pub mod OnceFacts
