@@ -166,4 +166,3 @@ returns-clause-effect g c =
       | then-join_before w ↦ rw w.result-is (searched _ c.args.self.now c.rows_at.new.self same)
       | else-join_before w ↦ rw w.result-is (searched _ c.args.self.now c.rows_at.new.self same)
     ]
-

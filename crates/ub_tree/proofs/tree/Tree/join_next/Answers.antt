@@ -132,4 +132,3 @@ returns-clause-effect g c =
       | then-join w ↦ rw w.result-is (searched _ c.args.self.now c.rows_at.new.self same)
       | else-join w ↦ rw w.result-is (searched _ c.args.self.now c.rows_at.new.self same)
     ]
-
