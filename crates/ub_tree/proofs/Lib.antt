@@ -22,6 +22,7 @@ pub mod PutFacts
 pub mod WriteFacts
 pub mod ShrinkFacts
 pub mod EffectFacts
+pub mod RefusedFacts
 pub mod FilledFacts
 pub mod PartFacts
 pub mod DropFacts
@@ -38,6 +39,7 @@ pub mod CreationFacts
 pub mod ReadFacts
 pub mod CountFacts
 pub mod UpgradeFacts
+pub mod BroughtFacts
 pub mod UpgradedFacts
 pub mod WellFacts
 pub mod OnceFacts

@@ -1,15 +1,20 @@
-use Rattle.std.proofs.Common.{◌≡◌, ◌∙◌, ℕ, List, None, ap, map, subst, sym}
+use Rattle.std.proofs.Common.{◌≡◌, ◌≤◌, ◌∙◌, ℕ, List, None, ap, length, map, subst, sym}
 use Rattle.ub_tree.proofs.UpgradeFacts.{below, bring_fault, bring_passes, carried, directory_told, err_passes, err_refused, root_fault, root_pass, rooted, version_is}
 use Rattle.ub_index.specs.Index.{NamesFitting, top}
 use Rattle.ub_index.specs.Opening.{IsPassing, IsRooted}
 use Rattle.ub_index.specs.View.{IndexView, index_view}
-use Rattle.ub_tree.specs.inner.Upgrading.{IsCarried}
-use Rattle.ub_store.specs.Facts.{IsHonest}
+use Rattle.ub_tree.specs.inner.Upgrading.{IsCarried, root_in}
+use Rattle.ub_store.specs.Facts.{IsHonest, page_count}
 use Rattle.ub_store.specs.View.{PagerView}
 use Rattle.ub_tree.specs.Placed.{entry_of}
 use Rattle.ub_zaddr.specs.Address.{last_address}
 use Rattle.ub_tree.specs.Faults.{index_fault, upgrade_fault}
 use Rattle.ub_tree.specs.Upgrade.{IsUpgradeFault}
+use Rattle.ub_tree.proofs.BroughtFacts.{brings_refused, mark_before, opened, opening_refused}
+use Rattle.ub_tree.proofs.EffectFacts.{refused_none}
+use Rattle.ub_tree.proofs.HoldingFacts.{no_answer}
+use Rattle.ub_upgrade.specs.Bringing.{IsBrought}
+use Rattle.ub_writing.specs.Marks.{HasMark}
 use Rattle.ub_tree.proofs.upgrading.bring_rest.Goals as goal
 
 pub returns-in_err-root-clause-carried : goal.returns-in_err-root-clause-carried
@@ -65,3 +70,98 @@ returns-clause-carried g c = λ version next schema placed s is honest new_hones
     let index : index_view root.page root.level (last_address head.header.schema.dims) ≡ c.in_ok-index.index = ap (index_view root.page root.level) (sym last) ∙ sym c.in_ok-index.ensures.index in
     let pages : mid.pages ≡ c.open.new.pager.store.pages = sym (ap (λ (p : PagerView). p.store.pages) c.in_ok-index.ensures.effect.same) in
     subst (λ (ps : List (List ℕ)). IsCarried schema placed next head c.in_ok-index.index ps) pages (subst (λ (i : IndexView). IsCarried schema placed next head i mid.pages) index there)
+
+pub bring_pages-requires-clause-head : goal.bring_pages-requires-clause-head
+bring_pages-requires-clause-head g c = c.requires.header.is
+
+pub bring_pages-requires-clause-some : goal.bring_pages-requires-clause-some
+bring_pages-requires-clause-some g c = c.requires.some
+
+pub bring_pages-requires-clause-one : goal.bring_pages-requires-clause-one
+bring_pages-requires-clause-one g c = c.requires.one
+
+pub returns-in_err-root-clause-last : goal.returns-in_err-root-clause-last
+returns-in_err-root-clause-last g c = no_answer c.from_residual.result (upgrade_fault c.in_err-root.field-0.0) _ c.from_residual.ensures.1
+
+pub returns-in_err-root-clause-root : goal.returns-in_err-root-clause-root
+returns-in_err-root-clause-root g c = no_answer c.from_residual.result (upgrade_fault c.in_err-root.field-0.0) _ c.from_residual.ensures.1
+
+pub returns-in_err-root-clause-stands : goal.returns-in_err-root-clause-stands
+returns-in_err-root-clause-stands g c = λ honest new_honest. no_answer c.from_residual.result (upgrade_fault c.in_err-root.field-0.0) _ c.from_residual.ensures.1
+
+pub returns-in_err-root-clause-count : goal.returns-in_err-root-clause-count
+returns-in_err-root-clause-count g c = refused_none _ c.from_residual.result (upgrade_fault c.in_err-root.field-0.0) c.from_residual.ensures.1
+
+pub returns-in_err-root-clause-marked : goal.returns-in_err-root-clause-marked
+returns-in_err-root-clause-marked g c = λ schema honest mark.
+    mark_before schema c.args.pager.now.store c.bring_pages.new.pager.store c.in_err-root.ensures.effect.grows c.requires.one honest mark
+
+pub returns-in_err-root-clause-effect : goal.returns-in_err-root-clause-effect
+returns-in_err-root-clause-effect g c =
+    brings_refused c.from_residual.result c.in_err-root.field-0.0 (g.O.PageStore.facts c.args.old.now) (g.O.PageStore.facts c.bring_pages.new.old) c.args.pager.now c.bring_pages.new.pager
+    c.from_residual.ensures.1 c.in_err-root.ensures.effect
+
+pub open-requires-clause-some : goal.open-requires-clause-some
+open-requires-clause-some g c = c.in_ok-root.ensures.root.0
+
+pub open-requires-clause-low : goal.open-requires-clause-low
+open-requires-clause-low g c = c.in_ok-root.ensures.root.1
+
+pub open-requires-clause-high : goal.open-requires-clause-high
+open-requires-clause-high g c = c.in_ok-root.ensures.root.2
+
+pub returns-in_err-index-clause-last : goal.returns-in_err-index-clause-last
+returns-in_err-index-clause-last g c = no_answer c.from_residual-in_err-index.result (index_fault c.in_err-index.field-0.0) _ c.from_residual-in_err-index.ensures.1
+
+pub returns-in_err-index-clause-root : goal.returns-in_err-index-clause-root
+returns-in_err-index-clause-root g c = no_answer c.from_residual-in_err-index.result (index_fault c.in_err-index.field-0.0) _ c.from_residual-in_err-index.ensures.1
+
+pub returns-in_err-index-clause-stands : goal.returns-in_err-index-clause-stands
+returns-in_err-index-clause-stands g c = λ honest new_honest. no_answer c.from_residual-in_err-index.result (index_fault c.in_err-index.field-0.0) _ c.from_residual-in_err-index.ensures.1
+
+pub returns-in_err-index-clause-count : goal.returns-in_err-index-clause-count
+returns-in_err-index-clause-count g c = refused_none _ c.from_residual-in_err-index.result (index_fault c.in_err-index.field-0.0) c.from_residual-in_err-index.ensures.1
+
+pub returns-in_err-index-clause-marked : goal.returns-in_err-index-clause-marked
+returns-in_err-index-clause-marked g c = λ schema honest mark.
+    subst (λ (ps : List (List ℕ)). HasMark schema ps) (sym (ap (λ (p : PagerView). p.store.pages) c.in_err-index.ensures.effect.same))
+    (mark_before schema c.args.pager.now.store c.bring_pages.new.pager.store c.in_ok-root.ensures.effect.grows c.requires.one honest mark)
+
+pub returns-in_err-index-clause-effect : goal.returns-in_err-index-clause-effect
+returns-in_err-index-clause-effect g c =
+    opening_refused c.in_ok-root.root (g.O.PageStore.facts c.args.old.now) (g.O.PageStore.facts c.bring_pages.new.old) c.args.pager.now c.bring_pages.new.pager c.open.new.pager c.in_ok-root.ensures.effect
+    c.from_residual-in_err-index.result c.in_err-index.field-0.0 c.from_residual-in_err-index.ensures.1 c.in_err-index.ensures.effect.same
+
+pub returns-clause-last : goal.returns-clause-last
+returns-clause-last g c =
+    let last : c.last-last.result ≡ last_address c.args.head.now.header.schema.dims = c.last-last.ensures ∙ ap last_address c.shape.ensures in
+    ap (λ (i : IndexView). i.last) c.in_ok-index.ensures.index ∙ last
+
+pub returns-clause-root : goal.returns-clause-root
+returns-clause-root g c =
+    let root = c.in_ok-root.ensures.root in
+    subst (λ (i : IndexView). (1 ≤ i.root) × (1 ≤ i.levels)) (sym c.in_ok-index.ensures.index) (root.0, root.1)
+
+pub returns-clause-stands : goal.returns-clause-stands
+returns-clause-stands g c = λ honest new_honest.
+    let pages = sym (ap (λ (p : PagerView). p.store.pages) c.in_ok-index.ensures.effect.same) in
+    subst (λ (i : IndexView). IsBrought c.args.head.now (g.O.PageStore.facts c.args.old.now) c.open.new.pager.store.pages (root_in i)) (sym c.in_ok-index.ensures.index)
+    (subst (λ (ps : List (List ℕ)). IsBrought c.args.head.now (g.O.PageStore.facts c.args.old.now) ps c.in_ok-root.root) pages (c.in_ok-root.ensures.brought honest new_honest))
+
+pub returns-clause-marked : goal.returns-clause-marked
+returns-clause-marked g c = λ schema honest mark.
+    subst (λ (ps : List (List ℕ)). HasMark schema ps) (sym (ap (λ (p : PagerView). p.store.pages) c.in_ok-index.ensures.effect.same))
+    (mark_before schema c.args.pager.now.store c.bring_pages.new.pager.store c.in_ok-root.ensures.effect.grows c.requires.one honest mark)
+
+pub returns-clause-count : goal.returns-clause-count
+returns-clause-count g c =
+    let pages = sym (ap (λ (p : PagerView). p.store.pages) c.in_ok-index.ensures.effect.same) in
+    subst (λ (ps : List (List ℕ)). page_count (g.O.PageStore.facts c.args.old.now) ≤ length ps) pages c.in_ok-root.ensures.count
+
+pub returns-clause-refused : goal.returns-clause-refused
+returns-clause-refused g c = tt
+
+pub returns-clause-effect : goal.returns-clause-effect
+returns-clause-effect g c =
+    opened c.in_ok-root.root (g.O.PageStore.facts c.args.old.now) (g.O.PageStore.facts c.bring_pages.new.old) c.args.pager.now c.bring_pages.new.pager c.open.new.pager c.in_ok-root.ensures.effect
+    _ c.in_ok-index.ensures.effect.same

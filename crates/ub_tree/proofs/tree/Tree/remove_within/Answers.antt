@@ -186,3 +186,81 @@ pub returns-in_err-rows_at-clause-faults : goal.returns-in_err-rows_at-clause-fa
 returns-in_err-rows_at-clause-faults g c =
     searched_removal c.from_residual-in_err-rows_at.result c.in_err-rows_at.field-0.0 c.args.self.now c.seat_of.new.self c.from_residual-in_err-rows_at.ensures.1
     c.in_ok-seat.ensures.effect.same c.in_err-rows_at.ensures.effect.faults
+
+pub returns-in_err-seat-clause-removed : goal.returns-in_err-seat-clause-removed
+returns-in_err-seat-clause-removed g c = λ sound. no_answer c.from_residual.result c.in_err-seat.field-0.0 _ c.from_residual.ensures.1
+
+pub returns-in_err-seat-clause-untouched : goal.returns-in_err-seat-clause-untouched
+returns-in_err-seat-clause-untouched g c = no_answer c.from_residual.result c.in_err-seat.field-0.0 _ c.from_residual.ensures.1
+
+pub returns-in_err-seat-clause-counted : goal.returns-in_err-seat-clause-counted
+returns-in_err-seat-clause-counted g c = no_answer c.from_residual.result c.in_err-seat.field-0.0 _ c.from_residual.ensures.1
+
+pub returns-in_err-seat-clause-faults : goal.returns-in_err-seat-clause-faults
+returns-in_err-seat-clause-faults g c = searched_removal c.from_residual.result c.in_err-seat.field-0.0 c.args.self.now c.args.self.now c.from_residual.ensures.1 refl c.in_err-seat.ensures.effect.faults
+
+pub returns-in_err-seat-clause-stays : goal.returns-in_err-seat-clause-stays
+returns-in_err-seat-clause-stays g c = λ was. ap (λ (v : TreeView). v.is_changed) c.in_err-seat.ensures.effect.same ∙ was
+
+pub returns-in_err-rows_at-clause-removed : goal.returns-in_err-rows_at-clause-removed
+returns-in_err-rows_at-clause-removed g c = λ sound. no_answer c.from_residual-in_err-rows_at.result c.in_err-rows_at.field-0.0 _ c.from_residual-in_err-rows_at.ensures.1
+
+pub returns-in_err-rows_at-clause-untouched : goal.returns-in_err-rows_at-clause-untouched
+returns-in_err-rows_at-clause-untouched g c = no_answer c.from_residual-in_err-rows_at.result c.in_err-rows_at.field-0.0 _ c.from_residual-in_err-rows_at.ensures.1
+
+pub returns-in_err-rows_at-clause-counted : goal.returns-in_err-rows_at-clause-counted
+returns-in_err-rows_at-clause-counted g c = no_answer c.from_residual-in_err-rows_at.result c.in_err-rows_at.field-0.0 _ c.from_residual-in_err-rows_at.ensures.1
+
+pub returns-in_err-rows_at-clause-stays : goal.returns-in_err-rows_at-clause-stays
+returns-in_err-rows_at-clause-stays g c = λ was. ap (λ (v : TreeView). v.is_changed) c.in_err-rows_at.ensures.effect.same ∙ (ap (λ (v : TreeView). v.is_changed) c.in_ok-seat.ensures.effect.same ∙ was)
+
+pub returns-then-not-remove-clause-untouched : goal.returns-then-not-remove-clause-untouched
+returns-then-not-remove-clause-untouched g c = λ _. c.in_ok-rows_at.ensures.effect.same ∙ c.in_ok-seat.ensures.effect.same
+
+pub returns-then-not-remove-clause-counted : goal.returns-then-not-remove-clause-counted
+returns-then-not-remove-clause-counted g c = λ is. absurd (let bad : false ≡ true = is in cc)
+
+pub returns-then-not-remove-clause-faults : goal.returns-then-not-remove-clause-faults
+returns-then-not-remove-clause-faults g c = tt
+
+pub returns-then-not-remove-clause-stays : goal.returns-then-not-remove-clause-stays
+returns-then-not-remove-clause-stays g c = λ was. ap (λ (v : TreeView). v.is_changed) (c.in_ok-rows_at.ensures.effect.same ∙ c.in_ok-seat.ensures.effect.same) ∙ was
+
+pub returns-then-self-eq0-clause-removed : goal.returns-then-self-eq0-clause-removed
+returns-then-self-eq0-clause-removed g c = λ sound. tt
+
+pub returns-then-self-eq0-clause-untouched : goal.returns-then-self-eq0-clause-untouched
+returns-then-self-eq0-clause-untouched g c = tt
+
+pub returns-then-self-eq0-clause-counted : goal.returns-then-self-eq0-clause-counted
+returns-then-self-eq0-clause-counted g c = tt
+
+pub returns-then-self-eq0-clause-faults : goal.returns-then-self-eq0-clause-faults
+returns-then-self-eq0-clause-faults g c =
+    let same : c.rows_at.new.self ≡ c.args.self.now = c.in_ok-rows_at.ensures.effect.same ∙ c.in_ok-seat.ensures.effect.same in
+    let none : c.args.self.now.rows ≡ 0 = sym (ap (λ (v : TreeView). v.rows) (c.self.view_is ∙ same)) ∙ c.if-self-eq0.true in
+    inr (inr (refl, refl, inl none))
+
+pub returns-then-self-eq0-clause-stays : goal.returns-then-self-eq0-clause-stays
+returns-then-self-eq0-clause-stays g c = λ was. ap (λ (v : TreeView). v.is_changed) (c.in_ok-rows_at.ensures.effect.same ∙ c.in_ok-seat.ensures.effect.same) ∙ was
+
+pub returns-in_err-settle-clause-removed : goal.returns-in_err-settle-clause-removed
+returns-in_err-settle-clause-removed g c = λ sound. no_answer c.from_residual-in_err-settle.result c.in_err-settle.field-0.0 _ c.from_residual-in_err-settle.ensures.1
+
+pub returns-in_err-settle-clause-untouched : goal.returns-in_err-settle-clause-untouched
+returns-in_err-settle-clause-untouched g c = no_answer c.from_residual-in_err-settle.result c.in_err-settle.field-0.0 _ c.from_residual-in_err-settle.ensures.1
+
+pub returns-in_err-settle-clause-counted : goal.returns-in_err-settle-clause-counted
+returns-in_err-settle-clause-counted g c = no_answer c.from_residual-in_err-settle.result c.in_err-settle.field-0.0 _ c.from_residual-in_err-settle.ensures.1
+
+pub returns-in_err-settle-clause-stays : goal.returns-in_err-settle-clause-stays
+returns-in_err-settle-clause-stays g c = λ was. c.settle.ensures.stays (ap (λ (v : TreeView). v.is_changed) (c.in_ok-rows_at.ensures.effect.same ∙ c.in_ok-seat.ensures.effect.same) ∙ was)
+
+pub returns-clause-untouched : goal.returns-clause-untouched
+returns-clause-untouched g c = λ is. absurd (let bad : true ≡ false = is in cc)
+
+pub returns-clause-faults : goal.returns-clause-faults
+returns-clause-faults g c = tt
+
+pub returns-clause-stays : goal.returns-clause-stays
+returns-clause-stays g c = λ was. ap (λ (v : TreeView). v.is_changed) c.self-2.view_is ∙ c.settle.ensures.stays (ap (λ (v : TreeView). v.is_changed) (c.in_ok-rows_at.ensures.effect.same ∙ c.in_ok-seat.ensures.effect.same) ∙ was)
