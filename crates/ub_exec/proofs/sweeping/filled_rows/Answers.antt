@@ -3,13 +3,14 @@ use Rattle.std.specs.List.{AllByRecursion}
 use Rattle.ub_exec.proofs.FillFacts.{HasFilled-none, HasFilled-more, broken_asking, broken_putting, comes_down, fills_ended, fills_full, notes_after, notes_broken, reads_after}
 use Rattle.ub_exec.proofs.FirstFacts.{on_err}
 use Rattle.ub_exec.proofs.NotedFacts.{notes_err, notes_ok}
+use Rattle.ub_exec.proofs.RefusedFacts.{memory_reads, no_answer}
 use Rattle.ub_exec.proofs.SweptFacts.{filled_is, left_is}
 use Rattle.ub_query.specs.Cells.{row_cell}
 use Rattle.ub_query.specs.Posed.{IsPosed}
 use Rattle.ub_query.specs.Shape.{Asked, asked}
 use Rattle.ub_query.specs.declared.query.Item.{Item}
 use Rattle.ub_table.specs.declared.schema.Schema.{Schema}
-use Rattle.ub_tree.proofs.Laws.{reads_by}
+use Rattle.ub_tree.proofs.Laws.{Keeps-by, Keeps-more, reads_by}
 use Rattle.ub_exec.proofs.sweeping.filled_rows.Goals as goal
 
 pub loop-query-init : goal.loop-query-init
@@ -104,3 +105,11 @@ returns-clause-notes g c = notes_ok tt _ c.args.tree.now c.loop-query.tree c.loo
 
 pub returns-clause-effect : goal.returns-clause-effect
 returns-clause-effect g c = record { same = c.loop-query.invariant.filled.kept.traced; faults = tt }
+
+pub returns-in_err-push_row-in-Ok-Some-clause-fills : goal.returns-in_err-push_row-in-Ok-Some-clause-fills
+returns-in_err-push_row-in-Ok-Some-clause-fills g c = no_answer c.from_residual.result _ _ c.from_residual.ensures.1
+
+pub returns-in_err-push_row-in-Ok-Some-clause-effect : goal.returns-in_err-push_row-in-Ok-Some-clause-effect
+returns-in_err-push_row-in-Ok-Some-clause-effect g c =
+    memory_reads c.from_residual.result c.args.tree.now c.next_row.new.tree c.from_residual.ensures.1
+    (Keeps-more _ _ _ c.loop-query.invariant.filled.kept (Keeps-by c.loop-query.tree c.next_row.new.tree c.in-Ok-Some.ensures.effect.same)).traced
