@@ -20,6 +20,11 @@ pub no_result : {T E : Type 0} (r : Result T E) (P : E → Type 0) (Q : Type 0) 
 no_result (Ok x) P Q is = absurd is
 no_result (Err e) P Q is = tt
 
+-- it is no answer
+pub not_answered : {T E X : Type 0} (r : Result T E) (P : E → Type 0) (x : T) → IsErrAnd r P → r ≡ Ok x → X
+not_answered (Ok x) P y is same = absurd is
+not_answered (Err e) P y is same = cc
+
 -- memory was refused after some reading
 pub memory_reads : {T : Type 0} (r : Result T ReadFault) (a b : TreeView) → IsErrAnd r (λ x. x ≡ read.Memory) → IsTraced a b → ReadsTree a b r
 memory_reads (Ok x) a b is traced = absurd is
