@@ -98,7 +98,7 @@ module _ (p : PlanView) (start now : TreeView) (first s : SweepView) (cells : Li
       notes_after x = notes_then {A = Unit {0}} tt (Ok x) start now new so_far.kept.traced so_far.notes (notes_ok found x now new notes)
 
       module _ (steps : (given rest : List Row) (fetched unread : List Event) → IsSweeping p now s given rest fetched unread → HasStepped p new new_s given rest fetched unread found)
-        (comes : ComesOn s new_s now new found) where
+          (comes : ComesOn s new_s now new found) where
         -- it has none left
         pub fills_ended : found ≡ None → Fills p start new first cells
         fills_ended none = record {

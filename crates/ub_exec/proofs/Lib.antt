@@ -20,3 +20,4 @@ pub mod GroupSweptFacts
 pub mod GroupTurnFacts
 pub mod PermutedFacts
 pub mod WholeFacts
+pub mod RefusedFacts

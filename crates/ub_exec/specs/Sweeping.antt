@@ -37,8 +37,8 @@ pub record ComesToAll (s : SweepView) (old new : TreeView) : Type 0 where
   pub taken : AllByRecursion (λ a. IsIn old a.region) s.awaited
   pub trace_is : new.trace.pages ≡ old.trace.pages ++ map (λ a. a.region.page) s.awaited
 
--- it was begun by the plan, over any tree: no page stands in the trace, and it awaits all regions that the tree tells of for the
--- plan's boxes
+-- it was begun by the plan, over any tree: no page stands in the trace, and it awaits all regions that the tree tells of for
+-- the plan's boxes
 pub record IsBegun (p : PlanView) (t : TreeView) (s : SweepView) : Type 0 where
   pub fresh : t ≡ begun t
   pub started : IsStarted t s

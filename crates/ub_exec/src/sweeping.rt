@@ -50,8 +50,8 @@ pub(crate) fn swept_rows<S: PageStore>(
     }
 }
 
-// The rows that a sweep gives which was begun, until the limit is filled or it has none left. The sweep is the caller's, so that
-// the rows are all that is let go where a fault comes.
+// The rows that a sweep gives which was begun, until the limit is filled or it has none left. The sweep is the caller's, so
+// that the rows are all that is let go where a fault comes.
 fn filled_rows<S: PageStore>(
     alloc: Global,
     sweep: &mut Sweep,

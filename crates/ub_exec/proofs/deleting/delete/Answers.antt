@@ -1,10 +1,12 @@
-use Rattle.std.proofs.Common.{◌∙◌, ℕ, List, Ok, Err, ap, subst, sym}
+use Rattle.std.proofs.Common.{◌∙◌, ℕ, List, Ok, Err, ap, length, subst, sym}
 use Rattle.std.specs.List.Sorted.{IsNonDecreasingBy}
 use Rattle.ub_exec.proofs.DeletedFacts.{begun_deletion, begun_stand, begun_then, deletes_by, deletes_done, deletes_failed, deletes_read, deletes_stopped, done_keeps, done_stand, fetched_then, first_by, first_done, first_stopped, none_gone, read_stopped, stopped_keeps, stopped_stand, works_still}
 use Rattle.ub_exec.proofs.FirstFacts.{all_fetched, on_err}
+use Rattle.ub_exec.proofs.RefusedFacts.{no_answer, no_result, not_answered}
 use Rattle.ub_exec.specs.Answers.{begun}
 use Rattle.ub_exec.specs.Reading.{HasReadAll, NotesPages}
 use Rattle.ub_exec.specs.Visits.{HasFetched, HasFetchedFirst}
+use Rattle.ub_query.specs.Posed.{IsPosed}
 use Rattle.ub_table.specs.declared.row.Key.{Key}
 use Rattle.ub_tree.specs.Reading.{ReadsTree}
 use Rattle.ub_tree.specs.View.{TreeView}
@@ -105,3 +107,24 @@ returns-clause-effect g c =
     deletes_done c.args.tree.now c.keys_of_selected.new.tree c.take_out.new.tree
     (works_still c.args.tree.now c.begin.new.self c.has_failed.result c.begin.ensures c.has_failed.ensures c.if-has_failed.false)
     (begun_then c.args.tree.now c.begin.new.self c.keys_of_selected.new.tree c.begin.ensures c.in_ok-keys.ensures.effect.same) c.as_slice.result.now c.in_ok-count.count c.in_ok-count.ensures
+
+pub keys_of_selected-requires : goal.keys_of_selected-requires
+keys_of_selected-requires g c = subst (λ (t : TreeView). IsPosed (length t.schema.columns) c.args.plan.now.asked) (sym c.begin.ensures) c.requires
+
+pub returns-in_err-keys-clause-deleted : goal.returns-in_err-keys-clause-deleted
+returns-in_err-keys-clause-deleted g c s stand deletion = no_answer c.from_residual.result _ _ c.from_residual.ensures.1
+
+pub returns-in_err-keys-clause-pages : goal.returns-in_err-keys-clause-pages
+returns-in_err-keys-clause-pages g c deletion = no_result c.from_residual.result _ _ c.from_residual.ensures.1
+
+pub returns-in_err-keys-clause-untouched : goal.returns-in_err-keys-clause-untouched
+returns-in_err-keys-clause-untouched g c same = not_answered c.from_residual.result _ _ c.from_residual.ensures.1 same
+
+pub returns-in_err-count-clause-deleted : goal.returns-in_err-count-clause-deleted
+returns-in_err-count-clause-deleted g c s stand deletion = no_answer c.from_residual-in_err-count.result _ _ c.from_residual-in_err-count.ensures.1
+
+pub returns-in_err-count-clause-pages : goal.returns-in_err-count-clause-pages
+returns-in_err-count-clause-pages g c deletion = no_result c.from_residual-in_err-count.result _ _ c.from_residual-in_err-count.ensures.1
+
+pub returns-in_err-count-clause-untouched : goal.returns-in_err-count-clause-untouched
+returns-in_err-count-clause-untouched g c same = not_answered c.from_residual-in_err-count.result _ _ c.from_residual-in_err-count.ensures.1 same

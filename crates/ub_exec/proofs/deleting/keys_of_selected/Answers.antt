@@ -1,13 +1,16 @@
-use Rattle.std.proofs.Common.{◌≡◌, ◌++◌, ◌∙◌, List, [], ap, rules, sym}
+use Rattle.std.proofs.Common.{◌≡◌, ◌++◌, ◌∙◌, List, [], Err, ap, refl, rules, sym}
 use Rattle.std.proofs.lemmas.List.{append-nil}
 use Rattle.std.proofs.lemmas.List.Sorted.{IsNonDecreasingBy-from_sort_by_key}
 use Rattle.std.specs.List.{filter}
 use Rattle.ub_exec.proofs.FirstFacts.{on_err, walked_first}
 use Rattle.ub_exec.proofs.KeyFacts.{deletion_scans, walked_keys}
 use Rattle.ub_exec.proofs.MeantFacts.{walk_fetched}
+use Rattle.ub_exec.proofs.NotedFacts.{notes_err, notes_ok}
+use Rattle.ub_exec.proofs.RefusedFacts.{no_answer, no_result}
 use Rattle.ub_filter.specs.Choice.{is_chosen}
 use Rattle.ub_table.specs.Region.{keys_of}
 use Rattle.ub_table.specs.declared.row.Key.{Key}
+use Rattle.ub_tree.proofs.Laws.{reads_by}
 use Rattle.ub_exec.proofs.deleting.keys_of_selected.Goals as goal
 
 pub returns-clause-ordered : goal.returns-clause-ordered
@@ -35,3 +38,30 @@ returns-in_err-walk-clause-broken g c deletion =
     on_err c.from_residual.result _
     (walked_first c.args.plan.now c.args.tree.now c.walk.new.tree ready (deletion_scans c.args.tree.now.schema c.args.plan.now ready.planned deletion.plain)
     (c.in_err-walk.ensures.broken (record { keys = c.new.result }) [] (sym (append-nil c.new.result.items)) ready.sound))
+
+pub returns-in_err-walk-clause-keys : goal.returns-in_err-walk-clause-keys
+returns-in_err-walk-clause-keys g c s stand deletion = no_answer c.from_residual.result _ _ c.from_residual.ensures.1
+
+pub returns-in_err-walk-clause-ordered : goal.returns-in_err-walk-clause-ordered
+returns-in_err-walk-clause-ordered g c = no_answer c.from_residual.result _ _ c.from_residual.ensures.1
+
+pub returns-in_err-walk-clause-pages : goal.returns-in_err-walk-clause-pages
+returns-in_err-walk-clause-pages g c deletion = no_result c.from_residual.result _ _ c.from_residual.ensures.1
+
+pub returns-in_err-walk-clause-all : goal.returns-in_err-walk-clause-all
+returns-in_err-walk-clause-all g c = no_result c.from_residual.result _ _ c.from_residual.ensures.1
+
+pub returns-in_err-walk-clause-notes : goal.returns-in_err-walk-clause-notes
+returns-in_err-walk-clause-notes g c = notes_err c.from_residual.result _ (Err _) c.args.tree.now c.walk.new.tree c.from_residual.ensures.1 c.in_err-walk.ensures.notes
+
+pub returns-in_err-walk-clause-effect : goal.returns-in_err-walk-clause-effect
+returns-in_err-walk-clause-effect g c = reads_by c.from_residual.result _ c.args.tree.now c.args.tree.now c.walk.new.tree c.from_residual.ensures.1 refl c.in_err-walk.ensures.effect
+
+pub returns-clause-all : goal.returns-clause-all
+returns-clause-all g c = c.in_ok-walk.ensures.all
+
+pub returns-clause-notes : goal.returns-clause-notes
+returns-clause-notes g c = notes_ok _ _ c.args.tree.now c.walk.new.tree c.in_ok-walk.ensures.notes
+
+pub returns-clause-effect : goal.returns-clause-effect
+returns-clause-effect g c = record { same = c.in_ok-walk.ensures.effect.same; faults = tt }

@@ -1,4 +1,4 @@
-use Rattle.std.proofs.Common.{◌≡◌, ◌⊎◌, inl, inr, ℕ, Bool, false, IsTrue, IfOk, OnOk, ap, refl, subst, sym}
+use Rattle.std.proofs.Common.{◌≡◌, ◌⊎◌, inl, inr, ℕ, Bool, false, IsTrue, IfOk, OnOk, ap, length, refl, subst, sym}
 use Rattle.std.specs.Prelude.{OnErr}
 use Rattle.ub_tree.proofs.Laws.{Keeps-by, begun_traced, reads_then, unchanged_trace}
 use Rattle.ub_exec.specs.Answers.{IsReady, IsAnswer, IsSwept, begun}
@@ -8,6 +8,7 @@ use Rattle.ub_exec.specs.Visits.{HasFetched, HasFetchedFirst}
 use Rattle.ub_planning.specs.Plan.{PlanView, plan_of}
 use Rattle.ub_planning.specs.declared.planned.Kind.{Kind}
 use Rattle.ub_planning.specs.declared.planned.Kind.TheVariants.{Empty, Scan, Sweep}
+use Rattle.ub_query.specs.Posed.{IsPosed}
 use Rattle.ub_table.specs.declared.schema.Schema.{Schema}
 use Rattle.ub_tree.specs.View.{TreeView}
 use Rattle.ub_exec.proofs.executing.result_rows.Goals as goal
@@ -78,3 +79,9 @@ returns-then-has_failed-clause-pages g c ready = tt
 pub returns-then-has_failed-clause-reads : goal.returns-then-has_failed-clause-reads
 returns-then-has_failed-clause-reads g c =
     carries_failed _ c.args.plan.now (begun c.args.tree.now) c.begin.new.self (unchanged_trace (begun c.args.tree.now) c.begin.new.self c.begin.ensures)
+
+pub scanned_rows-requires : goal.scanned_rows-requires
+scanned_rows-requires g c = subst (λ (t : TreeView). IsPosed (length t.schema.columns) c.args.plan.now.asked) (sym c.begin.ensures) c.requires
+
+pub swept-requires : goal.swept-requires
+swept-requires g c = subst (λ (t : TreeView). IsPosed (length t.schema.columns) c.args.plan.now.asked) (sym c.begin.ensures) c.requires

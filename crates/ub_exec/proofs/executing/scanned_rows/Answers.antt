@@ -9,11 +9,13 @@ use Rattle.ub_exec.proofs.FirstFacts.{all_fetched, on_err, walked_first}
 use Rattle.ub_exec.proofs.MeantFacts.{nothing_fetched, walk_fetched, answered}
 use Rattle.ub_exec.proofs.SweptFacts.{shaped_none}
 use Rattle.ub_exec.proofs.NotedFacts.{carries_all, carries_err, carries_none}
+use Rattle.ub_exec.proofs.RefusedFacts.{memory_reads, no_answer, no_result}
 use Rattle.ub_filter.specs.Choice.{is_chosen}
 use Rattle.ub_planning.proofs.Laws.{limit_of_zero_means_nothing}
 use Rattle.ub_query.specs.Shape.{Asked, asked}
 use Rattle.ub_table.specs.declared.row.Row.{Row}
 use Rattle.ub_table.specs.declared.schema.Schema.{Schema}
+use Rattle.ub_tree.proofs.Laws.{reads_by}
 use Rattle.ub_tree.specs.View.{TreeView}
 use Rattle.ub_exec.proofs.executing.scanned_rows.Goals as goal
 
@@ -86,3 +88,31 @@ returns-in_err-walk-clause-reads g c apart =
 pub returns-in_err-finish-clause-reads : goal.returns-in_err-finish-clause-reads
 returns-in_err-finish-clause-reads g c apart =
     carries_err c.from_residual-in_err-finish.result _ (Ok _) c.args.plan.now c.args.tree.now c.walk.new.tree c.from_residual-in_err-finish.ensures.1 c.in_ok-walk.ensures.notes
+
+pub returns-in_err-walk-clause-rows : goal.returns-in_err-walk-clause-rows
+returns-in_err-walk-clause-rows g c ready = no_answer c.from_residual.result _ _ c.from_residual.ensures.1
+
+pub returns-in_err-walk-clause-shaped : goal.returns-in_err-walk-clause-shaped
+returns-in_err-walk-clause-shaped g c = no_answer c.from_residual.result _ _ c.from_residual.ensures.1
+
+pub returns-in_err-walk-clause-pages : goal.returns-in_err-walk-clause-pages
+returns-in_err-walk-clause-pages g c ready apart = no_result c.from_residual.result _ _ c.from_residual.ensures.1
+
+pub returns-in_err-finish-clause-rows : goal.returns-in_err-finish-clause-rows
+returns-in_err-finish-clause-rows g c ready = no_answer c.from_residual-in_err-finish.result _ _ c.from_residual-in_err-finish.ensures.1
+
+pub returns-in_err-finish-clause-shaped : goal.returns-in_err-finish-clause-shaped
+returns-in_err-finish-clause-shaped g c = no_answer c.from_residual-in_err-finish.result _ _ c.from_residual-in_err-finish.ensures.1
+
+pub returns-in_err-finish-clause-pages : goal.returns-in_err-finish-clause-pages
+returns-in_err-finish-clause-pages g c ready apart = no_result c.from_residual-in_err-finish.result _ _ c.from_residual-in_err-finish.ensures.1
+
+pub returns-in_err-walk-clause-effect : goal.returns-in_err-walk-clause-effect
+returns-in_err-walk-clause-effect g c = reads_by c.from_residual.result _ c.args.tree.now c.args.tree.now c.walk.new.tree c.from_residual.ensures.1 refl c.in_err-walk.ensures.effect
+
+pub returns-in_err-finish-clause-effect : goal.returns-in_err-finish-clause-effect
+returns-in_err-finish-clause-effect g c =
+    memory_reads c.from_residual-in_err-finish.result c.args.tree.now c.walk.new.tree c.from_residual-in_err-finish.ensures.1 c.in_ok-walk.ensures.effect.same
+
+pub returns-clause-effect : goal.returns-clause-effect
+returns-clause-effect g c = record { same = c.in_ok-walk.ensures.effect.same; faults = tt }

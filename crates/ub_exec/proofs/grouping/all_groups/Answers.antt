@@ -1,4 +1,4 @@
-use Rattle.std.proofs.Common.{◌≡◌, ◌∙◌, List, [], Ok, Err, ap, subst, sym}
+use Rattle.std.proofs.Common.{◌≡◌, ◌∙◌, List, [], Ok, Err, ap, length, refl, subst, sym}
 use Rattle.std.proofs.lemmas.List.{append-nil}
 use Rattle.ub_answer.specs.Gathered.{IsGathered}
 use Rattle.ub_answer.specs.Shaped.{IsShaped}
@@ -8,9 +8,11 @@ use Rattle.ub_exec.proofs.BreakFacts.{ready_begun}
 use Rattle.ub_exec.proofs.ComeFacts.{swept_at_once}
 use Rattle.ub_exec.proofs.FirstFacts.{all_fetched, none_fetched, on_err}
 use Rattle.ub_exec.proofs.NotedFacts.{notes_as, notes_err, notes_none, notes_ok}
+use Rattle.ub_exec.proofs.RefusedFacts.{memory_reads, no_answer, no_result}
 use Rattle.ub_exec.proofs.SweptFacts.{begun_fetches, noted_more, swept_kind}
 use Rattle.ub_exec.proofs.WholeFacts.{whole_fetched, whole_first, whole_meant}
 use Rattle.ub_exec.specs.Answers.{begun}
+use Rattle.ub_query.specs.Posed.{IsPosed}
 use Rattle.ub_query.specs.Shape.{Asked, asked}
 use Rattle.ub_table.specs.declared.row.Row.{Row}
 use Rattle.ub_table.specs.declared.schema.Schema.{Schema}
@@ -126,3 +128,54 @@ returns-clause-notes g c =
 pub returns-in_err-hand_over-clause-effect : goal.returns-in_err-hand_over-clause-effect
 returns-in_err-hand_over-clause-effect g c =
     reads_by _ _ c.args.tree.now c.begin_sweep.new.tree c.hand_over.new.tree c.from_residual-in_err-hand_over.ensures.1 (begun_traced c.args.tree.now c.begin_sweep.new.tree c.in_ok-sweep.ensures.trace) c.in_err-hand_over.ensures.effect
+
+pub returns-in_err-sweep-clause-rows : goal.returns-in_err-sweep-clause-rows
+returns-in_err-sweep-clause-rows g c ready kind some = no_answer c.from_residual.result _ _ c.from_residual.ensures.1
+
+pub returns-in_err-sweep-clause-shaped : goal.returns-in_err-sweep-clause-shaped
+returns-in_err-sweep-clause-shaped g c = no_answer c.from_residual.result _ _ c.from_residual.ensures.1
+
+pub returns-in_err-sweep-clause-pages : goal.returns-in_err-sweep-clause-pages
+returns-in_err-sweep-clause-pages g c ready kind some = no_result c.from_residual.result _ _ c.from_residual.ensures.1
+
+pub returns-in_err-sweep-clause-all : goal.returns-in_err-sweep-clause-all
+returns-in_err-sweep-clause-all g c dim is_descending of = no_result c.from_residual.result _ _ c.from_residual.ensures.1
+
+pub returns-in_err-hand_over-clause-rows : goal.returns-in_err-hand_over-clause-rows
+returns-in_err-hand_over-clause-rows g c ready kind some = no_answer c.from_residual-in_err-hand_over.result _ _ c.from_residual-in_err-hand_over.ensures.1
+
+pub returns-in_err-hand_over-clause-shaped : goal.returns-in_err-hand_over-clause-shaped
+returns-in_err-hand_over-clause-shaped g c = no_answer c.from_residual-in_err-hand_over.result _ _ c.from_residual-in_err-hand_over.ensures.1
+
+pub returns-in_err-hand_over-clause-pages : goal.returns-in_err-hand_over-clause-pages
+returns-in_err-hand_over-clause-pages g c ready kind some = no_result c.from_residual-in_err-hand_over.result _ _ c.from_residual-in_err-hand_over.ensures.1
+
+pub returns-in_err-hand_over-clause-all : goal.returns-in_err-hand_over-clause-all
+returns-in_err-hand_over-clause-all g c dim is_descending of = no_result c.from_residual-in_err-hand_over.result _ _ c.from_residual-in_err-hand_over.ensures.1
+
+pub returns-in_err-finish-clause-rows : goal.returns-in_err-finish-clause-rows
+returns-in_err-finish-clause-rows g c ready kind some = no_answer c.from_residual-in_err-finish.result _ _ c.from_residual-in_err-finish.ensures.1
+
+pub returns-in_err-finish-clause-shaped : goal.returns-in_err-finish-clause-shaped
+returns-in_err-finish-clause-shaped g c = no_answer c.from_residual-in_err-finish.result _ _ c.from_residual-in_err-finish.ensures.1
+
+pub returns-in_err-finish-clause-pages : goal.returns-in_err-finish-clause-pages
+returns-in_err-finish-clause-pages g c ready kind some = no_result c.from_residual-in_err-finish.result _ _ c.from_residual-in_err-finish.ensures.1
+
+pub returns-in_err-finish-clause-all : goal.returns-in_err-finish-clause-all
+returns-in_err-finish-clause-all g c dim is_descending of = no_result c.from_residual-in_err-finish.result _ _ c.from_residual-in_err-finish.ensures.1
+
+pub hand_over-requires-clause-posed : goal.hand_over-requires-clause-posed
+hand_over-requires-clause-posed g c = subst (λ (t : TreeView). IsPosed (length t.schema.columns) c.args.plan.now.asked) (sym c.in_ok-sweep.ensures.trace) c.requires.posed
+
+pub returns-in_err-sweep-clause-effect : goal.returns-in_err-sweep-clause-effect
+returns-in_err-sweep-clause-effect g c = reads_by c.from_residual.result _ c.args.tree.now c.args.tree.now c.begin_sweep.new.tree c.from_residual.ensures.1 refl c.in_err-sweep.ensures.effect
+
+pub returns-in_err-finish-clause-effect : goal.returns-in_err-finish-clause-effect
+returns-in_err-finish-clause-effect g c =
+    memory_reads c.from_residual-in_err-finish.result c.args.tree.now c.hand_over.new.tree c.from_residual-in_err-finish.ensures.1
+    (Keeps-more _ _ _ (Keeps-by c.args.tree.now c.begin_sweep.new.tree (begun_traced c.args.tree.now c.begin_sweep.new.tree c.in_ok-sweep.ensures.trace)) (Keeps-by c.begin_sweep.new.tree c.hand_over.new.tree c.in_ok-hand_over.ensures.effect.same)).traced
+
+pub returns-clause-effect : goal.returns-clause-effect
+returns-clause-effect g c =
+    record { same = (Keeps-more _ _ _ (Keeps-by c.args.tree.now c.begin_sweep.new.tree (begun_traced c.args.tree.now c.begin_sweep.new.tree c.in_ok-sweep.ensures.trace)) (Keeps-by c.begin_sweep.new.tree c.hand_over.new.tree c.in_ok-hand_over.ensures.effect.same)).traced; faults = tt }

@@ -1,11 +1,14 @@
-use Rattle.std.proofs.Common.{◌≡◌, List, Ok, Err, length, ap, subst, sym}
+use Rattle.std.proofs.Common.{◌≡◌, ◌∙◌, List, Ok, Err, length, ap, refl, subst, sym}
 use Rattle.ub_exec.proofs.BreakFacts.{ready_begun}
 use Rattle.ub_exec.proofs.FirstFacts.{none_fetched, on_err}
 use Rattle.ub_exec.proofs.GroupTurnFacts.{HasSweptGroups, HasSweptGroups-none, HaveSwept-more, broken_after_rows, broken_before_rows, ended_groups, filled_groups, one_width, shaped_joined}
 use Rattle.ub_exec.proofs.NotedFacts.{notes_err, notes_none, notes_ok, notes_then, traced_begun}
+use Rattle.ub_exec.proofs.RefusedFacts.{memory_reads, no_answer, no_result}
 use Rattle.ub_exec.proofs.SweptFacts.{begun_fetches, filled_is, left_is, noted_more, shaped_none}
-use Rattle.ub_query.specs.Shape.{asked}
+use Rattle.ub_query.specs.Posed.{IsPosed}
+use Rattle.ub_query.specs.Shape.{Asked, asked}
 use Rattle.ub_query.specs.declared.cell.Cell.{Cell}
+use Rattle.ub_table.specs.declared.schema.Schema.{Schema}
 use Rattle.ub_tree.proofs.Laws.{Keeps-by, Keeps-more, begun_traced, reads_by, unchanged_trace}
 use Rattle.ub_tree.specs.View.{TreeView}
 use Rattle.ub_exec.specs.Answers.{begun}
@@ -179,3 +182,72 @@ returns-in_err-extend-clause-notes g c =
 
 pub returns-clause-notes : goal.returns-clause-notes
 returns-clause-notes g c = notes_ok tt _ (begun c.args.tree.now) c.loop-query.tree c.loop-query.invariant.notes
+
+pub next_value-requires-clause-posed : goal.next_value-requires-clause-posed
+next_value-requires-clause-posed g c =
+    subst (λ (s : Schema). IsPosed (length s.columns) c.args.plan.now.asked) (sym c.loop-query.invariant.kept.regions.schema) c.requires
+
+pub next_value-requires-clause-works : goal.next_value-requires-clause-works
+next_value-requires-clause-works g c = c.loop-query.invariant.works
+
+pub groups_of-requires : goal.groups_of-requires
+groups_of-requires g c =
+    let kept = Keeps-more _ _ _ c.loop-query.invariant.kept (Keeps-by c.loop-query.tree c.next_value.new.tree c.in_ok-rows.ensures.effect.same) in
+    subst (λ (q : Asked). IsPosed (length c.schema.result.now.columns) q) (sym c.query-query.ensures)
+    (subst (λ (s : Schema). IsPosed (length s.columns) c.args.plan.now.asked) (sym (c.schema.ensures ∙ kept.regions.schema)) c.requires)
+
+pub returns-in_err-sweep-clause-rows : goal.returns-in_err-sweep-clause-rows
+returns-in_err-sweep-clause-rows g c ready kind some = no_answer c.from_residual.result _ _ c.from_residual.ensures.1
+
+pub returns-in_err-sweep-clause-shaped : goal.returns-in_err-sweep-clause-shaped
+returns-in_err-sweep-clause-shaped g c = no_answer c.from_residual.result _ _ c.from_residual.ensures.1
+
+pub returns-in_err-sweep-clause-pages : goal.returns-in_err-sweep-clause-pages
+returns-in_err-sweep-clause-pages g c ready kind some = no_result c.from_residual.result _ _ c.from_residual.ensures.1
+
+pub returns-in_err-rows-clause-rows : goal.returns-in_err-rows-clause-rows
+returns-in_err-rows-clause-rows g c ready kind some = no_answer c.from_residual-in_err-rows.result _ _ c.from_residual-in_err-rows.ensures.1
+
+pub returns-in_err-rows-clause-shaped : goal.returns-in_err-rows-clause-shaped
+returns-in_err-rows-clause-shaped g c = no_answer c.from_residual-in_err-rows.result _ _ c.from_residual-in_err-rows.ensures.1
+
+pub returns-in_err-rows-clause-pages : goal.returns-in_err-rows-clause-pages
+returns-in_err-rows-clause-pages g c ready kind some = no_result c.from_residual-in_err-rows.result _ _ c.from_residual-in_err-rows.ensures.1
+
+pub returns-in_err-more-clause-rows : goal.returns-in_err-more-clause-rows
+returns-in_err-more-clause-rows g c ready kind some = no_answer c.from_residual-in_err-more.result _ _ c.from_residual-in_err-more.ensures.1
+
+pub returns-in_err-more-clause-shaped : goal.returns-in_err-more-clause-shaped
+returns-in_err-more-clause-shaped g c = no_answer c.from_residual-in_err-more.result _ _ c.from_residual-in_err-more.ensures.1
+
+pub returns-in_err-more-clause-pages : goal.returns-in_err-more-clause-pages
+returns-in_err-more-clause-pages g c ready kind some = no_result c.from_residual-in_err-more.result _ _ c.from_residual-in_err-more.ensures.1
+
+pub returns-in_err-extend-clause-rows : goal.returns-in_err-extend-clause-rows
+returns-in_err-extend-clause-rows g c ready kind some = no_answer c.from_residual-in_err-extend.result _ _ c.from_residual-in_err-extend.ensures.1
+
+pub returns-in_err-extend-clause-shaped : goal.returns-in_err-extend-clause-shaped
+returns-in_err-extend-clause-shaped g c = no_answer c.from_residual-in_err-extend.result _ _ c.from_residual-in_err-extend.ensures.1
+
+pub returns-in_err-extend-clause-pages : goal.returns-in_err-extend-clause-pages
+returns-in_err-extend-clause-pages g c ready kind some = no_result c.from_residual-in_err-extend.result _ _ c.from_residual-in_err-extend.ensures.1
+
+pub returns-in_err-sweep-clause-effect : goal.returns-in_err-sweep-clause-effect
+returns-in_err-sweep-clause-effect g c = reads_by c.from_residual.result _ c.args.tree.now c.args.tree.now c.begin_sweep.new.tree c.from_residual.ensures.1 refl c.in_err-sweep.ensures.effect
+
+pub returns-in_err-more-clause-effect : goal.returns-in_err-more-clause-effect
+returns-in_err-more-clause-effect g c =
+    memory_reads c.from_residual-in_err-more.result c.args.tree.now c.next_value.new.tree c.from_residual-in_err-more.ensures.1
+    (Keeps-more _ _ _ c.loop-query.invariant.kept (Keeps-by c.loop-query.tree c.next_value.new.tree c.in_ok-rows.ensures.effect.same)).traced
+
+pub returns-in_err-extend-clause-effect : goal.returns-in_err-extend-clause-effect
+returns-in_err-extend-clause-effect g c =
+    memory_reads c.from_residual-in_err-extend.result c.args.tree.now c.next_value.new.tree c.from_residual-in_err-extend.ensures.1
+    (Keeps-more _ _ _ c.loop-query.invariant.kept (Keeps-by c.loop-query.tree c.next_value.new.tree c.in_ok-rows.ensures.effect.same)).traced
+
+pub returns-in_default-clause-effect : goal.returns-in_default-clause-effect
+returns-in_default-clause-effect g c =
+    record { same = (Keeps-more _ _ _ c.loop-query.invariant.kept (Keeps-by c.loop-query.tree c.next_value.new.tree c.in_ok-rows.ensures.effect.same)).traced; faults = tt }
+
+pub returns-clause-effect : goal.returns-clause-effect
+returns-clause-effect g c = record { same = c.loop-query.invariant.kept.traced; faults = tt }

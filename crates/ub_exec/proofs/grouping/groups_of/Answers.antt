@@ -1,5 +1,6 @@
 use Rattle.std.proofs.Common.{None, take, refl}
 use Rattle.ub_exec.proofs.GivenFacts.{all_taken}
+use Rattle.ub_exec.proofs.RefusedFacts.{no_answer}
 use Rattle.ub_exec.proofs.grouping.groups_of.Goals as goal
 
 pub returns-clause-meaning : goal.returns-clause-meaning
@@ -7,3 +8,24 @@ returns-clause-meaning c order numbers =
     let rows = c.args.rows.now in
     c.finish.ensures.answer (record { schema = c.args.schema.now; rows = rows }) None (take c.loop-row.row-index rows) refl order numbers
     (all_taken rows c.loop-row.row-index c.loop-row-test.false) c.loop-row.invariant
+
+pub new-gathering-requires : goal.new-gathering-requires
+new-gathering-requires c = c.requires
+
+pub take-requires : goal.take-requires
+take-requires c = c.requires
+
+pub finish-requires : goal.finish-requires
+finish-requires c = c.requires
+
+pub loop-row-init : goal.loop-row-init
+loop-row-init c = c.new-gathering.ensures.gathered
+
+pub returns-in_err-take-clause-meaning : goal.returns-in_err-take-clause-meaning
+returns-in_err-take-clause-meaning c order numbers = no_answer c.from_residual.result _ _ c.from_residual.ensures.1
+
+pub returns-in_err-take-clause-shaped : goal.returns-in_err-take-clause-shaped
+returns-in_err-take-clause-shaped c = no_answer c.from_residual.result _ _ c.from_residual.ensures.1
+
+pub returns-clause-shaped : goal.returns-clause-shaped
+returns-clause-shaped c = c.finish.ensures.shaped

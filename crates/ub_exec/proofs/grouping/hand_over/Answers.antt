@@ -1,6 +1,8 @@
 use Rattle.ub_exec.proofs.ComeFacts.{comes_to_all}
+use Rattle.ub_exec.proofs.FirstFacts.{on_err}
 use Rattle.ub_exec.proofs.KeptFacts.{sweeps_reads}
 use Rattle.ub_exec.proofs.NotedFacts.{broken_notes, sweeps_notes}
+use Rattle.ub_exec.proofs.RefusedFacts.{no_result}
 use Rattle.ub_exec.proofs.grouping.hand_over.Goals as goal
 
 pub returns-in_err-hand_over-clause-effect : goal.returns-in_err-hand_over-clause-effect
@@ -18,3 +20,21 @@ returns-clause-notes g c =
 pub returns-clause-comes : goal.returns-clause-comes
 returns-clause-comes g c =
     comes_to_all c.args.sweep.now c.hand_over.new.self c.args.tree.now c.hand_over.new.tree c.in_ok-hand_over.ensures.effect c.in_ok-hand_over.ensures.left
+
+pub hand_over-requires : goal.hand_over-requires
+hand_over-requires g c = c.requires.posed
+
+pub returns-in_err-hand_over-clause-rows : goal.returns-in_err-hand_over-clause-rows
+returns-in_err-hand_over-clause-rows g c = no_result c.from_residual.result _ _ c.from_residual.ensures.1
+
+pub returns-in_err-hand_over-clause-comes : goal.returns-in_err-hand_over-clause-comes
+returns-in_err-hand_over-clause-comes g c = no_result c.from_residual.result _ _ c.from_residual.ensures.1
+
+pub returns-in_err-hand_over-clause-broken : goal.returns-in_err-hand_over-clause-broken
+returns-in_err-hand_over-clause-broken g c given rest fetched unread is = on_err c.from_residual.result _ (c.in_err-hand_over.ensures.broken given rest fetched unread is)
+
+pub returns-clause-rows : goal.returns-clause-rows
+returns-clause-rows g c = c.in_ok-hand_over.ensures.rows
+
+pub returns-clause-effect : goal.returns-clause-effect
+returns-clause-effect g c = record { same = c.in_ok-hand_over.ensures.effect.same; faults = tt }

@@ -1,15 +1,17 @@
-use Rattle.std.proofs.Common.{◌≡◌, ◌∙◌, ◌++◌, ◌∷◌, [], List, Ok, Err, length, map, refl, ap, subst, sym}
+use Rattle.std.proofs.Common.{◌≡◌, ◌≤◌, ◌∙◌, ◌++◌, ◌∷◌, [], List, Ok, Err, length, map, refl, ap, subst, sym}
 use Rattle.std.specs.List.{AllByRecursion}
+use Rattle.std.specs.Prelude.{All}
 use Rattle.ub_exec.proofs.FillFacts.{HasFilled-none, HasFilled-more, broken_asking, broken_putting, comes_down, fills_ended, fills_full, notes_after, notes_broken, reads_after}
 use Rattle.ub_exec.proofs.FirstFacts.{on_err}
 use Rattle.ub_exec.proofs.NotedFacts.{notes_err, notes_ok}
+use Rattle.ub_exec.proofs.RefusedFacts.{memory_reads, no_answer}
 use Rattle.ub_exec.proofs.SweptFacts.{filled_is, left_is}
 use Rattle.ub_query.specs.Cells.{row_cell}
-use Rattle.ub_query.specs.Posed.{IsPosed}
+use Rattle.ub_query.specs.Posed.{IsItemOver, IsPosed}
 use Rattle.ub_query.specs.Shape.{Asked, asked}
 use Rattle.ub_query.specs.declared.query.Item.{Item}
 use Rattle.ub_table.specs.declared.schema.Schema.{Schema}
-use Rattle.ub_tree.proofs.Laws.{reads_by}
+use Rattle.ub_tree.proofs.Laws.{Keeps-by, Keeps-more, reads_by}
 use Rattle.ub_exec.proofs.sweeping.filled_rows.Goals as goal
 
 pub loop-query-init : goal.loop-query-init
@@ -104,3 +106,23 @@ returns-clause-notes g c = notes_ok tt _ c.args.tree.now c.loop-query.tree c.loo
 
 pub returns-clause-effect : goal.returns-clause-effect
 returns-clause-effect g c = record { same = c.loop-query.invariant.filled.kept.traced; faults = tt }
+
+pub returns-in_err-push_row-in-Ok-Some-clause-fills : goal.returns-in_err-push_row-in-Ok-Some-clause-fills
+returns-in_err-push_row-in-Ok-Some-clause-fills g c = no_answer c.from_residual.result _ _ c.from_residual.ensures.1
+
+pub returns-in_err-push_row-in-Ok-Some-clause-effect : goal.returns-in_err-push_row-in-Ok-Some-clause-effect
+returns-in_err-push_row-in-Ok-Some-clause-effect g c =
+    memory_reads c.from_residual.result c.args.tree.now c.next_row.new.tree c.from_residual.ensures.1
+    (Keeps-more _ _ _ c.loop-query.invariant.filled.kept (Keeps-by c.loop-query.tree c.next_row.new.tree c.in-Ok-Some.ensures.effect.same)).traced
+
+pub push_row-requires-clause-over : goal.push_row-requires-clause-over
+push_row-requires-clause-over g c =
+    let items : c.as_slice.result.now ≡ c.args.plan.now.asked.items = c.as_slice.ensures ∙ ap (λ (q : Asked). q.items) c.query-query.ensures in
+    let kept = Keeps-more _ _ _ c.loop-query.invariant.filled.kept (Keeps-by c.loop-query.tree c.next_row.new.tree c.in-Ok-Some.ensures.effect.same) in
+    subst (λ (s : Schema). All (λ item. IsItemOver (length s.columns) item) c.as_slice.result.now) (sym (c.schema.ensures ∙ kept.regions.schema))
+    (subst (λ (items : List Item). All (λ item. IsItemOver (length c.args.tree.now.schema.columns) item) items) (sym items) c.requires.posed.items)
+
+pub push_row-requires-clause-some : goal.push_row-requires-clause-some
+push_row-requires-clause-some g c =
+    let items : c.as_slice.result.now ≡ c.args.plan.now.asked.items = c.as_slice.ensures ∙ ap (λ (q : Asked). q.items) c.query-query.ensures in
+    subst (λ (items : List Item). 1 ≤ length items) (sym items) c.requires.posed.some_items

@@ -1,7 +1,9 @@
 use Rattle.std.proofs.Common.{Ok, Option, ap}
 use Rattle.ub_exec.proofs.ComeFacts.{comes_on}
+use Rattle.ub_exec.proofs.FirstFacts.{on_err}
 use Rattle.ub_exec.proofs.KeptFacts.{sweeps_reads}
 use Rattle.ub_exec.proofs.NotedFacts.{broken_notes, sweeps_notes}
+use Rattle.ub_exec.proofs.RefusedFacts.{no_answer, no_result}
 use Rattle.ub_table.specs.declared.row.Row.{Row}
 use Rattle.ub_exec.proofs.sweeping.next_row.Goals as goal
 
@@ -24,3 +26,24 @@ pub returns-clause-comes : goal.returns-clause-comes
 returns-clause-comes g c =
     comes_on _ c.args.sweep.now c.next.new.self c.args.tree.now c.next.new.tree c.in_ok-next.ensures.effect (λ none. c.in_ok-next.ensures.ended (ap (λ (found : Option Row). Ok found) none))
     c.in_ok-next.ensures.fewer
+
+pub next-requires : goal.next-requires
+next-requires g c = c.requires.posed
+
+pub returns-in_err-next-clause-next : goal.returns-in_err-next-clause-next
+returns-in_err-next-clause-next g c given rest fetched unread is = no_answer c.from_residual.result _ _ c.from_residual.ensures.1
+
+pub returns-in_err-next-clause-works : goal.returns-in_err-next-clause-works
+returns-in_err-next-clause-works g c = no_result c.from_residual.result _ _ c.from_residual.ensures.1
+
+pub returns-in_err-next-clause-comes : goal.returns-in_err-next-clause-comes
+returns-in_err-next-clause-comes g c = no_answer c.from_residual.result _ _ c.from_residual.ensures.1
+
+pub returns-in_err-next-clause-broken : goal.returns-in_err-next-clause-broken
+returns-in_err-next-clause-broken g c given rest fetched unread is = on_err c.from_residual.result _ (c.in_err-next.ensures.broken given rest fetched unread is)
+
+pub returns-clause-next : goal.returns-clause-next
+returns-clause-next g c = c.in_ok-next.ensures.next
+
+pub returns-clause-effect : goal.returns-clause-effect
+returns-clause-effect g c = record { same = c.in_ok-next.ensures.effect.same; faults = tt }

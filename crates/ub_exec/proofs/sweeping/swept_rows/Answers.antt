@@ -2,7 +2,7 @@ use Rattle.std.proofs.Common.{length, subst, sym}
 use Rattle.ub_exec.proofs.BreakFacts.{ready_begun}
 use Rattle.ub_exec.proofs.FillFacts.{filled_all, filled_broken, filled_means, filled_pages, filled_shaped, has_begun, is_begun}
 use Rattle.ub_exec.proofs.FirstFacts.{none_fetched}
-use Rattle.ub_exec.proofs.NotedFacts.{notes_as}
+use Rattle.ub_exec.proofs.NotedFacts.{notes_as, notes_none}
 use Rattle.ub_exec.specs.Answers.{begun}
 use Rattle.ub_query.specs.Posed.{IsPosed}
 use Rattle.ub_tree.proofs.Laws.{begun_traced, reads_then}
@@ -46,3 +46,9 @@ returns-in-Ok-clause-effect g c =
 pub returns-in-Err-clause-broken : goal.returns-in-Err-clause-broken
 returns-in-Err-clause-broken g c ready kind plain =
     none_fetched c.args.plan.now (begun c.args.tree.now) c.begin_sweep.new.tree (ready_begun c.args.tree.now c.args.plan.now ready) c.in-Err.ensures.broken
+
+pub returns-in-Err-clause-notes : goal.returns-in-Err-clause-notes
+returns-in-Err-clause-notes g c = notes_none _ (begun c.args.tree.now) c.begin_sweep.new.tree c.in-Err.ensures.broken
+
+pub returns-in-Err-clause-effect : goal.returns-in-Err-clause-effect
+returns-in-Err-clause-effect g c = record { same = c.in-Err.ensures.effect.same; faults = c.in-Err.ensures.effect.faults }

@@ -1,17 +1,27 @@
-use Rattle.std.proofs.Common.{◌≡◌, ◌∙◌, inl, inr, List, [], Ok, Some, None, ap, refl, subst, sym}
+use Rattle.std.proofs.Common.{◌≡◌, ◌∙◌, inl, inr, List, [], Ok, Some, None, Result, ap, length, refl, subst, sym}
 use Rattle.std.proofs.lemmas.List.{append-nil}
 use Rattle.std.specs.Option.{option_copied}
 use Rattle.ub_bigmin.specs.Box.{Corners}
-use Rattle.ub_tree.proofs.Laws.{Keeps-by, next_is_later, tree_reads, unchanged_trace, unchanged_traced}
+use Rattle.ub_tree.proofs.Laws.{Keeps-by, next_is_later, reads_then, tree_reads, unchanged_trace, unchanged_traced}
 use Rattle.ub_exec.proofs.FirstFacts.{asked_some, on_err}
 use Rattle.ub_exec.proofs.NotedFacts.{next_notes, notes_none, notes_one, read_next}
+use Rattle.ub_exec.proofs.RefusedFacts.{memory_reads, no_answer, search_reads}
 use Rattle.ub_exec.proofs.WalkFacts.{visited_by}
+use Rattle.ub_filter.specs.Choice.{IsFit}
+use Rattle.ub_query.specs.Posed.{IsPosed}
 use Rattle.ub_table.specs.declared.row.Row.{Row}
+use Rattle.ub_table.specs.declared.schema.Schema.{Schema}
 use Rattle.ub_tetris.proofs.Laws.{either_noted}
-use Rattle.ub_tree.specs.Spans.{First, IsLater, Meets}
+use Rattle.ub_tree.specs.Effects.{ReadsRegion, Searches}
+use Rattle.ub_tree.specs.Spans.{First, IsLater, Meets, Region as Span}
 use Rattle.ub_tree.specs.Told.{GivesNext, IsRegionOf}
 use Rattle.ub_tree.specs.View.{TreeView, spans_of}
+use Rattle.ub_tree.specs.declared.fault.TreeFault.{TreeFault}
 use Rattle.ub_exec.proofs.walking.visit_next.Goals as goal
+
+-- a search and the reading of a region leave the schema as it was
+schema_read : {A B : Type 0} (r : Result A TreeFault) (q : Result B TreeFault) (span : Span) (a b c : TreeView) → Searches a b r → ReadsRegion span b c q → c.schema ≡ a.schema
+schema_read r q span a b c searches reads = ap (λ (t : TreeView). t.schema) reads.same ∙ ap (λ (t : TreeView). t.schema) searches.same
 
 pub returns-in_default-clause-rows : goal.returns-in_default-clause-rows
 returns-in_default-clause-rows g c before taken has = (
@@ -28,19 +38,21 @@ pub returns-clause-rows : goal.returns-clause-rows
 returns-clause-rows g c before taken has =
     let same = c.in_ok-region.ensures.effect.same in
     let schema : c.schema.result.now ≡ c.args.tree.now.schema =
-    c.schema.ensures ∙ ap (λ (t : TreeView). t.schema) c.in_ok-read_region.ensures.effect.same ∙ ap (λ (t : TreeView). t.schema) same in (
+    c.schema.ensures ∙ schema_read _ _ c.in-Some.region c.args.tree.now c.next_meeting.new.self c.read_region.new.self c.in_ok-region.ensures.effect c.in_ok-read_region.ensures.effect in (
       c.read_region.new.page.region.rows,
       (rw schema at (c.in_ok-push_chosen.ensures before taken)) has,
-      λ sound. visited_by c.args.tree.now _ c.read_region.new.self _ _ c.in-Some.region c.read_region.new.page.region _ sound
+      λ sound. visited_by c.args.tree.now c.next_meeting.new.self c.read_region.new.self c.args.plan.now.covering.boxes (option_copied c.args.after) c.in-Some.region c.read_region.new.page.region
+          c.read_region.new.page.region.rows sound
           (subst (λ (boxes : List Corners). First (λ s. IsLater (option_copied c.args.after) s × Meets boxes s) (spans_of c.args.tree.now) (Some c.in-Some.region)) c.boxes.ensures.boxes (rw c.in-Some.is at (c.in_ok-region.ensures.found sound)))
-          (Keeps-by _ _ (unchanged_traced _ _ same)) (unchanged_trace _ _ same) c.in_ok-read_region.ensures.stands c.in_ok-read_region.ensures.first c.in_ok-read_region.ensures.effect.listed refl,
+          (Keeps-by c.args.tree.now c.next_meeting.new.self (unchanged_traced c.args.tree.now c.next_meeting.new.self same)) (unchanged_trace c.args.tree.now c.next_meeting.new.self same) c.in_ok-read_region.ensures.stands c.in_ok-read_region.ensures.first c.in_ok-read_region.ensures.effect.listed refl,
     )
 
 pub returns-in_err-read_region-clause-effect : goal.returns-in_err-read_region-clause-effect
 returns-in_err-read_region-clause-effect g c =
     let same = c.in_ok-region.ensures.effect.same in
     let gives = rw c.in-Some.is at c.in_ok-region.ensures.gives in
-    tree_reads c.from_residual-in_err-read_region.result _ c.args.tree.now _ c.read_region.new.self c.from_residual-in_err-read_region.ensures.1 (unchanged_traced _ _ same) c.in_err-read_region.ensures.effect.same
+    tree_reads c.from_residual-in_err-read_region.result _ c.args.tree.now c.next_meeting.new.self c.read_region.new.self c.from_residual-in_err-read_region.ensures.1
+    (unchanged_traced c.args.tree.now c.next_meeting.new.self same) c.in_err-read_region.ensures.effect.same
     (c.in_err-read_region.ensures.effect.faults (subst (λ (t : TreeView). IsRegionOf t c.in-Some.region) (sym same) (next_is_later c.args.tree.now _ _ c.in-Some.region gives).0))
 
 pub returns-in_err-region-clause-broken : goal.returns-in_err-region-clause-broken
@@ -98,3 +110,54 @@ returns-clause-notes g c =
     next_notes c.args.plan.now.covering.boxes (option_copied c.args.after) c.args.tree.now c.read_region.new.self (Some c.in-Some.region)
     (read_next c.boxes.result.now c.args.plan.now.covering.boxes _ c.args.tree.now c.next_meeting.new.self c.read_region.new.self c.in-Some.region c.read_region.new.page.region
     c.boxes.ensures.boxes c.in_ok-region.ensures.effect.same (rw c.in-Some.is at c.in_ok-region.ensures.gives) c.in_ok-read_region.ensures.effect.listed c.in_ok-read_region.ensures.taken)
+
+pub push_chosen-requires-clause-posed : goal.push_chosen-requires-clause-posed
+push_chosen-requires-clause-posed g c =
+    let schema : c.schema.result.now ≡ c.args.tree.now.schema =
+    c.schema.ensures ∙ schema_read _ _ c.in-Some.region c.args.tree.now c.next_meeting.new.self c.read_region.new.self c.in_ok-region.ensures.effect c.in_ok-read_region.ensures.effect in
+    subst (λ (s : Schema). IsPosed (length s.columns) c.args.plan.now.asked) (sym schema) c.requires.posed
+
+pub push_chosen-requires-clause-fit : goal.push_chosen-requires-clause-fit
+push_chosen-requires-clause-fit g c =
+    let schema : c.schema.result.now ≡ c.args.tree.now.schema =
+    c.schema.ensures ∙ schema_read _ _ c.in-Some.region c.args.tree.now c.next_meeting.new.self c.read_region.new.self c.in_ok-region.ensures.effect c.in_ok-read_region.ensures.effect in
+    subst (λ (s : Schema). IsFit s c.args.plan.now c.args.choice) (sym schema) c.requires.fit
+
+pub push_chosen-requires-clause-dims : goal.push_chosen-requires-clause-dims
+push_chosen-requires-clause-dims g c =
+    c.in_ok-read_region.ensures.dims ∙ sym (ap (λ (s : Schema). s.dims) (c.schema.ensures ∙ ap (λ (t : TreeView). t.schema) c.in_ok-read_region.ensures.effect.same))
+
+pub returns-in_err-region-clause-rows : goal.returns-in_err-region-clause-rows
+returns-in_err-region-clause-rows g c = no_answer c.from_residual.result _ _ c.from_residual.ensures.1
+
+pub returns-in_err-region-clause-next : goal.returns-in_err-region-clause-next
+returns-in_err-region-clause-next g c = no_answer c.from_residual.result _ _ c.from_residual.ensures.1
+
+pub returns-in_err-read_region-clause-rows : goal.returns-in_err-read_region-clause-rows
+returns-in_err-read_region-clause-rows g c = no_answer c.from_residual-in_err-read_region.result _ _ c.from_residual-in_err-read_region.ensures.1
+
+pub returns-in_err-read_region-clause-next : goal.returns-in_err-read_region-clause-next
+returns-in_err-read_region-clause-next g c = no_answer c.from_residual-in_err-read_region.result _ _ c.from_residual-in_err-read_region.ensures.1
+
+pub returns-in_err-push_chosen-clause-rows : goal.returns-in_err-push_chosen-clause-rows
+returns-in_err-push_chosen-clause-rows g c = no_answer c.from_residual-in_err-push_chosen.result _ _ c.from_residual-in_err-push_chosen.ensures.1
+
+pub returns-in_err-push_chosen-clause-next : goal.returns-in_err-push_chosen-clause-next
+returns-in_err-push_chosen-clause-next g c = no_answer c.from_residual-in_err-push_chosen.result _ _ c.from_residual-in_err-push_chosen.ensures.1
+
+pub returns-in_err-region-clause-effect : goal.returns-in_err-region-clause-effect
+returns-in_err-region-clause-effect g c = search_reads c.from_residual.result _ c.args.tree.now c.next_meeting.new.self c.from_residual.ensures.1 c.in_err-region.ensures.effect
+
+pub returns-in_err-push_chosen-clause-effect : goal.returns-in_err-push_chosen-clause-effect
+returns-in_err-push_chosen-clause-effect g c =
+    memory_reads c.from_residual-in_err-push_chosen.result c.args.tree.now c.read_region.new.self c.from_residual-in_err-push_chosen.ensures.1
+    (reads_then {T = Unit {0}} (Ok tt) c.args.tree.now c.next_meeting.new.self c.read_region.new.self (unchanged_traced c.args.tree.now c.next_meeting.new.self c.in_ok-region.ensures.effect.same)
+    (record { same = c.in_ok-read_region.ensures.effect.same; faults = tt })).same
+
+pub returns-in_default-clause-effect : goal.returns-in_default-clause-effect
+returns-in_default-clause-effect g c = record { same = unchanged_traced c.args.tree.now c.next_meeting.new.self c.in_ok-region.ensures.effect.same; faults = tt }
+
+pub returns-clause-effect : goal.returns-clause-effect
+returns-clause-effect g c =
+    reads_then (Ok (Some c.in-Some.region)) c.args.tree.now c.next_meeting.new.self c.read_region.new.self (unchanged_traced c.args.tree.now c.next_meeting.new.self c.in_ok-region.ensures.effect.same)
+    (record { same = c.in_ok-read_region.ensures.effect.same; faults = tt })

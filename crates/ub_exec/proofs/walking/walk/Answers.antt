@@ -1,11 +1,13 @@
-use Rattle.std.proofs.Common.{◌++◌, List, [], Ok, Err, sym, subst}
+use Rattle.std.proofs.Common.{◌++◌, List, [], Ok, Err, length, sym, subst}
 use Rattle.std.proofs.lemmas.List.{append-nil}
 use Rattle.std.specs.List.{filter}
 use Rattle.ub_exec.proofs.FirstFacts.{on_err, turned_first}
-use Rattle.ub_tree.proofs.Laws.{Keeps-by, Keeps-more, Keeps-none, reads_by}
+use Rattle.ub_tree.proofs.Laws.{Keeps-by, Keeps-more, Keeps-none, reads_by, reads_then}
 use Rattle.ub_exec.proofs.NotedFacts.{HasReadUpTo-none, come_down, come_notes, come_on, notes_err, notes_ok, notes_then, whole_by}
+use Rattle.ub_exec.proofs.RefusedFacts.{no_result}
 use Rattle.ub_exec.proofs.WalkFacts.{HasCome-none, ended_by, turned_to, handed_more}
-use Rattle.ub_filter.specs.Choice.{is_chosen}
+use Rattle.ub_filter.specs.Choice.{IsFit, is_chosen}
+use Rattle.ub_query.specs.Posed.{IsPosed}
 use Rattle.ub_table.specs.declared.row.Row.{Row}
 use Rattle.ub_table.specs.declared.schema.Schema.{Schema}
 use Rattle.ub_exec.proofs.walking.walk.Goals as goal
@@ -95,3 +97,19 @@ returns-in_err-region-clause-notes g c =
 pub returns-in_err-region-clause-effect : goal.returns-in_err-region-clause-effect
 returns-in_err-region-clause-effect g c =
     reads_by c.from_residual.result _ c.args.tree.now c.loop-region.tree c.visit_next.new.tree c.from_residual.ensures.1 c.loop-region.invariant.kept.traced c.in_err-region.ensures.effect
+
+pub visit_next-requires-clause-posed : goal.visit_next-requires-clause-posed
+visit_next-requires-clause-posed g c = subst (λ (s : Schema). IsPosed (length s.columns) c.args.plan.now.asked) (sym c.loop-region.invariant.kept.regions.schema) c.requires.posed
+
+pub visit_next-requires-clause-fit : goal.visit_next-requires-clause-fit
+visit_next-requires-clause-fit g c = subst (λ (s : Schema). IsFit s c.args.plan.now c.args.choice) (sym c.loop-region.invariant.kept.regions.schema) c.requires.fit
+
+pub returns-in_err-region-clause-rows : goal.returns-in_err-region-clause-rows
+returns-in_err-region-clause-rows g c = no_result c.from_residual.result _ _ c.from_residual.ensures.1
+
+pub returns-in_err-region-clause-all : goal.returns-in_err-region-clause-all
+returns-in_err-region-clause-all g c = no_result c.from_residual.result _ _ c.from_residual.ensures.1
+
+pub returns-clause-effect : goal.returns-clause-effect
+returns-clause-effect g c =
+    reads_then (Ok tt) c.args.tree.now c.loop-region.tree c.visit_next.new.tree c.loop-region.invariant.kept.traced (record { same = c.in_ok-region.ensures.effect.same; faults = tt })
