@@ -1,5 +1,5 @@
 -- A row put into a tree: where its region's rows come to stand, what becomes of the table, and what a call tells of it.
-use Rattle.std.proofs.Common.{◌≡◌, ◌≢◌, ◌<◌, ◌≤◌, ◌+◌, ◌^◌, ◌∙◌, ◌++◌, ◌⊎◌, inl, inr, ℕ, zero, suc, true, false, List, [], ◌∷◌, Ok, Err, Result, IfErr, IfOk, OnOk, Option, None, Some, IfSome, length, map, take, drop, nat_le, sym, ap, subst, refl, arith, slice_get, append_assoc}
+use Rattle.std.proofs.Common.{◌≡◌, ◌≢◌, ◌<◌, ◌≤◌, ◌+◌, ◌^◌, ◌∙◌, ◌++◌, ◌⊎◌, inl, inr, ℕ, zero, suc, true, false, List, [], ◌∷◌, Ok, Err, Result, IfErr, OnOk, Option, None, Some, IfSome, length, map, take, drop, nat_le, sym, ap, subst, refl, arith, slice_get, append_assoc}
 use Rattle.std.proofs.lemmas.List.Sorted.{length_permutation}
 use Rattle.std.specs.List.{AllByRecursion}
 use Rattle.std.specs.Result.{IsErrAnd}
@@ -345,8 +345,3 @@ filled_answers F t seat r full h = (
 -- halves of the same rows
 pub same_split : {d e p q : ℕ} {rs ss : List Row} → d ≡ e → p ≡ q → rs ≡ ss → split d p rs ≡ split e q ss
 same_split {d} {e} {p} {q} {rs} {ss} dims count rows = ap (λ (n : ℕ). split n p rs) dims ∙ ap (λ (n : ℕ). split e n rs) count ∙ ap (λ (xs : List Row). split e q xs) rows
-
--- nor is anything told of what a call that was refused gives
-pub refused_all : {T : Type 0} (P : T → Type 0) (r : Result T TreeFault) (e : TreeFault) → IsErrAnd r (λ x. x ≡ e) → IfOk r P
-refused_all P (Ok x) e is = absurd is
-refused_all P (Err f) e is = tt

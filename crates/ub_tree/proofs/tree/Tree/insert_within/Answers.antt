@@ -8,8 +8,8 @@ use Rattle.ub_table.specs.Keys.{is_same}
 use Rattle.ub_table.specs.Region.{Region, IsRow, key_of, keys_of, measures_of}
 use Rattle.ub_table.specs.declared.fault.PageFault.TheVariants.{BadOrder}
 use Rattle.ub_table.specs.declared.row.Key.{Key}
-use Rattle.ub_tree.proofs.EffectFacts.{counted_anew, left_by, refused_none, searched_by, then_changed, unchanged}
-use Rattle.ub_tree.proofs.GrowFacts.{added_answers, grown, grows_by, key_there, passing_answers_key, refused_all, seat_answers_err, seat_answers_ok}
+use Rattle.ub_tree.proofs.EffectFacts.{counted_anew, left_by, refused_all, refused_none, searched_by, then_changed, unchanged}
+use Rattle.ub_tree.proofs.GrowFacts.{added_answers, grown, grows_by, key_there, passing_answers_key, seat_answers_err, seat_answers_ok}
 use Rattle.ub_tree.proofs.HoldingFacts.{key_is_there, next_key, unread_key}
 use Rattle.ub_tree.proofs.NewFacts.{numbered_row}
 use Rattle.ub_tree.proofs.RemovalFacts.{IsHolder, holder}
