@@ -87,9 +87,12 @@ pub returns-in-Ok-clause-table : goal.returns-in-Ok-clause-table
 returns-in-Ok-clause-table g c =
     let t = c.self.inside in
     let new = c.write_table.new.pager.store in
-    rw (c.into_store-in-Ok.ensures, ← c.self.view_is) (λ changed. (c.in-Ok.ensures.saved, λ honest.
-    subst (λ (r : ℕ × ℕ). IsClosed (record { schema = t.schema; next = t.next; rows = t.rows; regions = t.count; root = r.0; levels = r.1; unclean = false }) t.pager.store new)
-    c.root-root.ensures.root (c.in-Ok.ensures.closed honest)))
+    rw (c.into_store-in-Ok.ensures, ← c.self.view_is) (λ changed. (
+      c.in-Ok.ensures.saved,
+      λ honest.
+          subst (λ (r : ℕ × ℕ). IsClosed (record { schema = t.schema; next = t.next; rows = t.rows; regions = t.count; root = r.0; levels = r.1; unclean = false }) t.pager.store new)
+          c.root-root.ensures.root (c.in-Ok.ensures.closed honest),
+    ))
 
 pub returns-clause-first : goal.returns-clause-first
 returns-clause-first g c = rw (c.into_store-in-Err.ensures, ← c.self.view_is) (λ honest. c.in-Err.ensures.left honest)

@@ -74,6 +74,7 @@ insert_within-inserted-requires-clause-row g c =
     let same = c.in_ok-room.ensures.same in
     let suits = c.requires in
     let fits : Suits c.args.self.now.schema.dims (measures_of c.args.self.now.schema) (numbered c.self.inside.next c.args.row.now) =
-    record { dims_rest = suits.dims_rest; dims_words = suits.dims_words; measures_rest = suits.measures_rest; measures_words = suits.measures_words } in
-    (subst (λ (v : TreeView). Suits v.schema.dims (measures_of v.schema) (numbered c.self.inside.next c.args.row.now)) (sym same) fits,
-    ap (λ (v : TreeView). v.next) (c.self.view_is ∙ sym same))
+    record { dims_rest = suits.dims_rest; dims_words = suits.dims_words; measures_rest = suits.measures_rest; measures_words = suits.measures_words } in (
+      subst (λ (v : TreeView). Suits v.schema.dims (measures_of v.schema) (numbered c.self.inside.next c.args.row.now)) (sym same) fits,
+      ap (λ (v : TreeView). v.next) (c.self.view_is ∙ sym same),
+    )

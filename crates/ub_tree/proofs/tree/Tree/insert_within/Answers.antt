@@ -244,9 +244,10 @@ returns-in_err-seat-clause-refused g c = λ honest number region into.
 pub store_with-requires-clause-seat : goal.store_with-requires-clause-seat
 store_with-requires-clause-seat g c =
     let seat = c.in_ok-seat.seat in
-    let same = c.in_ok-read_at.ensures.effect.same ∙ c.in_ok-seat.ensures.effect.same in
-    (subst (λ (v : TreeView). IsSeatOf v seat) (sym same) (c.key-key.result, c.in_ok-seat.ensures.falls),
-    subst (λ (v : TreeView). seat.page < page_count v.store) (sym c.in_ok-read_at.ensures.effect.same) c.in_ok-read_at.ensures.there)
+    let same = c.in_ok-read_at.ensures.effect.same ∙ c.in_ok-seat.ensures.effect.same in (
+      subst (λ (v : TreeView). IsSeatOf v seat) (sym same) (c.key-key.result, c.in_ok-seat.ensures.falls),
+      subst (λ (v : TreeView). seat.page < page_count v.store) (sym c.in_ok-read_at.ensures.effect.same) c.in_ok-read_at.ensures.there,
+    )
 
 pub store_with-requires-clause-key : goal.store_with-requires-clause-key
 store_with-requires-clause-key g c =

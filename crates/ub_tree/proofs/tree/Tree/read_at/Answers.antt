@@ -84,10 +84,10 @@ returns-in_err-bring-clause-taken g c = λ honest r on.
     let a = c.args.self.now in
     passing_there Bool _ c.from_residual.result c.in_err-bring.field-0.0 c.from_residual.ensures.1
     (λ no_page.
-        let there : c.args.seat.now.page < page_count a.store = slice_get_within a.store.pages c.args.seat.now.page (region_page a.schema r) (on.page honest) in
-        let past = c.in_err-bring.ensures.missing no_page in
-        let same = ap (λ (v : TreeView). page_count v.store) c.self.view_is in
-        omega arith)
+    let there : c.args.seat.now.page < page_count a.store = slice_get_within a.store.pages c.args.seat.now.page (region_page a.schema r) (on.page honest) in
+    let past = c.in_err-bring.ensures.missing no_page in
+    let same = ap (λ (v : TreeView). page_count v.store) c.self.view_is in
+    omega arith)
     c.in_err-bring.ensures.no_size
 
 pub returns-in_err-take_region-clause-taken : goal.returns-in_err-take_region-clause-taken

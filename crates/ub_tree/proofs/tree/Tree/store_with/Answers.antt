@@ -159,9 +159,11 @@ put_page-requires-clause-page g c =
     let region : c.insert_at.new.self.region ≡ record { first = c.args.seat.now.first; rows = new } =
     ap (λ (v : RegionView). v.region) c.insert_at.ensures
     ∙ ap (λ (k : Key). record { first = k; rows = insert rows c.index_in-index.result row }) c.requires.read.on.held.0
-    ∙ ap (λ (rs : List Row). record { first = c.args.seat.now.first; rows = rs }) (sym made) in
-    (record { first = c.args.seat.now.first; rows = new }, good,
-    c.page.ensures ∙ c.write.ensures ∙ ap (λ (v : TreeView). region_page v.schema c.insert_at.new.self.region) c.self.view_is ∙ ap (region_page b.schema) region)
+    ∙ ap (λ (rs : List Row). record { first = c.args.seat.now.first; rows = rs }) (sym made) in (
+      record { first = c.args.seat.now.first; rows = new },
+      good,
+      c.page.ensures ∙ c.write.ensures ∙ ap (λ (v : TreeView). region_page v.schema c.insert_at.new.self.region) c.self.view_is ∙ ap (region_page b.schema) region,
+    )
 
 pub returns-clause-same : goal.returns-clause-same
 returns-clause-same g c =
