@@ -96,3 +96,29 @@ returns-in-Ok-clause-table g c =
 
 pub returns-clause-first : goal.returns-clause-first
 returns-clause-first g c = rw (c.into_store-in-Err.ensures, ← c.self.view_is) (λ honest. c.in-Err.ensures.left honest)
+
+pub returns-then-not-is_written-clause-failed : goal.returns-then-not-is_written-clause-failed
+returns-then-not-is_written-clause-failed g c = λ failed.
+    let bad : true ≡ false = sym failed ∙ sym (ap (λ (v : TreeView). v.is_failed) c.self.view_is) ∙ c.if-self.false in
+    cc
+
+pub returns-in-Ok-clause-failed : goal.returns-in-Ok-clause-failed
+returns-in-Ok-clause-failed g c = λ failed.
+    let bad : true ≡ false = sym failed ∙ sym (ap (λ (v : TreeView). v.is_failed) c.self.view_is) ∙ c.if-self.false in
+    cc
+
+pub returns-clause-failed : goal.returns-clause-failed
+returns-clause-failed g c = λ failed.
+    let bad : true ≡ false = sym failed ∙ sym (ap (λ (v : TreeView). v.is_failed) c.self.view_is) ∙ c.if-self.false in
+    cc
+
+pub returns-then-not-is_written-clause-table : goal.returns-then-not-is_written-clause-table
+returns-then-not-is_written-clause-table g c = λ changed.
+    let bad : true ≡ false = sym changed ∙ sym (ap (λ (v : TreeView). v.is_changed) c.self.view_is) ∙ (sym c.is_written.ensures ∙ c.if-not-is_written.true) in
+    cc
+
+pub returns-then-self-clause-refused : goal.returns-then-self-clause-refused
+returns-then-self-clause-refused g c = sym (ap (λ (v : TreeView). v.is_failed) c.self.view_is) ∙ c.if-self.true
+
+pub write_table-requires-clause-clean : goal.write_table-requires-clause-clean
+write_table-requires-clause-clean g c = refl

@@ -1,10 +1,10 @@
-use Rattle.std.proofs.Common.{◌∙◌, ℕ, ap, arith, inl, refl, subst, sym}
+use Rattle.std.proofs.Common.{◌≡◌, ◌∙◌, ℕ, ap, arith, false, inl, refl, subst, sym, true}
 use Rattle.ub_store.specs.Facts.{IsHonest}
 use Rattle.ub_table.specs.Region.{key_of, measures_of}
 use Rattle.ub_tree.specs.Change.{Suits, numbered}
 use Rattle.ub_tree.specs.Holding.{AnswersKey}
 use Rattle.ub_tree.specs.View.{TreeView}
-use Rattle.ub_tree.specs.declared.fault.TreeFault.TheVariants.{Full}
+use Rattle.ub_tree.specs.declared.fault.TreeFault.TheVariants.{Failed, Full}
 use Rattle.ub_tree.proofs.EffectFacts.{refused_all, refused_none, searched_by, unchanged}
 use Rattle.ub_tree.proofs.GrowFacts.{passing_answers_key}
 use Rattle.ub_tree.proofs.tree.Tree.insert_row.Goals as goal
@@ -78,3 +78,26 @@ insert_within-inserted-requires-clause-row g c =
       subst (λ (v : TreeView). Suits v.schema.dims (measures_of v.schema) (numbered c.self.inside.next c.args.row.now)) (sym same) fits,
       ap (λ (v : TreeView). v.next) (c.self.view_is ∙ sym same),
     )
+
+pub returns-then-self-eq-NEXT_END-clause-failed : goal.returns-then-self-eq-NEXT_END-clause-failed
+returns-then-self-eq-NEXT_END-clause-failed g c = λ failed.
+    let bad : true ≡ false = sym failed ∙ sym (ap (λ (v : TreeView). v.is_failed) c.self.view_is) ∙ c.if-self.false in
+    cc
+
+pub returns-in_err-room-clause-failed : goal.returns-in_err-room-clause-failed
+returns-in_err-room-clause-failed g c = λ failed.
+    let bad : true ≡ false = sym failed ∙ sym (ap (λ (v : TreeView). v.is_failed) c.self.view_is) ∙ c.if-self.false in
+    cc
+
+pub returns-clause-failed : goal.returns-clause-failed
+returns-clause-failed g c = λ failed.
+    let bad : true ≡ false = sym failed ∙ sym (ap (λ (v : TreeView). v.is_failed) c.self.view_is) ∙ c.if-self.false in
+    cc
+
+pub returns-then-self-clause-refused : goal.returns-then-self-clause-refused
+returns-then-self-clause-refused g c = λ working.
+    let bad : true ≡ false = sym c.if-self.true ∙ ap (λ (v : TreeView). v.is_failed) c.self.view_is ∙ working in
+    cc
+
+pub returns-then-self-clause-effect : goal.returns-then-self-clause-effect
+returns-then-self-clause-effect g c = unchanged Failed c.args.self.now (sym (ap (λ (v : TreeView). v.is_failed) c.self.view_is) ∙ c.if-self.true, refl)
