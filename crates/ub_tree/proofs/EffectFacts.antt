@@ -1,5 +1,5 @@
 -- What a call leaves that calls others: a search, a refusal or a write, as a change.
-use Rattle.std.proofs.Common.{◌≡◌, ◌≢◌, ◌<◌, ◌∙◌, ◌++◌, inl, inr, ◌⊎◌, ℕ, true, List, [], ◌∷◌, Ok, Err, Result, IfErr, OnOk, sym, ap, subst, refl, arith}
+use Rattle.std.proofs.Common.{◌≡◌, ◌≢◌, ◌<◌, ◌∙◌, ◌++◌, inl, inr, ◌⊎◌, ℕ, true, List, [], ◌∷◌, Ok, Err, Result, IfErr, IfOk, OnOk, sym, ap, subst, refl, arith}
 use Rattle.std.specs.Result.{IsErrAnd}
 use Rattle.ub_index.specs.Changing.{IsOutside, IsUnspelled}
 use Rattle.ub_index.specs.Index.{pages_under, top}
@@ -191,3 +191,8 @@ mark_stays was now (inr written) is = ap is_written written
 pub refused_none : {T : Type 0} (P : Type 0) (r : Result T TreeFault) (e : TreeFault) → IsErrAnd r (λ x. x ≡ e) → OnOk r P
 refused_none P (Ok x) e is = absurd is
 refused_none P (Err f) e is = tt
+
+-- nor is anything told of what a call that was refused gives
+pub refused_all : {T : Type 0} (P : T → Type 0) (r : Result T TreeFault) (e : TreeFault) → IsErrAnd r (λ x. x ≡ e) → IfOk r P
+refused_all P (Ok x) e is = absurd is
+refused_all P (Err f) e is = tt

@@ -1,5 +1,5 @@
 -- A row put into a tree: where its region's rows come to stand, what becomes of the table, and what a call tells of it.
-use Rattle.std.proofs.Common.{◌≡◌, ◌≢◌, ◌<◌, ◌≤◌, ◌+◌, ◌^◌, ◌∙◌, ◌++◌, ◌⊎◌, inl, inr, ℕ, zero, suc, true, false, List, [], ◌∷◌, Ok, Err, Result, OnOk, Option, None, Some, IfSome, length, map, take, drop, nat_le, sym, ap, subst, refl, arith, slice_get, append_assoc}
+use Rattle.std.proofs.Common.{◌≡◌, ◌≢◌, ◌<◌, ◌≤◌, ◌+◌, ◌^◌, ◌∙◌, ◌++◌, ◌⊎◌, inl, inr, ℕ, zero, suc, true, false, List, [], ◌∷◌, Ok, Err, Result, IfErr, OnOk, Option, None, Some, IfSome, length, map, take, drop, nat_le, sym, ap, subst, refl, arith, slice_get, append_assoc}
 use Rattle.std.proofs.lemmas.List.Sorted.{length_permutation}
 use Rattle.std.specs.List.{AllByRecursion}
 use Rattle.std.specs.Result.{IsErrAnd}
@@ -15,6 +15,7 @@ use Rattle.ub_region.proofs.Laws.{all_left, all_right, insert_keeps, insert_tabl
 use Rattle.ub_region.specs.Regions.{firsts_of, index_holding, insert, rows_of, split_region}
 use Rattle.ub_region.specs.Rows.{Halves, has_key, insert_row, split}
 use Rattle.ub_store.specs.Facts.{IsHonest}
+use Rattle.ub_store.specs.declared.fault.StoreFault.TheVariants as store
 use Rattle.ub_table.specs.Keys.{IsBefore}
 use Rattle.ub_table.specs.Region.{Region, IsRegion, IsRow, key_of, measures_of}
 use Rattle.ub_table.specs.declared.fault.PageFault.{PageFault}
@@ -36,11 +37,11 @@ use Rattle.ub_tree.specs.Opened.{IsPassing}
 use Rattle.ub_tree.specs.Others.{AddsEntry, KeepsEntries, WritesIndex, WritesPage}
 use Rattle.ub_tree.specs.Placed.{entry_of, regions_in}
 use Rattle.ub_tree.specs.Spans.{first_keys, Region as Span}
-use Rattle.ub_tree.specs.Told.{FallsSurely, FallsTo, IsRegionOf}
+use Rattle.ub_tree.specs.Told.{FallsSurely, FallsTo, IsRegionOf, KeepsTold}
 use Rattle.ub_tree.specs.View.{TreeView, IsSound, region_count, regions}
 use Rattle.ub_tree.specs.declared.fault.TreeFault.{TreeFault}
-use Rattle.ub_tree.specs.declared.fault.TreeFault.TheVariants.{Page}
-use Rattle.ub_tree.specs.inner.Change.{IsElsewhereSame, IsOnSeat, IsSeatIn, IsSplitAt, IsStored, KeepsGrown, StoresAt, placed_with, regions_with, split_of}
+use Rattle.ub_tree.specs.declared.fault.TreeFault.TheVariants.{Page, Store}
+use Rattle.ub_tree.specs.inner.Change.{IsElsewhereSame, IsOnSeat, IsPut, IsSeatIn, IsSplitAt, IsStored, KeepsGrown, StoresAt, Writes, placed_with, regions_with, split_of}
 use Rattle.ub_writing.specs.Marks.{HasMark}
 use Rattle.ub_zaddr.specs.Address.{last_address}
 
@@ -309,3 +310,38 @@ added_answers {A} a b key seat read r same to taken none answers honest number r
       λ free full few levels way. h.2 honest sure (long ∙ full) few levels
           (full_way_to a.inner.index.last a.store.pages key seat.first a.inner.index.levels (top a.inner.index.root) None (record { first = seat.first; page = seat.page }) seat.next leads holds.1 way),
     )
+
+-- the region of a seat whose page had room was put on it
+pub put_at : {T : Type 0} (r : Result T TreeFault) (old new : TreeView) (seat : Seat) (count : ℕ) → count ≢ old.schema.page_rows → OnOk r (IsPut old new) → OnOk r (KeepsTold old new) → Writes seat old new r
+    → OnOk r (StoresAt seat count old new)
+put_at (Err e) old new seat count room put told writes = tt
+put_at (Ok x) old new seat count room put told writes = record {
+  same = put ∙ ap (λ (v : TreeView). record old { placed = new.placed; store = new.store; is_changed = true; inner = v.inner }) (sym put);
+  others = inl (writes.kept, (told, writes.count));
+  full = λ full. absurd (room full);
+  spare = λ less. (told, writes.count);
+}
+
+-- what a seat answers where its region isn't full, and only the device can fail
+pub spared_answers : {A : Type 0} (F : Type 0) (t : TreeView) (seat : Seat) (r : Result A TreeFault) → (F → ⊥) → IfErr r (λ fault. fault ≡ Store store.Device) → AnswersSeat F t seat r
+spared_answers F t seat (Ok x) room device = (λ full many. absurd (room full), λ honest falls page fault told. cc, λ honest falls full few levels way. absurd (room full))
+spared_answers F t seat (Err e) room device = (
+  λ full many. absurd (room full),
+  λ honest falls page fault told.
+      let same : e ≡ Page page fault = cc in
+      let bad : Store store.Device ≡ Page page fault = sym device ∙ same in
+      cc,
+  λ honest falls full few levels way. absurd (room full),
+)
+
+-- and where it is full
+pub filled_answers : {A : Type 0} (F : Type 0) (t : TreeView) (seat : Seat) (r : Result A TreeFault) → F → AnswersSeat (Unit {0}) t seat r → AnswersSeat F t seat r
+filled_answers F t seat r full h = (
+  λ is many. h.0 tt many,
+  λ honest falls page fault told. (full, (h.1 honest falls page fault told).1),
+  λ honest falls is. h.2 honest falls tt,
+)
+
+-- halves of the same rows
+pub same_split : {d e p q : ℕ} {rs ss : List Row} → d ≡ e → p ≡ q → rs ≡ ss → split d p rs ≡ split e q ss
+same_split {d} {e} {p} {q} {rs} {ss} dims count rows = ap (λ (n : ℕ). split n p rs) dims ∙ ap (λ (n : ℕ). split e n rs) count ∙ ap (λ (xs : List Row). split e q xs) rows

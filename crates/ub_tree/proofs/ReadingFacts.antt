@@ -1,5 +1,5 @@
 -- What a call that reads a region answers, and why it is refused.
-use Rattle.std.proofs.Common.{◌⊎◌, inl, inr, ◌≡◌, ℕ, suc, Bool, IsTrue, List, Option, Some, IfSome, Result, Ok, Err, IfErr, IsOk, OnOk, ap, sym, subst, refl, slice_get, map, ◌≤◌, ◌<◌, ◌∙◌, arith}
+use Rattle.std.proofs.Common.{◌⊎◌, inl, inr, ◌≡◌, ℕ, suc, Bool, IsTrue, List, Option, Some, IfSome, Result, Ok, Err, IfErr, IsOk, MatchResult, OnOk, ap, sym, subst, refl, slice_get, map, ◌≤◌, ◌<◌, ◌∙◌, arith}
 use Rattle.std.specs.List.{AllByRecursion}
 use Rattle.std.specs.Result.{IsErrAnd, IsErrOf}
 use Rattle.ub_index.specs.Searching.{region_of}
@@ -20,6 +20,7 @@ use Rattle.ub_tree.proofs.IndexedFacts.{seat_of_key}
 use Rattle.ub_tree.proofs.TreeFacts.{all_get, apart_next, each_get, firsts_placed, region_get, seat_placed}
 use Rattle.ub_tree.specs.Effects.{IsPageMissing, IsPageRefused, IsReadFault, IsRegionRefused, IsSpanFault, IsTakenIn, Searches, read_store}
 use Rattle.ub_tree.specs.Faults.{tree_fault}
+use Rattle.ub_tree.specs.Opened.{IsPassing}
 use Rattle.ub_tree.specs.Placed.{entry_of}
 use Rattle.ub_tree.specs.Spans.{first_keys, Region as Span}
 use Rattle.ub_tree.specs.Told.{IsRegionOf}
@@ -197,3 +198,12 @@ still_searched x y a c h = record { same = h.same; faults = tt }
 pub missed_by : {T U : Type 0} (r : Result T TreeFault) (e : TreeFault) (a c : TreeView) → IsErrAnd r (λ x. x ≡ e) → Searches {A = U} a c (Err e) → Searches a c r
 missed_by (Ok x) e a c is h = absurd is
 missed_by (Err f) e a c is h = rw is (record { same = h.same; faults = h.faults })
+
+-- a page that is there isn't read only where memory is refused, or the device fails
+pub passing_there : {T : Type 0} (U : Type 0) (P : T → Type 0) (r : Result T TreeFault) (fault : StoreFault) → IsErrAnd r (λ e. e ≡ tree_fault fault)
+    → (IsErrOf {T = U} (Err fault) store.NoPage → ⊥) → (IsErrOf {T = U} (Err fault) store.BadSize → ⊥) → MatchResult r P IsPassing
+passing_there U P (Ok x) fault is missing no_size = absurd is
+passing_there U P (Err f) store.Device is missing no_size = inr is
+passing_there U P (Err f) store.Memory is missing no_size = inl is
+passing_there U P (Err f) store.NoPage is missing no_size = absurd (missing refl)
+passing_there U P (Err f) store.BadSize is missing no_size = absurd (no_size refl)

@@ -1,5 +1,8 @@
-use Rattle.std.proofs.Common.{◌∙◌, ap}
+use Rattle.std.proofs.Common.{◌∙◌, ap, subst, sym}
+use Rattle.ub_store.specs.Facts.{StoreFacts}
 use Rattle.ub_store.specs.View.{PagerView}
+use Rattle.ub_writing.specs.Creation.{IsUncreated}
+use Rattle.ub_tree.specs.Calls.{IsCreateFault}
 use Rattle.ub_tree.proofs.CreationFacts.{created}
 use Rattle.ub_tree.proofs.tree.Tree.create.Goals as goal
 
@@ -15,3 +18,26 @@ returns-in-Ok-lay_out-clause-made g c =
     (λ honest. t.ensures.index.1 (ap (λ (p : PagerView). p.store.honest) made ∙ honest))
     (λ honest. t.ensures.pages (ap (λ (p : PagerView). p.store.honest) made ∙ honest))
     (t.ensures.trace ∙ ap (λ (p : PagerView). p.trace) made))
+
+pub returns-in-Err-clause-made : goal.returns-in-Err-clause-made
+returns-in-Err-clause-made g c = tt
+
+pub returns-in-Ok-lay_out-clause-first : goal.returns-in-Ok-lay_out-clause-first
+returns-in-Ok-lay_out-clause-first g c = λ honest. tt
+
+pub returns-in-Ok-lay_out-clause-refused : goal.returns-in-Ok-lay_out-clause-refused
+returns-in-Ok-lay_out-clause-refused g c = tt
+
+pub returns-in-Ok-lay_out-clause-left : goal.returns-in-Ok-lay_out-clause-left
+returns-in-Ok-lay_out-clause-left g c = tt
+
+pub returns-in-Err-lay_out-clause-made : goal.returns-in-Err-lay_out-clause-made
+returns-in-Err-lay_out-clause-made g c = tt
+
+pub returns-in-Err-lay_out-clause-first : goal.returns-in-Err-lay_out-clause-first
+returns-in-Err-lay_out-clause-first g c = λ honest.
+    let made = c.in-Ok.ensures.made in
+    subst (λ (s : StoreFacts). IsUncreated c.args.schema.now s) (sym c.into_store.ensures) (c.in-Err-lay_out.ensures.first (ap (λ (p : PagerView). p.store.honest) made ∙ honest))
+
+pub returns-in-Err-lay_out-clause-refused : goal.returns-in-Err-lay_out-clause-refused
+returns-in-Err-lay_out-clause-refused g c = subst (λ (p : PagerView). IsCreateFault p.store c.in-Err-lay_out.fault) c.in-Ok.ensures.made c.in-Err-lay_out.ensures.refused

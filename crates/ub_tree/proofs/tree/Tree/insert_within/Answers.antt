@@ -3,13 +3,13 @@ use Rattle.std.specs.List.{list_any}
 use Rattle.ub_index.specs.Way.{HoldsKey}
 use Rattle.ub_region.specs.Regions.{index_holding}
 use Rattle.ub_region.specs.Rows.{has_key}
-use Rattle.ub_store.specs.Facts.{IsHonest}
+use Rattle.ub_store.specs.Facts.{IsHonest, page_count}
 use Rattle.ub_table.specs.Keys.{is_same}
 use Rattle.ub_table.specs.Region.{Region, IsRow, key_of, keys_of, measures_of}
 use Rattle.ub_table.specs.declared.fault.PageFault.TheVariants.{BadOrder}
 use Rattle.ub_table.specs.declared.row.Key.{Key}
-use Rattle.ub_tree.proofs.EffectFacts.{counted_anew, left_by, searched_by, then_changed, unchanged}
-use Rattle.ub_tree.proofs.GrowFacts.{added_answers, grown, grows_by, key_there, seat_answers_err, seat_answers_ok}
+use Rattle.ub_tree.proofs.EffectFacts.{counted_anew, left_by, refused_all, refused_none, searched_by, then_changed, unchanged}
+use Rattle.ub_tree.proofs.GrowFacts.{added_answers, grown, grows_by, key_there, passing_answers_key, seat_answers_err, seat_answers_ok}
 use Rattle.ub_tree.proofs.HoldingFacts.{key_is_there, next_key, unread_key}
 use Rattle.ub_tree.proofs.NewFacts.{numbered_row}
 use Rattle.ub_tree.proofs.RemovalFacts.{IsHolder, holder}
@@ -18,11 +18,11 @@ use Rattle.ub_tree.specs.Effects.{Changes}
 use Rattle.ub_tree.specs.Holding.{AnswersKey}
 use Rattle.ub_tree.specs.Placed.{entry_of}
 use Rattle.ub_tree.specs.Spans.{first_keys}
-use Rattle.ub_tree.specs.Told.{FallsTo}
+use Rattle.ub_tree.specs.Told.{FallsSurely, FallsTo}
 use Rattle.ub_tree.specs.Tree.{tree_view}
 use Rattle.ub_tree.specs.View.{TreeView}
 use Rattle.ub_tree.specs.declared.fault.TreeFault.TheVariants.{Page}
-use Rattle.ub_tree.specs.inner.Change.{IsOnSeat, IsSeatIn, IsStored}
+use Rattle.ub_tree.specs.inner.Change.{IsOnSeat, IsReadAt, IsSeatIn, IsSeatOf, IsStored}
 use Rattle.ub_writing.specs.Marks.{is_written}
 use Rattle.ub_zaddr.specs.Address.{last_address}
 use Rattle.ub_tree.proofs.tree.Tree.insert_within.Goals as goal
@@ -229,3 +229,72 @@ returns-clause-effect g c =
     let d : TreeView = tree_view u.schema u.index u.count (u.next + 1) (u.rows + 1) (is_written u.mark) u.is_failed u.pager in
     counted_anew {T = Unit {0}} {U = ℕ} tt _ c.args.self.now after d (after.rows + 1) (after.next + 1) (ap (λ (v : TreeView). record v { next = v.next + 1; rows = v.rows + 1 }) c.self-2.view_is)
     (then_changed {T = Unit {0}} _ c.args.self.now c.read_at.new.self after (c.in_ok-read_at.ensures.effect.same ∙ c.in_ok-seat.ensures.effect.same) c.in_ok-store_with.ensures.effect)
+
+pub read_at-requires : goal.read_at-requires
+read_at-requires g c = subst (λ (v : TreeView). IsSeatOf v c.in_ok-seat.seat) (sym c.in_ok-seat.ensures.effect.same) (c.key-key.result, c.in_ok-seat.ensures.falls)
+
+pub returns-in_err-seat-clause-refused : goal.returns-in_err-seat-clause-refused
+returns-in_err-seat-clause-refused g c = λ honest number region into.
+    let a = c.args.self.now in
+    let row = c.args.row.now in
+    let is = next_key _ a c.shape.result row c.key-key.result c.self.view_is c.shape.ensures c.key-key.ensures in
+    let falls = subst (λ (k : Key). FallsSurely a k into.seat) (sym is) into.falls in
+    passing_answers_key a (key_of a.schema.dims row) c.from_residual.result c.in_err-seat.field-0.0 c.from_residual.ensures.1 (c.in_err-seat.ensures.led into.seat honest falls) number region into
+
+pub store_with-requires-clause-seat : goal.store_with-requires-clause-seat
+store_with-requires-clause-seat g c =
+    let seat = c.in_ok-seat.seat in
+    let same = c.in_ok-read_at.ensures.effect.same ∙ c.in_ok-seat.ensures.effect.same in (
+      subst (λ (v : TreeView). IsSeatOf v seat) (sym same) (c.key-key.result, c.in_ok-seat.ensures.falls),
+      subst (λ (v : TreeView). seat.page < page_count v.store) (sym c.in_ok-read_at.ensures.effect.same) c.in_ok-read_at.ensures.there,
+    )
+
+pub store_with-requires-clause-key : goal.store_with-requires-clause-key
+store_with-requires-clause-key g c =
+    let a = c.args.self.now in
+    let row = c.args.row.now in
+    let is = next_key _ a c.shape.result row c.key-key.result c.self.view_is c.shape.ensures c.key-key.ensures in
+    is ∙ ap (λ (v : TreeView). key_of v.schema.dims row) (sym (c.in_ok-read_at.ensures.effect.same ∙ c.in_ok-seat.ensures.effect.same))
+
+pub store_with-requires-clause-read : goal.store_with-requires-clause-read
+store_with-requires-clause-read g c =
+    subst (λ (v : TreeView). IsReadAt v c.in_ok-seat.seat c.read_at.new.region) (sym c.in_ok-read_at.ensures.effect.same) c.in_ok-read_at.ensures.read
+
+pub returns-then-has_key-clause-inserted : goal.returns-then-has_key-clause-inserted
+returns-then-has_key-clause-inserted g c = λ sound. tt
+
+pub returns-then-has_key-clause-number : goal.returns-then-has_key-clause-number
+returns-then-has_key-clause-number g c = tt
+
+pub returns-then-has_key-clause-counted : goal.returns-then-has_key-clause-counted
+returns-then-has_key-clause-counted g c = tt
+
+pub returns-clause-number : goal.returns-clause-number
+returns-clause-number g c = c.requires.row.1
+
+pub returns-in_err-seat-clause-inserted : goal.returns-in_err-seat-clause-inserted
+returns-in_err-seat-clause-inserted g c = λ sound. refused_none _ c.from_residual.result c.in_err-seat.field-0.0 c.from_residual.ensures.1
+
+pub returns-in_err-seat-clause-number : goal.returns-in_err-seat-clause-number
+returns-in_err-seat-clause-number g c = refused_all _ c.from_residual.result c.in_err-seat.field-0.0 c.from_residual.ensures.1
+
+pub returns-in_err-seat-clause-counted : goal.returns-in_err-seat-clause-counted
+returns-in_err-seat-clause-counted g c = refused_none _ c.from_residual.result c.in_err-seat.field-0.0 c.from_residual.ensures.1
+
+pub returns-in_err-read_at-clause-inserted : goal.returns-in_err-read_at-clause-inserted
+returns-in_err-read_at-clause-inserted g c = λ sound. refused_none _ c.from_residual-in_err-read_at.result c.in_err-read_at.field-0.0 c.from_residual-in_err-read_at.ensures.1
+
+pub returns-in_err-read_at-clause-number : goal.returns-in_err-read_at-clause-number
+returns-in_err-read_at-clause-number g c = refused_all _ c.from_residual-in_err-read_at.result c.in_err-read_at.field-0.0 c.from_residual-in_err-read_at.ensures.1
+
+pub returns-in_err-read_at-clause-counted : goal.returns-in_err-read_at-clause-counted
+returns-in_err-read_at-clause-counted g c = refused_none _ c.from_residual-in_err-read_at.result c.in_err-read_at.field-0.0 c.from_residual-in_err-read_at.ensures.1
+
+pub returns-in_err-store_with-clause-inserted : goal.returns-in_err-store_with-clause-inserted
+returns-in_err-store_with-clause-inserted g c = λ sound. refused_none _ c.from_residual-in_err-store_with.result c.in_err-store_with.field-0.0 c.from_residual-in_err-store_with.ensures.1
+
+pub returns-in_err-store_with-clause-number : goal.returns-in_err-store_with-clause-number
+returns-in_err-store_with-clause-number g c = refused_all _ c.from_residual-in_err-store_with.result c.in_err-store_with.field-0.0 c.from_residual-in_err-store_with.ensures.1
+
+pub returns-in_err-store_with-clause-counted : goal.returns-in_err-store_with-clause-counted
+returns-in_err-store_with-clause-counted g c = refused_none _ c.from_residual-in_err-store_with.result c.in_err-store_with.field-0.0 c.from_residual-in_err-store_with.ensures.1

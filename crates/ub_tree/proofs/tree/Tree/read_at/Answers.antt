@@ -1,13 +1,14 @@
-use Rattle.std.proofs.Common.{◌≡◌, ◌<◌, Bool, Some, subst, sym, arith, slice_get}
+use Rattle.std.proofs.Common.{◌≡◌, ◌<◌, ℕ, Bool, List, Ok, Some, ap, subst, sym, arith, slice_get}
 use Rattle.std.proofs.lemmas.Option.{slice_get_within}
-use Rattle.ub_page.specs.Region.{region_page}
-use Rattle.ub_store.specs.Facts.{page_count}
-use Rattle.ub_tree.proofs.ReadingFacts.{missing_there, page_refused_by, page_still, read_page_by, read_there, refused_there, searched_tree, sound_seat, store_refused}
+use Rattle.ub_page.specs.Region.{RegionView, region_page}
+use Rattle.ub_store.specs.Facts.{IsHonest, IsPage, page_count}
+use Rattle.ub_tree.proofs.EffectFacts.{refused_none}
+use Rattle.ub_tree.proofs.ReadingFacts.{missing_there, page_refused_by, page_still, passing_there, read_page_by, read_there, refused_there, searched_tree, sound_seat, store_refused}
 use Rattle.ub_tree.proofs.SeatFacts.{seat_rows}
 use Rattle.ub_tree.specs.Effects.{IsRegionRefused}
 use Rattle.ub_tree.specs.Tree.{tree_view}
 use Rattle.ub_tree.specs.View.{TreeView}
-use Rattle.ub_tree.specs.inner.Change.{IsSeatOf}
+use Rattle.ub_tree.specs.inner.Change.{IsOnSeat, IsReadAt, IsSeatOf}
 use Rattle.ub_writing.specs.Marks.{is_written}
 use Rattle.ub_tree.proofs.tree.Tree.read_at.Goals as goal
 
@@ -59,3 +60,79 @@ returns-clause-rows g c =
     let t = c.self.inside in
     rw (← c.self.view_is) (λ i p honest at there.
     seat_rows t.schema t.index t.count t.next t.rows (is_written t.mark) t.is_failed t.pager i c.args.seat.now c.cached.result.now c.take_region.new.region.region p honest at there ((page_still _ _ _ _ _ c.in_ok-bring.ensures.effect c.cached.ensures.page) honest) c.in_ok-take_region.ensures.on)
+
+pub returns-in_err-bring-clause-read : goal.returns-in_err-bring-clause-read
+returns-in_err-bring-clause-read g c = refused_none _ c.from_residual.result _ c.from_residual.ensures.1
+
+pub returns-in_err-bring-clause-there : goal.returns-in_err-bring-clause-there
+returns-in_err-bring-clause-there g c = refused_none _ c.from_residual.result _ c.from_residual.ensures.1
+
+pub returns-in_err-bring-clause-rows : goal.returns-in_err-bring-clause-rows
+returns-in_err-bring-clause-rows g c = λ i p honest at there. refused_none _ c.from_residual.result _ c.from_residual.ensures.1
+
+pub returns-in_err-take_region-clause-read : goal.returns-in_err-take_region-clause-read
+returns-in_err-take_region-clause-read g c = refused_none _ c.from_residual-in_err-take_region.result c.in_err-take_region.field-0.0 c.from_residual-in_err-take_region.ensures.1
+
+pub returns-in_err-take_region-clause-there : goal.returns-in_err-take_region-clause-there
+returns-in_err-take_region-clause-there g c = refused_none _ c.from_residual-in_err-take_region.result c.in_err-take_region.field-0.0 c.from_residual-in_err-take_region.ensures.1
+
+pub returns-in_err-take_region-clause-rows : goal.returns-in_err-take_region-clause-rows
+returns-in_err-take_region-clause-rows g c = λ i p honest at there. refused_none _ c.from_residual-in_err-take_region.result c.in_err-take_region.field-0.0 c.from_residual-in_err-take_region.ensures.1
+
+pub returns-in_err-bring-clause-taken : goal.returns-in_err-bring-clause-taken
+returns-in_err-bring-clause-taken g c = λ honest r on.
+    let a = c.args.self.now in
+    passing_there Bool _ c.from_residual.result c.in_err-bring.field-0.0 c.from_residual.ensures.1
+    (λ no_page.
+    let there : c.args.seat.now.page < page_count a.store = slice_get_within a.store.pages c.args.seat.now.page (region_page a.schema r) (on.page honest) in
+    let past = c.in_err-bring.ensures.missing no_page in
+    let same = ap (λ (v : TreeView). page_count v.store) c.self.view_is in
+    omega arith)
+    c.in_err-bring.ensures.no_size
+
+pub returns-in_err-take_region-clause-taken : goal.returns-in_err-take_region-clause-taken
+returns-in_err-take_region-clause-taken g c = λ honest r on.
+    let t = c.self.inside in
+    let honest_t = subst (λ (v : TreeView). IsHonest v.store) (sym c.self.view_is) honest in
+    let on_t = subst (λ (v : TreeView). IsOnSeat v c.args.seat.now r) (sym c.self.view_is) on in
+    let at : slice_get t.pager.store.pages c.args.seat.now.page ≡ Some c.cached.result.now = (page_still _ _ _ _ _ c.in_ok-bring.ensures.effect c.cached.ensures.page) honest_t in
+    let spelled : slice_get t.pager.store.pages c.args.seat.now.page ≡ Some (region_page t.schema r) = on_t.page honest_t in
+    let page : c.cached.result.now ≡ region_page t.schema r = cc in
+    let good = c.take_region.ensures.exact r on_t.is page on_t.held in
+    let bad = rw c.in_err-take_region.was at good.0 in
+    cc
+
+pub returns-clause-read : goal.returns-clause-read
+returns-clause-read g c =
+    let t = c.self.inside in
+    let old : TreeView = tree_view t.schema t.index t.count t.next t.rows (is_written t.mark) t.is_failed t.pager in
+    let read : IsReadAt old c.args.seat.now c.take_region.new.region = record {
+      dims = c.in_ok-take_region.ensures.dims;
+      on = record {
+        is = c.in_ok-take_region.ensures.found.0;
+        held = c.in_ok-take_region.ensures.held;
+        page = subst (λ (page : List ℕ). IsPage t.pager.store c.args.seat.now.page page) c.in_ok-take_region.ensures.found.1 (page_still _ _ _ _ _ c.in_ok-bring.ensures.effect c.cached.ensures.page);
+      };
+    } in
+    subst (λ (v : TreeView). IsReadAt v c.args.seat.now c.take_region.new.region) c.self.view_is read
+
+pub returns-clause-there : goal.returns-clause-there
+returns-clause-there g c = subst (λ (v : TreeView). c.args.seat.now.page < page_count v.store) c.self.view_is c.in_ok-bring.ensures.there
+
+pub returns-clause-taken : goal.returns-clause-taken
+returns-clause-taken g c = λ honest r on.
+    let t = c.self.inside in
+    let honest_t = subst (λ (v : TreeView). IsHonest v.store) (sym c.self.view_is) honest in
+    let on_t = subst (λ (v : TreeView). IsOnSeat v c.args.seat.now r) (sym c.self.view_is) on in
+    let at : slice_get t.pager.store.pages c.args.seat.now.page ≡ Some c.cached.result.now = (page_still _ _ _ _ _ c.in_ok-bring.ensures.effect c.cached.ensures.page) honest_t in
+    let spelled : slice_get t.pager.store.pages c.args.seat.now.page ≡ Some (region_page t.schema r) = on_t.page honest_t in
+    let page : c.cached.result.now ≡ region_page t.schema r = cc in
+    ap (λ (v : RegionView). v.region) (c.take_region.ensures.exact r on_t.is page on_t.held).1
+
+pub returns-clause-effect : goal.returns-clause-effect
+returns-clause-effect g c =
+    let t = c.self.inside in
+    rw (← c.self.view_is) (record {
+      same = searched_tree {T = Unit {0}} (Ok tt) t.schema t.index t.count t.next t.rows (is_written t.mark) t.is_failed t.pager c.bring.new.self c.in_ok-bring.ensures.effect.same c.in_ok-bring.ensures.trace;
+      faults = tt;
+    })
