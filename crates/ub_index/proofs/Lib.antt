@@ -3,6 +3,8 @@ pub mod FitFacts
 pub mod HeldFacts
 pub mod WayFacts
 pub mod SearchFacts
+pub mod StepFacts
+pub mod LaterFacts
 pub mod PlaceFacts
 pub mod WaysFacts
 pub mod FoundFacts

@@ -1,13 +1,13 @@
 -- What becomes of a store's pages where it grows, and where sheets are put.
-use Rattle.std.proofs.Common.{Result, Ok, Err, ◌⊎◌, ◌≡◌, ◌≢◌, ◌<◌, ◌+◌, inl, inr, ℕ, zero, suc, List, [], ◌∷◌, ◌++◌, Some, length, take, ◌∙◌, sym, ap, subst, refl, arith, slice_get, slice_set}
+use Rattle.std.proofs.Common.{Result, Ok, Err, ◌⊎◌, ◌≡◌, ◌≢◌, ◌≤◌, ◌<◌, ◌+◌, inl, inr, ℕ, zero, suc, List, [], ◌∷◌, ◌++◌, Some, length, take, ◌∙◌, sym, ap, subst, refl, arith, slice_get, slice_set}
 use Rattle.std.specs.Prelude.{IsTrue}
-use Rattle.std.specs.Result.{IsErrAnd}
+use Rattle.std.specs.Result.{IsErrAnd, IsErrOf}
 use Rattle.ub_directory.specs.Writing.{Grows, put_store}
 use Rattle.ub_store.specs.Facts.{StoreFacts, IsHonest, MayFlush, WritesAt, Appends, page_count}
 use Rattle.ub_store.specs.declared.fault.StoreFault.{StoreFault}
 use Rattle.ub_store.specs.declared.fault.StoreFault.TheVariants as store
 use Rattle.ub_index.specs.Changing.{AreOnce, IsUnspelled, Stand}
-use Rattle.ub_index.specs.Making.{IsGrowFault, PutsSheets, SameButSheets}
+use Rattle.ub_index.specs.Making.{IsGrowFault, IsPutFault, PutsSheets, SameButSheets}
 use Rattle.ub_index.specs.declared.sheet.Sheet.{Sheet}
 
 pub then_done : (a b d : StoreFacts) → b ≡ record a { pages = b.pages; synced = b.synced } → d ≡ record b { pages = d.pages; synced = d.synced } → d ≡ record a { pages = d.pages; synced = d.synced }
@@ -119,3 +119,14 @@ stands_more sheets i sheet a b d honesty at there w once honest stand =
     let pages = w.written (honesty ∙ honest) in
     subst (λ (n : ℕ). Stand d.pages (take n sheets)) one
     (stand_next sheets i sheet b.pages d.pages once at (w.others (honesty ∙ honest)) (ap (λ (ps : List (List ℕ)). slice_get ps sheet.number) pages ∙ put_get b.pages sheet.number sheet.page there) stand)
+
+-- why one of the sheets isn't put after others
+pub put_fault : (T : Type 0) (sheets : List Sheet) (i : ℕ) (sheet : Sheet) (a b : StoreFacts) (fault : StoreFault) → slice_get sheets i ≡ Some sheet → b ≡ record a { pages = b.pages; synced = b.synced }
+    → page_count b ≡ page_count a → (fault ≡ store.Device) ⊎ (fault ≡ store.NoPage) → (IsErrOf {T = T} (Err fault) store.Device → IsTrue b.can_fail)
+    → (IsErrOf {T = T} (Err fault) store.NoPage → page_count b ≤ sheet.number) → IsPutFault sheets a fault
+put_fault T sheets i sheet a b store.Device at same count or device missing = sym (ap (λ (s : StoreFacts). s.can_fail) same) ∙ device refl
+put_fault T sheets i sheet a b store.NoPage at same count or device missing = (i, sheet, at, subst (λ (n : ℕ). n ≤ sheet.number) count (missing refl))
+put_fault T sheets i sheet a b store.Memory at same count (inl e) device missing = cc
+put_fault T sheets i sheet a b store.Memory at same count (inr e) device missing = cc
+put_fault T sheets i sheet a b store.BadSize at same count (inl e) device missing = cc
+put_fault T sheets i sheet a b store.BadSize at same count (inr e) device missing = cc

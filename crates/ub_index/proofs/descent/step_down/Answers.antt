@@ -1,7 +1,10 @@
-use Rattle.std.proofs.Common.{Ok, ap, refl, rules}
+use Rattle.std.proofs.Common.{Ok, ap, refl}
 use Rattle.ub_index.proofs.BehindFacts.{below_holds}
 use Rattle.ub_index.proofs.FitFacts.{falls_there, same_page}
 use Rattle.ub_index.proofs.HeldFacts.{checked_so, refused_either, step_kept, taken_so}
+use Rattle.ub_index.specs.Descending.{IsForgotten}
+use Rattle.ub_index.specs.declared.fault.IndexFault.TheVariants.{Store}
+use Rattle.ub_index.proofs.StepFacts.{bring_refused, forgets, if_err, none_ok, stepped}
 use Rattle.ub_index.proofs.descent.step_down.Goals as goal
 
 pub returns-in-Ok-clause-holds : goal.returns-in-Ok-clause-holds
@@ -30,7 +33,7 @@ returns-in-Ok-clause-checked g c = λ honest.
 
 pub returns-in-Err-clause-effect : goal.returns-in-Err-clause-effect
 returns-in-Err-clause-effect g c = record {
-  same = search rules;
+  same = forgets c.args.pager.now c.bring.new.self c.forget.new.self c.in_ok-is_read.ensures.effect.same c.in_ok-is_read.ensures.trace c.forget.ensures.same;
   faults = (
     refl,
     λ honest.
@@ -40,3 +43,27 @@ returns-in-Err-clause-effect g c = record {
         (λ e. c.in_ok-is_read.ensures.hit.1 (ap (λ b. Ok b) e)) c.in-Err.ensures.refused,
   );
 }
+
+pub returns-in_err-is_read-clause-holds : goal.returns-in_err-is_read-clause-holds
+returns-in_err-is_read-clause-holds g c = none_ok _ c.from_residual.result _ c.from_residual.ensures.1
+
+pub returns-in_err-is_read-clause-below : goal.returns-in_err-is_read-clause-below
+returns-in_err-is_read-clause-below g c = λ honest. none_ok _ c.from_residual.result _ c.from_residual.ensures.1
+
+pub returns-in_err-is_read-clause-checked : goal.returns-in_err-is_read-clause-checked
+returns-in_err-is_read-clause-checked g c = λ honest. none_ok _ c.from_residual.result _ c.from_residual.ensures.1
+
+pub returns-in_err-is_read-clause-forgotten : goal.returns-in_err-is_read-clause-forgotten
+returns-in_err-is_read-clause-forgotten g c = if_err (IsForgotten c.bring.new.self) c.from_residual.result (Store c.in_err-is_read.field-0.0) c.from_residual.ensures.1 tt
+
+pub returns-in_err-is_read-clause-effect : goal.returns-in_err-is_read-clause-effect
+returns-in_err-is_read-clause-effect g c =
+    bring_refused c.args.last c.args.pager.now.cached c.args.level c.args.place.now.entry c.args.place.now.next c.args.pager.now c.bring.new.self c.from_residual.result c.in_err-is_read.field-0.0 c.from_residual.ensures.1
+    c.in_err-is_read.ensures.effect c.in_err-is_read.ensures.trace c.in_err-is_read.ensures.missing c.in_err-is_read.ensures.no_size
+
+pub returns-in-Ok-clause-effect : goal.returns-in-Ok-clause-effect
+returns-in-Ok-clause-effect g c =
+    stepped c.args.last c.args.pager.now.cached c.args.level c.args.place.now.entry c.args.place.now.next c.args.pager.now c.bring.new.self c.in-Ok.below c.in_ok-is_read.ensures.effect.same c.in_ok-is_read.ensures.trace
+
+pub returns-in-Err-clause-forgotten : goal.returns-in-Err-clause-forgotten
+returns-in-Err-clause-forgotten g c = c.forget.ensures.gone

@@ -1,12 +1,15 @@
-use Rattle.std.proofs.Common.{◌≡◌, ap, arith, refl, subst, sym}
+use Rattle.std.proofs.Common.{◌≡◌, ◌∙◌, ap, arith, refl, subst, sym}
 use Rattle.ub_store.specs.View.{PagerView}
 use Rattle.ub_table.specs.declared.row.Key.{Key}
 use Rattle.ub_index.specs.Searching.{Gives}
 use Rattle.ub_index.specs.View.{index_view}
+use Rattle.ub_index.specs.Descending.{IsForgotten}
+use Rattle.ub_index.specs.declared.descent.Leaf.{Leaf}
 use Rattle.ub_index.specs.declared.descent.Place.{Place}
 use Rattle.ub_index.specs.declared.seat.Seat.{Seat}
 use Rattle.ub_index.proofs.BehindFacts.{step_given}
-use Rattle.ub_index.proofs.SearchFacts.{step_refused}
+use Rattle.ub_index.proofs.SearchFacts.{answered, step_refused}
+use Rattle.ub_index.proofs.StepFacts.{if_err, none_ok, refused_as}
 use Rattle.ub_index.proofs.index.descend.Goals as goal
 
 pub returns-in_err-place-clause-effect : goal.returns-in_err-place-clause-effect
@@ -22,3 +25,27 @@ returns-clause-given g c =
     (step_given (index_view c.args.root c.args.levels c.args.last) c.args.pager.now c.leaf_of.new.pager (ap (λ (p : PagerView). p.store) c.in_ok-leaf.ensures.effect.same)
     c.in_ok-leaf.ensures.checked c.args.key.now c.in_ok-leaf.leaf c.in_ok-place.place c.in_ok-leaf.ensures.holds c.in_ok-leaf.ensures.leads c.in_ok-place.ensures.holds
     c.in_ok-place.ensures.below)
+
+pub returns-in_err-leaf-clause-given : goal.returns-in_err-leaf-clause-given
+returns-in_err-leaf-clause-given g c = none_ok _ c.from_residual.result _ c.from_residual.ensures.1
+
+pub returns-in_err-leaf-clause-forgotten : goal.returns-in_err-leaf-clause-forgotten
+returns-in_err-leaf-clause-forgotten g c = if_err (IsForgotten c.leaf_of.new.pager) c.from_residual.result c.in_err-leaf.field-0.0 c.from_residual.ensures.1 c.in_err-leaf.ensures.forgotten
+
+pub returns-in_err-leaf-clause-effect : goal.returns-in_err-leaf-clause-effect
+returns-in_err-leaf-clause-effect g c =
+    refused_as Seat Leaf (λ (k : Key). k ≡ c.args.key.now) (index_view c.args.root c.args.levels c.args.last) c.args.pager.now c.leaf_of.new.pager c.from_residual.result c.in_err-leaf.field-0.0
+    c.from_residual.ensures.1 c.in_err-leaf.ensures.effect
+
+pub returns-in_err-place-clause-given : goal.returns-in_err-place-clause-given
+returns-in_err-place-clause-given g c = none_ok _ c.from_residual-in_err-place.result _ c.from_residual-in_err-place.ensures.1
+
+pub returns-in_err-place-clause-forgotten : goal.returns-in_err-place-clause-forgotten
+returns-in_err-place-clause-forgotten g c =
+    if_err (IsForgotten c.step_down.new.pager) c.from_residual-in_err-place.result c.in_err-place.field-0.0 c.from_residual-in_err-place.ensures.1 c.in_err-place.ensures.forgotten
+
+pub returns-clause-effect : goal.returns-clause-effect
+returns-clause-effect g c =
+    answered (λ (k : Key). k ≡ c.args.key.now) (index_view c.args.root c.args.levels c.args.last) c.args.pager.now c.step_down.new.pager c.seat_at.result
+    (ap (λ (p : PagerView). p.store) c.in_ok-place.ensures.effect.same ∙ ap (λ (p : PagerView). p.store) c.in_ok-leaf.ensures.effect.same)
+    (ap (λ (p : PagerView). p.trace) c.in_ok-place.ensures.effect.same ∙ ap (λ (p : PagerView). p.trace) c.in_ok-leaf.ensures.effect.same)

@@ -1,8 +1,10 @@
-use Rattle.std.proofs.Common.{◌≡◌, ◌∙◌, [], Some, ap, slice_get, slice_index_or}
+use Rattle.std.proofs.Common.{◌≡◌, ◌∙◌, [], Some, ap, refl, slice_get, slice_index_or}
 use Rattle.std.proofs.lemmas.Option.{slice_get-get_or}
 use Rattle.ub_index.specs.declared.sheet.Sheet.{Sheet}
+use Rattle.ub_index.specs.Making.{IsPutFault}
 use Rattle.ub_store.specs.Facts.{StoreFacts}
-use Rattle.ub_index.proofs.PutFacts.{puts_more, stands_more, then_done}
+use Rattle.ub_index.proofs.PutFacts.{put_fault, puts_more, puts_none, stands_more, then_done, then_put}
+use Rattle.ub_index.proofs.StepFacts.{if_err, none_ok}
 use Rattle.ub_index.proofs.making.put_all.Goals as goal
 
 pub loop-sheet-preserved : goal.loop-sheet-preserved
@@ -21,3 +23,44 @@ loop-sheet-preserved g c =
           c.in_ok-put.ensures.effect once honest (inv.stand once honest);
       same = then_done c.args.pager.now.store c.loop-sheet.pager.store c.put.new.self.store inv.same c.in_ok-put.ensures.effect.frame;
     }
+
+pub loop-sheet-init : goal.loop-sheet-init
+loop-sheet-init g c = record { trace = refl; kept = puts_none c.args.sheets.now c.args.pager.now.store; stand = λ once honest. tt; same = refl }
+
+pub returns-in_err-put-clause-trace : goal.returns-in_err-put-clause-trace
+returns-in_err-put-clause-trace g c = c.in_err-put.ensures.trace ∙ c.loop-sheet.invariant.trace
+
+pub returns-in_err-put-clause-kept : goal.returns-in_err-put-clause-kept
+returns-in_err-put-clause-kept g c =
+    let inv = c.loop-sheet.invariant in
+    let none : Sheet = record { number = 0; page = [] } in
+    let at : slice_get c.args.sheets.now c.loop-sheet.sheet-index ≡ Some (slice_index_or c.args.sheets.now c.loop-sheet.sheet-index (record { number = 0; page = [] })) =
+    slice_get-get_or c.args.sheets.now c.loop-sheet.sheet-index (record { number = 0; page = [] }) c.loop-sheet-test.true in
+    puts_more c.put.result c.args.sheets.now c.args.pager.now.store c.loop-sheet.pager.store c.put.new.self.store c.loop-sheet.sheet-index
+    (slice_index_or c.args.sheets.now c.loop-sheet.sheet-index none) (ap (λ (s : StoreFacts). s.honest) inv.same) inv.kept at c.put.ensures.effect
+
+pub returns-in_err-put-clause-stand : goal.returns-in_err-put-clause-stand
+returns-in_err-put-clause-stand g c = λ once honest. none_ok _ c.from_residual.result _ c.from_residual.ensures.1
+
+pub returns-in_err-put-clause-same : goal.returns-in_err-put-clause-same
+returns-in_err-put-clause-same g c =
+    then_put c.from_residual.result (Unit {0}) c.in_err-put.field-0.0 c.args.pager.now.store c.loop-sheet.pager.store c.put.new.self.store c.from_residual.ensures.1
+    c.loop-sheet.invariant.same c.in_err-put.ensures.effect.frame
+
+pub returns-in_err-put-clause-refused : goal.returns-in_err-put-clause-refused
+returns-in_err-put-clause-refused g c =
+    let inv = c.loop-sheet.invariant in
+    let at : slice_get c.args.sheets.now c.loop-sheet.sheet-index ≡ Some (slice_index_or c.args.sheets.now c.loop-sheet.sheet-index (record { number = 0; page = [] })) =
+    slice_get-get_or c.args.sheets.now c.loop-sheet.sheet-index (record { number = 0; page = [] }) c.loop-sheet-test.true in
+    if_err (IsPutFault c.args.sheets.now c.args.pager.now.store) c.from_residual.result c.in_err-put.field-0.0 c.from_residual.ensures.1
+    (put_fault (Unit {0}) c.args.sheets.now c.loop-sheet.sheet-index _ c.args.pager.now.store c.loop-sheet.pager.store c.in_err-put.field-0.0 at inv.same inv.kept.count
+    c.in_err-put.ensures.faults c.in_err-put.ensures.effect.device c.in_err-put.ensures.missing)
+
+pub returns-clause-trace : goal.returns-clause-trace
+returns-clause-trace g c = c.loop-sheet.invariant.trace
+
+pub returns-clause-kept : goal.returns-clause-kept
+returns-clause-kept g c = c.loop-sheet.invariant.kept
+
+pub returns-clause-same : goal.returns-clause-same
+returns-clause-same g c = c.loop-sheet.invariant.same

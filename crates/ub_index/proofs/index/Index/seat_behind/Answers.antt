@@ -2,14 +2,16 @@ use Rattle.std.proofs.Common.{◌≡◌, ◌∙◌, ℕ, None, Some, Option, Err
 use Rattle.ub_store.specs.Facts.{StoreFacts, IsHonest}
 use Rattle.ub_store.specs.View.{PagerView}
 use Rattle.ub_table.specs.declared.row.Key.{Key}
-use Rattle.ub_index.specs.Descending.{FindsAfter, KeepsChecked, LooksAt}
+use Rattle.ub_index.specs.Descending.{FindsAfter, IsForgotten, KeepsChecked, LooksAt}
 use Rattle.ub_index.specs.Searching.{Aims, Gives, GoesDown, IsSought}
 use Rattle.ub_index.specs.View.{IndexView, index_view}
 use Rattle.ub_index.specs.declared.descent.Found.{Found}
+use Rattle.ub_index.specs.declared.descent.Leaf.{Leaf}
 use Rattle.ub_index.specs.declared.seat.Seat.{Seat}
 use Rattle.ub_index.proofs.BehindFacts.{beyond_found, beyond_sought, here_found, nothing_found}
-use Rattle.ub_index.proofs.HeldFacts.{keeps_on}
-use Rattle.ub_index.proofs.SearchFacts.{gives_before, search_refused, step_refused}
+use Rattle.ub_index.proofs.HeldFacts.{keeps_on, keeps_self}
+use Rattle.ub_index.proofs.SearchFacts.{answered, gives_before, search_refused, step_refused}
+use Rattle.ub_index.proofs.StepFacts.{if_err, none_ok}
 use Rattle.ub_index.proofs.index.Index.seat_behind.Goals as goal
 
 pub returns-in-Nothing-clause-found : goal.returns-in-Nothing-clause-found
@@ -77,3 +79,53 @@ returns-in_err-seat_of-in-Beyond-clause-effect g c =
     (λ k is. subst (λ (x : Key). IsSought (index_view c.self.inside.root c.self.inside.levels c.self.inside.last) c.args.pager.now (Aims c.args.goal.now) (Some c.args.region.now) x) (sym is) sought)
     (index_view c.self.inside.root c.self.inside.levels c.self.inside.last) c.args.pager.now c.look.new.pager c.seat_of.new.pager (stores_too ∙ stores) (traces_too ∙ traces) kept
     c.from_residual-in_err-seat_of-in-Beyond.result c.in_err-seat_of-in-Beyond.field-0.0 c.from_residual-in_err-seat_of-in-Beyond.ensures.1 effect)
+
+pub returns-in_err-leaf-clause-found : goal.returns-in_err-leaf-clause-found
+returns-in_err-leaf-clause-found g c = none_ok _ c.from_residual.result _ c.from_residual.ensures.1
+
+pub returns-in_err-leaf-clause-forgotten : goal.returns-in_err-leaf-clause-forgotten
+returns-in_err-leaf-clause-forgotten g c = if_err (IsForgotten c.leaf_of.new.pager) c.from_residual.result c.in_err-leaf.field-0.0 c.from_residual.ensures.1 c.in_err-leaf.ensures.forgotten
+
+pub returns-in_err-leaf-clause-effect : goal.returns-in_err-leaf-clause-effect
+returns-in_err-leaf-clause-effect g c =
+    subst (λ (v : IndexView). GoesDown (IsSought v c.args.pager.now (Aims c.args.goal.now) (Some c.args.region.now)) v c.args.pager.now c.leaf_of.new.pager c.from_residual.result) c.self.view_is
+    (search_refused (Option (Key × Seat)) Leaf (λ (k : Key). k ≡ c.args.region.now.first)
+    (IsSought (index_view c.self.inside.root c.self.inside.levels c.self.inside.last) c.args.pager.now (Aims c.args.goal.now) (Some c.args.region.now))
+    (λ k is. inl (c.args.region.now, refl, is)) (index_view c.self.inside.root c.self.inside.levels c.self.inside.last) c.args.pager.now c.args.pager.now c.leaf_of.new.pager refl refl
+    (λ honest. keeps_self c.self.inside.last c.args.pager.now) c.from_residual.result c.in_err-leaf.field-0.0 c.from_residual.ensures.1 c.in_err-leaf.ensures.effect)
+
+pub returns-in_err-look-clause-found : goal.returns-in_err-look-clause-found
+returns-in_err-look-clause-found g c = none_ok _ c.from_residual-in_err-look.result _ c.from_residual-in_err-look.ensures.1
+
+pub returns-in_err-look-clause-forgotten : goal.returns-in_err-look-clause-forgotten
+returns-in_err-look-clause-forgotten g c =
+    if_err (IsForgotten c.look.new.pager) c.from_residual-in_err-look.result c.in_err-look.field-0.0 c.from_residual-in_err-look.ensures.1 c.in_err-look.ensures.forgotten
+
+pub returns-in_err-seat_of-in-Beyond-clause-found : goal.returns-in_err-seat_of-in-Beyond-clause-found
+returns-in_err-seat_of-in-Beyond-clause-found g c = none_ok _ c.from_residual-in_err-seat_of-in-Beyond.result _ c.from_residual-in_err-seat_of-in-Beyond.ensures.1
+
+pub returns-in_err-seat_of-in-Beyond-clause-forgotten : goal.returns-in_err-seat_of-in-Beyond-clause-forgotten
+returns-in_err-seat_of-in-Beyond-clause-forgotten g c =
+    if_err (IsForgotten c.seat_of.new.pager) c.from_residual-in_err-seat_of-in-Beyond.result c.in_err-seat_of-in-Beyond.field-0.0 c.from_residual-in_err-seat_of-in-Beyond.ensures.1
+    c.in_err-seat_of-in-Beyond.ensures.forgotten
+
+pub returns-in-Nothing-clause-effect : goal.returns-in-Nothing-clause-effect
+returns-in-Nothing-clause-effect g c =
+    answered (IsSought c.args.self.now c.args.pager.now (Aims c.args.goal.now) (Some c.args.region.now)) c.args.self.now c.args.pager.now c.look.new.pager None
+    (ap (λ (p : PagerView). p.store) c.in_ok-look.ensures.effect.same ∙ ap (λ (p : PagerView). p.store) c.in_ok-leaf.ensures.effect.same)
+    (ap (λ (p : PagerView). p.trace) c.in_ok-look.ensures.effect.same ∙ ap (λ (p : PagerView). p.trace) c.in_ok-leaf.ensures.effect.same)
+
+pub returns-in-Here-clause-effect : goal.returns-in-Here-clause-effect
+returns-in-Here-clause-effect g c =
+    answered (IsSought c.args.self.now c.args.pager.now (Aims c.args.goal.now) (Some c.args.region.now)) c.args.self.now c.args.pager.now c.look.new.pager (Some (c.in-Here.from, c.seat_at.result))
+    (ap (λ (p : PagerView). p.store) c.in_ok-look.ensures.effect.same ∙ ap (λ (p : PagerView). p.store) c.in_ok-leaf.ensures.effect.same)
+    (ap (λ (p : PagerView). p.trace) c.in_ok-look.ensures.effect.same ∙ ap (λ (p : PagerView). p.trace) c.in_ok-leaf.ensures.effect.same)
+
+pub returns-in_ok-seat_of-in-Beyond-clause-effect : goal.returns-in_ok-seat_of-in-Beyond-clause-effect
+returns-in_ok-seat_of-in-Beyond-clause-effect g c =
+    answered (IsSought c.args.self.now c.args.pager.now (Aims c.args.goal.now) (Some c.args.region.now)) c.args.self.now c.args.pager.now c.seat_of.new.pager
+    (Some (c.in-Beyond.from, c.in_ok-seat_of-in-Beyond.field-0))
+    (ap (λ (p : PagerView). p.store) c.in_ok-seat_of-in-Beyond.ensures.effect.same
+    ∙ (ap (λ (p : PagerView). p.store) c.in_ok-look.ensures.effect.same ∙ ap (λ (p : PagerView). p.store) c.in_ok-leaf.ensures.effect.same))
+    (ap (λ (p : PagerView). p.trace) c.in_ok-seat_of-in-Beyond.ensures.effect.same
+    ∙ (ap (λ (p : PagerView). p.trace) c.in_ok-look.ensures.effect.same ∙ ap (λ (p : PagerView). p.trace) c.in_ok-leaf.ensures.effect.same))

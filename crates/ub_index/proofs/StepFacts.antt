@@ -1,0 +1,132 @@
+-- What a call leaves that brings a page, looks at it, and forgets it where it is refused.
+use Rattle.std.proofs.Common.{◌≡◌, ◌≤◌, ℕ, Bool, List, Option, Some, Result, slice_get, Ok, Err, IfOk, IfErr, IsTrue, length, ◌∙◌, sym, ap, subst, refl, arith}
+use Rattle.std.proofs.lemmas.Option.{slice_get_within}
+use Rattle.std.specs.Result.{IsErrAnd, IsErrOf}
+use Rattle.ub_page.specs.declared.entries.Entry.{Entry}
+use Rattle.ub_store.specs.Cache.{NoneMoreBut}
+use Rattle.ub_store.specs.Facts.{StoreFacts, Reads, counted, page_count}
+use Rattle.ub_store.specs.View.{PagerView, Trace}
+use Rattle.ub_store.specs.declared.fault.StoreFault.{StoreFault}
+use Rattle.ub_store.specs.declared.fault.StoreFault.TheVariants as store
+use Rattle.ub_table.specs.declared.row.Key.{Key}
+use Rattle.ub_index.specs.Changing.{IsNoGrowth}
+use Rattle.ub_index.specs.Descending.{IsStepFault, Steps}
+use Rattle.ub_index.specs.Index.{entries_of, Fits, NamesFitting}
+use Rattle.ub_index.specs.Opening.{IsOpenFault, IsPassing, Opens}
+use Rattle.ub_index.specs.Searching.{GoesDown, store_after}
+use Rattle.ub_index.specs.View.{IndexView}
+use Rattle.ub_index.specs.declared.fault.IndexFault.{IndexFault}
+use Rattle.ub_index.specs.declared.fault.IndexFault.TheVariants.{Full, Page, Store}
+use Rattle.ub_index_page.specs.Index.{node_on}
+use Rattle.ub_index.proofs.FitFacts.{page_is}
+use Rattle.ub_index.proofs.SearchFacts.{err_is, pager_with, same_store}
+
+-- nothing is said of what is answered where a call is refused
+pub none_ok : {T E : Type 0} (P : T → Type 0) (r : Result T E) (e : E) → IsErrAnd r (λ x. x ≡ e) → IfOk r P
+none_ok P (Ok x) e is = absurd is
+none_ok P (Err f) e is = tt
+
+pub if_err : {T E : Type 0} (P : E → Type 0) (r : Result T E) (e : E) → IsErrAnd r (λ x. x ≡ e) → P e → IfErr r P
+if_err P (Ok x) e is h = tt
+if_err P (Err f) e is h = subst P (sym is) h
+
+-- the store counts a page that wasn't brought as a refusal of the index does
+counts_so : (T A : Type 0) (fault : StoreFault) (s : StoreFacts) → record s { failed_reads = counted {A = A} (Err fault) s.failed_reads } ≡ store_after {A = T} (Err (Store fault)) s
+counts_so T A store.Memory s = refl
+counts_so T A store.Device s = refl
+counts_so T A store.NoPage s = refl
+counts_so T A store.BadSize s = refl
+
+pub pager_so : (old new : PagerView) (s : StoreFacts) → new.store ≡ s → new.trace ≡ old.trace → new ≡ record old { store = s; cached = new.cached }
+pager_so old new s stores traces = ap (λ (x : StoreFacts). pager_with x new.trace new.cached) stores ∙ ap (λ (t : Trace). pager_with s t new.cached) traces
+
+-- a page is forgotten that was brought
+pub forgets : (old mid new : PagerView) → mid.store ≡ old.store → mid.trace ≡ old.trace → new ≡ record mid { cached = new.cached } → new ≡ record old { store = old.store; cached = new.cached }
+forgets old mid new stores traces h =
+    h ∙ (ap (λ (s : StoreFacts). pager_with s mid.trace new.cached) stores ∙ ap (λ (t : Trace). pager_with old.store t new.cached) traces)
+
+fault_so : (T : Type 0) (last : ℕ) (old : StoreFacts) (held : List (ℕ × List ℕ)) (level : ℕ) (entry : Entry) (end : Option Key) (fault : StoreFault)
+    → (IsErrOf {T = T} (Err fault) store.Device → IsTrue old.can_fail) → (IsErrOf {T = T} (Err fault) store.NoPage → page_count old ≤ entry.page) → ¬ (IsErrOf {T = T} (Err fault) store.BadSize)
+    → IsStepFault last old held level entry end (Store fault)
+fault_so T last old held level entry end store.Memory device missing size = tt
+fault_so T last old held level entry end store.Device device missing size = device refl
+fault_so T last old held level entry end store.NoPage device missing size = missing refl
+fault_so T last old held level entry end store.BadSize device missing size = size refl
+
+-- a step is refused since its page isn't brought
+pub bring_refused : {T : Type 0} (last : ℕ) (held : List (ℕ × List ℕ)) (level : ℕ) (entry : Entry) (end : Option Key) (old new : PagerView) (r : Result T IndexFault) (fault : StoreFault)
+    → IsErrAnd r (λ x. x ≡ Store fault) → Reads {A = Bool} old.store new.store (Err fault) → new.trace ≡ old.trace
+    → (IsErrOf {T = Bool} (Err fault) store.NoPage → page_count old.store ≤ entry.page) → ¬ (IsErrOf {T = Bool} (Err fault) store.BadSize)
+    → Steps last held level entry end old new r
+bring_refused {T = T} last held level entry end old new r fault is reads traces missing size =
+    subst (λ (x : Result T IndexFault). Steps last held level entry end old new x) (sym (err_is r (Store fault) is)) (record {
+      same = pager_so old new (store_after {A = T} (Err (Store fault)) old.store) (reads.same ∙ counts_so T Bool fault old.store) traces;
+      faults = fault_so Bool last old.store held level entry end fault reads.device missing size;
+    })
+
+-- a step is made, and leaves the store
+pub stepped : {T : Type 0} (last : ℕ) (held : List (ℕ × List ℕ)) (level : ℕ) (entry : Entry) (end : Option Key) (old new : PagerView) (x : T) → new.store ≡ old.store → new.trace ≡ old.trace
+    → Steps last held level entry end old new (Ok x)
+stepped last held level entry end old new x stores traces = record { same = pager_so old new old.store stores traces; faults = tt }
+
+-- memory was refused after it
+pub memory_refused : {T : Type 0} (last : ℕ) (held : List (ℕ × List ℕ)) (level : ℕ) (entry : Entry) (end : Option Key) (old new : PagerView) (r : Result T IndexFault)
+    → IsErrAnd r (λ x. x ≡ Store store.Memory) → new.store ≡ old.store → new.trace ≡ old.trace → Steps last held level entry end old new r
+memory_refused {T = T} last held level entry end old new r is stores traces =
+    subst (λ (x : Result T IndexFault). Steps last held level entry end old new x) (sym (err_is r (Store store.Memory) is)) (record { same = pager_so old new old.store stores traces; faults = tt })
+
+-- the page that stands there and fits is the one that is named
+pub names_fitting : (pages : List (List ℕ)) (last level : ℕ) (entry : Entry) (end : Option Key) (page : List ℕ) → slice_get pages entry.page ≡ Some page → Fits last page level entry end
+    → NamesFitting last pages level entry end
+names_fitting pages last level entry end page at fits =
+    let is = page_is pages entry.page page at in
+    record { there = at ∙ ap (λ (p : List ℕ). Some p) (sym is); fits = subst (λ (p : List ℕ). Fits last p level entry end) (sym is) fits }
+
+-- the entries that it tells are those of its number
+pub entries_there : (pages : List (List ℕ)) (n : ℕ) (page : List ℕ) → slice_get pages n ≡ Some page → (node_on page).entries ≡ entries_of pages n
+entries_there pages n page at = ap (λ (p : List ℕ). (node_on p).entries) (sym (page_is pages n page at))
+
+-- a search is refused as one is that answers another thing
+pub refused_as : (T U : Type 0) (Sought : Key → Type 0) (index : IndexView) (old new : PagerView) (r : Result T IndexFault) (e : IndexFault) → IsErrAnd r (λ x. x ≡ e)
+    → GoesDown {A = U} Sought index old new (Err e) → GoesDown Sought index old new r
+refused_as T U Sought index old new r e is h = subst (λ (x : Result T IndexFault). GoesDown Sought index old new x) (sym (err_is r e is)) (record {
+  same = h.same ∙ ap (λ (s : StoreFacts). pager_with s old.trace new.cached) (same_store T U e old.store);
+  faults = h.faults;
+})
+
+-- the root of an index isn't opened since its page isn't brought, and not for its number, where it stands there
+pub open_unbrought : {T : Type 0} (index : IndexView) (old new : PagerView) (r : Result T IndexFault) (fault : StoreFault) → IsErrAnd r (λ x. x ≡ Store fault)
+    → Reads {A = Bool} old.store new.store (Err fault) → new.trace ≡ old.trace → NoneMoreBut index.root old.cached new.cached
+    → (IsErrOf {T = Bool} (Err fault) store.NoPage → page_count old.store ≤ index.root) → ¬ (IsErrOf {T = Bool} (Err fault) store.BadSize) → Opens index old new r
+open_unbrought {T = T} index old new r fault is reads traces others missing size =
+    subst (λ (x : Result T IndexFault). Opens index old new x) (sym (err_is r (Store fault) is)) (record {
+      same = pager_so old new (store_after {A = T} (Err (Store fault)) old.store) (reads.same ∙ counts_so T Bool fault old.store) traces;
+      cached = others;
+      faults = by_fault fault reads.device missing size;
+    })
+  where
+    by_fault : (f : StoreFault) → (IsErrOf {T = Bool} (Err f) store.Device → IsTrue old.store.can_fail) → (IsErrOf {T = Bool} (Err f) store.NoPage → page_count old.store ≤ index.root)
+        → ¬ (IsErrOf {T = Bool} (Err f) store.BadSize) → IsOpenFault index old.store (Store f)
+    by_fault store.Memory device gone large = tt
+    by_fault store.Device device gone large = device refl
+    by_fault store.NoPage device gone large = gone refl
+    by_fault store.BadSize device gone large = large refl
+
+pub unbrought_passes : {T : Type 0} (pages : List (List ℕ)) (n : ℕ) (page : List ℕ) (r : Result T IndexFault) (fault : StoreFault) → IsErrAnd r (λ x. x ≡ Store fault)
+    → slice_get pages n ≡ Some page → (IsErrOf {T = Bool} (Err fault) store.NoPage → length pages ≤ n) → ¬ (IsErrOf {T = Bool} (Err fault) store.BadSize) → IfErr r IsPassing
+unbrought_passes {T = T} pages n page r fault is at missing size = if_err IsPassing r (Store fault) is (by_fault fault missing size)
+  where
+    by_fault : (f : StoreFault) → (IsErrOf {T = Bool} (Err f) store.NoPage → length pages ≤ n) → ¬ (IsErrOf {T = Bool} (Err f) store.BadSize) → IsPassing (Store f)
+    by_fault store.Memory gone large = tt
+    by_fault store.Device gone large = tt
+    by_fault store.NoPage gone large = let near = slice_get_within pages n page at in let far = gone refl in absurd (omega arith)
+    by_fault store.BadSize gone large = absurd (large refl)
+
+-- a step that is refused is so not for want of pages, nor of levels
+pub step_no_growth : (last : ℕ) (old : StoreFacts) (held : List (ℕ × List ℕ)) (level : ℕ) (entry : Entry) (end : Option Key) (e : IndexFault) → IsStepFault last old held level entry end e → IsNoGrowth e
+step_no_growth last old held level entry end (Page n fault) h = tt
+step_no_growth last old held level entry end (Store store.Memory) h = tt
+step_no_growth last old held level entry end (Store store.Device) h = tt
+step_no_growth last old held level entry end (Store store.NoPage) h = tt
+step_no_growth last old held level entry end (Store store.BadSize) h = h
+step_no_growth last old held level entry end Full h = h
