@@ -2,6 +2,7 @@ pub mod HeldFacts
 pub mod LineFacts
 pub mod QueryFacts
 pub mod KeptFacts
+pub mod EndFacts
 pub mod LoadedFacts
 pub mod RowsFacts
 pub mod FormedFacts

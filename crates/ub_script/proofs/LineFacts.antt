@@ -1,10 +1,10 @@
 -- How the lines of a result grow, a cell and a row at a time.
 use Rattle.std.proofs.Common.{◌≡◌, ◌<◌, ◌+◌, ◌==◌, ℕ, zero, suc, List, [], ◌∷◌, ◌++◌, length, take, map, Some, Bool, true, false, if◌then◌else◌, slice_get, slice_index_or, refl, sym, ap, ◌∙◌, append_assoc, add-one, arith}
 use Rattle.std.proofs.lemmas.Bool.{eqb-true}
-use Rattle.std.proofs.lemmas.List.{flat_map_more}
+use Rattle.std.proofs.lemmas.List.{flat_map_more, take_all}
 use Rattle.std.specs.List.{flat_map, join_with_byte}
 use Rattle.ub_query.specs.declared.cell.Cell.{Cell}
-use Rattle.ub_script.specs.Text.{row_line}
+use Rattle.ub_script.specs.Text.{comma_line, row_line}
 
 -- a piece after others, which a byte parts from them
 join_after : (c : ℕ) (xs : List (List ℕ)) (i : ℕ) (x : List ℕ) → slice_get xs (suc i) ≡ Some x
@@ -39,6 +39,14 @@ line_next before text next xs i piece more first is parted grown e h =
     rw (grown, parted, is, add-one, join_next 44 xs i piece first e h)
     (append_assoc (before ++ join_with_byte 44 (take i xs)) (if first then [] else 44 ∷ []) piece
     ∙ append_assoc before (join_with_byte 44 (take i xs)) ((if first then [] else 44 ∷ []) ++ piece))
+
+-- a line to its end
+pub line_end : (before text more : List ℕ) (xs : List (List ℕ)) (i : ℕ) → i ≡ length xs → text ≡ before ++ join_with_byte 44 (take i xs) → more ≡ text ++ 10 ∷ []
+    → more ≡ before ++ comma_line xs
+line_end before text more xs i all is grown =
+    let whole : take i xs ≡ xs = take_all i xs (omega (arith, all)) in
+    grown ∙ ap (λ (s : List ℕ). s ++ 10 ∷ []) (is ∙ ap (λ (ys : List (List ℕ)). before ++ join_with_byte 44 ys) whole)
+    ∙ append_assoc before (join_with_byte 44 xs) (10 ∷ [])
 
 take_get : {X : Type 0} (xs : List X) (i : ℕ) (x : X) → slice_get xs i ≡ Some x → take (suc i) xs ≡ take i xs ++ x ∷ []
 take_get [] i x h = cc

@@ -6,6 +6,7 @@ use Rattle.ub_parser.specs.Outcome.{Told, Command, asks, IsAccepted}
 use Rattle.ub_parser.specs.Refusals.{IsFirstFault}
 use Rattle.ub_parser.specs.declared.fault.SqlFault.{SqlFault}
 use Rattle.ub_parser.specs.declared.fault.SqlFault.TheVariants.{Memory}
+use Rattle.ub_query.specs.Shape.{Asked}
 use Rattle.ub_script.proofs.KeptFacts.{basis_kept, given_before, rest_of, rest_reading, runs_memory, runs_none, stands_of}
 use Rattle.ub_script.specs.Basis.{Basis, on_stand, over_any, schema_of, AreSomeOf, IsAskedFault, IsAskedReply, IsBasisOf, IsCommandEnd, IsReply, asked_left}
 use Rattle.ub_script.specs.Faults.{Runs, RunsReading}
@@ -75,6 +76,19 @@ pub asked_ended : {A : Type 0} (r : Result A RunFault) (basis : Basis) (t : Told
     → OnErr r (Fetches (AreSomeOf t.is_explained basis t.asked) old.trace.fetches new.trace.fetches) → IfErr r (λ fault. Stops (IsCommandEnd basis (asks t) fault) old new)
 asked_ended (Ok a) basis t old new of h some = tt
 asked_ended {A = A} (Err e) basis t old new of h some = asked_stops A basis t old new e of h some
+
+-- what is said of one query, said of another one that is the same
+module _ {A : Type 0} (r : Result A RunFault) (basis : Basis) (b c : Bool) (p q : Asked) (before after : ℕ) (e : b ≡ c) (k : p ≡ q) where
+  pub same_answer : (text : A → List ℕ) (is_refused : A → Bool) → IfOk r (λ a. Makes (IsAskedReply c basis p) (text a) (is_refused a) before after)
+      → IfOk r (λ a. Makes (IsAskedReply b basis q) (text a) (is_refused a) before after)
+  same_answer text is_refused h =
+      subst (λ (x : Bool). IfOk r (λ a. Makes (IsAskedReply x basis q) (text a) (is_refused a) before after)) (sym e)
+      (subst (λ (x : Asked). IfOk r (λ a. Makes (IsAskedReply c basis x) (text a) (is_refused a) before after)) k h)
+
+  pub same_stop : OnErr r (Fetches (AreSomeOf c basis p) before after) → OnErr r (Fetches (AreSomeOf b basis q) before after)
+  same_stop h =
+      subst (λ (x : Bool). OnErr r (Fetches (AreSomeOf x basis q) before after)) (sym e)
+      (subst (λ (x : Asked). OnErr r (Fetches (AreSomeOf c basis x) before after)) k h)
 
 -- ---- what is said of one command, said of another one that is the same
 

@@ -9,6 +9,7 @@ use Rattle.ub_plan.specs.Explained.{IsExplained}
 use Rattle.ub_planning.specs.Plan.{PlanView, plan_of}
 use Rattle.ub_planning.specs.Visits.{Span, AreVisits}
 use Rattle.ub_query.specs.Meaning.{IsMeaning}
+use Rattle.ub_query.specs.Posed.{IsPosed}
 use Rattle.ub_query.specs.Shape.{Asked}
 use Rattle.ub_query.specs.declared.cell.Cell.{Cell}
 use Rattle.ub_script.specs.Basis.{Basis, on_stand, IsBasisOf}
@@ -79,6 +80,14 @@ ready_of t p q sound planned = record {
   sound = sound;
   planned = planned ∙ ap (λ (asked : Asked). plan_of t.schema asked) (sym (ap (λ (plan : PlanView). plan.asked) planned));
 }
+
+-- what the plan of a query asks for may be posed as the query may, and it is the plan of that
+pub posed_by_plan : (schema : Schema) (p : PlanView) (q : Asked) → p ≡ plan_of schema q → IsPosed (length schema.columns) q → IsPosed (length schema.columns) p.asked
+posed_by_plan schema p q planned posed =
+    subst (λ (asked : Asked). IsPosed (length schema.columns) asked) (sym (ap (λ (plan : PlanView). plan.asked) planned)) posed
+
+pub planned_again : (schema : Schema) (p : PlanView) (q : Asked) → p ≡ plan_of schema q → p ≡ plan_of schema p.asked
+planned_again schema p q planned = planned ∙ ap (λ (asked : Asked). plan_of schema asked) (sym (ap (λ (plan : PlanView). plan.asked) planned))
 
 -- what was run on the tree that a CSV text is loaded into was run on the text's table
 module _ (text : List ℕ) (axes : Axes) (page_rows : ℕ) (name : List ℕ) (t : TreeView) (loaded : IsLoadedTree text axes page_rows name t) (script : List ℕ) where

@@ -4,7 +4,9 @@ use Rattle.ub_planning.specs.Plan.{plan_of}
 use Rattle.ub_query.specs.Shape.{asked}
 use Rattle.ub_script.proofs.ChangeFacts.{delete_replies, delete_stopped, delete_unbegun, delete_untold, if_err, runs_deleted, runs_deletion}
 use Rattle.ub_script.proofs.KeptFacts.{runs_err}
+use Rattle.ub_script.proofs.RowsFacts.{posed_by_plan}
 use Rattle.ub_table.specs.declared.schema.Schema.{Schema}
+use Rattle.ub_script.proofs.EndFacts.{memory_no_write, no_answer, no_write_by, no_write_ok, read_no_write, runs_unbegun, runs_untold}
 use Rattle.ub_script.proofs.changing.delete_rows.Goals as goal
 
 pub returns-in_err-plan-clause-stopped : goal.returns-in_err-plan-clause-stopped
@@ -52,3 +54,39 @@ returns-clause-effect g c =
     let planned : c.in_ok-plan.plan ≡ plan_of old.schema q = c.in_ok-plan.ensures.plan ∙ ap (λ (s : Schema). plan_of s q) c.schema.ensures in
     runs_deleted old c.delete.new.tree c.in_ok-plan.plan q planned given c.in_ok-count.count c.in_ok-count.ensures.deleted c.in_ok-count.ensures.pages c.in_ok-count.ensures.reads
     c.in_ok-count.ensures.effect c.in_ok-count.ensures.untouched _
+
+pub returns-in_err-plan-clause-answer : goal.returns-in_err-plan-clause-answer
+returns-in_err-plan-clause-answer g c basis is = no_answer c.from_residual.result _ _ c.from_residual.ensures.1
+
+pub returns-in_err-plan-clause-no_write : goal.returns-in_err-plan-clause-no_write
+returns-in_err-plan-clause-no_write g c = no_write_by c.from_residual.result _ c.from_residual.ensures.1 memory_no_write
+
+pub returns-in_err-count-clause-answer : goal.returns-in_err-count-clause-answer
+returns-in_err-count-clause-answer g c basis is = no_answer c.from_residual-in_err-count.result _ _ c.from_residual-in_err-count.ensures.1
+
+pub returns-in_err-count-clause-no_write : goal.returns-in_err-count-clause-no_write
+returns-in_err-count-clause-no_write g c = no_write_by c.from_residual-in_err-count.result _ c.from_residual-in_err-count.ensures.1 (read_no_write _)
+
+pub returns-in_err-deleted_text-clause-answer : goal.returns-in_err-deleted_text-clause-answer
+returns-in_err-deleted_text-clause-answer g c basis is = no_answer c.from_residual-in_err-deleted_text.result _ _ c.from_residual-in_err-deleted_text.ensures.1
+
+pub returns-in_err-deleted_text-clause-no_write : goal.returns-in_err-deleted_text-clause-no_write
+returns-in_err-deleted_text-clause-no_write g c = no_write_by c.from_residual-in_err-deleted_text.result _ c.from_residual-in_err-deleted_text.ensures.1 memory_no_write
+
+pub returns-in_err-plan-clause-effect : goal.returns-in_err-plan-clause-effect
+returns-in_err-plan-clause-effect g c = runs_unbegun c.from_residual.result _ c.from_residual.ensures.1
+
+pub returns-in_err-deleted_text-clause-effect : goal.returns-in_err-deleted_text-clause-effect
+returns-in_err-deleted_text-clause-effect g c = runs_untold c.from_residual-in_err-deleted_text.result _ _ _ c.from_residual-in_err-deleted_text.ensures.1 c.in_ok-count.ensures.effect
+
+pub returns-clause-stopped : goal.returns-clause-stopped
+returns-clause-stopped g c basis is = tt
+
+pub returns-clause-no_write : goal.returns-clause-no_write
+returns-clause-no_write g c = no_write_ok _
+
+pub delete-requires : goal.delete-requires
+delete-requires g c =
+    let q = asked c.args.query.now in
+    let planned : c.in_ok-plan.plan ≡ plan_of c.args.tree.now.schema q = c.in_ok-plan.ensures.plan ∙ ap (λ (s : Schema). plan_of s q) c.schema.ensures in
+    posed_by_plan c.args.tree.now.schema _ q planned c.requires.0

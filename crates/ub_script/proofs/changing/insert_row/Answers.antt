@@ -5,6 +5,7 @@ use Rattle.ub_script.proofs.KeptFacts.{runs_err}
 use Rattle.ub_script.specs.Changes.{coordinates_of}
 use Rattle.ub_script.specs.Text.{inserted_text}
 use Rattle.ub_table.specs.declared.schema.Schema.{Schema}
+use Rattle.ub_script.proofs.EndFacts.{memory_no_write, no_answer, no_write_by, no_write_ok, runs_put, runs_unbegun, tree_no_write}
 use Rattle.ub_script.proofs.changing.insert_row.Goals as goal
 
 pub returns-in_err-dims-clause-stopped : goal.returns-in_err-dims-clause-stopped
@@ -45,3 +46,36 @@ returns-clause-answer g c basis is =
     c.in_ok-insert.ensures.effect)
     (put_row old c.insert.new.self c.args.values.now _ _ _ are long c.in_ok-insert.ensures.inserted)
     (c.in_ok-text.ensures ∙ ap inserted_text c.next.ensures)
+
+pub returns-in_err-dims-clause-answer : goal.returns-in_err-dims-clause-answer
+returns-in_err-dims-clause-answer g c basis is = no_answer c.from_residual.result _ _ c.from_residual.ensures.1
+
+pub returns-in_err-dims-clause-no_write : goal.returns-in_err-dims-clause-no_write
+returns-in_err-dims-clause-no_write g c = no_write_by c.from_residual.result _ c.from_residual.ensures.1 memory_no_write
+
+pub returns-in_err-text-clause-answer : goal.returns-in_err-text-clause-answer
+returns-in_err-text-clause-answer g c basis is = no_answer c.from_residual-in_err-text.result _ _ c.from_residual-in_err-text.ensures.1
+
+pub returns-in_err-text-clause-no_write : goal.returns-in_err-text-clause-no_write
+returns-in_err-text-clause-no_write g c = no_write_by c.from_residual-in_err-text.result _ c.from_residual-in_err-text.ensures.1 memory_no_write
+
+pub returns-in_err-insert-clause-answer : goal.returns-in_err-insert-clause-answer
+returns-in_err-insert-clause-answer g c basis is = no_answer c.from_residual-in_err-insert.result _ _ c.from_residual-in_err-insert.ensures.1
+
+pub returns-in_err-insert-clause-no_write : goal.returns-in_err-insert-clause-no_write
+returns-in_err-insert-clause-no_write g c = no_write_by c.from_residual-in_err-insert.result _ c.from_residual-in_err-insert.ensures.1 (tree_no_write _)
+
+pub returns-in_err-dims-clause-effect : goal.returns-in_err-dims-clause-effect
+returns-in_err-dims-clause-effect g c = runs_unbegun c.from_residual.result _ c.from_residual.ensures.1
+
+pub returns-in_err-text-clause-effect : goal.returns-in_err-text-clause-effect
+returns-in_err-text-clause-effect g c = runs_unbegun c.from_residual-in_err-text.result _ c.from_residual-in_err-text.ensures.1
+
+pub returns-clause-stopped : goal.returns-clause-stopped
+returns-clause-stopped g c basis is = tt
+
+pub returns-clause-no_write : goal.returns-clause-no_write
+returns-clause-no_write g c = no_write_ok _
+
+pub returns-clause-effect : goal.returns-clause-effect
+returns-clause-effect g c = runs_put _ _ _ _ _ c.in_ok-insert.ensures.inserted c.in_ok-insert.ensures.effect

@@ -1,4 +1,5 @@
-use Rattle.std.proofs.Common.{arith, rules}
+use Rattle.std.proofs.Common.{arith}
+use Rattle.ub_script.proofs.EndFacts.{no_answer}
 use Rattle.ub_script.proofs.HeldFacts.{Puts-none, Puts-step}
 use Rattle.ub_script.proofs.output.put_all.Goals as goal
 
@@ -12,4 +13,10 @@ loop-at-preserved g c =
     record { within = on.0; put = on.1 }
 
 pub returns-then-n-eq0-clause-whole : goal.returns-then-n-eq0-clause-whole
-returns-then-n-eq0-clause-whole g c = search rules
+returns-then-n-eq0-clause-whole g c = tt
+
+pub returns-in_err-n-clause-whole : goal.returns-in_err-n-clause-whole
+returns-in_err-n-clause-whole g c = no_answer c.from_residual.result _ _ c.from_residual.ensures.1
+
+pub returns-clause-front : goal.returns-clause-front
+returns-clause-front g c = tt

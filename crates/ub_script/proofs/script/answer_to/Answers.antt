@@ -1,4 +1,5 @@
 -- A statement is accepted, and done, or it is refused.
+use Rattle.ub_script.proofs.EndFacts.{refused_no_write}
 use Rattle.ub_script.proofs.QueryFacts.{accepted_answer, accepted_ended, memory_ended, refused_answer, refused_reads, refused_runs}
 use Rattle.ub_script.proofs.RunFacts.{if_err, if_ok}
 use Rattle.ub_script.proofs.script.answer_to.Goals as goal
@@ -32,3 +33,12 @@ returns-in-Err-clause-effect g c = refused_runs c.refusal.result _ c.refusal.ens
 
 pub returns-in-Err-clause-asked : goal.returns-in-Err-clause-asked
 returns-in-Err-clause-asked g c asks = refused_reads c.refusal.result _ c.refusal.ensures.memory
+
+pub returns-in-Ok-clause-no_write : goal.returns-in-Ok-clause-no_write
+returns-in-Ok-clause-no_write g c = c.answer_accepted.ensures.no_write
+
+pub returns-in-Ok-clause-effect : goal.returns-in-Ok-clause-effect
+returns-in-Ok-clause-effect g c = c.answer_accepted.ensures.effect
+
+pub returns-in-Err-clause-no_write : goal.returns-in-Err-clause-no_write
+returns-in-Err-clause-no_write g c = refused_no_write c.refusal.result c.refusal.ensures.memory

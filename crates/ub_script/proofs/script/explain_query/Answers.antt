@@ -2,6 +2,7 @@ use Rattle.std.proofs.Common.{true, ap}
 use Rattle.ub_script.proofs.FormedFacts.{explained_on}
 use Rattle.ub_script.proofs.StartFacts.{on_err, starts_none}
 use Rattle.ub_tree.specs.View.{TreeView}
+use Rattle.ub_script.proofs.EndFacts.{no_answer, no_write_by, no_write_ok, read_no_write, searches_done, searches_refused}
 use Rattle.ub_script.proofs.script.explain_query.Goals as goal
 
 pub returns-clause-answer : goal.returns-clause-answer
@@ -12,3 +13,21 @@ returns-clause-answer g c basis is =
 pub returns-in_err-explain-clause-stopped : goal.returns-in_err-explain-clause-stopped
 returns-in_err-explain-clause-stopped g c basis is =
     on_err c.from_residual.result _ (starts_none true basis _ _ _ (ap (λ (t : TreeView). t.trace.fetches) c.in_err-explain.ensures.effect.same))
+
+pub returns-in_err-explain-clause-answer : goal.returns-in_err-explain-clause-answer
+returns-in_err-explain-clause-answer g c basis is = no_answer c.from_residual.result _ _ c.from_residual.ensures.1
+
+pub returns-in_err-explain-clause-no_write : goal.returns-in_err-explain-clause-no_write
+returns-in_err-explain-clause-no_write g c = no_write_by c.from_residual.result _ c.from_residual.ensures.1 (read_no_write _)
+
+pub returns-in_err-explain-clause-effect : goal.returns-in_err-explain-clause-effect
+returns-in_err-explain-clause-effect g c = searches_refused c.from_residual.result _ _ _ c.from_residual.ensures.1 c.in_err-explain.ensures.effect
+
+pub returns-clause-stopped : goal.returns-clause-stopped
+returns-clause-stopped g c basis is = tt
+
+pub returns-clause-no_write : goal.returns-clause-no_write
+returns-clause-no_write g c = no_write_ok _
+
+pub returns-clause-effect : goal.returns-clause-effect
+returns-clause-effect g c = searches_done _ _ _ _ c.in_ok-explain.ensures.effect

@@ -1,4 +1,5 @@
 use Rattle.std.proofs.Common.{◌≡◌, ◌≤◌, ◌+◌, ◌∙◌, Bool, Ok, Err, cond, length, arith, refl, rules, sym}
+use Rattle.ub_script.proofs.EndFacts.{no_answer, no_write_ok}
 use Rattle.ub_script.proofs.KeptFacts.{reads_by, runs_err, runs_more, runs_none, runs_ok}
 use Rattle.ub_tree.proofs.Laws.{Keeps-none, Keeps-by, Keeps-more}
 use Rattle.ub_script.proofs.RunFacts.{asks_at, come_none, come_more, come_broken, come_stopped, come_whole, other_err, same_failures}
@@ -86,3 +87,18 @@ returns-clause-effect g c = runs_ok _ _ _ _ c.loop-range.invariant.runs
 
 pub returns-clause-asked : goal.returns-clause-asked
 returns-clause-asked g c asks = record { same = (c.loop-range.invariant.asked asks).traced; faults = tt }
+
+pub run_statement-requires-clause-range : goal.run_statement-requires-clause-range
+run_statement-requires-clause-range g c = c.requires.ranges c.loop-range.range-index (0, 0) c.loop-range-test.true
+
+pub returns-in_err-run_statement-clause-done : goal.returns-in_err-run_statement-clause-done
+returns-in_err-run_statement-clause-done g c basis is = no_answer c.from_residual.result _ _ c.from_residual.ensures.1
+
+pub returns-clause-write : goal.returns-clause-write
+returns-clause-write g c basis is same = absurd (no_write_ok _ same)
+
+pub returns-clause-begun : goal.returns-clause-begun
+returns-clause-begun g c basis is = tt
+
+pub returns-clause-failures : goal.returns-clause-failures
+returns-clause-failures g c = c.loop-range.invariant.failures

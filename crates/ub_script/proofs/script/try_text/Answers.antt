@@ -1,7 +1,8 @@
-use Rattle.std.proofs.Common.{ap, refl}
+use Rattle.std.proofs.Common.{ap, inl, refl}
 use Rattle.std.proofs.lemmas.Result.{err_from_is_err_and}
 use Rattle.ub_load.specs.LoadedTable.{axes_with, records_of}
 use Rattle.ub_load.specs.Refusals.{first_refusal}
+use Rattle.ub_script.proofs.EndFacts.{no_answer}
 use Rattle.ub_script.proofs.LoadedFacts.{first_wrong, tree_wrong}
 use Rattle.ub_store.specs.Facts.{StoreFacts}
 use Rattle.ub_script.proofs.KeptFacts.{sound_left}
@@ -42,3 +43,15 @@ pub returns-in_err-tree-clause-of_tree : goal.returns-in_err-tree-clause-of_tree
 returns-in_err-tree-clause-of_tree g c fault is =
     let p = err_from_is_err_and c.from_residual.result c.from_residual.ensures.1 in
     tree_wrong c.from_residual.result p.0 c.in_err-tree.field-0.0 p.1 p.2 (first_refusal (axes_with c.args.dims c.args.signed) c.args.name.now (records_of c.args.text.now)) _ _ (λ fails. cc) (λ broken. broken refl) c.in_err-tree.ensures.refused fault is
+
+pub returns-clause-load : goal.returns-clause-load
+returns-clause-load g c fault is = absurd (rw is at c.run.ensures.effect.left)
+
+pub returns-clause-of_tree : goal.returns-clause-of_tree
+returns-clause-of_tree g c fault is = absurd (rw is at c.run.ensures.effect.left)
+
+pub returns-in_err-tree-clause-done : goal.returns-in_err-tree-clause-done
+returns-in_err-tree-clause-done g c = no_answer c.from_residual.result _ _ c.from_residual.ensures.1
+
+pub returns-in_err-tree-clause-memory : goal.returns-in_err-tree-clause-memory
+returns-in_err-tree-clause-memory g c is = inl refl
