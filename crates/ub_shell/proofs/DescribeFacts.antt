@@ -7,7 +7,7 @@ use Rattle.std.specs.Prelude.{IfErr, IsErrAnd, OnOk}
 use Rattle.ub_files.specs.Files.{FilesFacts, IsLent, OpensFile, PutsBack}
 use Rattle.ub_page.specs.declared.header.Header.{Header}
 use Rattle.ub_script.specs.Output.{OutFacts}
-use Rattle.ub_shell.specs.Described.{DescribesStore, IsDescribeFault, IsUndescribed, IsDescribed, IsDescriptionOf, IsOldFault, IsOldText, IsTextOf, described, described_old, description_text, fact_line, of_old_format}
+use Rattle.ub_shell.specs.Described.{Description, count_lines, levels_word, number_line, DescribesStore, IsDescribeFault, IsUndescribed, IsDescribed, IsDescriptionOf, IsOldFault, IsOldText, IsTextOf, described, described_old, description_text, fact_line, of_old_format}
 use Rattle.ub_shell.specs.Ending.{Tells}
 use Rattle.ub_shell.specs.Status.{tree_fault_status, tree_fault_text}
 use Rattle.ub_shell.specs.declared.status.Status.{Status}
@@ -60,13 +60,26 @@ dimension_put (Ok a) name sign start one two three new first what signed last =
     then_put start ((codes "dimension " ++ name) ++ sign) (codes "\n") three new told last
 dimension_put (Err e) name sign start one two three new first what signed last = tt
 
-pub counts_put : {A E : Type 0} (r : Result A E) (a b c d e f start one two three four five new : List ℕ) → one ≡ start ++ a → two ≡ one ++ b → three ≡ two ++ c → four ≡ three ++ d
-    → five ≡ four ++ e → OnOk r (new ≡ five ++ f) → OnOk r (new ≡ start ++ (a ++ (b ++ (c ++ (d ++ (e ++ f))))))
-counts_put (Ok done) a b c d e f start one two three four five new first second third fourth fifth last =
+counts_put : (a b c d e f start one two three four five new : List ℕ) → one ≡ start ++ a → two ≡ one ++ b → three ≡ two ++ c → four ≡ three ++ d
+    → five ≡ four ++ e → new ≡ five ++ f → new ≡ start ++ (a ++ (b ++ (c ++ (d ++ (e ++ f)))))
+counts_put a b c d e f start one two three four five new first second third fourth fifth last =
     last ∙ ap (λ (s : List ℕ). s ++ f) fifth ∙ append_assoc four e f ∙ ap (λ (s : List ℕ). s ++ (e ++ f)) fourth ∙ append_assoc three d (e ++ f)
     ∙ ap (λ (s : List ℕ). s ++ (d ++ (e ++ f))) third ∙ append_assoc two c (d ++ (e ++ f)) ∙ ap (λ (s : List ℕ). s ++ (c ++ (d ++ (e ++ f)))) second
     ∙ append_assoc one b (c ++ (d ++ (e ++ f))) ∙ ap (λ (s : List ℕ). s ++ (b ++ (c ++ (d ++ (e ++ f))))) first ∙ append_assoc start a (b ++ (c ++ (d ++ (e ++ f))))
-counts_put (Err fault) a b c d e f start one two three four five new first second third fourth fifth last = tt
+
+pub description_put : {A E : Type 0} (r : Result A E) (d : Description) (page_rows version : ℕ) (word start one two three four five new : List ℕ)
+    → page_rows ≡ d.schema.page_rows → word ≡ levels_word d.version → version ≡ d.version
+    → one ≡ start ++ number_line (codes "rows") d.rows → two ≡ one ++ number_line (codes "next") d.next → three ≡ two ++ number_line (codes "regions") d.regions
+    → four ≡ three ++ number_line (codes "page-rows") page_rows → five ≡ four ++ number_line word d.levels → OnOk r (new ≡ five ++ number_line (codes "format") version)
+    → OnOk r (new ≡ start ++ count_lines d)
+description_put (Ok a) d page_rows version word start one two three four five new rows_are levels_are version_is first second third fourth fifth last =
+    counts_put (number_line (codes "rows") d.rows) (number_line (codes "next") d.next) (number_line (codes "regions") d.regions)
+    (number_line (codes "page-rows") d.schema.page_rows) (number_line (levels_word d.version) d.levels) (number_line (codes "format") d.version)
+    start one two three four five new first second third
+    (fourth ∙ ap (λ (n : ℕ). three ++ number_line (codes "page-rows") n) rows_are)
+    (fifth ∙ ap (λ (w : List ℕ). four ++ number_line w d.levels) levels_are)
+    (last ∙ ap (λ (n : ℕ). five ++ number_line (codes "format") n) version_is)
+description_put (Err e) d page_rows version word start one two three four five new rows_are levels_are version_is first second third fourth fifth last = tt
 
 -- the store in the table file was lent and put back
 pub description_of : {A : Type 0} (table : List ℕ) (old lent new : FilesFacts) (out out_now : OutFacts) (status : Status) (a : A) (store : StoreFacts)

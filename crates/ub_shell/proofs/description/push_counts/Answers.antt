@@ -1,4 +1,5 @@
-use Rattle.ub_shell.proofs.DescribeFacts.{counts_put, not_put}
+use Rattle.ub_shell.specs.Described.{description}
+use Rattle.ub_shell.proofs.DescribeFacts.{description_put, not_put}
 use Rattle.ub_shell.proofs.description.push_counts.Goals as goal
 
 pub returns-in_err-push_number : goal.returns-in_err-push_number
@@ -18,7 +19,6 @@ returns-in_err-push_number-5 c = not_put _ c.from_residual-in_err-push_number-5.
 
 pub returns : goal.returns
 returns c =
-    let page_rows = rw c.page_rows.ensures.page_rows at c.in_ok-push_number-4.ensures in
-    let levels = rw c.levels_word.ensures at c.in_ok-push_number-5.ensures in
-    let format = rw c.from.ensures at c.push_number-6.ensures in
-    counts_put c.push_number-6.result _ _ _ _ _ _ c.args.text.now.items _ _ _ _ _ _ c.in_ok-push_number.ensures c.in_ok-push_number-2.ensures c.in_ok-push_number-3.ensures page_rows levels format
+    description_put c.push_number-6.result (description c.args.schema.now c.args.numbers) c.page_rows.result c.from.result c.levels_word.result.now c.args.text.now.items _ _ _ _ _ _
+    c.page_rows.ensures.page_rows c.levels_word.ensures c.from.ensures
+    c.in_ok-push_number.ensures c.in_ok-push_number-2.ensures c.in_ok-push_number-3.ensures c.in_ok-push_number-4.ensures c.in_ok-push_number-5.ensures c.push_number-6.ensures
