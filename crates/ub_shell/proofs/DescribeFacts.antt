@@ -125,6 +125,11 @@ told_well r items text from left bytes out out_now status is told kept same tell
       tells = subst (λ (b : List ℕ). Tells out out_now b Done status) (same ∙ of_text.2) tells;
     }
 
+-- where memory is refused the store is as it was
+pub memory_left : {T : Type 0} (r : Result T TreeFault) (from : StoreFacts) → IsErrAnd r (λ fault. fault ≡ Memory) → from ≡ read_store r from
+memory_left (Ok text) from is = absurd is
+memory_left {T} (Err fault) from is = ap (λ (f : TreeFault). read_store {A = T} (Err f) from) (sym is)
+
 -- a header of an older version isn't read where memory is refused
 pub no_memory : {T : Type 0} (r : Result T TreeFault) (from : StoreFacts) → IsErrAnd r (λ fault. fault ≡ Memory) → IfErr r (IsOldFault from)
 no_memory (Ok text) from is = tt

@@ -185,6 +185,10 @@ pub none_kept : {A E : Type 0} (P : A → Type 0) (r : Result A E) (fault : E) �
 none_kept P (Ok a) fault is = absurd is
 none_kept P (Err e) fault is = tt
 
+pub refused_by : {A E : Type 0} (P : E → Type 0) (r : Result A E) (fault : E) → IsErrAnd r (λ e. e ≡ fault) → P fault → IfErr r P
+refused_by P (Ok a) fault is so = absurd is
+refused_by P (Err e) fault is so = subst P (sym is) so
+
 pub not_loaded : {A : Type 0} (table text name : List ℕ) (axes : Axes) (page_rows : ℕ) (files : FilesFacts) (r : Result A LoadFault) (fault : LoadFault) → IsErrAnd r (λ e. e ≡ fault)
     → IsUnloaded text name axes fault → IfErr r (IsUnkept table text name axes page_rows files files)
 not_loaded table text name axes page_rows files (Ok a) fault is unloaded = absurd is
