@@ -1,11 +1,12 @@
 -- What checking a table file leaves of files, step by step.
-use Rattle.std.proofs.Common.{◌≡◌, ◌∙◌, ℕ, List, Result, Ok, Err, IfOk, inr, ap, subst}
+use Rattle.std.proofs.Common.{◌≡◌, ◌⊎◌, ◌∙◌, ℕ, false, List, Result, Ok, Err, IfOk, inl, inr, ap, subst, sym}
 use Rattle.std.specs.Prelude.{IfErr, OnOk}
 use Rattle.ub_files.specs.Files.{FilesFacts, IsLent, OpensFile, PutsBack}
 use Rattle.ub_script.specs.Output.{OutFacts}
-use Rattle.ub_shell.specs.Checked.{ChecksStore, IsCheckOf, IsChecked, IsIllFault, IsWellStore, PassesSound}
+use Rattle.ub_shell.specs.Checked.{ChecksStore, IsCheckOf, IsChecked, IsIll, IsIllFault, IsWellStore, PassesSound}
 use Rattle.ub_shell.specs.Commands.{IsTreeOf, loaded_line}
 use Rattle.ub_shell.specs.Ending.{Tells}
+use Rattle.ub_shell.specs.Status.{tree_fault_status, tree_fault_text}
 use Rattle.ub_shell.specs.declared.making.Counts.{Counts}
 use Rattle.ub_shell.specs.declared.status.Status.{Status}
 use Rattle.ub_shell.specs.declared.status.Status.TheVariants.{Done}
@@ -47,6 +48,48 @@ module _ (from : StoreFacts) (t : TreeView) (of : IsTreeOf from t) where
   tree_passes (Ok counts) sound = tt
   tree_passes (Err fault) sound = λ schema placed next honest pages. sound (of.sound schema placed next honest pages).0
 
+-- ---- how a check of a tree has ended
+
+-- with the counts where it ended well, and else with its fault
+abbrev pub IsCounted : {A : Type 0} → Result A TreeFault → Counts → Result Counts TreeFault → Type 0
+IsCounted {A} r counts told =
+    ((a : A) × (r ≡ Ok a) × (told ≡ Ok counts)) ⊎ ((fault : TreeFault) × (r ≡ Err fault) × (told ≡ Err fault))
+
+pub counted_well : {A : Type 0} (X : Type 0) (r : Result A TreeFault) (counts : Counts) (told : Result Counts TreeFault) → IsCounted r counts told → OnOk r X → OnOk told X
+counted_well {A} X r counts told (inl (a, of, is)) h =
+    subst (λ (q : Result Counts TreeFault). OnOk q X) (sym is) (subst (λ (q : Result A TreeFault). OnOk q X) of h)
+counted_well {A} X r counts told (inr (fault, of, is)) h = subst (λ (q : Result Counts TreeFault). OnOk q X) (sym is) tt
+
+pub counted_fault : {A : Type 0} (Q : TreeFault → Type 0) (r : Result A TreeFault) (counts : Counts) (told : Result Counts TreeFault) → IsCounted r counts told
+    → IfErr r Q → IfErr told Q
+counted_fault {A} Q r counts told (inl (a, of, is)) h = subst (λ (q : Result Counts TreeFault). IfErr q Q) (sym is) tt
+counted_fault {A} Q r counts told (inr (fault, of, is)) h =
+    subst (λ (q : Result Counts TreeFault). IfErr q Q) (sym is) (subst (λ (q : Result A TreeFault). IfErr q Q) of h)
+
+pub counted_counts : {A : Type 0} (r : Result A TreeFault) (counts : Counts) (told : Result Counts TreeFault) (rows regions : ℕ) → IsCounted r counts told
+    → counts.rows ≡ rows → counts.regions ≡ regions → IfOk told (λ c. (c.rows ≡ rows) × (c.regions ≡ regions))
+counted_counts r counts told rows regions (inl (a, of, is)) h k =
+    subst (λ (q : Result Counts TreeFault). IfOk q (λ c. (c.rows ≡ rows) × (c.regions ≡ regions))) (sym is) (h, k)
+counted_counts r counts told rows regions (inr (fault, of, is)) h k =
+    subst (λ (q : Result Counts TreeFault). IfOk q (λ c. (c.rows ≡ rows) × (c.regions ≡ regions))) (sym is) tt
+
+counted_same : {A : Type 0} (r : Result A TreeFault) (counts : Counts) (told : Result Counts TreeFault) (store : StoreFacts) → IsCounted r counts told
+    → read_store r store ≡ read_store told store
+counted_same {A} r counts told store (inl (a, of, is)) =
+    ap (λ (q : Result A TreeFault). read_store q store) of ∙ ap (λ (q : Result Counts TreeFault). read_store q store) (sym is)
+counted_same {A} r counts told store (inr (fault, of, is)) =
+    ap (λ (q : Result A TreeFault). read_store q store) of ∙ ap (λ (q : Result Counts TreeFault). read_store q store) (sym is)
+
+pub counted_left : {A : Type 0} (r : Result A TreeFault) (counts : Counts) (told : Result Counts TreeFault) (t now : TreeView) (left : StoreFacts) → IsCounted r counts told
+    → now ≡ record t { store = read_store r t.store } → left ≡ now.store → left ≡ read_store told t.store
+counted_left r counts told t now left is same kept = kept ∙ ap (λ (v : TreeView). v.store) same ∙ counted_same r counts told t.store is
+
+-- the tree is as it was opened, but for its store's failed reads
+pub still_open : (t now : TreeView) (store : StoreFacts) → now ≡ record t { store = store } → t.is_changed ≡ false → t.is_failed ≡ false
+    → (now.is_changed ≡ false) × (now.is_failed ≡ false)
+still_open t now store same unchanged working =
+    (ap (λ (v : TreeView). v.is_changed) same ∙ unchanged, ap (λ (v : TreeView). v.is_failed) same ∙ working)
+
 -- ---- what was told
 
 pub told_counts : (r : Result Counts TreeFault) (counts : Counts) (from left : StoreFacts) (bytes : List ℕ) (out out_now : OutFacts) (status : Status) → r ≡ Ok counts
@@ -58,4 +101,15 @@ told_counts r counts from left bytes out out_now status is well kept same tells 
   is = subst (λ (q : Result Counts TreeFault). IfOk q (λ c. IsWellStore from c.rows c.regions)) is well;
   left_is = kept ∙ ap (λ (q : Result Counts TreeFault). read_store q from) is;
   tells = subst (λ (b : List ℕ). Tells out out_now b Done status) same tells;
+}
+
+pub told_ill : (r : Result Counts TreeFault) (fault : TreeFault) (from left : StoreFacts) (out out_now : OutFacts) (status : Status) → r ≡ Err fault
+    → IfErr r (IsIllFault from) → IfErr r (PassesSound from) → left ≡ read_store r from → Tells out out_now (tree_fault_text fault) (tree_fault_status fault) status
+    → IsIll from left out out_now status
+told_ill r fault from left out out_now status is ill passing kept tells = record {
+  fault = fault;
+  is = subst (λ (q : Result Counts TreeFault). IfErr q (IsIllFault from)) is ill;
+  passing = subst (λ (q : Result Counts TreeFault). IfErr q (PassesSound from)) is passing;
+  left_is = kept ∙ ap (λ (q : Result Counts TreeFault). read_store q from) is;
+  tells = tells;
 }

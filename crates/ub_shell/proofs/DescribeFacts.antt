@@ -1,20 +1,22 @@
 -- What describing a table file leaves of files, step by step.
-use Rattle.std.proofs.Common.{◌≡◌, ◌∙◌, ◌+◌, ◌++◌, ℕ, List, [], ◌∷◌, Result, Ok, Err, IfOk, inl, inr, ap, arith, refl, subst, sym}
+use Rattle.std.proofs.Common.{append_assoc, codes, if◌then◌else◌, is_ok, ◌≡◌, ◌∙◌, ◌+◌, ◌++◌, ℕ, List, [], ◌∷◌, Result, Ok, Err, IfOk, inl, inr, ap, arith, refl, subst, sym}
 use Rattle.std.proofs.lemmas.List.{flat_map_more, map-id}
 use Rattle.std.proofs.lemmas.List.FromFn.{map-range_with_len_more}
 use Rattle.std.specs.List.{flat_map, range_with_len}
-use Rattle.std.specs.Prelude.{IfErr, IsErrAnd}
+use Rattle.std.specs.Prelude.{IfErr, IsErrAnd, OnOk}
 use Rattle.ub_files.specs.Files.{FilesFacts, IsLent, OpensFile, PutsBack}
+use Rattle.ub_page.specs.declared.header.Header.{Header}
 use Rattle.ub_script.specs.Output.{OutFacts}
-use Rattle.ub_shell.specs.Described.{DescribesStore, IsDescribed, IsDescriptionOf, IsOldFault, IsOldText, IsTextOf, described, described_old, description_text, of_old_format}
+use Rattle.ub_shell.specs.Described.{Description, count_lines, levels_word, number_line, DescribesStore, IsDescribeFault, IsUndescribed, IsDescribed, IsDescriptionOf, IsOldFault, IsOldText, IsTextOf, described, described_old, description_text, fact_line, of_old_format}
 use Rattle.ub_shell.specs.Ending.{Tells}
+use Rattle.ub_shell.specs.Status.{tree_fault_status, tree_fault_text}
 use Rattle.ub_shell.specs.declared.status.Status.{Status}
 use Rattle.ub_shell.specs.declared.status.Status.TheVariants.{Done}
 use Rattle.ub_shell.proofs.FileFacts.{put_after}
-use Rattle.ub_store.specs.Facts.{StoreFacts}
+use Rattle.ub_store.specs.Facts.{StoreFacts, IsHonest}
 use Rattle.ub_store.specs.declared.fault.StoreFault.TheVariants as store
 use Rattle.ub_tree.specs.Effects.{raised_by, read_store}
-use Rattle.ub_tree.specs.Opened.{IsOpened}
+use Rattle.ub_tree.specs.Opened.{IsOpenFault, IsOpened, IsPassing, IsRooted}
 use Rattle.ub_tree.specs.View.{TreeView}
 use Rattle.ub_tree.specs.declared.fault.TreeFault.{TreeFault}
 use Rattle.ub_tree.specs.declared.fault.TreeFault.TheVariants.{Memory}
@@ -30,6 +32,54 @@ pub column_step : (line : ℕ → List ℕ) (n : ℕ) (start before after : List
 column_step line n start before after is put =
     put ∙ ap (λ (s : List ℕ). s ++ line n) is ∙ flat_map_more line start (range_with_len 0 n) n
     ∙ ap (λ (ns : List ℕ). start ++ flat_map line ns) (sym (range_more n))
+
+-- ---- what was put after a text
+
+-- nothing is said where it was not
+pub not_put : {A E : Type 0} (P : Type 0) (r : Result A E) (fault : E) → IsErrAnd r (λ e. e ≡ fault) → OnOk r P
+not_put P (Ok a) fault is = absurd is
+not_put P (Err e) fault is = tt
+
+then_put : (start put more mid new : List ℕ) → mid ≡ start ++ put → new ≡ mid ++ more → new ≡ start ++ (put ++ more)
+then_put start put more mid new is next = next ∙ ap (λ (s : List ℕ). s ++ more) is ∙ append_assoc start put more
+
+pub fact_put : {A E : Type 0} (r : Result A E) (word told start one two three new : List ℕ) → one ≡ start ++ word → two ≡ one ++ codes " " → three ≡ two ++ told
+    → new ≡ (if is_ok r then three ++ codes "\n" else three) → OnOk r (new ≡ start ++ fact_line word told)
+fact_put (Ok a) word told start one two three new first space what last =
+    let spaced = then_put start word (codes " ") one two first space in
+    let named = then_put start (word ++ codes " ") told two three spaced what in
+    then_put start ((word ++ codes " ") ++ told) (codes "\n") three new named last
+    ∙ ap (λ (s : List ℕ). start ++ s) (append_assoc (word ++ codes " ") told (codes "\n") ∙ append_assoc word (codes " ") (told ++ codes "\n"))
+fact_put (Err e) word told start one two three new first space what last = tt
+
+pub dimension_put : {A E : Type 0} (r : Result A E) (name sign start one two three new : List ℕ) → one ≡ start ++ codes "dimension " → two ≡ one ++ name → three ≡ two ++ sign
+    → new ≡ (if is_ok r then three ++ codes "\n" else three) → OnOk r (new ≡ start ++ fact_line (codes "dimension") (name ++ sign))
+dimension_put (Ok a) name sign start one two three new first what signed last =
+    let named = then_put start (codes "dimension ") name one two first what in
+    let told = then_put start (codes "dimension " ++ name) sign two three named signed in
+    then_put start ((codes "dimension " ++ name) ++ sign) (codes "\n") three new told last
+dimension_put (Err e) name sign start one two three new first what signed last = tt
+
+counts_put : (a b c d e f start one two three four five new : List ℕ) → one ≡ start ++ a → two ≡ one ++ b → three ≡ two ++ c → four ≡ three ++ d
+    → five ≡ four ++ e → new ≡ five ++ f → new ≡ start ++ (a ++ (b ++ (c ++ (d ++ (e ++ f)))))
+counts_put a b c d e f start one two three four five new first second third fourth fifth last =
+    last ∙ ap (λ (s : List ℕ). s ++ f) fifth ∙ append_assoc four e f ∙ ap (λ (s : List ℕ). s ++ (e ++ f)) fourth ∙ append_assoc three d (e ++ f)
+    ∙ ap (λ (s : List ℕ). s ++ (d ++ (e ++ f))) third ∙ append_assoc two c (d ++ (e ++ f)) ∙ ap (λ (s : List ℕ). s ++ (c ++ (d ++ (e ++ f)))) second
+    ∙ append_assoc one b (c ++ (d ++ (e ++ f))) ∙ ap (λ (s : List ℕ). s ++ (b ++ (c ++ (d ++ (e ++ f))))) first ∙ append_assoc start a (b ++ (c ++ (d ++ (e ++ f))))
+
+pub description_put : {A E : Type 0} (r : Result A E) (d : Description) (page_rows version : ℕ) (word start one two three four five new : List ℕ)
+    → page_rows ≡ d.schema.page_rows → word ≡ levels_word d.version → version ≡ d.version
+    → one ≡ start ++ number_line (codes "rows") d.rows → two ≡ one ++ number_line (codes "next") d.next → three ≡ two ++ number_line (codes "regions") d.regions
+    → four ≡ three ++ number_line (codes "page-rows") page_rows → five ≡ four ++ number_line word d.levels → OnOk r (new ≡ five ++ number_line (codes "format") version)
+    → OnOk r (new ≡ start ++ count_lines d)
+description_put (Ok a) d page_rows version word start one two three four five new rows_are levels_are version_is first second third fourth fifth last =
+    counts_put (number_line (codes "rows") d.rows) (number_line (codes "next") d.next) (number_line (codes "regions") d.regions)
+    (number_line (codes "page-rows") d.schema.page_rows) (number_line (levels_word d.version) d.levels) (number_line (codes "format") d.version)
+    start one two three four five new first second third
+    (fourth ∙ ap (λ (n : ℕ). three ++ number_line (codes "page-rows") n) rows_are)
+    (fifth ∙ ap (λ (w : List ℕ). four ++ number_line w d.levels) levels_are)
+    (last ∙ ap (λ (n : ℕ). five ++ number_line (codes "format") n) version_is)
+description_put (Err e) d page_rows version word start one two three four five new rows_are levels_are version_is first second third fourth fifth last = tt
 
 -- the store in the table file was lent and put back
 pub description_of : {A : Type 0} (table : List ℕ) (old lent new : FilesFacts) (out out_now : OutFacts) (status : Status) (a : A) (store : StoreFacts)
@@ -51,11 +101,15 @@ pub tree_told : {T : Type 0} (r : Result T TreeFault) (items : T → List ℕ) (
 tree_told (Ok text) items from t opened is = (described t, inl (t, opened, refl), is)
 tree_told (Err fault) items from t opened is = tt
 
+-- a store that wasn't opened for its older version is as it was
+pub old_same : (from left : StoreFacts) (fault : TreeFault) → left ≡ record from { failed_reads = raised_by fault from.failed_reads } → fault ≡ of_old_format → left ≡ from
+old_same from left fault kept is = kept ∙ ap (λ (f : TreeFault). record from { failed_reads = raised_by f from.failed_reads }) is
+
 -- and of what the header of a store of an older version tells, which is as it was before it was not opened
 pub old_told : {T : Type 0} (r : Result T TreeFault) (items : T → List ℕ) (from left : StoreFacts) (fault : TreeFault) → left ≡ record from { failed_reads = raised_by fault from.failed_reads }
     → fault ≡ of_old_format → IfOk r (λ text. IsOldText left (items text)) → IfOk r (λ text. IsTextOf from (items text))
 old_told (Ok text) items from left fault kept is told =
-    let same : left ≡ from = kept ∙ ap (λ (f : TreeFault). record from { failed_reads = raised_by f from.failed_reads }) is in
+    let same = old_same from left fault kept is in
     (described_old told.0, inr (told.0, subst (λ (s : StoreFacts). HasOldHeader s told.0) same told.1, refl), told.2)
 old_told (Err refused) items from left fault kept is told = tt
 
@@ -71,7 +125,54 @@ told_well r items text from left bytes out out_now status is told kept same tell
       tells = subst (λ (b : List ℕ). Tells out out_now b Done status) (same ∙ of_text.2) tells;
     }
 
+-- where memory is refused the store is as it was
+pub memory_left : {T : Type 0} (r : Result T TreeFault) (from : StoreFacts) → IsErrAnd r (λ fault. fault ≡ Memory) → from ≡ read_store r from
+memory_left (Ok text) from is = absurd is
+memory_left {T} (Err fault) from is = ap (λ (f : TreeFault). read_store {A = T} (Err f) from) (sym is)
+
 -- a header of an older version isn't read where memory is refused
 pub no_memory : {T : Type 0} (r : Result T TreeFault) (from : StoreFacts) → IsErrAnd r (λ fault. fault ≡ Memory) → IfErr r (IsOldFault from)
 no_memory (Ok text) from is = tt
 no_memory (Err fault) from is = (Old store.Memory, tt, is)
+
+-- ---- why a store tells nothing
+
+-- a tree was opened in it, and memory was refused
+pub tree_refused : {T : Type 0} (r : Result T TreeFault) (from : StoreFacts) → IfErr r (λ fault. fault ≡ Memory) → IfErr r (IsDescribeFault from)
+tree_refused (Ok text) from is = tt
+tree_refused (Err fault) from is = inl ((λ old. let memory = is in let other = old in cc), subst (λ (f : TreeFault). IsOpenFault from f) (sym is) tt)
+
+pub tree_passing : {T : Type 0} (r : Result T TreeFault) → IfErr r (λ fault. fault ≡ Memory) → IfErr r IsPassing
+tree_passing (Ok text) is = tt
+tree_passing (Err fault) is = inl is
+
+pub tree_left : {T : Type 0} (r : Result T TreeFault) (from left : StoreFacts) (t : TreeView) → IfErr r (λ fault. fault ≡ Memory) → t.store ≡ from → left ≡ t.store → left ≡ read_store r from
+tree_left {T} (Ok text) from left t is of same = same ∙ of
+tree_left {T} (Err fault) from left t is of same = same ∙ of ∙ ap (λ (f : TreeFault). read_store {A = T} (Err f) from) (sym is)
+
+-- its header is one of an older version, and can't be read
+pub old_refused : {T : Type 0} (r : Result T TreeFault) (from left : StoreFacts) (fault : TreeFault) → left ≡ from → fault ≡ of_old_format → IsOpenFault from fault
+    → IfErr r (IsOldFault left) → IfErr r (IsDescribeFault from)
+old_refused (Ok text) from left fault same is refused told = tt
+old_refused (Err e) from left fault same is refused told =
+    inr (subst (λ (f : TreeFault). IsOpenFault from f) is refused, subst (λ (s : StoreFacts). IsOldFault s e) same told)
+
+pub old_left : {T : Type 0} (r : Result T TreeFault) (from left now : StoreFacts) → left ≡ from → now ≡ read_store r left → now ≡ read_store r from
+old_left r from left now same kept = kept ∙ ap (λ (s : StoreFacts). read_store r s) same
+
+-- a table that can be opened isn't of an older version
+pub never_old : {X : Type 0} (fault : TreeFault) → fault ≡ of_old_format → IsPassing fault → X
+never_old fault is (inl memory) = cc
+never_old fault is (inr device) = cc
+
+-- and why was written
+pub told_fault : {T : Type 0} (r : Result T TreeFault) (fault : TreeFault) (from left : StoreFacts) (out out_now : OutFacts) (status : Status) → r ≡ Err fault
+    → IfErr r (IsDescribeFault from) → ((header : Header) → IsHonest from → IsRooted from.pages header → IfErr r IsPassing) → left ≡ read_store r from
+    → Tells out out_now (tree_fault_text fault) (tree_fault_status fault) status → IsUndescribed from left out out_now status
+told_fault {T} r fault from left out out_now status is refused passing kept tells = record {
+  fault = fault;
+  is = subst (λ (q : Result T TreeFault). IfErr q (IsDescribeFault from)) is refused;
+  passing = λ header honest rooted. subst (λ (q : Result T TreeFault). IfErr q IsPassing) is (passing header honest rooted);
+  left_is = kept ∙ ap (λ (q : Result T TreeFault). read_store q from) is;
+  tells = tells;
+}

@@ -1,7 +1,7 @@
 -- What the commands that read and write files leave of them, step by step.
-use Rattle.std.proofs.lemmas.Bool.{cases_Bool}
-use Rattle.std.specs.Prelude.{IsErrOf, IsTrue}
-use Rattle.std.proofs.Common.{◌≡◌, ◌⊎◌, ◌∙◌, ℕ, List, Result, Ok, Err, inl, inr, ap, false, refl, subst, sym}
+use Rattle.std.proofs.lemmas.Bool.{cases_Bool, false≢true}
+use Rattle.std.specs.Prelude.{IfErr, IfOk, IsErrAnd, IsErrOf, IsTrue}
+use Rattle.std.proofs.Common.{◌≡◌, ◌⊎◌, ◌∙◌, ℕ, Bool, List, codes, Result, Ok, Err, inl, inr, ap, false, refl, subst, sym}
 use Rattle.ub_script.specs.Faults.{counted}
 use Rattle.ub_script.specs.Output.{OutFacts}
 use Rattle.ub_script.specs.Script.{OnlyAsks}
@@ -32,7 +32,7 @@ use Rattle.ub_words.specs.declared.given.TryWords.{TryWords}
 use Rattle.ub_words.specs.declared.given.UpgradeWords.{UpgradeWords}
 use Rattle.ub_words.specs.declared.words.Asked.{Asked}
 use Rattle.ub_words.specs.declared.words.Asked.TheVariants as asked
-use Rattle.ub_shell.specs.Commands.{AsksStore, HasRead, HasRunTree, IsAskedOf, IsCopied, IsFileOf, IsTable, IsUnkept, IsUnopened, IsUnread, LoadsFile, RunsFile, TriesFiles, WritesFile, axes_asked}
+use Rattle.ub_shell.specs.Commands.{AsksStore, HasRead, HasRunTree, IsAskedOf, IsCopied, IsFileOf, IsTable, IsUnkept, IsUnloaded, IsUnopened, IsUnread, LoadsFile, RunsFile, TriesFiles, WritesFile, axes_asked}
 use Rattle.ub_files.specs.Copying.{Copies}
 use Rattle.ub_shell.specs.Checked.{ChecksFile}
 use Rattle.ub_shell.specs.Described.{DescribesFile}
@@ -45,7 +45,7 @@ use Rattle.ub_shell.specs.Status.{answer_status, store_fault_status, store_fault
 use Rattle.ub_next.specs.declared.next.Neighbours.{Neighbours}
 use Rattle.ub_next.specs.declared.next.NextFault.{NextFault}
 use Rattle.ub_shell.specs.declared.status.Status.{Status}
-use Rattle.ub_shell.specs.declared.status.Status.TheVariants.{Done, CommandLine}
+use Rattle.ub_shell.specs.declared.status.Status.TheVariants.{Done, CommandLine, Memory}
 
 -- ---- files
 
@@ -65,6 +65,10 @@ not_read path old new fault out out_now status is h told = record {
   reads = record { same = h.same; readings = h.readings; kept = h.kept; others = h.others; used_up = tt };
   tells = told;
 }
+
+-- a question was answered with no
+pub not_so : (answer : Bool) (P : Type 0) → (P → IsTrue answer) → answer ≡ false → P → ⊥
+not_so answer P told is p = false≢true (sym is ∙ told p)
 
 -- a store that was lent is put back
 pub put_after : {A : Type 0} (path : List ℕ) (old lent new : FilesFacts) (a : A) (store : StoreFacts) → LendsFile path old lent (Ok a)
@@ -157,6 +161,41 @@ not_kept table text name axes page_rows rows regions pages old new of_store faul
         others = unmade.1.others;
       };
     }
+
+-- a file that can't be made
+pub unmade_fault : {A : Type 0} (r : Result A StoreFault) (fault : StoreFault) → IsErrAnd r (λ e. e ≡ fault) → fault ≡ store.Device
+    → IfErr r (λ e. (e ≡ store.Device) ⊎ (e ≡ store.Memory))
+unmade_fault (Ok a) fault is device = absurd is
+unmade_fault (Err e) fault is device = inl (is ∙ device)
+
+pub not_made : {A : Type 0} (table : List ℕ) (pages : List (List ℕ)) (old new : FilesFacts) (r : Result (Unit {0}) StoreFault) (fault : StoreFault) → IsErrAnd r (λ e. e ≡ fault)
+    → fault ≡ store.Device → LendsFile {A = A} table old new (Err fault) → WritesFile table pages old new r
+not_made {A} table pages old new (Ok done) fault is device lends = absurd is
+not_made {A} table pages old new (Err e) fault is device lends = inr (
+  ap (λ (f : StoreFault). failed_with f) (is ∙ device),
+  record {
+    same = lends.same ∙ ap (λ (f : StoreFault). record old { holds = new.holds; failed_tables = raised_by f old.failed_tables }) (sym is);
+    others = lends.others;
+    away = tt;
+  },
+)
+
+-- a text that wasn't loaded
+pub none_kept : {A E : Type 0} (P : A → Type 0) (r : Result A E) (fault : E) → IsErrAnd r (λ e. e ≡ fault) → IfOk r P
+none_kept P (Ok a) fault is = absurd is
+none_kept P (Err e) fault is = tt
+
+pub refused_by : {A E : Type 0} (P : E → Type 0) (r : Result A E) (fault : E) → IsErrAnd r (λ e. e ≡ fault) → P fault → IfErr r P
+refused_by P (Ok a) fault is so = absurd is
+refused_by P (Err e) fault is so = subst P (sym is) so
+
+pub not_loaded : {A : Type 0} (table text name : List ℕ) (axes : Axes) (page_rows : ℕ) (files : FilesFacts) (r : Result A LoadFault) (fault : LoadFault) → IsErrAnd r (λ e. e ≡ fault)
+    → IsUnloaded text name axes fault → IfErr r (IsUnkept table text name axes page_rows files files)
+not_loaded table text name axes page_rows files (Ok a) fault is unloaded = absurd is
+not_loaded table text name axes page_rows files (Err e) fault is unloaded = record {
+  why = inl (subst (λ (f : LoadFault). IsUnloaded text name axes f) (sym is) unloaded, refl);
+  uses = record { same = refl; others = λ other ne. refl };
+}
 
 -- ---- a table in memory
 
@@ -297,3 +336,7 @@ pub wrong_ends : (words : List (List ℕ)) (files : FilesFacts) (out out_now : O
     → Tells out out_now bytes CommandLine status → HasEnded words files files out out_now status
 wrong_ends words files out out_now text bytes status by same told =
     inr (inr (inr (inr (inr (inr (inr (inr (inl (record { asks = by.0; text = text; lines = by.1; tells = rw same at told; files = refl })))))))))
+
+pub memory_ends : (words : List (List ℕ)) (files : FilesFacts) (out out_now : OutFacts) (status : Status) → Tells out out_now (codes "! Memory\n") Memory status
+    → HasEnded words files files out out_now status
+memory_ends words files out out_now status told = inr (inr (inr (inr (inr (inr (inr (inr (inr (record { tells = told; files = refl })))))))))

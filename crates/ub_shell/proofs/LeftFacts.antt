@@ -1,5 +1,6 @@
 -- What a script that was run on a tree leaves of its table, and of its store.
 use Rattle.std.proofs.Common.{◌≡◌, ◌⊎◌, ◌∙◌, ℕ, List, [], ◌∷◌, ◌++◌, Result, Ok, Err, inl, inr, length, take, slice_range, ap, false, true, refl, subst, sym}
+use Rattle.std.proofs.lemmas.Bool.{false≢true}
 use Rattle.std.specs.Prelude.{IsOk, OnOk}
 use Rattle.ub_exec.specs.Stand.{Stand, IsStandOf}
 use Rattle.ub_lexer.specs.declared.token.Token.{Token}
@@ -105,7 +106,7 @@ run_leaves t now script (Err (run.Tree fault)) out out_now s h is working =
 -- what is so where a call was done that was
 pub where_ok : {A E X : Type 0} (r : Result A E) → IsOk r → OnOk r X → X
 where_ok (Ok a) done h = h
-where_ok (Err e) done h = cc
+where_ok (Err e) done h = absurd (false≢true done)
 
 -- ---- a store that stays
 
@@ -123,7 +124,7 @@ same_tree t now (over_any seen) h k = (
 pub run_stays : (store left : StoreFacts) (t now : TreeView) (script : List ℕ) (result : Result Summary RunFault) (closing : Result (Unit {0}) TreeFault) (out mid : OutFacts)
     → IsOpened store t → Closes now left closing → IsRun t now script result out mid → IsOk result
     → (replies : List Reply) × (b : Basis) × FirstOver (over_any t) script replies 0 b × HasTaken (texts_of replies) false out mid × (changed_by replies ≡ 0 → left ≡ store)
-run_stays store left t now script (Err fault) closing out mid opened closes h done = cc
+run_stays store left t now script (Err fault) closing out mid opened closes h done = absurd (false≢true done)
 run_stays store left t now script (Ok summary) closing out mid opened closes h done =
     let (basis, bytes, pages, (replies, first, text, count, counts), rest, taken, fetched) = h.done (over_any t) refl in (
       replies,

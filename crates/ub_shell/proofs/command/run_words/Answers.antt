@@ -1,4 +1,4 @@
-use Rattle.ub_shell.proofs.FileFacts.{check_ends, describe_ends, help_ends, load_ends, next_ends, run_ends, try_ends, upgrade_ends, wrong_ends}
+use Rattle.ub_shell.proofs.FileFacts.{check_ends, describe_ends, help_ends, load_ends, memory_ends, next_ends, run_ends, try_ends, upgrade_ends, wrong_ends}
 use Rattle.ub_shell.proofs.command.run_words.Goals as goal
 
 pub returns-in-Ok-Load : goal.returns-in-Ok-Load
@@ -31,3 +31,6 @@ returns-in-Ok-Help g c =
 pub returns-in-Ok-Wrong : goal.returns-in-Ok-Wrong
 returns-in-Ok-Wrong g c =
     wrong_ends _ _ _ _ _ _ _ (rw c.in-Ok-Wrong.field-0-is at c.in-Ok-Wrong.ensures) c.as_slice-in-Ok-Wrong.ensures.value c.tell-in-Ok-Wrong.ensures
+
+pub returns-in-Err : goal.returns-in-Err
+returns-in-Err g c = memory_ends _ _ _ _ _ c.tell_memory.ensures

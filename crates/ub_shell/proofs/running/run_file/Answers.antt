@@ -1,5 +1,5 @@
 use Rattle.std.proofs.Common.{inl, inr}
-use Rattle.ub_shell.proofs.FileFacts.{file_asked, has_read, not_opened}
+use Rattle.ub_shell.proofs.FileFacts.{file_asked, has_read, not_opened, not_read}
 use Rattle.ub_shell.proofs.running.run_file.Goals as goal
 
 pub returns : goal.returns
@@ -17,3 +17,6 @@ returns-in-Err-open g c = inl (record {
   read = has_read _ c.in-Ok.script.items _ _ _ c.in-Ok.ensures.text c.in-Ok.ensures.effect;
   ran = inr (not_opened _ _ _ c.in-Err-open.fault _ _ _ c.in-Err-open.ensures.faults (λ e. c.in-Err-open.ensures.torn e) c.in-Err-open.ensures.effect c.tell_store_fault-in-Err-open.ensures);
 })
+
+pub returns-in-Err : goal.returns-in-Err
+returns-in-Err g c = inr (not_read _ _ _ c.in-Err.fault _ _ _ c.in-Err.ensures.faults c.in-Err.ensures.effect c.tell_store_fault.ensures)

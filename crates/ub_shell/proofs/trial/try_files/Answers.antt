@@ -1,5 +1,5 @@
-use Rattle.std.proofs.Common.{inl, inr}
-use Rattle.ub_shell.proofs.FileFacts.{has_read, not_read}
+use Rattle.std.proofs.Common.{inl, inr, refl}
+use Rattle.ub_shell.proofs.FileFacts.{has_read, not_read, not_so}
 use Rattle.ub_shell.proofs.trial.try_files.Goals as goal
 
 pub returns : goal.returns
@@ -25,3 +25,18 @@ returns-in-Err-read g c = inr (
     script_unread = not_read _ _ _ c.in-Err-read.fault _ _ _ c.in-Err-read.ensures.faults c.in-Err-read.ensures.effect c.tell_store_fault-in-Err-read.ensures;
   })),
 )
+
+pub returns-then-not-is_mask : goal.returns-then-not-is_mask
+returns-then-not-is_mask g c = inl (record { bad = not_so c.is_mask.result _ c.is_mask.ensures.1 c.if-not-is_mask.true; files = refl; tells = c.tell.ensures })
+
+pub returns-in-Err : goal.returns-in-Err
+returns-in-Err g c = inr (
+  c.is_mask.ensures.0 c.if-not-is_mask.false,
+  inr (inl (not_read _ _ _ c.in-Err.fault _ _ _ c.in-Err.ensures.faults c.in-Err.ensures.effect c.tell_store_fault.ensures)),
+)
+
+pub tell_try-requires-clause-numbers : goal.tell_try-requires-clause-numbers
+tell_try-requires-clause-numbers g c = c.requires.numbers
+
+pub tell_try-requires-clause-mask : goal.tell_try-requires-clause-mask
+tell_try-requires-clause-mask g c = c.is_mask.ensures.0 c.if-not-is_mask.false
