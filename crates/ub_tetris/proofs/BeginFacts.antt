@@ -1,6 +1,8 @@
 -- A sweep begins: the trace begins anew, and the regions that it awaits are found.
-use Rattle.std.proofs.Common.{◌≡◌, ◌<◌, ◌∙◌, ◌∷◌, ℕ, Bool, List, [], All, Option, Some, Result, Ok, Err, length, refl, sym, ap, subst}
+use Rattle.std.proofs.Common.{◌≡◌, ◌<◌, ◌∙◌, ◌∷◌, ℕ, Bool, true, false, List, [], All, Option, Some, Result, Ok, Err, length, refl, sym, ap, subst}
+use Rattle.std.proofs.lemmas.Bool.{true≢false}
 use Rattle.std.specs.List.{AllByRecursion}
+use Rattle.std.specs.Prelude.{IsTrue}
 use Rattle.std.specs.Result.{IsErrAnd}
 use Rattle.ub_bigmin.specs.Box.{Corners}
 use Rattle.ub_planning.specs.Plan.{PlanView, plan_of}
@@ -17,6 +19,7 @@ use Rattle.ub_tetris.specs.Sweep.{AwaitedRegion, HasBegun, IsStarted, IsSweepOf,
 use Rattle.ub_tetris.specs.declared.course.Course.{Course}
 use Rattle.ub_tetris.specs.declared.event.Awaited.{Awaited}
 use Rattle.ub_tetris.specs.declared.fault.SweepFault.{SweepFault}
+use Rattle.ub_tetris.specs.declared.fault.SweepFault.TheVariants as sweep
 use Rattle.ub_tetris.specs.inner.Events.{AreQueued, regions_awaited}
 use Rattle.ub_tetris.specs.inner.Turns.{awaited_of, begun_view}
 use Rattle.ub_tree.proofs.Laws.{Keeps-by, begun_traced, given_before, unchanged_traced}
@@ -24,6 +27,7 @@ use Rattle.ub_tree.specs.Reading.{IsGiven, SearchesTree, counted}
 use Rattle.ub_store.specs.View.{emptied}
 use Rattle.ub_tree.specs.Told.{IsRegionOf}
 use Rattle.ub_tree.specs.View.{TreeView}
+use Rattle.ub_tree.specs.declared.fault.TreeFault.TheVariants.{Failed as HasFailed}
 use Rattle.ub_tree.specs.declared.read_fault.ReadFault.{ReadFault}
 use Rattle.ub_tree.specs.declared.read_fault.ReadFault.TheVariants as read
 
@@ -92,3 +96,28 @@ met_by t mid new plan course awaited view found boxes same is some of_plan queue
     (subst (λ (v : TreeView). AreMetAlong plan.covering.boxes dim is_descending v (awaited_of awaited)) (sym same)
     (subst (λ (c : Course). AreMetAlong plan.covering.boxes c.dim c.is_descending mid (awaited_of awaited)) on
     (met_along mid plan.covering.boxes course awaited (subst (λ (bs : List Corners). AreQueued bs course mid awaited) of_plan queued))))
+
+-- ---- where it is no sweep
+
+none_begun : (t : TreeView) (course : Course) (queue : List Awaited) (view : SweepView) → queue ≡ [] → view ≡ begun_view course queue → view ≡ begun_view course []
+none_begun t course queue view none is = is ∙ ap (begun_view course) none
+
+module _ (t : TreeView) (course : Course) (queue : List Awaited) (view : SweepView) (none : queue ≡ []) (is : view ≡ begun_view course queue) where
+  pub nothing_awaited : view.awaited ≡ []
+  nothing_awaited = ap (λ (v : SweepView). v.awaited) (none_begun t course queue view none is)
+
+  pub nothing_started : IsStarted t view
+  nothing_started = subst (λ (v : SweepView). IsStarted t v) (sym (none_begun t course queue view none is)) (record { none = refl; working = refl; regions = tt })
+
+-- ---- a tree that hasn't failed
+
+pub never_failed : {X : Type 0} (old mid : TreeView) (has_failed : Bool) → mid ≡ record old { trace = emptied old.trace } → has_failed ≡ mid.is_failed → has_failed ≡ false → IsTrue old.is_failed → X
+never_failed old mid has_failed began is not_failed failed = absurd (true≢false (sym failed ∙ sym (ap (λ (v : TreeView). v.is_failed) began) ∙ sym is ∙ not_failed))
+
+-- one that has refuses
+pub failed_begins : {T : Type 0} (old mid : TreeView) (has_failed : Bool) → mid ≡ record old { trace = emptied old.trace } → has_failed ≡ mid.is_failed → has_failed ≡ true
+    → Begins {A = T} old mid (Err (sweep.Tree HasFailed))
+failed_begins old mid has_failed began is failed = record {
+  same = began;
+  faults = (sym (ap (λ (v : TreeView). v.is_failed) began) ∙ sym is ∙ failed, λ x. cc);
+}

@@ -1,8 +1,10 @@
 -- Each box of a sweep's plan has the sweep's dimension.
-use Rattle.std.proofs.Common.{◌≡◌, ◌<◌, ℕ, List, [], ◌∷◌, Bool, Option, length, map, Contains, inl, inr, sym, ap, ◌∙◌, subst, arith}
-use Rattle.std.proofs.lemmas.Bool.{cases_Bool}
+use Rattle.std.proofs.Common.{◌≡◌, ◌<◌, ◌≤◌, ◌+◌, ℕ, zero, suc, List, [], ◌∷◌, Bool, true, false, Option, length, map, take, slice_index_or, Contains, inl, inr, refl, sym, ap, ◌∙◌, subst, arith}
+use Rattle.std.proofs.lemmas.Bool.{cases_Bool, true≢false}
 use Rattle.std.proofs.lemmas.List.{length-replicate}
-use Rattle.std.specs.List.{All}
+use Rattle.std.proofs.lemmas.List.Elements.{All-from_recursion}
+use Rattle.std.specs.List.{All, AllByRecursion}
+use Rattle.std.specs.Prelude.{IsTrue}
 use Rattle.ub_bigmin.specs.Box.{Corners}
 use Rattle.ub_boxes.proofs.Laws.{length-sides}
 use Rattle.ub_boxes.specs.Boxes.{beside, boxes_of, boxes_on, is_wide, nowhere, runs, space}
@@ -49,3 +51,36 @@ have_dimension schema plan dim is_descending planned kind =
     (λ b there.
     let long = boxes_of-long schema plan.asked.filter b (subst (λ (boxes : List Corners). Contains boxes b) (sweep_boxes schema plan dim is_descending planned kind) there) in
     omega (arith, long, led.within))
+
+-- ---- the boxes are asked one after the other
+
+abbrev Has : ℕ → Corners → Type 0
+Has dim b = dim < length b.lo
+
+pub lacks_dimension : (boxes : List Corners) (dim k : ℕ) (b : Corners) (values : List ℕ) → k < length boxes → b ≡ slice_index_or boxes k b → values ≡ b.lo → length values ≤ dim
+    → (IsTrue false → All (λ b. dim < length b.lo) boxes) × (All (λ b. dim < length b.lo) boxes → IsTrue false)
+lacks_dimension boxes dim k b values within is lo few = (λ t. absurd (true≢false (sym t)), λ all. absurd (too_few (all k b within)))
+  where
+    too_few : dim < length (slice_index_or boxes k b).lo → ⊥
+    too_few long =
+        let here : dim < length b.lo = subst (λ (c : Corners). dim < length c.lo) (sym is) long in
+        let same : length values ≡ length b.lo = ap length lo in
+        omega arith
+
+pub has_more : (boxes : List Corners) (dim k n : ℕ) (b : Corners) (values : List ℕ) → n ≡ k + 1 → k < length boxes → b ≡ slice_index_or boxes k b → values ≡ b.lo → dim < length values
+    → AllByRecursion (λ b. dim < length b.lo) (take k boxes) → AllByRecursion (λ b. dim < length b.lo) (take n boxes)
+has_more [] dim k n b values next within is lo long all = absurd (omega arith)
+has_more (x ∷ boxes) dim zero n b values next within is lo long all =
+    let one : n ≡ 1 = omega arith in
+    subst (λ (m : ℕ). AllByRecursion (λ b. dim < length b.lo) (take m (x ∷ boxes))) (sym one) (subst (λ (vs : List ℕ). dim < length vs) (lo ∙ ap (λ (c : Corners). c.lo) is) long, tt)
+has_more (x ∷ boxes) dim (suc k) zero b values next within is lo long all = absurd (omega arith)
+has_more (x ∷ boxes) dim (suc k) (suc n) b values next within is lo long all = (all.0, has_more boxes dim k n b values (omega arith) (omega arith) is lo long all.1)
+
+pub have_all : (boxes : List Corners) (dim k : ℕ) → length boxes ≤ k → AllByRecursion (λ b. dim < length b.lo) (take k boxes)
+    → (IsTrue true → All (λ b. dim < length b.lo) boxes) × (All (λ b. dim < length b.lo) boxes → IsTrue true)
+have_all boxes dim k past all = (λ t. All-from_recursion (Has dim) boxes (of_whole boxes k past all), λ every. refl)
+  where
+    of_whole : (boxes : List Corners) (k : ℕ) → length boxes ≤ k → AllByRecursion (Has dim) (take k boxes) → AllByRecursion (Has dim) boxes
+    of_whole [] k past all = tt
+    of_whole (x ∷ boxes) zero past all = absurd (omega arith)
+    of_whole (x ∷ boxes) (suc k) past all = (all.0, of_whole boxes k (omega arith) all.1)

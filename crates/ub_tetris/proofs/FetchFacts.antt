@@ -1,11 +1,12 @@
 -- The region at a sweep's place is fetched.
-use Rattle.std.proofs.Common.{◌≡◌, ◌<◌, ◌≤◌, ◌+◌, ◌*◌, ◌∙◌, ◌∷◌, ◌++◌, ℕ, zero, suc, Bool, true, List, [], Option, Some, Contains, drop, length, map, slice_get, slice_index_or, sym, ap, subst, arith}
+use Rattle.std.proofs.Common.{◌≡◌, ◌<◌, ◌≤◌, ◌+◌, ◌*◌, ◌∙◌, ◌∷◌, ◌++◌, ℕ, zero, suc, Bool, true, false, not, List, [], Option, Some, None, Contains, drop, length, map, slice_get, slice_index, slice_index_or, refl, sym, ap, subst, arith}
 use Rattle.std.proofs.lemmas.List.{length-append, length-map}
 use Rattle.std.proofs.lemmas.List.Sorted.{length_permutation}
 use Rattle.std.proofs.lemmas.List.Sums.{count_by-le-length, length-filter}
 use Rattle.std.specs.List.{filter}
 use Rattle.ub_filter.specs.Choice.{is_chosen}
 use Rattle.ub_planning.specs.Plan.{PlanView}
+use Rattle.ub_planning.specs.Visits.{is_past}
 use Rattle.ub_filter.specs.declared.choice.Choice.{Choice}
 use Rattle.ub_query.specs.declared.query.SortKey.{SortKey}
 use Rattle.ub_table.specs.Region.{IsRegion, Region}
@@ -16,7 +17,7 @@ use Rattle.ub_tetris.specs.declared.event.Awaited.{Awaited}
 use Rattle.ub_tetris.specs.declared.state.State.{State}
 use Rattle.ub_tetris.specs.Held.{HeldRow, held_row}
 use Rattle.ub_tetris.specs.Sweep.{rows_left}
-use Rattle.ub_tetris.specs.inner.Kept.{HoldsAlso}
+use Rattle.ub_tetris.specs.inner.Kept.{HoldsAlso, IsFirstOf}
 use Rattle.ub_tetris.specs.inner.Turns.{HasFetchedNext, HasReadNext, IsDue, IsOnward, awaited_of, is_due_by, view_of}
 use Rattle.ub_tree.specs.Calls.{StandsAt}
 use Rattle.ub_tree.specs.Effects.{HasNoted}
@@ -50,6 +51,34 @@ due_within s (first, first_is, due) = within s.queue.items s.fetched first due
     within [] k first due = cc
     within (y ∷ queue) zero first due = omega arith
     within (y ∷ queue) (suc k) first due = let more = within queue k first due in omega arith
+
+-- one is due while its event value isn't past the first row held
+pub due_row : (s : State) (next : Awaited) (row : Row) (queue : List Awaited) (last : ℕ) (is_far : Bool) → queue ≡ s.queue.items → s.fetched < length queue → next ≡ slice_index_or queue s.fetched next
+    → IsFirstOf s.held (Some row) → last ≡ slice_index row.dims s.course.dim → is_far ≡ is_past s.course.is_descending last next.value → IsDue s (not is_far)
+due_row s next row queue last is_far same within is first at far =
+    let found : slice_get s.queue.items s.fetched ≡ Some next = subst (λ (q : List Awaited). slice_get q s.fetched ≡ Some next) same (next_at queue s.fetched next within is) in (
+      Some row,
+      first,
+      ap not far ∙ ap (λ (v : ℕ). not (is_past s.course.is_descending v next.value)) at ∙ ap (λ (o : Option Awaited). is_due_by s.course o (Some row)) (sym found),
+    )
+
+-- or where none is held
+pub due_first : (s : State) (next : Awaited) (queue : List Awaited) → queue ≡ s.queue.items → s.fetched < length queue → next ≡ slice_index_or queue s.fetched next → IsFirstOf s.held None → IsDue s true
+due_first s next queue same within is none =
+    let found : slice_get s.queue.items s.fetched ≡ Some next = subst (λ (q : List Awaited). slice_get q s.fetched ≡ Some next) same (next_at queue s.fetched next within is) in
+    (None, none, ap (λ (o : Option Awaited). is_due_by s.course o None) (sym found))
+
+-- none is after the last
+pub none_due : (s : State) (first : Option Row) (queue : List Awaited) → queue ≡ s.queue.items → length queue ≤ s.fetched → IsFirstOf s.held first → IsDue s false
+none_due s first queue same past is =
+    let none : slice_get s.queue.items s.fetched ≡ None = subst (λ (q : List Awaited). slice_get q s.fetched ≡ None) same (none_at queue s.fetched past) in
+    (first, is, ap (λ (o : Option Awaited). is_due_by s.course o first) (sym none))
+  where
+    none_at : (queue : List Awaited) (k : ℕ) → length queue ≤ k → slice_get queue k ≡ None
+    none_at [] zero past = refl
+    none_at [] (suc k) past = refl
+    none_at (a ∷ queue) zero past = absurd (omega arith)
+    none_at (a ∷ queue) (suc k) past = none_at queue k (omega arith)
 
 pub has_fetched : (plan : PlanView) (choice : Choice) (t new : TreeView) (s new_s : State) (x : Awaited) (region : Region) (schema : Schema) → slice_get s.queue.items s.fetched ≡ Some x
     → HasNoted x.region.page t new → (IsSound t → Contains (spans_of t) x.region → StandsAt t.placed x.region.page region) → region.first ≡ x.region.first

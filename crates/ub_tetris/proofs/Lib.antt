@@ -18,5 +18,6 @@ pub mod SortedFacts
 pub mod SpanFacts
 pub mod StepFacts
 pub mod StepsFacts
+pub mod TurnFacts
 pub mod ValueFacts
 pub mod Laws

@@ -1,10 +1,11 @@
-use Rattle.std.proofs.Common.{◌≡◌, ◌++◌, refl, subst}
+use Rattle.std.proofs.Common.{◌≡◌, ◌++◌, ◌∙◌, refl, subst, ap, sym}
 use Rattle.ub_tetris.proofs.EffectFacts.{swept_by, swept_short, swept_with}
 use Rattle.ub_tetris.proofs.FetchFacts.{schema_read}
-use Rattle.ub_filter.specs.Choice.{is_chosen}
+use Rattle.ub_filter.specs.Choice.{IsFit, is_chosen}
 use Rattle.std.specs.List.{filter}
 use Rattle.ub_table.specs.declared.schema.Schema.{Schema}
 use Rattle.ub_tetris.specs.inner.Turns.{view_of}
+use Rattle.ub_tetris.proofs.TurnFacts.{posed_still, refused_none}
 use Rattle.ub_tetris.proofs.state.State.hand_next.Goals as goal
 
 pub returns-in_err-read_next-clause-effect : goal.returns-in_err-read_next-clause-effect
@@ -33,3 +34,57 @@ returns-clause-rows g c =
           → g.K.RowSink.HasTaken s plan.asked before (taken ++ filter (is_chosen choice s plan) region.rows) c.push_chosen.new.sink) same (c.in_ok-push_chosen.ensures before taken),
       record { region = region; read = read; choice = choice; rows_are = refl },
     )
+
+pub returns-in_err-read_next-clause-onward : goal.returns-in_err-read_next-clause-onward
+returns-in_err-read_next-clause-onward g c = c.in_err-read_next.ensures.onward
+
+pub returns-in_err-read_next-clause-asked : goal.returns-in_err-read_next-clause-asked
+returns-in_err-read_next-clause-asked g c = c.in_err-read_next.ensures.asked
+
+pub returns-in_err-push_chosen-clause-onward : goal.returns-in_err-push_chosen-clause-onward
+returns-in_err-push_chosen-clause-onward g c = c.in_ok-read_next.ensures.onward
+
+pub returns-in_err-push_chosen-clause-asked : goal.returns-in_err-push_chosen-clause-asked
+returns-in_err-push_chosen-clause-asked g c = c.in_ok-read_next.ensures.asked
+
+pub returns-clause-onward : goal.returns-clause-onward
+returns-clause-onward g c = c.in_ok-read_next.ensures.onward
+
+pub returns-clause-asked : goal.returns-clause-asked
+returns-clause-asked g c = c.in_ok-read_next.ensures.asked
+
+pub of-choice-requires : goal.of-choice-requires
+of-choice-requires g c =
+    let read = c.in_ok-read_next.ensures.read in
+    posed_still c.schema.result.now c.args.tree.now.schema c.args.plan.now.asked
+    (schema_read c.args.tree.now c.read_next.new.tree c.args.self.now c.read_next.new.self.page.region c.schema.result.now read c.schema.ensures) c.requires.posed
+
+pub push_chosen-requires-clause-posed : goal.push_chosen-requires-clause-posed
+push_chosen-requires-clause-posed g c =
+    let read = c.in_ok-read_next.ensures.read in
+    posed_still c.schema-2.result.now c.args.tree.now.schema c.args.plan.now.asked
+    (schema_read c.args.tree.now c.read_next.new.tree c.args.self.now c.read_next.new.self.page.region c.schema-2.result.now read c.schema-2.ensures) c.requires.posed
+
+pub push_chosen-requires-clause-fit : goal.push_chosen-requires-clause-fit
+push_chosen-requires-clause-fit g c = subst (λ (s : Schema). IsFit s c.args.plan.now c.of-choice.result) (c.schema.ensures ∙ sym c.schema-2.ensures) c.of-choice.ensures
+
+pub push_chosen-requires-clause-dims : goal.push_chosen-requires-clause-dims
+push_chosen-requires-clause-dims g c =
+    let read = c.in_ok-read_next.ensures.read in
+    c.in_ok-read_next.ensures.dims
+    ∙ ap (λ (s : Schema). s.dims) (sym (schema_read c.args.tree.now c.read_next.new.tree c.args.self.now c.read_next.new.self.page.region c.schema-2.result.now read c.schema-2.ensures))
+
+pub returns-in_err-read_next-clause-rows : goal.returns-in_err-read_next-clause-rows
+returns-in_err-read_next-clause-rows g c = refused_none _ c.from_residual.result _ c.from_residual.ensures.1
+
+pub returns-in_err-push_chosen-clause-rows : goal.returns-in_err-push_chosen-clause-rows
+returns-in_err-push_chosen-clause-rows g c = refused_none _ c.from_residual-in_err-push_chosen.result _ c.from_residual-in_err-push_chosen.ensures.1
+
+pub returns-in_err-read_next-clause-held : goal.returns-in_err-read_next-clause-held
+returns-in_err-read_next-clause-held g c = c.in_err-read_next.ensures.held
+
+pub returns-in_err-push_chosen-clause-held : goal.returns-in_err-push_chosen-clause-held
+returns-in_err-push_chosen-clause-held g c = c.in_ok-read_next.ensures.held
+
+pub returns-clause-held : goal.returns-clause-held
+returns-clause-held g c = c.in_ok-read_next.ensures.held

@@ -6,6 +6,7 @@ use Rattle.ub_tetris.proofs.StepsFacts.{on_err}
 use Rattle.ub_tetris.specs.Sweep.{HandsOver}
 use Rattle.ub_tetris.specs.inner.Turns.{HasHandedNext, view_of}
 use Rattle.ub_tree.specs.View.{TreeView}
+use Rattle.ub_tetris.proofs.TurnFacts.{posed_still, refused_none}
 use Rattle.ub_tetris.proofs.state.State.hand_over.Goals as goal
 
 pub loop-self-init : goal.loop-self-init
@@ -44,3 +45,21 @@ pub returns-clause-left : goal.returns-clause-left
 returns-clause-left g c =
     hands_left (g.K.RowSink.HasTaken c.args.tree.now.schema c.args.plan.now.asked) c.args.plan.now c.args.tree.now c.loop-self.tree c.args.self.now c.loop-self.self c.args.sink.now c.loop-self.sink
     c.loop-self.invariant (past_by c.loop-self.self.fetched (length c.loop-self.self.queue.items) c.len.result (search rules) c.loop-self-test.false)
+
+pub hand_next-requires-clause-posed : goal.hand_next-requires-clause-posed
+hand_next-requires-clause-posed g c =
+    posed_still c.loop-self.tree.schema c.args.tree.now.schema c.args.plan.now.asked
+    (schema_so_far (g.K.RowSink.HasTaken c.args.tree.now.schema c.args.plan.now.asked) c.args.plan.now c.args.tree.now c.loop-self.tree c.args.self.now c.loop-self.self c.args.sink.now c.loop-self.sink
+    c.loop-self.invariant) c.requires
+
+pub returns-clause-broken : goal.returns-clause-broken
+returns-clause-broken g c given rest fetched unread is = tt
+
+pub returns-clause-effect : goal.returns-clause-effect
+returns-clause-effect g c = c.loop-self.invariant.effect
+
+pub returns-in_err-hand_next-clause-rows : goal.returns-in_err-hand_next-clause-rows
+returns-in_err-hand_next-clause-rows g c = refused_none _ c.from_residual.result _ c.from_residual.ensures.1
+
+pub returns-in_err-hand_next-clause-left : goal.returns-in_err-hand_next-clause-left
+returns-in_err-hand_next-clause-left g c = refused_none _ c.from_residual.result _ c.from_residual.ensures.1

@@ -2,6 +2,7 @@ use Rattle.std.proofs.Common.{inr, refl}
 use Rattle.ub_tetris.proofs.EffectFacts.{either_noted, read_swept, tree_swept}
 use Rattle.ub_tetris.proofs.FetchFacts.{next_at, next_awaited}
 use Rattle.ub_tetris.specs.inner.Turns.{view_of}
+use Rattle.ub_tetris.proofs.TurnFacts.{refused_none}
 use Rattle.ub_tetris.proofs.state.State.read_next.Goals as goal
 
 pub returns-in_err-read_region-clause-asked : goal.returns-in_err-read_region-clause-asked
@@ -40,3 +41,21 @@ returns-clause-effect g c =
     read_swept tt (view_of c.args.self.now) _ _ c.args.tree.now c.read_region.new.self
     (next_awaited c.args.self.now.queue.items c.args.self.now.fetched _ c.index.result.now refl (next_at c.args.self.now.queue.items c.args.self.now.fetched c.index.result.now c.requires c.index.ensures))
     c.in_ok-read_region.ensures.effect.same c.in_ok-read_region.ensures.effect.listed c.read_region.new.page.region c.in_ok-read_region.ensures.taken
+
+pub returns-in_err-read_region-clause-onward : goal.returns-in_err-read_region-clause-onward
+returns-in_err-read_region-clause-onward g c = (refl, refl, refl)
+
+pub returns-in_err-read_region-clause-held : goal.returns-in_err-read_region-clause-held
+returns-in_err-read_region-clause-held g c = refl
+
+pub returns-clause-onward : goal.returns-clause-onward
+returns-clause-onward g c = (refl, refl, refl)
+
+pub returns-clause-held : goal.returns-clause-held
+returns-clause-held g c = refl
+
+pub returns-in_err-read_region-clause-dims : goal.returns-in_err-read_region-clause-dims
+returns-in_err-read_region-clause-dims g c = refused_none _ c.from_residual.result _ c.from_residual.ensures.1
+
+pub returns-in_err-read_region-clause-read : goal.returns-in_err-read_region-clause-read
+returns-in_err-read_region-clause-read g c = refused_none _ c.from_residual.result _ c.from_residual.ensures.1

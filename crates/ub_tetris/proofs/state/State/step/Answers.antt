@@ -1,10 +1,11 @@
 use Rattle.std.proofs.Common.{◌≡◌, Bool, Err, None, ap, refl, subst}
 use Rattle.ub_tetris.proofs.BrokenFacts.{none_awaited}
-use Rattle.ub_tetris.proofs.EffectFacts.{sweeps_then, swept_by}
+use Rattle.ub_tetris.proofs.EffectFacts.{sweeps_then, swept_by, swept_with}
 use Rattle.ub_tetris.proofs.FetchFacts.{due_within}
-use Rattle.ub_tetris.proofs.StepsFacts.{Fetches-more, Fetches-none, end_unbroken, fewer, on_err, step_broken, step_ends, step_fewer, step_rests}
+use Rattle.ub_tetris.proofs.StepsFacts.{Fetches-more, Fetches-none, end_unbroken, fewer, on_err, step_broken, step_ends, step_fewer, step_rests, same_schema}
 use Rattle.ub_tetris.specs.inner.Turns.{IsDue, view_of}
 use Rattle.ub_tree.specs.View.{TreeView}
+use Rattle.ub_tetris.proofs.TurnFacts.{never_ok, posed_still, refused_none}
 use Rattle.ub_tetris.proofs.state.State.step.Goals as goal
 
 pub loop-self-init : goal.loop-self-init
@@ -60,3 +61,25 @@ pub returns-clause-fewer : goal.returns-clause-fewer
 returns-clause-fewer g c =
     step_fewer c.args.plan.now c.args.tree.now c.loop-self.tree c.args.self.now c.loop-self.self c.loop-self.invariant (record c.loop-self.self { held = c.take_first.new.self }) c.take_first.result
     c.take_first.ensures (refl, refl, refl)
+
+pub fetch-requires-clause-posed : goal.fetch-requires-clause-posed
+fetch-requires-clause-posed g c =
+    posed_still c.loop-self.tree.schema c.args.tree.now.schema c.args.plan.now.asked
+    (same_schema c.args.plan.now c.args.tree.now c.loop-self.tree c.args.self.now c.loop-self.self c.loop-self.invariant) c.requires
+
+pub returns-clause-effect : goal.returns-clause-effect
+returns-clause-effect g c =
+    swept_with tt (view_of c.args.self.now) (view_of c.loop-self.self) (view_of (record c.loop-self.self { held = c.take_first.new.self })) c.args.tree.now c.loop-self.tree refl
+    c.loop-self.invariant.effect c.take_first.result
+
+pub returns-clause-broken : goal.returns-clause-broken
+returns-clause-broken g c given rest fetched unread is = tt
+
+pub returns-in_err-fetch-clause-next : goal.returns-in_err-fetch-clause-next
+returns-in_err-fetch-clause-next g c given rest fetched unread is = refused_none _ c.from_residual.result _ c.from_residual.ensures.1
+
+pub returns-in_err-fetch-clause-ended : goal.returns-in_err-fetch-clause-ended
+returns-in_err-fetch-clause-ended g c ok = never_ok c.from_residual.result _ _ c.from_residual.ensures.1 ok
+
+pub returns-in_err-fetch-clause-fewer : goal.returns-in_err-fetch-clause-fewer
+returns-in_err-fetch-clause-fewer g c = refused_none _ c.from_residual.result _ c.from_residual.ensures.1

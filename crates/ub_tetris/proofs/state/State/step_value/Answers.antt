@@ -1,9 +1,11 @@
-use Rattle.std.proofs.Common.{None, Some, refl}
+use Rattle.std.proofs.Common.{None, Some, Ok, Option, refl, ap}
 use Rattle.ub_tetris.proofs.EffectFacts.{swept_by, swept_short, swept_with}
 use Rattle.ub_tetris.proofs.StepsFacts.{on_err}
 use Rattle.ub_tetris.proofs.ValueFacts.{given_broken, never_rests, never_rests_on, rests_still, value_fewer, value_step}
 use Rattle.ub_tetris.specs.Sweep.{rows_left}
 use Rattle.ub_tetris.specs.inner.Turns.{view_of}
+use Rattle.ub_table.specs.declared.row.Row.{Row}
+use Rattle.ub_tetris.proofs.TurnFacts.{never_ok, refused_none}
 use Rattle.ub_tetris.proofs.state.State.step_value.Goals as goal
 
 pub returns-in_err-first-clause-broken : goal.returns-in_err-first-clause-broken
@@ -57,3 +59,36 @@ pub returns-clause-effect : goal.returns-clause-effect
 returns-clause-effect g c =
     swept_with _ (view_of c.args.self.now) (view_of c.step.new.self) (view_of (record c.step.new.self { held = c.take_value.new.self })) c.args.tree.now c.step.new.tree refl
     c.in_ok-first.ensures.effect (Some c.in_ok-rows.rows)
+
+pub returns-in_err-first-clause-next : goal.returns-in_err-first-clause-next
+returns-in_err-first-clause-next g c given rest fetched unread is some = refused_none _ c.from_residual.result _ c.from_residual.ensures.1
+
+pub returns-in_err-first-clause-ended : goal.returns-in_err-first-clause-ended
+returns-in_err-first-clause-ended g c ok = never_ok c.from_residual.result _ _ c.from_residual.ensures.1 ok
+
+pub returns-in_err-first-clause-fewer : goal.returns-in_err-first-clause-fewer
+returns-in_err-first-clause-fewer g c = refused_none _ c.from_residual.result _ c.from_residual.ensures.1
+
+pub returns-in_err-rows-clause-next : goal.returns-in_err-rows-clause-next
+returns-in_err-rows-clause-next g c given rest fetched unread is some = refused_none _ c.from_residual-in_err-rows.result _ c.from_residual-in_err-rows.ensures.1
+
+pub returns-in_err-rows-clause-ended : goal.returns-in_err-rows-clause-ended
+returns-in_err-rows-clause-ended g c ok = never_ok c.from_residual-in_err-rows.result _ _ c.from_residual-in_err-rows.ensures.1 ok
+
+pub returns-in_err-rows-clause-fewer : goal.returns-in_err-rows-clause-fewer
+returns-in_err-rows-clause-fewer g c = refused_none _ c.from_residual-in_err-rows.result _ c.from_residual-in_err-rows.ensures.1
+
+pub returns-in_default-clause-broken : goal.returns-in_default-clause-broken
+returns-in_default-clause-broken g c given rest fetched unread is = tt
+
+pub returns-in_default-clause-ended : goal.returns-in_default-clause-ended
+returns-in_default-clause-ended g c ok = c.in_ok-first.ensures.ended (ap (λ (found : Option Row). Ok found) c.in_default.is)
+
+pub returns-in_default-clause-fewer : goal.returns-in_default-clause-fewer
+returns-in_default-clause-fewer g c = tt
+
+pub returns-clause-broken : goal.returns-clause-broken
+returns-clause-broken g c given rest fetched unread is = tt
+
+pub returns-clause-ended : goal.returns-clause-ended
+returns-clause-ended g c ok = absurd cc

@@ -1,4 +1,4 @@
-use Rattle.std.proofs.Common.{List, ◌∙◌, ap, subst, sym}
+use Rattle.std.proofs.Common.{◌∙◌, List, ap, subst, sym}
 use Rattle.std.specs.Prelude.{OnOk}
 use Rattle.ub_planning.specs.Visits.{Event}
 use Rattle.ub_table.specs.declared.row.Row.{Row}
@@ -6,6 +6,7 @@ use Rattle.ub_tetris.proofs.BrokenFacts.{same_view}
 use Rattle.ub_tetris.proofs.EffectFacts.{Sweeps-failed}
 use Rattle.ub_tetris.proofs.HandFacts.{left_seen}
 use Rattle.ub_tetris.specs.Sweep.{HandsOver, HasHandedOver, IsSweeping, SweepView}
+use Rattle.ub_tetris.proofs.TurnFacts.{FailsOnce-failed, never_swept, once_seen, sweeps_seen}
 use Rattle.ub_tetris.proofs.sweep.Sweep.hand_over.Goals as goal
 
 pub returns-clause-rows : goal.returns-clause-rows
@@ -27,3 +28,28 @@ returns-clause-left g c =
 
 pub returns-then-self-clause-effect : goal.returns-then-self-clause-effect
 returns-then-self-clause-effect g c = Sweeps-failed c.args.self.now c.args.tree.now (ap (λ (v : SweepView). v.is_failed) (sym c.self.view_is) ∙ c.if-self.true)
+
+pub returns-then-self-clause-rows : goal.returns-then-self-clause-rows
+returns-then-self-clause-rows g c = tt
+
+pub returns-then-self-clause-left : goal.returns-then-self-clause-left
+returns-then-self-clause-left g c = tt
+
+pub returns-then-self-clause-broken : goal.returns-then-self-clause-broken
+returns-then-self-clause-broken g c given rest fetched unread is =
+    never_swept c.args.plan.now c.args.tree.now c.args.self.now given rest fetched unread (ap (λ (v : SweepView). v.is_failed) (sym c.self.view_is) ∙ c.if-self.true) is
+
+pub returns-then-self-clause-once : goal.returns-then-self-clause-once
+returns-then-self-clause-once g c = FailsOnce-failed c.args.self.now c.args.tree.now (ap (λ (v : SweepView). v.is_failed) (sym c.self.view_is) ∙ c.if-self.true)
+
+pub returns-clause-once : goal.returns-clause-once
+returns-clause-once g c =
+    once_seen c.hand_over-handed.result c.self.inside.state c.hand_over-handed.new.self c.args.self.now c.is_err-self-inside.result
+    (same_view c.self.inside.state c.self.inside.is_failed c.args.self.now c.self.view_is c.if-self.false) c.is_err-self-inside.ensures.value
+    c.args.tree.now c.hand_over-handed.new.tree
+
+pub returns-clause-effect : goal.returns-clause-effect
+returns-clause-effect g c =
+    sweeps_seen c.hand_over-handed.result c.self.inside.state c.hand_over-handed.new.self c.args.self.now c.is_err-self-inside.result
+    (same_view c.self.inside.state c.self.inside.is_failed c.args.self.now c.self.view_is c.if-self.false) c.is_err-self-inside.ensures.value
+    c.args.tree.now c.hand_over-handed.new.tree c.hand_over-handed.ensures.effect

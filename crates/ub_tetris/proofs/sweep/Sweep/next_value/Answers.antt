@@ -2,8 +2,10 @@ use Rattle.std.proofs.Common.{[], ◌∙◌, ◌<◌, IfOk, IfSome, ap, subst, s
 use Rattle.std.specs.Prelude.{OnErr}
 use Rattle.ub_tetris.proofs.BrokenFacts.{rests_seen, same_view}
 use Rattle.ub_tetris.proofs.EffectFacts.{Sweeps-failed}
-use Rattle.ub_tetris.specs.Sweep.{HasBroken, IsSweeping, SweepView, rows_left}
+use Rattle.ub_tetris.specs.Sweep.{HasBroken, IsSweeping, SweepView, HasSteppedValue, rows_left}
 use Rattle.ub_tetris.specs.inner.Turns.{view_of}
+use Rattle.std.specs.Option.{option_map}
+use Rattle.ub_tetris.proofs.TurnFacts.{FailsOnce-failed, never_swept, ok_seen, once_seen, sweeps_seen}
 use Rattle.ub_tetris.proofs.sweep.Sweep.next_value.Goals as goal
 
 pub returns-clause-broken : goal.returns-clause-broken
@@ -25,3 +27,44 @@ pub returns-clause-fewer : goal.returns-clause-fewer
 returns-clause-fewer g c =
     let same = same_view c.self.inside.state c.self.inside.is_failed c.args.self.now c.self.view_is c.if-self.false in
     subst (λ (view : SweepView). IfOk c.step_value-rows.result (λ found. IfSome found (λ rows. rows_left (view_of c.step_value-rows.new.self) < rows_left view))) (sym same) c.step_value-rows.ensures.fewer
+
+pub returns-then-self-clause-next : goal.returns-then-self-clause-next
+returns-then-self-clause-next g c given rest fetched unread is some = tt
+
+pub returns-then-self-clause-rests : goal.returns-then-self-clause-rests
+returns-then-self-clause-rests g c given fetched is = never_swept c.args.plan.now c.args.tree.now c.args.self.now given [] fetched [] (ap (λ (v : SweepView). v.is_failed) (sym c.self.view_is) ∙ c.if-self.true) is
+
+pub returns-then-self-clause-ended : goal.returns-then-self-clause-ended
+returns-then-self-clause-ended g c ok = absurd cc
+
+pub returns-then-self-clause-fewer : goal.returns-then-self-clause-fewer
+returns-then-self-clause-fewer g c = tt
+
+pub returns-clause-ended : goal.returns-clause-ended
+returns-clause-ended g c ok = c.step_value-rows.ensures.ended ok
+
+pub returns-clause-next : goal.returns-clause-next
+returns-clause-next g c given rest fetched unread is some =
+    let same = same_view c.self.inside.state c.self.inside.is_failed c.args.self.now c.self.view_is c.if-self.false in
+    ok_seen c.step_value-rows.result c.self.inside.state c.step_value-rows.new.self c.args.self.now c.is_err-self-inside.result same c.is_err-self-inside.ensures.value
+    (λ v found. HasSteppedValue c.args.plan.now c.step_value-rows.new.tree v given rest fetched unread (option_map (λ rows. rows.items) found))
+    (c.step_value-rows.ensures.next given rest fetched unread (subst (λ (view : SweepView). IsSweeping c.args.plan.now c.args.tree.now view given rest fetched unread) same is) some)
+
+pub returns-then-self-clause-broken : goal.returns-then-self-clause-broken
+returns-then-self-clause-broken g c given rest fetched unread is =
+    never_swept c.args.plan.now c.args.tree.now c.args.self.now given rest fetched unread (ap (λ (v : SweepView). v.is_failed) (sym c.self.view_is) ∙ c.if-self.true) is
+
+pub returns-then-self-clause-once : goal.returns-then-self-clause-once
+returns-then-self-clause-once g c = FailsOnce-failed c.args.self.now c.args.tree.now (ap (λ (v : SweepView). v.is_failed) (sym c.self.view_is) ∙ c.if-self.true)
+
+pub returns-clause-once : goal.returns-clause-once
+returns-clause-once g c =
+    once_seen c.step_value-rows.result c.self.inside.state c.step_value-rows.new.self c.args.self.now c.is_err-self-inside.result
+    (same_view c.self.inside.state c.self.inside.is_failed c.args.self.now c.self.view_is c.if-self.false) c.is_err-self-inside.ensures.value
+    c.args.tree.now c.step_value-rows.new.tree
+
+pub returns-clause-effect : goal.returns-clause-effect
+returns-clause-effect g c =
+    sweeps_seen c.step_value-rows.result c.self.inside.state c.step_value-rows.new.self c.args.self.now c.is_err-self-inside.result
+    (same_view c.self.inside.state c.self.inside.is_failed c.args.self.now c.self.view_is c.if-self.false) c.is_err-self-inside.ensures.value
+    c.args.tree.now c.step_value-rows.new.tree c.step_value-rows.ensures.effect
