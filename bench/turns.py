@@ -5,6 +5,7 @@ usage: bench/turns.py PROGRAM [PROGRAM..] [--rows N] [--xs N] [--rounds N] [--on
 
 Each time is the least of the rounds, in each of which every program has its turn, since what else the machine does only adds. A query's
 time is that of a script which has it many times, less that of an empty script. The answers of all programs must be the same, but for the pages read.
+What opening takes is the empty script's time less that of `ubq next`, which opens nothing: both are the least of 100 by turns.
 With --xs the first dimension has that many values, and the queries that ask for a range of it find no row. With --only just the
 queries whose names have the word are asked. Prints a table in Markdown, with a column for each program in the order given.
 """
@@ -19,6 +20,9 @@ import time
 from pathlib import Path
 
 TOP = Path(__file__).resolve().parent.parent
+
+# How often a process that hardly does anything has its turn.
+STARTS = 100
 
 ALL = "x >= 0"
 FIFTH = "x BETWEEN 200000 AND 813000 AND y BETWEEN 200000 AND 813000 AND z BETWEEN 200000 AND 813000"
@@ -110,8 +114,11 @@ def main():
         tries = [[p, "try", str(data), str(empty), "--dims", "3", "--name", "t"] for p in programs]
         row("`try` with an empty script", least_by_turns(tries, given.rounds, "try"))
         runs = [[p, "run", str(work / f"{i}.ub")] for i, p in enumerate(programs)]
-        opened = least_by_turns([words + [str(empty)] for words in runs], given.rounds, "empty")
+        starts = [words + [str(empty)] for words in runs] + [[p, "next", "2,2", "6,3", "19"] for p in programs]
+        least = least_by_turns(starts, STARTS, "empty", same_answers=False)
+        opened, others = least[: len(programs)], least[len(programs) :]
         row("`run` with an empty script", opened)
+        row("`next`", others)
         for name, times, text in QUERIES:
             if given.only not in name:
                 continue
