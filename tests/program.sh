@@ -119,7 +119,7 @@ try 'a signed dimension' 0 all '-- rows 4, regions 2\n' load signed.csv signed.u
 try 'is asked by its values' 0 all "$below" run signed.ub below.sql
 try 'and from its data' 0 all "$below" try signed.csv below.sql --dims 1 --page-rows 2 --signed 1
 try 'a value that it does not have' 1 all '! ValueRange at 22\n' run signed.ub <(printf 'INSERT INTO t VALUES (2147483648, 0);')
-holds 'the header has its mask' test "$(od -An -tu1 -j4 -N8 signed.ub | tr -s ' ')" = ' 3 0 1 1 2 1 0 0'
+holds 'the header has its mask' test "$(od -An -tu1 -j4 --read-bytes=8 signed.ub | tr -s ' ')" = ' 3 0 1 1 2 1 0 0'
 "$ubq" run signed.ub all.sql | grep -v '^-- ' >told.csv
 holds 'all rows are told as they were given' cmp -s signed.csv told.csv
 try 'and loaded again' 0 all '-- rows 4, regions 2\n' load told.csv twice.ub --dims 1 --page-rows 2 --signed 1
@@ -185,7 +185,7 @@ for old in s four gaps format_2/s format_2/four format_2/gaps; do
     holds 'and stays as it was' cmp -s old.ub "$root/tests/old/$old.ub"
     "$root/tests/old/check.py" new.ub "$csv" >out 2>err
     holds 'the new one is sound, with the same rows' test $? -eq 0
-    holds 'and of format 3, with no signed dimension' test "$(od -An -tu1 -j4 -N2 new.ub)$(od -An -tu1 -j9 -N1 new.ub)" = '   3   0   0'
+    holds 'and of format 3, with no signed dimension' test "$(od -An -tu1 -j4 --read-bytes=2 new.ub)$(od -An -tu1 -j9 --read-bytes=1 new.ub)" = '   3   0   0'
     try 'it is not made anew once more' 3 all '! WrongKind page 0\n' upgrade new.ub newer.ub
     holds 'and nothing is made' test ! -e newer.ub
     try 'nor by the same name' 2 all '! SameFile\n' upgrade old.ub old.ub
