@@ -43,32 +43,6 @@ module _ (d : ℕ) (c : Corners) (is : IsBox d c) (i z : ℕ) (room : i < length
   inside_point : (p : List ℕ) → IsInside c p → IsPoint d p
   inside_point p h = IsPoint-below d p c.hi h.1 is.hi
 
-  -- ---- at the corners
-
-  pub least_corner_none : z < address c.lo → (u : ℕ) → IsValueOf c (λ a. a ≤ z) i u → ⊥
-  least_corner_none lt u v =
-      let mono = address-mono d c.lo v.0 (inside_point v.0 v.1) v.1.0 in
-      let le = v.2 in
-      omega arith
-
-  pub least_corner : address c.lo ≤ z → Least (IsValueOf c (λ a. a ≤ z) i) (Some (slice_index c.lo i))
-  least_corner le = (
-    (c.lo, (IsAtMost-refl c.lo, is.ordered), le, refl),
-    λ u v. let low = v.1.0.1 i room in let e = v.3 in omega arith,
-  )
-
-  pub greatest_corner_none : address c.hi < z → (u : ℕ) → IsValueOf c (λ a. z ≤ a) i u → ⊥
-  greatest_corner_none lt u v =
-      let mono = address-mono d v.0 c.hi is.hi v.1.1 in
-      let le = v.2 in
-      omega arith
-
-  pub greatest_corner : z ≤ address c.hi → Greatest (IsValueOf c (λ a. z ≤ a) i) (Some (slice_index c.hi i))
-  greatest_corner le = (
-    (c.hi, (is.ordered, IsAtMost-refl c.hi), le, refl),
-    λ u v. let long = v.1.1.0 in let high = v.1.1.1 i (let n = room_hi in omega arith) in let e = v.3 in omega arith,
-  )
-
   -- ---- along the edge that is greatest in the other dimensions
 
   module _ (e : Corners) (lo_is : e.lo ≡ slice_set c.hi i (slice_index c.lo i)) (hi_is : e.hi ≡ c.hi) where

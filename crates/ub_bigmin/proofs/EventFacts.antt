@@ -7,7 +7,7 @@ use Rattle.std.proofs.lemmas.Bool.{cases_lt}
 use Rattle.ub_zaddr.specs.Address.{address, last_address}
 use Rattle.ub_bigmin.specs.Box.{Corners, IsBox, IsInside, IsValueInSpan}
 use Rattle.ub_bigmin.specs.Extremes.{Least, Greatest}
-use Rattle.ub_bigmin.specs.Halves.{IsHalvedAt, IsHalfFrom, IsHalfUpTo, IsValueOf}
+use Rattle.ub_bigmin.specs.Halves.{IsHalvedAt, IsHalfFrom, IsHalfUpTo, IsValueOf, IsUnder, IsOver}
 use Rattle.ub_bigmin.proofs.PointFacts.{IsPoint-below}
 use Rattle.ub_bigmin.proofs.AddressOrder.{address-below}
 
@@ -122,6 +122,17 @@ module _ (b : Corners) (dim from to : ℕ) where
       ],
     )
 
+    -- where no value of the first half is less, the least of the second half is that of the span
+    pub least_second : (o : Option ℕ) → IsUnder b (IsHalfFrom k from) dim o → Least (IsValueOf b (IsHalfUpTo k to) dim) o → Least (IsValueInSpan (b ∷ []) from to dim) o
+    least_second None under high = absurd under
+    least_second (Some n) under high = (
+      high_value n high.0,
+      λ u v. elim (value_half u v) [
+        | inl w ↦ under u w
+        | inr w ↦ high.1 u w
+      ],
+    )
+
     pub greatest_both : (m n : ℕ) → Greatest (IsValueOf b (IsHalfFrom k from) dim) (Some m) → Greatest (IsValueOf b (IsHalfUpTo k to) dim) (Some n)
         → Greatest (IsValueInSpan (b ∷ []) from to dim) (Some (max m n))
     greatest_both m n low high =
@@ -157,6 +168,17 @@ module _ (b : Corners) (dim from to : ℕ) where
       λ u v. elim (value_half u v) [
         | inl w ↦ absurd (low u w)
         | inr w ↦ high.1 u w
+      ],
+    )
+
+    -- where no value of the second half is greater, the greatest of the first half is that of the span
+    pub greatest_first : (o : Option ℕ) → IsOver b (IsHalfUpTo k to) dim o → Greatest (IsValueOf b (IsHalfFrom k from) dim) o → Greatest (IsValueInSpan (b ∷ []) from to dim) o
+    greatest_first None over low = absurd over
+    greatest_first (Some n) over low = (
+      low_value n low.0,
+      λ u v. elim (value_half u v) [
+        | inl w ↦ low.1 u w
+        | inr w ↦ over u w
       ],
     )
 

@@ -1,5 +1,5 @@
 -- The part of a box whose addresses agree from a place up.
-use Rattle.std.proofs.Common.{◌≡◌, ◌≤◌, ◌<◌, ◌+◌, ◌-◌, ◌*◌, ◌/◌, ◌%◌, ◌^◌, ℕ, zero, suc, List, length, slice_index, sym, ap, ◌∙◌, arith, inl, inr, ◌↔◌, Option, Some, None}
+use Rattle.std.proofs.Common.{◌≡◌, ◌≤◌, ◌<◌, ◌+◌, ◌-◌, ◌*◌, ◌/◌, ◌%◌, ◌^◌, ℕ, zero, suc, List, length, slice_index, refl, sym, ap, ◌∙◌, subst, arith, inl, inr, ◌↔◌, Option, Some, None}
 use Rattle.std.specs.Prelude.{IsSome, IfSome}
 use Rattle.std.specs.Int.{bit_at}
 use Rattle.std.proofs.Math.Nat.{div-lt_iff_lt-mul, mod-eq_of_lt, div-mul-le_self, mul-le-mul_right, add-mul}
@@ -10,7 +10,8 @@ use Rattle.std.proofs.lemmas.Nat.{pow_pos, mod-pow-add, pow-add, div-mul-add, sh
 use Rattle.std.proofs.lemmas.Nat.Bits.{bit_at-lt, bit_at-zero, bit_at_ones, bit_at_cat_low}
 use Rattle.ub_zaddr.specs.Address.{address, place, IsAtMost, IsPoint}
 use Rattle.ub_bigmin.specs.Box.{Corners, IsBox, IsInside}
-use Rattle.ub_bigmin.specs.Halves.{IsPart, IsJoin, IsMeet}
+use Rattle.ub_bigmin.specs.Extremes.{Least, Greatest}
+use Rattle.ub_bigmin.specs.Halves.{IsHalfFrom, IsHalfUpTo, IsValueOf, IsUnder, IsOver, IsPart, IsStart, IsEnd, IsJoin, IsMeet}
 use Rattle.ub_bigmin.proofs.CutFacts.{agree_between}
 use Rattle.ub_bigmin.proofs.PointFacts.{IsAtMost-refl, IsAtMost-trans, IsPoint-below}
 use Rattle.ub_bigmin.proofs.AddressOrder.{address-mono, bit_at-address}
@@ -116,27 +117,100 @@ join-length p q join h = sym ((h join).0 (IsAtMost-refl join)).0.0
 pub meet-length : (p q meet : List ℕ) → IsMeet p q meet → length meet ≡ length p
 meet-length p q meet h = ((h meet).0 (IsAtMost-refl meet)).0.0
 
-module _ (d : ℕ) (b : Corners) (is : IsBox d b) (z k : ℕ) (low high : List ℕ) (is_low : IsPoint d low) (is_high : IsPoint d high)
-    (low_is : address low ≡ lowest z k) (high_is : address high ≡ highest z k)
-    (start end : List ℕ) (starts : IsJoin b.lo low start) (ends : IsMeet b.hi high end) where
+-- ---- the part's least corner
+
+module _ (d : ℕ) (b : Corners) (is : IsBox d b) (z k : ℕ) (start : List ℕ) (starts : IsStart b z k start) where
+  start_above : (p : List ℕ) → IsAtMost start p → IsAtMost b.lo p × IsAtMost starts.0 p
+  start_above p = (starts.3 p).0
+
+  pub start_below : (p : List ℕ) → IsInside b p → address p / 2 ^ k ≡ z / 2 ^ k → IsAtMost start p
+  start_below p inside agrees =
+      let is_p : IsPoint d p = IsPoint-below d p b.hi inside.1 is.hi in
+      let is_low : IsPoint d starts.0 = subst (λ (n : ℕ). IsPoint n starts.0) is.lo.0 starts.1 in
+      (starts.3 p).1 (inside.0, at_most_by_bits d starts.0 p is_low is_p (λ m. rw starts.2 (bits_from (address p) z k m agrees)))
+
+  pub start_outside : ¬ IsAtMost start b.hi → (dim u : ℕ) → IsValueOf b (IsHalfUpTo k z) dim u → ⊥
+  start_outside not_below dim u v = not_below (IsAtMost-trans start v.0 b.hi (start_below v.0 v.1 v.2.0) v.1.1)
+
+  pub start_past : z < address start → (dim u : ℕ) → IsValueOf b (IsHalfUpTo k z) dim u → ⊥
+  start_past lt dim u v =
+      let mono = address-mono d start v.0 (IsPoint-below d v.0 b.hi v.1.1 is.hi) (start_below v.0 v.1 v.2.0) in
+      let le = v.2.1 in
+      omega arith
+
+  -- from the least address that agrees on, and up to z, an address agrees
+  start_agrees : IsPoint d start → address start ≤ z → address start / 2 ^ k ≡ z / 2 ^ k
+  start_agrees is_start le =
+      let low : address starts.0 ≤ address start = address-mono d starts.0 start is_start (start_above start (IsAtMost-refl start)).1 in
+      agree_between (address starts.0) (address start) z (z / 2 ^ k) k low le (ap (λ (n : ℕ). n / 2 ^ k) starts.2 ∙ lowest-agrees z k) refl
+
+  pub start_least : (dim : ℕ) → dim < length start → IsAtMost start b.hi → address start ≤ z → Least (IsValueOf b (IsHalfUpTo k z) dim) (Some (slice_index start dim))
+  start_least dim room below le = (
+    (start, ((start_above start (IsAtMost-refl start)).0, below), (start_agrees (IsPoint-below d start b.hi below is.hi) le, le), refl),
+    λ u v. let least = (start_below v.0 v.1 v.2.0).1 dim room in let e = v.3 in omega arith,
+  )
+
+  pub start_under : (dim n : ℕ) → dim < length start → n ≤ slice_index start dim → IsUnder b (IsHalfFrom k z) dim (Some n)
+  start_under dim n room le = λ u v. let least = (start_below v.0 v.1 v.2.0).1 dim room in let e = v.3 in omega arith
+
+-- ---- the part's greatest corner
+
+module _ (d : ℕ) (b : Corners) (is : IsBox d b) (z k : ℕ) (end : List ℕ) (ends : IsEnd b z k end) where
+  end_under : (p : List ℕ) → IsAtMost p end → IsAtMost p b.hi × IsAtMost p ends.0
+  end_under p = (ends.3 p).0
+
+  is_high : IsPoint d ends.0
+  is_high = subst (λ (n : ℕ). IsPoint n ends.0) is.lo.0 ends.1
+
+  pub end_above : (p : List ℕ) → IsInside b p → address p / 2 ^ k ≡ z / 2 ^ k → IsAtMost p end
+  end_above p inside agrees =
+      let is_p : IsPoint d p = IsPoint-below d p b.hi inside.1 is.hi in
+      (ends.3 p).1 (inside.1, at_most_by_bits d p ends.0 is_p is_high (λ m. rw ends.2 (bits_up_to (address p) z k m agrees)))
+
+  is_end : IsPoint d end
+  is_end = IsPoint-below d end b.hi (end_under end (IsAtMost-refl end)).0 is.hi
+
+  pub end_outside : ¬ IsAtMost b.lo end → (dim u : ℕ) → IsValueOf b (IsHalfFrom k z) dim u → ⊥
+  end_outside not_above dim u v = not_above (IsAtMost-trans b.lo v.0 end v.1.0 (end_above v.0 v.1 v.2.0))
+
+  pub end_past : address end < z → (dim u : ℕ) → IsValueOf b (IsHalfFrom k z) dim u → ⊥
+  end_past lt dim u v =
+      let mono = address-mono d v.0 end is_end (end_above v.0 v.1 v.2.0) in
+      let le = v.2.1 in
+      omega arith
+
+  end_agrees : z ≤ address end → address end / 2 ^ k ≡ z / 2 ^ k
+  end_agrees le =
+      let high : address end ≤ address ends.0 = address-mono d end ends.0 is_high (end_under end (IsAtMost-refl end)).1 in
+      agree_between z (address end) (address ends.0) (z / 2 ^ k) k le high refl (ap (λ (n : ℕ). n / 2 ^ k) ends.2 ∙ highest-agrees z k)
+
+  pub end_greatest : (dim : ℕ) → dim < length end → IsAtMost b.lo end → z ≤ address end → Greatest (IsValueOf b (IsHalfFrom k z) dim) (Some (slice_index end dim))
+  end_greatest dim room above le = (
+    (end, (above, (end_under end (IsAtMost-refl end)).0), (end_agrees le, le), refl),
+    λ u v. let up = end_above v.0 v.1 v.2.0 in let long = up.0 in let most = up.1 dim (omega arith) in let e = v.3 in omega arith,
+  )
+
+  pub end_over : (dim n : ℕ) → dim < length end → slice_index end dim ≤ n → IsOver b (IsHalfUpTo k z) dim (Some n)
+  end_over dim n room le = λ u v. let up = end_above v.0 v.1 v.2.0 in let long = up.0 in let most = up.1 dim (omega arith) in let e = v.3 in omega arith
+
+-- ---- the part
+
+module _ (d : ℕ) (b : Corners) (is : IsBox d b) (z k : ℕ) (start end : List ℕ) (starts : IsStart b z k start) (ends : IsEnd b z k end) where
   -- the points between the two corners are those of the part
   within : (p : List ℕ) → IsAtMost start p → IsAtMost p end → IsInside b p × (address p / 2 ^ k ≡ z / 2 ^ k)
   within p above below =
-      let s = (starts p).0 above in
-      let e = (ends p).0 below in
+      let s = (starts.3 p).0 above in
+      let e = (ends.3 p).0 below in
       let is_p : IsPoint d p = IsPoint-below d p b.hi e.0 is.hi in
-      let le : address low ≤ address p = address-mono d low p is_p s.1 in
-      let ge : address p ≤ address high = address-mono d p high is_high e.1 in
-      let la : address low / 2 ^ k ≡ z / 2 ^ k = ap (λ (n : ℕ). n / 2 ^ k) low_is ∙ lowest-agrees z k in
-      let ha : address high / 2 ^ k ≡ z / 2 ^ k = ap (λ (n : ℕ). n / 2 ^ k) high_is ∙ highest-agrees z k in
-      ((s.0, e.0), agree_between (address low) (address p) (address high) (z / 2 ^ k) k le ge la ha)
+      let is_high : IsPoint d ends.0 = subst (λ (n : ℕ). IsPoint n ends.0) is.lo.0 ends.1 in
+      let le : address starts.0 ≤ address p = address-mono d starts.0 p is_p s.1 in
+      let ge : address p ≤ address ends.0 = address-mono d p ends.0 is_high e.1 in
+      let la : address starts.0 / 2 ^ k ≡ z / 2 ^ k = ap (λ (n : ℕ). n / 2 ^ k) starts.2 ∙ lowest-agrees z k in
+      let ha : address ends.0 / 2 ^ k ≡ z / 2 ^ k = ap (λ (n : ℕ). n / 2 ^ k) ends.2 ∙ highest-agrees z k in
+      ((s.0, e.0), agree_between (address starts.0) (address p) (address ends.0) (z / 2 ^ k) k le ge la ha)
 
   between : (p : List ℕ) → IsInside b p → address p / 2 ^ k ≡ z / 2 ^ k → IsAtMost start p × IsAtMost p end
-  between p inside agrees =
-      let is_p : IsPoint d p = IsPoint-below d p b.hi inside.1 is.hi in
-      let from : IsAtMost low p = at_most_by_bits d low p is_low is_p (λ m. rw low_is (bits_from (address p) z k m agrees)) in
-      let to : IsAtMost p high = at_most_by_bits d p high is_p is_high (λ m. rw high_is (bits_up_to (address p) z k m agrees)) in
-      ((starts p).1 (inside.0, from), (ends p).1 (inside.1, to))
+  between p inside agrees = (start_below d b is z k start starts p inside agrees, end_above d b is z k end ends p inside agrees)
 
   pub is_part : (o : Option Corners) → (IsSome o ↔ IsAtMost start end) → IfSome o (λ c. (c.lo ≡ start) × (c.hi ≡ end)) → IsPart b z k o
   is_part None some corners = λ p inside agrees.
@@ -144,7 +218,7 @@ module _ (d : ℕ) (b : Corners) (is : IsBox d b) (z k : ℕ) (low high : List �
       let t = some.1 (IsAtMost-trans start p end both.0 both.1) in
       cc
   is_part (Some c) some corners = (
-    ap (λ (xs : List ℕ). length xs) corners.0 ∙ join-length b.lo low start starts,
+    ap (λ (xs : List ℕ). length xs) corners.0 ∙ join-length b.lo starts.0 start starts.3,
     λ p. (
       λ inside. within p (rw corners.0 at inside.0) (rw corners.1 at inside.1),
       λ h. let both = between p h.0 h.1 in (rw corners.0 both.0, rw corners.1 both.1),

@@ -1,16 +1,17 @@
-ghost use Rattle.std.specs.Prelude.{◌≡◌, ℕ, ◌*◌, ◌^◌, ◌<◌, ◌≤◌, [], ◌∷◌, length, slice_index, slice_set};
+ghost use Rattle.std.specs.Prelude.{◌≡◌, ℕ, ◌*◌, ◌^◌, ◌<◌, ◌≤◌, [], ◌∷◌, IsTrue, length, slice_index, slice_set};
 ghost use Rattle.ub_zaddr.specs.Address.{address, last_address, IsPoint};
-ghost use Rattle.ub_bigmin.specs.Box.{Corners, IsValueInSpan};
+ghost use Rattle.ub_bigmin.specs.Box.{Corners, IsBox, IsValueInSpan};
 ghost use Rattle.ub_bigmin.specs.Extremes.{Least, Greatest};
-ghost use Rattle.ub_bigmin.specs.Halves.{IsHalvedAt, IsHalfFrom, IsHalfUpTo, IsValueOf, IsPart, IsJoin, IsMeet};
+ghost use Rattle.ub_bigmin.specs.Halves.{IsHalvedAt, IsHalfFrom, IsHalfUpTo, IsValueOf, IsUnder, IsOver, IsPart, IsStart, IsEnd, IsJoin, IsMeet};
 
 use crate::search::load;
-use crate::zbox::ZBox;
+use crate::zbox::{ZBox, is_at_most};
 use ub_zaddr::{Point, Shape, interleave, last, spread};
 
 /// The least coordinate in this dimension among the points of the box whose address lies in the span from ..= to.
 /// At the highest place where its ends differ the span falls into two halves, the addresses that agree with `from` from
-/// there up and those that agree with `to`. The part of the box in a half is a box again, bounded by one end alone.
+/// there up and those that agree with `to`. The part of the box in a half is a box again, bounded by one end alone. The
+/// second half needs no search, and the first one is asked only where its corner is less than what the second half has.
 pub fn least_in_box(zbox: &ZBox, from: u128, to: u128, dim: usize) -> Option<u32>
     requires { dim < length zbox.now.lo }
     ensures { Least (IsValueInSpan (zbox.now ∷ []) from to dim) result }
@@ -20,8 +21,11 @@ pub fn least_in_box(zbox: &ZBox, from: u128, to: u128, dim: usize) -> Option<u32
         return None;
     }
     let free = free_places(from, to);
-    let low = least_from(zbox, from, free, dim);
     let high = least_up_to(zbox, to, free, dim);
+    if is_least(zbox, from, free, dim, high) {
+        return high;
+    }
+    let low = least_from(zbox, from, free, dim);
     match (low, high) {
         (Some(a), Some(b)) => Some(a.min(b)),
         (Some(a), None) => Some(a),
@@ -41,6 +45,9 @@ pub fn greatest_in_box(zbox: &ZBox, from: u128, to: u128, dim: usize) -> Option<
     }
     let free = free_places(from, to);
     let low = greatest_from(zbox, from, free, dim);
+    if is_greatest(zbox, to, free, dim, low) {
+        return low;
+    }
     let high = greatest_up_to(zbox, to, free, dim);
     match (low, high) {
         (Some(a), Some(b)) => Some(a.max(b)),
@@ -70,15 +77,27 @@ fn least_from(zbox: &ZBox, z: u128, free: u32, dim: usize) -> Option<u32>
 fn least_up_to(zbox: &ZBox, z: u128, free: u32, dim: usize) -> Option<u32>
     requires dim { dim < length zbox.now.lo }
     requires z { z ≤ last_address (length zbox.now.lo) }
-    requires free { free ≤ 32 * length zbox.now.lo }
     requires shift { free < 128 }
     ensures { Least (IsValueOf zbox.now (IsHalfUpTo free z) dim) result }
 {
-    let part = part_at(zbox, z, free)?;
-    if z < interleave(part.shape(), part.lo()) {
+    let start = start_at(zbox, z, free);
+    if !is_at_most(&start, zbox.hi()) || z < interleave(zbox.shape(), &start) {
         return None;
     }
-    Some(part.lo().values()[dim])
+    Some(start.values()[dim])
+}
+
+// Whether `found` is a coordinate, and none of those points of the box that agree with z from a place up has a lesser one.
+fn is_least(zbox: &ZBox, z: u128, free: u32, dim: usize, found: Option<u32>) -> bool
+    requires dim { dim < length zbox.now.lo }
+    requires z { z ≤ last_address (length zbox.now.lo) }
+    requires shift { free < 128 }
+    ensures { IsTrue result → IsUnder zbox.now (IsHalfFrom free z) dim found }
+{
+    match found {
+        Some(least) => least <= start_at(zbox, z, free).values()[dim],
+        None => false,
+    }
 }
 
 // The greatest coordinate among the points of the box from the address z on that agree with it from a place up: that of
@@ -90,11 +109,25 @@ fn greatest_from(zbox: &ZBox, z: u128, free: u32, dim: usize) -> Option<u32>
     requires shift { free < 128 }
     ensures { Greatest (IsValueOf zbox.now (IsHalfFrom free z) dim) result }
 {
-    let part = part_at(zbox, z, free)?;
-    if interleave(part.shape(), part.hi()) < z {
+    let end = end_at(zbox, z, free);
+    if !is_at_most(zbox.lo(), &end) || interleave(zbox.shape(), &end) < z {
         return None;
     }
-    Some(part.hi().values()[dim])
+    Some(end.values()[dim])
+}
+
+// Whether `found` is a coordinate, and none of those points of the box that agree with z from a place up has a greater one.
+fn is_greatest(zbox: &ZBox, z: u128, free: u32, dim: usize, found: Option<u32>) -> bool
+    requires dim { dim < length zbox.now.lo }
+    requires z { z ≤ last_address (length zbox.now.lo) }
+    requires free { free ≤ 32 * length zbox.now.lo }
+    requires shift { free < 128 }
+    ensures { IsTrue result → IsOver zbox.now (IsHalfUpTo free z) dim found }
+{
+    match found {
+        Some(greatest) => end_at(zbox, z, free).values()[dim] <= greatest,
+        None => false,
+    }
 }
 
 // The greatest coordinate among the points of the box up to the address z that agree with it from a place up, by the
@@ -132,12 +165,39 @@ fn part_at(zbox: &ZBox, z: u128, free: u32) -> Option<ZBox>
     requires shift { free < 128 }
     ensures { IsPart zbox.now z free result }
 {
+    ZBox::new(
+        zbox.shape(),
+        &start_at(zbox, z, free),
+        &end_at(zbox, z, free),
+    )
+}
+
+// The point that all points of the box are at least whose addresses agree with z from a place up: the least corner of that
+// part, where it holds any.
+fn start_at(zbox: &ZBox, z: u128, free: u32) -> Point
+    requires z { z ≤ last_address (length zbox.now.lo) }
+    requires shift { free < 128 }
+    ensures corners { IsBox (length zbox.now.lo) zbox.now }
+    ensures length { length result ≡ length zbox.now.lo }
+    ensures start { IsStart zbox.now z free result }
+{
     let shape = zbox.shape();
-    let lowest = (z >> free) << free;
-    let highest = lowest + ((1u128 << free) - 1);
-    let start = join(shape, zbox.lo(), &point_at(shape, lowest));
-    let end = meet(shape, zbox.hi(), &point_at(shape, highest));
-    ZBox::new(shape, &start, &end)
+    join(shape, zbox.lo(), &point_at(shape, (z >> free) << free))
+}
+
+// The point that all points of the box are at most whose addresses agree with z from a place up: the greatest corner of
+// that part, where it holds any.
+fn end_at(zbox: &ZBox, z: u128, free: u32) -> Point
+    requires z { z ≤ last_address (length zbox.now.lo) }
+    requires free { free ≤ 32 * length zbox.now.lo }
+    requires shift { free < 128 }
+    ensures corners { IsBox (length zbox.now.lo) zbox.now }
+    ensures length { length result ≡ length zbox.now.lo }
+    ensures end { IsEnd zbox.now z free result }
+{
+    let shape = zbox.shape();
+    let highest = ((z >> free) << free) + ((1u128 << free) - 1);
+    meet(shape, zbox.hi(), &point_at(shape, highest))
 }
 
 // The points of the box that are greatest in the other dimensions.

@@ -107,8 +107,8 @@ impl ZBox {
     }
 }
 
-// Whether p is at most q in each coordinate.
-fn is_at_most(p: &Point, q: &Point) -> bool
+/// Whether p is at most q in each coordinate.
+pub(crate) fn is_at_most(p: &Point, q: &Point) -> bool
     requires { length p.now ≡ length q.now }
     ensures point { IsTrue result ↔ IsAtMost p.now q.now }
 {

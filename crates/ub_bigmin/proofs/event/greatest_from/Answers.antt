@@ -1,21 +1,22 @@
 -- The greatest corner of the part has the greatest address and the greatest coordinate.
-use Rattle.std.proofs.Common.{◌<◌, ◌≤◌, length, arith, None, Some}
-use Rattle.ub_bigmin.proofs.EdgeFacts.{greatest_part, greatest_corner_none, greatest_corner}
+use Rattle.std.proofs.Common.{arith, refl}
+use Rattle.ub_bigmin.proofs.PartFacts.{end_outside, end_past, end_greatest}
+use Rattle.ub_bigmin.proofs.event.greatest_from.Goals.{then-not-is_at_most-via-then-not-is_at_most, then-not-is_at_most-via-else-not-is_at_most+then-interleave-z}
 use Rattle.ub_bigmin.proofs.event.greatest_from.Goals as goal
 
-pub returns-then-interleave-z : goal.returns-then-interleave-z
-returns-then-interleave-z c =
-    let part = c.in_ok-part.ensures in
-    let room : c.args.dim < length c.in_ok-part.part.lo = let long = part.0 in let dim = c.requires.dim in omega arith in
-    let at = rw c.hi.ensures.hi at c.interleave.ensures.address in
-    greatest_part c.args.zbox.now c.in_ok-part.part c.args.z c.args.free c.args.dim (λ a. c.args.z ≤ a) part None
-    (greatest_corner_none c.shape.result c.in_ok-part.part c.shape.ensures.corners c.args.dim c.args.z room (let lt = c.if-interleave-z.true in omega arith))
+pub returns-then-not-is_at_most : goal.returns-then-not-is_at_most
+returns-then-not-is_at_most c = elim c.then-not-is_at_most.branch [
+  | then-not-is_at_most-via-then-not-is_at_most w ↦
+      end_outside _ c.args.zbox.now c.end_at-end.ensures.corners c.args.z c.args.free _ c.end_at-end.ensures.end (λ over. let t = (rw c.lo.ensures.lo at w.if-not-is_at_most.ensures.point).1 over in cc) c.args.dim
+  | then-not-is_at_most-via-else-not-is_at_most+then-interleave-z w ↦
+      let at = w.interleave.ensures.address in
+      end_past _ c.args.zbox.now c.end_at-end.ensures.corners c.args.z c.args.free _ c.end_at-end.ensures.end (let lt = w.if-interleave-z.true in omega arith) c.args.dim
+]
 
 pub returns : goal.returns
 returns c =
-    let part = c.in_ok-part.ensures in
-    let room : c.args.dim < length c.in_ok-part.part.lo = let long = part.0 in let dim = c.requires.dim in omega arith in
-    let at = rw c.hi.ensures.hi at c.interleave.ensures.address in
-    rw (c.values.ensures.values, c.hi-2.ensures.hi)
-    (greatest_part c.args.zbox.now c.in_ok-part.part c.args.z c.args.free c.args.dim (λ a. c.args.z ≤ a) part (Some _)
-    (greatest_corner c.shape.result c.in_ok-part.part c.shape.ensures.corners c.args.dim c.args.z room (let le = c.if-interleave-z.false in omega arith)))
+    let at = c.interleave.ensures.address in
+    let long = c.end_at-end.ensures.length in
+    rw c.values.ensures.values
+    (end_greatest _ c.args.zbox.now c.end_at-end.ensures.corners c.args.z c.args.free _ c.end_at-end.ensures.end c.args.dim (let dim = c.requires.dim in omega arith)
+    ((rw c.lo.ensures.lo at c.if-not-is_at_most.ensures.point).0 refl) (let le = c.if-interleave-z.false in omega arith))

@@ -1,11 +1,16 @@
 -- The greatest of the two halves is the greatest of the span.
-use Rattle.std.proofs.Common.{◌∙◌, ℕ, ap, min, Some}
-use Rattle.ub_bigmin.proofs.EventFacts.{no_span, greatest_clamped, greatest_both, greatest_low, greatest_high}
+use Rattle.std.proofs.Common.{◌∙◌, ℕ, ap, min, refl, Some}
+use Rattle.ub_bigmin.proofs.EventFacts.{no_span, greatest_clamped, greatest_both, greatest_low, greatest_high, greatest_first}
 use Rattle.ub_bigmin.proofs.event.greatest_in_box.Goals as goal
 
 pub returns-then-to-from : goal.returns-then-to-from
 returns-then-to-from c =
     no_span c.shape.result c.args.zbox.now c.shape.ensures.corners c.args.dim c.args.from c.args.to c.min-to.result (c.min-to.ensures ∙ ap (λ (n : ℕ). min c.args.to n) c.last.ensures) c.if-to-from.true
+
+pub returns-then-is_greatest : goal.returns-then-is_greatest
+returns-then-is_greatest c =
+    greatest_clamped c.shape.result c.args.zbox.now c.shape.ensures.corners c.args.dim c.args.from c.args.to c.min-to.result (c.min-to.ensures ∙ ap (λ (n : ℕ). min c.args.to n) c.last.ensures) _
+    (greatest_first c.args.zbox.now c.args.dim c.args.from c.min-to.result c.free_places-free.result c.free_places-free.ensures.halved _ (c.if-is_greatest.ensures refl) c.greatest_from-low.ensures)
 
 pub returns-in-Some-Some : goal.returns-in-Some-Some
 returns-in-Some-Some c =

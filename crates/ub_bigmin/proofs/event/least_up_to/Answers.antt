@@ -1,21 +1,22 @@
 -- The least corner of the part has the least address and the least coordinate.
-use Rattle.std.proofs.Common.{◌<◌, ◌≤◌, length, arith, None, Some}
-use Rattle.ub_bigmin.proofs.EdgeFacts.{least_part, least_corner_none, least_corner}
+use Rattle.std.proofs.Common.{arith, refl}
+use Rattle.ub_bigmin.proofs.PartFacts.{start_outside, start_past, start_least}
+use Rattle.ub_bigmin.proofs.event.least_up_to.Goals.{then-not-is_at_most-via-then-not-is_at_most, then-not-is_at_most-via-else-not-is_at_most+then-z-interleave}
 use Rattle.ub_bigmin.proofs.event.least_up_to.Goals as goal
 
-pub returns-then-z-interleave : goal.returns-then-z-interleave
-returns-then-z-interleave c =
-    let part = c.in_ok-part.ensures in
-    let room : c.args.dim < length c.in_ok-part.part.lo = let long = part.0 in let dim = c.requires.dim in omega arith in
-    let at = rw c.lo.ensures.lo at c.interleave.ensures.address in
-    least_part c.args.zbox.now c.in_ok-part.part c.args.z c.args.free c.args.dim (λ a. a ≤ c.args.z) part None
-    (least_corner_none c.shape.result c.in_ok-part.part c.shape.ensures.corners c.args.dim c.args.z room (let lt = c.if-z-interleave.true in omega arith))
+pub returns-then-not-is_at_most : goal.returns-then-not-is_at_most
+returns-then-not-is_at_most c = elim c.then-not-is_at_most.branch [
+  | then-not-is_at_most-via-then-not-is_at_most w ↦
+      start_outside _ c.args.zbox.now c.start_at-start.ensures.corners c.args.z c.args.free _ c.start_at-start.ensures.start (λ under. let t = (rw c.hi.ensures.hi at w.if-not-is_at_most.ensures.point).1 under in cc) c.args.dim
+  | then-not-is_at_most-via-else-not-is_at_most+then-z-interleave w ↦
+      let at = w.interleave.ensures.address in
+      start_past _ c.args.zbox.now c.start_at-start.ensures.corners c.args.z c.args.free _ c.start_at-start.ensures.start (let lt = w.if-z-interleave.true in omega arith) c.args.dim
+]
 
 pub returns : goal.returns
 returns c =
-    let part = c.in_ok-part.ensures in
-    let room : c.args.dim < length c.in_ok-part.part.lo = let long = part.0 in let dim = c.requires.dim in omega arith in
-    let at = rw c.lo.ensures.lo at c.interleave.ensures.address in
-    rw (c.values.ensures.values, c.lo-2.ensures.lo)
-    (least_part c.args.zbox.now c.in_ok-part.part c.args.z c.args.free c.args.dim (λ a. a ≤ c.args.z) part (Some _)
-    (least_corner c.shape.result c.in_ok-part.part c.shape.ensures.corners c.args.dim c.args.z room (let le = c.if-z-interleave.false in omega arith)))
+    let at = c.interleave.ensures.address in
+    let long = c.start_at-start.ensures.length in
+    rw c.values.ensures.values
+    (start_least _ c.args.zbox.now c.start_at-start.ensures.corners c.args.z c.args.free _ c.start_at-start.ensures.start c.args.dim (let dim = c.requires.dim in omega arith)
+    ((rw c.hi.ensures.hi at c.if-not-is_at_most.ensures.point).0 refl) (let le = c.if-z-interleave.false in omega arith))
