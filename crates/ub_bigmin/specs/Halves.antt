@@ -20,10 +20,11 @@ IsHalfUpTo k z a = (a / 2 ^ k ≡ z / 2 ^ k) × (a ≤ z)
 abbrev pub IsValueOf : Corners → (ℕ → Type 0) → ℕ → ℕ → Type 0
 IsValueOf b P dim v = (p : List ℕ) × IsInside b p × P (address p) × (slice_index p dim ≡ v)
 
--- a coordinate was found, and none of those in the set is less, or none is greater
+-- a coordinate was found, and of those of the set none is less
 abbrev pub IsUnder : Corners → (ℕ → Type 0) → ℕ → Option ℕ → Type 0
 IsUnder b P dim found = MatchOption found ⊥ (λ n. (v : ℕ) → IsValueOf b P dim v → n ≤ v)
 
+-- a coordinate was found, and of those of the set none is greater
 abbrev pub IsOver : Corners → (ℕ → Type 0) → ℕ → Option ℕ → Type 0
 IsOver b P dim found = MatchOption found ⊥ (λ n. (v : ℕ) → IsValueOf b P dim v → v ≤ n)
 
@@ -40,10 +41,11 @@ IsJoin p q join = (r : List ℕ) → IsAtMost join r ↔ (IsAtMost p r × IsAtMo
 abbrev pub IsMeet : List ℕ → List ℕ → List ℕ → Type 0
 IsMeet p q meet = (r : List ℕ) → IsAtMost r meet ↔ (IsAtMost r p × IsAtMost r q)
 
--- the box's least corner joined with the point of the least address that agrees with z from place k up, and its greatest corner
--- met with that of the greatest such address: the corners of that part, where it isn't empty
+-- the join of the box's least corner and the point of the least address that agrees with z from place k up: the least corner
+-- of that part, where it isn't empty
 abbrev pub IsStart : Corners → ℕ → ℕ → List ℕ → Type 0
 IsStart b z k start = (low : List ℕ) × IsPoint (length b.lo) low × (address low ≡ z / 2 ^ k * 2 ^ k) × IsJoin b.lo low start
 
+-- the meet of the box's greatest corner and the point of the greatest such address: the part's greatest corner
 abbrev pub IsEnd : Corners → ℕ → ℕ → List ℕ → Type 0
 IsEnd b z k end = (high : List ℕ) × IsPoint (length b.lo) high × (address high ≡ z / 2 ^ k * 2 ^ k + (2 ^ k - 1)) × IsMeet b.hi high end
