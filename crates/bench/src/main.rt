@@ -20,10 +20,6 @@
 //
 // `bench boxes N` makes the boxes of a condition of 64 comparisons and 4096 cells N times, and prints how many they were.
 //
-// `bench index N` puts such rows in, and prints the nanoseconds of a search at an address, and of the next region that meets a box of
-// a tenth of the space after one that does: in the table's index, the pages of which are all held, and by turns with it in a directory of
-// the same regions in memory. The checksums of 100,000 answers of each must be the same.
-//
 // `bench trial` tries a UB-tree beside its definition, which is worked on plain lists: by changes at random, each of which is compared;
 // by tables that are closed and opened again; and by a store that fails at each of its calls in turn. It prints a line for each series.
 // `bench trial tall` tries one table too whose index gets a third level, and loses it again, and `bench trial levels` only such tables:
@@ -38,7 +34,6 @@ mod asking;
 mod changes;
 mod clock;
 mod conditions;
-mod directory;
 mod events;
 mod failing;
 mod fill;
@@ -50,7 +45,6 @@ mod numbers;
 mod pages;
 mod plane;
 mod reopening;
-mod searches;
 mod spaces;
 mod table;
 mod telling;
@@ -64,7 +58,6 @@ use events::events;
 use fill::{Filling, Order};
 use generator::Generator;
 use pages::read_and_filter;
-use searches::tell_searches;
 use std::process::ExitCode;
 use std::{env, io};
 use telling::{COUNTING, CUBES, ORDERS, tell};
@@ -196,7 +189,6 @@ fn tell_asked(rt: &HostRuntime, words: &[&str; 4]) -> io::Result<()> {
         "held" => tell(rt, filling(Order::Made, rows, 3), &CUBES),
         "count" => tell(rt, filling(Order::Made, rows, 3), &COUNTING),
         "orders" => tell(rt, filling(Order::Made, rows, 3), &ORDERS),
-        "index" => tell_searches(rt, filling(Order::Made, rows, 3)),
         "boxes" => tell_boxes(rt, second.unwrap_or(1)),
         "pages" => tell_pages(rt, second.unwrap_or(2), third.unwrap_or(1)),
         _ => tell_checksums(
