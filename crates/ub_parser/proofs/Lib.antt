@@ -8,6 +8,7 @@ mod FaultFacts
 mod OneFault
 mod GroupFacts
 mod ParseFacts
+mod ListedFacts
 mod ValueFacts
 mod MisfitFacts
 mod PosedFacts

@@ -1,6 +1,7 @@
 -- What a statement that is built says, and that it may be given to a table.
-use Rattle.std.proofs.Common.{◌≡◌, ◌⊎◌, ◌≤◌, ℕ, List, length, Contains, sym, ap, subst, ◌∙◌, inl, inr}
+use Rattle.std.proofs.Common.{◌≡◌, ◌⊎◌, ◌≤◌, ℕ, List, length, Contains, sym, ap, subst, ◌∙◌, inl, inr, Result, Ok, Err}
 use Rattle.std.specs.List.{All}
+use Rattle.std.specs.Result.{IsErrAnd, IfErr, MatchResult}
 use Rattle.ub_lexer.specs.Tokens.{text_of, AreSpelled}
 use Rattle.ub_lexer.specs.declared.token.Token.{Token}
 use Rattle.ub_query.specs.Posed.{IsPosed}
@@ -119,3 +120,12 @@ module _ (source : List ℕ) (schema : Schema) (tokens : List Token) (bytes : No
   -- it is accepted where it has none
   pub accepted_so : ((fault : SqlFault) → ¬ IsStatedMisfit source schema s fault) → (c : Command) → c ≡ command_of source schema s → IsAccepted source schema tokens c
   accepted_so none c says = record { syntax = s; is = is; fits = fits source schema tokens s bytes large is one none; says = says }
+
+-- where memory was refused nothing else is told
+pub only_memory : {T : Type 0} (r : Result T SqlFault) (P : T → Type 0) → IsErrAnd r (λ x. x ≡ Memory) → MatchResult r P (λ fault. fault ≡ Memory)
+only_memory (Ok x) P h = absurd h
+only_memory (Err e) P h = h
+
+pub memory_or : {T : Type 0} (r : Result T SqlFault) (Q : SqlFault → Type 0) → IsErrAnd r (λ x. x ≡ Memory) → IfErr r (λ fault. (fault ≡ Memory) ⊎ Q fault)
+memory_or (Ok x) Q h = tt
+memory_or (Err e) Q h = inl h

@@ -1,5 +1,6 @@
 -- The machine with a greater depth does the same, but for a refusal of depth.
-use Rattle.std.proofs.Common.{◌≡◌, ◌≢◌, ◌⊎◌, ℕ, zero, suc, ◌+◌, Bool, true, false, List, [], ◌∷◌, map, Result, Ok, Err, refl, ap, ◌∙◌, inl, inr, arith, if◌then◌else◌}
+use Rattle.std.proofs.Common.{◌≡◌, ◌≢◌, ◌⊎◌, ℕ, zero, suc, ◌+◌, Bool, true, false, List, [], ◌∷◌, map, Result, Ok, Err, refl, sym, ap, ◌∙◌, inl, inr, arith, if◌then◌else◌}
+use Rattle.std.proofs.lemmas.Bool.{false≢true}
 use Rattle.ub_syntax.specs.Grammar.{Lexeme, symbol_of}
 use Rattle.ub_syntax.specs.Machine.{Config, config, if_ok, and_then, is_fixed, item, comparison, literal, inner, operand, nested, expand, turn_to, begin, items, after_item, after_table, after_operand, after_group, after_direction, after_key, values, after_value, after_deleted, after_condition, follow, config_of, step, reads}
 use Rattle.ub_syntax.specs.declared.symbol.Symbol.{Symbol}
@@ -177,69 +178,77 @@ reads_raise k n c d (l ∷ ls) e =
     ap (λ (t : Result Config Refusal). and_then t (λ x. reads (n + k) x ls)) (up ∙ ap (if_ok (raised k)) went)
     ∙ reads_raise k n f.0 d ls f.2
 
+-- it isn't refused for depth
+abbrev is_quiet : {A : Type 0} → Result A Refusal → Bool
+is_quiet (Err TooDeep) = false
+is_quiet _ = true
+
+quiet : {A : Type 0} (r : Result A Refusal) → is_quiet r ≡ true → r ≢ Err TooDeep
+quiet r h e = false≢true (sym (ap is_quiet e) ∙ h)
+
 -- no end of a statement refuses for depth
 never : (n : ℕ) (r : Rest) (s : Symbol) → follow n r s ≢ Err TooDeep
 never n rest.Start s = begin_never s
   where
     begin_never : (s : Symbol) → begin s ≢ Err TooDeep
-    begin_never symbol.Select = λ e. cc
-    begin_never _ = λ e. cc
+    begin_never symbol.Select = λ e. quiet _ refl e
+    begin_never _ = λ e. quiet _ refl e
 never n rest.Items s = items_never s
   where
     items_never : (s : Symbol) → items s ≢ Err TooDeep
-    items_never symbol.Star = λ e. cc
-    items_never _ = λ e. cc
+    items_never symbol.Star = λ e. quiet _ refl e
+    items_never _ = λ e. quiet _ refl e
 never n rest.AfterItem s = after_item_never s
   where
     after_item_never : (s : Symbol) → after_item s ≢ Err TooDeep
-    after_item_never symbol.From = λ e. cc
-    after_item_never _ = λ e. cc
+    after_item_never symbol.From = λ e. quiet _ refl e
+    after_item_never _ = λ e. quiet _ refl e
 never n rest.AfterTable s = after_table_never n s
   where
     after_table_never : (n : ℕ) (s : Symbol) → after_table n s ≢ Err TooDeep
-    after_table_never n symbol.Where = λ e. cc
-    after_table_never n _ = λ e. cc
+    after_table_never n symbol.Where = λ e. quiet _ refl e
+    after_table_never n _ = λ e. quiet _ refl e
 never n rest.AfterOperand s = after_operand_never n s
   where
     after_operand_never : (n : ℕ) (s : Symbol) → after_operand n s ≢ Err TooDeep
-    after_operand_never n symbol.And = λ e. cc
-    after_operand_never n _ = λ e. cc
+    after_operand_never n symbol.And = λ e. quiet _ refl e
+    after_operand_never n _ = λ e. quiet _ refl e
 never n rest.AfterGroup s = after_group_never s
   where
     after_group_never : (s : Symbol) → after_group s ≢ Err TooDeep
-    after_group_never symbol.Comma = λ e. cc
-    after_group_never _ = λ e. cc
+    after_group_never symbol.Comma = λ e. quiet _ refl e
+    after_group_never _ = λ e. quiet _ refl e
 never n rest.AfterKey s = after_key_never s
   where
     after_key_never : (s : Symbol) → after_key s ≢ Err TooDeep
-    after_key_never symbol.Comma = λ e. cc
-    after_key_never _ = λ e. cc
+    after_key_never symbol.Comma = λ e. quiet _ refl e
+    after_key_never _ = λ e. quiet _ refl e
 never n rest.AfterDirection s = after_direction_never s
   where
     after_direction_never : (s : Symbol) → after_direction s ≢ Err TooDeep
-    after_direction_never symbol.Comma = λ e. cc
-    after_direction_never _ = λ e. cc
+    after_direction_never symbol.Comma = λ e. quiet _ refl e
+    after_direction_never _ = λ e. quiet _ refl e
 never n rest.Values s = values_never s
   where
     values_never : (s : Symbol) → values s ≢ Err TooDeep
-    values_never symbol.Open = λ e. cc
-    values_never _ = λ e. cc
+    values_never symbol.Open = λ e. quiet _ refl e
+    values_never _ = λ e. quiet _ refl e
 never n rest.AfterValue s = after_value_never s
   where
     after_value_never : (s : Symbol) → after_value s ≢ Err TooDeep
-    after_value_never symbol.Comma = λ e. cc
-    after_value_never _ = λ e. cc
+    after_value_never symbol.Comma = λ e. quiet _ refl e
+    after_value_never _ = λ e. quiet _ refl e
 never n rest.AfterDeleted s = after_deleted_never n s
   where
     after_deleted_never : (n : ℕ) (s : Symbol) → after_deleted n s ≢ Err TooDeep
-    after_deleted_never n symbol.Where = λ e. cc
-    after_deleted_never n _ = λ e. cc
+    after_deleted_never n symbol.Where = λ e. quiet _ refl e
+    after_deleted_never n _ = λ e. quiet _ refl e
 never n rest.AfterCondition s = after_condition_never n s
   where
     after_condition_never : (n : ℕ) (s : Symbol) → after_condition n s ≢ Err TooDeep
-    after_condition_never n symbol.And = λ e. cc
-    after_condition_never n _ = λ e. cc
-never n rest.End s = λ e. cc
+    after_condition_never n symbol.And = λ e. quiet _ refl e
+    after_condition_never n _ = λ e. quiet _ refl e
+never n rest.End s = λ e. quiet _ refl e
 
 abbrev Opens : Symbol → Type 0
 Opens s = (s ≡ symbol.Open) ⊎ (s ≡ symbol.Not)
@@ -247,29 +256,29 @@ Opens s = (s ≡ symbol.Open) ⊎ (s ≡ symbol.Not)
 operand_deep : (n : ℕ) (s : Symbol) → operand n s ≡ Err TooDeep → (row : Row) × (operand (n + 1) s ≡ Ok row) × Opens s
 operand_deep zero symbol.Not e = (One (goal.Operand 0), refl, inr refl)
 operand_deep zero symbol.Open e = (Two (goal.Operand 0) (goal.Nested 0), refl, inl refl)
-operand_deep (suc n) symbol.Not e = cc
-operand_deep (suc n) symbol.Open e = cc
-operand_deep n _ e = cc
+operand_deep (suc n) symbol.Not e = absurd (quiet _ refl e)
+operand_deep (suc n) symbol.Open e = absurd (quiet _ refl e)
+operand_deep n _ e = absurd (quiet _ refl e)
 
 token_never : (b : Bool) → (let r : Result Row Refusal = if b then Ok Nothing else Err Syntax in r) ≢ Err TooDeep
-token_never true = λ e. cc
-token_never false = λ e. cc
+token_never true = λ e. quiet _ refl e
+token_never false = λ e. quiet _ refl e
 
 item_never : (s : Symbol) → item s ≢ Err TooDeep
-item_never symbol.Name = λ e. cc
-item_never _ = λ e. cc
+item_never symbol.Name = λ e. quiet _ refl e
+item_never _ = λ e. quiet _ refl e
 
 comparison_never : (s : Symbol) → comparison s ≢ Err TooDeep
-comparison_never symbol.Between = λ e. cc
-comparison_never _ = λ e. cc
+comparison_never symbol.Between = λ e. quiet _ refl e
+comparison_never _ = λ e. quiet _ refl e
 
 literal_never : (s : Symbol) → literal s ≢ Err TooDeep
-literal_never symbol.Number = λ e. cc
-literal_never _ = λ e. cc
+literal_never symbol.Number = λ e. quiet _ refl e
+literal_never _ = λ e. quiet _ refl e
 
 nested_never : (n : ℕ) (s : Symbol) → nested n s ≢ Err TooDeep
-nested_never n symbol.Close = λ e. cc
-nested_never n _ = λ e. cc
+nested_never n symbol.Close = λ e. quiet _ refl e
+nested_never n _ = λ e. quiet _ refl e
 
 expand_deep : (g : Goal) (s : Symbol) → expand g s ≡ Err TooDeep → (row : Row) × (expand (raise 1 g) s ≡ Ok row) × Opens s
 expand_deep (goal.Token f) s e = absurd (token_never (is_fixed f s) e)

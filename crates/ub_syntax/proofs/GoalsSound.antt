@@ -1,5 +1,6 @@
 -- What a goal's lexemes are to the grammar.
 use Rattle.std.proofs.Common.{◌≡◌, ◌⊎◌, ℕ, zero, suc, List, [], ◌∷◌, ◌++◌, Bool, true, false, Result, Ok, Err, refl, sym, ap, ◌∙◌, append_assoc, inl, inr, subst, if◌then◌else◌}
+use Rattle.std.proofs.lemmas.Bool.{false≢true}
 use Rattle.std.proofs.lemmas.List.{append-nil}
 use Rattle.ub_lexer.specs.declared.token.Token.{Token}
 use Rattle.ub_syntax.specs.Grammar.{Lexeme, symbol_of, Is, IsToken, AreJoined, IsChain, IsLiteral, IsComparison, IsDisjunction, IsOperand, IsCondition, IsItem}
@@ -68,7 +69,11 @@ is_this fixed.Number symbol.Number h = refl
 is_this fixed.Open symbol.Open h = refl
 is_this fixed.Star symbol.Star h = refl
 is_this fixed.Close symbol.Close h = refl
-is_this _ _ h = cc
+is_this _ _ h = absurd (false≢true h)
+
+-- what is refused gives nothing
+pub none_given : {A B : Type 0} (f : Refusal) (x : A) → (let r : Result A Refusal = Err f in r) ≡ Ok x → B
+none_given f x e = let never : ⊥ = cc in absurd never
 
 abbrev good : Row → Result Row Refusal
 good row = Ok row
@@ -169,7 +174,7 @@ item_stands (symbol.Aggregate a) l row ls is e h =
     let p = three (goal.Token fixed.Open) (goal.Token fixed.Name) (goal.Token fixed.Close) ls (stand (Three (goal.Token fixed.Open) (goal.Token fixed.Name) (goal.Token fixed.Close)) row ls e h) in
     let name = p.5 in
     (Aggregate a l.token name.0.token, (l ∷ [], p.0, p.1, p.2, ap (λ (k : List Lexeme). l ∷ k) p.3, alone (symbol.Aggregate a) l [] is refl, p.4, (name.0, name.1, name.2, refl), p.6))
-item_stands _ l row ls is e h = cc
+item_stands _ l row ls is e h = none_given _ _ e
 
 comparison_stands : (s : Symbol) (l : Lexeme) (row : Row) (ls : List Lexeme) → symbol_of l ≡ s → comparison s ≡ Ok row → StandAll (goals_of row) ls → Stands goal.Comparison (l ∷ ls)
 comparison_stands (symbol.Operator o) l row ls is e h = λ name column named.
@@ -180,7 +185,7 @@ comparison_stands symbol.Between l row ls is e h = λ name column named.
     let low = p.4 in
     let high = p.6 in
     (between column low.0 high.0, (name, l ∷ [], p.0, p.1, p.2, ap (λ (k : List Lexeme). name ++ (l ∷ k)) p.3, named, (l, refl, is), low.1, p.5, high.1))
-comparison_stands _ l row ls is e h = cc
+comparison_stands _ l row ls is e h = none_given _ _ e
 
 literal_stands : (s : Symbol) (l : Lexeme) (row : Row) (ls : List Lexeme) → symbol_of l ≡ s → literal s ≡ Ok row → StandAll (goals_of row) ls → Stands goal.Literal (l ∷ ls)
 literal_stands symbol.Number l row ls is e h =
@@ -188,7 +193,7 @@ literal_stands symbol.Number l row ls is e h =
 literal_stands symbol.Minus l row ls is e h =
     let digits = one (goal.Token fixed.Number) ls (stand (One (goal.Token fixed.Number)) row ls e h) in
     (record { is_negative = true; digits = digits.0.token }, inr (refl, l ∷ [], ls, refl, (l, refl, is), (digits.0, digits.1, digits.2, refl)))
-literal_stands _ l row ls is e h = cc
+literal_stands _ l row ls is e h = none_given _ _ e
 
 comparison_operand : (n : ℕ) (ls : List Lexeme) (c : Shape) → IsComparison ls c → IsOperand n ls c
 comparison_operand zero ls c h = h
@@ -199,17 +204,17 @@ operand_stands : (n : ℕ) (s : Symbol) (l : Lexeme) (row : Row) (ls : List Lexe
 operand_stands n symbol.Name l row ls is e h =
     let c = one goal.Comparison ls (stand (One goal.Comparison) row ls e h) (l ∷ []) l.token (alone symbol.Name l [] is refl) in
     (c.0, comparison_operand n (l ∷ ls) c.0 c.1)
-operand_stands zero symbol.Not l row ls is e h = cc
+operand_stands zero symbol.Not l row ls is e h = none_given _ _ e
 operand_stands (suc n) symbol.Not l row ls is e h =
     let c = one (goal.Operand n) ls (stand (One (goal.Operand n)) row ls e h) in
     (neither c.0, inr (inl (l ∷ [], ls, c.0, refl, (l, refl, is), c.1, refl)))
-operand_stands zero symbol.Open l row ls is e h = cc
+operand_stands zero symbol.Open l row ls is e h = none_given _ _ e
 operand_stands (suc n) symbol.Open l row ls is e h =
     let p = two (goal.Operand n) (goal.Nested n) ls (stand (Two (goal.Operand n) (goal.Nested n)) row ls e h) in
     let c = p.3 in
     let r = p.4 p.0 c.0 (lone (IsOperand n) p.0 c.0 c.1) in
     (r.2, inr (inr (l ∷ [], r.0, r.1, ap (λ (k : List Lexeme). l ∷ k) (p.2 ∙ r.3), (l, refl, is), r.4, r.5)))
-operand_stands n _ l row ls is e h = cc
+operand_stands n _ l row ls is e h = none_given _ _ e
 
 nested_more : (n : ℕ) (l : Lexeme) (row : Row) (ls : List Lexeme) → (Is symbol.And (l ∷ []) ⊎ Is symbol.Or (l ∷ [])) → good (Two (goal.Operand n) (goal.Nested n)) ≡ good row
     → StandAll (goals_of row) ls → Stands (goal.Nested n) (l ∷ ls)
@@ -226,7 +231,7 @@ nested_stands n symbol.And l row ls is e h = nested_more n l row ls (inl (l, ref
 nested_stands n symbol.Or l row ls is e h = nested_more n l row ls (inr (l, refl, is)) e h
 nested_stands n symbol.Close l row ls is e h = λ front c known.
     (front, l ∷ [], c, ap (λ (k : List Lexeme). front ++ (l ∷ k)) (stand Nothing row ls e h), known, (l, refl, is))
-nested_stands n _ l row ls is e h = cc
+nested_stands n _ l row ls is e h = none_given _ _ e
 
 -- a goal's first lexeme and what the goals are for which it then asks make up the goal
 pub goal_stands : (g : Goal) (l : Lexeme) (row : Row) (ls : List Lexeme) → expand g (symbol_of l) ≡ Ok row → StandAll (goals_of row) ls → Stands g (l ∷ ls)

@@ -1,4 +1,5 @@
 pub mod SymbolFacts
+pub mod Turns
 pub mod Parts
 pub mod Equal
 pub mod Chains

@@ -1,5 +1,6 @@
 -- Lexemes after which the machine may end are a statement.
 use Rattle.std.proofs.Common.{◌≡◌, ◌⊎◌, ℕ, List, [], ◌∷◌, ◌++◌, Bool, true, false, Option, Some, None, Result, Ok, Err, refl, sym, ap, ◌∙◌, append_assoc, inl, inr, subst}
+use Rattle.std.proofs.lemmas.Bool.{false≢true}
 use Rattle.std.proofs.lemmas.List.{append-nil}
 use Rattle.ub_lexer.specs.declared.token.Token.{Token}
 use Rattle.ub_syntax.specs.Grammar.{Lexeme, symbol_of, Is, IsToken, AreJoined, IsCondition, IsOperand, IsItem, IsSelection, IsKey, IsLiteral, IsOptional, IsFilter, IsGroup, IsOrder, IsLimit, IsExplain, IsSelect, IsValue, IsStatement}
@@ -22,7 +23,7 @@ use Rattle.ub_syntax.specs.declared.machine.Row.{Row}
 use Rattle.ub_syntax.specs.declared.machine.Row.TheVariants.{Nothing, One, Two, Three}
 use Rattle.ub_syntax.specs.declared.machine.Turn.{Turn}
 use Rattle.ub_syntax.specs.declared.machine.Refusal.{Refusal}
-use Rattle.ub_syntax.proofs.GoalsSound.{StandAll, split, joined_more, lone, condition_more, one, two, three, alone, item_stands, goal_stands}
+use Rattle.ub_syntax.proofs.GoalsSound.{StandAll, split, joined_more, lone, condition_more, one, two, three, alone, item_stands, goal_stands, none_given}
 
 -- the fronts of a statement, part by part: up to SELECT
 record Head (ls : List Lexeme) : Type 0 where
@@ -338,16 +339,16 @@ inserted n ls front close token e v is =
 
 -- where the machine may end
 ended : (n : ℕ) (r : Rest) (ls : List Lexeme) → AtRest n r ls → may_end r ≡ true → (s : Stated) × IsStatement n ls s
-ended n rest.Start ls h e = cc
-ended n rest.Items ls h e = cc
-ended n rest.AfterItem ls h e = cc
+ended n rest.Start ls h e = absurd (false≢true e)
+ended n rest.Items ls h e = absurd (false≢true e)
+ended n rest.AfterItem ls h e = absurd (false≢true e)
 ended n rest.AfterTable ls h e = filtered_ends n ls (filtered_of_table n ls h)
 ended n rest.AfterOperand ls h e = filtered_ends n ls (filtered_of_condition n ls h)
 ended n rest.AfterGroup ls h e = ordered_ends n ls (ordered_of_grouped n ls (grouped_of_names n ls h))
 ended n rest.AfterKey ls h e = ordered_ends n ls (ordered_of_keys n ls h.ordering)
 ended n rest.AfterDirection ls h e = ordered_ends n ls (ordered_of_keys n ls h)
-ended n rest.Values ls h e = cc
-ended n rest.AfterValue ls h e = cc
+ended n rest.Values ls h e = absurd (false≢true e)
+ended n rest.AfterValue ls h e = absurd (false≢true e)
 ended n rest.AfterDeleted ls h e = deleted n ls ls [] None (sym (append-nil ls)) h refl
 ended n rest.AfterCondition ls h e =
     deleted n ls h.tabled (h.word ++ h.list) (Some h.condition) h.parts h.tabled_is (h.word, h.list, refl, h.word_is, h.condition_is)
@@ -382,7 +383,7 @@ limit_turns n symbol.Limit l turn front ls is e h known =
       ordered_is = known;
       limit_is = (l ∷ [], ls, refl, (l, refl, is), (number.0, number.1, number.2, refl));
     }))
-limit_turns n _ l turn front ls is e h known = cc
+limit_turns n _ l turn front ls is e h known = none_given _ _ e
 
 key_alone : (ls : List Lexeme) (x : Item) → IsItem ls x → (k : OrderKey) × IsKey ls k
 key_alone ls x h = (record { item = x; is_descending = false }, (ls, [], sym (append-nil ls), h, inl (refl, inl refl)))
@@ -591,12 +592,12 @@ item_turns n symbol.From l turn front ls is e h known =
       from_is = (l, refl, is);
       name_is = (name.0, name.1, name.2, refl);
     })
-item_turns n _ l turn front ls is e h known = cc
+item_turns n _ l turn front ls is e h known = none_given _ _ e
 
 -- an item's turn
 went : (r : Result Row Refusal) (t : Rest) (turn : Turn) → and_then r (λ row. turn_to row t) ≡ Ok turn → (row : Row) × (r ≡ Ok row) × (turn_to row t ≡ Ok turn)
 went (Ok row) t turn e = (row, refl, e)
-went (Err f) t turn e = cc
+went (Err f) t turn e = none_given _ _ e
 
 first_item : (n : ℕ) (s : Symbol) (l : Lexeme) (turn : Turn) (front ls : List Lexeme) → symbol_of l ≡ s → and_then (item s) (λ row. turn_to row rest.AfterItem) ≡ Ok turn
     → StandAll (goals_of turn.row) ls → Head front → AtRest n turn.rest (front ++ (l ∷ ls))
@@ -684,7 +685,7 @@ begin_turns n symbol.Delete l turn front ls is e h known =
       from_is = p.3;
       name_is = (name.0, name.1, name.2, refl);
     })
-begin_turns n _ l turn front ls is e h known = cc
+begin_turns n _ l turn front ls is e h known = none_given _ _ e
 
 -- a literal with its first token
 value_of : (ls : List Lexeme) (v : Literal) → IsLiteral ls v → (x : Value) × IsValue ls x
@@ -702,7 +703,7 @@ values_turn n symbol.Open l turn front ls is e h known =
     let v = one goal.Literal ls stands in
     let x = value_of ls v.0 v.1 in
     record { begun = front; left = l ∷ []; list = ls; xs = x.0 ∷ []; parts = refl; begun_is = known; left_is = (l, refl, is); values_are = x.1 })
-values_turn n _ l turn front ls is e h known = cc
+values_turn n _ l turn front ls is e h known = none_given _ _ e
 
 value_turns : (n : ℕ) (s : Symbol) (l : Lexeme) (turn : Turn) (front ls : List Lexeme) → symbol_of l ≡ s → after_value s ≡ Ok turn → StandAll (goals_of turn.row) ls
     → Valuing front → AtRest n turn.rest (front ++ (l ∷ ls))
@@ -724,13 +725,13 @@ value_turns n symbol.Comma l turn front ls is e h known =
 value_turns n symbol.Close l turn front ls is e h known =
     turned n Nothing rest.End turn ls (front ++ (l ∷ ls)) e h
     (λ none. inserted n (front ++ (l ∷ ls)) front (l ∷ ls) l.token refl known (alone symbol.Close l ls is none))
-value_turns n _ l turn front ls is e h known = cc
+value_turns n _ l turn front ls is e h known = none_given _ _ e
 
 deleted_turns : (n : ℕ) (s : Symbol) (l : Lexeme) (turn : Turn) (front ls : List Lexeme) → symbol_of l ≡ s → after_deleted n s ≡ Ok turn → StandAll (goals_of turn.row) ls
     → Deleting front → AtRest n turn.rest (front ++ (l ∷ ls))
 deleted_turns n symbol.Where l turn front ls is e h known =
     turned n (One (goal.Operand n)) rest.AfterCondition turn ls (front ++ (l ∷ ls)) e h (λ stands. where_turns Deleting n l front ls is stands known)
-deleted_turns n _ l turn front ls is e h known = cc
+deleted_turns n _ l turn front ls is e h known = none_given _ _ e
 
 condition_turns : (n : ℕ) (s : Symbol) (l : Lexeme) (turn : Turn) (front ls : List Lexeme) → symbol_of l ≡ s → after_condition n s ≡ Ok turn → StandAll (goals_of turn.row) ls
     → Conditioned Deleting n front → AtRest n turn.rest (front ++ (l ∷ ls))
@@ -738,7 +739,7 @@ condition_turns n symbol.And l turn front ls is e h known =
     turned n (One (goal.Operand n)) rest.AfterCondition turn ls (front ++ (l ∷ ls)) e h (λ stands. joint_turns Deleting n l front ls (inl (l, refl, is)) stands known)
 condition_turns n symbol.Or l turn front ls is e h known =
     turned n (One (goal.Operand n)) rest.AfterCondition turn ls (front ++ (l ∷ ls)) e h (λ stands. joint_turns Deleting n l front ls (inr (l, refl, is)) stands known)
-condition_turns n _ l turn front ls is e h known = cc
+condition_turns n _ l turn front ls is e h known = none_given _ _ e
 
 turns : (n : ℕ) (r : Rest) (l : Lexeme) (turn : Turn) (front ls : List Lexeme) → follow n r (symbol_of l) ≡ Ok turn → StandAll (goals_of turn.row) ls
     → AtRest n r front → AtRest n turn.rest (front ++ (l ∷ ls))
@@ -754,7 +755,7 @@ turns n rest.Values l turn front ls e h known = values_turn n (symbol_of l) l tu
 turns n rest.AfterValue l turn front ls e h known = value_turns n (symbol_of l) l turn front ls refl e h known
 turns n rest.AfterDeleted l turn front ls e h known = deleted_turns n (symbol_of l) l turn front ls refl e h known
 turns n rest.AfterCondition l turn front ls e h known = condition_turns n (symbol_of l) l turn front ls refl e h known
-turns n rest.End l turn front ls e h known = cc
+turns n rest.End l turn front ls e h known = none_given _ _ e
 
 -- the lexemes end a statement where such an end is to come
 abbrev Completes : ℕ → Rest → List Lexeme → Type 0
@@ -792,7 +793,7 @@ by_rest n r l turn ls e h =
 pub after_ok : {T U V : Type 0} (t : Result T Refusal) (f : T → U) (k : U → Result V Refusal) (d : V) → and_then (if_ok f t) k ≡ Ok d
     → (x : T) × (t ≡ Ok x) × (k (f x) ≡ Ok d)
 after_ok (Ok x) f k d e = (x, refl, e)
-after_ok (Err r) f k d e = cc
+after_ok (Err r) f k d e = none_given _ _ e
 
 accepts : (n : ℕ) (goals : List Goal) (r : Rest) (ls : List Lexeme) (d : Config) → reads n (config goals r) ls ≡ Ok d → can_end d ≡ true → Accepts n goals r ls
 accepts n [] r [] d e ends =

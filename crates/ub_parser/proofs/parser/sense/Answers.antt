@@ -1,11 +1,11 @@
 -- What was built is the one statement that the tokens are.
 use Rattle.std.proofs.Common.{◌∙◌, ap, inr}
-use Rattle.std.proofs.lemmas.Result.{err_from_is_err_and}
+use Rattle.std.proofs.lemmas.Result.{IfOk-from_err, err_from_is_err_and}
 use Rattle.ub_syntax.specs.Tree.{select_of, selects, inserts, deletes}
 use Rattle.ub_syntax.specs.declared.syntax.Sentence.TheVariants as sentence
 use Rattle.ub_parser.specs.Outcome.{command, asks, puts, takes}
 use Rattle.ub_query.specs.Shape.{Asked, asked}
-use Rattle.ub_parser.proofs.StatedFacts.{select_written, select_table, delete_written, delete_table, insert_written, select_posed, delete_posed, delete_rows, built_select, built_insert, built_delete, built_one, refused_first, refused_only, refused_one, accepted_so}
+use Rattle.ub_parser.proofs.StatedFacts.{select_written, select_table, delete_written, delete_table, insert_written, select_posed, delete_posed, delete_rows, built_select, built_insert, built_delete, built_one, refused_first, refused_only, refused_one, accepted_so, only_memory, memory_or}
 use Rattle.ub_parser.proofs.ValueFacts.{all_measures, given_values}
 use Rattle.ub_parser.proofs.parser.sense.Goals as goal
 
@@ -140,3 +140,45 @@ returns-in_ok-query-in-Delete-clause-given c =
       delete_posed c.args.source.now c.args.schema.now c.args.tokens.now c.requires.spelled c.requires.numbers (select_of c.in-Delete.syntax) c.in_ok-query-in-Delete.ensures.fits c.in_ok-query-in-Delete.ensures.known (asked c.in_ok-query-in-Delete.query) c.in_ok-query-in-Delete.ensures.asked c.in_ok-query-in-Delete.ensures.over is,
       delete_rows c.args.source.now c.args.schema.now c.args.tokens.now c.requires.spelled c.requires.numbers (select_of c.in-Delete.syntax) c.in_ok-query-in-Delete.ensures.fits c.in_ok-query-in-Delete.ensures.known (asked c.in_ok-query-in-Delete.query) c.in_ok-query-in-Delete.ensures.asked c.in_ok-query-in-Delete.ensures.over is,
     )
+
+pub returns-in_err-sentence-clause-accepted : goal.returns-in_err-sentence-clause-accepted
+returns-in_err-sentence-clause-accepted c = IfOk-from_err c.from_residual.result _ c.from_residual.ensures.0
+
+pub returns-in_err-sentence-clause-given : goal.returns-in_err-sentence-clause-given
+returns-in_err-sentence-clause-given c = IfOk-from_err c.from_residual.result _ c.from_residual.ensures.0
+
+pub returns-in_err-sentence-clause-only : goal.returns-in_err-sentence-clause-only
+returns-in_err-sentence-clause-only c = λ d is. only_memory c.from_residual.result _ c.from_residual.ensures.1
+
+pub returns-in_err-sentence-clause-refused : goal.returns-in_err-sentence-clause-refused
+returns-in_err-sentence-clause-refused c = memory_or c.from_residual.result _ c.from_residual.ensures.1
+
+pub returns-in_err-sentence-clause-only_fault : goal.returns-in_err-sentence-clause-only_fault
+returns-in_err-sentence-clause-only_fault c = λ f is. memory_or c.from_residual.result _ c.from_residual.ensures.1
+
+pub returns-in_err-query-in-Select-clause-accepted : goal.returns-in_err-query-in-Select-clause-accepted
+returns-in_err-query-in-Select-clause-accepted c = IfOk-from_err c.from_residual-in_err-query-in-Select.result _ c.from_residual-in_err-query-in-Select.ensures.0
+
+pub returns-in_err-query-in-Select-clause-given : goal.returns-in_err-query-in-Select-clause-given
+returns-in_err-query-in-Select-clause-given c = IfOk-from_err c.from_residual-in_err-query-in-Select.result _ c.from_residual-in_err-query-in-Select.ensures.0
+
+pub returns-in_err-values-in-Insert-clause-accepted : goal.returns-in_err-values-in-Insert-clause-accepted
+returns-in_err-values-in-Insert-clause-accepted c = IfOk-from_err c.from_residual-in_err-values-in-Insert.result _ c.from_residual-in_err-values-in-Insert.ensures.0
+
+pub returns-in_err-values-in-Insert-clause-given : goal.returns-in_err-values-in-Insert-clause-given
+returns-in_err-values-in-Insert-clause-given c = IfOk-from_err c.from_residual-in_err-values-in-Insert.result _ c.from_residual-in_err-values-in-Insert.ensures.0
+
+pub returns-in_err-values-in-Insert-clause-only : goal.returns-in_err-values-in-Insert-clause-only
+returns-in_err-values-in-Insert-clause-only c = λ d is. only_memory c.from_residual-in_err-values-in-Insert.result _ c.from_residual-in_err-values-in-Insert.ensures.1
+
+pub returns-in_err-values-in-Insert-clause-refused : goal.returns-in_err-values-in-Insert-clause-refused
+returns-in_err-values-in-Insert-clause-refused c = memory_or c.from_residual-in_err-values-in-Insert.result _ c.from_residual-in_err-values-in-Insert.ensures.1
+
+pub returns-in_err-values-in-Insert-clause-only_fault : goal.returns-in_err-values-in-Insert-clause-only_fault
+returns-in_err-values-in-Insert-clause-only_fault c = λ f is. memory_or c.from_residual-in_err-values-in-Insert.result _ c.from_residual-in_err-values-in-Insert.ensures.1
+
+pub returns-in_err-query-in-Delete-clause-accepted : goal.returns-in_err-query-in-Delete-clause-accepted
+returns-in_err-query-in-Delete-clause-accepted c = IfOk-from_err c.from_residual-in_err-query-in-Delete.result _ c.from_residual-in_err-query-in-Delete.ensures.0
+
+pub returns-in_err-query-in-Delete-clause-given : goal.returns-in_err-query-in-Delete-clause-given
+returns-in_err-query-in-Delete-clause-given c = IfOk-from_err c.from_residual-in_err-query-in-Delete.result _ c.from_residual-in_err-query-in-Delete.ensures.0
