@@ -84,6 +84,28 @@ pieces-all f width each xs i all past is =
     let whole : all ≡ flat_map f xs = is ∙ ap (flat_map f) (take-all i xs past) in
     (ap length whole ∙ length-pieces f width each xs, ap (cut (length xs) width) whole ∙ cut-pieces f width each xs)
 
+-- ---- one value for each element, behind others
+
+map-take : {A B : Type 0} (f : A → B) (xs : List A) (i : ℕ) (d : A) → i < length xs
+    → map f (take (suc i) xs) ≡ map f (take i xs) ++ f (slice_index_or xs i d) ∷ []
+map-take f [] i d below = absurd (omega arith)
+map-take f (x ∷ xs) zero d below = refl
+map-take f (x ∷ xs) (suc i) d below = ap (λ (ys : List _). f x ∷ ys) (map-take f xs i d (omega arith))
+
+pub values-next : {A B : Type 0} (f : A → B) (xs : List A) (i : ℕ) (d : A) (front before after : List B) (y : B) → i < length xs
+    → before ≡ front ++ map f (take i xs) → after ≡ before ++ y ∷ [] → y ≡ f (slice_index_or xs i d) → after ≡ front ++ map f (take (i + 1) xs)
+values-next f xs i d front before after y below is next e =
+    rw add-one (next ∙ ap (λ (ys : List _). ys ++ y ∷ []) is ∙ append_assoc front (map f (take i xs)) (y ∷ [])
+    ∙ ap (λ (z : _). front ++ (map f (take i xs) ++ z ∷ [])) e ∙ ap (λ (ys : List _). front ++ ys) (sym (map-take f xs i d below)))
+
+pub values-all : {A B : Type 0} (f : A → B) (xs : List A) (i : ℕ) (front all : List B) → length xs ≤ i
+    → all ≡ front ++ map f (take i xs) → all ≡ front ++ map f xs
+values-all f xs i front all past is = is ∙ ap (λ (ys : List _). front ++ map f ys) (take-all i xs past)
+
+-- those in front stay
+pub front-stays : {B : Type 0} (front rest all : List B) → all ≡ front ++ rest → take (length front) all ≡ front
+front-stays front rest all is = ap (take (length front)) is ∙ take-append_seam front rest
+
 -- ---- one piece more
 
 -- pieces of another length are none

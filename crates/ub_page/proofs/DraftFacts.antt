@@ -47,11 +47,19 @@ pub record IsDraft (size len n : ℕ) (page value : List ℕ) : Type 0 where
   pub is : take len page ≡ value
   pub room : length value + n ≤ size
 
-fits_in : {size len n : ℕ} {page value : List ℕ} → IsDraft size len n page value → len + n ≤ size
+pub fits_in : {size len n : ℕ} {page value : List ℕ} → IsDraft size len n page value → len + n ≤ size
 fits_in {size} {len} {n} {page} {value} d =
     let count : length (take len page) ≡ length value = ap length d.is in
     let long = d.long in let within = d.within in let room = d.room in
     omega (arith, length-take len page)
+
+-- the bytes behind those written are n or more
+pub mid_long : {size len n : ℕ} {page value : List ℕ} → IsDraft size len n page value → n ≤ length (mid_of len (size - len) page)
+mid_long {size} {len} {n} {page} {value} d =
+    let fits = fits_in d in
+    let long = d.long in
+    let left : length (drop len page) ≤ size - len = rw length-drop (omega arith) in
+    rw (take_whole (size - len) (drop len page) left, length-drop) (omega arith)
 
 -- after a write of n bytes at the end, the rest is zeros, and the bytes stand after those before
 pub after_put : {size len n : ℕ} {page value : List ℕ} → IsDraft size len n page value → (bytes buf : List ℕ) → n ≡ length bytes → buf ≡ bytes ++ drop n (mid_of len (size - len) page)
@@ -62,6 +70,12 @@ after_put {size} {len} {n} {page} {value} d bytes buf is e =
     let count : len + n ≡ length (take len page ++ bytes) = omega (arith, length-append (take len page) bytes, length-take len page) in
     let cut = of_front (take len page ++ bytes) _ _ (len + n) count (put_is size len n page bytes buf long is fits d.blank e) in
     (fits, cut.0, cut.1 ∙ ap (λ (s : List ℕ). s ++ bytes) d.is)
+
+-- and there are n more of them
+pub put_len : {size len n : ℕ} {page value : List ℕ} → IsDraft size len n page value → (bytes buf : List ℕ) → n ≡ length bytes
+    → buf ≡ bytes ++ drop n (mid_of len (size - len) page)
+    → length (take (len + n) (put_mid len (size - len) page buf)) ≡ length value + n
+put_len {value = value} d bytes buf is e = ap length (after_put d bytes buf is e).2 ∙ length-append value bytes ∙ ap (λ (k : ℕ). length value + k) (sym is)
 
 -- the same of a write of one byte
 pub after_push : {size len : ℕ} {page value : List ℕ} → IsDraft size len 1 page value → (x : ℕ)

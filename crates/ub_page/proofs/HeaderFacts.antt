@@ -1,10 +1,11 @@
 -- What the page of a header reads as.
-use Rattle.std.proofs.Common.{inl, inr, ◌≡◌, ◌≢◌, ◌≤◌, ◌<◌, ◌+◌, ◌-◌, ◌*◌, ◌^◌, ◌↔◌, ℕ, zero, suc, List, [], ◌∷◌, ◌++◌, true, false, Result, Ok, Err, IsOk, IfErr, length, take, drop, replicate, if◌then◌else◌, refl, sym, ap, arith, ◌∙◌, append_assoc, length-take-le}
+use Rattle.std.proofs.Common.{inl, inr, ◌≡◌, ◌≢◌, ◌≤◌, ◌<◌, ◌+◌, ◌-◌, ◌*◌, ◌^◌, ◌↔◌, ℕ, zero, suc, List, [], ◌∷◌, ◌++◌, true, false, Result, Ok, Err, IsOk, IfErr, subst, length, take, drop, replicate, if◌then◌else◌, refl, sym, ap, arith, ◌∙◌, append_assoc, length-take-le}
 use Rattle.std.specs.Prelude.{IsErrOf, nat_lt}
 use Rattle.std.proofs.Math.Nat.{mul-div-le}
 use Rattle.std.proofs.lemmas.Bool.{cases_Bool, lt-ltb, ltb-true}
 use Rattle.std.proofs.lemmas.List.{length-append, length-replicate, length-drop}
 use Rattle.std.specs.List.{flat_map, AllByRecursion}
+use Rattle.std.specs.Result.{IfOk, IsErrAnd}
 use Rattle.ub_page.specs.Bytes.{number_bytes, number_at, layout, padded}
 use Rattle.ub_page.specs.Header.{numbers_of, names_of, number_fields, name_bytes, page_of, header_page, header_page_of, IsHeader, IsHeaderOf, IsOldHeader, IsOldVersion, AreInRangeOf, AreLevels, AreSame, IsOfVersion, IsHeaderKind, IsFaultOf, IsHeaderFault, IsOldHeaderFault, directory_pages, version_on, HasNames, columns_on, numbers_on, name_on, names_on, IsNameOn, AreNamesOn}
 use Rattle.ub_page.specs.declared.entries.TheConstants.{MAX_ENTRIES}
@@ -115,6 +116,16 @@ refused_schema (Err e) P Q valid bad p =
     let no : ¬ Q = λ q. (let bad : false ≡ true = valid.1 (p, q) in cc) in
     let is = bad.1 (p, no) in
     (cc, no)
+
+-- the columns of one that is made have different names
+pub made_schema : (r : Result Schema PageFault) (P Q : Type 0) → (IsOk r ↔ (P × Q)) → IfOk r (λ s. Q)
+made_schema (Ok s) P Q valid = (valid.0 refl).1
+made_schema (Err e) P Q valid = tt
+
+-- what holds of a fault holds of what is refused by it
+pub refused_by : {T : Type 0} (P : PageFault → Type 0) (r : Result T PageFault) (e : PageFault) → IsErrAnd r (λ x. x ≡ e) → P e → IfErr r P
+refused_by P (Ok x) e is h = absurd is
+refused_by P (Err f) e is h = subst P (sym is) h
 
 with_same : (n : Numbers) (state dims measures page_rows signed : ℕ) → state ≡ n.state → dims ≡ n.dims → measures ≡ n.measures → page_rows ≡ n.page_rows → signed ≡ n.signed
     → record n { state = state; dims = dims; measures = measures; page_rows = page_rows; signed = signed } ≡ n

@@ -1,7 +1,7 @@
-use Rattle.std.proofs.Common.{sym}
+use Rattle.std.proofs.Common.{arith, sym}
 use Rattle.ub_page.specs.Bytes.{number_bytes}
 use Rattle.ub_page.proofs.BytesFacts.{length-number_bytes}
-use Rattle.ub_page.proofs.DraftFacts.{IsDraft, after_put}
+use Rattle.ub_page.proofs.DraftFacts.{IsDraft, after_put, fits_in, mid_long, put_len}
 use Rattle.ub_page.proofs.draft.Draft.put_u128.Goals as goal
 
 pub invariant_of-self : goal.invariant_of-self
@@ -18,3 +18,26 @@ returns-clause-bytes c =
     let draft : IsDraft 4096 c.self.inside.len 16 c.self.inside.page c.args.self.now
     = record { long = c.self.told; within = c.self.invariant.0; blank = c.self.invariant.1; is = c.self.view_is; room = c.requires } in
     (after_put draft (number_bytes 16 c.args.x) c.write_u128.new.buf (sym (length-number_bytes 16 c.args.x)) c.write_u128.ensures).2
+
+pub returns-clause-len : goal.returns-clause-len
+unfolding number_bytes
+returns-clause-len c =
+    let draft : IsDraft 4096 c.self.inside.len 16 c.self.inside.page c.args.self.now
+    = record { long = c.self.told; within = c.self.invariant.0; blank = c.self.invariant.1; is = c.self.view_is; room = c.requires } in
+    put_len draft (number_bytes 16 c.args.x) c.write_u128.new.buf (sym (length-number_bytes 16 c.args.x)) c.write_u128.ensures
+
+pub write_u128-requires : goal.write_u128-requires
+write_u128-requires c =
+    let draft : IsDraft 4096 c.self.inside.len 16 c.self.inside.page c.args.self.now
+    = record { long = c.self.told; within = c.self.invariant.0; blank = c.self.invariant.1; is = c.self.view_is; room = c.requires } in
+    mid_long draft
+
+pub slice_bounds-write_u128-count : goal.slice_bounds-write_u128-count
+slice_bounds-write_u128-count c = c.self.invariant.0
+
+pub overflow_add-self : goal.overflow_add-self
+overflow_add-self c =
+    let draft : IsDraft 4096 c.self.inside.len 16 c.self.inside.page c.args.self.now
+    = record { long = c.self.told; within = c.self.invariant.0; blank = c.self.invariant.1; is = c.self.view_is; room = c.requires } in
+    let fits = fits_in draft in
+    omega arith

@@ -1,4 +1,4 @@
-use Rattle.std.proofs.Common.{◌≡◌, ◌∙◌, ap, sym, length, map, arith, List}
+use Rattle.std.proofs.Common.{◌≡◌, ◌<◌, ◌≤◌, ◌∙◌, ℕ, ap, sym, subst, length, map, arith, lit<, List}
 use Rattle.std.proofs.lemmas.List.FromFn.{length-map-range_with_len}
 use Rattle.std.specs.List.{range_with_len}
 use Rattle.ub_page.proofs.PutFacts.{ArePutIn, keys_put, rows_put}
@@ -8,6 +8,7 @@ use Rattle.ub_page.proofs.region.RegionPage.insert_at.Goals as goal
 use Rattle.ub_table.specs.Region.{keys_of}
 use Rattle.ub_table.specs.declared.row.Key.{Key}
 use Rattle.ub_table.specs.declared.row.Row.{Row}
+use Rattle.ub_table.specs.declared.schema.TheConstants.{MAX_ROWS}
 
 pub invariant_of-self : goal.invariant_of-self
 invariant_of-self c =
@@ -63,3 +64,38 @@ returns c =
     } in
     let rows = rows_put p.len index row p.keys c.put_in.new.column p.dims c.put_point.new.columns p.measures c.put_values.new.columns put in
     rw (← c.self.view_is) (ap (λ (rs : List Row). record { dims = p.shape; region = record { first = p.first; rows = rs } }) rows)
+
+pub put_in-requires : goal.put_in-requires
+put_in-requires c =
+    let p = c.self.inside in
+    let long = length-map-range_with_len (row_in p.keys p.dims p.measures) 0 p.len in
+    let same = sym (ap (λ (v : RegionView). length v.region.rows) c.self.view_is) ∙ long in
+    (lit< tt, (subst (λ (n : ℕ). n < MAX_ROWS) same c.requires.room, subst (λ (n : ℕ). c.args.index ≤ n) same c.requires.within))
+
+pub put_point-requires-clause-room : goal.put_point-requires-clause-room
+put_point-requires-clause-room c =
+    let p = c.self.inside in
+    let long = length-map-range_with_len (row_in p.keys p.dims p.measures) 0 p.len in
+    let same = sym (ap (λ (v : RegionView). length v.region.rows) c.self.view_is) ∙ long in
+    subst (λ (n : ℕ). n < MAX_ROWS) same c.requires.room
+
+pub put_point-requires-clause-within : goal.put_point-requires-clause-within
+put_point-requires-clause-within c =
+    let p = c.self.inside in
+    let long = length-map-range_with_len (row_in p.keys p.dims p.measures) 0 p.len in
+    let same = sym (ap (λ (v : RegionView). length v.region.rows) c.self.view_is) ∙ long in
+    subst (λ (n : ℕ). c.args.index ≤ n) same c.requires.within
+
+pub put_values-requires-clause-room : goal.put_values-requires-clause-room
+put_values-requires-clause-room c =
+    let p = c.self.inside in
+    let long = length-map-range_with_len (row_in p.keys p.dims p.measures) 0 p.len in
+    let same = sym (ap (λ (v : RegionView). length v.region.rows) c.self.view_is) ∙ long in
+    subst (λ (n : ℕ). n < MAX_ROWS) same c.requires.room
+
+pub put_values-requires-clause-within : goal.put_values-requires-clause-within
+put_values-requires-clause-within c =
+    let p = c.self.inside in
+    let long = length-map-range_with_len (row_in p.keys p.dims p.measures) 0 p.len in
+    let same = sym (ap (λ (v : RegionView). length v.region.rows) c.self.view_is) ∙ long in
+    subst (λ (n : ℕ). c.args.index ≤ n) same c.requires.within
