@@ -1,7 +1,7 @@
 -- The boxes from a front on are the boxes on the sides after it, each behind the front.
-use Rattle.std.proofs.Common.{◌≡◌, ℕ, List, [], ◌∷◌, ◌++◌, map, Bool, true, false, inl, inr, refl, sym, ap, ◌∙◌, append_assoc}
+use Rattle.std.proofs.Common.{◌≡◌, ◌≤◌, ◌<◌, ◌+◌, ◌-◌, ℕ, List, [], ◌∷◌, ◌++◌, map, length, take, drop, get_or, Bool, true, false, inl, inr, refl, sym, ap, arith, ◌∙◌, append_assoc}
 use Rattle.std.proofs.lemmas.Bool.{cases_Bool}
-use Rattle.std.proofs.lemmas.List.{map-append}
+use Rattle.std.proofs.lemmas.List.{map-append, append-nil, take_all}
 use Rattle.std.specs.List.{flat_map}
 use Rattle.ub_bigmin.specs.Box.{Corners}
 use Rattle.ub_boxes.specs.Boxes.{runs, beside, nowhere, boxes_on}
@@ -57,3 +57,22 @@ all-behind (b ∷ bs) = ap (λ (cs : List Corners). b ∷ cs) (all-behind bs)
 
 pub boxes-whole : (test : List ℕ → Bool) (sides : List (List Interval)) → boxes_from test nowhere sides ≡ boxes_on test sides
 boxes-whole test sides = boxes-behind test test nowhere sides (λ p. refl) ∙ all-behind (boxes_on test sides)
+
+-- ---- as the code goes through the sides
+
+pub from_none : (test : List ℕ → Bool) (front : Corners) (sides : List (List Interval)) (some : List Corners) → length sides < 1
+    → some ≡ some ++ boxes_from test front sides
+from_none test front [] some lt = sym (append-nil some)
+from_none test front (side ∷ sides) some lt = absurd (omega arith)
+
+-- the boxes of all intervals of the first side are all boxes
+pub from_first : (test : List ℕ → Bool) (front : Corners) (sides : List (List Interval)) (side items : List Interval) (k : ℕ) → 2 ≤ length sides
+    → side ≡ get_or sides 0 side → items ≡ side → length items ≤ k
+    → flat_map (λ i. boxes_from test (widened front i) (take (length sides - 1) (drop 1 sides))) (take k items) ≡ boxes_from test front sides
+from_first test front [] side items k some is same all = absurd (omega arith)
+from_first test front (first ∷ []) side items k some is same all = absurd (omega arith)
+from_first test front (first ∷ next ∷ sides) side items k some is same all =
+    let first_is : items ≡ first = same ∙ is in
+    let rest : take (length (first ∷ next ∷ sides) - 1) (drop 1 (first ∷ next ∷ sides)) ≡ next ∷ sides =
+    take_all (length (first ∷ next ∷ sides) - 1) (next ∷ sides) (omega arith) in
+    rw (take_all k items all, first_is) (ap (λ others. flat_map (λ i. boxes_from test (widened front i) others) first) rest)

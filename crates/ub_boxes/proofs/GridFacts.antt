@@ -101,3 +101,18 @@ is_ordered_first (first ∷ sides) side items k d h some is same lt =
     let first_is : items ≡ first = same ∙ is in
     let ordered = is_ordered 0 first k d h.0 (rw first_is at lt) in
     rw first_is ordered
+
+-- the first of some sides is one
+pub is_first : (sides : List (List Interval)) (side items : List Interval) → AreSides sides → 1 ≤ length sides
+    → side ≡ get_or sides 0 side → items ≡ side → AreFrom 0 items
+is_first [] side items h some is same = absurd (omega arith)
+is_first (first ∷ sides) side items h some is same =
+    let first_is : items ≡ first = same ∙ is in
+    rw first_is h.0
+
+-- a cut that is left is 1 at least
+pub is_some_cut : (low : ℕ) (cuts : List ℕ) (k : ℕ) → k < length cuts → AreCuts low (drop k cuts) → 1 ≤ get_or cuts k 0
+is_some_cut low cuts k lt h =
+    let parts : AreCuts low (get_or cuts k 0 ∷ drop (suc k) cuts) = rw (drop-cons cuts k 0 lt) at h in
+    let above = parts.0 in
+    omega arith

@@ -1,5 +1,7 @@
-use Rattle.std.proofs.Common.{◌≡◌, ◌∙◌, ◌++◌, ◌∷◌, [], ap, sym, get_or, rules}
+use Rattle.std.proofs.Common.{◌≡◌, ◌∙◌, ◌++◌, ◌∷◌, [], ap, sym, length, get_or, refl, arith, rules}
+use Rattle.std.proofs.lemmas.List.{length-append}
 use Rattle.std.specs.Option.{option_map_or}
+use Rattle.ub_boxes.proofs.GridFacts.{is_ordered}
 use Rattle.ub_boxes.proofs.RunFacts.{up_to-grown, up_to-ended, grown-is}
 use Rattle.ub_boxes.specs.Truths as truth
 use Rattle.ub_boxes.proofs.covering.add_runs.Goals as goal
@@ -20,3 +22,21 @@ loop-interval-preserved c =
           rw (w.boxes-is, w.run-is)
           (up_to-ended _ _ c.loop-interval.run c.args.side.now c.loop-interval.interval-index _ c.loop-interval-test.true _ _ c.loop-interval.invariant _ (sym test ∙ w.if-covers.false) w.in_ok-add_run.ensures)
     ]
+
+pub loop-interval-init : goal.loop-interval-init
+loop-interval-init c = record { left = refl; followed = (0, c.requires.side) }
+
+pub widened-requires-clause-room : goal.widened-requires-clause-room
+widened-requires-clause-room c =
+    let few = c.args.schema.now.counts.few_dims in
+    let dims = c.requires.dims in
+    omega arith
+
+pub widened-requires-clause-ordered : goal.widened-requires-clause-ordered
+widened-requires-clause-ordered c = is_ordered 0 c.args.side.now c.loop-interval.interval-index _ c.requires.side c.loop-interval-test.true
+
+pub covers-requires : goal.covers-requires
+covers-requires c = ap length (c.lo.ensures.lo ∙ ap (λ b. b.lo) c.widened.ensures) ∙ (length-append c.args.front.now.lo _ ∙ c.requires.dims)
+
+pub offset_bounds-side-interval-index : goal.offset_bounds-side-interval-index
+offset_bounds-side-interval-index c = search rules
