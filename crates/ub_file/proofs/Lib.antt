@@ -1,1 +1,2 @@
 pub mod HostFacts
+pub mod MemoryFacts

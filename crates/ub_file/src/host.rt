@@ -35,7 +35,10 @@ where
     if let Ok(file) = open_found(rt, OpenOptions::new().read(true).write(true), path) {
         return Ok(file);
     }
-    open_found(rt, OpenOptions::new().read(true), path).map_err(|_| StoreFault::Device)
+    match open_found(rt, OpenOptions::new().read(true), path) {
+        Ok(file) => Ok(file),
+        Err(_) => Err(StoreFault::Device),
+    }
 }
 
 /// Opens a file for reading and writing, or makes one with no bytes where there is none; one that there is stays as it was. Device
@@ -49,7 +52,10 @@ where
 {
     let mut how = OpenOptions::new();
     let how = how.read(true).write(true).create(true);
-    open_as(rt, how, path).map_err(|_| StoreFault::Device)
+    match open_as(rt, how, path) {
+        Ok(file) => Ok(file),
+        Err(_) => Err(StoreFault::Device),
+    }
 }
 
 /// The store in a file, which is opened, and of which no call has failed yet. Device comes where there is no such file or the
@@ -62,7 +68,10 @@ where
     ensures unfailed { IfOk result (λ store.
         IsUnfailed (⟦<FileStore<HostFile<R::File>> as PageStore>⟧.facts store)) }
 {
-    FileStore::open(open(rt, path)?).map_err(|refused| refused.fault)
+    match FileStore::open(open(rt, path)?) {
+        Ok(store) => Ok(store),
+        Err(refused) => Err(refused.fault),
+    }
 }
 
 /// A store with no pages in a file, which is emptied, or made where there is none; no call of it has failed yet. Device comes where
@@ -79,7 +88,10 @@ where
     ensures unfailed { IfOk result (λ store.
         IsUnfailed (⟦<FileStore<HostFile<R::File>> as PageStore>⟧.facts store)) }
 {
-    FileStore::create(open_or_make(rt, path)?).map_err(|refused| refused.fault)
+    match FileStore::create(open_or_make(rt, path)?) {
+        Ok(store) => Ok(store),
+        Err(refused) => Err(refused.fault),
+    }
 }
 
 // Opens a file that there is: none is made.

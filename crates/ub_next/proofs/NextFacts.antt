@@ -1,7 +1,7 @@
 -- What the words of `ubq next` read as.
-use Rattle.std.proofs.Common.{◌≡◌, ◌≢◌, ◌<◌, ◌≤◌, ◌^◌, ◌==◌, ℕ, zero, suc, List, [], ◌∷◌, length, map, take, Option, Some, None, Bool, true, false, nat_lt, get_or, refl, sym, ap, ◌∙◌, arith, Result, Ok, Err, rules, ◌⊎◌, inl, inr, Bor}
+use Rattle.std.proofs.Common.{◌≡◌, ◌≢◌, ◌<◌, ◌≤◌, ◌^◌, ◌==◌, ℕ, zero, suc, List, [], ◌∷◌, ◌++◌, ◌+◌, length, map, take, Option, Some, None, Bool, true, false, nat_lt, get_or, refl, sym, ap, ap₂, ◌∙◌, arith, Result, Ok, Err, rules, ◌⊎◌, inl, inr, Bor}
 use Rattle.std.proofs.lemmas.Bool.{lt-ltb, ltb-true}
-use Rattle.std.proofs.lemmas.List.{length-map}
+use Rattle.std.proofs.lemmas.List.{length-map, map-append, map_more}
 use Rattle.std.proofs.lemmas.List.Splits.{length-slice_split}
 use Rattle.std.proofs.lemmas.Str.Parse.{IsNumeralModel, numerals_by_value, parse_digits}
 use Rattle.std.specs.Char.{is_ascii_digit}
@@ -87,6 +87,26 @@ IsPointText-all items text point i split done few h =
     let coordinates = length-map point (λ (v : ℕ). Some v) in
     let same = ap (λ (xs : List (Option ℕ)). length xs) read in
     (ap (map (number_in 32)) (sym split) ∙ sym (map_now (number_in 32) items) ∙ read, omega arith)
+
+-- the text is no point where it has more than four pieces
+pub IsPointText-long : (items : List (Bor (List ℕ))) (text point : List ℕ)
+    → map (λ (x : Bor (List ℕ)). x.now) items ≡ slice_split (λ c. c == 44) text → 4 < length items → ¬ (IsPointText text point)
+IsPointText-long items text point split long h =
+    let same = ap (λ (xs : List (List ℕ)). length xs) split in
+    let now = length-map items (λ (x : Bor (List ℕ)). x.now) in
+    let pieces = length-map (slice_split (λ c. c == 44) text) (number_in 32) in
+    let coordinates = length-map point (λ (v : ℕ). Some v) in
+    let read = ap (λ (xs : List (Option ℕ)). length xs) h.0 in
+    let few = h.1 in
+    omega arith
+
+-- one piece more, and the coordinate that it reads as
+pub read_more : (xs : List (Bor (List ℕ))) (i : ℕ) (d : Bor (List ℕ)) (ys : List ℕ) (v : ℕ) → i < length xs → Some v ≡ number_in 32 (get_or xs i d).now
+    → map (λ (x : Bor (List ℕ)). number_in 32 x.now) (take i xs) ≡ map (λ (v : ℕ). Some v) ys
+    → map (λ (x : Bor (List ℕ)). number_in 32 x.now) (take (i + 1) xs) ≡ map (λ (v : ℕ). Some v) (ys ++ v ∷ [])
+read_more xs i d ys v there reads h =
+    map_more (λ (x : Bor (List ℕ)). number_in 32 x.now) xs i d there
+    ∙ ap₂ (λ (a : List (Option ℕ)) (b : Option ℕ). a ++ b ∷ []) h (sym reads) ∙ sym (map-append (λ (v : ℕ). Some v) ys (v ∷ []))
 
 -- a point has a coordinate
 pub IsPointText-some : (text point : List ℕ) → IsPointText text point → 1 ≤ length point
