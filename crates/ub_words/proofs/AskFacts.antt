@@ -281,3 +281,6 @@ paired (Some p) f h (Some x) name rows a b =
 -- a name that was compared
 pub not_named : (same : Bool) (name word : List ℕ) → same ≡ bytes_eq name word → same ≡ false → name ≢ word
 not_named same name word is unlike e = false≢true (sym unlike ∙ (is ∙ (bytes_eq-Decides name word).1 e))
+
+pub named : (same : Bool) (name word : List ℕ) → same ≡ bytes_eq name word → same ≡ true → name ≡ word
+named same name word is like = (bytes_eq-Decides name word).0 (sym is ∙ like)
