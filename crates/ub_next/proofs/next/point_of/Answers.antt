@@ -14,7 +14,8 @@ returns-in-None-clause-bad c =
 
 pub loop-piece-preserved : goal.loop-piece-preserved
 loop-piece-preserved c =
-    read_more c.deref-piece-items.result.now c.loop-piece.piece-index _ c.loop-piece.values.items c.in-Some.value c.loop-piece-test.true c.in-Some.ensures c.loop-piece.invariant
+    read_more c.deref-piece-items.result.now c.loop-piece.piece-index _ c.loop-piece.values.items c.in-Some.value
+    c.loop-piece-test.true c.in-Some.ensures c.loop-piece.invariant
     ∙ ap (map Some) (sym c.in_ok-push-in-Some.ensures.items)
 
 pub returns-clause-point : goal.returns-clause-point

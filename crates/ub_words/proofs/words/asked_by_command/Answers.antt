@@ -7,31 +7,38 @@ use Rattle.ub_words.proofs.words.asked_by_command.Goals as goal
 
 pub returns-then-eq : goal.returns-then-eq
 returns-then-eq c = λ words taken. c.asked_by_load.ensures words
-    (subst (λ (n : List ℕ). IsTaken words (Some (n, rows_of (found_of c.args.found.now)))) (named _ c.args.name.now _ c.eq.ensures c.if-eq.true) taken)
+    (subst (λ (n : List ℕ). IsTaken words (Some (n, rows_of (found_of c.args.found.now))))
+    (named _ c.args.name.now _ c.eq.ensures c.if-eq.true) taken)
 
 pub returns-then-eq-2 : goal.returns-then-eq-2
 returns-then-eq-2 c = λ words taken. c.asked_by_run.ensures words
-    (subst (λ (n : List ℕ). IsTaken words (Some (n, rows_of (found_of c.args.found.now)))) (named _ c.args.name.now _ c.eq-else-eq.ensures c.if-eq-2.true) taken)
+    (subst (λ (n : List ℕ). IsTaken words (Some (n, rows_of (found_of c.args.found.now))))
+    (named _ c.args.name.now _ c.eq-else-eq.ensures c.if-eq-2.true) taken)
 
 pub returns-then-eq-3 : goal.returns-then-eq-3
 returns-then-eq-3 c = λ words taken. c.asked_by_try.ensures words
-    (subst (λ (n : List ℕ). IsTaken words (Some (n, rows_of (found_of c.args.found.now)))) (named _ c.args.name.now _ c.eq-else-eq-2.ensures c.if-eq-3.true) taken)
+    (subst (λ (n : List ℕ). IsTaken words (Some (n, rows_of (found_of c.args.found.now))))
+    (named _ c.args.name.now _ c.eq-else-eq-2.ensures c.if-eq-3.true) taken)
 
 pub returns-then-eq-4 : goal.returns-then-eq-4
 returns-then-eq-4 c = λ words taken. c.asked_by_upgrade.ensures words
-    (subst (λ (n : List ℕ). IsTaken words (Some (n, rows_of (found_of c.args.found.now)))) (named _ c.args.name.now _ c.eq-else-eq-3.ensures c.if-eq-4.true) taken)
+    (subst (λ (n : List ℕ). IsTaken words (Some (n, rows_of (found_of c.args.found.now))))
+    (named _ c.args.name.now _ c.eq-else-eq-3.ensures c.if-eq-4.true) taken)
 
 pub returns-then-eq-5 : goal.returns-then-eq-5
 returns-then-eq-5 c = λ words taken. c.asked_by_describe.ensures words
-    (subst (λ (n : List ℕ). IsTaken words (Some (n, rows_of (found_of c.args.found.now)))) (named _ c.args.name.now _ c.eq-else-eq-4.ensures c.if-eq-5.true) taken)
+    (subst (λ (n : List ℕ). IsTaken words (Some (n, rows_of (found_of c.args.found.now))))
+    (named _ c.args.name.now _ c.eq-else-eq-4.ensures c.if-eq-5.true) taken)
 
 pub returns-then-eq-6 : goal.returns-then-eq-6
 returns-then-eq-6 c = λ words taken. c.asked_by_check.ensures words
-    (subst (λ (n : List ℕ). IsTaken words (Some (n, rows_of (found_of c.args.found.now)))) (named _ c.args.name.now _ c.eq-else-eq-5.ensures c.if-eq-6.true) taken)
+    (subst (λ (n : List ℕ). IsTaken words (Some (n, rows_of (found_of c.args.found.now))))
+    (named _ c.args.name.now _ c.eq-else-eq-5.ensures c.if-eq-6.true) taken)
 
 pub returns-then-eq-7 : goal.returns-then-eq-7
 returns-then-eq-7 c = λ words taken. c.asked_by_next.ensures words
-    (subst (λ (n : List ℕ). IsTaken words (Some (n, rows_of (found_of c.args.found.now)))) (named _ c.args.name.now _ c.eq-else-eq-6.ensures c.if-eq-7.true) taken)
+    (subst (λ (n : List ℕ). IsTaken words (Some (n, rows_of (found_of c.args.found.now))))
+    (named _ c.args.name.now _ c.eq-else-eq-6.ensures c.if-eq-7.true) taken)
 
 pub returns-else-eq-7 : goal.returns-else-eq-7
 returns-else-eq-7 c = λ words taken. c.no_command.ensures words (nothing_by words c.args.name.now (rows_of (found_of c.args.found.now)) taken
