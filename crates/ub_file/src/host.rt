@@ -35,10 +35,7 @@ where
     if let Ok(file) = open_found(rt, OpenOptions::new().read(true).write(true), path) {
         return Ok(file);
     }
-    match open_found(rt, OpenOptions::new().read(true), path) {
-        Ok(file) => Ok(file),
-        Err(_) => Err(StoreFault::Device),
-    }
+    open_found(rt, OpenOptions::new().read(true), path).map_err(|_| StoreFault::Device)
 }
 
 /// Opens a file for reading and writing, or makes one with no bytes where there is none; one that there is stays as it was. Device
@@ -52,10 +49,7 @@ where
 {
     let mut how = OpenOptions::new();
     let how = how.read(true).write(true).create(true);
-    match open_as(rt, how, path) {
-        Ok(file) => Ok(file),
-        Err(_) => Err(StoreFault::Device),
-    }
+    open_as(rt, how, path).map_err(|_| StoreFault::Device)
 }
 
 /// The store in a file, which is opened, and of which no call has failed yet. Device comes where there is no such file or the
@@ -68,10 +62,7 @@ where
     ensures unfailed { IfOk result (λ store.
         IsUnfailed (⟦<FileStore<HostFile<R::File>> as PageStore>⟧.facts store)) }
 {
-    match FileStore::open(open(rt, path)?) {
-        Ok(store) => Ok(store),
-        Err(refused) => Err(refused.fault),
-    }
+    FileStore::open(open(rt, path)?).map_err(|refused| refused.fault)
 }
 
 /// A store with no pages in a file, which is emptied, or made where there is none; no call of it has failed yet. Device comes where
@@ -88,10 +79,7 @@ where
     ensures unfailed { IfOk result (λ store.
         IsUnfailed (⟦<FileStore<HostFile<R::File>> as PageStore>⟧.facts store)) }
 {
-    match FileStore::create(open_or_make(rt, path)?) {
-        Ok(store) => Ok(store),
-        Err(refused) => Err(refused.fault),
-    }
+    FileStore::create(open_or_make(rt, path)?).map_err(|refused| refused.fault)
 }
 
 // Opens a file that there is: none is made.
