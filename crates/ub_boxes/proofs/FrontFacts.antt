@@ -1,5 +1,5 @@
 -- The boxes from a front on are the boxes on the sides after it, each behind the front.
-use Rattle.std.proofs.Common.{◌≡◌, ◌≤◌, ◌<◌, ◌+◌, ◌-◌, ℕ, List, [], ◌∷◌, ◌++◌, map, length, take, drop, get_or, Bool, true, false, inl, inr, refl, sym, ap, arith, ◌∙◌, append_assoc}
+use Rattle.std.proofs.Common.{◌≡◌, ◌≤◌, ◌<◌, ◌-◌, ℕ, List, [], ◌∷◌, ◌++◌, map, length, take, drop, get_or, Bool, true, false, inl, inr, refl, sym, ap, arith, ◌∙◌, append_assoc}
 use Rattle.std.proofs.lemmas.Bool.{cases_Bool}
 use Rattle.std.proofs.lemmas.List.{map-append, append-nil, take_all}
 use Rattle.std.specs.List.{flat_map}

@@ -2,7 +2,7 @@ use Rattle.std.proofs.Common.{◌≡◌, ◌∙◌, ◌++◌, ◌∷◌, [], ap,
 use Rattle.std.proofs.lemmas.List.{length-append}
 use Rattle.std.specs.Option.{option_map_or}
 use Rattle.ub_boxes.proofs.GridFacts.{is_ordered}
-use Rattle.ub_boxes.proofs.RunFacts.{up_to-grown, up_to-ended, grown-is}
+use Rattle.ub_boxes.proofs.RunFacts.{up_to-grown, up_to-ended, up_to-all, grown-is, is_interval}
 use Rattle.ub_boxes.specs.Truths as truth
 use Rattle.ub_boxes.proofs.covering.add_runs.Goals as goal
 use Rattle.ub_boxes.proofs.covering.add_runs.Goals.{then-covers, else-covers+in_ok-add_run}
@@ -40,3 +40,23 @@ covers-requires c = ap length (c.lo.ensures.lo ∙ ap (λ b. b.lo) c.widened.ens
 
 pub offset_bounds-side-interval-index : goal.offset_bounds-side-interval-index
 offset_bounds-side-interval-index c = search rules
+
+pub add_run-requires-clause-dims : goal.add_run-requires-clause-dims
+add_run-requires-clause-dims c = c.requires.dims
+
+pub add_run-requires-clause-run : goal.add_run-requires-clause-run
+add_run-requires-clause-run c = is_interval c.loop-interval.run _ c.loop-interval.invariant.followed
+
+pub add_run-requires-2-clause-dims : goal.add_run-requires-2-clause-dims
+add_run-requires-2-clause-dims c = c.requires.dims
+
+pub add_run-requires-2-clause-run : goal.add_run-requires-2-clause-run
+add_run-requires-2-clause-run c = is_interval c.loop-interval.run _ c.loop-interval.invariant.followed
+
+pub returns-in_err-add_run : goal.returns-in_err-add_run
+returns-in_err-add_run c = search rules
+
+pub returns : goal.returns
+returns c =
+    let all = up_to-all _ _ c.loop-interval.run c.args.side.now c.loop-interval.interval-index c.loop-interval-test.false _ _ c.loop-interval.invariant in
+    rw all at c.add_run-2.ensures

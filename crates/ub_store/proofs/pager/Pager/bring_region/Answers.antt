@@ -6,9 +6,3 @@ returns-then-is_err-clause-noted g c = search rules
 
 pub returns-then-is_err-clause-hit : goal.returns-then-is_err-clause-hit
 returns-then-is_err-clause-hit g c = search rules
-
-pub invariant_of-self : goal.invariant_of-self
-invariant_of-self g c = search rules
-
-pub invariant_of-self-2 : goal.invariant_of-self-2
-invariant_of-self-2 g c = search rules
