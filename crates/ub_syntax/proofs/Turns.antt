@@ -1,14 +1,10 @@
 -- What the grammar's parts say of a symbol that is none of those which they name.
-use Rattle.std.proofs.Common.{◌≡◌, ◌≢◌, ◌⊎◌, ℕ, Bool, false, true, Some, None, Result, Ok, Err, refl, ap, inl, inr, if◌then◌else◌}
+use Rattle.std.proofs.Common.{◌≡◌, ◌≢◌, ◌⊎◌, ℕ, true, Result, Ok, Err, refl, ap, inl, inr}
 use Rattle.std.specs.Result.{IsErrAnd}
-use Rattle.ub_lexer.specs.declared.token.Token.{Token}
-use Rattle.ub_query.specs.declared.condition.Operator.{Operator}
 use Rattle.ub_query.specs.declared.condition.Operator.TheVariants as operator
 use Rattle.ub_query.specs.declared.query.Aggregate.TheVariants as aggregate
 use Rattle.ub_syntax.specs.Machine.{after_direction, after_key, after_operand, after_table, and_then, group, item, items, turn_to}
-use Rattle.ub_syntax.specs.Marks.{is_sign, mark_after, seen}
 use Rattle.ub_syntax.specs.contracts.symbol.SymbolPartialEq.TheImpl.{eq-value}
-use Rattle.ub_syntax.specs.declared.limits.Mark.TheVariants.{Column}
 use Rattle.ub_syntax.specs.declared.machine.Refusal.{Refusal}
 use Rattle.ub_syntax.specs.declared.machine.Rest.TheVariants as rest
 use Rattle.ub_syntax.specs.declared.machine.Row.TheVariants.{Nothing}
@@ -43,22 +39,6 @@ other_after_key _ h k = refl
 pub directed_key : (s : Symbol) → (s ≡ symbol.Ascending) ⊎ (s ≡ symbol.Descending) → after_key s ≡ turn_to Nothing rest.AfterDirection
 directed_key s (inl e) = ap after_key e
 directed_key s (inr e) = ap after_key e
-
-no_sign : (s : Symbol) → ((o : Operator) → s ≢ symbol.Operator o) → s ≢ symbol.Between → is_sign s ≡ false
-no_sign (symbol.Operator o) h k = absurd (h o refl)
-no_sign symbol.Between h k = absurd (k refl)
-no_sign _ h k = refl
-
--- before no sign of comparison, the first of the two tells alone
-pub other_seen : (before : Symbol) (previous : Token) (next : Symbol) (t : Token) → ((o : Operator) → next ≢ symbol.Operator o) → next ≢ symbol.Between
-    → seen before previous next t ≡ mark_after before t
-other_seen before previous next t h k = ap (λ (b : Bool). if b then Some (Column previous) else mark_after before t) (no_sign next h k)
-
-pub no_mark : (s : Symbol) (t : Token) → s ≢ symbol.Select → s ≢ symbol.By → s ≢ symbol.Comma → mark_after s t ≡ None
-no_mark symbol.Select t h k l = absurd (h refl)
-no_mark symbol.By t h k l = absurd (k refl)
-no_mark symbol.Comma t h k l = absurd (l refl)
-no_mark _ t h k l = refl
 
 -- a symbol compares as equal with itself
 pub same_symbol : (s : Symbol) → eq-value.it s s ≡ true
