@@ -43,15 +43,16 @@ fn box_between(dims: u32, lo: &[u32], hi: &[u32]) -> Option<ZBox>
 // neighbours.
 fn is_as_told(zbox: &ZBox) -> bool {
     for (z, is_held, next, prev) in NEIGHBOURS {
-        if zbox.holds(*z) != *is_held
-            || zbox.next_in_box(*z) != *next
-            || zbox.prev_in_box(*z) != *prev
+        if (zbox.holds(*z) != *is_held)
+            | (zbox.next_in_box(*z) != *next)
+            | (zbox.prev_in_box(*z) != *prev)
         {
             return false;
         }
     }
-    [zbox.lo().values(), zbox.hi().values()] == [[2, 2].as_slice(), [6, 3].as_slice()]
-        && zbox.shape().dims() == 2
+    (zbox.lo().values() == [2, 2].as_slice())
+        & (zbox.hi().values() == [6, 3].as_slice())
+        & (zbox.shape().dims() == 2)
 }
 
 // Whether boxes have these least and greatest first coordinates within these spans.
@@ -59,8 +60,8 @@ fn have_values(boxes: &[ZBox], spans: &[(u128, u128, Option<u32>, Option<u32>)])
     requires { All (λ b. 0 < length b.lo) boxes.now }
 {
     for (from, to, least, greatest) in spans {
-        if least_value(boxes, *from, *to, 0) != *least
-            || greatest_value(boxes, *from, *to, 0) != *greatest
+        if (least_value(boxes, *from, *to, 0) != *least)
+            | (greatest_value(boxes, *from, *to, 0) != *greatest)
         {
             return false;
         }
@@ -74,28 +75,34 @@ fn one_box(rt: HostRuntime) {
     assert!(rt; is_as_told(&zbox) && have_values(&[zbox], SPANS));
 }
 
+// Addresses, and the nearest ones at or above them of the boxes from (6,3) to (6,3) and from (2,2)
+// to (3,3).
+static NEXT: &[(u128, Option<u128>)] = &[(13, Some(13)), (16, Some(45)), (46, None)];
+
+// A span, and the least and the greatest first coordinate of these boxes there.
+static SPAN: &[(u128, u128, Option<u32>, Option<u32>)] = &[(15, 45, Some(3), Some(6))];
+
 #[test]
 fn several_boxes(rt: HostRuntime) {
     let high = box_between(2, &[6, 3], &[6, 3]).expect(&rt, "a box");
     let low = box_between(2, &[2, 2], &[3, 3]).expect(&rt, "a box");
     let boxes = [high, low];
-    let next = [
-        next_in_any(&boxes, 13),
-        next_in_any(&boxes, 16),
-        next_in_any(&boxes, 46),
-    ];
-    assert!(rt;
-        have_values(&boxes, &[(15, 45, Some(3), Some(6))]) && next == [Some(13), Some(45), None]
-    );
+    assert!(rt; have_values(&boxes, SPAN));
+    for (z, next) in NEXT {
+        assert!(rt; next_in_any(&boxes, *z) == *next, "{z}");
+    }
 }
 
 // The last address is its own neighbour, and there is no box from the last point to the first.
 #[test]
 fn the_whole_space(rt: HostRuntime) {
     let whole = box_between(4, &[0; 4], &[4294967295; 4]).expect(&rt, "a space");
-    let around = [whole.next_in_box(u128::MAX), whole.prev_in_box(u128::MAX)];
-    let back = box_between(4, &[4294967295; 4], &[0; 4]);
-    assert!(rt; around == [Some(u128::MAX); 2] && back.is_none());
+    let last = Some(u128::MAX);
+    assert!(rt;
+        (whole.next_in_box(u128::MAX) == last)
+            & (whole.prev_in_box(u128::MAX) == last)
+            & box_between(4, &[4294967295; 4], &[0; 4]).is_none()
+    );
 }
 
 // The coordinates of the boxes that both ways of a jump are compared on: each up to 7, and those at

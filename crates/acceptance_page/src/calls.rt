@@ -51,13 +51,19 @@ pub(crate) fn answers<S: PageStore>(store: &mut S, calls: &[(Call, Answer)]) -> 
     true
 }
 
-// Whether there is a store, and it answers each of the calls so.
-pub(crate) fn made_answers<S: PageStore>(
-    made: Result<S, StoreFault>,
-    calls: &[(Call, Answer)],
-) -> bool {
+// What becomes of a store: it answers these calls so, or there is none for this fault.
+pub(crate) type Made = Result<&'static [(Call, Answer)], StoreFault>;
+
+// Whether a store that is made is such a one.
+pub(crate) fn made_answers<S: PageStore>(made: Result<S, StoreFault>, wanted: Made) -> bool {
     match made {
-        Ok(mut store) => answers(&mut store, calls),
-        Err(_) => false,
+        Ok(mut store) => match wanted {
+            Ok(calls) => answers(&mut store, calls),
+            Err(_) => false,
+        },
+        Err(fault) => match wanted {
+            Ok(_) => false,
+            Err(wanted) => fault == wanted,
+        },
     }
 }

@@ -3,8 +3,10 @@
 ghost use Rattle.std.specs.Prelude.{◌≡◌, ◌<◌, IfOk};
 ghost use Rattle.ub_store.specs.Facts.{IsHonest, raised};
 
-use crate::calls::{Answer, Call, answers, byte_of, made_answers};
-use std::alloc::Global;
+use crate::calls::{Answer, Call, Made, answers, byte_of, made_answers};
+use std::alloc::{Alloc, Global};
+use std::os::unix::fs::FileExt;
+use std::rt::Files;
 use std::{fs, process};
 use ub_file::host::{create_store, open_store};
 use ub_file::{FileStore, Medium, MemMedium};
@@ -91,9 +93,6 @@ const LENGTHS: &[(u64, bool)] = &[
     (17592186044416, false),
 ];
 
-// Pages, and bytes after them that are no page.
-const PARTS: &[(u16, u16)] = &[(0, 1), (0, 100), (1, 1), (1, 2048)];
-
 // Whether a medium of so many bytes is a store.
 fn is_store(bytes: u64) -> bool {
     let medium = Measured {
@@ -104,70 +103,90 @@ fn is_store(bytes: u64) -> bool {
     FileStore::open(medium).is_ok()
 }
 
-// Whether so many pages and bytes after them are no store.
-fn is_part(alloc: Global, pages: u16, rest: u16) -> bool {
-    match medium(alloc, pages, 0, rest % 4096, 0) {
-        Ok(medium) => is_left(medium, Err(StoreFault::BadSize)),
-        Err(_) => false,
-    }
-}
-
 #[test]
 fn takes_whole_pages_alone(rt: HostRuntime) {
     for (bytes, is_right) in LENGTHS {
         assert!(rt; is_store(*bytes) == *is_right, "{bytes}");
     }
-    for (pages, rest) in PARTS {
-        assert!(rt; is_part(rt.alloc(), *pages, *rest));
+}
+
+// What a store begins with.
+#[derive(Clone, Copy)]
+enum Start {
+    // So many pages of zeros.
+    Zeros(u16),
+    // So many pages of zeros, and bytes after them that are no page.
+    Part(u16, u16),
+    // It is created on a medium of two pages of sevens and 100 bytes.
+    Created,
+}
+
+// The medium that fails at its k-th call.
+fn medium_of(alloc: Global, start: Start, k: u64) -> Result<MemMedium, StoreFault> {
+    match start {
+        Start::Zeros(pages) => medium(alloc, pages, 0, 0, k),
+        Start::Part(pages, rest) => medium(alloc, pages, 0, rest % 4096, k),
+        Start::Created => medium(alloc, 2, 7, 100, k),
     }
 }
 
-// What is left of a store's medium: another store that answers these calls so, or why it is none.
-type Left = Result<&'static [(Call, Answer)], StoreFault>;
+// The store on it.
+fn store_on(medium: MemMedium, start: Start) -> Result<FileStore<MemMedium>, StoreFault> {
+    let made = match start {
+        Start::Created => FileStore::create(medium),
+        _ => FileStore::open(medium),
+    };
+    match made {
+        Ok(store) => Ok(store),
+        Err(refused) => Err(refused.fault),
+    }
+}
 
-// Whether this is left of a medium.
-fn is_left(medium: MemMedium, left: Left) -> bool {
-    match FileStore::open(medium) {
-        Ok(mut store) => match left {
-            Ok(calls) => answers(&mut store, calls),
+// Whether this is left of a medium: another store that answers calls so, or why it is none.
+fn is_left(medium: MemMedium, left: Made) -> bool {
+    made_answers(store_on(medium, Start::Zeros(0)), left)
+}
+
+// Whether the store answers these calls so and this is left then, or there is none.
+fn is_played(medium: MemMedium, start: Start, calls: Made, left: Made) -> bool {
+    match store_on(medium, start) {
+        Ok(mut store) => match calls {
+            Ok(calls) => answers(&mut store, calls) && is_left(store.into_medium(), left),
             Err(_) => false,
         },
-        Err(refused) => match left {
+        Err(fault) => match calls {
             Ok(_) => false,
-            Err(fault) => fault == refused.fault,
+            Err(wanted) => fault == wanted,
         },
     }
 }
 
-// Whether the store on so many pages of zeros, whose medium fails at its k-th call, answers these
-// calls so, and this is left then.
-fn is_played(alloc: Global, pages: u16, k: u64, calls: &[(Call, Answer)], left: Left) -> bool {
-    let Ok(medium) = medium(alloc, pages, 0, 0, k) else {
-        return false;
-    };
-    match FileStore::open(medium) {
-        Ok(mut store) => answers(&mut store, calls) && is_left(store.into_medium(), left),
-        Err(_) => false,
-    }
-}
+// What a store answers that is created.
+const CREATED: &[(Call, Answer)] = &[
+    (Call::Pages, Ok(0)),
+    (Call::Extend, Ok(0)),
+    (Call::Read(0), Ok(0)),
+];
 
-// The pages of zeros that a store begins with, the call of its medium that fails, the calls of the
-// store with their answers, and what is left then.
-const SCRIPTS: &[(u16, u64, &[(Call, Answer)], Left)] = &[
+// What a store begins with, the call of its medium that fails, the calls of the store with their
+// answers, or why there is none, and what is left then.
+static SCRIPTS: &[(&str, Start, u64, Made, Made)] = &[
     (
+        "no pages",
+        Start::Zeros(0),
         0,
-        0,
-        &[
+        Ok(&[
             (Call::Pages, Ok(0)),
             (Call::Read(0), Err(StoreFault::NoPage)),
             (Call::Write(0, 7), Err(StoreFault::NoPage)),
-        ],
+        ]),
         Ok(&[(Call::Pages, Ok(0))]),
     ),
     (
-        3,
+        "three pages",
+        Start::Zeros(3),
         0,
-        &[
+        Ok(&[
             (Call::Write(1, 7), Ok(0)),
             (Call::Write(2, 8), Ok(0)),
             (Call::Read(0), Ok(0)),
@@ -176,104 +195,162 @@ const SCRIPTS: &[(u16, u64, &[(Call, Answer)], Left)] = &[
             (Call::Read(3), Err(StoreFault::NoPage)),
             (Call::Write(3, 9), Err(StoreFault::NoPage)),
             (Call::Pages, Ok(3)),
-        ],
+        ]),
         Ok(&[(Call::Pages, Ok(3)), (Call::Read(1), Ok(7))]),
     ),
     (
-        2,
+        "two pages that grow",
+        Start::Zeros(2),
         0,
-        &[
+        Ok(&[
             (Call::Extend, Ok(2)),
             (Call::Pages, Ok(3)),
             (Call::Read(2), Ok(0)),
             (Call::Sync, Ok(0)),
-        ],
+        ]),
         Ok(&[(Call::Pages, Ok(3))]),
     ),
     (
-        1,
+        "no call fails",
+        Start::Zeros(1),
         0,
-        &[
+        Ok(&[
             (Call::Read(0), Ok(0)),
             (Call::Write(0, 7), Ok(0)),
             (Call::Extend, Ok(1)),
             (Call::Sync, Ok(0)),
-        ],
+        ]),
         Ok(&[(Call::Pages, Ok(2)), (Call::Read(0), Ok(7))]),
     ),
     (
+        "the read fails",
+        Start::Zeros(1),
         1,
-        1,
-        &[
+        Ok(&[
             (Call::Read(0), Err(StoreFault::Device)),
             (Call::Write(0, 7), Ok(0)),
             (Call::Extend, Ok(1)),
             (Call::Sync, Ok(0)),
-        ],
+        ]),
         Ok(&[(Call::Pages, Ok(2)), (Call::Read(0), Ok(7))]),
     ),
     (
-        1,
+        "the write fails",
+        Start::Zeros(1),
         2,
-        &[
+        Ok(&[
             (Call::Read(0), Ok(0)),
             (Call::Write(0, 7), Err(StoreFault::Device)),
             (Call::Extend, Ok(1)),
             (Call::Sync, Ok(0)),
-        ],
+        ]),
         Ok(&[(Call::Pages, Ok(2)), (Call::Read(0), Ok(0))]),
     ),
     (
-        1,
+        "the growth fails",
+        Start::Zeros(1),
         3,
-        &[
+        Ok(&[
             (Call::Read(0), Ok(0)),
             (Call::Write(0, 7), Ok(0)),
             (Call::Extend, Err(StoreFault::Device)),
             (Call::Sync, Ok(0)),
-        ],
+        ]),
         Err(StoreFault::BadSize),
     ),
     (
-        1,
+        "the sync fails",
+        Start::Zeros(1),
         4,
-        &[
+        Ok(&[
             (Call::Read(0), Ok(0)),
             (Call::Write(0, 7), Ok(0)),
             (Call::Extend, Ok(1)),
             (Call::Sync, Err(StoreFault::Device)),
-        ],
+        ]),
         Ok(&[(Call::Pages, Ok(2)), (Call::Read(0), Ok(7))]),
     ),
     // A failed growth of this medium leaves half a page, which is no page; the next one is put in
     // its place.
     (
+        "growth after a failed one",
+        Start::Zeros(1),
         1,
-        1,
-        &[
+        Ok(&[
             (Call::Extend, Err(StoreFault::Device)),
             (Call::Pages, Ok(1)),
             (Call::Read(1), Err(StoreFault::NoPage)),
             (Call::Extend, Ok(1)),
             (Call::Pages, Ok(2)),
             (Call::Read(1), Ok(0)),
-        ],
+        ]),
         Ok(&[(Call::Pages, Ok(2))]),
     ),
     (
+        "half a page is left",
+        Start::Zeros(1),
         1,
-        1,
-        &[(Call::Extend, Err(StoreFault::Device))],
+        Ok(&[(Call::Extend, Err(StoreFault::Device))]),
         Err(StoreFault::BadSize),
+    ),
+    (
+        "a byte and no page",
+        Start::Part(0, 1),
+        0,
+        Err(StoreFault::BadSize),
+        Err(StoreFault::BadSize),
+    ),
+    (
+        "100 bytes and no page",
+        Start::Part(0, 100),
+        0,
+        Err(StoreFault::BadSize),
+        Err(StoreFault::BadSize),
+    ),
+    (
+        "a page and a byte",
+        Start::Part(1, 1),
+        0,
+        Err(StoreFault::BadSize),
+        Err(StoreFault::BadSize),
+    ),
+    (
+        "a page and 2048 bytes",
+        Start::Part(1, 2048),
+        0,
+        Err(StoreFault::BadSize),
+        Err(StoreFault::BadSize),
+    ),
+    (
+        "created with no pages",
+        Start::Created,
+        0,
+        Ok(CREATED),
+        Ok(&[(Call::Pages, Ok(1)), (Call::Read(0), Ok(0))]),
+    ),
+    (
+        "creation fails",
+        Start::Created,
+        1,
+        Err(StoreFault::Device),
+        Err(StoreFault::Device),
     ),
 ];
 
+// Whether the store on a new medium is played so.
+fn is_answered(alloc: Global, start: Start, k: u64, calls: Made, left: Made) -> bool {
+    match medium_of(alloc, start, k) {
+        Ok(medium) => is_played(medium, start, calls, left),
+        Err(_) => false,
+    }
+}
+
 #[test]
 fn answers_calls(rt: HostRuntime) {
-    for (pages, k, calls, left) in SCRIPTS {
+    for (shown, start, k, calls, left) in SCRIPTS {
         assert!(rt;
-            is_played(rt.alloc(), *pages, *k, calls, *left),
-            "{pages} {k}"
+            is_answered(rt.alloc(), *start, *k, *calls, *left),
+            "{shown}"
         );
     }
 }
@@ -309,46 +386,9 @@ fn is_given_back(alloc: Global) -> bool {
     is_read && is_left(store.into_medium(), Ok(GIVEN_BACK))
 }
 
-// What a store answers that is created on a medium of two pages and 100 bytes, which fails at its
-// k-th call.
-const CREATED: &[(Call, Answer)] = &[
-    (Call::Pages, Ok(0)),
-    (Call::Extend, Ok(0)),
-    (Call::Read(0), Ok(0)),
-];
-
-// Whether it is created and answers so.
-fn is_created(alloc: Global, k: u64) -> Result<bool, StoreFault> {
-    let full = medium(alloc, 2, 7, 100, k)?;
-    match FileStore::create(full) {
-        Ok(mut store) => Ok(answers(&mut store, CREATED)),
-        Err(refused) => Err(refused.fault),
-    }
-}
-
 #[test]
-fn creates_with_no_pages_and_gives_back_the_medium(rt: HostRuntime) {
-    assert!(rt; matches!(is_created(rt.alloc(), 0), Ok(true)));
-    assert!(rt; matches!(is_created(rt.alloc(), 1), Err(StoreFault::Device)));
+fn gives_back_the_medium(rt: HostRuntime) {
     assert!(rt; is_given_back(rt.alloc()));
-}
-
-// Whether these bytes are written as a file.
-fn is_written(rt: &HostRuntime, path: &str, bytes: &[u8]) -> bool {
-    fs::write(rt, path, bytes).is_ok()
-}
-
-// Whether what stands there is no store, for this fault.
-fn is_refused(rt: &HostRuntime, path: &str, fault: StoreFault) -> bool {
-    open_store(rt, path).err() == Some(fault)
-}
-
-// Whether a file holds a page of zeros and one of the byte 65.
-fn holds_two_pages(rt: &HostRuntime, path: &str) -> bool {
-    match fs::read(rt, path) {
-        Ok(bytes) => bytes.len() == 8192 && bytes.get(4095..4097) == Some(&[0, 65]),
-        Err(_) => false,
-    }
 }
 
 // Calls of a store that is made in a file, and of the same once it is opened again.
@@ -369,42 +409,8 @@ const OPENED: &[(Call, Answer)] = &[
     (Call::Read(1), Ok(65)),
 ];
 
-// Whether a store is made in a file, its pages are kept there, and opening the file again leaves
-// all of its bytes.
-fn keeps_pages(rt: &HostRuntime, path: &str) -> bool {
-    is_written(rt, path, b"nothing that is kept")
-        && made_answers(create_store(rt, path), MADE)
-        && made_answers(open_store(rt, path), OPENED)
-        && holds_two_pages(rt, path)
-}
-
 // A path in a folder that isn't there.
 const NOWHERE: &str = "/tmp/hablozen-no-folder/t.ub";
-
-// Whether no store is opened or made where there is no folder for it, or a folder; and opening
-// makes no file.
-fn refuses_what_is_not_there(rt: &HostRuntime, path: &str) -> bool {
-    is_refused(rt, path, StoreFault::Device)
-        && fs::metadata(rt, path).is_err()
-        && is_refused(rt, NOWHERE, StoreFault::Device)
-        && create_store(rt, NOWHERE).err() == Some(StoreFault::Device)
-        && is_refused(rt, "/tmp", StoreFault::Device)
-        && create_store(rt, "/tmp").err() == Some(StoreFault::Device)
-}
-
-// Whether there is no store in a file that is no whole number of pages; and an empty one has no
-// page.
-fn refuses_what_is_no_store(rt: &HostRuntime, path: &str) -> bool {
-    is_written(rt, path, &[65])
-        && is_refused(rt, path, StoreFault::BadSize)
-        && is_written(rt, path, &[65; 4097])
-        && is_refused(rt, path, StoreFault::BadSize)
-        && is_written(rt, path, b"")
-        && made_answers(
-            open_store(rt, path),
-            &[(Call::Read(0), Err(StoreFault::NoPage))],
-        )
-}
 
 // Calls of a store of two pages whose file is cut to 5000 bytes while it is open: no part of a page
 // is given.
@@ -414,13 +420,123 @@ const CUT: &[(Call, Answer)] = &[
     (Call::Read(1), Err(StoreFault::Device)),
 ];
 
-// Whether a short read is taken for a failure.
-fn takes_short_reads(rt: &HostRuntime, path: &str) -> bool {
-    if !is_written(rt, path, &[65; 8192]) {
-        return false;
+// Bytes of files.
+const BYTES: &[u8; 8192] = &[65; 8192];
+
+// How a store comes to a file.
+#[derive(Clone, Copy)]
+enum Opening {
+    Open,
+    Make,
+    // It is opened, and then the file is cut to so many bytes 65.
+    Cut(usize),
+}
+
+// What is done with the file of a test, or asked of it.
+enum Deed {
+    // These bytes are written.
+    Write(&'static [u8]),
+    // So many bytes 65 are written, of two pages at most.
+    Fill(usize),
+    // A store is opened or made in the file so, and becomes this.
+    Store(Opening, Made),
+    // None is opened or made at this path, for want of a folder, or of a file.
+    Elsewhere(&'static str),
+    // No file is there.
+    IsMissing,
+    // The file holds a page of zeros and one of the byte 65.
+    HoldsTwoPages,
+    Remove,
+}
+
+// What is done with one file. No store is opened where there is no file, and opening makes none; none
+// is opened or made where there is no folder for it, or a folder. There is none in a file that is no
+// whole number of pages; and an empty one has no page. A store that is made keeps its pages, and
+// opening the file again leaves all of its bytes. A short read is taken for a failure.
+static DEEDS: &[Deed] = &[
+    Deed::Store(Opening::Open, Err(StoreFault::Device)),
+    Deed::IsMissing,
+    Deed::Elsewhere(NOWHERE),
+    Deed::Elsewhere("/tmp"),
+    Deed::Write(&[65]),
+    Deed::Store(Opening::Open, Err(StoreFault::BadSize)),
+    Deed::Fill(4097),
+    Deed::Store(Opening::Open, Err(StoreFault::BadSize)),
+    Deed::Write(b""),
+    Deed::Store(
+        Opening::Open,
+        Ok(&[(Call::Read(0), Err(StoreFault::NoPage))]),
+    ),
+    Deed::Write(b"nothing that is kept"),
+    Deed::Store(Opening::Make, Ok(MADE)),
+    Deed::Store(Opening::Open, Ok(OPENED)),
+    Deed::HoldsTwoPages,
+    Deed::Fill(8192),
+    Deed::Store(Opening::Cut(5000), Ok(CUT)),
+    Deed::Remove,
+];
+
+// Whether so many bytes 65 are written as a file.
+fn is_filled(rt: &impl Files, path: &str, count: usize) -> bool {
+    fs::write(rt, path, &BYTES[..count.min(8192)]).is_ok()
+}
+
+// Whether a store that comes to the file so becomes this.
+fn is_opened<R: Files>(rt: &R, path: &str, opening: Opening, wanted: Made) -> bool
+where
+    R::File: FileExt,
+{
+    let store = match opening {
+        Opening::Make => create_store(rt, path),
+        _ => open_store(rt, path),
+    };
+    let is_cut = match opening {
+        Opening::Cut(count) => is_filled(rt, path, count),
+        _ => true,
+    };
+    is_cut & made_answers(store, wanted)
+}
+
+// Whether a file holds a page of zeros and one of the byte 65.
+fn holds_two_pages<R: Files + Alloc>(rt: &R, path: &str) -> bool {
+    match fs::read(rt, path) {
+        Ok(bytes) => bytes.len() == 8192 && bytes[4095] == 0 && bytes[4096] == 65,
+        Err(_) => false,
     }
-    let store = open_store(rt, path);
-    is_written(rt, path, &[65; 5000]) && made_answers(store, CUT)
+}
+
+// Whether this is done, and is so.
+fn is_done<R: Files + Alloc>(rt: &R, path: &str, deed: &Deed) -> bool
+where
+    R::File: FileExt,
+{
+    match deed {
+        Deed::Write(bytes) => fs::write(rt, path, *bytes).is_ok(),
+        Deed::Fill(count) => is_filled(rt, path, *count),
+        Deed::Store(opening, wanted) => is_opened(rt, path, *opening, *wanted),
+        Deed::Elsewhere(other) => {
+            is_opened(rt, other, Opening::Open, Err(StoreFault::Device))
+                & is_opened(rt, other, Opening::Make, Err(StoreFault::Device))
+        }
+        Deed::IsMissing => fs::metadata(rt, path).is_err(),
+        Deed::HoldsTwoPages => holds_two_pages(rt, path),
+        Deed::Remove => fs::remove_file(rt, path).is_ok(),
+    }
+}
+
+// How many of the deeds are right, up to the first that isn't.
+fn deeds_right<R: Files + Alloc>(rt: &R, path: &str) -> usize
+where
+    R::File: FileExt,
+{
+    let mut right = 0usize;
+    for deed in DEEDS {
+        if !is_done(rt, path, deed) {
+            return right;
+        }
+        right = right.wrapping_add(1);
+    }
+    right
 }
 
 // The path is one that no other run of these tests takes, and nothing stands there at first.
@@ -428,11 +544,6 @@ fn takes_short_reads(rt: &HostRuntime, path: &str) -> bool {
 fn stores_in_files(rt: HostRuntime) {
     let id = process::id(rt.process());
     let path = format!(in rt.alloc(); "/tmp/hablozen-{id}.ub").expect(&rt, "memory");
-    let path = path.as_str();
-    let is_right = refuses_what_is_not_there(&rt, path)
-        && refuses_what_is_no_store(&rt, path)
-        && keeps_pages(&rt, path)
-        && takes_short_reads(&rt, path)
-        && fs::remove_file(&rt, path).is_ok();
-    assert!(rt; is_right);
+    let right = deeds_right(&rt, path.as_str());
+    assert!(rt; right == DEEDS.len(), "{right} deeds were right");
 }

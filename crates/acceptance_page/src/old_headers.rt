@@ -1,7 +1,7 @@
 // Headers of the versions before the one that is written, by bytes from the format, and pages that are none.
-use crate::samples::{page_of, poke};
-use ub_page::{Page, read_header, read_old_header};
-use ub_table::{PageFault, Schema};
+use crate::samples::{change, is_plane, page_of, poke};
+use ub_page::{OldHeader, Page, read_header, read_old_header};
+use ub_table::PageFault;
 
 // The bytes of a header of version 1, of a table of five rows in three regions, whose directory is
 // page 4: the table's numbers, and the names t, x, y and m. With 2 as the version it is one of that
@@ -101,9 +101,7 @@ const FAULTS: &[(&[(usize, u8)], PageFault)] = &[
 // The page of the header of this version, with these bytes changed.
 fn changed(version: u8, changes: &[(usize, u8)]) -> Page {
     let mut page = page_of(HEADER, &[(4, version)]);
-    for (place, byte) in changes {
-        page[*place % 4096] = *byte;
-    }
+    change(&mut page, changes);
     page
 }
 
@@ -115,30 +113,8 @@ fn leveled(version: u8, regions: u32, levels: u32) -> Page {
     page
 }
 
-// Whether this is the table t of two dimensions x and y and a measure m, none of them signed, with
-// two rows on a page.
-fn is_plane(schema: &Schema) -> bool {
-    let [x, y, m] = schema.columns() else {
-        return false;
-    };
-    let numbers = [
-        schema.dims(),
-        schema.measures(),
-        schema.page_rows(),
-        schema.signed(),
-    ];
-    (numbers == [2, 1, 2, 0])
-        & (schema.name().bytes() == b"t".as_slice())
-        & (x.bytes() == b"x".as_slice())
-        & (y.bytes() == b"y".as_slice())
-        & (m.bytes() == b"m".as_slice())
-}
-
-// Whether a header of this version with so many regions and levels is read.
-fn is_read(version: u8, regions: u32, levels: u32) -> bool {
-    let Ok(old) = read_old_header(&leveled(version, regions, levels)) else {
-        return false;
-    };
+// Whether a header is read as one of this version with so many regions and levels.
+fn is_read(old: &OldHeader, version: u8, regions: u32, levels: u32) -> bool {
     let read = &old.header;
     let numbers = [read.next, read.rows, read.regions, read.root, read.levels];
     (old.version == version)
@@ -147,40 +123,48 @@ fn is_read(version: u8, regions: u32, levels: u32) -> bool {
         & is_plane(&read.schema)
 }
 
-// Why the page is no old header, if it is none.
-fn fault_of(page: &Page) -> Option<PageFault> {
-    read_old_header(page).err()
+// Whether a header of this version with so many regions and levels is read, if it is taken, or
+// refused as BadCount.
+fn is_told(version: u8, regions: u32, levels: u32, is_taken: bool) -> bool {
+    match read_old_header(&leveled(version, regions, levels)) {
+        Ok(old) => is_taken && is_read(&old, version, regions, levels),
+        Err(fault) => !is_taken && fault == PageFault::BadCount,
+    }
 }
 
 #[test]
 fn levels_are_those_of_the_version(rt: HostRuntime) {
     for (version, regions, levels, is_taken) in LEVELS {
-        let fault = fault_of(&leveled(*version, *regions, *levels));
         assert!(rt;
-            is_read(*version, *regions, *levels) == *is_taken
-                && (fault == Some(PageFault::BadCount)) != *is_taken,
+            is_told(*version, *regions, *levels, *is_taken),
             "{version} {regions} {levels}"
         );
+    }
+}
+
+// Whether a header of this version is refused so with these bytes changed.
+fn is_refused(version: u8, changes: &[(usize, u8)], fault: PageFault) -> bool {
+    match read_old_header(&changed(version, changes)) {
+        Ok(_) => false,
+        Err(told) => told == fault,
     }
 }
 
 #[test]
 fn old_headers_are_refused(rt: HostRuntime) {
     for (changes, fault) in FAULTS {
-        let faults = [
-            fault_of(&changed(1, changes)),
-            fault_of(&changed(2, changes)),
-        ];
-        assert!(rt; faults == [Some(*fault); 2]);
+        assert!(rt; is_refused(1, changes, *fault) & is_refused(2, changes, *fault));
     }
 }
 
-// The reader of the version that is written refuses both as older.
+// Whether a header of this version is taken as it stands, and refused as older by the reader of the
+// version that is written.
+fn is_old(version: u8) -> bool {
+    let older = Some(PageFault::OldFormat);
+    is_told(version, 3, 1, true) & (read_header(&changed(version, &[])).err() == older)
+}
+
 #[test]
 fn old_headers_are_old_to_the_other_reader(rt: HostRuntime) {
-    for version in 1..3u8 {
-        let page = changed(version, &[]);
-        assert!(rt; is_read(version, 3, 1) && fault_of(&page).is_none());
-        assert!(rt; read_header(&page).err() == Some(PageFault::OldFormat));
-    }
+    assert!(rt; is_old(1) & is_old(2));
 }

@@ -1,5 +1,6 @@
 // Headers, directories and pages of an index that are written and read, and pages that are refused.
-use crate::samples::{page_of, plane};
+use crate::samples::{is_plane, page_of, plane};
+use std::process::Abort;
 use ub_index_page::{
     Head, check_index, entry_at, first_at, read_head, read_index, slot_in, write_index,
 };
@@ -32,55 +33,6 @@ const HEADER: &[(usize, u8)] = &[
     (132, b'm'),
 ];
 
-// Bytes that are changed, one after the other, and the fault that is told then.
-const HEADER_FAULTS: &[(usize, u8, PageFault)] = &[
-    (4095, 1, PageFault::BadPadding),
-    (34, 1, PageFault::BadName),
-    (8, 1, PageFault::BadCount),
-    (5, 1, PageFault::Unclean),
-    (4, 1, PageFault::OldFormat),
-    (4, 4, PageFault::WrongKind),
-    (4, 0, PageFault::WrongKind),
-    (4, 2, PageFault::OldFormat),
-    (3, 0, PageFault::WrongKind),
-];
-
-// And bytes each of which is changed alone.
-const HEADER_FAULTS_ALONE: &[(usize, u8, PageFault)] = &[
-    (0, 0, PageFault::WrongKind),
-    (4, 4, PageFault::WrongKind),
-    (4, 255, PageFault::WrongKind),
-    (4, 1, PageFault::OldFormat),
-    (4, 2, PageFault::OldFormat),
-    (5, 2, PageFault::BadCount),
-    (27, 0, PageFault::BadCount),
-    (31, 0, PageFault::BadCount),
-    (31, 17, PageFault::BadCount),
-    (30, 1, PageFault::BadCount),
-    // The mask has bits for the two dimensions alone; the two bytes behind it are zero.
-    (9, 4, PageFault::BadCount),
-    (9, 5, PageFault::BadCount),
-    (9, 8, PageFault::BadCount),
-    (9, 16, PageFault::BadCount),
-    (9, 255, PageFault::BadCount),
-    (10, 1, PageFault::BadPadding),
-    (11, 1, PageFault::BadPadding),
-];
-
-// Two bytes that are wrong: the first of the order is told. The mask is a count: it comes after the state and before the names.
-const HEADER_FAULTS_BOTH: &[(usize, u8, usize, u8, PageFault)] = &[
-    (9, 4, 4, 2, PageFault::OldFormat),
-    (9, 4, 5, 1, PageFault::Unclean),
-    (9, 4, 32, 0, PageFault::BadCount),
-    (9, 4, 99, b'x', PageFault::BadCount),
-    (10, 1, 32, 0, PageFault::BadName),
-    // in an older format nothing more is looked at
-    (10, 1, 4, 1, PageFault::OldFormat),
-    // one dimension: it is the first that may be signed, and not the second; the names are one too many
-    (6, 1, 9, 2, PageFault::BadCount),
-    (6, 1, 9, 1, PageFault::BadPadding),
-];
-
 // Writes the directory that a page tells of.
 fn rewrite(schema: &Schema, page: &Page, draft: &mut Draft) -> bool {
     match read_directory(schema, page) {
@@ -100,76 +52,37 @@ fn is_header_page(page: &Page) -> bool {
     let mut draft = Draft::new();
     rewrite(&read.schema, &page_of(DIRECTORY, &[]), &mut draft);
     write_header(&read, &mut draft);
-    draft.page() == page
-        && read.schema.name().bytes() == b"t".as_slice()
-        && read.schema.dims() == 2
-        && read.schema.measures() == 1
-        && read.schema.signed() == 0
-        && read.next == 6
-        && read.rows == 5
-        && read.regions == 3
-        && read.root == 4
-        && read.levels == 1
-        && !read.unclean
+    let numbers = [read.next, read.rows, read.regions, read.root, read.levels];
+    (draft.page() == page) & (numbers == [6, 5, 3, 4, 1]) & !read.unclean & is_plane(&read.schema)
 }
 
-// Whether a header with this level of the root is read, and written so.
-fn keeps_level(level: u8) -> bool {
-    let page = page_of(HEADER, &[(31, level)]);
+// A byte of a header that is changed, and the level of the root and the mask of the signed
+// dimensions that are read then.
+static KEPT: &[(usize, u8, u32, u32)] = &[
+    (31, 2, 2, 0),
+    (31, 16, 16, 0),
+    (9, 0, 1, 0),
+    (9, 1, 1, 1),
+    (9, 2, 1, 2),
+    (9, 3, 1, 3),
+];
+
+// Whether such a header is read, and written so.
+fn is_kept(place: usize, byte: u8, levels: u32, signed: u32) -> bool {
+    let page = page_of(HEADER, &[(place, byte)]);
     let Ok(read) = read_header(&page) else {
         return false;
     };
     let mut draft = Draft::new();
     write_header(&read, &mut draft);
-    draft.page() == &page && read.levels == u32::from(level)
-}
-
-// Whether a header with this mask of the signed dimensions is read, and written so.
-fn keeps_mask(signed: u8) -> bool {
-    let page = page_of(HEADER, &[(9, signed)]);
-    let Ok(read) = read_header(&page) else {
-        return false;
-    };
-    let mut draft = Draft::new();
-    write_header(&read, &mut draft);
-    draft.page() == &page && read.schema.signed() == u32::from(signed)
-}
-
-// Whether each of these bytes, changed alone, is refused so.
-fn are_refused_alone(faults: &[(usize, u8, PageFault)]) -> bool {
-    for (place, byte, fault) in faults {
-        if read_header(&page_of(HEADER, &[(*place, *byte)])).err() != Some(*fault) {
-            return false;
-        }
-    }
-    true
-}
-
-// Whether each of these two bytes, changed together, is refused so.
-fn are_refused_together(faults: &[(usize, u8, usize, u8, PageFault)]) -> bool {
-    for (place, byte, other, another, fault) in faults {
-        let page = page_of(HEADER, &[(*place, *byte), (*other, *another)]);
-        if read_header(&page).err() != Some(*fault) {
-            return false;
-        }
-    }
-    true
+    (draft.page() == &page) & (read.levels == levels) & (read.schema.signed() == signed)
 }
 
 #[test]
-fn headers_tell_which_dimensions_are_signed(rt: HostRuntime) {
-    assert!(rt; keeps_mask(0) && keeps_mask(1) && keeps_mask(2) && keeps_mask(3));
-    assert!(rt; are_refused_together(HEADER_FAULTS_BOTH));
-}
-
-#[test]
-fn headers(rt: HostRuntime) {
-    let mut page = page_of(HEADER, &[]);
-    assert!(rt; is_header_page(&page) && keeps_level(2) && keeps_level(16));
-    assert!(rt; are_refused_alone(HEADER_FAULTS_ALONE));
-    for (place, byte, fault) in HEADER_FAULTS {
-        page[*place % 4096] = *byte;
-        assert!(rt; read_header(&page).err() == Some(*fault), "{place}");
+fn headers_keep_levels_and_masks(rt: HostRuntime) {
+    assert!(rt; is_header_page(&page_of(HEADER, &[])));
+    for (place, byte, levels, signed) in KEPT {
+        assert!(rt; is_kept(*place, *byte, *levels, *signed), "{place} {byte}");
     }
 }
 
@@ -190,14 +103,6 @@ const DIRECTORY: &[(usize, u8)] = &[
     (63, 3),
     (79, 13),
     (87, 2),
-];
-
-const DIRECTORY_FAULTS: &[(usize, u8, PageFault)] = &[
-    (4095, 1, PageFault::BadPadding),
-    (55, 13, PageFault::BadOrder),
-    (39, 0, PageFault::BadRow),
-    (3, 171, PageFault::BadCount),
-    (0, 0, PageFault::WrongKind),
 ];
 
 // And of a longer one, which names page 7 as the next.
@@ -228,9 +133,11 @@ fn is_written(schema: &Schema, page: &Page) -> bool {
 fn is_directory_page(schema: &Schema, page: &Page) -> bool {
     let entries = [entry(0, 1), entry(10, 3), entry(13, 2)];
     match read_directory(schema, page) {
-        Ok(directory) => is_written(schema, page)
-            && directory.entries() == entries.as_slice()
-            && directory.next() == 0,
+        Ok(directory) => {
+            is_written(schema, page)
+                & (directory.entries() == entries.as_slice())
+                & (directory.next() == 0)
+        }
         Err(_) => false,
     }
 }
@@ -238,15 +145,7 @@ fn is_directory_page(schema: &Schema, page: &Page) -> bool {
 #[test]
 fn directories(rt: HostRuntime) {
     let schema = plane().expect(&rt, "a table");
-    let mut page = page_of(DIRECTORY, &[]);
-    assert!(rt; is_directory_page(&schema, &page));
-    for (place, byte, fault) in DIRECTORY_FAULTS {
-        page[*place % 4096] = *byte;
-        assert!(rt;
-            read_directory(&schema, &page).err() == Some(*fault),
-            "{place}"
-        );
-    }
+    assert!(rt; is_directory_page(&schema, &page_of(DIRECTORY, &[])));
 }
 
 // The bytes of a page of an index that leads to the same regions.
@@ -259,20 +158,6 @@ const INDEX: &[(usize, u8)] = &[
     (63, 3),
     (79, 13),
     (87, 2),
-];
-
-const INDEX_FAULTS: &[(usize, u8, PageFault)] = &[
-    (4095, 1, PageFault::BadPadding),
-    (15, 1, PageFault::BadPadding),
-    (4, 1, PageFault::BadPadding),
-    (55, 13, PageFault::BadOrder),
-    (39, 0, PageFault::BadRow),
-    (1, 17, PageFault::BadCount),
-    (1, 0, PageFault::BadCount),
-    (1, 16, PageFault::BadRow),
-    (3, 171, PageFault::BadCount),
-    (3, 0, PageFault::BadCount),
-    (0, 0x44, PageFault::WrongKind),
 ];
 
 // Keys, each with the slot of that page to which it falls.
@@ -305,22 +190,17 @@ fn is_index_page(schema: &Schema, page: &Page) -> bool {
 // Whether the page is looked into where it stands.
 fn is_looked_into(page: &Page) -> bool {
     let head = Ok(Head { level: 1, count: 3 });
-    read_head(page) == head
-        && check_index(LAST, page) == head
-        && entry_at(page, 1) == entry(10, 3)
-        && first_at(page, 2).z == 13
-}
-
-// Whether the page is refused so, read and checked.
-fn is_refused(schema: &Schema, page: &Page, fault: PageFault) -> bool {
-    read_index(schema, page).err() == Some(fault) && check_index(LAST, page) == Err(fault)
+    (read_head(page) == head)
+        & (check_index(LAST, page) == head)
+        & (entry_at(page, 1) == entry(10, 3))
+        & (first_at(page, 2).z == 13)
 }
 
 #[test]
 fn index_pages(rt: HostRuntime) {
     let schema = plane().expect(&rt, "a table");
-    let mut page = page_of(INDEX, &[]);
-    assert!(rt; is_index_page(&schema, &page) && is_looked_into(&page));
+    let page = page_of(INDEX, &[]);
+    assert!(rt; is_index_page(&schema, &page) & is_looked_into(&page));
     for (z, number, slot) in SLOTS {
         let key = Key {
             z: *z,
@@ -328,8 +208,173 @@ fn index_pages(rt: HostRuntime) {
         };
         assert!(rt; slot_in(&page, 3, &key) == *slot, "{z}");
     }
-    for (place, byte, fault) in INDEX_FAULTS {
-        page[*place % 4096] = *byte;
-        assert!(rt; is_refused(&schema, &page, *fault), "{place}");
+}
+
+// What a page is read as.
+#[derive(Clone, Copy)]
+enum Kind {
+    Header,
+    Directory,
+    // A page of an index is checked too.
+    Index,
+}
+
+// Bytes that are changed in a page and stay so, and then bytes with the fault that is told once
+// each is changed too.
+struct Faults {
+    kind: Kind,
+    bytes: &'static [(usize, u8)],
+    before: &'static [(usize, u8)],
+    // Whether a byte stays as it is changed, for those that follow.
+    are_kept: bool,
+    rows: &'static [(usize, u8, PageFault)],
+}
+
+static FAULTS: &[Faults] = &[
+    Faults {
+        kind: Kind::Header,
+        bytes: HEADER,
+        before: &[],
+        are_kept: true,
+        rows: &[
+            (4095, 1, PageFault::BadPadding),
+            (34, 1, PageFault::BadName),
+            (8, 1, PageFault::BadCount),
+            (5, 1, PageFault::Unclean),
+            (4, 1, PageFault::OldFormat),
+            (4, 4, PageFault::WrongKind),
+            (4, 0, PageFault::WrongKind),
+            (4, 2, PageFault::OldFormat),
+            (3, 0, PageFault::WrongKind),
+        ],
+    },
+    // Each byte is changed alone.
+    Faults {
+        kind: Kind::Header,
+        bytes: HEADER,
+        before: &[],
+        are_kept: false,
+        rows: &[
+            (0, 0, PageFault::WrongKind),
+            (4, 4, PageFault::WrongKind),
+            (4, 255, PageFault::WrongKind),
+            (4, 1, PageFault::OldFormat),
+            (4, 2, PageFault::OldFormat),
+            (5, 2, PageFault::BadCount),
+            (27, 0, PageFault::BadCount),
+            (31, 0, PageFault::BadCount),
+            (31, 17, PageFault::BadCount),
+            (30, 1, PageFault::BadCount),
+            // The mask has bits for the two dimensions alone; the two bytes behind it are zero.
+            (9, 4, PageFault::BadCount),
+            (9, 5, PageFault::BadCount),
+            (9, 8, PageFault::BadCount),
+            (9, 16, PageFault::BadCount),
+            (9, 255, PageFault::BadCount),
+            (10, 1, PageFault::BadPadding),
+            (11, 1, PageFault::BadPadding),
+        ],
+    },
+    // Two bytes that are wrong: the first of the order is told. The mask is a count: it comes after
+    // the state and before the names.
+    Faults {
+        kind: Kind::Header,
+        bytes: HEADER,
+        before: &[(9, 4)],
+        are_kept: false,
+        rows: &[
+            (4, 2, PageFault::OldFormat),
+            (5, 1, PageFault::Unclean),
+            (32, 0, PageFault::BadCount),
+            (99, b'x', PageFault::BadCount),
+        ],
+    },
+    // In an older format nothing more is looked at.
+    Faults {
+        kind: Kind::Header,
+        bytes: HEADER,
+        before: &[(10, 1)],
+        are_kept: false,
+        rows: &[(32, 0, PageFault::BadName), (4, 1, PageFault::OldFormat)],
+    },
+    // One dimension: it is the first that may be signed, and not the second; the names are one too
+    // many.
+    Faults {
+        kind: Kind::Header,
+        bytes: HEADER,
+        before: &[(6, 1)],
+        are_kept: false,
+        rows: &[(9, 2, PageFault::BadCount), (9, 1, PageFault::BadPadding)],
+    },
+    Faults {
+        kind: Kind::Directory,
+        bytes: DIRECTORY,
+        before: &[],
+        are_kept: true,
+        rows: &[
+            (4095, 1, PageFault::BadPadding),
+            (55, 13, PageFault::BadOrder),
+            (39, 0, PageFault::BadRow),
+            (3, 171, PageFault::BadCount),
+            (0, 0, PageFault::WrongKind),
+        ],
+    },
+    Faults {
+        kind: Kind::Index,
+        bytes: INDEX,
+        before: &[],
+        are_kept: true,
+        rows: &[
+            (4095, 1, PageFault::BadPadding),
+            (15, 1, PageFault::BadPadding),
+            (4, 1, PageFault::BadPadding),
+            (55, 13, PageFault::BadOrder),
+            (39, 0, PageFault::BadRow),
+            (1, 17, PageFault::BadCount),
+            (1, 0, PageFault::BadCount),
+            (1, 16, PageFault::BadRow),
+            (3, 171, PageFault::BadCount),
+            (3, 0, PageFault::BadCount),
+            (0, 0x44, PageFault::WrongKind),
+        ],
+    },
+];
+
+// Whether the page is refused so.
+fn is_refused(kind: Kind, schema: &Schema, page: &Page, fault: PageFault) -> bool {
+    let told = match kind {
+        Kind::Header => read_header(page).err(),
+        Kind::Directory => read_directory(schema, page).err(),
+        Kind::Index => read_index(schema, page).err(),
+    };
+    let is_checked = match kind {
+        Kind::Index => check_index(LAST, page) == Err(fault),
+        _ => true,
+    };
+    is_checked & (told == Some(fault))
+}
+
+// Asserts that each of these bytes has the page refused so.
+fn all_refused(rt: &impl Abort, schema: &Schema, faults: &Faults) {
+    let mut page = page_of(faults.bytes, faults.before);
+    for (place, byte, fault) in faults.rows {
+        let at = *place % 4096;
+        let old = page[at];
+        page[at] = *byte;
+        assert!(rt;
+            is_refused(faults.kind, schema, &page, *fault),
+            "{place} {byte}: {fault}"
+        );
+        if !faults.are_kept {
+            page[at] = old;
+        }
+    }
+}
+
+#[test]
+fn pages_with_a_wrong_byte_are_refused(rt: HostRuntime) {
+    let schema = plane().expect(&rt, "a table");
+    for faults in FAULTS {
+        all_refused(&rt, &schema, faults);
     }
 }

@@ -18,12 +18,15 @@ fn rows(all: &[(u32, u32, u32)]) -> Rows {
 
 // Whether these rows have these numbers.
 fn numbers_are(rows: &[Row], numbers: &[u32]) -> bool {
-    for (row, number) in rows.iter().zip(numbers) {
-        if row.number != *number {
+    if rows.len() != numbers.len() {
+        return false;
+    }
+    for i in 0..rows.len() {
+        if rows[i].number != numbers[i] {
             return false;
         }
     }
-    rows.len() == numbers.len()
+    true
 }
 
 // Whether three rows, where a page holds two, have these numbers in the left half and in the right
@@ -33,7 +36,7 @@ fn are_split(shape: Shape, all: &Rows, left: &[u32], right: &[u32], first: Key) 
         return false;
     }
     let halves = all.split(shape, 2);
-    numbers_are(halves.left, left) && numbers_are(halves.right, right) && halves.first == first
+    numbers_are(halves.left, left) & numbers_are(halves.right, right) & (halves.first == first)
 }
 
 #[test]

@@ -37,12 +37,37 @@ pub(crate) fn row(number: u32, x: u32, y: u32, m: i64) -> Row {
     }
 }
 
-// A page of zeros but for these bytes, which are put in one after the other.
-pub(crate) fn page_of(bytes: &[(usize, u8)], changes: &[(usize, u8)]) -> Page {
-    let mut page = [0; 4096];
-    for (place, byte) in bytes.iter().chain(changes) {
+// Whether this is the table t of two dimensions x and y and a measure m, none of them signed, with
+// two rows on a page.
+pub(crate) fn is_plane(schema: &Schema) -> bool {
+    let [x, y, m] = schema.columns() else {
+        return false;
+    };
+    let numbers = [
+        schema.dims(),
+        schema.measures(),
+        schema.page_rows(),
+        schema.signed(),
+    ];
+    (numbers == [2, 1, 2, 0])
+        & (schema.name().bytes() == b"t".as_slice())
+        & (x.bytes() == b"x".as_slice())
+        & (y.bytes() == b"y".as_slice())
+        & (m.bytes() == b"m".as_slice())
+}
+
+// Puts these bytes into a page, one after the other.
+pub(crate) fn change(page: &mut Page, changes: &[(usize, u8)]) {
+    for (place, byte) in changes {
         page[*place % 4096] = *byte;
     }
+}
+
+// A page of zeros but for these bytes, and then for these.
+pub(crate) fn page_of(bytes: &[(usize, u8)], changes: &[(usize, u8)]) -> Page {
+    let mut page = [0; 4096];
+    change(&mut page, bytes);
+    change(&mut page, changes);
     page
 }
 
@@ -64,31 +89,46 @@ fn word(x: i64) -> u128 {
     if x < 0 { (1 << 64) - size } else { size }
 }
 
+// A page that is written from its beginning on.
+#[derive(Drop)]
+struct Ink {
+    page: Page,
+    at: usize,
+}
+
+impl Ink {
+    // Puts a number on so many bytes.
+    fn put(&mut self, width: u32, number: u128) {
+        poke(&mut self.page, self.at, width, number);
+        self.at = self.at.wrapping_add(width as usize);
+    }
+}
+
 // The page of a region, by hand: so many dimensions and measures, the first key, and these rows, 64 at most.
 pub(crate) fn region_page(dims: usize, measures: usize, first: Key, rows: &[Row]) -> Page {
-    let (dims, measures) = (dims.min(4), measures.min(4));
-    let count = rows.len().min(64);
-    let mut page = [0; 4096];
-    let head = [0x52, dims as u128, measures as u128, count as u128];
-    for i in 0..4usize {
-        poke(&mut page, i, 1, head[i]);
+    let rows = &rows[..rows.len().min(64)];
+    let mut ink = Ink {
+        page: [0; 4096],
+        at: 0,
+    };
+    ink.put(1, 0x52);
+    ink.put(1, dims as u128);
+    ink.put(1, measures as u128);
+    ink.put(1, rows.len() as u128);
+    ink.put(16, first.z);
+    ink.put(4, u128::from(first.number));
+    for row in rows {
+        ink.put(4, u128::from(row.number));
     }
-    poke(&mut page, 4, 16, first.z);
-    poke(&mut page, 20, 4, u128::from(first.number));
-    for i in 0..count {
-        poke(&mut page, 24 + 4 * i, 4, u128::from(rows[i].number));
-    }
-    for dim in 0..dims {
-        for i in 0..count {
-            let at = 24 + 4 * (count + count * dim + i);
-            poke(&mut page, at, 4, u128::from(rows[i].dims[dim]));
+    for dim in 0..dims.min(4) {
+        for row in rows {
+            ink.put(4, u128::from(row.dims[dim]));
         }
     }
-    for measure in 0..measures {
-        for i in 0..count {
-            let at = 24 + 4 * (count + count * dims) + 8 * (count * measure + i);
-            poke(&mut page, at, 8, word(rows[i].measures[measure]));
+    for measure in 0..measures.min(4) {
+        for row in rows {
+            ink.put(8, word(row.measures[measure]));
         }
     }
-    page
+    ink.page
 }

@@ -223,7 +223,7 @@ fn digits(pages: &[u32]) -> u32 {
 
 // What a call answers: how many pages there are, the digits of those that were noted, the byte that
 // the page is full of which is brought, or 0.
-fn done(pager: &mut MemPager, deed: Deed) -> Answer {
+fn done<S: PageStore>(pager: &mut Pager<S>, deed: Deed) -> Answer {
     match deed {
         Deed::Bring(n) => {
             pager.bring(n)?;
@@ -251,7 +251,7 @@ fn done(pager: &mut MemPager, deed: Deed) -> Answer {
 }
 
 // Whether each of the calls is answered so.
-fn does(pager: &mut MemPager, deeds: &[(Deed, Answer)]) -> bool {
+fn does<S: PageStore>(pager: &mut Pager<S>, deeds: &[(Deed, Answer)]) -> bool {
     for (deed, wanted) in deeds {
         if done(pager, *deed) != *wanted {
             return false;
@@ -330,7 +330,7 @@ const AGAIN: &[(Deed, Answer)] = &[
 
 // Whether a region's page is noted that memory is refused for, or isn't; and brought, in this call
 // or in the next.
-fn brings_at_last(pager: &mut MemPager) -> Result<bool, StoreFault> {
+fn brings_at_last<S: PageStore>(pager: &mut Pager<S>) -> Result<bool, StoreFault> {
     done(pager, Deed::Region(0))?;
     pager.begin();
     match done(pager, Deed::Region(1)) {

@@ -1,5 +1,5 @@
 // Names, columns, schemas, rows and keys.
-use crate::samples::{plane, signed_table, table};
+use crate::samples::{is_plane, plane, signed_table, table};
 use ub_table::columns::MAX_COLUMNS;
 use ub_table::{Columns, Key, Name, PageFault, Row, Schema, is_keyword};
 
@@ -50,26 +50,25 @@ fn are_held(names: &[Name]) -> bool {
     columns.as_slice() == names && Columns::from_slice(names).as_slice() == names
 }
 
-// Why there is no table of two columns t, with so many rows on a page and this mask of signed dimensions.
-fn fault_of(t: Name, page_rows: u32, signed: u32) -> Option<PageFault> {
-    Schema::new(t, &[t, t], 2, page_rows, signed).err()
+// Numbers of rows on a page and masks of signed dimensions, and why there is no table of two columns of a name with them.
+static REFUSED: &[(u32, u32, PageFault)] = &[
+    (65, 0, PageFault::BadCount),
+    (64, 4, PageFault::BadCount),
+    (64, 0, PageFault::BadName),
+    (64, 3, PageFault::BadName),
+];
+
+// Whether there is no table of two columns t with these.
+fn is_refused(t: Name, page_rows: u32, signed: u32, fault: PageFault) -> bool {
+    Schema::new(t, &[t, t], 2, page_rows, signed).err() == Some(fault)
 }
 
-// Whether this is the table t of two dimensions x and y and a measure m, with two rows on a page,
-// and the first two columns are held as such.
-fn is_plane(schema: &Schema) -> bool {
-    let [x, y, m] = schema.columns() else {
-        return false;
-    };
-    let names = [schema.name().bytes(), x.bytes(), y.bytes(), m.bytes()];
-    let letters = [
-        b"t".as_slice(),
-        b"x".as_slice(),
-        b"y".as_slice(),
-        b"m".as_slice(),
-    ];
-    let numbers = [schema.dims(), schema.measures(), schema.page_rows()];
-    names == letters && numbers == [2, 1, 2] && are_held(&[*x, *y])
+// Whether the first two columns of a table are held as such.
+fn holds_columns(schema: &Schema) -> bool {
+    match schema.columns().get(..2) {
+        Some(names) => are_held(names),
+        None => false,
+    }
 }
 
 // The table of the plane; one of two columns of a name is refused for its count of rows, or its mask, before its names.
@@ -77,10 +76,13 @@ fn is_plane(schema: &Schema) -> bool {
 fn takes_columns_and_schemas(rt: HostRuntime) {
     let schema = plane().expect(&rt, "a table");
     let name = *schema.name();
-    let counts = [fault_of(name, 65, 0), fault_of(name, 64, 4)];
-    let names = [fault_of(name, 64, 0), fault_of(name, 64, 3)];
-    assert!(rt; is_plane(&schema) && counts == [Some(PageFault::BadCount); 2]);
-    assert!(rt; names == [Some(PageFault::BadName); 2]);
+    assert!(rt; is_plane(&schema) & holds_columns(&schema));
+    for (page_rows, signed, fault) in REFUSED {
+        assert!(rt;
+            is_refused(name, *page_rows, *signed, *fault),
+            "{page_rows} {signed}"
+        );
+    }
 }
 
 #[test]
@@ -92,10 +94,7 @@ fn orders_keys(rt: HostRuntime) {
         number: 1,
     };
     assert!(rt;
-        low.is_before(&high)
-            && !high.is_before(&low)
-            && first.is_before(&low)
-            && !low.is_before(&low)
+        low.is_before(&high) & !high.is_before(&low) & first.is_before(&low) & !low.is_before(&low)
     );
 }
 
@@ -108,14 +107,20 @@ static ROW: Row = Row {
 
 static VALUES: [i64; 4] = [3, 4, -5, 6];
 
+// The same where the second dimension is signed.
+static SIGNED_VALUES: [i64; 4] = [3, -2_147_483_644, -5, 6];
+
 // Whether the columns of a table have these values in the row.
-fn are_read(schema: &Schema) -> bool {
+fn are_read(schema: &Schema, values: &[i64]) -> bool {
+    if schema.columns().len() != values.len() {
+        return false;
+    }
     for column in 0..schema.columns().len() {
-        if VALUES.get(column) != Some(&schema.value_of(&ROW, column)) {
+        if values[column] != schema.value_of(&ROW, column) {
             return false;
         }
     }
-    schema.columns().len() == VALUES.len()
+    true
 }
 
 // Numbers, and whether the first column of such a table, a dimension, and its last, a measure, can
@@ -152,7 +157,7 @@ fn are_fitted(schema: &Schema) -> bool {
 #[test]
 fn reads_columns_and_tells_which_numbers_fit(rt: HostRuntime) {
     let schema = table(b"xymn", 2, 2).expect(&rt, "a table");
-    assert!(rt; are_read(&schema) && are_fitted(&schema));
+    assert!(rt; are_read(&schema, &VALUES) & are_fitted(&schema));
 }
 
 // A mask has bits for the dimensions alone.
@@ -185,61 +190,43 @@ fn takes_masks_of_its_dimensions(rt: HostRuntime) {
     }
 }
 
-// Values of a signed dimension, and the coordinates that stand for them.
-const SIGNED: &[(i64, u32)] = &[
-    (-2_147_483_648, 0),
-    (-2_147_483_647, 1),
-    (-1, 2_147_483_647),
-    (0, 2_147_483_648),
-    (1, 2_147_483_649),
-    (2_147_483_647, 4_294_967_295),
+// Values of a signed dimension, and the coordinates that stand for them; and numbers that it doesn't have: those next to its
+// values, and the ends of 64 and of 128 bits.
+static SIGNED: &[(i128, Option<u32>)] = &[
+    (-2_147_483_648, Some(0)),
+    (-2_147_483_647, Some(1)),
+    (-1, Some(2_147_483_647)),
+    (0, Some(2_147_483_648)),
+    (1, Some(2_147_483_649)),
+    (2_147_483_647, Some(4_294_967_295)),
+    (-2_147_483_649, None),
+    (2_147_483_648, None),
+    (4_294_967_295, None),
+    (-9_223_372_036_854_775_808, None),
+    (9_223_372_036_854_775_807, None),
+    (-18_446_744_073_709_551_615, None),
+    (18_446_744_073_709_551_615, None),
+    (i128::MIN, None),
+    (i128::MAX, None),
 ];
 
-// Numbers that a signed dimension doesn't have: those next to its values, and the ends of 64 and of 128 bits.
-const UNHAD: &[i128] = &[
-    -2_147_483_649,
-    2_147_483_648,
-    4_294_967_295,
-    -9_223_372_036_854_775_808,
-    9_223_372_036_854_775_807,
-    -18_446_744_073_709_551_615,
-    18_446_744_073_709_551_615,
-    i128::MIN,
-    i128::MAX,
-];
-
-// Whether this dimension of a table has those values, which stand for those coordinates, and no other of these numbers.
-fn are_signed(schema: &Schema, dim: usize) -> bool {
-    for (value, coordinate) in SIGNED {
-        if schema.value(dim, *coordinate) != *value
-            || schema.coordinate(dim, i128::from(*value)) != Some(*coordinate)
-            || !fits(schema, dim, i128::from(*value))
-        {
-            return false;
-        }
-    }
-    for number in UNHAD {
-        if schema.coordinate(dim, *number).is_some() || fits(schema, dim, *number) {
-            return false;
-        }
-    }
-    true
-}
-
-// Whether a row is read by which dimensions are signed: the second of two, whose coordinate 4 stands for -2147483644.
-fn is_read_signed(schema: &Schema) -> bool {
-    let values = [3, -2_147_483_644, -5, 6];
-    for column in 0..schema.columns().len() {
-        if values.get(column) != Some(&schema.value_of(&ROW, column)) {
-            return false;
-        }
-    }
-    true
+// Whether this dimension of a table has this number, for which that coordinate stands, or doesn't have it.
+fn is_signed(schema: &Schema, dim: usize, number: i128, coordinate: Option<u32>) -> bool {
+    let is_value = match coordinate {
+        Some(coordinate) => i128::from(schema.value(dim, coordinate)) == number,
+        None => true,
+    };
+    is_value
+        & (schema.coordinate(dim, number) == coordinate)
+        & (fits(schema, dim, number) == coordinate.is_some())
 }
 
 // A table of two dimensions of which the second is signed, and of two measures.
 #[test]
 fn reads_columns_by_which_are_signed(rt: HostRuntime) {
     let schema = signed_table(b"xymn", 2, 2, 2).expect(&rt, "a table");
-    assert!(rt; are_signed(&schema, 1) && are_fitted(&schema) && is_read_signed(&schema));
+    assert!(rt; are_fitted(&schema) & are_read(&schema, &SIGNED_VALUES));
+    for (number, coordinate) in SIGNED {
+        assert!(rt; is_signed(&schema, 1, *number, *coordinate), "{number}");
+    }
 }
