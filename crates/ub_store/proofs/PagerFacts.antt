@@ -15,9 +15,11 @@ appended : (old new : StoreFacts) (cached : List (ℕ × List ℕ)) (last : List
 appended old new cached last honest added held n page at =
     let was = held n page at in
     let within = was.0 in
-    let count = added.0 in
-    (omega arith, λ is. let was_honest : IsHonest old = subst (λ (b : Bool). IsTrue b) honest is in
-    rw (added.1 was_honest) (before_last old.pages (last ∷ []) n page (was.1 was_honest)))
+    let count = added.0 in (
+      omega arith,
+      λ is. let was_honest : IsHonest old = subst (λ (b : Bool). IsTrue b) honest is in
+          rw (added.1 was_honest) (before_last old.pages (last ∷ []) n page (was.1 was_honest)),
+    )
 
 pub extended : (old new : StoreFacts) (result : Result ℕ StoreFault) (cached : List (ℕ × List ℕ)) → Extends old new result
     → IsCacheOf old cached → IsCacheOf new cached

@@ -31,7 +31,7 @@ returns-then-not-are_in_range-clause-refused c = (
   λ one. c.if-numbers-eq1.false (ap (λ (n : Numbers). n.state) c.read_numbers-numbers.ensures ∙ one),
   λ range.
       let yes : c.are_in_range.result ≡ true = c.are_in_range.ensures.1
-          (subst (λ (n : Numbers). AreInRangeOf c.args.version n) (sym c.read_numbers-numbers.ensures) range) in
+      (subst (λ (n : Numbers). AreInRangeOf c.args.version n) (sym c.read_numbers-numbers.ensures) range) in
       let no = c.if-not-are_in_range.true in cc,
 )
 

@@ -48,52 +48,134 @@ put_u8-requires-5 c =
 
 pub put_u8-requires-6 : goal.put_u8-requires-6
 put_u8-requires-6 c =
-    rw (c.put_u8-5.ensures.len, c.put_u8-4.ensures.len, c.put_u8-3.ensures.len, c.put_u8-2.ensures.len, c.put_u8.ensures.len, c.put_u32.ensures.len,
-    c.clear.ensures)
+    rw (
+      c.put_u8-5.ensures.len,
+      c.put_u8-4.ensures.len,
+      c.put_u8-3.ensures.len,
+      c.put_u8-2.ensures.len,
+      c.put_u8.ensures.len,
+      c.put_u32.ensures.len,
+      c.clear.ensures,
+    )
     (lit≤ tt)
 
 pub put_u16-requires : goal.put_u16-requires
 put_u16-requires c =
-    rw (c.put_u8-6.ensures.len, c.put_u8-5.ensures.len, c.put_u8-4.ensures.len, c.put_u8-3.ensures.len, c.put_u8-2.ensures.len, c.put_u8.ensures.len,
-    c.put_u32.ensures.len, c.clear.ensures)
+    rw (
+      c.put_u8-6.ensures.len,
+      c.put_u8-5.ensures.len,
+      c.put_u8-4.ensures.len,
+      c.put_u8-3.ensures.len,
+      c.put_u8-2.ensures.len,
+      c.put_u8.ensures.len,
+      c.put_u32.ensures.len,
+      c.clear.ensures,
+    )
     (lit≤ tt)
 
 pub put_u32-requires-2 : goal.put_u32-requires-2
 put_u32-requires-2 c =
-    rw (c.put_u16.ensures.len, c.put_u8-6.ensures.len, c.put_u8-5.ensures.len, c.put_u8-4.ensures.len, c.put_u8-3.ensures.len, c.put_u8-2.ensures.len,
-    c.put_u8.ensures.len, c.put_u32.ensures.len, c.clear.ensures)
+    rw (
+      c.put_u16.ensures.len,
+      c.put_u8-6.ensures.len,
+      c.put_u8-5.ensures.len,
+      c.put_u8-4.ensures.len,
+      c.put_u8-3.ensures.len,
+      c.put_u8-2.ensures.len,
+      c.put_u8.ensures.len,
+      c.put_u32.ensures.len,
+      c.clear.ensures,
+    )
     (lit≤ tt)
 
 pub put_u32-requires-3 : goal.put_u32-requires-3
 put_u32-requires-3 c =
-    rw (c.put_u32-2.ensures.len, c.put_u16.ensures.len, c.put_u8-6.ensures.len, c.put_u8-5.ensures.len, c.put_u8-4.ensures.len, c.put_u8-3.ensures.len,
-    c.put_u8-2.ensures.len, c.put_u8.ensures.len, c.put_u32.ensures.len, c.clear.ensures)
+    rw (
+      c.put_u32-2.ensures.len,
+      c.put_u16.ensures.len,
+      c.put_u8-6.ensures.len,
+      c.put_u8-5.ensures.len,
+      c.put_u8-4.ensures.len,
+      c.put_u8-3.ensures.len,
+      c.put_u8-2.ensures.len,
+      c.put_u8.ensures.len,
+      c.put_u32.ensures.len,
+      c.clear.ensures,
+    )
     (lit≤ tt)
 
 pub put_u32-requires-4 : goal.put_u32-requires-4
 put_u32-requires-4 c =
-    rw (c.put_u32-3.ensures.len, c.put_u32-2.ensures.len, c.put_u16.ensures.len, c.put_u8-6.ensures.len, c.put_u8-5.ensures.len, c.put_u8-4.ensures.len,
-    c.put_u8-3.ensures.len, c.put_u8-2.ensures.len, c.put_u8.ensures.len, c.put_u32.ensures.len, c.clear.ensures)
+    rw (
+      c.put_u32-3.ensures.len,
+      c.put_u32-2.ensures.len,
+      c.put_u16.ensures.len,
+      c.put_u8-6.ensures.len,
+      c.put_u8-5.ensures.len,
+      c.put_u8-4.ensures.len,
+      c.put_u8-3.ensures.len,
+      c.put_u8-2.ensures.len,
+      c.put_u8.ensures.len,
+      c.put_u32.ensures.len,
+      c.clear.ensures,
+    )
     (lit≤ tt)
 
 pub put_u32-requires-5 : goal.put_u32-requires-5
 put_u32-requires-5 c =
-    rw (c.put_u32-4.ensures.len, c.put_u32-3.ensures.len, c.put_u32-2.ensures.len, c.put_u16.ensures.len, c.put_u8-6.ensures.len, c.put_u8-5.ensures.len,
-    c.put_u8-4.ensures.len, c.put_u8-3.ensures.len, c.put_u8-2.ensures.len, c.put_u8.ensures.len, c.put_u32.ensures.len, c.clear.ensures)
+    rw (
+      c.put_u32-4.ensures.len,
+      c.put_u32-3.ensures.len,
+      c.put_u32-2.ensures.len,
+      c.put_u16.ensures.len,
+      c.put_u8-6.ensures.len,
+      c.put_u8-5.ensures.len,
+      c.put_u8-4.ensures.len,
+      c.put_u8-3.ensures.len,
+      c.put_u8-2.ensures.len,
+      c.put_u8.ensures.len,
+      c.put_u32.ensures.len,
+      c.clear.ensures,
+    )
     (lit≤ tt)
 
 pub put_u32-requires-6 : goal.put_u32-requires-6
 put_u32-requires-6 c =
-    rw (c.put_u32-5.ensures.len, c.put_u32-4.ensures.len, c.put_u32-3.ensures.len, c.put_u32-2.ensures.len, c.put_u16.ensures.len, c.put_u8-6.ensures.len,
-    c.put_u8-5.ensures.len, c.put_u8-4.ensures.len, c.put_u8-3.ensures.len, c.put_u8-2.ensures.len, c.put_u8.ensures.len, c.put_u32.ensures.len,
-    c.clear.ensures)
+    rw (
+      c.put_u32-5.ensures.len,
+      c.put_u32-4.ensures.len,
+      c.put_u32-3.ensures.len,
+      c.put_u32-2.ensures.len,
+      c.put_u16.ensures.len,
+      c.put_u8-6.ensures.len,
+      c.put_u8-5.ensures.len,
+      c.put_u8-4.ensures.len,
+      c.put_u8-3.ensures.len,
+      c.put_u8-2.ensures.len,
+      c.put_u8.ensures.len,
+      c.put_u32.ensures.len,
+      c.clear.ensures,
+    )
     (lit≤ tt)
 
 pub put_name-requires : goal.put_name-requires
 put_name-requires c =
-    rw (c.put_u32-6.ensures.len, c.put_u32-5.ensures.len, c.put_u32-4.ensures.len, c.put_u32-3.ensures.len, c.put_u32-2.ensures.len, c.put_u16.ensures.len,
-    c.put_u8-6.ensures.len, c.put_u8-5.ensures.len, c.put_u8-4.ensures.len, c.put_u8-3.ensures.len, c.put_u8-2.ensures.len, c.put_u8.ensures.len,
-    c.put_u32.ensures.len, c.clear.ensures)
+    rw (
+      c.put_u32-6.ensures.len,
+      c.put_u32-5.ensures.len,
+      c.put_u32-4.ensures.len,
+      c.put_u32-3.ensures.len,
+      c.put_u32-2.ensures.len,
+      c.put_u16.ensures.len,
+      c.put_u8-6.ensures.len,
+      c.put_u8-5.ensures.len,
+      c.put_u8-4.ensures.len,
+      c.put_u8-3.ensures.len,
+      c.put_u8-2.ensures.len,
+      c.put_u8.ensures.len,
+      c.put_u32.ensures.len,
+      c.clear.ensures,
+    )
     (lit≤ tt)
 
 pub overflow_cast-dims : goal.overflow_cast-dims
