@@ -87,7 +87,8 @@ fn least_up_to(zbox: &ZBox, z: u128, free: u32, dim: usize) -> Option<u32>
     Some(start.values()[dim])
 }
 
-// Whether `found` is a coordinate, and none of those points of the box that agree with z from a place up has a lesser one.
+// Whether the corner of that part of the box shows that none of its points that agree with z from a place up has a lesser
+// coordinate than `found`.
 fn is_least(zbox: &ZBox, z: u128, free: u32, dim: usize, found: Option<u32>) -> bool
     requires dim { dim < length zbox.now.lo }
     requires z { z ≤ last_address (length zbox.now.lo) }
@@ -116,7 +117,8 @@ fn greatest_from(zbox: &ZBox, z: u128, free: u32, dim: usize) -> Option<u32>
     Some(end.values()[dim])
 }
 
-// Whether `found` is a coordinate, and none of those points of the box that agree with z from a place up has a greater one.
+// Whether the corner of that part of the box shows that none of its points that agree with z from a place up has a greater
+// coordinate than `found`.
 fn is_greatest(zbox: &ZBox, z: u128, free: u32, dim: usize, found: Option<u32>) -> bool
     requires dim { dim < length zbox.now.lo }
     requires z { z ≤ last_address (length zbox.now.lo) }
