@@ -251,7 +251,9 @@ proof() {
     check "files that are newer and say the same prove nothing" test ! -s "$room/err"
     check "and the lines are the same" wrote "$worked"
 
+    # It looks older than the program: what is moved or unpacked into its place can.
     echo '// Nothing more.' >>crates/ubq/src/main.rt
+    touch -d 2001-01-01 crates/ubq/src/main.rt
     ask next 2,2 6,3 19
     check "a source that has changed is answered unproved" is_unproved
     echo 'SELECT * FROM t WHERE x BETWEEN 2 AND 3;' | bin/ubq run "$room/s.ub" - >"$room/out" 2>"$room/err"
