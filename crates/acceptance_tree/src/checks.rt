@@ -1,15 +1,11 @@
 // The check of whole tables: that it finds no fault in sound ones, and which one it tells of first in others. It is asked twice, and
 // changes nothing. The tables are those of format 2 that `old_tables` has, which are tables of format 3 but for the version. Which
 // bytes are wrong comes from the description of the formats, and which fault is the first from the order of the keys.
-use crate::calls::{Case, FIVE_REGIONS, Made, TWO_LEVELS, told};
-use crate::old_tables::{
-    EMPTY_2, FIRST, FIVE_2, HEADER_2, INDEX, LEVELS_2, NO_PATCH, Old, Pages, Patch, SECOND, THIRD,
-};
-use crate::samples::{Sheet, Table, schema_of};
-use crate::trial::{Answer, DEVICE, DONE, NO_PAGE, Run, Step, Trial, goes, trial_of};
-use crate::upgrades::old_of;
-use std::alloc::Global;
-use std::process::Abort;
+use crate::calls::{Case, Closed, Made, told};
+use crate::old_tables::{NO_PATCH, Old, Pages, Patch};
+use crate::samples::{Sheet, Table};
+use crate::trial::{Answer, DEVICE, DONE, Run, Step, Trial, goes};
+use crate::tries::{Hurt, Told, Try, all_go, answer_of, old_of};
 use ub_page::Entry;
 use ub_table::{Key, PageFault};
 use ub_tree::TreeFault;
@@ -19,51 +15,12 @@ const LAST: u128 = 18_446_744_073_709_551_615;
 const FAILED: Answer = Err(TreeFault::Failed);
 
 // The version of the format 3. A table of format 2 with it is one whose dimensions aren't signed.
-const VERSION: Patch = Patch(0, 4, 1, 3);
+pub(crate) const VERSION: Patch = Patch(0, 4, 1, 3);
 
 static OF_3: &[Patch] = &[VERSION];
 
-// What a check tells: nothing, this fault of this page, or that there is no page of some number.
-#[derive(Clone, Copy)]
-enum Told {
-    Well,
-    On(u32, PageFault),
-    NoPage,
-}
-
-// A number that stands on a page of a table, and what the check tells then.
-#[derive(Clone, Copy)]
-struct Hurt(Patch, Told);
-
-// What is tried on a table of these pages.
-enum Try {
-    // With each of these numbers.
-    Each(Pages, &'static [Hurt]),
-    // With all of them.
-    All(Pages, &'static [Patch], Told),
-}
-
-// How many parts there are of what is tried.
-fn count(tried: &Try) -> usize {
-    match tried {
-        Try::Each(_, hurts) => hurts.len(),
-        Try::All(_, _, _) => 1,
-    }
-}
-
-// How many of them are right, up to the first that isn't.
-fn count_right(trial: &mut Trial, tried: &Try) -> usize {
-    match tried {
-        Try::Each(pages, hurts) => count_each(trial, *pages, hurts),
-        Try::All(pages, patches, wanted) => {
-            let old = old_of(*pages, patches, VERSION);
-            usize::from(is_told(trial, &old, wanted))
-        }
-    }
-}
-
 // How many of these numbers make the check tell so.
-fn count_each(trial: &mut Trial, pages: Pages, hurts: &[Hurt]) -> usize {
+pub(crate) fn count_each(trial: &mut Trial, pages: Pages, hurts: &[Hurt]) -> usize {
     for (i, Hurt(patch, wanted)) in hurts.iter().enumerate() {
         let old = old_of(pages, OF_3, *patch);
         if !is_told(trial, &old, wanted) {
@@ -74,7 +31,7 @@ fn count_each(trial: &mut Trial, pages: Pages, hurts: &[Hurt]) -> usize {
 }
 
 // Whether a table is opened, its check tells so, and its pages are the same once it is closed.
-fn is_told(trial: &mut Trial, old: &Old, wanted: &Told) -> bool {
+pub(crate) fn is_told(trial: &mut Trial, old: &Old, wanted: &Told) -> bool {
     (trial.take_old(old) == DONE)
         & (trial.answer(&Step::Open) == DONE)
         & tells(trial, answer_of(wanted))
@@ -90,61 +47,10 @@ fn tells(trial: &mut Trial, wanted: Answer) -> bool {
         & (told(trial) == before)
 }
 
-// The answer where the check tells so.
-fn answer_of(told: &Told) -> Answer {
-    match *told {
-        Told::Well => DONE,
-        Told::On(page, fault) => Err(TreeFault::Page { page, fault }),
-        Told::NoPage => NO_PAGE,
-    }
-}
-
-// How many parts of all these are right, up to the first that isn't.
-fn count_all(trial: &mut Trial, tries: &[Try]) -> usize {
-    let mut right = 0usize;
-    for tried in tries {
-        let count_so_far = count_right(trial, tried);
-        right = right.saturating_add(count_so_far);
-        if count_so_far != count(tried) {
-            break;
-        }
-    }
-    right
-}
-
-// The same with a trial of its own.
-fn count_new(alloc: Global, tries: &[Try]) -> usize {
-    match schema_of(Table::Plane(2)) {
-        Ok(schema) => {
-            let mut trial = trial_of(alloc, schema);
-            count_all(&mut trial, tries)
-        }
-        Err(_) => 0,
-    }
-}
-
-// How many parts there are of all these.
-fn count_wanted(tries: &[Try]) -> usize {
-    let mut all = 0usize;
-    for tried in tries {
-        all = all.saturating_add(count(tried));
-    }
-    all
-}
-
-// Asserts that all of this is right.
-fn all_go(rt: &impl Abort, alloc: Global, tries: &[Try]) {
-    let right = count_new(alloc, tries);
-    assert!(rt; right == count_wanted(tries), "{right} were right");
-}
-
-// The table of five rows with a page that nothing leads to: it holds the first region once more.
-const SPARE: [&[u8]; 6] = [&HEADER_2, &FIRST, &THIRD, &SECOND, &INDEX, &FIRST];
-
 // Sound tables. Their numbers stand in the order of the keys and not of the pages, and some are missing.
 static SOUND: &[Try] = &[
     Try::Each(
-        Pages::Bytes(&EMPTY_2),
+        Pages::EmptyOf2,
         &[
             Hurt(NO_PATCH, Told::Well),
             Hurt(Patch(0, 12, 4, 2), Told::Well),
@@ -152,7 +58,7 @@ static SOUND: &[Try] = &[
         ],
     ),
     Try::Each(
-        Pages::Bytes(&FIVE_2),
+        Pages::FiveOf2,
         &[
             Hurt(NO_PATCH, Told::Well),
             // The next number, measures and points are others: the points are still before the next region.
@@ -169,14 +75,14 @@ static SOUND: &[Try] = &[
         ],
     ),
     Try::Each(
-        Pages::Bytes(&LEVELS_2),
+        Pages::LevelsOf2,
         &[
             Hurt(NO_PATCH, Told::Well),
             Hurt(Patch(0, 12, 4, 7), Told::Well),
         ],
     ),
     Try::Each(
-        Pages::Bytes(&SPARE),
+        Pages::Spare,
         &[
             // The page that nothing leads to: a region, and pages of no kind.
             Hurt(NO_PATCH, Told::Well),
@@ -189,19 +95,19 @@ static SOUND: &[Try] = &[
     ),
     // Numbers up to the next one.
     Try::All(
-        Pages::Bytes(&FIVE_2),
+        Pages::FiveOf2,
         &[Patch(0, 12, 4, 8), Patch(1, 24, 4, 7), Patch(3, 24, 4, 6)],
         Told::Well,
     ),
     // The third region begins at the point of row 3, behind it.
     Try::All(
-        Pages::Bytes(&FIVE_2),
+        Pages::FiveOf2,
         &[Patch(4, 79, 5, 0x0a00000004), Patch(2, 19, 5, 0x0a00000004)],
         Told::Well,
     ),
     // The first region has no rows.
     Try::All(
-        Pages::Bytes(&FIVE_2),
+        Pages::FiveOf2,
         &[
             Patch(1, 3, 1, 0),
             Patch(1, 24, 16, 0),
@@ -213,7 +119,7 @@ static SOUND: &[Try] = &[
     ),
     // Two regions with three rows, and a page that nothing leads to.
     Try::All(
-        Pages::Bytes(&FIVE_2),
+        Pages::FiveOf2,
         &[
             Patch(0, 24, 8, 0x0000000400000001),
             Patch(4, 2, 2, 2),
@@ -229,7 +135,7 @@ static SOUND: &[Try] = &[
 // What the reader of a region refuses.
 static REGIONS: &[Try] = &[
     Try::Each(
-        Pages::Bytes(&FIVE_2),
+        Pages::FiveOf2,
         &[
             // The region on page 1.
             Hurt(Patch(1, 0, 1, 83), Told::On(1, PageFault::WrongKind)),
@@ -279,7 +185,7 @@ static REGIONS: &[Try] = &[
     ),
     // Both rows exchanged in each column.
     Try::All(
-        Pages::Bytes(&FIVE_2),
+        Pages::FiveOf2,
         &[
             Patch(1, 24, 16, 0x4000000010000000000000001),
             Patch(1, 40, 16, 0x2000000010000000000000007),
@@ -289,23 +195,23 @@ static REGIONS: &[Try] = &[
     ),
     // Below an index of two levels.
     Try::All(
-        Pages::Bytes(&LEVELS_2),
+        Pages::LevelsOf2,
         &[Patch(2, 0, 1, 83)],
         Told::On(2, PageFault::WrongKind),
     ),
     Try::All(
-        Pages::Bytes(&LEVELS_2),
+        Pages::LevelsOf2,
         &[Patch(3, 4095, 1, 1)],
         Told::On(3, PageFault::BadPadding),
     ),
     // The one region of the table of no rows.
     Try::All(
-        Pages::Bytes(&EMPTY_2),
+        Pages::EmptyOf2,
         &[Patch(1, 0, 1, 83)],
         Told::On(1, PageFault::WrongKind),
     ),
     Try::All(
-        Pages::Bytes(&EMPTY_2),
+        Pages::EmptyOf2,
         &[Patch(1, 24, 1, 1)],
         Told::On(1, PageFault::BadPadding),
     ),
@@ -314,7 +220,7 @@ static REGIONS: &[Try] = &[
 // Regions that don't stand where their entries tell.
 static SPANS: &[Try] = &[
     Try::Each(
-        Pages::Bytes(&FIVE_2),
+        Pages::FiveOf2,
         &[
             // A first key behind a row; another one than the entry's.
             Hurt(Patch(1, 19, 1, 4), Told::On(1, PageFault::OutOfRegion)),
@@ -364,13 +270,13 @@ static SPANS: &[Try] = &[
     ),
     // The third region begins with row 3.
     Try::All(
-        Pages::Bytes(&FIVE_2),
+        Pages::FiveOf2,
         &[Patch(4, 79, 5, 0x0a00000003), Patch(2, 19, 5, 0x0a00000003)],
         Told::On(3, PageFault::OutOfRegion),
     ),
     // It is told before a number that was met.
     Try::All(
-        Pages::Bytes(&FIVE_2),
+        Pages::FiveOf2,
         &[Patch(3, 23, 1, 1), Patch(3, 24, 4, 1)],
         Told::On(3, PageFault::OutOfRegion),
     ),
@@ -379,7 +285,7 @@ static SPANS: &[Try] = &[
 // Numbers of rows that aren't below the next one, or that were met before.
 static NUMBERS: &[Try] = &[
     Try::Each(
-        Pages::Bytes(&FIVE_2),
+        Pages::FiveOf2,
         &[
             // The next number, 6, and greater ones.
             Hurt(Patch(1, 24, 4, 6), Told::On(1, PageFault::BadRow)),
@@ -412,7 +318,7 @@ static NUMBERS: &[Try] = &[
         ],
     ),
     Try::Each(
-        Pages::Bytes(&LEVELS_2),
+        Pages::LevelsOf2,
         &[
             // Below an index of two levels.
             Hurt(Patch(3, 24, 4, 6), Told::On(3, PageFault::BadRow)),
@@ -423,28 +329,28 @@ static NUMBERS: &[Try] = &[
     ),
     // The next number is too small.
     Try::All(
-        Pages::Bytes(&FIVE_2),
+        Pages::FiveOf2,
         &[Patch(0, 12, 4, 5), Patch(0, 16, 4, 4)],
         Told::On(2, PageFault::BadRow),
     ),
     Try::All(
-        Pages::Bytes(&FIVE_2),
+        Pages::FiveOf2,
         &[Patch(0, 12, 4, 4), Patch(0, 16, 4, 3)],
         Told::On(1, PageFault::BadRow),
     ),
     Try::All(
-        Pages::Bytes(&FIVE_2),
+        Pages::FiveOf2,
         &[Patch(0, 12, 4, 1), Patch(0, 16, 4, 0)],
         Told::On(1, PageFault::BadRow),
     ),
     Try::All(
-        Pages::Bytes(&FIVE_2),
+        Pages::FiveOf2,
         &[Patch(0, 12, 4, 7), Patch(1, 24, 4, 7)],
         Told::On(1, PageFault::BadRow),
     ),
     // Of the numbers 1, 2, 5, 1 and 3 it is the fourth one.
     Try::All(
-        Pages::Bytes(&FIVE_2),
+        Pages::FiveOf2,
         &[
             Patch(1, 28, 4, 2),
             Patch(2, 24, 4, 1),
@@ -457,7 +363,7 @@ static NUMBERS: &[Try] = &[
 
 // Pages of an index of two levels below the root, each with what its reader refuses, with a wrong level, and out of its bounds.
 static INDEXES: &[Try] = &[Try::Each(
-    Pages::Bytes(&LEVELS_2),
+    Pages::LevelsOf2,
     &[
         // The page 4, which leads to two regions.
         Hurt(Patch(4, 0, 1, 68), Told::On(4, PageFault::WrongKind)),
@@ -511,7 +417,7 @@ static INDEXES: &[Try] = &[Try::Each(
 
 // What entries of an index of two levels name.
 static ENTRIES: &[Try] = &[Try::Each(
-    Pages::Bytes(&LEVELS_2),
+    Pages::LevelsOf2,
     &[
         // Other keys in the root, and in the page 4.
         Hurt(Patch(6, 55, 1, 14), Told::On(5, PageFault::OutOfRegion)),
@@ -551,7 +457,7 @@ static ENTRIES: &[Try] = &[Try::Each(
 // Counts of the header.
 static COUNTS: &[Try] = &[
     Try::Each(
-        Pages::Bytes(&FIVE_2),
+        Pages::FiveOf2,
         &[
             // Fewer rows, and more or fewer regions.
             Hurt(Patch(0, 16, 4, 4), Told::On(0, PageFault::BadCount)),
@@ -563,7 +469,7 @@ static COUNTS: &[Try] = &[
         ],
     ),
     Try::Each(
-        Pages::Bytes(&LEVELS_2),
+        Pages::LevelsOf2,
         &[
             Hurt(Patch(0, 16, 4, 4), Told::On(0, PageFault::BadCount)),
             Hurt(Patch(0, 20, 4, 1), Told::On(0, PageFault::BadCount)),
@@ -572,87 +478,87 @@ static COUNTS: &[Try] = &[
         ],
     ),
     Try::Each(
-        Pages::Bytes(&EMPTY_2),
+        Pages::EmptyOf2,
         &[Hurt(Patch(0, 20, 4, 2), Told::On(0, PageFault::BadCount))],
     ),
     // One row more.
     Try::All(
-        Pages::Bytes(&EMPTY_2),
+        Pages::EmptyOf2,
         &[Patch(0, 12, 4, 2), Patch(0, 16, 4, 1)],
         Told::On(0, PageFault::BadCount),
     ),
     Try::All(
-        Pages::Bytes(&FIVE_2),
+        Pages::FiveOf2,
         &[Patch(0, 12, 4, 7), Patch(0, 16, 4, 6)],
         Told::On(0, PageFault::BadCount),
     ),
     Try::All(
-        Pages::Bytes(&LEVELS_2),
+        Pages::LevelsOf2,
         &[Patch(0, 12, 4, 7), Patch(0, 16, 4, 6)],
         Told::On(0, PageFault::BadCount),
     ),
     // A region more than is counted is told before its page is read; one that is counted isn't.
     Try::All(
-        Pages::Bytes(&FIVE_2),
+        Pages::FiveOf2,
         &[Patch(0, 20, 4, 2), Patch(2, 0, 1, 83)],
         Told::On(0, PageFault::BadCount),
     ),
     Try::All(
-        Pages::Bytes(&FIVE_2),
+        Pages::FiveOf2,
         &[Patch(0, 20, 4, 2), Patch(4, 84, 4, 5)],
         Told::On(0, PageFault::BadCount),
     ),
     Try::All(
-        Pages::Bytes(&FIVE_2),
+        Pages::FiveOf2,
         &[Patch(0, 20, 4, 2), Patch(3, 0, 1, 83)],
         Told::On(3, PageFault::WrongKind),
     ),
     Try::All(
-        Pages::Bytes(&FIVE_2),
+        Pages::FiveOf2,
         &[Patch(0, 20, 4, 1), Patch(3, 0, 1, 83)],
         Told::On(0, PageFault::BadCount),
     ),
     Try::All(
-        Pages::Bytes(&LEVELS_2),
+        Pages::LevelsOf2,
         &[Patch(0, 20, 4, 2), Patch(2, 0, 1, 83)],
         Told::On(0, PageFault::BadCount),
     ),
     // But the page of the index above it is read first.
     Try::All(
-        Pages::Bytes(&LEVELS_2),
+        Pages::LevelsOf2,
         &[Patch(0, 20, 4, 2), Patch(5, 0, 1, 68)],
         Told::On(5, PageFault::WrongKind),
     ),
     // One too few, or other rows, are told in the end.
     Try::All(
-        Pages::Bytes(&FIVE_2),
+        Pages::FiveOf2,
         &[Patch(0, 20, 4, 4), Patch(2, 0, 1, 83)],
         Told::On(2, PageFault::WrongKind),
     ),
     Try::All(
-        Pages::Bytes(&FIVE_2),
+        Pages::FiveOf2,
         &[Patch(0, 16, 4, 4), Patch(2, 4095, 1, 1)],
         Told::On(2, PageFault::BadPadding),
     ),
     Try::All(
-        Pages::Bytes(&FIVE_2),
+        Pages::FiveOf2,
         &[Patch(0, 16, 4, 4), Patch(2, 28, 4, 6)],
         Told::On(2, PageFault::BadRow),
     ),
     Try::All(
-        Pages::Bytes(&FIVE_2),
+        Pages::FiveOf2,
         &[Patch(0, 16, 4, 4), Patch(0, 20, 4, 4)],
         Told::On(0, PageFault::BadCount),
     ),
     // The root is a page that leads to two regions alone.
     Try::All(
-        Pages::Bytes(&LEVELS_2),
+        Pages::LevelsOf2,
         &[Patch(0, 24, 8, 0x0000000400000001)],
         Told::On(0, PageFault::BadCount),
     ),
     // A region to which no entry leads.
     Try::All(
-        Pages::Bytes(&LEVELS_2),
+        Pages::LevelsOf2,
         &[Patch(4, 2, 2, 1), Patch(4, 40, 16, 0), Patch(4, 56, 8, 0)],
         Told::On(0, PageFault::BadCount),
     ),
@@ -661,104 +567,104 @@ static COUNTS: &[Try] = &[
 // Two faults: that which comes first in the order of the keys is told.
 static ORDER: &[Try] = &[
     Try::All(
-        Pages::Bytes(&FIVE_2),
+        Pages::FiveOf2,
         &[Patch(1, 0, 1, 83), Patch(3, 0, 1, 83)],
         Told::On(1, PageFault::WrongKind),
     ),
     Try::All(
-        Pages::Bytes(&FIVE_2),
+        Pages::FiveOf2,
         &[Patch(3, 0, 1, 83), Patch(2, 0, 1, 83)],
         Told::On(3, PageFault::WrongKind),
     ),
     Try::All(
-        Pages::Bytes(&FIVE_2),
+        Pages::FiveOf2,
         &[Patch(1, 4095, 1, 1), Patch(2, 0, 1, 83)],
         Told::On(1, PageFault::BadPadding),
     ),
     Try::All(
-        Pages::Bytes(&FIVE_2),
+        Pages::FiveOf2,
         &[Patch(3, 24, 4, 4), Patch(2, 0, 1, 83)],
         Told::On(3, PageFault::BadRow),
     ),
     Try::All(
-        Pages::Bytes(&FIVE_2),
+        Pages::FiveOf2,
         &[Patch(1, 24, 4, 4), Patch(3, 0, 1, 83)],
         Told::On(1, PageFault::BadRow),
     ),
     Try::All(
-        Pages::Bytes(&FIVE_2),
+        Pages::FiveOf2,
         &[Patch(4, 60, 4, 5), Patch(2, 0, 1, 83)],
         Told::NoPage,
     ),
     Try::All(
-        Pages::Bytes(&FIVE_2),
+        Pages::FiveOf2,
         &[Patch(4, 84, 4, 5), Patch(3, 19, 1, 9)],
         Told::On(3, PageFault::OutOfRegion),
     ),
     // Of one page.
     Try::All(
-        Pages::Bytes(&FIVE_2),
+        Pages::FiveOf2,
         &[Patch(1, 0, 1, 83), Patch(1, 3, 1, 3)],
         Told::On(1, PageFault::WrongKind),
     ),
     Try::All(
-        Pages::Bytes(&FIVE_2),
+        Pages::FiveOf2,
         &[Patch(1, 3, 1, 3), Patch(1, 20, 1, 1)],
         Told::On(1, PageFault::BadCount),
     ),
     Try::All(
-        Pages::Bytes(&FIVE_2),
+        Pages::FiveOf2,
         &[Patch(2, 24, 8, 0x500000002), Patch(2, 4095, 1, 1)],
         Told::On(2, PageFault::BadOrder),
     ),
     Try::All(
-        Pages::Bytes(&FIVE_2),
+        Pages::FiveOf2,
         &[Patch(1, 19, 1, 4), Patch(1, 4095, 1, 1)],
         Told::On(1, PageFault::OutOfRegion),
     ),
     Try::All(
-        Pages::Bytes(&FIVE_2),
+        Pages::FiveOf2,
         &[Patch(1, 19, 1, 3), Patch(1, 4095, 1, 1)],
         Told::On(1, PageFault::BadPadding),
     ),
     Try::All(
-        Pages::Bytes(&FIVE_2),
+        Pages::FiveOf2,
         &[Patch(1, 24, 4, 6), Patch(1, 4095, 1, 1)],
         Told::On(1, PageFault::BadPadding),
     ),
     // A page of the index before what it leads to, and that before the next one.
     Try::All(
-        Pages::Bytes(&LEVELS_2),
+        Pages::LevelsOf2,
         &[Patch(4, 0, 1, 68), Patch(1, 0, 1, 83)],
         Told::On(4, PageFault::WrongKind),
     ),
     Try::All(
-        Pages::Bytes(&LEVELS_2),
+        Pages::LevelsOf2,
         &[Patch(5, 0, 1, 68), Patch(2, 0, 1, 83)],
         Told::On(5, PageFault::WrongKind),
     ),
     Try::All(
-        Pages::Bytes(&LEVELS_2),
+        Pages::LevelsOf2,
         &[Patch(5, 0, 1, 68), Patch(3, 0, 1, 83)],
         Told::On(3, PageFault::WrongKind),
     ),
     Try::All(
-        Pages::Bytes(&LEVELS_2),
+        Pages::LevelsOf2,
         &[Patch(5, 0, 1, 68), Patch(1, 24, 4, 4)],
         Told::On(1, PageFault::BadRow),
     ),
     Try::All(
-        Pages::Bytes(&LEVELS_2),
+        Pages::LevelsOf2,
         &[Patch(4, 63, 1, 7), Patch(5, 1, 1, 2)],
         Told::NoPage,
     ),
     Try::All(
-        Pages::Bytes(&LEVELS_2),
+        Pages::LevelsOf2,
         &[Patch(4, 55, 1, 13), Patch(4, 4095, 1, 1)],
         Told::On(4, PageFault::BadPadding),
     ),
     Try::All(
-        Pages::Bytes(&LEVELS_2),
+        Pages::LevelsOf2,
         &[Patch(4, 1, 1, 2), Patch(4, 31, 1, 1)],
         Told::On(4, PageFault::BadCount),
     ),
@@ -882,48 +788,48 @@ static OF_LONG: Run = Run {
 // Four rows on a page. Each page is read that isn't cached, once.
 const CALLS: [Case; 5] = [
     Case {
-        sheets: &FIVE_REGIONS,
+        sheets: Closed::FiveRegions,
         steps: &[
-            Made(Step::Open, DONE, b"rr"),
+            Made(Step::Open, DONE, [2, 0, 0]),
             // The root is cached: reads the five regions.
-            Made(Step::Check, DONE, b"rrrrr"),
-            Made(Step::Check, DONE, b""),
-            Made(Step::Trace, DONE, b""),
-            Made(Step::Span(5), Ok([4, 15, 5, 8]), b""),
+            Made(Step::Check, DONE, [5, 0, 0]),
+            Made(Step::Check, DONE, [0, 0, 0]),
+            Made(Step::Trace, DONE, [0, 0, 0]),
+            Made(Step::Span(5), Ok([4, 15, 5, 8]), [0, 0, 0]),
             // The region is cached: marks, and writes it.
-            Made(Step::Put(0, 0, 0), Ok([15, 0, 0, 0]), b"ww"),
-            Made(Step::Check, DONE, b""),
-            Made(Step::Close, DONE, b"sws"),
-            Made(Step::Open, DONE, b"rr"),
-            Made(Step::Check, DONE, b"rrrrr"),
-            Made(Step::Close, DONE, b""),
+            Made(Step::Put(0, 0, 0), Ok([15, 0, 0, 0]), [0, 0, 2]),
+            Made(Step::Check, DONE, [0, 0, 0]),
+            Made(Step::Close, DONE, [0, 0, 3]),
+            Made(Step::Open, DONE, [2, 0, 0]),
+            Made(Step::Check, DONE, [5, 0, 0]),
+            Made(Step::Close, DONE, [0, 0, 0]),
         ],
     },
     Case {
-        sheets: &FIVE_REGIONS,
+        sheets: Closed::FiveRegions,
         steps: &[
-            Made(Step::Open, DONE, b"rr"),
-            Made(Step::Put(0, 2, 0), Ok([15, 0, 0, 0]), b"rewwww"),
+            Made(Step::Open, DONE, [2, 0, 0]),
+            Made(Step::Put(0, 2, 0), Ok([15, 0, 0, 0]), [1, 1, 4]),
             // The root and the old region are cached, and not the new one: reads that and the other four.
-            Made(Step::Check, DONE, b"rrrrr"),
-            Made(Step::Check, DONE, b""),
-            Made(Step::Close, DONE, b"sws"),
+            Made(Step::Check, DONE, [5, 0, 0]),
+            Made(Step::Check, DONE, [0, 0, 0]),
+            Made(Step::Close, DONE, [0, 0, 3]),
         ],
     },
     Case {
-        sheets: &TWO_LEVELS,
+        sheets: Closed::TwoLevels,
         steps: &[
-            Made(Step::Open, DONE, b"rr"),
+            Made(Step::Open, DONE, [2, 0, 0]),
             // Reads the two pages below the root, and the five regions.
-            Made(Step::Check, DONE, b"rrrrrrr"),
-            Made(Step::Check, DONE, b""),
-            Made(Step::Count, Ok([14, 5, 0, 0]), b""),
-            Made(Step::Close, DONE, b""),
+            Made(Step::Check, DONE, [7, 0, 0]),
+            Made(Step::Check, DONE, [0, 0, 0]),
+            Made(Step::Count, Ok([14, 5, 0, 0]), [0, 0, 0]),
+            Made(Step::Close, DONE, [0, 0, 0]),
         ],
     },
     // A region that is refused: its page stays cached.
     Case {
-        sheets: &[
+        sheets: Closed::Of(&[
             Sheet::Header(1, 0, 1, false),
             Sheet::Blank,
             Sheet::Index(
@@ -933,17 +839,17 @@ const CALLS: [Case; 5] = [
                     page: 1,
                 }],
             ),
-        ],
+        ]),
         steps: &[
-            Made(Step::Open, DONE, b"rr"),
-            Made(Step::Check, BLANK_1, b"r"),
-            Made(Step::Check, BLANK_1, b""),
-            Made(Step::Close, DONE, b""),
+            Made(Step::Open, DONE, [2, 0, 0]),
+            Made(Step::Check, BLANK_1, [1, 0, 0]),
+            Made(Step::Check, BLANK_1, [0, 0, 0]),
+            Made(Step::Close, DONE, [0, 0, 0]),
         ],
     },
     // A page of the index that is refused is read again.
     Case {
-        sheets: &[
+        sheets: Closed::Of(&[
             Sheet::Rooted(1, 0, 1, 2, 2),
             Sheet::Blank,
             Sheet::Index(
@@ -953,12 +859,12 @@ const CALLS: [Case; 5] = [
                     page: 1,
                 }],
             ),
-        ],
+        ]),
         steps: &[
-            Made(Step::Open, DONE, b"rr"),
-            Made(Step::Check, BLANK_1, b"r"),
-            Made(Step::Check, BLANK_1, b"r"),
-            Made(Step::Close, DONE, b""),
+            Made(Step::Open, DONE, [2, 0, 0]),
+            Made(Step::Check, BLANK_1, [1, 0, 0]),
+            Made(Step::Check, BLANK_1, [1, 0, 0]),
+            Made(Step::Close, DONE, [0, 0, 0]),
         ],
     },
 ];
@@ -978,42 +884,24 @@ static OF_CHECKS: Run = Run {
 
 #[test]
 fn finds_no_fault_in_sound_tables(rt: HostRuntime) {
-    all_go(&rt, rt.alloc(), SOUND);
+    all_go(&rt, rt.alloc(), "sound tables", SOUND);
 }
 
 #[test]
-fn tells_what_the_reader_of_a_region_refuses(rt: HostRuntime) {
-    all_go(&rt, rt.alloc(), REGIONS);
+fn tells_faults_of_regions(rt: HostRuntime) {
+    let alloc = rt.alloc();
+    all_go(&rt, alloc, "what the reader of a region refuses", REGIONS);
+    all_go(&rt, alloc, "regions out of their spans", SPANS);
+    all_go(&rt, alloc, "numbers of rows", NUMBERS);
 }
 
 #[test]
-fn tells_regions_out_of_their_spans(rt: HostRuntime) {
-    all_go(&rt, rt.alloc(), SPANS);
-}
-
-#[test]
-fn tells_numbers_of_rows(rt: HostRuntime) {
-    all_go(&rt, rt.alloc(), NUMBERS);
-}
-
-#[test]
-fn tells_what_is_refused_of_pages_of_the_index(rt: HostRuntime) {
-    all_go(&rt, rt.alloc(), INDEXES);
-}
-
-#[test]
-fn tells_where_entries_lead(rt: HostRuntime) {
-    all_go(&rt, rt.alloc(), ENTRIES);
-}
-
-#[test]
-fn tells_other_counts(rt: HostRuntime) {
-    all_go(&rt, rt.alloc(), COUNTS);
-}
-
-#[test]
-fn tells_the_first_of_two_faults(rt: HostRuntime) {
-    all_go(&rt, rt.alloc(), ORDER);
+fn tells_faults_of_the_index_and_of_counts(rt: HostRuntime) {
+    let alloc = rt.alloc();
+    all_go(&rt, alloc, "what is refused of pages of the index", INDEXES);
+    all_go(&rt, alloc, "where entries lead", ENTRIES);
+    all_go(&rt, alloc, "other counts", COUNTS);
+    all_go(&rt, alloc, "the first of two faults", ORDER);
 }
 
 #[test]

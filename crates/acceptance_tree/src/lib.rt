@@ -30,6 +30,8 @@ mod sweep;
 #[cfg(test)]
 mod trial;
 #[cfg(test)]
+mod tries;
+#[cfg(test)]
 mod upgrades;
 #[cfg(test)]
 mod values;

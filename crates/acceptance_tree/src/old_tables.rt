@@ -1,5 +1,5 @@
 // Tables of the older formats, byte for byte, and stores of them.
-use crate::samples::{Store, poke};
+use crate::samples::{Store, add, poke};
 use std::alloc::Global;
 use ub_page::Page;
 use ub_store::{FaultyStore, MemStore, PageStore, StoreFault};
@@ -19,8 +19,17 @@ pub(crate) const NO_PATCH: Patch = Patch(0, 0, 0, 0);
 // Pages of a table.
 #[derive(Clone, Copy)]
 pub(crate) enum Pages {
-    // These, each with zeros behind its bytes.
-    Bytes(&'static [&'static [u8]]),
+    // None.
+    Nothing,
+    // The table of no rows in format 1, and in format 2.
+    EmptyOf1,
+    EmptyOf2,
+    // The table of five rows in format 1, in format 2, and there with an index of two levels.
+    FiveOf1,
+    FiveOf2,
+    LevelsOf2,
+    // That of format 2 with a page that nothing leads to: it holds the first region once more.
+    Spare,
     // A table of format 1 of one dimension and no measure: so many regions, of so many rows each, which fill their pages. The row k
     // is at k - 1. The directory is on page 1 and those after it, and the regions' pages follow in order.
     Line(u32, u32),
@@ -53,7 +62,7 @@ const HEADER_1: [u8; 164] = [
 ];
 
 // In format 2: the root of the index is on page 4, of level 1.
-pub(crate) const HEADER_2: [u8; 164] = [
+const HEADER_2: [u8; 164] = [
     0x55, 0x42, 0x54, 0x52, 2, 0, 2, 1, 2, 0, 0, 0, 0, 0, 0, 6, 0, 0, 0, 5, 0, 0, 0, 3, 0, 0, 0, 4,
     0, 0, 0, 1, //
     1, 0x74, 0, 0, 0, 0, 0, 0, 0, 0, 0, 0, 0, 0, 0, 0, 0, 0, 0, 0, 0, 0, 0, 0, 0, 0, 0, 0, 0, 0, 0,
@@ -142,13 +151,16 @@ pub(crate) const ROOT: [u8; 64] = [
 ];
 
 // The table of five rows in format 1.
-pub(crate) const FIVE_1: [&[u8]; 5] = [&HEADER_1, &FIRST, &THIRD, &SECOND, &DIRECTORY];
+static FIVE_1: &[&[u8]] = &[&HEADER_1, &FIRST, &THIRD, &SECOND, &DIRECTORY];
 
 // The same in format 2.
-pub(crate) const FIVE_2: [&[u8]; 5] = [&HEADER_2, &FIRST, &THIRD, &SECOND, &INDEX];
+static FIVE_2: &[&[u8]] = &[&HEADER_2, &FIRST, &THIRD, &SECOND, &INDEX];
 
-// The same with an index of two levels.
-pub(crate) const LEVELS_2: [&[u8]; 7] = [
+// The same with a page that nothing leads to.
+static SPARE: &[&[u8]] = &[&HEADER_2, &FIRST, &THIRD, &SECOND, &INDEX, &FIRST];
+
+// The same as in format 2 with an index of two levels.
+static LEVELS_2: &[&[u8]] = &[
     &HEADER_OF_LEVELS,
     &FIRST,
     &THIRD,
@@ -186,7 +198,7 @@ const EMPTY_HEADER_2: [u8; 164] = [
 ];
 
 // Its region.
-pub(crate) const NO_ROWS: [u8; 24] = [
+const NO_ROWS: [u8; 24] = [
     0x52, 2, 1, 0, 0, 0, 0, 0, 0, 0, 0, 0, 0, 0, 0, 0, 0, 0, 0, 0, 0, 0, 0, 0,
 ];
 
@@ -202,23 +214,34 @@ const ONE_ENTRY_2: [u8; 40] = [
 ];
 
 // The table of no rows in format 1, and in format 2.
-pub(crate) const EMPTY_1: [&[u8]; 3] = [&EMPTY_HEADER_1, &NO_ROWS, &ONE_ENTRY_1];
+static EMPTY_1: &[&[u8]] = &[&EMPTY_HEADER_1, &NO_ROWS, &ONE_ENTRY_1];
 
-pub(crate) const EMPTY_2: [&[u8]; 3] = [&EMPTY_HEADER_2, &NO_ROWS, &ONE_ENTRY_2];
+static EMPTY_2: &[&[u8]] = &[&EMPTY_HEADER_2, &NO_ROWS, &ONE_ENTRY_2];
 
 // How many pages the directory of so many regions has.
 fn chain_of(regions: u32) -> u32 {
     regions.saturating_add(169) / 170
 }
 
-// How many pages an old table has: 100 at most where they are written out.
-fn count_pages(pages: &Pages) -> u32 {
+// The pages that are written out, each with zeros behind these bytes.
+fn written(pages: Pages) -> &'static [&'static [u8]] {
     match pages {
-        Pages::Bytes(pages) => pages.len().min(100) as u32,
-        Pages::Line(regions, _) => chain_of(*regions)
-            .saturating_add(*regions)
-            .saturating_add(1),
+        Pages::EmptyOf1 => EMPTY_1,
+        Pages::EmptyOf2 => EMPTY_2,
+        Pages::FiveOf1 => FIVE_1,
+        Pages::FiveOf2 => FIVE_2,
+        Pages::LevelsOf2 => LEVELS_2,
+        Pages::Spare => SPARE,
+        Pages::Nothing | Pages::Line(_, _) | Pages::Wide => &[],
+    }
+}
+
+// How many pages an old table has: 100 at most where they are written out.
+fn count_pages(pages: Pages) -> u32 {
+    match pages {
+        Pages::Line(regions, _) => chain_of(regions).saturating_add(regions).saturating_add(1),
         Pages::Wide => 3,
+        _ => written(pages).len().min(100) as u32,
     }
 }
 
@@ -232,17 +255,20 @@ fn overwrite(page: &mut [u8], at: usize, bytes: &[u8]) {
     }
 }
 
+// Puts the bytes of the page of this number into it, if it is there.
+fn write_out(page: &mut [u8], pages: &[&[u8]], number: u32) {
+    if (number as usize) < pages.len() {
+        overwrite(page, 0, pages[number as usize]);
+    }
+}
+
 // A page of an old table.
 fn page_of(old: &Old, number: u32) -> Page {
     let mut page = [0; 4096];
     match old.pages {
-        Pages::Bytes(pages) => {
-            if (number as usize) < pages.len() {
-                overwrite(&mut page, 0, pages[number as usize]);
-            }
-        }
         Pages::Line(regions, rows) => spell_line(&mut page, regions, rows, number),
         Pages::Wide => spell_wide(&mut page, number),
+        pages => write_out(&mut page, written(pages), number),
     }
     for patch in old.patches {
         apply(&mut page, patch, number);
@@ -386,16 +412,19 @@ fn spell_wide_rows(page: &mut [u8]) {
 // A store of an old table, that fails at its k-th call.
 pub(crate) fn old_store(alloc: Global, old: &Old, k: u64) -> Result<Store, StoreFault> {
     let mut store = MemStore::new(alloc);
-    for n in 0..count_pages(&old.pages) {
-        let page = page_of(old, n);
-        store.extend().and(store.write_page(n, &page))?;
+    let mut added = Ok(());
+    for n in 0..count_pages(old.pages) {
+        added = added.and(add(&mut store, &page_of(old, n)));
     }
-    Ok(FaultyStore::new(store, k))
+    match added {
+        Ok(()) => Ok(FaultyStore::new(store, k)),
+        Err(fault) => Err(fault),
+    }
 }
 
 // Whether a store has the pages of an old table, byte for byte.
 pub(crate) fn is_old(store: &mut Store, old: &Old) -> bool {
-    let count = count_pages(&old.pages);
+    let count = count_pages(old.pages);
     for n in 0..count {
         if store.read_page(n) != Ok(page_of(old, n)) {
             return false;

@@ -255,20 +255,40 @@ pub(crate) fn stored(
     k: u64,
 ) -> Result<Store, StoreFault> {
     let mut store = MemStore::new(alloc);
+    let mut added = Ok(());
     for sheet in sheets {
-        let n = store.extend()?;
-        store.write_page(n, &page_of(schema, sheet))?;
+        added = added.and(add(&mut store, &page_of(schema, sheet)));
     }
-    Ok(FaultyStore::new(store, k))
+    match added {
+        Ok(()) => Ok(FaultyStore::new(store, k)),
+        Err(fault) => Err(fault),
+    }
+}
+
+// Adds a page to a store.
+pub(crate) fn add(store: &mut MemStore, page: &Page) -> Result<(), StoreFault> {
+    let n = store.pages();
+    store.extend().and(store.write_page(n, page))
 }
 
 // A store of the same pages, that fails at its k-th call. Each page is read twice, since a store fails once.
 pub(crate) fn copied(alloc: Global, store: &mut Store, k: u64) -> Result<Store, StoreFault> {
     let mut copy = MemStore::new(alloc);
+    let mut added = Ok(());
     for n in 0..store.pages() {
-        let first = store.read_page(n);
-        let page = first.or(store.read_page(n))?;
-        copy.extend().and(copy.write_page(n, &page))?;
+        added = added.and(add_copy(&mut copy, store, n));
     }
-    Ok(FaultyStore::new(copy, k))
+    match added {
+        Ok(()) => Ok(FaultyStore::new(copy, k)),
+        Err(fault) => Err(fault),
+    }
+}
+
+// Adds a page of another store to it.
+fn add_copy(copy: &mut MemStore, store: &mut Store, n: u32) -> Result<(), StoreFault> {
+    let first = store.read_page(n);
+    match first.or(store.read_page(n)) {
+        Ok(page) => add(copy, &page),
+        Err(fault) => Err(fault),
+    }
 }

@@ -106,6 +106,8 @@ pub(crate) struct Trial {
     schema: Schema,
     tree: Option<Tree<Store>>,
     store: Option<Store>,
+    // The store of the old table that was upgraded.
+    old: Option<Store>,
 }
 
 // Asserts that the steps and the cases of a run, on such a table, are answered so.
@@ -142,6 +144,7 @@ pub(crate) fn trial_of(alloc: Global, schema: Schema) -> Trial {
         schema,
         tree: None,
         store: None,
+        old: None,
     }
 }
 
@@ -202,7 +205,7 @@ impl Trial {
     // Takes a store of an old table, which doesn't fail, in place of all that there is.
     pub(crate) fn take_old(&mut self, old: &Old) -> Answer {
         release(self.tree.take());
-        let store = self.old_store(old, 0);
+        let store = old_store(self.alloc, old, 0);
         self.keep(store)
     }
 
@@ -256,16 +259,43 @@ impl Trial {
         }
     }
 
-    // Upgrades an old table, over a new store that fails at its k-th call.
-    pub(crate) fn upgrade(&mut self, old: &mut Store, k: u64) -> Answer {
-        let new = FaultyStore::new(MemStore::new(self.alloc), k);
-        let made = Tree::upgrade(self.alloc, old, new);
-        self.take(made)
+    // Upgrades the old table, over a new store that fails at its k-th call.
+    pub(crate) fn upgrade(&mut self, k: u64) -> Answer {
+        match &mut self.old {
+            Some(old) => {
+                let new = FaultyStore::new(MemStore::new(self.alloc), k);
+                let made = Tree::upgrade(self.alloc, old, new);
+                self.take(made)
+            }
+            None => NOTHING,
+        }
     }
 
-    // A store of an old table, that fails at its k-th call.
-    pub(crate) fn old_store(&self, old: &Old, k: u64) -> Result<Store, StoreFault> {
-        old_store(self.alloc, old, k)
+    // The same of this one, whose store fails at its k-th call, and the new store at its n-th.
+    pub(crate) fn upgrade_old(&mut self, old: &Old, k: u64, n: u64) -> Answer {
+        match old_store(self.alloc, old, k) {
+            Ok(store) => {
+                self.old = Some(store);
+                self.upgrade(n)
+            }
+            Err(_) => NOTHING,
+        }
+    }
+
+    // Whether the store of the old table has its pages, byte for byte.
+    pub(crate) fn is_same(&mut self, old: &Old) -> bool {
+        match &mut self.old {
+            Some(store) => is_old(store, old),
+            None => false,
+        }
+    }
+
+    // Whether the store of the old table fails at its next call.
+    pub(crate) fn is_due(&mut self) -> bool {
+        match &mut self.old {
+            Some(store) => store.read_page(0) == Err(StoreFault::Device),
+            None => false,
+        }
     }
 
     // Takes a tree, or the store that is handed back in its place.

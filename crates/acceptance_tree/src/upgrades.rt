@@ -2,14 +2,10 @@
 // afterwards, byte for byte, and a new store whose upgrade was refused isn't opened as a table. What stands in the pages comes from
 // the description of the formats, and the answers from hand arithmetic.
 use crate::old_tables::{
-    DIRECTORY, EMPTY_1, EMPTY_2, FIRST, FIVE_1, FIVE_2, INDEX, LEFT, LEVELS_2, NO_PATCH, Old,
-    Pages, Patch, RIGHT, ROOT, SECOND, THIRD, is_old,
+    DIRECTORY, FIRST, INDEX, LEFT, NO_PATCH, Old, Pages, Patch, RIGHT, ROOT, SECOND, THIRD,
 };
-use crate::samples::{Store, Table, schema_of};
-use crate::trial::{Answer, DEVICE, DONE, NO_PAGE, Step, Trial, UNCLEAN, YES, trial_of};
-use std::alloc::Global;
-use std::process::Abort;
-use ub_store::{PageStore, StoreFault};
+use crate::trial::{Answer, DEVICE, DONE, NO_PAGE, Step, Trial, UNCLEAN, YES};
+use crate::tries::{End, Hurt, Told, Try, all_go, answer_of, old_of};
 use ub_table::PageFault;
 use ub_tree::TreeFault;
 
@@ -21,90 +17,22 @@ const LINE_LAST: u128 = 4_294_967_295;
 // That of four.
 const WIDE_LAST: u128 = 340_282_366_920_938_463_463_374_607_431_768_211_455;
 
-// Why an upgrade is refused: this page of the old store, or one that it doesn't have.
-#[derive(Clone, Copy)]
-enum Told {
-    On(u32, PageFault),
-    NoPage,
-}
-
-// A number that stands on a page of an old table, and why it is refused then.
-#[derive(Clone, Copy)]
-struct Hurt(Patch, Told);
-
-// The call at which the old store fails, or 0 for none, that of the new one, and the answer of the upgrade. If that goes well, both
-// fail later.
-#[derive(Clone, Copy)]
-struct End(u64, u64, Answer);
-
-// What is tried on old tables.
-enum Try {
-    // It is upgraded, and the tree answers these steps so.
-    Makes(Old, &'static [(Step, Answer)]),
-    // With each of these it is refused, and so is the new store, with this answer, where it is opened.
-    Refuses(Pages, Answer, &'static [Hurt]),
-    // With all these numbers it is refused so, and the new store as unclean.
-    Refuse(Pages, &'static [Patch], Told),
-    // The upgrade of the table of five rows makes these calls of the stores in this order, and ends at each that fails: `o` reads a
-    // page of the old one; `e` adds a page to the new one, `w` writes one there, and `r` reads one. A `w` isn't told from an `r`.
-    Calls(Old, &'static [u8]),
-    // The upgrades of an old table that end so, where the stores fail.
-    Ends(Old, &'static [End]),
-}
-
-// How many parts there are of what is tried.
-fn count(tried: &Try) -> usize {
-    match tried {
-        Try::Makes(_, steps) => steps.len(),
-        Try::Refuses(_, _, hurts) => hurts.len(),
-        Try::Refuse(_, _, _) => 1,
-        Try::Calls(_, calls) => calls.len().saturating_add(1),
-        Try::Ends(_, ends) => ends.len(),
-    }
-}
-
-// How many of them are right, up to the first that isn't.
-fn count_right(trial: &mut Trial, tried: &Try) -> usize {
-    match tried {
-        Try::Makes(old, steps) => count_made(trial, old, steps),
-        Try::Refuses(pages, opened, hurts) => count_refused(trial, *pages, *opened, hurts),
-        Try::Refuse(pages, patches, told) => {
-            let old = old_of(*pages, patches, NO_PATCH);
-            usize::from(is_refused(trial, &old, told, UNCLEAN))
-        }
-        Try::Calls(old, calls) => count_stops(trial, old, calls),
-        Try::Ends(old, ends) => count_ends(trial, old, ends),
-    }
-}
-
-// How many steps on the tree of an old table are answered so.
-fn count_made(trial: &mut Trial, old: &Old, steps: &[(Step, Answer)]) -> usize {
-    match trial.old_store(old, 0) {
-        Ok(mut store) => count_steps(trial, &mut store, old, steps),
-        Err(_) => 0,
-    }
-}
-
-// The same over the store of the old table, which must be the same then.
-fn count_steps(trial: &mut Trial, store: &mut Store, old: &Old, steps: &[(Step, Answer)]) -> usize {
-    if trial.upgrade(store, 0) != DONE {
+// How many steps on the tree of an old table are answered so. That must be the same then.
+pub(crate) fn count_made(trial: &mut Trial, old: &Old, steps: &[(Step, Answer)]) -> usize {
+    if trial.upgrade_old(old, 0, 0) != DONE {
         return 0;
     }
     let right = trial.count_steps(steps);
-    if is_old(store, old) { right } else { 0 }
-}
-
-// An old table of these pages with these numbers.
-pub(crate) fn old_of(pages: Pages, patches: &'static [Patch], last: Patch) -> Old {
-    Old {
-        pages,
-        patches,
-        last,
-    }
+    if trial.is_same(old) { right } else { 0 }
 }
 
 // How many of these tables are refused so.
-fn count_refused(trial: &mut Trial, pages: Pages, opened: Answer, hurts: &[Hurt]) -> usize {
+pub(crate) fn count_refused(
+    trial: &mut Trial,
+    pages: Pages,
+    opened: Answer,
+    hurts: &[Hurt],
+) -> usize {
     for (i, Hurt(patch, told)) in hurts.iter().enumerate() {
         let old = old_of(pages, &[], *patch);
         if !is_refused(trial, &old, told, opened) {
@@ -115,33 +43,17 @@ fn count_refused(trial: &mut Trial, pages: Pages, opened: Answer, hurts: &[Hurt]
 }
 
 // Whether an old table is refused so.
-fn is_refused(trial: &mut Trial, old: &Old, told: &Told, opened: Answer) -> bool {
-    match trial.old_store(old, 0) {
-        Ok(mut store) => refuses(trial, &mut store, old, told, opened),
-        Err(_) => false,
-    }
-}
-
-// The same over its store.
-fn refuses(trial: &mut Trial, store: &mut Store, old: &Old, told: &Told, opened: Answer) -> bool {
-    (trial.upgrade(store, 0) == answer_of(told))
-        & is_old(store, old)
+pub(crate) fn is_refused(trial: &mut Trial, old: &Old, told: &Told, opened: Answer) -> bool {
+    (trial.upgrade_old(old, 0, 0) == answer_of(told))
+        & trial.is_same(old)
         & (trial.answer(&Step::Open) == opened)
-}
-
-// The answer where an upgrade is refused so.
-fn answer_of(told: &Told) -> Answer {
-    match *told {
-        Told::On(page, fault) => Err(TreeFault::Page { page, fault }),
-        Told::NoPage => NO_PAGE,
-    }
 }
 
 // How many calls of both stores come in this order, each of which ends the upgrade where it fails; and one more where it goes well
 // if none does.
-fn count_stops(trial: &mut Trial, old: &Old, calls: &[u8]) -> usize {
+pub(crate) fn count_stops(trial: &mut Trial, old: &Old, calls: &[u8]) -> usize {
     for i in 0..=calls.len() {
-        if !fails_at(trial, old, calls, i) {
+        if !stops_at(trial, old, calls, i) {
             return i;
         }
     }
@@ -165,25 +77,18 @@ fn nth(calls: usize) -> u64 {
 }
 
 // Whether that is so of the i-th call: both stores fail at the call after those before it.
-fn fails_at(trial: &mut Trial, old: &Old, calls: &[u8], i: usize) -> bool {
-    match trial.old_store(old, nth(count_calls(calls, i, b'o'))) {
-        Ok(mut store) => stops_at(trial, &mut store, old, calls, i),
-        Err(_) => false,
-    }
-}
-
-// The same over the store of the old table, and a new one.
-fn stops_at(trial: &mut Trial, store: &mut Store, old: &Old, calls: &[u8], i: usize) -> bool {
-    let of_new = i.saturating_sub(count_calls(calls, i, b'o'));
-    let answer = trial.upgrade(store, nth(of_new));
+fn stops_at(trial: &mut Trial, old: &Old, calls: &[u8], i: usize) -> bool {
+    let of_old = count_calls(calls, i, b'o');
+    let of_new = i.saturating_sub(of_old);
+    let answer = trial.upgrade_old(old, nth(of_old), nth(of_new));
     match calls.get(i) {
         Some(call) => {
             (answer == DEVICE)
-                & has_failed(trial, store, *call == b'o')
+                & has_failed(trial, *call == b'o')
                 & is_left(trial, calls, i)
-                & goes_again(trial, store, old)
+                & goes_again(trial, old)
         }
-        None => (answer == DONE) & is_at_end(trial, store, old),
+        None => (answer == DONE) & is_at_end(trial, old),
     }
 }
 
@@ -195,8 +100,8 @@ fn is_left(trial: &mut Trial, calls: &[u8], i: usize) -> bool {
 }
 
 // Whether the old store has failed, or else the new one, and not the other one: that one fails at its next call.
-fn has_failed(trial: &mut Trial, store: &mut Store, of_old: bool) -> bool {
-    let is_due = store.read_page(0) == Err(StoreFault::Device);
+fn has_failed(trial: &mut Trial, of_old: bool) -> bool {
+    let is_due = trial.is_due();
     let is_new_due = trial.answer(&Step::Bytes(0, 0, &[])) == DEVICE;
     (is_due != of_old) & (is_new_due == of_old)
 }
@@ -214,23 +119,21 @@ fn opened_after(calls: usize) -> Answer {
 }
 
 // Whether the old table of five rows is the same, and is upgraded once it doesn't fail.
-fn goes_again(trial: &mut Trial, store: &mut Store, old: &Old) -> bool {
-    is_old(store, old)
-        & (trial.upgrade(store, 0) == DONE)
+fn goes_again(trial: &mut Trial, old: &Old) -> bool {
+    trial.is_same(old)
+        & (trial.upgrade(0) == DONE)
         & (trial.answer(&Step::Count) == Ok([5, 3, 0, 0]))
         & (trial.answer(&Step::Close) == DONE)
-        & is_old(store, old)
+        & trial.is_same(old)
 }
 
 // Whether both stores still fail after an upgrade that went well, the old one at its next call, and that has its pages.
-fn is_at_end(trial: &mut Trial, store: &mut Store, old: &Old) -> bool {
-    (store.read_page(0) == Err(StoreFault::Device))
-        & (trial.answer(&Step::Close) == DEVICE)
-        & is_old(store, old)
+fn is_at_end(trial: &mut Trial, old: &Old) -> bool {
+    trial.is_due() & (trial.answer(&Step::Close) == DEVICE) & trial.is_same(old)
 }
 
 // How many of these upgrades end so.
-fn count_ends(trial: &mut Trial, old: &Old, ends: &[End]) -> usize {
+pub(crate) fn count_ends(trial: &mut Trial, old: &Old, ends: &[End]) -> usize {
     for (i, end) in ends.iter().enumerate() {
         if !ends_so(trial, old, end) {
             return i;
@@ -241,61 +144,14 @@ fn count_ends(trial: &mut Trial, old: &Old, ends: &[End]) -> usize {
 
 // Whether an upgrade ends so.
 fn ends_so(trial: &mut Trial, old: &Old, end: &End) -> bool {
-    match trial.old_store(old, end.0) {
-        Ok(mut store) => ends_over(trial, &mut store, old, end),
-        Err(_) => false,
-    }
-}
-
-// The same over the store of the old table.
-fn ends_over(trial: &mut Trial, store: &mut Store, old: &Old, end: &End) -> bool {
-    if trial.upgrade(store, end.1) != end.2 {
+    if trial.upgrade_old(old, end.0, end.1) != end.2 {
         return false;
     }
     if end.2 == DONE {
-        is_at_end(trial, store, old)
+        is_at_end(trial, old)
     } else {
-        is_old(store, old) & (trial.answer(&Step::Open) == UNCLEAN)
+        trial.is_same(old) & (trial.answer(&Step::Open) == UNCLEAN)
     }
-}
-
-// How many parts of all these are right, up to the first that isn't.
-fn count_all(trial: &mut Trial, tries: &[Try]) -> usize {
-    let mut right = 0usize;
-    for tried in tries {
-        let count_so_far = count_right(trial, tried);
-        right = right.saturating_add(count_so_far);
-        if count_so_far != count(tried) {
-            break;
-        }
-    }
-    right
-}
-
-// The same with a trial of its own.
-fn count_new(alloc: Global, tries: &[Try]) -> usize {
-    match schema_of(Table::Plane(2)) {
-        Ok(schema) => {
-            let mut trial = trial_of(alloc, schema);
-            count_all(&mut trial, tries)
-        }
-        Err(_) => 0,
-    }
-}
-
-// How many parts there are of all these.
-fn count_wanted(tries: &[Try]) -> usize {
-    let mut all = 0usize;
-    for tried in tries {
-        all = all.saturating_add(count(tried));
-    }
-    all
-}
-
-// Asserts that all of this is right.
-fn all_go(rt: &impl Abort, alloc: Global, tries: &[Try]) {
-    let right = count_new(alloc, tries);
-    assert!(rt; right == count_wanted(tries), "{right} were right");
 }
 
 // The table of five rows in format 1.
@@ -304,7 +160,7 @@ static FIVE_OF_1: &[Try] = &[
     // it. Then row 6 parts the first region.
     Try::Makes(
         Old {
-            pages: Pages::Bytes(&FIVE_1),
+            pages: Pages::FiveOf1,
             patches: &[],
             last: NO_PATCH,
         },
@@ -369,7 +225,7 @@ static FIVE_OF_2: &[Try] = &[
     // The same in format 2: each page but the first is what it was.
     Try::Makes(
         Old {
-            pages: Pages::Bytes(&FIVE_2),
+            pages: Pages::FiveOf2,
             patches: &[],
             last: NO_PATCH,
         },
@@ -432,7 +288,7 @@ static LEVELS_OF_2: &[Try] = &[
     // The same with an index of two levels.
     Try::Makes(
         Old {
-            pages: Pages::Bytes(&LEVELS_2),
+            pages: Pages::LevelsOf2,
             patches: &[],
             last: NO_PATCH,
         },
@@ -499,7 +355,7 @@ static NUMBERS: &[Try] = &[
     // Numbers with gaps: 9, 40, 30, 20 and 50, and the next is 51; in format 1.
     Try::Makes(
         Old {
-            pages: Pages::Bytes(&FIVE_1),
+            pages: Pages::FiveOf1,
             patches: &[
                 Patch(0, 12, 4, 51),
                 Patch(1, 24, 8, 0x900000028),
@@ -525,7 +381,7 @@ static NUMBERS: &[Try] = &[
     // Numbers with gaps: 9, 40, 30, 20 and 50, and the next is 51; in format 2.
     Try::Makes(
         Old {
-            pages: Pages::Bytes(&FIVE_2),
+            pages: Pages::FiveOf2,
             patches: &[
                 Patch(0, 12, 4, 51),
                 Patch(1, 24, 8, 0x900000028),
@@ -551,7 +407,7 @@ static NUMBERS: &[Try] = &[
     // The greatest number is taken, so that none is left; in format 1.
     Try::Makes(
         Old {
-            pages: Pages::Bytes(&FIVE_1),
+            pages: Pages::FiveOf1,
             patches: &[Patch(0, 12, 4, 0x1000000), Patch(2, 28, 4, 0xffffff)],
             last: NO_PATCH,
         },
@@ -573,7 +429,7 @@ static NUMBERS: &[Try] = &[
     // The greatest number is taken, so that none is left; in format 2.
     Try::Makes(
         Old {
-            pages: Pages::Bytes(&FIVE_2),
+            pages: Pages::FiveOf2,
             patches: &[Patch(0, 12, 4, 0x1000000), Patch(2, 28, 4, 0xffffff)],
             last: NO_PATCH,
         },
@@ -599,7 +455,7 @@ static WITHOUT_ROWS: &[Try] = &[
     // The second region has no row; in format 1.
     Try::Makes(
         Old {
-            pages: Pages::Bytes(&FIVE_1),
+            pages: Pages::FiveOf1,
             patches: &[
                 Patch(0, 16, 4, 4),
                 Patch(3, 3, 1, 0),
@@ -620,7 +476,7 @@ static WITHOUT_ROWS: &[Try] = &[
     // The second region has no row; in format 2.
     Try::Makes(
         Old {
-            pages: Pages::Bytes(&FIVE_2),
+            pages: Pages::FiveOf2,
             patches: &[
                 Patch(0, 16, 4, 4),
                 Patch(3, 3, 1, 0),
@@ -641,7 +497,7 @@ static WITHOUT_ROWS: &[Try] = &[
     // A table of no rows, in format 1.
     Try::Makes(
         Old {
-            pages: Pages::Bytes(&EMPTY_1),
+            pages: Pages::EmptyOf1,
             patches: &[],
             last: NO_PATCH,
         },
@@ -682,7 +538,7 @@ static WITHOUT_ROWS: &[Try] = &[
     // A table of no rows, in format 2.
     Try::Makes(
         Old {
-            pages: Pages::Bytes(&EMPTY_2),
+            pages: Pages::EmptyOf2,
             patches: &[],
             last: NO_PATCH,
         },
@@ -1180,7 +1036,7 @@ static FULL_REGIONS: &[Try] = &[
 static FAILING: &[Try] = &[
     Try::Calls(
         Old {
-            pages: Pages::Bytes(&FIVE_1),
+            pages: Pages::FiveOf1,
             patches: &[],
             last: NO_PATCH,
         },
@@ -1188,7 +1044,7 @@ static FAILING: &[Try] = &[
     ),
     Try::Calls(
         Old {
-            pages: Pages::Bytes(&FIVE_2),
+            pages: Pages::FiveOf2,
             patches: &[],
             last: NO_PATCH,
         },
@@ -1196,7 +1052,7 @@ static FAILING: &[Try] = &[
     ),
     Try::Calls(
         Old {
-            pages: Pages::Bytes(&LEVELS_2),
+            pages: Pages::LevelsOf2,
             patches: &[],
             last: NO_PATCH,
         },
@@ -1241,7 +1097,7 @@ static FAILING: &[Try] = &[
 static HEADERS_OF_1: &[Try] = &[
     // Headers of format 1. Nothing was written before they are refused.
     Try::Refuses(
-        Pages::Bytes(&FIVE_1),
+        Pages::FiveOf1,
         NO_PAGE,
         &[
             // Another kind.
@@ -1302,14 +1158,14 @@ static HEADERS_OF_1: &[Try] = &[
         ],
     ),
     // A table of no pages.
-    Try::Refuses(Pages::Bytes(&[]), NO_PAGE, &[Hurt(NO_PATCH, Told::NoPage)]),
+    Try::Refuses(Pages::Nothing, NO_PAGE, &[Hurt(NO_PATCH, Told::NoPage)]),
 ];
 
 // The same of format 2.
 static HEADERS_OF_2: &[Try] = &[
     // Headers of format 2. Nothing was written before they are refused.
     Try::Refuses(
-        Pages::Bytes(&FIVE_2),
+        Pages::FiveOf2,
         NO_PAGE,
         &[
             // Another kind.
@@ -1371,7 +1227,7 @@ static HEADERS_OF_2: &[Try] = &[
 static REGIONS_OF_1: &[Try] = &[
     // Regions, entries that name other pages, and counts, in format 1.
     Try::Refuses(
-        Pages::Bytes(&FIVE_1),
+        Pages::FiveOf1,
         UNCLEAN,
         &[
             // The region on page 1.
@@ -1460,7 +1316,7 @@ static REGIONS_OF_1: &[Try] = &[
         ],
     ),
     Try::Refuse(
-        Pages::Bytes(&FIVE_1),
+        Pages::FiveOf1,
         &[
             Patch(1, 24, 16, 0x1000000010000000100000001),
             Patch(1, 40, 8, 0x100000001),
@@ -1468,7 +1324,7 @@ static REGIONS_OF_1: &[Try] = &[
         Told::On(1, PageFault::BadOrder),
     ),
     Try::Refuse(
-        Pages::Bytes(&FIVE_1),
+        Pages::FiveOf1,
         &[
             Patch(1, 24, 16, 0x4000000010000000000000001),
             Patch(1, 40, 16, 0x2000000010000000000000007),
@@ -1477,7 +1333,7 @@ static REGIONS_OF_1: &[Try] = &[
         Told::On(1, PageFault::BadOrder),
     ),
     Try::Refuse(
-        Pages::Bytes(&FIVE_1),
+        Pages::FiveOf1,
         &[Patch(0, 12, 4, 7), Patch(0, 16, 4, 6)],
         Told::On(0, PageFault::BadCount),
     ),
@@ -1487,7 +1343,7 @@ static REGIONS_OF_1: &[Try] = &[
 static REGIONS_OF_2: &[Try] = &[
     // Regions, entries that name other pages, and counts, in format 2.
     Try::Refuses(
-        Pages::Bytes(&FIVE_2),
+        Pages::FiveOf2,
         UNCLEAN,
         &[
             // The region on page 1.
@@ -1578,7 +1434,7 @@ static REGIONS_OF_2: &[Try] = &[
         ],
     ),
     Try::Refuse(
-        Pages::Bytes(&FIVE_2),
+        Pages::FiveOf2,
         &[
             Patch(1, 24, 16, 0x1000000010000000100000001),
             Patch(1, 40, 8, 0x100000001),
@@ -1586,7 +1442,7 @@ static REGIONS_OF_2: &[Try] = &[
         Told::On(1, PageFault::BadOrder),
     ),
     Try::Refuse(
-        Pages::Bytes(&FIVE_2),
+        Pages::FiveOf2,
         &[
             Patch(1, 24, 16, 0x4000000010000000000000001),
             Patch(1, 40, 16, 0x2000000010000000000000007),
@@ -1595,7 +1451,7 @@ static REGIONS_OF_2: &[Try] = &[
         Told::On(1, PageFault::BadOrder),
     ),
     Try::Refuse(
-        Pages::Bytes(&FIVE_2),
+        Pages::FiveOf2,
         &[Patch(0, 12, 4, 7), Patch(0, 16, 4, 6)],
         Told::On(0, PageFault::BadCount),
     ),
@@ -1605,7 +1461,7 @@ static REGIONS_OF_2: &[Try] = &[
 static DIRECTORIES: &[Try] = &[
     // A directory of one page.
     Try::Refuses(
-        Pages::Bytes(&FIVE_1),
+        Pages::FiveOf1,
         UNCLEAN,
         &[
             Hurt(Patch(4, 0, 1, 73), Told::On(4, PageFault::WrongKind)),
@@ -1641,7 +1497,7 @@ static DIRECTORIES: &[Try] = &[
         ],
     ),
     Try::Refuse(
-        Pages::Bytes(&FIVE_1),
+        Pages::FiveOf1,
         &[Patch(4, 2, 2, 2), Patch(4, 64, 16, 0), Patch(4, 80, 8, 0)],
         Told::On(4, PageFault::BadCount),
     ),
@@ -1707,7 +1563,7 @@ static DIRECTORIES: &[Try] = &[
 static INDEXES: &[Try] = &[
     // An index of one page.
     Try::Refuses(
-        Pages::Bytes(&FIVE_2),
+        Pages::FiveOf2,
         UNCLEAN,
         &[
             Hurt(Patch(4, 0, 1, 68), Told::On(4, PageFault::WrongKind)),
@@ -1739,7 +1595,7 @@ static INDEXES: &[Try] = &[
     ),
     // An index of two levels.
     Try::Refuses(
-        Pages::Bytes(&LEVELS_2),
+        Pages::LevelsOf2,
         UNCLEAN,
         &[
             // Levels.
@@ -1784,7 +1640,7 @@ static INDEXES: &[Try] = &[
         ],
     ),
     Try::Refuse(
-        Pages::Bytes(&LEVELS_2),
+        Pages::LevelsOf2,
         &[Patch(4, 2, 2, 1), Patch(4, 40, 16, 0), Patch(4, 56, 8, 0)],
         Told::On(0, PageFault::BadCount),
     ),
@@ -1792,85 +1648,55 @@ static INDEXES: &[Try] = &[
 
 #[test]
 fn upgrades_five_rows_of_format_1(rt: HostRuntime) {
-    all_go(&rt, rt.alloc(), FIVE_OF_1);
+    all_go(&rt, rt.alloc(), "five rows of format 1", FIVE_OF_1);
 }
 
 #[test]
 fn upgrades_five_rows_of_format_2(rt: HostRuntime) {
-    all_go(&rt, rt.alloc(), FIVE_OF_2);
+    all_go(&rt, rt.alloc(), "five rows of format 2", FIVE_OF_2);
 }
 
 #[test]
 fn upgrades_an_index_of_two_levels(rt: HostRuntime) {
-    all_go(&rt, rt.alloc(), LEVELS_OF_2);
+    all_go(&rt, rt.alloc(), "an index of two levels", LEVELS_OF_2);
 }
 
 #[test]
 fn keeps_the_numbers_of_rows(rt: HostRuntime) {
-    all_go(&rt, rt.alloc(), NUMBERS);
+    all_go(&rt, rt.alloc(), "numbers of rows", NUMBERS);
 }
 
 #[test]
 fn upgrades_regions_without_rows(rt: HostRuntime) {
-    all_go(&rt, rt.alloc(), WITHOUT_ROWS);
+    all_go(&rt, rt.alloc(), "regions without rows", WITHOUT_ROWS);
 }
 
 #[test]
-fn upgrades_170_regions(rt: HostRuntime) {
-    all_go(&rt, rt.alloc(), FULL_PAGE);
-}
-
-#[test]
-fn upgrades_171_regions(rt: HostRuntime) {
-    all_go(&rt, rt.alloc(), TWO_PAGES);
-}
-
-#[test]
-fn upgrades_340_regions(rt: HostRuntime) {
-    all_go(&rt, rt.alloc(), TWO_FULL_PAGES);
-}
-
-#[test]
-fn upgrades_341_regions(rt: HostRuntime) {
-    all_go(&rt, rt.alloc(), THREE_PAGES);
+fn upgrades_many_regions(rt: HostRuntime) {
+    let alloc = rt.alloc();
+    all_go(&rt, alloc, "170 regions", FULL_PAGE);
+    all_go(&rt, alloc, "171 regions", TWO_PAGES);
+    all_go(&rt, alloc, "340 regions", TWO_FULL_PAGES);
+    all_go(&rt, alloc, "341 regions", THREE_PAGES);
 }
 
 #[test]
 fn upgrades_full_regions(rt: HostRuntime) {
-    all_go(&rt, rt.alloc(), FULL_REGIONS);
+    all_go(&rt, rt.alloc(), "full regions", FULL_REGIONS);
 }
 
 #[test]
 fn each_call_fails_once(rt: HostRuntime) {
-    all_go(&rt, rt.alloc(), FAILING);
+    all_go(&rt, rt.alloc(), "calls that fail", FAILING);
 }
 
 #[test]
-fn refuses_headers_of_format_1(rt: HostRuntime) {
-    all_go(&rt, rt.alloc(), HEADERS_OF_1);
-}
-
-#[test]
-fn refuses_headers_of_format_2(rt: HostRuntime) {
-    all_go(&rt, rt.alloc(), HEADERS_OF_2);
-}
-
-#[test]
-fn refuses_regions_of_format_1(rt: HostRuntime) {
-    all_go(&rt, rt.alloc(), REGIONS_OF_1);
-}
-
-#[test]
-fn refuses_regions_of_format_2(rt: HostRuntime) {
-    all_go(&rt, rt.alloc(), REGIONS_OF_2);
-}
-
-#[test]
-fn refuses_directories(rt: HostRuntime) {
-    all_go(&rt, rt.alloc(), DIRECTORIES);
-}
-
-#[test]
-fn refuses_indexes(rt: HostRuntime) {
-    all_go(&rt, rt.alloc(), INDEXES);
+fn refuses_old_tables(rt: HostRuntime) {
+    let alloc = rt.alloc();
+    all_go(&rt, alloc, "headers of format 1", HEADERS_OF_1);
+    all_go(&rt, alloc, "headers of format 2", HEADERS_OF_2);
+    all_go(&rt, alloc, "regions of format 1", REGIONS_OF_1);
+    all_go(&rt, alloc, "regions of format 2", REGIONS_OF_2);
+    all_go(&rt, alloc, "directories", DIRECTORIES);
+    all_go(&rt, alloc, "indexes", INDEXES);
 }
