@@ -3,6 +3,7 @@ use crate::calls::{Case, count_cases};
 use crate::old_tables::{Old, is_old, old_store};
 use crate::plans::{Ask, Work, by_plan};
 use crate::samples::{FIVE_ROWS, Sheet, Store, Table, copied, page_of, schema_of, stored};
+use crate::tries::{Try, count_all};
 use std::alloc::Global;
 use std::process::Abort;
 use ub_bigmin::ZBox;
@@ -112,7 +113,7 @@ pub(crate) struct Trial {
 
 // Asserts that the steps and the cases of a run, on such a table, are answered so.
 pub(crate) fn goes(rt: &impl Abort, alloc: Global, table: Table, run: &Run) {
-    let right = count_right(alloc, table, run);
+    let right = count_right(alloc, table, run, &[]);
     assert!(rt;
         right == count(run),
         "{}: {right} steps were right",
@@ -126,19 +127,20 @@ fn count(run: &Run) -> usize {
     steps.saturating_add(run.cases.len())
 }
 
-// How many of them are answered so.
-fn count_right(alloc: Global, table: Table, run: &Run) -> usize {
+// How many of them are answered so, on such a table, and how many parts of what is tried then are right.
+pub(crate) fn count_right(alloc: Global, table: Table, run: &Run, tries: &[Try]) -> usize {
     match schema_of(table) {
         Ok(schema) => {
             let mut trial = trial_of(alloc, schema);
-            trial.count_run(run)
+            let right = trial.count_run(run);
+            right.saturating_add(count_all(&mut trial, tries))
         }
         Err(_) => 0,
     }
 }
 
 // A trial of tables of this schema, with no tree and no store.
-pub(crate) fn trial_of(alloc: Global, schema: Schema) -> Trial {
+fn trial_of(alloc: Global, schema: Schema) -> Trial {
     Trial {
         alloc,
         schema,

@@ -2,8 +2,8 @@
 // tables (`checks`). And how many parts of it are right.
 use crate::checks::{VERSION, count_each, is_told};
 use crate::old_tables::{NO_PATCH, Old, Pages, Patch};
-use crate::samples::{Table, schema_of};
-use crate::trial::{Answer, DONE, NO_PAGE, Step, Trial, UNCLEAN, trial_of};
+use crate::samples::Table;
+use crate::trial::{Answer, DONE, NO_PAGE, Run, Step, Trial, UNCLEAN, count_right};
 use crate::upgrades::{count_ends, count_made, count_refused, count_stops, is_refused};
 use std::alloc::Global;
 use std::process::Abort;
@@ -59,7 +59,7 @@ fn count(tried: &Try) -> usize {
 }
 
 // How many of them are right, up to the first that isn't.
-fn count_right(trial: &mut Trial, tried: &Try) -> usize {
+fn count_parts(trial: &mut Trial, tried: &Try) -> usize {
     match tried {
         Try::Makes(old, steps) => count_made(trial, old, steps),
         Try::Refuses(pages, opened, hurts) => count_refused(trial, *pages, *opened, hurts),
@@ -96,27 +96,16 @@ pub(crate) fn answer_of(told: &Told) -> Answer {
 }
 
 // How many parts of all these are right, up to the first that isn't.
-fn count_all(trial: &mut Trial, tries: &[Try]) -> usize {
+pub(crate) fn count_all(trial: &mut Trial, tries: &[Try]) -> usize {
     let mut right = 0usize;
     for tried in tries {
-        let count_so_far = count_right(trial, tried);
+        let count_so_far = count_parts(trial, tried);
         right = right.saturating_add(count_so_far);
         if count_so_far != count(tried) {
             break;
         }
     }
     right
-}
-
-// The same with a trial of its own.
-fn count_new(alloc: Global, tries: &[Try]) -> usize {
-    match schema_of(Table::Plane(2)) {
-        Ok(schema) => {
-            let mut trial = trial_of(alloc, schema);
-            count_all(&mut trial, tries)
-        }
-        Err(_) => 0,
-    }
 }
 
 // How many parts there are of all these.
@@ -128,8 +117,16 @@ fn count_wanted(tries: &[Try]) -> usize {
     all
 }
 
+// No steps.
+static NO_RUN: Run = Run {
+    shown: "",
+    first: &[],
+    then: &[],
+    cases: &[],
+};
+
 // Asserts that all of this, which shows that, is right.
 pub(crate) fn all_go(rt: &impl Abort, alloc: Global, shown: &str, tries: &[Try]) {
-    let right = count_new(alloc, tries);
+    let right = count_right(alloc, Table::Plane(2), &NO_RUN, tries);
     assert!(rt; right == count_wanted(tries), "{shown}: {right} were right");
 }
