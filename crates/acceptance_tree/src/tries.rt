@@ -50,10 +50,9 @@ pub(crate) enum Try {
 fn count(tried: &Try) -> usize {
     match tried {
         Try::Makes(_, steps) => steps.len(),
-        Try::Refuses(_, _, hurts) => hurts.len(),
+        Try::Refuses(_, _, hurts) | Try::Each(_, hurts) => hurts.len(),
         Try::Calls(_, calls) => calls.len().saturating_add(1),
         Try::Ends(_, ends) => ends.len(),
-        Try::Each(_, hurts) => hurts.len(),
         Try::Refuse(_, _, _) | Try::All(_, _, _) => 1,
     }
 }
