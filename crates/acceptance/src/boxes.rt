@@ -1,112 +1,131 @@
-// The addresses of boxes that are nearest to one, beside those that are found by counting, and as sums that another search made.
-ghost use Rattle.std.specs.Prelude.{◌≡◌, length, IfSome};
-
+// The boxes of conditions, where they are many, and how many points some of them have.
+use std::alloc::{AllocError, Global};
+use std::test::Fail;
 use ub_bigmin::ZBox;
-use ub_zaddr::{Point, Shape, interleave};
+use ub_boxes::{boxes, points, total};
+use ub_query::{Cond, Operator};
+use ub_table::{Name, PageFault, Schema};
 
-// Whether an address of two dimensions below 64 lies between two corners, by looking: its bits are the coordinates', taken in
-// turn.
-fn is_inside(low: [u32; 2], high: [u32; 2], z: u32) -> bool {
-    let x = ((z >> 1) & 1) + 2 * ((z >> 3) & 1) + 4 * ((z >> 5) & 1);
-    let y = (z & 1) + 2 * ((z >> 2) & 1) + 4 * ((z >> 4) & 1);
-    low[0] <= x && x <= high[0] && low[1] <= y && y <= high[1]
+// A table of the dimensions a, b, c and d, or of the first ones of them.
+fn table(dims: usize) -> Result<Schema, PageFault> {
+    signed_table(dims, 0)
 }
 
-// The least address from z on and the greatest up to z that lie between two corners below 8, by counting.
-fn counted(low: [u32; 2], high: [u32; 2], z: u128) -> (Option<u128>, Option<u128>) {
-    let mut next = None;
-    let mut prev = None;
-    for n in 0..64u32 {
-        let at = u128::from(n);
-        if is_inside(low, high, n) {
-            if at <= z {
-                prev = Some(at);
-            }
-            if z <= at && next.is_none() {
-                next = Some(at);
-            }
-        }
+// The same where the dimensions whose bits this mask has are signed.
+fn signed_table(dims: usize, signed: u32) -> Result<Schema, PageFault> {
+    let columns = [
+        Name::new(b"a")?,
+        Name::new(b"b")?,
+        Name::new(b"c")?,
+        Name::new(b"d")?,
+    ];
+    let dims = dims.clamp(1, 4);
+    Schema::new(Name::new(b"t")?, &columns[..dims], dims as u32, 2, signed)
+}
+
+fn compare(column: usize, operator: Operator, value: u8) -> Cond {
+    Cond::Compare {
+        column,
+        operator,
+        value: i128::from(value),
     }
-    (next, prev)
 }
 
-// The box of two dimensions between two corners.
-fn rectangle(low: [u32; 2], high: [u32; 2]) -> Option<ZBox> {
-    let shape = Shape::new(2).ok()?;
-    let lo = Point::new(shape, &low).ok()?;
-    let hi = Point::new(shape, &high).ok()?;
-    ZBox::new(shape, &lo, &hi)
+fn either(alloc: Global, a: Cond, b: Cond) -> Result<Cond, AllocError> {
+    Ok(Cond::Or(Box::new(alloc, a)?, Box::new(alloc, b)?))
 }
 
-// Whether the nearest addresses of one box are those found by counting, from each address up to 64.
-fn is_as_counted(low: [u32; 2], high: [u32; 2]) -> bool {
-    let Some(zbox) = rectangle(low, high) else {
-        return low[0] > high[0] || low[1] > high[1];
+// a = 64, or one of a and b is 2, 4, .. or 62.
+fn many(alloc: Global) -> Result<Cond, AllocError> {
+    let mut some = compare(0, Operator::Equal, 64);
+    for half in 1..=31u8 {
+        let evens = either(
+            alloc,
+            compare(0, Operator::Equal, 2 * half),
+            compare(1, Operator::Equal, 2 * half),
+        )?;
+        some = either(alloc, some, evens)?;
+    }
+    Ok(some)
+}
+
+// Whether there are such boxes, and they have so many points.
+fn is_total(some: Option<&[ZBox]>, wanted: u128) -> bool {
+    match some {
+        Some(boxes) => total(boxes) == Some(wanted),
+        None => false,
+    }
+}
+
+// 65 times 63 cells. Beside each of the 32 values of a, b is free; beside the 33 gaps between them it has 31 values.
+#[test]
+fn makes_boxes_of_many_cells(rt: HostRuntime) -> Result<(), Fail> {
+    let cover = boxes(rt.alloc(), Some(&many(rt.alloc())?), &table(2)?)?;
+    assert!(rt; cover.boxes().len() == 1055 && points(&cover) == Some(270_582_938_656));
+    assert!(rt; cover.is_exact() && !cover.is_wide());
+    Ok(())
+}
+
+// a <= 2 OR b >= 2: beside the first box, (2^32 - 3) * (2^32 - 2) points. The space of four dimensions has 2^128.
+#[test]
+fn adds_points_up(rt: HostRuntime) -> Result<(), Fail> {
+    let corner = either(
+        rt.alloc(),
+        compare(0, Operator::AtMost, 2),
+        compare(1, Operator::AtLeast, 2),
+    )?;
+    let cover = boxes(rt.alloc(), Some(&corner), &table(2)?)?;
+    assert!(rt; is_total(cover.boxes().get(1..), 18_446_744_052_234_715_142));
+    let space = boxes(rt.alloc(), None, &table(4)?)?;
+    assert!(rt; total(space.boxes()).is_none() && points(&space).is_none());
+    Ok(())
+}
+
+// Comparisons of the one dimension of a table, which is signed, how many boxes they have, and how many points these.
+static ENDS: [(Operator, i128, usize, u128); 15] = [
+    // The literal, or the number after it, is no value: there is no cut, and the comparison holds everywhere, or nowhere.
+    (Operator::AtMost, 2_147_483_647, 1, 4_294_967_296),
+    (Operator::Greater, 2_147_483_647, 0, 0),
+    (Operator::AtLeast, -2_147_483_648, 1, 4_294_967_296),
+    (Operator::Less, -2_147_483_648, 0, 0),
+    (Operator::Equal, 2_147_483_648, 0, 0),
+    (Operator::NotEqual, -2_147_483_649, 1, 4_294_967_296),
+    (Operator::AtMost, i128::MAX, 1, 4_294_967_296),
+    (Operator::Greater, i128::MAX, 0, 0),
+    (Operator::AtLeast, i128::MIN, 1, 4_294_967_296),
+    (Operator::Less, i128::MIN, 0, 0),
+    // The first cut that there is, the last one, and those round zero.
+    (Operator::Greater, -2_147_483_648, 1, 4_294_967_295),
+    (Operator::AtMost, 2_147_483_646, 1, 4_294_967_295),
+    (Operator::Less, 0, 1, 2_147_483_648),
+    (Operator::Equal, -1, 1, 1),
+    (Operator::NotEqual, 0, 2, 4_294_967_295),
+];
+
+// Whether the boxes of a comparison are so many, with so many points, and say all of it.
+fn are_ends(
+    alloc: Global,
+    schema: &Schema,
+    operator: Operator,
+    value: i128,
+    count: usize,
+    size: u128,
+) -> Result<bool, AllocError> {
+    let filter = Cond::Compare {
+        column: 0,
+        operator,
+        value,
     };
-    for n in 0..65u32 {
-        let z = u128::from(n);
-        let (next, prev) = counted(low, high, z);
-        if zbox.next_in_box(z) != next || zbox.prev_in_box(z) != prev {
-            return false;
-        }
-    }
-    true
+    let cover = boxes(alloc, Some(&filter), schema)?;
+    Ok(cover.boxes().len() == count && points(&cover) == Some(size) && cover.is_exact())
 }
 
 #[test]
-fn agrees_with_counting_on_small_boxes(rt: HostRuntime) {
-    for corner in 0..4096u32 {
-        let low = [corner & 7, (corner >> 3) & 7];
-        let high = [(corner >> 6) & 7, (corner >> 9) & 7];
-        assert!(rt; is_as_counted(low, high));
+fn cuts_a_signed_dimension_at_its_values(rt: HostRuntime) -> Result<(), Fail> {
+    let schema = signed_table(1, 1)?;
+    for (operator, value, count, size) in &ENDS {
+        let are = are_ends(rt.alloc(), &schema, *operator, *value, *count, *size)?;
+        assert!(rt; are, "{value}");
     }
-}
-
-// The coordinates at which carries and borrows happen.
-static EDGES: [u32; 4] = [0, 1, 2147483648, 4294967295];
-
-// The point of edges, chosen by two bits each.
-fn edge_point(shape: Shape, choice: u32) -> Option<Point>
-    ensures { IfSome result (λ p. length p ≡ shape) }
-{
-    let mut values = [0u32; 4];
-    for i in 0..4u32 {
-        values[i as usize] = EDGES[((choice >> (2 * i)) & 3) as usize];
-    }
-    match Point::new(shape, &values[..shape.dims() as usize]) {
-        Ok(point) => Some(point),
-        Err(_) => None,
-    }
-}
-
-// The nearest addresses of the box with these corners from the address of a point, as one number.
-fn edge_sum(shape: Shape, low: u32, high: u32, from: u32, sum: u128) -> Option<u128> {
-    let lo = edge_point(shape, low)?;
-    let hi = edge_point(shape, high)?;
-    let zbox = ZBox::new(shape, &lo, &hi)?;
-    let z = interleave(shape, &edge_point(shape, from)?);
-    let next = sum.rotate_left(1) ^ zbox.next_in_box(z).unwrap_or(u128::MAX);
-    Some(next.rotate_left(1) ^ zbox.prev_in_box(z).unwrap_or(u128::MAX))
-}
-
-// A checksum of the nearest addresses of all boxes with edges as corners, from the addresses of such points.
-fn edge_checksum(dims: u32, choices: u32) -> Option<u128> {
-    let shape = Shape::new(dims).ok()?;
-    let mut sum = 0u128;
-    for low in 0..choices {
-        for high in 0..choices {
-            let from = low.wrapping_mul(7).wrapping_add(high) & 255;
-            sum = edge_sum(shape, low, high, from, sum).unwrap_or(sum);
-        }
-    }
-    Some(sum)
-}
-
-// The sums are those of a search that halves the cells of the curve (bench/checksum.py has its like).
-#[test]
-fn agrees_with_halving_cells_at_the_edges(rt: HostRuntime) {
-    let cube = edge_checksum(3, 64);
-    assert!(rt; cube == Some(158063738300030818516008930306565074344));
-    let four = edge_checksum(4, 256);
-    assert!(rt; four == Some(188845783252535545128684400960967465514));
+    Ok(())
 }
