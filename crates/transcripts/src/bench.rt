@@ -40,6 +40,19 @@ impl Bench {
         is_damaged(&mut self.files.inner, line)
     }
 
+    /// The bytes of a text, or of a table file, if there is one of this name.
+    pub fn bytes_of(&mut self, name: &str) -> Result<Option<Vec<u8>>, AllocError> {
+        if let Ok(text) = self.files.inner.read(name) {
+            return Ok(Some(text));
+        }
+        let Ok(mut store) = self.files.inner.open(name) else {
+            return Ok(None);
+        };
+        let bytes = bytes_in(self.alloc, &mut store);
+        self.files.inner.put_back(name, store);
+        Ok(Some(bytes?))
+    }
+
     /// Runs a command line, and gives its status and what it wrote.
     pub fn run(&mut self, asked: Asked<'_>) -> Result<(u8, Narrow), AllocError> {
         let words = words_of(self.alloc, asked.words)?;
@@ -49,8 +62,19 @@ impl Bench {
     }
 }
 
-// The words of a command line, the program's name first.
-fn words_of(alloc: Global, line: &str) -> Result<Vec<String>, AllocError> {
+// The bytes of a store's pages, one page after the other, up to the first that can't be read.
+fn bytes_in<S: PageStore>(alloc: Global, store: &mut S) -> Result<Vec<u8>, AllocError> {
+    let mut bytes = Vec::new(alloc);
+    for n in 0..store.pages() {
+        if let Ok(page) = store.read_page(n) {
+            bytes.extend_from_slice(&page)?;
+        }
+    }
+    Ok(bytes)
+}
+
+/// The words of a command line, the program's name first.
+pub fn words_of(alloc: Global, line: &str) -> Result<Vec<String>, AllocError> {
     let mut words = Vec::new(alloc);
     words.push(String::from_str(alloc, "ubq")?)?;
     for word in line.split_whitespace() {

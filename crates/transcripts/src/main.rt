@@ -16,6 +16,11 @@
 //     | FILE PAGES
 //                 the table file FILE is cut to so many pages of 4096 bytes
 //
+//     ^ NAME      the file NAME is put into a folder of the system, as it stands
+//     : WORDS     `ubq WORDS` over the files of that folder writes the lines that follow; the mark ? tells its status
+//     * NAME ..   the command line above changes or makes these files of the folder. Of all others that were put there, or that
+//                 such a command line names, it must leave each byte as it was, and make none
+//
 // A table file that isn't there, or has no such place, counts as a command line that is wrong.
 //
 // Among the lines of a text `+ COUNT TEXT` is TEXT so many times, with no line feed, and `% COUNT` is the numbers from 0 to
@@ -25,6 +30,7 @@
 
 mod bench;
 mod damage;
+mod folder;
 mod marks;
 mod narrow;
 mod player;

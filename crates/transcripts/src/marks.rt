@@ -1,3 +1,11 @@
+/// Where the files lie over which a command line runs.
+#[derive(Clone, Copy)]
+pub enum Place {
+    Memory,
+    /// In a folder of the system.
+    Folder,
+}
+
 /// A command line, and how it is run.
 #[derive(Clone, Copy)]
 pub struct Asked<'a> {
@@ -8,6 +16,9 @@ pub struct Asked<'a> {
     pub room: usize,
     /// The status that it must end with.
     pub status: u8,
+    pub place: Place,
+    /// Which files of the folder it must change, or make.
+    pub changes: &'a str,
 }
 
 impl<'a> Asked<'a> {
@@ -18,6 +29,8 @@ impl<'a> Asked<'a> {
             k: 0,
             room: usize::MAX,
             status: 0,
+            place: Place::Memory,
+            changes: "",
         }
     }
 }
@@ -35,6 +48,10 @@ pub enum Mark<'a> {
     Script(&'a str),
     /// The status that the command line above ends with.
     Status(u8),
+    /// The files of the folder that the command line above changes, or makes.
+    Changes(&'a str),
+    /// The file of this name is put into the folder.
+    Put(&'a str),
     /// What is done to a table file before the next command line: the whole line.
     Damage(&'a str),
 }
@@ -50,6 +67,12 @@ pub fn mark_of(line: &str) -> Option<Mark<'_>> {
         "$" => Some(Mark::Run(Asked::new(rest))),
         ">" => Some(Mark::Script(rest)),
         "?" => Some(Mark::Status(rest.parse::<u8>().ok()?)),
+        "^" => Some(Mark::Put(rest)),
+        ":" => Some(Mark::Run(Asked {
+            place: Place::Folder,
+            ..Asked::new(rest)
+        })),
+        "*" => Some(Mark::Changes(rest)),
         "~" | "|" | "=" => Some(Mark::Damage(line)),
         _ => Some(Mark::Run(failing(head, rest)?)),
     }

@@ -1,5 +1,7 @@
 use crate::bench::Bench;
-use crate::marks::{Asked, Mark, cut, mark_of};
+use crate::folder::Folder;
+use crate::marks::{Asked, Mark, Place, cut, mark_of};
+use crate::narrow::Narrow;
 use std::alloc::{AllocError, Global};
 use std::{io, str};
 
@@ -18,6 +20,7 @@ enum Part<'a> {
 pub struct Player<'a> {
     alloc: Global,
     bench: Bench,
+    folder: Folder<'a>,
     part: Part<'a>,
     text: String,
     // Whether the last line was empty: it isn't in the text yet.
@@ -32,6 +35,7 @@ impl<'a> Player<'a> {
         Player {
             alloc,
             bench: Bench::new(alloc),
+            folder: Folder::new(alloc),
             part: Part::Nothing,
             text: String::new(alloc),
             is_blank: false,
@@ -44,7 +48,15 @@ impl<'a> Player<'a> {
     pub fn take(&mut self, rt: &HostRuntime, line: &'a str) -> io::Result<()> {
         match mark_of(line) {
             Some(Mark::Status(status)) => {
-                self.set_status(status);
+                if let Some(asked) = self.asked_above() {
+                    asked.status = status;
+                }
+                Ok(())
+            }
+            Some(Mark::Changes(changes)) => {
+                if let Some(asked) = self.asked_above() {
+                    asked.changes = changes;
+                }
                 Ok(())
             }
             Some(mark) => self.begin(rt, mark),
@@ -58,11 +70,12 @@ impl<'a> Player<'a> {
         println!(rt; "{} right, {} wrong", self.right, self.wrong)
     }
 
-    // Keeps the status of the command line above.
-    fn set_status(&mut self, status: u8) {
+    // Ends the text of the command line above, if there is one, and lends it.
+    fn asked_above(&mut self) -> Option<&mut Asked<'a>> {
         self.is_blank = false;
-        if let Part::Run(asked) = self.part {
-            self.part = Part::Run(Asked { status, ..asked });
+        match &mut self.part {
+            Part::Run(asked) => Some(asked),
+            Part::Nothing | Part::File(_) => None,
         }
     }
 
@@ -70,11 +83,15 @@ impl<'a> Player<'a> {
     fn begin(&mut self, rt: &HostRuntime, mark: Mark<'a>) -> io::Result<()> {
         self.end_part(rt)?;
         self.part = match mark {
-            Mark::Comment | Mark::Status(_) => Part::Nothing,
+            Mark::Comment | Mark::Status(_) | Mark::Changes(_) => Part::Nothing,
             Mark::File(name) => Part::File(name),
             Mark::Run(asked) => Part::Run(asked),
             Mark::Damage(line) => {
                 self.damage(rt, line)?;
+                Part::Nothing
+            }
+            Mark::Put(name) => {
+                self.put(rt, name)?;
                 Part::Nothing
             }
             Mark::Script(script) => {
@@ -93,6 +110,17 @@ impl<'a> Player<'a> {
         }
         self.wrong = self.wrong.saturating_add(1);
         println!(rt; "no such file, or no such place in it: {line}")
+    }
+
+    // Puts a file into the folder, or tells that there is none.
+    fn put(&mut self, rt: &HostRuntime, name: &'a str) -> io::Result<()> {
+        match self.bench.bytes_of(name)? {
+            Some(bytes) => self.folder.put(rt, name, bytes.as_slice()),
+            None => {
+                self.wrong = self.wrong.saturating_add(1);
+                println!(rt; "no such file: {name}")
+            }
+        }
     }
 
     // Adds a line to the part's text, and before it the empty line that stood there.
@@ -125,10 +153,25 @@ impl<'a> Player<'a> {
         Ok(())
     }
 
+    // Runs a command line where its files are, and gives its status, what it wrote, and which files of the folder it changed.
+    fn run(&mut self, rt: &HostRuntime, asked: Asked<'a>) -> io::Result<(u8, Narrow, String)> {
+        match asked.place {
+            Place::Memory => {
+                let (status, out) = self.bench.run(asked)?;
+                Ok((status, out, String::new(self.alloc)))
+            }
+            Place::Folder => {
+                let (status, out) = self.folder.run(rt, asked)?;
+                Ok((status, out, self.folder.changes(rt)?))
+            }
+        }
+    }
+
     // Runs a command line, counts it, and prints what differs.
     fn judge(&mut self, rt: &HostRuntime, asked: Asked<'a>) -> io::Result<()> {
-        let (status, out) = self.bench.run(asked)?;
-        let is_same = out.taken.as_slice() == self.text.as_bytes();
+        let (status, out, changes) = self.run(rt, asked)?;
+        let is_same = out.taken.as_slice() == self.text.as_bytes()
+            && changes.as_str() == asked.changes;
         if is_same && status == asked.status && out.failed < 2 {
             self.right = self.right.saturating_add(1);
             return Ok(());
@@ -140,8 +183,11 @@ impl<'a> Player<'a> {
             "{}, store fails at {}, room {}",
             asked.words, asked.k, asked.room
         )?;
-        println!(rt; "wanted, with status {}:\n{wanted}", asked.status)?;
-        println!(rt; "written, with status {status}:\n{written}")
+        println!(rt;
+            "wanted, with status {}, changes {}:\n{wanted}",
+            asked.status, asked.changes
+        )?;
+        println!(rt; "written, with status {status}, changes {changes}:\n{written}")
     }
 }
 

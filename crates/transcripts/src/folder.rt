@@ -1,0 +1,77 @@
+use crate::bench::words_of;
+use crate::marks::Asked;
+use crate::narrow::Narrow;
+use std::alloc::{AllocError, Global};
+use std::{fs, io};
+use ub_shell::{HostFiles, run_program};
+
+// A file of the system: its name, and the bytes that it had when it was looked at, if it was there.
+#[derive(Drop)]
+struct Seen<'a> {
+    name: &'a str,
+    bytes: Option<Vec<u8>>,
+}
+
+/// The folder of the system in which a transcript is played, and what was seen of the files in it that were named.
+#[derive(Drop)]
+pub struct Folder<'a> {
+    alloc: Global,
+    seen: Vec<Seen<'a>>,
+}
+
+impl<'a> Folder<'a> {
+    /// One of which nothing was named.
+    pub fn new(alloc: Global) -> Folder<'a> {
+        Folder {
+            alloc,
+            seen: Vec::new(alloc),
+        }
+    }
+
+    /// Makes a file of these bytes, in the place of what is there.
+    pub fn put(&mut self, rt: &HostRuntime, name: &'a str, bytes: &[u8]) -> io::Result<()> {
+        fs::write(rt, name, bytes)?;
+        self.look_at(rt, name)
+    }
+
+    /// Runs a command line over the files of the folder, and gives its status and what it wrote.
+    pub fn run(&mut self, rt: &HostRuntime, asked: Asked<'a>) -> io::Result<(u8, Narrow)> {
+        for word in asked.words.split_whitespace() {
+            self.look_at(rt, word)?;
+        }
+        let words = words_of(self.alloc, asked.words)?;
+        let out = Narrow::new(self.alloc, asked.room);
+        let mut files = HostFiles::new(rt);
+        Ok(run_program(self.alloc, &mut files, Ok(words), out))
+    }
+
+    /// The names of the files that aren't as they were when they were looked at, with a space between them. They are looked at
+    /// again.
+    pub fn changes(&mut self, rt: &HostRuntime) -> Result<String, AllocError> {
+        let mut names = String::new(self.alloc);
+        for seen in self.seen.iter_mut() {
+            let now = fs::read(rt, seen.name).ok();
+            if now != seen.bytes {
+                add_word(&mut names, seen.name)?;
+            }
+            seen.bytes = now;
+        }
+        Ok(names)
+    }
+
+    // Looks at the file of this name.
+    fn look_at(&mut self, rt: &HostRuntime, name: &'a str) -> io::Result<()> {
+        self.seen.retain(|seen| seen.name != name);
+        let bytes = fs::read(rt, name).ok();
+        self.seen.push(Seen { name, bytes })?;
+        Ok(())
+    }
+}
+
+// Adds a word to a line, with a space between them.
+fn add_word(line: &mut String, word: &str) -> Result<(), AllocError> {
+    if !line.is_empty() {
+        line.push(' ')?;
+    }
+    line.push_str(word)
+}
