@@ -10,7 +10,8 @@ use Rattle.std.proofs.lemmas.Nat.Bits.{same_from_bits, bit_at_above}
 use Rattle.ub_zaddr.specs.Address.{address, place, IsAtMost, IsPoint}
 use Rattle.ub_zaddr.proofs.Laws.{is_place}
 use Rattle.ub_bigmin.specs.Box.{Corners, IsInside, Holds, IsBox}
-use Rattle.ub_bigmin.specs.Cells.{prefix, IsInCell, free_below, HasPrefixes, IsPrefixOf, least_with, greatest_with, IsMet, least_beside, greatest_beside, IsInPart, IsLeastPoint, IsGreatestPoint, IsFloor, IsLift, IsSink, IsTop}
+use Rattle.ub_bigmin.specs.Cells.{prefix, free_below, IsPrefixOf, least_with, greatest_with, IsMet, IsFloor}
+use Rattle.ub_bigmin.specs.inner.Cells.{IsInCell, HasPrefixes, least_beside, greatest_beside, IsInPart, IsLeastPoint, IsGreatestPoint, IsLift, IsSink, IsTop}
 use Rattle.ub_bigmin.proofs.CutFacts.{shr_halves}
 use Rattle.ub_bigmin.proofs.PointFacts.{IsPoint-below}
 use Rattle.ub_bigmin.proofs.AddressOrder.{bit_at-address, address-below}

@@ -9,7 +9,8 @@ use Rattle.std.proofs.lemmas.Nat.Bits.{bit_at-lt}
 use Rattle.ub_zaddr.specs.Address.{address, place, IsPoint}
 use Rattle.ub_zaddr.proofs.Laws.{is_place}
 use Rattle.ub_bigmin.specs.Box.{Corners, IsInside, Holds, IsBox}
-use Rattle.ub_bigmin.specs.Cells.{prefix, IsInCell, IsLeastPoint, IsGreatestPoint}
+use Rattle.ub_bigmin.specs.Cells.{prefix}
+use Rattle.ub_bigmin.specs.inner.Cells.{IsInCell, IsLeastPoint, IsGreatestPoint}
 use Rattle.ub_bigmin.specs.Extremes.{IsLeastFrom, IsGreatestUpTo}
 use Rattle.ub_bigmin.specs.Jumps.{IsJump, HasNoJump, IsLowestJump, IsNearestPoint, wide_place}
 use Rattle.ub_bigmin.proofs.CutFacts.{shr_halves}

@@ -25,10 +25,6 @@ IsValueInSpan boxes from to dim v =
     (b : Corners) × (p : List ℕ) × Contains boxes b × IsInside b p
     × (from ≤ address p) × (address p ≤ to) × (slice_index p dim ≡ v)
 
--- some address of the span from .. to lies in the box
-abbrev pub MeetsSpan : Corners → ℕ → ℕ → Type 0
-MeetsSpan b from to = (z : ℕ) × Holds b z × (from ≤ z) × (z ≤ to)
-
 -- the corners of a box of d dimensions
 pub record IsBox (d : ℕ) (b : Corners) : Type 0 where
   pub some : 1 ≤ d

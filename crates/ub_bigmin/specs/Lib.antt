@@ -8,3 +8,4 @@ pub mod Step
 pub mod Cells
 pub mod Jumps
 pub mod Lower
+pub mod inner

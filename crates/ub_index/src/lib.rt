@@ -40,8 +40,8 @@
 //    its first entry begins with the key of the entry that names it, and its last one before the key of the next one
 //    (OutOfRegion). The first refusal that holds is told.
 //  - Of a page that the pager holds already, the ends alone are looked at, but on a leaf as below. Mostly a search read it, and
-//    checked it then; or a change spelled it. But a page can be held that was never checked: another caller brought it, as a
-//    region's page or to look at it; it was put while it was held; or a search read it, refused it, and left it there. What
+//    checked it then; or a change spelled it. A page that is read here and refused is let go again. But a page can be held that
+//    was never checked: another caller brought it, as a region's page or to look at it; or it was put while it was held. What
 //    stands between its ends is then taken as it is: keys that don't ascend, or entries that are out of range, lead to a wrong
 //    region, but never to one that doesn't hold the key by what the pages tell, and never to page 0: an entry that names it is
 //    refused where it is followed, as BadRow of the page on which it stands, as the page would be in full.

@@ -26,7 +26,8 @@ pub struct Head {
     pub count: usize,
 }
 
-/// A page of an index that has been read: its level, and up to 170 entries in the order of their first keys.
+/// A page of an index that has been read: its level, and up to 170 entries in the order of their first keys. The tree reads an
+/// index in its pages' own bytes (`check_index`, `entry_at`): this form is for tests, and for other readers of a file.
 #[derive(Drop)]
 pub struct IndexPage {
     level: u32,
@@ -70,7 +71,7 @@ pub fn write_index(entries: &[Entry], level: u32, draft: &mut Draft)
 /// What a page of an index tells. Otherwise the first of these that holds: `WrongKind` (the first byte is not 'I'), `BadCount`
 /// (not a level of 1 to 16, or not 1 to 170 entries), `BadRow` (an address above the last of the schema's space, a number
 /// above 16777215, or page 0), `BadOrder` (the first keys do not ascend), `BadPadding` (a byte that no field uses is not
-/// zero). Takes no memory.
+/// zero). Takes no memory. The tree asks `check_index`, which refuses the same and keeps no entry.
 pub fn read_index(schema: &Schema, page: &Page) -> Result<IndexPage, PageFault>
     ensures found { IfOk result
         (λ node. IsNode (last_address schema.now.dims) node × (page.now ≡ index_page node)) }

@@ -10,7 +10,8 @@ use Rattle.std.specs.Int.{w64, cast_signed}
 use Rattle.std.specs.List.{range_with_len, slice_get}
 use Rattle.ub_page.proofs.LaneFacts.{sorted}
 use Rattle.ub_page.specs.Bytes.{number_at}
-use Rattle.ub_page.specs.Columns.{block, blank_key, blank_row, blank_dims, blank_measures, across, point_in, values_in, row_in, key_in}
+use Rattle.ub_page.proofs.BlankRow.{blank_row}
+use Rattle.ub_page.specs.Columns.{block, blank_key, blank_dims, blank_measures, across, point_in, values_in, row_in, key_in}
 use Rattle.ub_page.specs.Region.{places, row_on}
 use Rattle.ub_table.specs.Region.{key_of, keys_of}
 use Rattle.ub_table.specs.declared.row.Key.{Key}

@@ -1,3 +1,4 @@
+pub mod BlankRow
 pub mod BytesFacts
 pub mod ColumnFacts
 pub mod CutFacts

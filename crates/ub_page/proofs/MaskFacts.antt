@@ -9,7 +9,8 @@ use Rattle.std.specs.Int.{bit_at}
 use Rattle.std.specs.List.{range_with_len, slice_get}
 use Rattle.ub_bigmin.specs.Box.{Corners, IsInside}
 use Rattle.ub_page.proofs.LaneFacts.{sorted}
-use Rattle.ub_page.specs.Columns.{point_in, row_in, blank_row}
+use Rattle.ub_page.proofs.BlankRow.{blank_row}
+use Rattle.ub_page.specs.Columns.{point_in, row_in}
 use Rattle.ub_page.specs.Lanes.{IsMaskOf, IsMaskBelow, IsBetween, used}
 use Rattle.ub_page.specs.Region.{IsRowInside}
 use Rattle.ub_table.specs.declared.row.Key.{Key}

@@ -5,7 +5,8 @@ use Rattle.std.proofs.lemmas.List.{map-append, take-map, drop-map}
 use Rattle.std.proofs.lemmas.List.Edits.{length-insert, get_or-insert_below, get_or-insert_at, get_or-insert_above}
 use Rattle.std.proofs.lemmas.List.FromFn.{length-map-range_with_len, get_or-map-range_with_len}
 use Rattle.std.specs.List.{insert, range_with_len}
-use Rattle.ub_page.specs.Columns.{blank_key, blank_row, point_in, values_in, row_in}
+use Rattle.ub_page.proofs.BlankRow.{blank_row}
+use Rattle.ub_page.specs.Columns.{blank_key, point_in, values_in, row_in}
 use Rattle.ub_table.specs.Region.{key_of, keys_of}
 use Rattle.ub_table.specs.declared.row.Key.{Key}
 use Rattle.ub_table.specs.declared.row.Row.{Row}

@@ -22,9 +22,6 @@ blank_measures = replicate 64 (pos 0)
 abbrev pub blank_key : Key
 blank_key = record { z = 0; number = 0 }
 
-abbrev pub blank_row : Row
-blank_row = record { number = 0; dims = 0 ∷ 0 ∷ 0 ∷ 0 ∷ []; measures = pos 0 ∷ pos 0 ∷ pos 0 ∷ pos 0 ∷ [] }
-
 -- what four columns hold at an index
 abbrev pub across : {A : Type 0} → A → List (List A) → ℕ → List A
 across rest columns i =

@@ -7,10 +7,15 @@ use Rattle.ub_syntax.specs.Limits.{past_limits_of}
 use Rattle.ub_syntax.specs.Stop.{IsRefusedAt, IsTooDeepAt}
 use Rattle.ub_syntax.specs.Tree.{Stated, selects, inserts, deletes}
 use Rattle.ub_syntax.proofs.Laws.{deep_alone, deep_no_statement}
-use Rattle.ub_parser.specs.Refusals.{IsFirst, IsTooLarge, IsStatedMisfit, IsFault, IsFirstStatedMisfit, IsFirstFault, rank}
+use Rattle.ub_parser.specs.Refusals.{IsFirst, IsTooLarge, IsStatedMisfit, IsFault, IsFirstFault, rank}
 use Rattle.ub_parser.specs.declared.fault.SqlFault.{SqlFault}
 use Rattle.ub_parser.specs.declared.fault.SqlFault.TheVariants.{BadByte, Syntax, NumberTooLarge, TooDeep, TooMany, UnknownTable, UnknownColumn, NotGrouped, NotSelected, ValueCount, ValueRange, Memory}
 use Rattle.ub_table.specs.declared.schema.Schema.{Schema}
+
+-- the first misfit of a statement
+abbrev pub IsFirstStatedMisfit : List ℕ → Schema → Stated → SqlFault → Type 0
+IsFirstStatedMisfit source schema s fault =
+    IsStatedMisfit source schema s fault × ((other : SqlFault) → rank other < rank fault → ¬ IsStatedMisfit source schema s other)
 
 -- where P holds of none, there is no first
 no_first : {A : Type 0} (P : A → Type 0) (before after : List A) (x : A) → All (λ y. ¬ (P y)) (before ++ x ∷ after) → ¬ (P x)

@@ -14,13 +14,13 @@ use Rattle.ub_syntax.specs.declared.syntax.Sentence.TheVariants as sentence
 use Rattle.ub_syntax.specs.declared.syntax.Syntax.{Syntax}
 use Rattle.ub_parser.specs.Known.{IsAskedOver}
 use Rattle.ub_parser.specs.Outcome.{Command, command_of, IsAccepted, IsOfRows}
-use Rattle.ub_parser.specs.Refusals.{IsFirstFault, IsFirstStatedMisfit, IsMisfit, IsStatedMisfit, names}
+use Rattle.ub_parser.specs.Refusals.{IsFirstFault, IsMisfit, IsStatedMisfit, names}
 use Rattle.ub_parser.specs.Sense.{items_of, sense_of}
 use Rattle.ub_parser.specs.Spans.{IsWithin, IsNumber, AreWritten, IsInsertWritten}
 use Rattle.ub_parser.specs.declared.fault.SqlFault.{SqlFault}
 use Rattle.ub_parser.specs.declared.fault.SqlFault.TheVariants.{Memory}
 use Rattle.ub_parser.proofs.Among.{select_good, delete_good, insert_good}
-use Rattle.ub_parser.proofs.FaultFacts.{NoBad, NoLarge, fits, misfit_first}
+use Rattle.ub_parser.proofs.FaultFacts.{IsFirstStatedMisfit, NoBad, NoLarge, fits, misfit_first}
 use Rattle.ub_parser.proofs.GoodTokens.{are_good}
 use Rattle.ub_parser.proofs.KnownFacts.{are_columns, known_filter, known_limit}
 use Rattle.ub_parser.proofs.ParseFacts.{nothing_accepted, only_misfit}

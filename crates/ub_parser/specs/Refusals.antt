@@ -137,11 +137,6 @@ abbrev pub IsFirstInsertMisfit : List ℕ → Schema → Insertion → SqlFault 
 IsFirstInsertMisfit source schema i fault =
     IsInsertMisfit source schema i fault × ((other : SqlFault) → rank other < rank fault → ¬ IsInsertMisfit source schema i other)
 
--- and of a statement
-abbrev pub IsFirstStatedMisfit : List ℕ → Schema → Stated → SqlFault → Type 0
-IsFirstStatedMisfit source schema s fault =
-    IsStatedMisfit source schema s fault × ((other : SqlFault) → rank other < rank fault → ¬ IsStatedMisfit source schema s other)
-
 -- the first fault of a statement
 abbrev pub IsFirstFault : List ℕ → Schema → List Token → SqlFault → Type 0
 IsFirstFault source schema tokens fault =

@@ -18,10 +18,10 @@ use Rattle.ub_upgrade.specs.declared.building.Root.{Root}
 use Rattle.ub_upgrade.specs.declared.fault.UpgradeFault.{UpgradeFault}
 use Rattle.ub_upgrade.specs.declared.fault.UpgradeFault.TheVariants.{Page, Old, New}
 use Rattle.ub_upgrade.specs.declared.levels.Level.{Level}
-use Rattle.ub_upgrade.specs.Reading.{HeadingView, AreBegun, AreBelow, HasPart, IsMet, IsReadUpTo, IsReadWhole}
+use Rattle.ub_upgrade.specs.Reading.{HeadingView, AreBegun, AreBelow, HasPart, IsMet, IsReadUpTo}
 use Rattle.ub_upgrade.specs.declared.chain.Place.{Place}
 use Rattle.ub_upgrade.proofs.LevelFacts.{cut_added, lowest_level}
-use Rattle.ub_upgrade.proofs.ReadFacts.{part_full, part_whole}
+use Rattle.ub_upgrade.proofs.ReadFacts.{IsReadWhole, part_full, part_whole}
 
 -- the directory was read up to a place, and so many pages from one on tell the same entries
 pub record IsHalfWay (from start : StoreFacts) (heading : HeadingView) (pages : List (List ℕ)) (first count : ℕ) (place : Place) : Type 0 where

@@ -3,7 +3,7 @@ use Rattle.std.proofs.Common.{◌≡◌, ◌<◌, ◌≤◌, ◌+◌, ◌-◌, �
 use Rattle.std.proofs.lemmas.Bool.{and_parts, cases_eq, cases_lt}
 use Rattle.std.proofs.lemmas.List.{length-append, length-take, length-drop, take-append-le, drop-append-le}
 use Rattle.std.proofs.lemmas.List.Elements.{All-from_recursion}
-use Rattle.std.specs.List.{AllByRecursion}
+use Rattle.std.specs.List.{All, AllByRecursion}
 use Rattle.ub_zaddr.specs.Address.{last_address}
 use Rattle.ub_page.specs.Directory.{Listing, IsListing, directory_page}
 use Rattle.ub_page.specs.Entries.{AreAscending, IsEntry}
@@ -12,7 +12,7 @@ use Rattle.ub_region.proofs.Laws.{all_more, all_append}
 use Rattle.ub_store.specs.Facts.{StoreFacts, IsHonest, IsPage, page_count}
 use Rattle.ub_table.proofs.Laws.{precedes_of}
 use Rattle.ub_table.specs.Keys.{origin, precedes, is_same, are_ascending}
-use Rattle.ub_upgrade.specs.Reading.{HeadingView, Spells, AreBelow, AreFull, AreBegun, HasPart, IsAskedFor, IsNamed, IsReadUpTo, IsReadWhole, last_first}
+use Rattle.ub_upgrade.specs.Reading.{HeadingView, Spells, AreBelow, AreFull, AreBegun, HasPart, IsAskedFor, IsNamed, IsDirectory, IsReadUpTo, last_first}
 use Rattle.ub_upgrade.specs.Building.{IsBuildFault}
 use Rattle.ub_upgrade.specs.declared.fault.UpgradeFault.TheVariants.{Old}
 use Rattle.ub_store.specs.declared.fault.StoreFault.{StoreFault}
@@ -22,6 +22,15 @@ use Rattle.ub_directory.specs.Spans.{ArePlaces, first_keys}
 use Rattle.ub_upgrade.specs.Chain.{IsChain}
 use Rattle.ub_directory.proofs.Laws.{same_key}
 use Rattle.ub_table.specs.declared.row.Key.{Key}
+
+-- a directory that was read whole
+pub record IsReadWhole (store : StoreFacts) (heading : HeadingView) (chain : List ℕ) (entries : List Entry) : Type 0 where
+  pub each : All (IsEntry (last_address heading.dims)) entries
+  pub places : ArePlaces (last_address heading.dims) entries
+  pub regions_are : heading.regions ≡ length entries
+  pub root_is : slice_get chain 0 ≡ Some heading.root
+  pub some_chain : 1 ≤ length chain
+  pub directory : IsHonest store → IsDirectory store.pages heading chain entries
 
 and_true : (b : Bool) → (b && true) ≡ b
 and_true true = refl

@@ -115,12 +115,3 @@ AreBelow count entries = AllByRecursion (λ entry. entry.page < count) entries
 -- this page is refused where the directory begins or goes on
 abbrev pub IsRefused : HeadingView → StoreFacts → ℕ → List ℕ → PageFault → Type 0
 IsRefused heading store n page fault = (chain : List ℕ) × (entries : List Entry) × IsReadUpTo store heading chain entries n × IsPartFault heading entries page fault
-
--- a directory that was read whole
-pub record IsReadWhole (store : StoreFacts) (heading : HeadingView) (chain : List ℕ) (entries : List Entry) : Type 0 where
-  pub each : All (IsEntry (last_address heading.dims)) entries
-  pub places : ArePlaces (last_address heading.dims) entries
-  pub regions_are : heading.regions ≡ length entries
-  pub root_is : slice_get chain 0 ≡ Some heading.root
-  pub some_chain : 1 ≤ length chain
-  pub directory : IsHonest store → IsDirectory store.pages heading chain entries
