@@ -9,6 +9,7 @@
 mod cover;
 mod covering;
 mod cuts;
+pub mod example;
 mod front;
 mod interval;
 pub mod law;

@@ -5,6 +5,7 @@
 // (`ub_region`): no tree, store or page stands here, and a plan is carried out elsewhere.
 #![tactic(auto)]
 
+pub mod example;
 pub mod law;
 mod planned;
 mod planning;
