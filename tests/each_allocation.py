@@ -1,8 +1,8 @@
 #!/usr/bin/env python3
 """Makes each allocation of the program fail in turn, by hand. It runs `try`, `load` and `run` on the table of five rows and a script with a statement of every kind, and then
-`run` of a script that changes the table, each time on a new copy of it; and `upgrade` of that table in formats 1 and 2. It says how many runs told `! Memory` after whole texts of
+`run` of a script that changes the table, each time on a new copy of it; `describe` and `check` of it, and of the same in format 1; and `upgrade` of that table in formats 1 and 2. It says how many runs told `! Memory` after whole texts of
 first statements, how many did without, and how many did anything else (which is wrong). A table that was changed must then open, and hold what those statements left, but for the
-first rows of a DELETE that was stopped. The old file of an upgrade must be as it was, and after a refusal the new one too.
+first rows of a DELETE that was stopped. The old file of an upgrade must be as it was, and after a refusal the new one too, and so must each table that is described or checked.
 
     tests/each_allocation.py [PROGRAM]      (needs cc; the program is built first where none is named)"""
 import pathlib
@@ -41,6 +41,8 @@ ROWS = {1: "1,1,10", 2: "2,3,20", 3: "3,0,5", 4: "0,2,7", 5: "2,3,1", 6: "2,3,-4
 FIVE, SIX, LEFT = (1, 2, 3, 4, 5), (1, 2, 3, 4, 5, 6), (1, 3, 4)
 # The numbers of the rows that a table may have after so many of these statements were told.
 AFTER = [[FIVE], [SIX], [SIX, (1, 3, 4, 5, 6), (1, 3, 4, 6), LEFT], [LEFT], [LEFT + (7,)]]
+# The commands that write one text, of a table that they leave as it is.
+ASKING = ["describe", "check"]
 MEMORY = 5
 OLD = pathlib.Path(__file__).resolve().parent / "old"
 OLDER = {"one.ub": OLD / "s.ub", "two.ub": OLD / "format_2" / "s.ub"}
@@ -92,6 +94,8 @@ def main():
             """Whether the table that was changed opens, and has what the statements left of which this is the text."""
             if words[0] == "upgrade":
                 return is_upgraded_well(words[1], text)
+            if words[0] in ASKING:
+                return pathlib.Path(work, words[1]).read_bytes() == asked[words[1]]
             if words[1] != "copy.ub":
                 return True
             status, rows, _ = failing_memory.ended(library, [program, "run", "copy.ub", "all.sql"], 0, work)
@@ -100,14 +104,16 @@ def main():
 
         table = ["--dims", "2", "--page-rows", "2"]
         scripts = [["try", "s.csv", "every.sql"] + table, ["load", "s.csv", "s.ub"] + table, ["run", "s.ub", "every.sql"], ["run", "copy.ub", "changes.sql"]]
+        scripts += [[asking, "s.ub"] for asking in ASKING] + [["describe", "one.ub"]]
         for old, file in OLDER.items():
             shutil.copy(file, pathlib.Path(work, old))
             scripts.append(["upgrade", old, "new.ub"])
         for words in scripts:
-            if words[0] == "run":
+            if words[0] == "run" or words[0] in ASKING:
                 run(["load", "s.csv", "s.ub"] + table, 0)
+            asked = {name: pathlib.Path(work, name).read_bytes() for name in ["s.ub", "one.ub"] if words[0] in ASKING}
             status, text, _ = run(words, 0)
-            told = {first + "! Memory\n" for first in first_texts(text)}
+            told = {first + "! Memory\n" for first in ([""] if words[0] in ASKING else first_texts(text))}
             refused = without = odd = due = since = 0
             while since < ROUND:
                 due += 1
