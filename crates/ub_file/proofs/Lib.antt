@@ -1,2 +1,3 @@
+pub mod BytesFacts
 pub mod HostFacts
 pub mod MemoryFacts

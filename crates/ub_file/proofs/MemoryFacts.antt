@@ -7,7 +7,7 @@ use Rattle.ub_store.specs.Facts.{Extends, WritesAt, raised, zero_page}
 use Rattle.ub_store.specs.declared.fault.StoreFault.{StoreFault}
 use Rattle.ub_store.specs.declared.fault.StoreFault.TheVariants.{Device, Memory}
 
-put_other : (pages : List (List ℕ)) (n m : ℕ) (page : List ℕ) → m ≢ n → slice_get (slice_set pages n page) m ≡ slice_get pages m
+pub put_other : (pages : List (List ℕ)) (n m : ℕ) (page : List ℕ) → m ≢ n → slice_get (slice_set pages n page) m ≡ slice_get pages m
 put_other [] n m page other = refl
 put_other (p ∷ ps) zero zero page other = absurd (other refl)
 put_other (p ∷ ps) zero (suc m) page other = refl

@@ -1,3 +1,4 @@
 pub mod Host
 pub mod Medium
 pub mod Memory
+pub mod Raw

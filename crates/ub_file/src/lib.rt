@@ -9,10 +9,14 @@
 pub mod host;
 pub mod medium;
 pub mod memory;
+pub mod raw;
 pub mod store;
+pub mod system;
 
 pub use host::HostFile;
 pub use medium::{Medium, PAGE_BYTES};
 pub use memory::MemMedium;
+pub use raw::RawFile;
 pub use store::FileStore;
+pub use system::{Opened, SystemFile};
 pub use ub_store::{MAX_PAGES, Page, PageStore, Rejected, StoreFault};
