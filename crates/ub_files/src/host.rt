@@ -1,12 +1,13 @@
-ghost use Rattle.std.specs.Prelude.{◌≡◌, ◌⊎◌, IfErr};
+ghost use Rattle.std.specs.Prelude.{◌≡◌, ◌⊎◌, IfErr, IfOk, IsErrOf};
+ghost use Rattle.ub_files.specs.Files.{IsLent, IsMade, IsTorn, LendsFile, OpensFile};
 ghost use Rattle.ub_files.specs.Host.{facts_of_host};
 
 use crate::files::Files;
 use std::os::unix::fs::FileExt;
 use std::{fs, io, rt};
 use ub_file::host::{create_store, open_store};
-use ub_file::{FileStore, HostFile};
-use ub_store::StoreFault;
+use ub_file::{FileStore, HostFile, Opened, SystemFile};
+use ub_store::{PageStore, StoreFault};
 use ub_words::STANDARD_INPUT;
 
 /// The files of the system. What they hold is not told, and that they are honest is a premise. Standard input is read as the
@@ -52,7 +53,7 @@ impl<R: rt::Files + AllocGlobal> Files for HostFiles<'_, R>
 where
     R::File: FileExt,
 {
-    type Store = FileStore<HostFile<R::File>>;
+    type Store = FileStore<HostFile<SystemFile<R::File>>>;
 
     ghost facts = { λ files. facts_of_host files.reads files.tables };
 
@@ -69,7 +70,19 @@ where
         read
     }
 
-    fn open(&mut self, path: &str) -> Result<FileStore<HostFile<R::File>>, StoreFault> {
+    /// The store in a table file that was found, which no call has changed.
+    fn open(&mut self, path: &str) -> Result<FileStore<HostFile<SystemFile<R::File>>>, StoreFault>
+        ensures lent { IfOk result (λ store. IsLent (facts_of_host self.old.reads self.old.tables)
+            path.now (⟦<FileStore<HostFile<SystemFile<R::File>>> as PageStore>⟧.facts store)) }
+        ensures torn { IsErrOf result StoreFault.BadSize
+            → IsTorn ((facts_of_host self.old.reads self.old.tables).holds path.now) }
+        ensures faults { IfErr result (λ fault.
+            (fault ≡ StoreFault.Device) ⊎ (fault ≡ StoreFault.BadSize)) }
+        ensures effect { OpensFile path.now (facts_of_host self.old.reads self.old.tables)
+            (facts_of_host self.new.reads self.new.tables) result }
+        ensures found { IfOk result (λ store.
+            (store.opened ≡ Opened.Found) × (store.changes ≡ 0)) }
+    {
         let opened = open_store(self.rt, path);
         if let Err(StoreFault::Device) = &opened {
             self.tables = self.tables.saturating_add(1);
@@ -77,7 +90,15 @@ where
         opened
     }
 
-    fn create(&mut self, path: &str) -> Result<FileStore<HostFile<R::File>>, StoreFault> {
+    /// A store with no pages in a table file that was made where there was none, and else emptied.
+    fn create(&mut self, path: &str) -> Result<FileStore<HostFile<SystemFile<R::File>>>, StoreFault>
+        ensures made { IfOk result (λ store. IsMade (facts_of_host self.old.reads self.old.tables)
+            (⟦<FileStore<HostFile<SystemFile<R::File>>> as PageStore>⟧.facts store)) }
+        ensures faults { IfErr result (λ fault. fault ≡ StoreFault.Device) }
+        ensures effect { LendsFile path.now (facts_of_host self.old.reads self.old.tables)
+            (facts_of_host self.new.reads self.new.tables) result }
+        ensures new { IfOk result (λ store. store.opened ≡ Opened.Made) }
+    {
         let created = create_store(self.rt, path);
         if let Err(StoreFault::Device) = &created {
             self.tables = self.tables.saturating_add(1);
@@ -85,7 +106,7 @@ where
         created
     }
 
-    fn put_back(&mut self, _path: &str, store: FileStore<HostFile<R::File>>) {
+    fn put_back(&mut self, _path: &str, store: FileStore<HostFile<SystemFile<R::File>>>) {
         drop(store);
     }
 }
