@@ -74,7 +74,7 @@ head_refused r e from from_now old is read h =
 pub head_fault : (e : UpgradeFault) (from new : StoreFacts) → IsHeadFault from e → IsUpgradeFault from new (upgrade_fault e)
 head_fault (upgrade.Page n fault) from new h = λ honest _. (h.1, ap (slice_get from.pages) h.0 ∙ h.2 honest, inl (h.0, h.3))
 head_fault (upgrade.Old store.Device) from new h = inl h
-head_fault (upgrade.Old store.NoPage) from new h = (0, (let none : page_count from ≡ 0 = h in omega arith), λ _ _. inl refl)
+head_fault (upgrade.Old store.NoPage) from new h = λ _ _. (0, (let none : page_count from ≡ 0 = h in omega arith), inl refl)
 head_fault (upgrade.Old store.Memory) from new h = tt
 head_fault (upgrade.Old store.BadSize) from new h = absurd h
 head_fault (upgrade.New fault) from new h = absurd h

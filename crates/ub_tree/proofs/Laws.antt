@@ -10,7 +10,9 @@ use Rattle.ub_region.specs.Regions.{firsts_of}
 use Rattle.ub_region.specs.Spans.{span_end}
 use Rattle.ub_table.specs.Region.{Region}
 use Rattle.ub_tree.proofs.AnswerFacts.{answers_up, next_later}
+use Rattle.ub_tree.proofs.CallFacts.{last_small}
 use Rattle.ub_tree.proofs.IndexedFacts.{contained_told, first_given, sound_index, spans_told, told_contained}
+use Rattle.ub_tree.proofs.OnceFacts.{first_once}
 use Rattle.ub_tree.proofs.WalkFacts.{answers_are_those, those_few}
 use Rattle.ub_bigmin.specs.Box.{Corners}
 use Rattle.ub_index.proofs.FillFacts.{filled_low_levels}
@@ -18,7 +20,7 @@ use Rattle.ub_index.proofs.Numbers.{distinct_right}
 use Rattle.ub_index.specs.View.{entries_in}
 use Rattle.ub_index_page.specs.declared.index.TheConstants.{MAX_LEVEL}
 use Rattle.ub_tree.specs.Handing.{AreMetBy}
-use Rattle.ub_tree.specs.Laws.{SpansAscend, PagesDiffer, SpansCoverTheSpace, RowsLieInSpans, RegionsAreTold, NextIsTheFirst, NextIsLater, AnswersAreThoseThatMeet, AnswersAreRegionsThatMeet, AnswersAscend, GrownIsNotFull, WellPagesAreSound, SoundTreesAreWell}
+use Rattle.ub_tree.specs.Laws.{SpansAscend, PagesDiffer, SpansCoverTheSpace, RowsLieInSpans, RegionsAreTold, NextIsTheFirst, NextIsLater, AnswersAreThoseThatMeet, AnswersAreRegionsThatMeet, AnswersAscend, GrownIsNotFull, WellPagesAreSound, SoundTreesAreWell, FirstFaultIsOne}
 use Rattle.ub_tree.specs.Placed.{Placed, entry_of, regions_in}
 use Rattle.ub_tree.specs.Indexed.{reserved}
 use Rattle.ub_tree.specs.Spans.{first_keys, regions_of, First, IsLater, Meets, Region as Span}
@@ -181,3 +183,7 @@ well_pages_are_sound facts t honest opened well = (opened_pages facts t honest o
 
 pub sound_trees_are_well : SoundTreesAreWell
 sound_trees_are_well = sound_well
+
+pub first_fault_is_one : FirstFaultIsOne
+first_fault_is_one t one other last_is h k =
+    first_once t (subst (λ (n : ℕ). n < 2 ^ 128) (sym last_is) (last_small t.schema.dims t.schema.counts.few_dims)) one other h k

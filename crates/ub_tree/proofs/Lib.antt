@@ -37,8 +37,10 @@ pub mod OpeningFacts
 pub mod ClosingFacts
 pub mod CreationFacts
 pub mod ReadFacts
-pub mod CountFacts
+pub mod ChainFacts
 pub mod UpgradeFacts
+pub mod StopFacts
+pub mod OldFacts
 pub mod BroughtFacts
 pub mod UpgradedFacts
 pub mod WellFacts

@@ -1,5 +1,5 @@
 -- The pages of an old table, brought over: what stands on them, and why they aren't.
-use Rattle.std.proofs.Common.{◌≡◌, ◌≢◌, ◌≤◌, ◌<◌, ◌++◌, ◌∙◌, ◌⊎◌, inl, inr, ℕ, zero, suc, true, false, List, [], ◌∷◌, Option, Some, None, Result, Ok, Err, IfErr, OnErr, MatchResult, length, map, slice_get, ap, sym, subst, refl, arith}
+use Rattle.std.proofs.Common.{◌≡◌, ◌≢◌, ◌≤◌, ◌<◌, ◌+◌, ◌++◌, ◌∙◌, ◌⊎◌, inl, inr, ℕ, zero, suc, true, false, List, [], ◌∷◌, Option, Some, None, Result, Ok, Err, IfErr, OnErr, MatchResult, length, map, slice_get, ap, sym, subst, refl, arith}
 use Rattle.std.proofs.lemmas.List.Elements.{All-from_recursion, recursion_from_All}
 use Rattle.std.proofs.lemmas.Option.{get_or_from_slice_get, slice_get_within}
 use Rattle.std.specs.List.{All, AllByRecursion}
@@ -10,9 +10,8 @@ use Rattle.ub_index.specs.Changed.{PagesStay}
 use Rattle.ub_index.specs.Changing.{IsOutside}
 use Rattle.ub_index.specs.Index.{IsUnder, NamesFitting, page_in, pages_under, top}
 use Rattle.ub_index.specs.Fitting.{IsNotTaken, IsUnfit}
-use Rattle.ub_index.specs.Way.{StopsAt}
 use Rattle.ub_index.specs.Opening.{IsOpenFault as IsRootFault, IsPassing as IsPassingRoot, IsRooted}
-use Rattle.ub_index.specs.View.{IndexView, Stops, index_view}
+use Rattle.ub_index.specs.View.{IndexView, index_view}
 use Rattle.ub_index.specs.declared.fault.IndexFault.{IndexFault}
 use Rattle.ub_index.specs.declared.fault.IndexFault.TheVariants as index
 use Rattle.ub_page.specs.declared.entries.Entry.{Entry}
@@ -23,10 +22,9 @@ use Rattle.ub_region.proofs.Laws.{all_append, all_more}
 use Rattle.ub_store.specs.Facts.{StoreFacts, IsHonest, page_count}
 use Rattle.ub_store.specs.View.{PagerView}
 use Rattle.ub_store.specs.declared.fault.StoreFault.TheVariants as store
-use Rattle.ub_table.specs.Keys.{origin}
 use Rattle.ub_table.specs.declared.fault.PageFault.{PageFault}
-use Rattle.ub_table.specs.declared.row.Key.{Key}
 use Rattle.ub_table.specs.declared.schema.Schema.{Schema}
+use Rattle.ub_tree.specs.Checking.{StopsIn, StopsTree, asked_of}
 use Rattle.ub_tree.specs.Faults.{index_fault, upgrade_fault}
 use Rattle.ub_tree.specs.Indexed.{HasIndex, reserved}
 use Rattle.ub_tree.specs.Old.{AreOldPages, head_of}
@@ -41,6 +39,7 @@ use Rattle.ub_tree.specs.declared.fault.TreeFault.TheVariants.{Full, Page, Store
 use Rattle.ub_tree.specs.inner.Upgrading.{IsCarried, root_in}
 use Rattle.ub_upgrade.specs.Bringing.{HasIndexOf, HasOldHeader, IsBringFault, IsBrought, directory_of}
 use Rattle.ub_upgrade.specs.Building.{IsPassing as IsPassingPages}
+use Rattle.ub_upgrade.specs.Levels.{index_pages}
 use Rattle.ub_upgrade.specs.Reading.{AreBelow, IsDirectory}
 use Rattle.ub_upgrade.specs.declared.building.Root.{Root}
 use Rattle.ub_upgrade.specs.declared.fault.UpgradeFault.{UpgradeFault}
@@ -79,7 +78,7 @@ err_refused (Err f) Q e is h = subst Q (sym is) h
 pub bring_fault : (head : OldHeader) (from new : StoreFacts) → HasOldHeader from head → (e : UpgradeFault) → IsBringFault head from new e → IsUpgradeFault from new (upgrade_fault e)
 bring_fault head from new has (upgrade.Page n fault) h = λ honest _. (h.1, h.2 honest, inr (head, has, inl (h.0, h.3)))
 bring_fault head from new has (upgrade.Old store.Device) h = inl h
-bring_fault head from new has (upgrade.Old store.NoPage) h = (h.1, h.2, λ _ _. inr (head, has, inl (h.0, h.3)))
+bring_fault head from new has (upgrade.Old store.NoPage) h = λ _ _. (h.1, h.2, inr (head, has, inl (h.0, h.3)))
 bring_fault head from new has (upgrade.Old store.Memory) h = tt
 bring_fault head from new has (upgrade.Old store.BadSize) h = absurd h
 bring_fault head from new has (upgrade.New store.Device) h = inr h
@@ -272,7 +271,7 @@ abbrev pub over : OldHeader → IndexView → PagerView → TreeView
 over head i pager = tree_view head.header.schema i head.header.regions head.header.next head.header.rows true false pager
 
 module _ (from : StoreFacts) (head : OldHeader) (i : IndexView) (pager : PagerView) (honest : IsHonest pager.store) (last_is : i.last ≡ last_address head.header.schema.dims) (level : 1 ≤ i.levels)
-    (brought : IsBrought head from pager.store.pages (root_in i)) where
+    (size : head.version ≡ 1 → page_count pager.store ≡ page_count from + index_pages head.header.regions) (brought : IsBrought head from pager.store.pages (root_in i)) where
   index_is : head.version ≡ 2 → i ≡ index_of head.header
   index_is second =
       ap (λ (r : Root). index_view r.page r.level i.last) (brought.index second).2
@@ -284,10 +283,13 @@ module _ (from : StoreFacts) (head : OldHeader) (i : IndexView) (pager : PagerVi
     schema_is = refl;
     count_is = refl;
     rows_are = refl;
+    next_is = refl;
+    last_is = last_is;
     pages_are = brought.copied;
     by_index = λ second. ((brought.index second).1, index_is second);
     by_directory = λ first.
         let d = brought.directory first in (
+          size first,
           record { honest = honest; some = level; under_it = subst (λ (n : ℕ). IsUnder n pager.store.pages i.levels (top i.root) None) (sym last_is) d.4.under_it },
           d.0,
           subst (λ (es : List Entry). IsDirectory from.pages (directory_of head.header) d.0 es) (sym d.4.entries_are) d.2,
@@ -313,41 +315,41 @@ versions head is = by_version head.version is.version.0 is.version.1
     by_version (suc (suc zero)) low high = inr refl
     by_version (suc (suc (suc n))) low high = absurd (omega arith)
 
--- the way to each key stops at the root, where that isn't taken
-stops_at_root : (i : IndexView) (store : StoreFacts) (key : Key) (fault : Option PageFault) → 1 ≤ i.levels → IsNotTaken i.last store.pages [] i.levels (top i.root) None fault
-    → Stops i store [] key i.root fault
-stops_at_root i store key fault level h = by_level i.levels level h
+-- a check stops at the root, where that isn't taken
+stops_at_root : (t : TreeView) (fault : Option PageFault) → 1 ≤ t.inner.index.levels → IsNotTaken t.inner.index.last t.store.pages [] t.inner.index.levels (top t.inner.index.root) None fault
+    → StopsTree t t.inner.index.root fault
+stops_at_root t fault level h = by_level t.inner.index.levels level h
   where
-    by_level : (n : ℕ) → 1 ≤ n → IsNotTaken i.last store.pages [] n (top i.root) None fault → StopsAt i.last store.pages [] key n (top i.root) None i.root fault
+    by_level : (n : ℕ) → 1 ≤ n → IsNotTaken t.inner.index.last t.store.pages [] n (top t.inner.index.root) None fault → StopsIn (asked_of t) n (top t.inner.index.root) None [] t.inner.index.root fault
     by_level zero low h = absurd (omega arith)
     by_level (suc n) low h = inl (refl, h)
 
 -- why the root of the index is refused
 module _ (from new : StoreFacts) (head : OldHeader) (i : IndexView) (pager : PagerView) (has : HasOldHeader from head) (more : page_count from ≤ page_count pager.store) (root_some : 1 ≤ i.root)
     (fails : pager.store.can_fail ≡ new.can_fail) (still : IsHonest new → IsHonest pager.store) (last_is : i.last ≡ last_address head.header.schema.dims) (level : 1 ≤ i.levels)
-    (brought : IsHonest from → IsHonest new → IsBrought head from pager.store.pages (root_in i)) where
+    (size : head.version ≡ 1 → page_count pager.store ≡ page_count from + index_pages head.header.regions) (brought : IsHonest from → IsHonest new → IsBrought head from pager.store.pages (root_in i)) where
   abbrev t : TreeView
   t = over head i pager
 
   -- over honest stores that comes in version 2 alone
   second_of : (e : IndexFault) → (IsHonest pager.store → IsRooted i pager.store → IsPassingRoot e) → (¬ (IsPassingRoot e)) → IsHonest from → IsHonest new → head.version ≡ 2
   second_of e exact never honest new_honest = elim (versions head has.is) [
-    | inl first ↦ absurd (never (exact (still new_honest) (built_root from head i pager (still new_honest) last_is level (brought honest new_honest) first)))
+    | inl first ↦ absurd (never (exact (still new_honest) (built_root from head i pager (still new_honest) last_is level size (brought honest new_honest) first)))
     | inr second ↦ second
   ]
 
   stands : IsHonest from → IsHonest new → StandsOver from head t
-  stands honest new_honest = stands_over from head i pager (still new_honest) last_is level (brought honest new_honest)
+  stands honest new_honest = stands_over from head i pager (still new_honest) last_is level size (brought honest new_honest)
 
   pub root_fault : (e : IndexFault) → (IsHonest pager.store → IsRooted i pager.store → IsPassingRoot e) → IsRootFault i pager.store e → IsUpgradeFault from new (index_fault e)
   root_fault index.Full exact h = absurd h
   root_fault (index.Store store.Memory) exact h = tt
   root_fault (index.Store store.Device) exact h = inr (sym fails ∙ h)
   root_fault (index.Store store.BadSize) exact h = absurd h
-  root_fault (index.Store store.NoPage) exact h = (
+  root_fault (index.Store store.NoPage) exact h = λ honest new_honest. (
     i.root,
     omega (arith, h, more),
-    λ honest new_honest. inr (head, has, inr (t, stands honest new_honest, inl (origin, [], stops_at_root i pager.store origin None level h))),
+    inr (head, has, inr (t, stands honest new_honest, stops_at_root t None level h)),
   )
   root_fault (index.Page n fault) exact h = λ honest new_honest.
       let second = second_of (index.Page n fault) exact (λ never. never) honest new_honest in
@@ -366,7 +368,7 @@ module _ (from new : StoreFacts) (head : OldHeader) (i : IndexView) (pager : Pag
           inr (
             t,
             stands honest new_honest,
-            inl (inl (λ _. inl (origin, [], subst (λ (m : ℕ). Stops i pager.store [] origin m (Some fault)) (sym h.0) (stops_at_root i pager.store origin (Some fault) level taken)))),
+            inl (subst (λ (m : ℕ). StopsTree t m (Some fault)) (sym h.0) (stops_at_root t (Some fault) level taken)),
           ),
         ),
       )
@@ -393,6 +395,6 @@ fault_moved from a b fails still Memory h = tt
 fault_moved from a b fails still (Store store.Memory) h = absurd h
 fault_moved from a b fails still (Store store.Device) (inl old) = inl old
 fault_moved from a b fails still (Store store.Device) (inr new) = inr (sym fails ∙ new)
-fault_moved from a b fails still (Store store.NoPage) h = (h.0, h.1, λ honest new_honest. h.2 honest (still new_honest))
+fault_moved from a b fails still (Store store.NoPage) h = λ honest new_honest. h honest (still new_honest)
 fault_moved from a b fails still (Store store.BadSize) h = h
 fault_moved from a b fails still (Page n fault) h = λ honest new_honest. h honest (still new_honest)

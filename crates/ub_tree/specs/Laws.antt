@@ -10,7 +10,7 @@ use Rattle.ub_table.specs.Region.{Region, key_of}
 use Rattle.ub_table.specs.declared.row.Row.{Row}
 use Rattle.ub_store.specs.Facts.{StoreFacts, IsHonest}
 use Rattle.ub_tree.specs.Calls.{StandsAt}
-use Rattle.ub_tree.specs.Checking.{IsWell}
+use Rattle.ub_tree.specs.Checking.{IsFirstFault, IsWell}
 use Rattle.ub_tree.specs.Effects.{IsIndexFull}
 use Rattle.ub_tree.specs.Grown.{IsOnlyGrown}
 use Rattle.ub_tree.specs.Opened.{IsOpened}
@@ -18,6 +18,7 @@ use Rattle.ub_tree.specs.Spans.{First, IsLater, Meets, Region as Span}
 use Rattle.ub_tree.specs.Stored.{AreSoundPages}
 use Rattle.ub_tree.specs.Told.{AreAnswers, GivesNext, IsRegionOf}
 use Rattle.ub_tree.specs.View.{TreeView, IsSound, spans_of}
+use Rattle.ub_tree.specs.declared.fault.TreeFault.{TreeFault}
 use Rattle.ub_zaddr.specs.Address.{last_address}
 
 -- of two regions the later one begins with the later key
@@ -88,3 +89,8 @@ WellPagesAreSound = (store : StoreFacts) (t : TreeView) → IsHonest store → I
 -- the pages of a sound tree are well
 abbrev pub SoundTreesAreWell : Type 0
 SoundTreesAreWell = (t : TreeView) → IsSound t → IsWell t
+
+-- the check of a tree stops at one fault alone, where the tree's index is one of its schema's space, as each tree's is
+abbrev pub FirstFaultIsOne : Type 0
+FirstFaultIsOne = (t : TreeView) (one other : TreeFault) → t.inner.index.last ≡ last_address t.schema.dims
+    → IsFirstFault t one → IsFirstFault t other → one ≡ other

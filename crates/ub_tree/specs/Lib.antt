@@ -15,7 +15,6 @@ pub mod Change
 pub mod Closing
 pub mod Opened
 pub mod Old
-pub mod Counted
 pub mod Upgrade
 pub mod Others
 pub mod Holding

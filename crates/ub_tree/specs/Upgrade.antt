@@ -1,21 +1,17 @@
 -- Upgrading a table of an older format into a new store: what is made, why it is refused, and what the two stores are then.
 use Rattle.std.specs.Prelude.{◌≡◌, ◌≤◌, ◌<◌, ◌+◌, ◌⊎◌, ℕ, false, true, IsTrue, List, Some, None, slice_get}
-use Rattle.ub_index.specs.View.{IsIndexOn, Stops, entries_in}
+use Rattle.ub_index.specs.View.{IsIndexOn, entries_in}
 use Rattle.ub_page.specs.Header.{IsOldHeaderFault}
 use Rattle.ub_page.specs.declared.header.OldHeader.{OldHeader}
 use Rattle.ub_store.specs.Facts.{StoreFacts, IsHonest, page_count, raised}
 use Rattle.ub_store.specs.View.{untouched}
 use Rattle.ub_store.specs.declared.store.TheConstants.{MAX_PAGES}
 use Rattle.ub_table.specs.declared.fault.PageFault.{PageFault}
-use Rattle.ub_table.specs.declared.fault.PageFault.TheVariants.{BadCount}
-use Rattle.ub_table.specs.declared.row.Key.{Key}
 use Rattle.ub_table.specs.declared.schema.Schema.{Schema}
-use Rattle.ub_tree.specs.Counted.{IsCounted, IsMiscounted}
-use Rattle.ub_tree.specs.Effects.{IsPageRefused}
+use Rattle.ub_tree.specs.Checking.{IsFirstFault, StopsTree}
+use Rattle.ub_tree.specs.Old.{AreOldPages}
 use Rattle.ub_tree.specs.Placed.{Placed, regions_in}
-use Rattle.ub_tree.specs.Spans.{Region as Span}
 use Rattle.ub_tree.specs.Stored.{index_of}
-use Rattle.ub_tree.specs.Told.{IsRegionOf}
 use Rattle.ub_tree.specs.View.{TreeView, IsSound, region_count, regions}
 use Rattle.ub_tree.specs.declared.fault.TreeFault.{TreeFault}
 use Rattle.ub_tree.specs.declared.fault.TreeFault.TheVariants.{Memory, Page, Store}
@@ -24,24 +20,27 @@ use Rattle.ub_upgrade.specs.Levels.{index_pages}
 use Rattle.ub_upgrade.specs.Reading.{AreBelow, IsAskedFor, IsDirectory, IsNamed, IsRefused}
 use Rattle.ub_store.specs.declared.fault.StoreFault.TheVariants as store
 use Rattle.ub_writing.specs.Marks.{HasMark}
+use Rattle.ub_zaddr.specs.Address.{last_address}
 
--- a tree stands over the pages of an old store with this header: it has its schema and its counts, and each of its pages but the first under its
--- own number; in version 2 that is all, and its index is where the header tells it; in version 1 its index tells the entries of the directory,
--- each of which names a page that there is
+-- a tree stands over the pages of an old store with this header: it has its schema, its counts and its next number, its index is one of its
+-- schema's space, and each of its pages but the first stands under its own number; in version 2 that is all, and its index is where the header
+-- tells it; in version 1 it has besides the pages of an index, which tells the entries of the directory, each of which names a page that there is
 pub record StandsOver (old : StoreFacts) (head : OldHeader) (t : TreeView) : Type 0 where
   pub honest : IsHonest t.store
   pub schema_is : t.schema ≡ head.header.schema
   pub count_is : region_count t ≡ head.header.regions
   pub rows_are : t.rows ≡ head.header.rows
+  pub next_is : t.next ≡ head.header.next
+  pub last_is : t.inner.index.last ≡ last_address t.schema.dims
   pub pages_are : (n : ℕ) → 1 ≤ n → n < page_count old → slice_get t.store.pages n ≡ slice_get old.pages n
   pub by_index : head.version ≡ 2 → (page_count t.store ≡ page_count old) × (t.inner.index ≡ index_of head.header)
-  pub by_directory : head.version ≡ 1 → IsIndexOn t.inner.index t.store
+  pub by_directory : head.version ≡ 1 → (page_count t.store ≡ page_count old + index_pages head.header.regions) × IsIndexOn t.inner.index t.store
       × (chain : List ℕ) × IsDirectory old.pages (directory_of head.header) chain (entries_in t.inner.index t.store)
       × AreBelow (page_count old) (entries_in t.inner.index t.store)
 
--- the tree that an upgrade of a store with these facts makes: it has the schema and the counts that the header of the old table tells, and
--- none of its dimensions is signed; it counts the regions that it tells of, which over honest stores are those that stand on the old
--- pages; its first page marks it as changed, and it counts as changed, so that closing it writes and syncs it
+-- the tree that an upgrade of a store with these facts makes: it has the schema, the counts and the next number that the header of the old table
+-- tells, and none of its dimensions is signed; over an honest store it is sound, and over two honest ones the old pages are a closed table of its
+-- regions, over which it stands; its first page marks it as changed, and it counts as changed, so that closing it writes and syncs it
 pub record IsUpgraded (old new : StoreFacts) (t : TreeView) : Type 0 where
   pub head : OldHeader
   pub header_is : HasOldHeader old head
@@ -50,8 +49,9 @@ pub record IsUpgraded (old new : StoreFacts) (t : TreeView) : Type 0 where
   pub count_is : region_count t ≡ head.header.regions
   pub rows_are : t.rows ≡ head.header.rows
   pub next_is : t.next ≡ head.header.next
+  pub sound : IsHonest new → IsSound t
+  pub old_pages : IsHonest old → IsHonest new → AreOldPages head.version old.pages t.schema t.placed t.next
   pub stands : IsHonest old → IsHonest new → StandsOver old head t
-  pub counted : IsCounted t
   pub marked : IsHonest new → HasMark t.schema t.store.pages
   pub changed : t.is_changed ≡ true
   pub working : t.is_failed ≡ false
@@ -76,25 +76,23 @@ IsUpgradePassing _ = ⊥
 abbrev pub IsUnopened : StoreFacts → Type 0
 IsUnopened new = (page_count new ≤ 1) ⊎ ((schema : Schema) × HasMark schema new.pages)
 
--- this page of the old store is refused: as the header; or as a page of the directory; or as one of the index, or of a region, of a tree
--- that stands over the old pages; or it is the first one, of which such a tree has other counts than those of its regions
+-- this page of the old store is refused: as the header; or as a page of the directory; or it is the first fault of a check of a tree
+-- that stands over the old pages
 abbrev pub IsOldRefused : StoreFacts → ℕ → List ℕ → PageFault → Type 0
 IsOldRefused old n page fault =
     ((n ≡ 0) × IsOldHeaderFault page fault)
     ⊎ ((head : OldHeader) × HasOldHeader old head
     × (((head.version ≡ 1) × IsRefused (directory_of head.header) old n page fault)
-    ⊎ ((t : TreeView) × StandsOver old head t
-    × (IsPageRefused t n fault ⊎ ((n ≡ 0) × (fault ≡ BadCount) × IsMiscounted t)))))
+    ⊎ ((t : TreeView) × StandsOver old head t × IsFirstFault t (Page n fault))))
 
 -- the page of this number, which the old store doesn't have, is asked for: as the first; as one of the directory, or as that of a region
--- which the directory names; or as one of the index, or of a region, of a tree that stands over the old pages
+-- which the directory names; or where a check of a tree that stands over the old pages stops first
 abbrev pub IsOldAskedFor : StoreFacts → ℕ → Type 0
 IsOldAskedFor old n =
     (n ≡ 0)
     ⊎ ((head : OldHeader) × HasOldHeader old head
     × (((head.version ≡ 1) × (IsAskedFor (directory_of head.header) old n ⊎ IsNamed (directory_of head.header) old n))
-    ⊎ ((t : TreeView) × StandsOver old head t
-    × (((key : Key) × (held : List (ℕ × List ℕ)) × Stops t.inner.index t.store held key n None) ⊎ ((span : Span) × IsRegionOf t span × (span.page ≡ n))))))
+    ⊎ ((t : TreeView) × StandsOver old head t × StopsTree t n None)))
 
 -- why an upgrade is refused: for want of memory; one of the stores failed in this call, which it then can; the old one has no page of a
 -- number that was asked for; the new one would have too many pages, with those of an index in the place of a directory; or a page of
@@ -102,7 +100,7 @@ IsOldAskedFor old n =
 abbrev pub IsUpgradeFault : StoreFacts → StoreFacts → TreeFault → Type 0
 IsUpgradeFault old new Memory = Unit {0}
 IsUpgradeFault old new (Store store.Device) = IsTrue old.can_fail ⊎ IsTrue new.can_fail
-IsUpgradeFault old new (Store store.NoPage) = (n : ℕ) × (page_count old ≤ n) × (IsHonest old → IsHonest new → IsOldAskedFor old n)
+IsUpgradeFault old new (Store store.NoPage) = IsHonest old → IsHonest new → (n : ℕ) × (page_count old ≤ n) × IsOldAskedFor old n
 IsUpgradeFault old new (Store store.BadSize) =
     (head : OldHeader) × HasOldHeader old head × (head.version ≡ 1) × (MAX_PAGES < page_count old + index_pages head.header.regions)
 IsUpgradeFault old new (Page n fault) =

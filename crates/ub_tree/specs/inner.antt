@@ -2,5 +2,4 @@
 pub mod Change
 pub mod Checking
 pub mod Opening
-pub mod Counting
 pub mod Upgrading

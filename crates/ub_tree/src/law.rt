@@ -1,4 +1,4 @@
-ghost use Rattle.ub_tree.specs.Laws.{SpansAscend, PagesDiffer, SpansCoverTheSpace, RowsLieInSpans, RegionsAreTold, NextIsTheFirst, NextIsLater, AnswersAreThoseThatMeet, AnswersAreRegionsThatMeet, AnswersAscend, GrownIsNotFull, WellPagesAreSound, SoundTreesAreWell};
+ghost use Rattle.ub_tree.specs.Laws.{SpansAscend, PagesDiffer, SpansCoverTheSpace, RowsLieInSpans, RegionsAreTold, NextIsTheFirst, NextIsLater, AnswersAreThoseThatMeet, AnswersAreRegionsThatMeet, AnswersAscend, GrownIsNotFull, WellPagesAreSound, SoundTreesAreWell, FirstFaultIsOne};
 
 // Each function here does nothing, and its clause is a law of the definitions in specs/. So the law is proved, and is read
 // beside the code.
@@ -68,4 +68,10 @@ pub fn well_pages_are_sound()
 /// The pages of a sound tree are well.
 pub fn sound_trees_are_well()
     ensures { SoundTreesAreWell }
+{}
+
+/// There is one first fault at most: where the check of a tree stops at one, it stops at no other. So `check` answers that one,
+/// device and memory aside.
+pub fn first_fault_is_one()
+    ensures { FirstFaultIsOne }
 {}

@@ -2,11 +2,10 @@
 // region on a page. The definitions stand in specs/: `Spans` (the addresses that a region covers,
 // and which region a search asks for), `View` (what contracts see of a tree, and when it is sound),
 // `Indexed` (where its index stands), `Effects` (what a call leaves), `Stored` (the pages of a closed table), `Opened` (which pages are
-// opened), `Old` and `Upgrade` (the pages of a table of an older format, and what is made of them), `Counted` (whether the regions are
-// those that are counted), `Closing`, `Checking` (where a check of all pages stops); the functions of `law` ensure the laws of a sound
-// tree. The code: `creation`, `opening` and `upgrading` to begin, `counting` to read each region once, `checking` to look at all
-// pages, `tree` to search and read, `change` to put rows in, `removal` to take them out, `closing` to end; `seats` asks the index
-// where a region is.
+// opened), `Old` and `Upgrade` (the pages of a table of an older format, and what is made of them), `Closing`, `Checking` (where a
+// check of all pages stops); the functions of `law` ensure the laws of a sound tree. The code: `creation`, `opening` and `upgrading`
+// to begin, `checking` to look at all pages, `tree` to search and read, `change` to put rows in, `removal` to take them out, `closing`
+// to end; `seats` asks the index where a region is.
 //
 // What belongs here is what a tree does over a store. In which order its pages go out, and the mark of a changed table, stand in
 // `ub_writing`; where each region's page is, in `ub_index`; how the pages of an older format are brought over, in `ub_upgrade`; what
@@ -17,7 +16,6 @@
 mod change;
 mod checking;
 mod closing;
-mod counting;
 mod creation;
 pub mod fault;
 pub mod law;

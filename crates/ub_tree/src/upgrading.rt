@@ -1,19 +1,21 @@
 // A table of an older format, over a new store. First the new store is marked as changed; then all other pages are brought over,
-// the index that stands there is opened, and each region is read and counted once.
-ghost use Rattle.std.specs.Prelude.{◌≡◌, ◌≤◌, ℕ, List, true, false, Err, IfOk, IfErr, MatchResult, OnErr, OnOk};
+// the index that stands there is opened, and all pages are checked.
+ghost use Rattle.std.specs.Prelude.{◌≡◌, ◌≤◌, ◌+◌, ℕ, List, true, false, Err, IfOk, IfErr, MatchResult, OnErr, OnOk};
 ghost use Rattle.ub_page.specs.Header.{IsOldHeader};
 ghost use Rattle.ub_page.specs.declared.header.OldHeader as spec;
 ghost use Rattle.ub_store.specs.Facts.{page_count, IsHonest};
 ghost use Rattle.ub_table.specs.declared.schema.Schema.{Schema};
-ghost use Rattle.ub_tree.specs.Counted.{IsCounted, IsCountFault};
+ghost use Rattle.ub_tree.specs.Checking.{IsCheckFault, IsWell};
 ghost use Rattle.ub_tree.specs.Effects.{read_store};
 ghost use Rattle.ub_tree.specs.Old.{AreOldPages, head_of};
 ghost use Rattle.ub_tree.specs.Opened.{IsPassing};
 ghost use Rattle.ub_tree.specs.Placed.{Placed};
 ghost use Rattle.ub_tree.specs.Tree.{tree_view};
+ghost use Rattle.ub_tree.specs.View.{IsSound};
 ghost use Rattle.ub_tree.specs.Upgrade.{HasTable, HasWorked, IsLeftBy, IsUnopened, IsUpgraded, IsUpgradeFault, IsUpgradePassing};
 ghost use Rattle.ub_tree.specs.inner.Upgrading.{Brings, IsCarried, root_in};
 ghost use Rattle.ub_upgrade.specs.Bringing.{HasOldHeader, IsBrought};
+ghost use Rattle.ub_upgrade.specs.Levels.{index_pages};
 ghost use Rattle.ub_writing.specs.Marks.{HasMark};
 ghost use Rattle.ub_zaddr.specs.Address.{last_address};
 
@@ -31,13 +33,17 @@ use ub_zaddr::last;
 impl<S: PageStore> Tree<S> {
     /// The tree of a table of an older format, over a new store that has no pages: its regions stand on pages of the same numbers,
     /// each with the rows that it had, and numbers go on where they went on. It counts as changed: until it is closed the new store
-    /// isn't opened as a table. The old store is only read, a page at a time; then each region is read where it stands now, and counted.
+    /// isn't opened as a table. The old store is only read, a page at a time; then all pages are checked where they stand now, as
+    /// `check` does, so that a tree that is made is sound.
     ///
-    /// Page comes where a page of the old store is refused: the first, as a header of an older format, or as BadCount where it tells
-    /// of other counts than those of its regions and their rows; one of its directory, or of its index; or that of a region. Store with
-    /// NoPage comes where the old store has no page of a number that is asked for, with BadSize where the new one would have more than
-    /// 4294967295 pages, with Device where one of the stores failed in this call; Memory where memory was refused. The new store is
-    /// then handed back.
+    /// Page comes where a page of the old store is refused: the first, as a header of an older format; one of its directory; or the
+    /// first that `check` refuses, as one of the index, or of a region, as BadRow where a row's number was met before or isn't below
+    /// the next, and as BadCount of page 0 where the header tells of other regions or rows than there are. Store with NoPage comes
+    /// where the old store has no page of a number that is asked for, with BadSize where the new one would have more than 4294967295
+    /// pages, with Device where one of the stores failed in this call; Memory where memory was refused. The new store is then handed
+    /// back.
+    ///
+    /// It takes memory as `check` does: for a bit for each number below the next, and for one page of the index a level.
     pub fn upgrade<O: PageStore>(
         alloc: Global,
         old: &mut O,
@@ -64,7 +70,7 @@ impl<S: PageStore> Tree<S> {
             Err(refused) => return Err(refused),
         };
         match bring_over(alloc, old, &mut pager) {
-            Ok((head, index)) => tree_over(alloc, head, index, pager).counted(),
+            Ok((head, index)) => tree_over(alloc, head, index, pager).checked(),
             Err(fault) => Err(Rejected {
                 store: pager.into_store(),
                 fault,
@@ -72,16 +78,17 @@ impl<S: PageStore> Tree<S> {
         }
     }
 
-    // The tree, where it counts the regions that it tells of.
-    fn counted(self) -> Result<Tree<S>, Rejected<S, TreeFault>>
+    // The tree, where its pages are well.
+    fn checked(self) -> Result<Tree<S>, Rejected<S, TreeFault>>
         ensures same { IfOk result (λ t. t ≡ self) }
-        ensures counted { OnOk result (IsCounted self) }
-        ensures refused { IfErr result (λ refused. IsCountFault self refused.fault) }
+        ensures well { IsHonest self.store → OnOk result (IsWell self) }
+        ensures sound { IsSound self → IfErr result (λ refused. IsPassing refused.fault) }
+        ensures refused { IfErr result (λ refused. IsCheckFault self refused.fault) }
         ensures left { IfErr result (λ r. S.facts r.store ≡ read_store {A = S} (Err r.fault)
             self.store) }
     {
         let mut tree = self;
-        match tree.check_regions() {
+        match tree.check() {
             Ok(()) => Ok(tree),
             Err(fault) => Err(Rejected {
                 store: tree.pager.into_store(),
@@ -136,6 +143,8 @@ fn bring_over<O: PageStore, S: PageStore>(
     ensures marked { IsHonest pager.old.store
         → IfOk result (λ brought. HasMark brought.0.header.schema pager.new.store.pages) }
     ensures count { OnOk result (page_count (O.facts old.old) ≤ page_count pager.new.store) }
+    ensures size { IfOk result (λ brought. brought.0.version ≡ 1 → page_count pager.new.store
+        ≡ page_count (O.facts old.old) + index_pages brought.0.header.regions) }
     ensures carried { (version next : ℕ) (schema : Schema) (placed : List Placed)
         → IsHonest (O.facts old.old) → IsHonest pager.old.store
         → AreOldPages version (O.facts old.old).pages schema placed next
@@ -193,6 +202,8 @@ fn bring_rest<O: PageStore, S: PageStore>(
     ensures marked { (schema : Schema) → IsHonest pager.old.store
         → HasMark schema pager.old.store.pages → HasMark schema pager.new.store.pages }
     ensures count { OnOk result (page_count (O.facts old.old) ≤ page_count pager.new.store) }
+    ensures size { head.now.version ≡ 1 → OnOk result (page_count pager.new.store
+        ≡ page_count (O.facts old.old) + index_pages head.now.header.regions) }
     ensures carried { (version next : ℕ) (schema : Schema) (placed : List Placed)
         (old_pages : AreOldPages version (O.facts old.old).pages schema placed next)
         → head.now ≡ head_of version old_pages.header

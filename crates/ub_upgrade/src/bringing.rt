@@ -1,5 +1,5 @@
 // The header of an old table, and all its pages but the first.
-ghost use Rattle.std.specs.Prelude.{◌≡◌, ◌≤◌, ℕ, List, IfErr, IfOk, MatchResult, OnOk};
+ghost use Rattle.std.specs.Prelude.{◌≡◌, ◌≤◌, ◌+◌, ℕ, List, IfErr, IfOk, MatchResult, OnOk};
 ghost use Rattle.ub_index_page.specs.declared.index.TheConstants.{MAX_LEVEL};
 ghost use Rattle.ub_page.specs.Header.{IsOldHeader};
 ghost use Rattle.ub_page.specs.declared.entries.Entry as entry;
@@ -8,6 +8,7 @@ ghost use Rattle.ub_store.specs.Facts.{IsHonest, page_count};
 ghost use Rattle.ub_upgrade.specs.Bringing.{HasIndexOf, HasOldHeader, IsBringFault, IsBrought, IsHeadFault, directory_of};
 ghost use Rattle.ub_upgrade.specs.Building.{IsPassing};
 ghost use Rattle.ub_upgrade.specs.Effects.{BringsOver, counted_old};
+ghost use Rattle.ub_upgrade.specs.Levels.{index_pages};
 ghost use Rattle.ub_upgrade.specs.Reading.{AreBelow, IsDirectory};
 
 use crate::building::{Root, build_index};
@@ -39,7 +40,8 @@ pub fn read_head<O: PageStore>(old: &mut O, page: &mut Page) -> Result<OldHeader
 }
 
 /// Copies all pages of the old store but the first to the new one, which has its first page already, and then finds the root of
-/// the index: that of which the header tells, and in version 1 that of one that is built of the directory.
+/// the index: that of which the header tells, and in version 1 that of one that is built of the directory, whose pages are the only
+/// ones that the new store has more.
 ///
 /// The faults are those of `copy_pages` and `build_index`. The first page of the new store is as it was, also after a fault.
 pub fn bring_pages<O: PageStore, S: PageStore>(
@@ -63,6 +65,8 @@ pub fn bring_pages<O: PageStore, S: PageStore>(
     ensures root { IfOk result (λ root. (1 ≤ root.page) × (1 ≤ root.level)
         × (root.level ≤ MAX_LEVEL)) }
     ensures count { OnOk result (page_count (O.facts old.old) ≤ page_count pager.new.store) }
+    ensures size { head.now.version ≡ 1 → OnOk result (page_count pager.new.store
+        ≡ page_count (O.facts old.old) + index_pages head.now.header.regions) }
     ensures refused { IfErr result (IsBringFault head.now (O.facts old.old) pager.old.store) }
     ensures effect { BringsOver (O.facts old.old) (O.facts old.new) pager.old pager.new result }
 {

@@ -1,4 +1,4 @@
-use Rattle.std.proofs.Common.{◌≡◌, ◌≤◌, ◌∙◌, inl, inr, ℕ, List, ap, subst, sym}
+use Rattle.std.proofs.Common.{◌≡◌, ◌≤◌, ◌+◌, ◌∙◌, inl, inr, ℕ, List, ap, subst, sym}
 use Rattle.ub_store.specs.Facts.{StoreFacts, IsHonest, page_count}
 use Rattle.ub_table.specs.declared.schema.Schema.{Schema}
 use Rattle.ub_tree.proofs.UpgradeFacts.{err_passes, err_refused, fault_moved, head_is, on_err_by, passing_up}
@@ -10,6 +10,7 @@ use Rattle.ub_tree.proofs.BroughtFacts.{brings_by, then_brings, then_brings_by}
 use Rattle.ub_tree.proofs.EffectFacts.{refused_none}
 use Rattle.ub_tree.proofs.HoldingFacts.{no_answer}
 use Rattle.ub_upgrade.specs.Bringing.{HasOldHeader, IsBrought}
+use Rattle.ub_upgrade.specs.Levels.{index_pages}
 use Rattle.ub_tree.proofs.upgrading.bring_over.Goals as goal
 
 pub returns-in_err-head-clause-carried : goal.returns-in_err-head-clause-carried
@@ -80,6 +81,9 @@ returns-in_err-head-clause-marked g c = λ honest. no_answer c.from_residual-in_
 pub returns-in_err-head-clause-count : goal.returns-in_err-head-clause-count
 returns-in_err-head-clause-count g c = refused_none _ c.from_residual-in_err-head.result c.in_err-head.field-0.0 c.from_residual-in_err-head.ensures.1
 
+pub returns-in_err-head-clause-size : goal.returns-in_err-head-clause-size
+returns-in_err-head-clause-size g c = no_answer c.from_residual-in_err-head.result c.in_err-head.field-0.0 _ c.from_residual-in_err-head.ensures.1
+
 pub returns-in_err-head-clause-unopened : goal.returns-in_err-head-clause-unopened
 returns-in_err-head-clause-unopened g c = λ honest. on_err_by c.from_residual-in_err-head.result _ (inl c.bring_first.ensures.few)
 
@@ -119,6 +123,9 @@ returns-in_err-index-clause-marked g c = λ honest. no_answer c.from_residual-in
 pub returns-in_err-index-clause-count : goal.returns-in_err-index-clause-count
 returns-in_err-index-clause-count g c = refused_none _ c.from_residual-in_err-index.result c.in_err-index.field-0.0 c.from_residual-in_err-index.ensures.1
 
+pub returns-in_err-index-clause-size : goal.returns-in_err-index-clause-size
+returns-in_err-index-clause-size g c = no_answer c.from_residual-in_err-index.result c.in_err-index.field-0.0 _ c.from_residual-in_err-index.ensures.1
+
 pub returns-in_err-index-clause-effect : goal.returns-in_err-index-clause-effect
 returns-in_err-index-clause-effect g c =
     then_brings_by (g.O.PageStore.facts c.args.old.now) (g.O.PageStore.facts c.bring_first.new.old) (g.O.PageStore.facts c.bring_rest.new.old) c.args.pager.now c.bring_first.new.pager c.bring_rest.new.pager
@@ -146,6 +153,12 @@ returns-clause-marked g c = λ honest.
 
 pub returns-clause-count : goal.returns-clause-count
 returns-clause-count g c = subst (λ (s : StoreFacts). page_count s ≤ page_count c.bring_rest.new.pager.store) c.in_ok-head.ensures.effect.left.old_is c.in_ok-index.ensures.count
+
+pub returns-clause-size : goal.returns-clause-size
+returns-clause-size g c =
+    let head = c.in_ok-head.head in
+    subst (λ (s : StoreFacts). head.version ≡ 1 → page_count c.bring_rest.new.pager.store ≡ page_count s + index_pages head.header.regions) c.in_ok-head.ensures.effect.left.old_is
+    c.in_ok-index.ensures.size
 
 pub returns-clause-unopened : goal.returns-clause-unopened
 returns-clause-unopened g c = λ honest. tt

@@ -1,4 +1,4 @@
-use Rattle.std.proofs.Common.{◌≡◌, ◌≤◌, ◌∙◌, ℕ, List, None, ap, length, map, subst, sym}
+use Rattle.std.proofs.Common.{◌≡◌, ◌≤◌, ◌+◌, ◌∙◌, ℕ, List, None, ap, length, map, subst, sym}
 use Rattle.ub_tree.proofs.UpgradeFacts.{below, bring_fault, bring_passes, carried, directory_told, err_passes, err_refused, root_fault, root_pass, rooted, version_is}
 use Rattle.ub_index.specs.Index.{NamesFitting, top}
 use Rattle.ub_index.specs.Opening.{IsPassing, IsRooted}
@@ -14,6 +14,7 @@ use Rattle.ub_tree.proofs.BroughtFacts.{brings_refused, mark_before, opened, ope
 use Rattle.ub_tree.proofs.EffectFacts.{refused_none}
 use Rattle.ub_tree.proofs.HoldingFacts.{no_answer}
 use Rattle.ub_upgrade.specs.Bringing.{IsBrought}
+use Rattle.ub_upgrade.specs.Levels.{index_pages}
 use Rattle.ub_writing.specs.Marks.{HasMark}
 use Rattle.ub_tree.proofs.upgrading.bring_rest.Goals as goal
 
@@ -55,7 +56,7 @@ returns-in_err-index-clause-refused g c =
     err_refused c.from_residual-in_err-index.result (IsUpgradeFault from new) (index_fault e) c.from_residual-in_err-index.ensures.1
     (root_fault from new head (index_view root.page root.level c.last-last.result) mid c.requires.header c.in_ok-root.ensures.count c.in_ok-root.ensures.root.0
     (ap (λ (p : PagerView). p.store.can_fail) c.in_ok-root.ensures.effect.same) (λ honest. ap (λ (p : PagerView). p.store.honest) c.in_ok-root.ensures.effect.same ∙ honest)
-    last c.in_ok-root.ensures.root.1 c.in_ok-root.ensures.brought e c.in_err-index.ensures.exact c.in_err-index.ensures.effect.faults)
+    last c.in_ok-root.ensures.root.1 c.in_ok-root.ensures.size c.in_ok-root.ensures.brought e c.in_err-index.ensures.exact c.in_err-index.ensures.effect.faults)
 
 pub returns-clause-carried : goal.returns-clause-carried
 returns-clause-carried g c = λ version next schema placed s is honest new_honest.
@@ -92,6 +93,9 @@ returns-in_err-root-clause-stands g c = λ honest new_honest. no_answer c.from_r
 pub returns-in_err-root-clause-count : goal.returns-in_err-root-clause-count
 returns-in_err-root-clause-count g c = refused_none _ c.from_residual.result (upgrade_fault c.in_err-root.field-0.0) c.from_residual.ensures.1
 
+pub returns-in_err-root-clause-size : goal.returns-in_err-root-clause-size
+returns-in_err-root-clause-size g c = λ first. refused_none _ c.from_residual.result (upgrade_fault c.in_err-root.field-0.0) c.from_residual.ensures.1
+
 pub returns-in_err-root-clause-marked : goal.returns-in_err-root-clause-marked
 returns-in_err-root-clause-marked g c = λ schema honest mark.
     mark_before schema c.args.pager.now.store c.bring_pages.new.pager.store c.in_err-root.ensures.effect.grows c.requires.one honest mark
@@ -121,6 +125,9 @@ returns-in_err-index-clause-stands g c = λ honest new_honest. no_answer c.from_
 
 pub returns-in_err-index-clause-count : goal.returns-in_err-index-clause-count
 returns-in_err-index-clause-count g c = refused_none _ c.from_residual-in_err-index.result (index_fault c.in_err-index.field-0.0) c.from_residual-in_err-index.ensures.1
+
+pub returns-in_err-index-clause-size : goal.returns-in_err-index-clause-size
+returns-in_err-index-clause-size g c = λ first. refused_none _ c.from_residual-in_err-index.result (index_fault c.in_err-index.field-0.0) c.from_residual-in_err-index.ensures.1
 
 pub returns-in_err-index-clause-marked : goal.returns-in_err-index-clause-marked
 returns-in_err-index-clause-marked g c = λ schema honest mark.
@@ -157,6 +164,11 @@ pub returns-clause-count : goal.returns-clause-count
 returns-clause-count g c =
     let pages = sym (ap (λ (p : PagerView). p.store.pages) c.in_ok-index.ensures.effect.same) in
     subst (λ (ps : List (List ℕ)). page_count (g.O.PageStore.facts c.args.old.now) ≤ length ps) pages c.in_ok-root.ensures.count
+
+pub returns-clause-size : goal.returns-clause-size
+returns-clause-size g c = λ first.
+    let pages = sym (ap (λ (p : PagerView). p.store.pages) c.in_ok-index.ensures.effect.same) in
+    subst (λ (ps : List (List ℕ)). length ps ≡ page_count (g.O.PageStore.facts c.args.old.now) + index_pages c.args.head.now.header.regions) pages (c.in_ok-root.ensures.size first)
 
 pub returns-clause-refused : goal.returns-clause-refused
 returns-clause-refused g c = tt
