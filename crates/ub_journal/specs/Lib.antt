@@ -1,0 +1,4 @@
+pub mod Crash
+pub mod Image
+pub mod Place
+pub mod inner

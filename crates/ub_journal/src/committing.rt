@@ -1,0 +1,186 @@
+ghost use Rattle.std.specs.Prelude.{◌↔◌, IsTrue, OnOk};
+ghost use Rattle.ub_journal.specs.Image.{IsBetween, IsMarkedFrom, Recovers, told};
+ghost use Rattle.ub_journal.specs.Place.{AtAnyMoment, Counts, IsCommitted, IsDurable, IsFound, IsHonest, IsLeft, IsReady, IsSame, Heals, LeavesNow, PlaceFacts, Shows};
+ghost use Rattle.ub_journal.specs.inner.Way.{HasBegun, HasCompleted, IsCompleted, IsDrafted, IsMarked, IsNamed, Puts, with_others};
+
+use crate::journal::Journal;
+use crate::place::{Failed, Place};
+use ub_store::Page;
+
+/// Puts the changes that a journal tells into the table's file, where no journal stands beside it, what is seen lasts, and the journal
+/// was made of that table. At Ok the table is the new one, it lasts, and no journal is there. A crash at any moment leaves what
+/// stands for the table as it was or for the new one, also after a failure, which comes where a call of the place failed in this
+/// call, once, and ends it.
+pub fn commit<P: Place>(place: &mut P, journal: &Journal) -> Result<(), Failed>
+    requires ready { IsHonest (P.facts place.old)
+        → IsReady (told journal.now) (P.facts place.old) }
+    ensures done { OnOk result (IsHonest (P.facts place.old)
+        → IsCommitted (told journal.now) (P.facts place.old) (P.facts place.new)) }
+    ensures any_moment { AtAnyMoment (IsBetween (told journal.now) (P.facts place.old).seen)
+        (P.facts place.old) (P.facts place.new) }
+    ensures cause { Counts (P.facts place.old) (P.facts place.new) result }
+{
+    publish(place, journal)?;
+    complete(place, journal)?;
+    settle(place, journal)
+}
+
+/// Finishes what a crash has left, where what is seen lasts, and the journal that is seen is this one, and one of the table. At Ok
+/// the table is the new one, it lasts, and no journal is there. A crash at any moment leaves what stands for the new table, and can
+/// be finished in turn. A failure comes where a call of the place failed in this call, once, and ends it.
+pub fn finish<P: Place>(place: &mut P, journal: &Journal) -> Result<(), Failed>
+    requires found { IsHonest (P.facts place.old)
+        → IsFound (told journal.now) (P.facts place.old) }
+    ensures done { OnOk result (IsHonest (P.facts place.old)
+        → IsCommitted (told journal.now) (P.facts place.old) (P.facts place.new)) }
+    ensures any_moment { AtAnyMoment (Recovers (told journal.now) (P.facts place.old).seen)
+        (P.facts place.old) (P.facts place.new) }
+    ensures cause { Counts (P.facts place.old) (P.facts place.new) result }
+{
+    let mut first = [0; 4096];
+    place.read_page(0, &mut first)?;
+    if is_marked_from(&journal.before, &first) {
+        complete(place, journal)?;
+    }
+    settle(place, journal)
+}
+
+/// Finishes what a crash has left, or a run that was ended, where the journal that is seen is this one, and one of the table. What is
+/// seen need not last: it is made to last first. At Ok the table is the new one, it lasts, and no journal is there. A crash at any
+/// moment leaves what it might have left before the call, or what stands for the new table. A failure comes where a call of the
+/// place failed in this call, once, and ends it.
+pub fn heal<P: Place>(place: &mut P, journal: &Journal) -> Result<(), Failed>
+    requires left { IsHonest (P.facts place.old)
+        → IsLeft (told journal.now) (P.facts place.old) }
+    ensures done { OnOk result (IsHonest (P.facts place.old)
+        → IsCommitted (told journal.now) (P.facts place.old) (P.facts place.new)) }
+    ensures any_moment { AtAnyMoment
+        (Heals (told journal.now) (P.facts place.old)) (P.facts place.old) (P.facts place.new) }
+    ensures cause { Counts (P.facts place.old) (P.facts place.new) result }
+{
+    make_last(place)?;
+    finish(place, journal)
+}
+
+// Makes last what is seen.
+fn make_last<P: Place>(place: &mut P) -> Result<(), Failed>
+    ensures durable { OnOk result (IsHonest (P.facts place.old) → IsDurable (P.facts place.new)) }
+    ensures seen { OnOk result (Shows (λ i. i) (P.facts place.old) (P.facts place.new)) }
+    ensures any_moment { AtAnyMoment (P.facts place.old).may_leave
+        (P.facts place.old) (P.facts place.new) }
+    ensures cause { Counts (P.facts place.old) (P.facts place.new) result }
+{
+    place.sync_folder()?;
+    place.sync()
+}
+
+// Writes the journal, and gives it its name.
+fn publish<P: Place>(place: &mut P, journal: &Journal) -> Result<(), Failed>
+    requires ready { IsHonest (P.facts place.old)
+        → IsReady (told journal.now) (P.facts place.old) }
+    ensures done { OnOk result (IsHonest (P.facts place.old)
+        → IsNamed (told journal.now) (P.facts place.old) (P.facts place.new)) }
+    ensures any_moment { AtAnyMoment (IsBetween (told journal.now) (P.facts place.old).seen)
+        (P.facts place.old) (P.facts place.new) }
+    ensures cause { Counts (P.facts place.old) (P.facts place.new) result }
+{
+    write_draft(place, journal)?;
+    place.publish()?;
+    place.sync_folder()
+}
+
+// Writes a draft of the journal, and makes it last.
+fn write_draft<P: Place>(place: &mut P, journal: &Journal) -> Result<(), Failed>
+    requires durable { IsHonest (P.facts place.old) → IsDurable (P.facts place.old) }
+    ensures done { OnOk result (IsHonest (P.facts place.old)
+        → IsDrafted (told journal.now) (P.facts place.old) (P.facts place.new)) }
+    ensures any_moment { AtAnyMoment (IsSame (P.facts place.old).seen)
+        (P.facts place.old) (P.facts place.new) }
+    ensures cause { Counts (P.facts place.old) (P.facts place.new) result }
+{
+    place.draft(&journal.before, &journal.head, journal.count)?;
+    for change in journal.changes.as_slice() {
+        place.append(change)?;
+    }
+    place.sync_draft()
+}
+
+// Puts all pages but the first, and marks that before.
+fn complete<P: Place>(place: &mut P, journal: &Journal) -> Result<(), Failed>
+    requires begun { IsHonest (P.facts place.old)
+        → HasBegun (told journal.now) (P.facts place.old) }
+    ensures done { OnOk result (IsHonest (P.facts place.old)
+        → IsCompleted (told journal.now) (P.facts place.old) (P.facts place.new)) }
+    ensures any_moment { AtAnyMoment (Recovers (told journal.now) (P.facts place.old).seen)
+        (P.facts place.old) (P.facts place.new) }
+    ensures cause { Counts (P.facts place.old) (P.facts place.new) result }
+{
+    mark_first(place, journal)?;
+    put_changes(place, journal)?;
+    place.sync()
+}
+
+// Marks the first page, unless it is marked already: a mark that is put again may be torn, and the pages may be mixed by then.
+fn mark_first<P: Place>(place: &mut P, journal: &Journal) -> Result<(), Failed>
+    requires begun { IsHonest (P.facts place.old)
+        → HasBegun (told journal.now) (P.facts place.old) }
+    ensures done { OnOk result (IsHonest (P.facts place.old)
+        → IsMarked (told journal.now) (P.facts place.old) (P.facts place.new)) }
+    ensures any_moment { AtAnyMoment (Recovers (told journal.now) (P.facts place.old).seen)
+        (P.facts place.old) (P.facts place.new) }
+    ensures cause { Counts (P.facts place.old) (P.facts place.new) result }
+{
+    let mut first = [0; 4096];
+    place.read_page(0, &mut first)?;
+    if first[5] == 1 {
+        return Ok(());
+    }
+    place.mark()?;
+    place.sync()
+}
+
+// Gives the table its pages, and puts those that change.
+fn put_changes<P: Place>(place: &mut P, journal: &Journal) -> Result<(), Failed>
+    requires begun { IsHonest (P.facts place.old)
+        → HasBegun (told journal.now) (P.facts place.old) }
+    ensures seen { OnOk result
+        (Shows (with_others (told journal.now)) (P.facts place.old) (P.facts place.new)) }
+    ensures crash { IsHonest (P.facts place.old) → LeavesNow
+        (Puts (told journal.now) (P.facts place.old).seen) (P.facts place.new) }
+    ensures any_moment { AtAnyMoment (Puts (told journal.now) (P.facts place.old).seen)
+        (P.facts place.old) (P.facts place.new) }
+    ensures cause { Counts (P.facts place.old) (P.facts place.new) result }
+{
+    place.resize(journal.count)?;
+    for change in journal.changes.as_slice() {
+        place.write_page(change.number, &change.page)?;
+    }
+    Ok(())
+}
+
+// Puts the first page where all others stand, and takes the journal away.
+fn settle<P: Place>(place: &mut P, journal: &Journal) -> Result<(), Failed>
+    requires completed { IsHonest (P.facts place.old)
+        → HasCompleted (told journal.now) (P.facts place.old) }
+    ensures done { OnOk result (IsHonest (P.facts place.old)
+        → IsCommitted (told journal.now) (P.facts place.old) (P.facts place.new)) }
+    ensures any_moment { AtAnyMoment (Recovers (told journal.now) (P.facts place.old).seen)
+        (P.facts place.old) (P.facts place.new) }
+    ensures cause { Counts (P.facts place.old) (P.facts place.new) result }
+{
+    place.write_page(0, &journal.head)?;
+    place.sync()?;
+    place.remove()?;
+    place.sync_folder()
+}
+
+// Whether a page is another one, but for its mark.
+fn is_marked_from(before: &Page, page: &Page) -> bool
+    ensures { IsTrue result ↔ IsMarkedFrom before.now page.now }
+{
+    let mut was = *before;
+    let mut is = *page;
+    was[5] = 0;
+    is[5] = 0;
+    is == was
+}

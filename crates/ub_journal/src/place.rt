@@ -1,0 +1,99 @@
+ghost use Rattle.std.specs.Prelude.{◌≡◌, ◌<◌, ◌≤◌, Some, None, length, slice_get, OnOk};
+ghost use Rattle.ub_journal.specs.Crash.{Drafts, IsPublished, Publishes, Removes, Resizes, Stays, TearsMark, TearsPage, with_change, with_count, with_draft, with_journal, with_mark, with_page};
+ghost use Rattle.ub_journal.specs.Image.{begun};
+ghost use Rattle.ub_journal.specs.Place.{DraftLasts, IsClock, IsHonest, Lasts, PlaceFacts, SameDraft, SameJournal, SameTable, Shows, Steps};
+
+use crate::journal::Change;
+use ub_store::Page;
+
+/// A call of a place failed, whatever the cause. No call of a place fails for another reason than that the device did in this
+/// call: so this tells no more.
+#[derive(Clone, Copy, Debug, PartialEq, Eq)]
+pub struct Failed;
+
+/// The file of a table, a draft of a journal, and the journal beside the file.
+///
+/// What is seen there, what a crash may leave of it, and how often a call failed is for contracts alone: no call tells it. What they
+/// say of it is said of a place that is honest. Each call that fails is one failure more, and no other call is one. After a failure
+/// what is seen is one of the images that a crash may leave then.
+///
+/// One clock runs for all three files: `left_since` tells of each earlier moment what a crash from then on might have left, during
+/// a call or between two.
+pub trait Place {
+    ghost facts: { Self → PlaceFacts };
+
+    /// Reads the page of this number, which there is, into the one that is lent. Nothing changes. After a failure the page that is
+    /// lent may hold any bytes.
+    fn read_page(&mut self, n: u32, page: &mut Page) -> Result<(), Failed>
+        requires there { IsHonest (facts self.old) → n < length (facts self.old).seen.table }
+        ensures page { OnOk result (IsHonest (facts self.old)
+            → slice_get (facts self.old).seen.table n ≡ Some page.new) }
+        ensures seen { Shows (λ i. i) (facts self.old) (facts self.new) }
+        ensures effect { Steps Stays (facts self.old) (facts self.new) result };
+
+    /// Puts a page in the place of that of this number, which there is. A crash may leave any bytes there.
+    fn write_page(&mut self, n: u32, page: &Page) -> Result<(), Failed>
+        requires there { IsHonest (facts self.old) → n < length (facts self.old).seen.table }
+        ensures written { OnOk result
+            (Shows (with_page n page.now) (facts self.old) (facts self.new)) }
+        ensures effect { Steps (TearsPage n) (facts self.old) (facts self.new) result };
+
+    /// Marks the first page, which there is, as that of a table that is being changed: its byte 5 becomes 1. A crash may leave any
+    /// byte there, and leaves the others.
+    fn mark(&mut self) -> Result<(), Failed>
+        requires there { IsHonest (facts self.old) → 1 ≤ length (facts self.old).seen.table }
+        ensures written { OnOk result (Shows with_mark (facts self.old) (facts self.new)) }
+        ensures effect { Steps TearsMark (facts self.old) (facts self.new) result };
+
+    /// Gives the table's file so many pages and no byte more: cuts it, or adds pages of zeros. A crash may leave any length, and
+    /// any bytes in what is added.
+    fn resize(&mut self, count: u32) -> Result<(), Failed>
+        ensures written { OnOk result (Shows (with_count count) (facts self.old) (facts self.new)) }
+        ensures effect { Steps (Resizes count) (facts self.old) (facts self.new) result };
+
+    /// Makes last what was written to the table's file.
+    fn sync(&mut self) -> Result<(), Failed>
+        ensures done { OnOk result (IsHonest (facts self.old)
+            → Lasts SameTable (facts self.old) (facts self.new)) }
+        ensures effect { Steps Stays (facts self.old) (facts self.new) result };
+
+    /// Begins a draft of a journal with these two first pages and this count, in the place of one that was left. A crash may leave
+    /// anything of the draft.
+    fn draft(&mut self, before: &Page, head: &Page, count: u32) -> Result<(), Failed>
+        ensures written { OnOk result (Shows (with_draft (begun before.now head.now count))
+            (facts self.old) (facts self.new)) }
+        ensures effect { Steps Drafts (facts self.old) (facts self.new) result };
+
+    /// Adds a page to the draft. A crash may leave anything of the draft.
+    fn append(&mut self, change: &Change) -> Result<(), Failed>
+        ensures written { OnOk result
+            (Shows (with_change change.now) (facts self.old) (facts self.new)) }
+        ensures effect { Steps Drafts (facts self.old) (facts self.new) result };
+
+    /// Makes last what was written to the draft.
+    fn sync_draft(&mut self) -> Result<(), Failed>
+        ensures done { OnOk result (IsHonest (facts self.old)
+            → Lasts SameDraft (facts self.old) (facts self.new)) }
+        ensures effect { Steps Stays (facts self.old) (facts self.new) result };
+
+    /// Gives the draft, which lasts, the journal's name. A crash leaves it with the name, or as it was.
+    fn publish(&mut self) -> Result<(), Failed>
+        requires lasts { IsHonest (facts self.old) → DraftLasts (facts self.old) }
+        ensures published { OnOk result (IsHonest (facts self.old)
+            → IsPublished (facts self.old).seen (facts self.new).seen) }
+        ensures effect { Steps Publishes (facts self.old) (facts self.new) result };
+
+    /// Takes the journal away. A crash leaves it there, or leaves none.
+    fn remove(&mut self) -> Result<(), Failed>
+        ensures written { OnOk result
+            (Shows (with_journal None) (facts self.old) (facts self.new)) }
+        ensures effect { Steps Removes (facts self.old) (facts self.new) result };
+
+    /// Makes last which file has the journal's name, if one has.
+    fn sync_folder(&mut self) -> Result<(), Failed>
+        ensures done { OnOk result (IsHonest (facts self.old)
+            → Lasts SameJournal (facts self.old) (facts self.new)) }
+        ensures effect { Steps Stays (facts self.old) (facts self.new) result };
+
+    ghost clock: { (place : Self) → IsHonest (facts place) → IsClock (facts place) };
+}
