@@ -11,7 +11,7 @@ use Rattle.ub_query.specs.Groups.{is_selected}
 use Rattle.ub_store.specs.View.{Trace}
 use Rattle.ub_table.specs.declared.row.Row.{Row}
 use Rattle.ub_tetris.proofs.ArrangeFacts.{all_of}
-use Rattle.ub_tetris.proofs.MachineFacts.{fetches, none_held, rest_past}
+use Rattle.ub_tetris.proofs.MachineFacts.{fetches, rest_past}
 use Rattle.ub_tetris.proofs.StepFacts.{drop_next, due_past, event_region, noted_more, sweep_over, view_still, waiting}
 use Rattle.ub_tetris.specs.Effects.{Rests}
 use Rattle.ub_tetris.specs.Held.{HeldRow, rows_held}
@@ -116,26 +116,11 @@ broken_for t s other rest fetched unread same broken = record {
 
 -- ---- after the end
 
-past_queue : (queue : List Awaited) (k : ℕ) → awaited_of (drop k queue) ≡ [] → length queue ≤ k
+-- none is awaited after the last
+pub past_queue : (queue : List Awaited) (k : ℕ) → awaited_of (drop k queue) ≡ [] → length queue ≤ k
 past_queue [] k none = omega arith
 past_queue (a ∷ queue) zero none = cc
 past_queue (a ∷ queue) (suc k) none = let fewer = past_queue queue k none in omega arith
-
-nothing_awaited : (t : TreeView) (awaited : List AwaitedRegion) → AreAwaited t awaited [] → awaited ≡ []
-nothing_awaited t [] are = refl
-nothing_awaited t (a ∷ awaited) are = absurd are
-
--- a sweep that stands at its end awaits nothing and holds nothing
-pub at_end : (plan : PlanView) (t : TreeView) (s : State) (given : List Row) (fetched : List Event) → IsSweeping plan t (view_of s) given [] fetched []
-    → (length s.queue.items ≤ s.fetched) × (s.held ≡ [])
-at_end plan t s given fetched of = (
-  past_queue s.queue.items s.fetched (nothing_awaited t (awaited_of (drop s.fetched s.queue.items)) of.awaited),
-  no_rows s.held (none_held t.schema plan s.course.dim s.course.is_descending t.next (regions t) (rows_held s.held) given fetched [] (sweep_over plan t (view_of s) given [] fetched [] of) of.under_way),
-)
-  where
-    no_rows : (held : List HeldRow) → rows_held held ≡ [] → held ≡ []
-    no_rows [] none = refl
-    no_rows (h ∷ held) none = cc
 
 none_taken : (held left : List HeldRow) (row : Option Row) → held ≡ [] → TakesFirst held left row → (row ≡ None) × (left ≡ [])
 none_taken held left None empty takes = (refl, takes.1)

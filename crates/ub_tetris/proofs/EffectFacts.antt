@@ -10,7 +10,7 @@ use Rattle.ub_store.specs.Facts.{raised}
 use Rattle.ub_store.specs.View.{Trace, IsFull}
 use Rattle.ub_store.specs.declared.fault.StoreFault.TheVariants as store
 use Rattle.ub_table.specs.Region.{Region}
-use Rattle.ub_tetris.specs.Effects.{AreTakenIn, Sweeps, IsSweepFault, IsAwaitedFault, as_reading, fetches_then, of_read}
+use Rattle.ub_tetris.specs.Effects.{AreAsked, AreTakenIn, Sweeps, IsSweepFault, IsAwaitedFault, as_reading, fetches_then, of_read}
 use Rattle.ub_tetris.specs.Sweep.{AwaitedRegion, SweepView, AreItsRegions}
 use Rattle.ub_tetris.specs.declared.fault.SweepFault.{SweepFault}
 use Rattle.ub_tetris.specs.declared.fault.SweepFault.TheVariants as sweep
@@ -42,18 +42,30 @@ span_fault_before span a b (Store store.NoPage) h is = subst (λ (t : TreeView).
 span_fault_before span a b (Store store.Memory) h is = is
 span_fault_before span a b (Store store.BadSize) h is = is
 
--- these pages were noted
-abbrev Notes : TreeView → TreeView → List ℕ → Type 0
-Notes old new noted = (new.trace.pages ≡ old.trace.pages ++ noted) × (new.trace.fetches ≡ fetches_then old.trace.fetches (length noted))
+-- these pages were noted for a region: its own, or none
+pub record Notes (old new : TreeView) (a : AwaitedRegion) (noted : List ℕ) : Type 0 where
+  pub pages_are : new.trace.pages ≡ old.trace.pages ++ noted
+  pub fetches_are : new.trace.fetches ≡ fetches_then old.trace.fetches (length noted)
+  pub once : AreAsked (a ∷ []) noted
+
+noted_own : (old new : TreeView) (a : AwaitedRegion) → HasNoted a.region.page old new → Notes old new a (a.region.page ∷ [])
+noted_own old new a noted = record { pages_are = noted.pages_are; fetches_are = noted.fetches_are; once = record { first = refl; most = omega arith } }
 
 -- the page of a region may have been noted
-noted_as : (old new : TreeView) (page : ℕ) → KeepsTrace old new ⊎ HasNoted page old new → (noted : List ℕ) × Notes old new noted
-noted_as old new page (inl kept) = ([], (ap (λ (t : Trace). t.pages) kept ∙ sym (append-nil old.trace.pages), ap (λ (t : Trace). t.fetches) kept))
-noted_as old new page (inr noted) = (page ∷ [], (noted.pages_are, noted.fetches_are))
+noted_as : (old new : TreeView) (a : AwaitedRegion) → KeepsTrace old new ⊎ HasNoted a.region.page old new → (noted : List ℕ) × Notes old new a noted
+noted_as old new a (inl kept) = (
+  [],
+  record {
+    pages_are = ap (λ (t : Trace). t.pages) kept ∙ sym (append-nil old.trace.pages);
+    fetches_are = ap (λ (t : Trace). t.fetches) kept;
+    once = record { first = refl; most = omega arith };
+  },
+)
+noted_as old new a (inr noted) = (a.region.page ∷ [], noted_own old new a noted)
 
 -- the next region awaited was come to, and nothing is known yet of the result but what it leaves of the store
 module _ {T : Type 0} (r : Result T SweepFault) (s new_s : SweepView) (a : AwaitedRegion) (old new : TreeView) (one : s.awaited ≡ a ∷ new_s.awaited)
-    (same : new ≡ record old { store = read_store (as_reading r) old.store; trace = new.trace }) (pages : List ℕ) (notes : Notes old new pages) where
+    (same : new ≡ record old { store = read_store (as_reading r) old.store; trace = new.trace }) (pages : List ℕ) (notes : Notes old new a pages) where
   pub its_region : AreItsRegions old s → IsRegionOf old a.region
   its_region all = (subst (λ (those : List AwaitedRegion). AllByRecursion (λ b. IsRegionOf old b.region) those) one all).0
 
@@ -62,10 +74,11 @@ module _ {T : Type 0} (r : Result T SweepFault) (s new_s : SweepView) (a : Await
       record {
         noted = pages;
         same = same;
-        trace_is = notes.0;
-        fetches_are = notes.1;
+        trace_is = notes.pages_are;
+        fetches_are = notes.fetches_are;
         come = a ∷ [];
         left = one;
+        once = notes.once;
         taken = taken;
         refused = refused;
         faults = faults;
@@ -80,13 +93,13 @@ module _ {T : Type 0} (r : Result T SweepFault) (s new_s : SweepView) (a : Await
 pub read_swept : {T : Type 0} (x : T) (s new_s : SweepView) (a : AwaitedRegion) (old new : TreeView) → s.awaited ≡ a ∷ new_s.awaited
     → new ≡ record old { trace = new.trace } → HasNoted a.region.page old new → (region : Region) → IsTakenIn old a.region region → Sweeps s new_s old new (Ok x)
 read_swept x s new_s a old new one same noted region taken =
-    swept_one (Ok x) s new_s a old new one same (a.region.page ∷ []) (noted.pages_are, noted.fetches_are) (refl, ((region, taken), tt)) tt (λ all. tt)
+    swept_one (Ok x) s new_s a old new one same (a.region.page ∷ []) (noted_own old new a noted) (refl, ((region, taken), tt)) tt (λ all. tt)
 
 -- and then memory was refused
 pub memory_swept : {T : Type 0} (r : Result T SweepFault) (s new_s : SweepView) (a : AwaitedRegion) (old new : TreeView) → IsErrAnd r (λ x. x ≡ sweep.Memory) → s.awaited ≡ a ∷ new_s.awaited
     → new ≡ record old { trace = new.trace } → HasNoted a.region.page old new → Sweeps s new_s old new r
 memory_swept (Ok x) s new_s a old new is one same noted = absurd is
-memory_swept (Err f) s new_s a old new is one same noted = rw is (swept_one (Err sweep.Memory) s new_s a old new one same (a.region.page ∷ []) (noted.pages_are, noted.fetches_are) tt tt (λ all. tt))
+memory_swept (Err f) s new_s a old new is one same noted = rw is (swept_one (Err sweep.Memory) s new_s a old new one same (a.region.page ∷ []) (noted_own old new a noted) tt tt (λ all. tt))
 
 pub either_noted : {A : Type 0} (result : Result A TreeFault) (old new : TreeView) (page : ℕ) → (KeepsTrace old new × ((result ≡ Err HasFailed) ⊎ ((result ≡ Err Memory) × IsFull old.trace))) ⊎ HasNoted page old new
     → KeepsTrace old new ⊎ HasNoted page old new
@@ -97,7 +110,7 @@ first_awaited : (s new_s : SweepView) (a : AwaitedRegion) → s.awaited ≡ a �
 first_awaited s new_s a one = subst (λ (those : List AwaitedRegion). Contains those a) (sym one) (contains_here a new_s.awaited)
 
 -- the tree refused it
-module _ {T : Type 0} (s new_s : SweepView) (a : AwaitedRegion) (old new : TreeView) (one : s.awaited ≡ a ∷ new_s.awaited) (pages : List ℕ) (notes : Notes old new pages) where
+module _ {T : Type 0} (s new_s : SweepView) (a : AwaitedRegion) (old new : TreeView) (one : s.awaited ≡ a ∷ new_s.awaited) (pages : List ℕ) (notes : Notes old new a pages) where
   refused_by : (r : Result T SweepFault) (e : TreeFault) → IsErrAnd r (λ x. x ≡ of_read (fault_of_tree e))
       → new ≡ record old { store = record old.store { failed_reads = raised_by e old.store.failed_reads }; trace = new.trace }
       → IsSpanFault a.region old e → (IsRegionOf old a.region → IsReadFault old e) → Sweeps s new_s old new r
@@ -117,7 +130,7 @@ module _ {T : Type 0} (s new_s : SweepView) (a : AwaitedRegion) (old new : TreeV
 pub tree_swept : {T A : Type 0} (r : Result T SweepFault) (e : TreeFault) (s new_s : SweepView) (a : AwaitedRegion) (old new : TreeView) → IsErrAnd r (λ x. x ≡ of_read (fault_of_tree e))
     → s.awaited ≡ a ∷ new_s.awaited → ReadsRegion {A = A} a.region old new (Err e) → Sweeps s new_s old new r
 tree_swept {A = A} r e s new_s a old new is one reads =
-    let (pages, notes) = noted_as old new a.region.page (either_noted {A = A} (Err e) old new a.region.page reads.noted) in
+    let (pages, notes) = noted_as old new a (either_noted {A = A} (Err e) old new a.region.page reads.noted) in
     refused_by s new_s a old new one pages notes r e is reads.same reads.refused reads.faults
 
 -- ---- one call after the other
@@ -131,6 +144,7 @@ Sweeps-none x s t = record {
   fetches_are = refl;
   come = [];
   left = refl;
+  once = record { first = refl; most = omega arith };
   taken = (refl, tt);
   refused = tt;
   faults = λ all. tt;
@@ -146,6 +160,7 @@ Sweeps-failed s t failed = record {
   fetches_are = refl;
   come = [];
   left = refl;
+  once = record { first = refl; most = omega arith };
   taken = tt;
   refused = failed;
   faults = λ all. failed;
@@ -184,6 +199,17 @@ taken_more (Ok x) t m xs ys pages more traced first second =
     )
 taken_more (Err e) t m xs ys pages more traced first second = tt
 
+-- and their pages noted, as far as they were
+asked_more : (xs ys : List AwaitedRegion) (pages more : List ℕ) → pages ≡ map (λ a. a.region.page) xs → AreAsked ys more → AreAsked (xs ++ ys) (pages ++ more)
+asked_more xs ys pages more is asked = subst (λ (front : List ℕ). AreAsked (xs ++ ys) (front ++ more)) (sym is) (after xs)
+  where
+    after : (xs : List AwaitedRegion) → AreAsked (xs ++ ys) (map (λ a. a.region.page) xs ++ more)
+    after [] = asked
+    after (x ∷ xs) =
+        let others = after xs in
+        let most = others.most in
+        record { first = ap (λ (numbers : List ℕ). x.region.page ∷ numbers) others.first; most = omega arith }
+
 pub sweeps_then : {T U : Type 0} (x : T) (r : Result U SweepFault) (a b c : SweepView) (t m n : TreeView) → a.is_failed ≡ b.is_failed
     → Sweeps a b t m (Ok x) → Sweeps b c m n r → Sweeps a c t n r
 sweeps_then x r a b c t m n failed first second =
@@ -196,6 +222,7 @@ sweeps_then x r a b c t m n failed first second =
           ∙ fetched_then t.trace.fetches (length first.noted) (length second.noted) ∙ ap (fetches_then t.trace.fetches) (sym (length-append first.noted second.noted));
       come = first.come ++ second.come;
       left = first.left ∙ ap (λ (those : List AwaitedRegion). first.come ++ those) second.left ∙ sym (append_assoc first.come second.come c.awaited);
+      once = asked_more first.come second.come first.noted second.noted first.taken.0 second.once;
       taken = taken_more r t m first.come second.come first.noted second.noted traced first.taken second.taken;
       refused = refused r traced second.refused;
       faults = λ all. faults r traced (second.faults (first.regions all));
@@ -217,7 +244,7 @@ sweeps_then x r a b c t m n failed first second =
 pub swept_by : {T U : Type 0} (r : Result T SweepFault) (e : SweepFault) (a b : SweepView) (t n : TreeView) → IsErrAnd r (λ x. x ≡ e) → Sweeps {A = U} a b t n (Err e) → Sweeps a b t n r
 swept_by (Ok x) e a b t n is swept = absurd is
 swept_by (Err f) e a b t n is swept =
-    rw is (record { noted = swept.noted; same = swept.same; trace_is = swept.trace_is; fetches_are = swept.fetches_are; come = swept.come; left = swept.left; taken = tt; refused = swept.refused; faults = swept.faults; regions = swept.regions })
+    rw is (record { noted = swept.noted; same = swept.same; trace_is = swept.trace_is; fetches_are = swept.fetches_are; come = swept.come; left = swept.left; once = swept.once; taken = tt; refused = swept.refused; faults = swept.faults; regions = swept.regions })
 
 -- the sweep gave more of what it held: it awaits the same regions
 module _ {T : Type 0} (x : T) (s mid new_s : SweepView) (t n : TreeView) (same : mid.awaited ≡ new_s.awaited) (swept : Sweeps s mid t n (Ok x)) where
@@ -232,6 +259,7 @@ module _ {T : Type 0} (x : T) (s mid new_s : SweepView) (t n : TreeView) (same :
     fetches_are = swept.fetches_are;
     come = swept.come;
     left = swept.left ∙ ap (λ (those : List AwaitedRegion). swept.come ++ those) same;
+    once = swept.once;
     taken = swept.taken;
     refused = tt;
     faults = λ all. tt;
@@ -249,6 +277,7 @@ module _ {T : Type 0} (x : T) (s mid new_s : SweepView) (t n : TreeView) (same :
         fetches_are = swept.fetches_are;
         come = swept.come;
         left = swept.left ∙ ap (λ (those : List AwaitedRegion). swept.come ++ those) same;
+        once = swept.once;
         taken = tt;
         refused = tt;
         faults = λ all. tt;

@@ -1,5 +1,5 @@
 -- The region at a sweep's place is fetched.
-use Rattle.std.proofs.Common.{◌≡◌, ◌<◌, ◌≤◌, ◌+◌, ◌*◌, ◌∙◌, ◌∷◌, ◌++◌, ℕ, zero, suc, Bool, true, false, not, List, [], Option, Some, None, Contains, drop, length, map, slice_get, slice_index, slice_index_or, refl, sym, ap, subst, arith}
+use Rattle.std.proofs.Common.{◌≡◌, ◌<◌, ◌≤◌, ◌+◌, ◌*◌, ◌∙◌, ◌∷◌, ◌++◌, ℕ, zero, suc, Bool, true, false, not, List, [], Option, Some, None, drop, length, map, slice_get, slice_index, slice_index_or, refl, sym, ap, subst, arith}
 use Rattle.std.proofs.lemmas.List.{length-append, length-map}
 use Rattle.std.proofs.lemmas.List.Sorted.{length_permutation}
 use Rattle.std.proofs.lemmas.List.Sums.{count_by-le-length, length-filter}
@@ -19,9 +19,7 @@ use Rattle.ub_tetris.specs.Held.{HeldRow, held_row}
 use Rattle.ub_tetris.specs.Sweep.{rows_left}
 use Rattle.ub_tetris.specs.inner.Kept.{HoldsAlso, IsFirstOf}
 use Rattle.ub_tetris.specs.inner.Turns.{HasFetchedNext, HasReadNext, IsDue, IsOnward, awaited_of, is_due_by, view_of}
-use Rattle.ub_tree.specs.Calls.{StandsAt}
-use Rattle.ub_tree.specs.Effects.{HasNoted}
-use Rattle.ub_tree.specs.View.{TreeView, IsSound, spans_of}
+use Rattle.ub_tree.specs.View.{TreeView}
 
 pub next_at : (queue : List Awaited) (k : ℕ) (x : Awaited) → k < length queue → x ≡ slice_index_or queue k x → slice_get queue k ≡ Some x
 next_at [] k x within is = absurd (omega arith)
@@ -80,23 +78,13 @@ none_due s first queue same past is =
     none_at (a ∷ queue) zero past = absurd (omega arith)
     none_at (a ∷ queue) (suc k) past = none_at queue k (omega arith)
 
-pub has_fetched : (plan : PlanView) (choice : Choice) (t new : TreeView) (s new_s : State) (x : Awaited) (region : Region) (schema : Schema) → slice_get s.queue.items s.fetched ≡ Some x
-    → HasNoted x.region.page t new → (IsSound t → Contains (spans_of t) x.region → StandsAt t.placed x.region.page region) → region.first ≡ x.region.first
-    → schema ≡ t.schema → HoldsAlso schema (keys_of plan.asked) (filter (is_chosen choice schema plan) region.rows) s.held new_s.held → HasFetchedNext plan t new s new_s
-has_fetched plan choice t new s new_s x region schema at noted stands first of_tree holds = record {
-  next = x;
-  at = at;
-  noted = noted;
+pub has_fetched : (plan : PlanView) (choice : Choice) (t new : TreeView) (s new_s : State) (region : Region) (schema : Schema) → HasReadNext t new s region → schema ≡ t.schema
+    → HoldsAlso schema (keys_of plan.asked) (filter (is_chosen choice schema plan) region.rows) s.held new_s.held → HasFetchedNext plan t new s new_s
+has_fetched plan choice t new s new_s region schema read of_tree holds = record {
+  region = region;
+  read = read;
   choice = choice;
-  rows = λ sound there.
-      let (p, in_tree, page, is) = stands sound there in (
-        p,
-        in_tree,
-        page,
-        ap (λ (r : Region). r.first) is ∙ first,
-        subst (λ (r : Region). HoldsAlso t.schema (keys_of plan.asked) (filter (is_chosen choice t.schema plan) r.rows) s.held new_s.held) (sym is)
-            (subst (λ (x : Schema). HoldsAlso x (keys_of plan.asked) (filter (is_chosen choice x plan) region.rows) s.held new_s.held) of_tree holds),
-      );
+  rows = subst (λ (x : Schema). HoldsAlso x (keys_of plan.asked) (filter (is_chosen choice x plan) region.rows) s.held new_s.held) of_tree holds;
 }
 
 -- ---- how many rows are left

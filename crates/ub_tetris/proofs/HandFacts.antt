@@ -16,7 +16,8 @@ use Rattle.ub_tetris.proofs.BrokenFacts.{noted_still, placed_of}
 use Rattle.ub_tetris.proofs.EffectFacts.{Sweeps-none, sweeps_then, swept_traced}
 use Rattle.ub_tetris.proofs.MachineFacts.{selected_append}
 use Rattle.ub_tetris.proofs.StepFacts.{awaited_after, chosen_of, drop_next, none_waiting, noted_more, region_at, waiting}
-use Rattle.ub_tetris.specs.Effects.{Sweeps}
+use Rattle.ub_tetris.proofs.FoundFacts.{found_more, found_none}
+use Rattle.ub_tetris.specs.Effects.{HasFound, Sweeps}
 use Rattle.ub_tetris.specs.Machine.{regions_at}
 use Rattle.ub_tetris.specs.Sweep.{AreAwaited, AreNoted, AwaitedRegion, HandsOver, HasBrokenOff, HasHandedOver, IsAwaited, IsSweeping, SweepView}
 use Rattle.ub_tetris.specs.declared.event.Awaited.{Awaited}
@@ -158,7 +159,8 @@ pub record Hands {K : Type 0} (HasTaken : K → List Row → K → Type 0) (plan
   pub course : s_now.course ≡ s.course
   pub held : s_now.held ≡ s.held
   pub handed : HandsOver HasTaken k k_now
-      (λ rows. (given rest : List Row) (fetched unread : List Event) → IsSweeping plan t (view_of s) given rest fetched unread → HasCome t.schema plan now s_now fetched unread rows)
+      (λ rows. HasFound plan t (view_of s) (view_of s_now) rows
+      × ((given rest : List Row) (fetched unread : List Event) → IsSweeping plan t (view_of s) given rest fetched unread → HasCome t.schema plan now s_now fetched unread rows))
 
 pub Hands-none : {K : Type 0} (HasTaken : K → List Row → K → Type 0) (plan : PlanView) (t : TreeView) (s : State) (k : K) → Hands HasTaken plan t t s s k k
 Hands-none {K = K} HasTaken plan t s k = record {
@@ -168,7 +170,7 @@ Hands-none {K = K} HasTaken plan t s k = record {
   handed = (
     [],
     λ before taken has. subst (λ (rows : List Row). HasTaken before rows k) (sym (append-nil taken)) has,
-    λ given rest fetched unread is. come_none plan t s given rest fetched unread is,
+    (found_none plan t (view_of s), λ given rest fetched unread is. come_none plan t s given rest fetched unread is),
   );
 }
 
@@ -182,7 +184,7 @@ module _ {K : Type 0} (HasTaken : K → List Row → K → Type 0) (plan : PlanV
   pub Hands-more : (new : TreeView) (new_s : State) (k_new : K) → IsOnward s_now new_s → new_s.held ≡ s_now.held → HandsOver HasTaken k_now k_new (HasHandedNext plan now new s_now)
       → Sweeps {A = Unit {0}} (view_of s_now) (view_of new_s) now new (Ok tt) → Hands HasTaken plan t new s new_s k k_new
   Hands-more new new_s k_new onward held (more, then, next) effect =
-      let (rows, takes, come) = so_far.handed in
+      let (rows, takes, (found, come)) = so_far.handed in
       record {
         effect = sweeps_then tt (Ok tt) (view_of s) (view_of s_now) (view_of new_s) t now new refl so_far.effect effect;
         course = onward.0 ∙ so_far.course;
@@ -190,25 +192,29 @@ module _ {K : Type 0} (HasTaken : K → List Row → K → Type 0) (plan : PlanV
         handed = (
           rows ++ more,
           λ before taken has. subst (λ (rs : List Row). HasTaken before rs k_new) (append_assoc taken rows more) (then before (taken ++ rows) (takes before taken has)),
-          λ given rest fetched unread is.
-              come_more plan t now s s_now given rest fetched unread rows is traced_so_far (come given rest fetched unread is) new new_s more onward next,
+          (
+            found_more plan t now new (view_of s) s_now new_s rows more next.region next.choice traced_so_far onward found next.read next.rows_are,
+            λ given rest fetched unread is.
+                come_more plan t now s s_now given rest fetched unread rows is traced_so_far (come given rest fetched unread is) new new_s more onward next,
+          ),
         );
       }
 
   pub hands_broken : (new : TreeView) → HasAskedNext now new s_now → new.placed ≡ now.placed → (given rest : List Row) (fetched unread : List Event)
       → IsSweeping plan t (view_of s) given rest fetched unread → HasBrokenOff new fetched unread
   hands_broken new asked placed given rest fetched unread is =
-      let (rows, takes, come) = so_far.handed in
+      let (rows, takes, (found, come)) = so_far.handed in
       come_broken plan t now s s_now given rest fetched unread rows is traced_so_far (come given rest fetched unread is) new asked placed
 
   module _ (past : length s_now.queue.items ≤ s_now.fetched) where
     pub hands_end : HandsOver HasTaken k k_now
-        (λ rows. (given rest : List Row) (fetched unread : List Event) → IsSweeping plan t (view_of s) given rest fetched unread → HasHandedOver plan now fetched unread rows)
+        (λ rows. HasFound plan t (view_of s) (view_of s_now) rows
+        × ((given rest : List Row) (fetched unread : List Event) → IsSweeping plan t (view_of s) given rest fetched unread → HasHandedOver plan now fetched unread rows))
     hands_end =
-        let (rows, takes, come) = so_far.handed in (
+        let (rows, takes, (found, come)) = so_far.handed in (
           rows,
           takes,
-          λ given rest fetched unread is. come_end plan t now s s_now given rest fetched unread rows is traced_so_far (come given rest fetched unread is) past,
+          (found, λ given rest fetched unread is. come_end plan t now s s_now given rest fetched unread rows is traced_so_far (come given rest fetched unread is) past),
         )
 
     -- and those held stay held

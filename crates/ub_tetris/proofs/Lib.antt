@@ -7,6 +7,7 @@ pub mod BrokenFacts
 pub mod EffectFacts
 pub mod EventFacts
 pub mod FetchFacts
+pub mod FoundFacts
 pub mod HandFacts
 pub mod HeldFacts
 pub mod MachineFacts

@@ -333,12 +333,6 @@ ends schema plan dim is_descending next regions given rest fetched over under =
     (Contains-permutation (selected_rows schema plan (regions_at fetched)) (given ++ []) row under.held_are (in_fetched schema plan fetched event row was has t)) in
     asked-never schema (keys_of plan.asked) row (rising_apart (IsRowBefore schema (keys_of plan.asked)) given rest row row up gone there))
 
--- where all rows were given, none is held
-pub none_held : (schema : Schema) (plan : PlanView) (dim : ℕ) (is_descending : Bool) (next : ℕ) (regions : List Region) (held given : List Row) (fetched unread : List Event)
-    → IsSweepOver schema plan dim is_descending next regions → IsUnderWay schema plan dim is_descending regions held given [] fetched unread → held ≡ []
-none_held schema plan dim is_descending next regions held given fetched unread over under =
-    no_elements held (λ row there. contains_none row (held_in_rest schema plan dim is_descending next regions held given [] fetched unread row over under there))
-
 -- ---- where it stops
 
 last_is : (dim : ℕ) (given : List Row) (row : Row) → last_of (coordinates dim (given ++ row ∷ [])) ≡ slice_index row.dims dim

@@ -65,7 +65,7 @@ span_region last (region ∷ regions) span there = elim (contains_cases _ (spans
 
 -- ---- rows that are held
 
-rows_of_held : (schema : Schema) (keys : List SortKey) (rows : List Row) → rows_held (map (held_row schema keys) rows) ≡ rows
+pub rows_of_held : (schema : Schema) (keys : List SortKey) (rows : List Row) → rows_held (map (held_row schema keys) rows) ≡ rows
 rows_of_held schema keys [] = refl
 rows_of_held schema keys (row ∷ rows) = ap (λ (rows : List Row). row ∷ rows) (rows_of_held schema keys rows)
 
@@ -247,20 +247,22 @@ pub fetch_step : (plan : PlanView) (t new : TreeView) (s new_s : State) (given r
     → IsDue s true → IsOnward s new_s → HasFetchedNext plan t new s new_s → IsTraced t new
     → (event : Event) × (left : List Event) × (unread ≡ event ∷ left) × IsSweeping plan new (view_of new_s) given rest (fetched ++ event ∷ []) left
 fetch_step plan t new s new_s given rest fetched unread of (first, is_first, due) onward has traced =
-    let a : AwaitedRegion = record { value = has.next.value; region = has.next.region } in
+    let a : AwaitedRegion = record { value = has.read.next.value; region = has.read.next.region } in
     let more = awaited_of (drop (s.fetched + 1) s.queue.items) in
-    let queued : awaited_of (drop s.fetched s.queue.items) ≡ a ∷ more = ap awaited_of (drop_next s.queue.items s.fetched has.next has.at) in
+    let queued : awaited_of (drop s.fetched s.queue.items) ≡ a ∷ more = ap awaited_of (drop_next s.queue.items s.fetched has.read.next has.read.at) in
     let (event, left, parts, is_awaited, are_awaited) = waiting t a more unread (subst (λ (awaited : List AwaitedRegion). AreAwaited t awaited unread) queued of.awaited) in
-    let (p, there, page, begins, holds) = has.rows of.swept.sound is_awaited.there in
-    let past = due_past plan t s given rest fetched unread first has.next of is_first (due ∙ ap (λ (o : Option Awaited). is_due_by s.course o first) has.at) in
+    let (p, there, page, is) = has.read.stands of.swept.sound is_awaited.there in
+    let begins : p.region.first ≡ has.read.next.region.first = ap (λ (r : Region). r.first) is ∙ has.read.first in
+    let holds = subst (λ (r : Region). HoldsAlso t.schema (keys_of plan.asked) (filter (is_chosen has.choice t.schema plan) r.rows) s.held new_s.held) (sym is) has.rows in
+    let past = due_past plan t s given rest fetched unread first has.read.next of is_first (due ∙ ap (λ (o : Option Awaited). is_due_by s.course o first) has.read.at) in
     let selected = subst (λ (rows : List Row). HoldsAlso t.schema (keys_of plan.asked) rows s.held new_s.held) (chosen_of plan t (view_of s) given rest fetched unread has.choice p of there) holds in
     let next = fetched_next plan t (view_of s) new_s.held given rest fetched a more new.trace p event left
-    (subst (λ (events : List Event). IsSweeping plan t (view_of s) given rest fetched events) parts of) is_awaited are_awaited past has.noted.pages_are there page begins selected in (
+    (subst (λ (events : List Event). IsSweeping plan t (view_of s) given rest fetched events) parts of) is_awaited are_awaited past has.read.noted.pages_are there page begins selected in (
       event,
       left,
       parts,
       subst (λ (tree : TreeView). IsSweeping plan tree (view_of new_s) given rest (fetched ++ event ∷ []) left) (sym traced)
-          (subst (λ (v : SweepView). IsSweeping plan (record t { trace = new.trace }) v given rest (fetched ++ event ∷ []) left) (view_onward s new_s has.next has.at onward) next),
+          (subst (λ (v : SweepView). IsSweeping plan (record t { trace = new.trace }) v given rest (fetched ++ event ∷ []) left) (view_onward s new_s has.read.next has.read.at onward) next),
     )
 
 -- ---- a row is taken

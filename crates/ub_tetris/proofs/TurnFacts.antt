@@ -1,7 +1,7 @@
 -- What a call of a sweep ensures at a fault of its own, and what contracts see of a turn that its state did.
-use Rattle.std.proofs.Common.{◌≡◌, ◌∙◌, Bool, List, Result, Ok, Err, IfOk, length, refl, sym, ap, subst}
+use Rattle.std.proofs.Common.{◌≡◌, ◌∙◌, Bool, false, List, Result, Ok, Err, IfOk, length, refl, sym, ap, subst}
 use Rattle.std.proofs.lemmas.Bool.{true≢false}
-use Rattle.std.specs.Prelude.{IsTrue, is_err}
+use Rattle.std.specs.Prelude.{IsTrue, OnOk, is_err}
 use Rattle.std.specs.Result.{IsErrAnd}
 use Rattle.ub_planning.specs.Plan.{PlanView}
 use Rattle.ub_planning.specs.Visits.{Event}
@@ -37,6 +37,9 @@ pub never_swept : {X : Type 0} (plan : PlanView) (t : TreeView) (s : SweepView) 
     → IsSweeping plan t s given rest fetched unread → X
 never_swept plan t s given rest fetched unread failed of = absurd (true≢false (sym failed ∙ of.working))
 
+pub never_works : {X : Type 0} (is_failed : Bool) → IsTrue is_failed → is_failed ≡ false → X
+never_works is_failed failed working = absurd (true≢false (sym failed ∙ working))
+
 pub FailsOnce-failed : {T : Type 0} (s : SweepView) (t : TreeView) → IsTrue s.is_failed → FailsOnce {A = T} s s t t (Err sweep.Failed)
 FailsOnce-failed s t failed = record { fails = failed; works = tt; stays = λ _. (refl, refl, refl) }
 
@@ -47,6 +50,13 @@ module _ {T : Type 0} (r : Result T SweepFault) (s new_s : State) (view : SweepV
   ok_seen P holds = rw is (seen r holds)
     where
       seen : (r : Result T SweepFault) → IfOk r (P (view_of new_s)) → IfOk r (P (view_by new_s (is_err r)))
+      seen (Ok x) holds = holds
+      seen (Err e) holds = tt
+
+  pub on_ok_seen : (P : SweepView → Type 0) → OnOk r (P (view_of new_s)) → OnOk r (P (view_by new_s has_failed))
+  on_ok_seen P holds = rw is (seen r holds)
+    where
+      seen : (r : Result T SweepFault) → OnOk r (P (view_of new_s)) → OnOk r (P (view_by new_s (is_err r)))
       seen (Ok x) holds = holds
       seen (Err e) holds = tt
 
@@ -67,6 +77,7 @@ module _ {T : Type 0} (r : Result T SweepFault) (s new_s : State) (view : SweepV
         fetches_are = swept.fetches_are;
         come = swept.come;
         left = swept.left;
+        once = swept.once;
         taken = swept.taken;
         refused = swept.refused;
         faults = swept.faults;

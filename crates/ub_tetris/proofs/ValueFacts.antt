@@ -19,7 +19,9 @@ use Rattle.ub_tetris.proofs.BrokenFacts.{all_right}
 use Rattle.ub_tetris.proofs.MachineFacts.{IsBeforeNext, given_up_to, held_in_rest, held_or_unread}
 use Rattle.ub_tetris.proofs.NumberFacts.{asked-chain}
 use Rattle.ub_tetris.proofs.StepFacts.{entry_past, sweep_over, taken_next, view_still}
-use Rattle.ub_tetris.specs.Effects.{Rests}
+use Rattle.ub_tetris.proofs.FoundFacts.{gives_then, takes_rows}
+use Rattle.ub_tetris.proofs.StepsFacts.{not_none, same_awaited}
+use Rattle.ub_tetris.specs.Effects.{HasAnswered, Rests}
 use Rattle.ub_tetris.specs.Held.{HeldRow, rows_held}
 use Rattle.ub_tetris.specs.Machine.{IsRowAlong, IsRowPast}
 use Rattle.ub_tetris.specs.Sweep.{HasBroken, HasGiven, HasGivenValue, IsSweeping, SweepView, rows_left}
@@ -146,9 +148,6 @@ value_in_order plan t s value given rows more fetched unread of some all =
 
 -- ---- a step that gives a value
 
-not_none : {E : Type 0} (x : E) (xs : List E) → x ∷ xs ≢ []
-not_none x xs e = cc
-
 -- the first row was given, and then the others were taken
 value_given : (plan : PlanView) (t : TreeView) (s : SweepView) (left : List HeldRow) (given rest : List Row) (fetched unread : List Event) (first : Row) (others : List Row) → plan.asked.group ≢ []
     → HasGiven plan t s given rest fetched unread first → AreTakenAt s.dim (slice_index first.dims s.dim) s.held left others → IsFirstElsewhere s.dim (slice_index first.dims s.dim) left
@@ -227,8 +226,20 @@ fewer_left s new_s (course, queue, fetched) few = rw (queue, fetched) (omega ari
 below : (a b c : ℕ) → a ≤ b → b < c → a < c
 below a b c h k = omega arith
 
-pub value_fewer : (s new_s : State) (first : Row) (rows : List Row) (most : ℕ) → TakesValue s.course.dim first s.held new_s.held rows
+value_fewer : (s new_s : State) (first : Row) (rows : List Row) (most : ℕ) → TakesValue s.course.dim first s.held new_s.held rows
     → (new_s.course ≡ s.course) × (new_s.queue ≡ s.queue) × (new_s.fetched ≡ s.fetched) → rows_left (view_of s) < most → rows_left (view_of new_s) < most
 value_fewer s new_s first rows most takes still fewer =
     below (rows_left (view_of new_s)) (rows_left (view_of s)) most
     (fewer_left s new_s still (taken_few s.course.dim (slice_index first.dims s.course.dim) takes.others s.held new_s.held takes.taken)) fewer
+
+-- what it answers over any tree
+pub value_answers : (plan : PlanView) (t : TreeView) (s : SweepView) (mid new_s : State) (first : Row) (rows : List Row) → TakesValue mid.course.dim first mid.held new_s.held rows
+    → (new_s.course ≡ mid.course) × (new_s.queue ≡ mid.queue) × (new_s.fetched ≡ mid.fetched) → HasAnswered plan t s (view_of mid) (Some (first ∷ []))
+    → HasAnswered plan t s (view_of new_s) (Some rows)
+value_answers plan t s mid new_s first rows takes still (some, fewer, gives) =
+    subst (λ (rs : List Row). HasAnswered plan t s (view_of new_s) (Some rs)) (sym takes.rows_are) (
+      not_none first takes.others,
+      value_fewer mid new_s first rows (rows_left s) takes still fewer,
+      gives_then plan t s (view_of mid) (view_of new_s) (first ∷ []) takes.others (same_awaited mid new_s still)
+          (takes_rows mid.course.dim (slice_index first.dims mid.course.dim) takes.others mid.held new_s.held takes.taken) gives,
+    )

@@ -1,10 +1,16 @@
 -- What the calls of a sweep can answer, and what they leave of the tree.
-use Rattle.std.specs.Prelude.{◌≡◌, ◌≢◌, ◌++◌, ℕ, zero, suc, Bool, true, false, IsTrue, List, Option, None, Result, Ok, Err, IfErr, OnOk, Contains, length, map}
-use Rattle.std.specs.List.{AllByRecursion}
+use Rattle.std.specs.Prelude.{◌≡◌, ◌≢◌, ◌<◌, ◌≤◌, ◌+◌, ◌++◌, [], ◌∷◌, ℕ, zero, suc, Bool, true, false, IsTrue, List, Option, Some, None, Result, Ok, Err, IfErr, OnOk, Contains, length, map, take}
+use Rattle.std.specs.List.{AllByRecursion, filter}
+use Rattle.std.specs.List.Sorted.{IsPermutation}
+use Rattle.ub_filter.specs.Choice.{is_chosen}
+use Rattle.ub_filter.specs.declared.choice.Choice.{Choice}
+use Rattle.ub_planning.specs.Plan.{PlanView}
 use Rattle.ub_store.specs.Facts.{raised}
 use Rattle.ub_store.specs.View.{emptied}
 use Rattle.ub_table.specs.Region.{Region}
-use Rattle.ub_tetris.specs.Sweep.{AwaitedRegion, SweepView, AreItsRegions}
+use Rattle.ub_table.specs.declared.row.Row.{Row}
+use Rattle.ub_tetris.specs.Held.{rows_held}
+use Rattle.ub_tetris.specs.Sweep.{AwaitedRegion, SweepView, AreItsRegions, rows_left}
 use Rattle.ub_tetris.specs.declared.fault.SweepFault.{SweepFault}
 use Rattle.ub_tetris.specs.declared.fault.SweepFault.TheVariants.{Memory, Tree, Failed}
 use Rattle.ub_tree.specs.Effects.{IsSpanFault, IsTakenIn}
@@ -57,9 +63,15 @@ abbrev pub AreTakenIn : TreeView → List AwaitedRegion → List ℕ → Type 0
 AreTakenIn t come pages =
     (pages ≡ map (λ a. a.region.page) come) × AllByRecursion (λ a. (region : Region) × IsTakenIn t a.region region) come
 
+-- these are the pages of the first of these regions, each once and in their order; that of the last one alone may be missing
+pub record AreAsked (come : List AwaitedRegion) (pages : List ℕ) : Type 0 where
+  pub first : pages ≡ map (λ a. a.region.page) (take (length pages) come)
+  pub most : length come ≤ length pages + 1
+
 -- a sweep read the tree and no more: pages were noted after those that stood in the trace, and the first of the regions awaited
--- are awaited no more; where it answers, the pages are theirs, and each of them was taken in. Over a tree that has those awaited
--- it is refused as each call is that reads the tree, and the tree has those still awaited.
+-- are awaited no more; the pages are theirs, also where a fault ended it, and where it answers all of them are there, and each was
+-- taken in. Over a tree that has those awaited it is refused as each call is that reads the tree, and the tree has those still
+-- awaited.
 pub record Sweeps {A : Type 0} (s new_s : SweepView) (old new : TreeView) (result : Result A SweepFault) : Type 0 where
   pub noted : List ℕ
   pub same : new ≡ record old { store = read_store (as_reading result) old.store; trace = new.trace }
@@ -67,6 +79,7 @@ pub record Sweeps {A : Type 0} (s new_s : SweepView) (old new : TreeView) (resul
   pub fetches_are : new.trace.fetches ≡ fetches_then old.trace.fetches (length noted)
   pub come : List AwaitedRegion
   pub left : s.awaited ≡ come ++ new_s.awaited
+  pub once : AreAsked come noted
   pub taken : OnOk result (AreTakenIn old come noted)
   pub refused : IfErr result (IsAwaitedFault s old)
   pub faults : AreItsRegions old s → IfErr result (IsSweepFault s.is_failed old)
@@ -83,3 +96,32 @@ pub record Rests {A : Type 0} (s new_s : SweepView) (old new : TreeView) (result
   pub none : result ≡ Ok None
   pub sweep_is : new_s ≡ s
   pub tree_is : new ≡ old
+
+-- ---- the rows that come, over any tree
+
+-- these are the rows that a plan takes of these regions, one region after the other: each is the region that its page spells, and of
+-- its rows those that are chosen come, as they stand there
+abbrev pub AreRowsOf : PlanView → TreeView → List AwaitedRegion → List Row → Type 0
+AreRowsOf plan t [] rows = rows ≡ []
+AreRowsOf plan t (a ∷ come) rows =
+    (region : Region) × IsTakenIn t a.region region × (choice : Choice) × (more : List Row)
+    × (rows ≡ filter (is_chosen choice t.schema plan) region.rows ++ more) × AreRowsOf plan t come more
+
+-- these rows came: those of the regions that were awaited and are no more
+pub record HasFound (plan : PlanView) (t : TreeView) (s new_s : SweepView) (rows : List Row) : Type 0 where
+  pub come : List AwaitedRegion
+  pub left : s.awaited ≡ come ++ new_s.awaited
+  pub are : AreRowsOf plan t come rows
+
+-- these rows were given: the rows that were held and those that came are the rows given and the ones held now, each as often. So no
+-- row is given that stands in no region taken in, none is lost, and none is given twice
+pub record GivesRows (plan : PlanView) (t : TreeView) (s new_s : SweepView) (given : List Row) : Type 0 where
+  pub came : List Row
+  pub found : HasFound plan t s new_s came
+  pub kept : IsPermutation (rows_held s.held ++ came) (given ++ rows_held new_s.held)
+
+-- what asking for rows answers over any tree: none only where no region is left and no row is held, and else one at least, with which
+-- there are fewer that can still be given
+abbrev pub HasAnswered : PlanView → TreeView → SweepView → SweepView → Option (List Row) → Type 0
+HasAnswered plan t s new_s None = (new_s.awaited ≡ []) × (new_s.held ≡ []) × GivesRows plan t s new_s []
+HasAnswered plan t s new_s (Some rows) = (rows ≢ []) × (rows_left new_s < rows_left s) × GivesRows plan t s new_s rows

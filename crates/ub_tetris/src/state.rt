@@ -1,9 +1,9 @@
-ghost use Rattle.std.specs.Prelude.{◌≡◌, ◌≢◌, ◌<◌, ◌≤◌, [], Ok, None, length, List, IfOk, IfSome, OnErr, OnOk};
+ghost use Rattle.std.specs.Prelude.{◌≡◌, ◌≢◌, ◌<◌, ◌≤◌, ◌∷◌, [], length, List, IfOk, OnErr, OnOk};
 ghost use Rattle.std.specs.Option.{option_map};
 ghost use Rattle.ub_planning.specs.Visits.{Event};
 ghost use Rattle.ub_query.specs.Posed.{IsPosed};
 ghost use Rattle.ub_table.specs.declared.row.Row.{Row as RowView};
-ghost use Rattle.ub_tetris.specs.Effects.{Rests, Sweeps};
+ghost use Rattle.ub_tetris.specs.Effects.{HasAnswered, HasFound, Rests, Sweeps};
 ghost use Rattle.ub_tetris.specs.Sweep.{IsSweeping, HandsOver, HasBroken, HasBrokenOff, HasHandedOver, HasStepped, HasSteppedValue, rows_left};
 ghost use Rattle.ub_tetris.specs.inner.Turns.{HasAskedNext, HasFetchedNext, HasHandedNext, HasReadNext, IsDue, IsOnward, view_of};
 
@@ -71,12 +71,10 @@ impl State {
         ensures broken { (given rest : List RowView) (fetched unread : List Event)
             → IsSweeping plan.now tree.old (view_of self.old) given rest fetched unread
             → OnErr result (HasBroken tree.new (view_of self.old) rest fetched unread) }
-        ensures rests { (given : List RowView) (fetched : List Event)
-            → IsSweeping plan.now tree.old (view_of self.old) given [] fetched []
+        ensures rests { (view_of self.old).awaited ≡ [] → self.old.held ≡ []
             → Rests (view_of self.old) (view_of self.new) tree.old tree.new result }
-        ensures ended { result ≡ Ok None → (view_of self.new).awaited ≡ [] }
-        ensures fewer { IfOk result (λ found. IfSome found
-            (λ row. rows_left (view_of self.new) < rows_left (view_of self.old))) }
+        ensures answers { IfOk result (λ found. HasAnswered plan.now tree.old (view_of self.old)
+            (view_of self.new) (option_map (λ row. row ∷ []) found)) }
         ensures effect { Sweeps (view_of self.old) (view_of self.new) tree.old tree.new result }
     {
         while self.is_due() {
@@ -100,12 +98,10 @@ impl State {
         ensures broken { (given rest : List RowView) (fetched unread : List Event)
             → IsSweeping plan.now tree.old (view_of self.old) given rest fetched unread
             → OnErr result (HasBroken tree.new (view_of self.old) rest fetched unread) }
-        ensures rests { (given : List RowView) (fetched : List Event)
-            → IsSweeping plan.now tree.old (view_of self.old) given [] fetched []
+        ensures rests { (view_of self.old).awaited ≡ [] → self.old.held ≡ []
             → Rests (view_of self.old) (view_of self.new) tree.old tree.new result }
-        ensures ended { result ≡ Ok None → (view_of self.new).awaited ≡ [] }
-        ensures fewer { IfOk result (λ found. IfSome found
-            (λ rows. rows_left (view_of self.new) < rows_left (view_of self.old))) }
+        ensures answers { IfOk result (λ found. HasAnswered plan.now tree.old (view_of self.old)
+            (view_of self.new) (option_map (λ rows. rows.items) found)) }
         ensures effect { Sweeps (view_of self.old) (view_of self.new) tree.old tree.new result }
     {
         let Some(first) = self.step(tree, plan)? else {
@@ -125,9 +121,10 @@ impl State {
         requires { IsPosed (length tree.old.schema.columns) plan.now.asked }
         ensures rows { OnOk result (HandsOver (K.HasTaken tree.old.schema plan.now.asked)
             sink.old sink.new
-            (λ rows. (given rest : List RowView) (fetched unread : List Event)
+            (λ rows. HasFound plan.now tree.old (view_of self.old) (view_of self.new) rows
+            × ((given rest : List RowView) (fetched unread : List Event)
             → IsSweeping plan.now tree.old (view_of self.old) given rest fetched unread
-            → HasHandedOver plan.now tree.new fetched unread rows)) }
+            → HasHandedOver plan.now tree.new fetched unread rows))) }
         ensures broken { (given rest : List RowView) (fetched unread : List Event)
             → IsSweeping plan.now tree.old (view_of self.old) given rest fetched unread
             → OnErr result (HasBrokenOff tree.new fetched unread) }

@@ -32,14 +32,14 @@ impl Model for Sweep {
 }
 
 impl Sweep {
-    ghost use Rattle.std.specs.Prelude.{◌≡◌, ◌≢◌, ◌<◌, ℕ, Bool, List, [], Ok, Err, None, IsTrue, length, IfOk, IfSome, OnErr, OnOk};
+    ghost use Rattle.std.specs.Prelude.{◌≡◌, ◌≢◌, ◌∷◌, ℕ, Bool, false, List, [], Err, IsTrue, length, IfOk, OnErr, OnOk};
     ghost use Rattle.std.specs.Option.{option_map};
     ghost use Rattle.ub_planning.specs.Visits.{Event};
     ghost use Rattle.ub_query.specs.Posed.{IsPosed};
     ghost use Rattle.ub_table.specs.declared.row.Row.{Row as RowView};
-    ghost use Rattle.ub_tetris.specs.Effects.{Begins, FailsOnce, Rests, Sweeps};
+    ghost use Rattle.ub_tetris.specs.Effects.{Begins, FailsOnce, HasAnswered, HasFound, Rests, Sweeps};
     ghost use Rattle.ub_tetris.specs.inner.Turns.{begun_view};
-    ghost use Rattle.ub_tetris.specs.Sweep.{HandsOver, HasBegun, HasBroken, HasBrokenOff, HasHandedOver, HasStepped, HasSteppedValue, IsNoSweep, IsStarted, IsSweepOf, IsSweeping, IsSwept, rows_left};
+    ghost use Rattle.ub_tetris.specs.Sweep.{HandsOver, HasBegun, HasBroken, HasBrokenOff, HasHandedOver, HasStepped, HasSteppedValue, IsNoSweep, IsStarted, IsSweepOf, IsSweeping, IsSwept};
     ghost use Rattle.ub_tetris.specs.Awaited.{AreMetAlong};
 
     /// Begins a sweep by a plan. The trace begins anew; no region is fetched. Of a plan that is no sweep it comes to no region;
@@ -86,10 +86,11 @@ impl Sweep {
 
     /// The next row in the order asked, or by the lead of the groups; `None` after the last, however often it is asked.
     ///
-    /// No region is fetched that can only hold rows after this one, nor twice, also where it answers a fault. Where it answers
-    /// no fault each that was fetched was taken in, and where it answers `None` no region is left. It comes to an end over any
-    /// tree: with each row there are fewer that it can still give. `Memory` where memory was refused; `Tree` where the tree
-    /// refused; after either of them `Failed` each time.
+    /// No region is fetched that can only hold rows after this one. Over any tree, also one that isn't sound: none is fetched
+    /// twice, also where it answers a fault; where it answers none, each that was fetched was taken in, and the rows held before
+    /// and those chosen of these regions are the row given and the rows held now. `None` comes only where no row is held and no
+    /// region is left, and from then on each call answers it and changes nothing. With each row there are fewer that it can
+    /// still give. `Memory` where memory was refused; `Tree` where the tree refused; after either of them `Failed` each time.
     pub fn next<S: PageStore>(
         &mut self,
         tree: &mut Tree<S>,
@@ -102,12 +103,10 @@ impl Sweep {
         ensures broken { (given rest : List RowView) (fetched unread : List Event)
             → IsSweeping plan.now tree.old self.old given rest fetched unread
             → OnErr result (HasBroken tree.new self.old rest fetched unread) }
-        ensures rests { (given : List RowView) (fetched : List Event)
-            → IsSweeping plan.now tree.old self.old given [] fetched []
+        ensures rests { self.old.is_failed ≡ false → self.old.awaited ≡ [] → self.old.held ≡ []
             → Rests self.old self.new tree.old tree.new result }
-        ensures ended { result ≡ Ok None → self.new.awaited ≡ [] }
-        ensures fewer { IfOk result
-            (λ found. IfSome found (λ row. rows_left self.new < rows_left self.old)) }
+        ensures answers { IfOk result (λ found. HasAnswered plan.now tree.old self.old self.new
+            (option_map (λ row. row ∷ []) found)) }
         ensures once { FailsOnce self.old self.new tree.old tree.new result }
         ensures effect { Sweeps self.old self.new tree.old tree.new result }
     {
@@ -122,9 +121,8 @@ impl Sweep {
     /// All selected rows of the next value of the sweep's dimension that a selected row has, by row number; `None` after the
     /// last, however often it is asked. Of a query with GROUP BY these are whole groups.
     ///
-    /// No region is fetched that can only hold rows past that value, nor twice, also where it answers a fault. Where it answers
-    /// no fault each that was fetched was taken in, and where it answers `None` no region is left. It comes to an end over any
-    /// tree, as `next` does, and has its faults.
+    /// No region is fetched that can only hold rows past that value. Over any tree it gives one row at least, and no empty list,
+    /// and else it is as `next`: what it fetches, where its rows come from, when it answers `None`, and its faults.
     pub fn next_value<S: PageStore>(
         &mut self,
         tree: &mut Tree<S>,
@@ -139,12 +137,10 @@ impl Sweep {
         ensures broken { (given rest : List RowView) (fetched unread : List Event)
             → IsSweeping plan.now tree.old self.old given rest fetched unread
             → OnErr result (HasBroken tree.new self.old rest fetched unread) }
-        ensures rests { (given : List RowView) (fetched : List Event)
-            → IsSweeping plan.now tree.old self.old given [] fetched []
+        ensures rests { self.old.is_failed ≡ false → self.old.awaited ≡ [] → self.old.held ≡ []
             → Rests self.old self.new tree.old tree.new result }
-        ensures ended { result ≡ Ok None → self.new.awaited ≡ [] }
-        ensures fewer { IfOk result
-            (λ found. IfSome found (λ rows. rows_left self.new < rows_left self.old)) }
+        ensures answers { IfOk result (λ found. HasAnswered plan.now tree.old self.old self.new
+            (option_map (λ rows. rows.items) found)) }
         ensures once { FailsOnce self.old self.new tree.old tree.new result }
         ensures effect { Sweeps self.old self.new tree.old tree.new result }
     {
@@ -160,8 +156,9 @@ impl Sweep {
     /// come where no order of them is asked for. A sweep that has given none hands over all selected rows. Those that it holds
     /// stay held.
     ///
-    /// No region is fetched twice, also where it answers a fault; where it answers none each was taken in, and none is left. It
-    /// has the faults of `next`, and after one the sink is used no more.
+    /// Over any tree, also one that isn't sound: no region is fetched twice, also where it answers a fault; where it answers
+    /// none each was taken in, none is left, and what the sink takes are the rows chosen of each, and no others. It has the
+    /// faults of `next`, and after one the sink is used no more.
     pub fn hand_over<S: PageStore, K: RowSink>(
         &mut self,
         tree: &mut Tree<S>,
@@ -171,9 +168,10 @@ impl Sweep {
         requires { IsPosed (length tree.old.schema.columns) plan.now.asked }
         ensures rows { OnOk result (HandsOver (K.HasTaken tree.old.schema plan.now.asked)
             sink.old sink.new
-            (λ rows. (given rest : List RowView) (fetched unread : List Event)
+            (λ rows. HasFound plan.now tree.old self.old self.new rows
+            × ((given rest : List RowView) (fetched unread : List Event)
             → IsSweeping plan.now tree.old self.old given rest fetched unread
-            → HasHandedOver plan.now tree.new fetched unread rows)) }
+            → HasHandedOver plan.now tree.new fetched unread rows))) }
         ensures broken { (given rest : List RowView) (fetched unread : List Event)
             → IsSweeping plan.now tree.old self.old given rest fetched unread
             → OnErr result (HasBrokenOff tree.new fetched unread) }

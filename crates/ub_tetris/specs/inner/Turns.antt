@@ -15,7 +15,6 @@ use Rattle.ub_tetris.specs.declared.state.State.{State}
 use Rattle.ub_tetris.specs.inner.Kept.{HoldsAlso, IsFirstOf}
 use Rattle.ub_tree.specs.Calls.{StandsAt}
 use Rattle.ub_tree.specs.Effects.{HasNoted, IsTakenIn}
-use Rattle.ub_tree.specs.Placed.{Placed}
 use Rattle.ub_tree.specs.View.{TreeView, IsSound, KeepsTrace, spans_of}
 
 -- what contracts see of a sweep in this state
@@ -76,10 +75,7 @@ pub record HasHandedNext (plan : PlanView) (t new : TreeView) (s : State) (rows 
 
 -- the region at the sweep's place was fetched, and its rows that are chosen are held too
 pub record HasFetchedNext (plan : PlanView) (t new : TreeView) (s new_s : State) : Type 0 where
-  pub next : Awaited
-  pub at : slice_get s.queue.items s.fetched ≡ Some next
-  pub noted : HasNoted next.region.page t new
+  pub region : Region
+  pub read : HasReadNext t new s region
   pub choice : Choice
-  pub rows : IsSound t → Contains (spans_of t) next.region → (p : Placed) × Contains t.placed p × (p.page ≡ next.region.page)
-      × (p.region.first ≡ next.region.first)
-      × HoldsAlso t.schema (swept_order plan.asked.group plan.asked.order) (filter (is_chosen choice t.schema plan) p.region.rows) s.held new_s.held
+  pub rows : HoldsAlso t.schema (swept_order plan.asked.group plan.asked.order) (filter (is_chosen choice t.schema plan) region.rows) s.held new_s.held

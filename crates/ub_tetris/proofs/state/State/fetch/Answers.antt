@@ -30,8 +30,8 @@ returns-clause-rows g c =
     let read = c.in_ok-read_next.ensures.read in
     let schema = c.schema-2.result.now in
     let held = c.args.self.now.held in
-    has_fetched c.args.plan.now c.of-choice.result c.args.tree.now c.read_next.new.tree c.args.self.now (record c.read_next.new.self { held = c.push_chosen.new.sink }) read.next
-    c.read_next.new.self.page.region schema read.at read.noted read.stands read.first (schema_read c.args.tree.now c.read_next.new.tree c.args.self.now c.read_next.new.self.page.region schema read c.schema-2.ensures)
+    has_fetched c.args.plan.now c.of-choice.result c.args.tree.now c.read_next.new.tree c.args.self.now (record c.read_next.new.self { held = c.push_chosen.new.sink })
+    c.read_next.new.self.page.region schema read (schema_read c.args.tree.now c.read_next.new.tree c.args.self.now c.read_next.new.self.page.region schema read c.schema-2.ensures)
     (c.in_ok-push_chosen.ensures held []
     (subst (λ (hs : List HeldRow). HoldsAlso schema (keys_of c.args.plan.now.asked) [] held hs) (sym c.in_ok-read_next.ensures.held) (HoldsAlso-none schema (keys_of c.args.plan.now.asked) held)))
 

@@ -1,11 +1,10 @@
-use Rattle.std.proofs.Common.{◌≡◌, Bool, Err, None, ap, refl, subst}
-use Rattle.ub_tetris.proofs.BrokenFacts.{none_awaited}
+use Rattle.std.proofs.Common.{Bool, Err, ap, refl, subst}
 use Rattle.ub_tetris.proofs.EffectFacts.{sweeps_then, swept_by, swept_with}
 use Rattle.ub_tetris.proofs.FetchFacts.{due_within}
-use Rattle.ub_tetris.proofs.StepsFacts.{Fetches-more, Fetches-none, end_unbroken, fewer, on_err, step_broken, step_ends, step_fewer, step_rests, same_schema}
+use Rattle.ub_tetris.proofs.StepsFacts.{Fetches-more, Fetches-none, end_unbroken, fewer, on_err, step_answers, step_broken, step_ends, step_rests, same_schema}
 use Rattle.ub_tetris.specs.inner.Turns.{IsDue, view_of}
 use Rattle.ub_tree.specs.View.{TreeView}
-use Rattle.ub_tetris.proofs.TurnFacts.{never_ok, posed_still, refused_none}
+use Rattle.ub_tetris.proofs.TurnFacts.{posed_still, refused_none}
 use Rattle.ub_tetris.proofs.state.State.step.Goals as goal
 
 pub loop-self-init : goal.loop-self-init
@@ -44,23 +43,18 @@ returns-in_err-fetch-clause-broken g c given rest fetched unread is =
     (ap (λ (t : TreeView). t.placed) c.in_err-fetch.ensures.effect.same) given rest fetched unread is)
 
 pub returns-in_err-fetch-clause-rests : goal.returns-in_err-fetch-clause-rests
-returns-in_err-fetch-clause-rests g c given fetched is =
+returns-in_err-fetch-clause-rests g c none empty =
     end_unbroken c.args.plan.now c.args.tree.now c.loop-self.tree c.args.self.now c.loop-self.self c.loop-self.invariant
-    (subst (λ (due : Bool). IsDue c.loop-self.self due) c.loop-self-test.true c.is_due.ensures) given fetched is
+    (subst (λ (due : Bool). IsDue c.loop-self.self due) c.loop-self-test.true c.is_due.ensures) none
 
 pub returns-clause-rests : goal.returns-clause-rests
-returns-clause-rests g c given fetched is =
-    step_rests c.args.plan.now c.args.tree.now c.loop-self.tree c.args.self.now c.loop-self.self c.loop-self.invariant (record c.loop-self.self { held = c.take_first.new.self }) c.take_first.result c.take_first.ensures (refl, refl, refl) given fetched is
+returns-clause-rests g c none empty =
+    step_rests c.args.plan.now c.args.tree.now c.loop-self.tree c.args.self.now c.loop-self.self c.loop-self.invariant (record c.loop-self.self { held = c.take_first.new.self }) c.take_first.result c.take_first.ensures (refl, refl, refl) none empty
 
-pub returns-clause-ended : goal.returns-clause-ended
-returns-clause-ended g c none =
-    let taken : c.take_first.result ≡ None = cc in
-    none_awaited c.loop-self.self c.take_first.new.self c.take_first.result (subst (λ (due : Bool). IsDue c.loop-self.self due) c.loop-self-test.false c.is_due.ensures) c.take_first.ensures taken
-
-pub returns-clause-fewer : goal.returns-clause-fewer
-returns-clause-fewer g c =
-    step_fewer c.args.plan.now c.args.tree.now c.loop-self.tree c.args.self.now c.loop-self.self c.loop-self.invariant (record c.loop-self.self { held = c.take_first.new.self }) c.take_first.result
-    c.take_first.ensures (refl, refl, refl)
+pub returns-clause-answers : goal.returns-clause-answers
+returns-clause-answers g c =
+    step_answers c.args.plan.now c.args.tree.now c.loop-self.tree c.args.self.now c.loop-self.self c.loop-self.invariant (record c.loop-self.self { held = c.take_first.new.self }) c.take_first.result
+    (subst (λ (due : Bool). IsDue c.loop-self.self due) c.loop-self-test.false c.is_due.ensures) c.take_first.ensures (refl, refl, refl)
 
 pub fetch-requires-clause-posed : goal.fetch-requires-clause-posed
 fetch-requires-clause-posed g c =
@@ -78,8 +72,5 @@ returns-clause-broken g c given rest fetched unread is = tt
 pub returns-in_err-fetch-clause-next : goal.returns-in_err-fetch-clause-next
 returns-in_err-fetch-clause-next g c given rest fetched unread is = refused_none _ c.from_residual.result _ c.from_residual.ensures.1
 
-pub returns-in_err-fetch-clause-ended : goal.returns-in_err-fetch-clause-ended
-returns-in_err-fetch-clause-ended g c ok = never_ok c.from_residual.result _ _ c.from_residual.ensures.1 ok
-
-pub returns-in_err-fetch-clause-fewer : goal.returns-in_err-fetch-clause-fewer
-returns-in_err-fetch-clause-fewer g c = refused_none _ c.from_residual.result _ c.from_residual.ensures.1
+pub returns-in_err-fetch-clause-answers : goal.returns-in_err-fetch-clause-answers
+returns-in_err-fetch-clause-answers g c = refused_none _ c.from_residual.result _ c.from_residual.ensures.1

@@ -1,18 +1,16 @@
-use Rattle.std.proofs.Common.{None, Some, Ok, Option, refl, ap}
+use Rattle.std.proofs.Common.{None, Some, refl}
 use Rattle.ub_tetris.proofs.EffectFacts.{swept_by, swept_short, swept_with}
 use Rattle.ub_tetris.proofs.StepsFacts.{on_err}
-use Rattle.ub_tetris.proofs.ValueFacts.{given_broken, never_rests, never_rests_on, rests_still, value_fewer, value_step}
-use Rattle.ub_tetris.specs.Sweep.{rows_left}
+use Rattle.ub_tetris.proofs.ValueFacts.{given_broken, never_rests, never_rests_on, rests_still, value_answers, value_step}
 use Rattle.ub_tetris.specs.inner.Turns.{view_of}
-use Rattle.ub_table.specs.declared.row.Row.{Row}
-use Rattle.ub_tetris.proofs.TurnFacts.{never_ok, refused_none}
+use Rattle.ub_tetris.proofs.TurnFacts.{refused_none}
 use Rattle.ub_tetris.proofs.state.State.step_value.Goals as goal
 
 pub returns-in_err-first-clause-broken : goal.returns-in_err-first-clause-broken
 returns-in_err-first-clause-broken g c given rest fetched unread is = on_err c.from_residual.result _ (c.in_err-first.ensures.broken given rest fetched unread is)
 
 pub returns-in_err-first-clause-rests : goal.returns-in_err-first-clause-rests
-returns-in_err-first-clause-rests g c given fetched is = never_rests_on _ _ _ _ _ (c.in_err-first.ensures.rests given fetched is)
+returns-in_err-first-clause-rests g c none empty = never_rests_on _ _ _ _ _ (c.in_err-first.ensures.rests none empty)
 
 pub returns-in_err-first-clause-effect : goal.returns-in_err-first-clause-effect
 returns-in_err-first-clause-effect g c =
@@ -22,7 +20,7 @@ pub returns-in_default-clause-next : goal.returns-in_default-clause-next
 returns-in_default-clause-next g c given rest fetched unread is some = rw c.in_default.is at (c.in_ok-first.ensures.next given rest fetched unread is)
 
 pub returns-in_default-clause-rests : goal.returns-in_default-clause-rests
-returns-in_default-clause-rests g c given fetched is = rests_still _ _ _ _ _ (c.in_ok-first.ensures.rests given fetched is)
+returns-in_default-clause-rests g c none empty = rests_still _ _ _ _ _ (c.in_ok-first.ensures.rests none empty)
 
 pub returns-in_default-clause-effect : goal.returns-in_default-clause-effect
 returns-in_default-clause-effect g c =
@@ -35,7 +33,7 @@ returns-in_err-rows-clause-broken g c given rest fetched unread is =
     (rw c.in-Some.is at (c.in_ok-first.ensures.next given rest fetched unread is)))
 
 pub returns-in_err-rows-clause-rests : goal.returns-in_err-rows-clause-rests
-returns-in_err-rows-clause-rests g c given fetched is = never_rests _ c.in-Some.first _ _ _ _ c.in-Some.is (c.in_ok-first.ensures.rests given fetched is)
+returns-in_err-rows-clause-rests g c none empty = never_rests _ c.in-Some.first _ _ _ _ c.in-Some.is (c.in_ok-first.ensures.rests none empty)
 
 pub returns-in_err-rows-clause-effect : goal.returns-in_err-rows-clause-effect
 returns-in_err-rows-clause-effect g c =
@@ -48,12 +46,12 @@ returns-clause-next g c given rest fetched unread is some =
     (rw c.in-Some.is at (c.in_ok-first.ensures.next given rest fetched unread is)) c.in_ok-rows.ensures (refl, refl, refl)
 
 pub returns-clause-rests : goal.returns-clause-rests
-returns-clause-rests g c given fetched is = never_rests _ c.in-Some.first _ _ _ _ c.in-Some.is (c.in_ok-first.ensures.rests given fetched is)
+returns-clause-rests g c none empty = never_rests _ c.in-Some.first _ _ _ _ c.in-Some.is (c.in_ok-first.ensures.rests none empty)
 
-pub returns-clause-fewer : goal.returns-clause-fewer
-returns-clause-fewer g c =
-    value_fewer c.step.new.self (record c.step.new.self { held = c.take_value.new.self }) c.in-Some.first c.in_ok-rows.rows.items (rows_left (view_of c.args.self.now)) c.in_ok-rows.ensures
-    (refl, refl, refl) (rw c.in-Some.is at c.in_ok-first.ensures.fewer)
+pub returns-clause-answers : goal.returns-clause-answers
+returns-clause-answers g c =
+    value_answers c.args.plan.now c.args.tree.now (view_of c.args.self.now) c.step.new.self (record c.step.new.self { held = c.take_value.new.self }) c.in-Some.first c.in_ok-rows.rows.items c.in_ok-rows.ensures
+    (refl, refl, refl) (rw c.in-Some.is at c.in_ok-first.ensures.answers)
 
 pub returns-clause-effect : goal.returns-clause-effect
 returns-clause-effect g c =
@@ -63,32 +61,20 @@ returns-clause-effect g c =
 pub returns-in_err-first-clause-next : goal.returns-in_err-first-clause-next
 returns-in_err-first-clause-next g c given rest fetched unread is some = refused_none _ c.from_residual.result _ c.from_residual.ensures.1
 
-pub returns-in_err-first-clause-ended : goal.returns-in_err-first-clause-ended
-returns-in_err-first-clause-ended g c ok = never_ok c.from_residual.result _ _ c.from_residual.ensures.1 ok
-
-pub returns-in_err-first-clause-fewer : goal.returns-in_err-first-clause-fewer
-returns-in_err-first-clause-fewer g c = refused_none _ c.from_residual.result _ c.from_residual.ensures.1
+pub returns-in_err-first-clause-answers : goal.returns-in_err-first-clause-answers
+returns-in_err-first-clause-answers g c = refused_none _ c.from_residual.result _ c.from_residual.ensures.1
 
 pub returns-in_err-rows-clause-next : goal.returns-in_err-rows-clause-next
 returns-in_err-rows-clause-next g c given rest fetched unread is some = refused_none _ c.from_residual-in_err-rows.result _ c.from_residual-in_err-rows.ensures.1
 
-pub returns-in_err-rows-clause-ended : goal.returns-in_err-rows-clause-ended
-returns-in_err-rows-clause-ended g c ok = never_ok c.from_residual-in_err-rows.result _ _ c.from_residual-in_err-rows.ensures.1 ok
-
-pub returns-in_err-rows-clause-fewer : goal.returns-in_err-rows-clause-fewer
-returns-in_err-rows-clause-fewer g c = refused_none _ c.from_residual-in_err-rows.result _ c.from_residual-in_err-rows.ensures.1
+pub returns-in_err-rows-clause-answers : goal.returns-in_err-rows-clause-answers
+returns-in_err-rows-clause-answers g c = refused_none _ c.from_residual-in_err-rows.result _ c.from_residual-in_err-rows.ensures.1
 
 pub returns-in_default-clause-broken : goal.returns-in_default-clause-broken
 returns-in_default-clause-broken g c given rest fetched unread is = tt
 
-pub returns-in_default-clause-ended : goal.returns-in_default-clause-ended
-returns-in_default-clause-ended g c ok = c.in_ok-first.ensures.ended (ap (λ (found : Option Row). Ok found) c.in_default.is)
-
-pub returns-in_default-clause-fewer : goal.returns-in_default-clause-fewer
-returns-in_default-clause-fewer g c = tt
+pub returns-in_default-clause-answers : goal.returns-in_default-clause-answers
+returns-in_default-clause-answers g c = rw c.in_default.is at c.in_ok-first.ensures.answers
 
 pub returns-clause-broken : goal.returns-clause-broken
 returns-clause-broken g c given rest fetched unread is = tt
-
-pub returns-clause-ended : goal.returns-clause-ended
-returns-clause-ended g c ok = absurd cc

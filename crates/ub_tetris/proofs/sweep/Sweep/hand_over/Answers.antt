@@ -5,16 +5,24 @@ use Rattle.ub_table.specs.declared.row.Row.{Row}
 use Rattle.ub_tetris.proofs.BrokenFacts.{same_view}
 use Rattle.ub_tetris.proofs.EffectFacts.{Sweeps-failed}
 use Rattle.ub_tetris.proofs.HandFacts.{left_seen}
+use Rattle.ub_tetris.specs.Effects.{HasFound}
+use Rattle.ub_tetris.specs.inner.Turns.{view_of}
 use Rattle.ub_tetris.specs.Sweep.{HandsOver, HasHandedOver, IsSweeping, SweepView}
-use Rattle.ub_tetris.proofs.TurnFacts.{FailsOnce-failed, never_swept, once_seen, sweeps_seen}
+use Rattle.ub_tetris.proofs.TurnFacts.{FailsOnce-failed, never_swept, on_ok_seen, once_seen, sweeps_seen}
 use Rattle.ub_tetris.proofs.sweep.Sweep.hand_over.Goals as goal
 
 pub returns-clause-rows : goal.returns-clause-rows
 returns-clause-rows g c =
     let same = same_view c.self.inside.state c.self.inside.is_failed c.args.self.now c.self.view_is c.if-self.false in
-    subst (λ (view : SweepView). OnOk c.hand_over-handed.result (HandsOver (g.K.RowSink.HasTaken c.args.tree.now.schema c.args.plan.now.asked) c.args.sink.now c.hand_over-handed.new.sink
-    (λ rows. (given rest : List Row) (fetched unread : List Event) → IsSweeping c.args.plan.now c.args.tree.now view given rest fetched unread
-    → HasHandedOver c.args.plan.now c.hand_over-handed.new.tree fetched unread rows))) (sym same) c.hand_over-handed.ensures.rows
+    on_ok_seen c.hand_over-handed.result c.self.inside.state c.hand_over-handed.new.self c.args.self.now c.is_err-self-inside.result same c.is_err-self-inside.ensures.value
+    (λ v. HandsOver (g.K.RowSink.HasTaken c.args.tree.now.schema c.args.plan.now.asked) c.args.sink.now c.hand_over-handed.new.sink
+    (λ rows. HasFound c.args.plan.now c.args.tree.now c.args.self.now v rows
+    × ((given rest : List Row) (fetched unread : List Event) → IsSweeping c.args.plan.now c.args.tree.now c.args.self.now given rest fetched unread
+    → HasHandedOver c.args.plan.now c.hand_over-handed.new.tree fetched unread rows)))
+    (subst (λ (view : SweepView). OnOk c.hand_over-handed.result (HandsOver (g.K.RowSink.HasTaken c.args.tree.now.schema c.args.plan.now.asked) c.args.sink.now c.hand_over-handed.new.sink
+    (λ rows. HasFound c.args.plan.now c.args.tree.now view (view_of c.hand_over-handed.new.self) rows
+    × ((given rest : List Row) (fetched unread : List Event) → IsSweeping c.args.plan.now c.args.tree.now view given rest fetched unread
+    → HasHandedOver c.args.plan.now c.hand_over-handed.new.tree fetched unread rows)))) (sym same) c.hand_over-handed.ensures.rows)
 
 pub returns-clause-broken : goal.returns-clause-broken
 returns-clause-broken g c given rest fetched unread is =

@@ -1,10 +1,12 @@
-use Rattle.std.proofs.Common.{[], ◌∙◌, ◌<◌, IfOk, IfSome, ap, subst, sym}
+use Rattle.std.proofs.Common.{[], ◌∷◌, ◌∙◌, IfOk, ap, subst, sym}
+use Rattle.std.specs.Option.{option_map}
 use Rattle.std.specs.Prelude.{OnErr}
 use Rattle.ub_tetris.proofs.BrokenFacts.{rests_seen, same_view}
 use Rattle.ub_tetris.proofs.EffectFacts.{Sweeps-failed}
-use Rattle.ub_tetris.specs.Sweep.{HasBroken, IsSweeping, SweepView, HasStepped, rows_left}
+use Rattle.ub_tetris.specs.Effects.{HasAnswered}
+use Rattle.ub_tetris.specs.Sweep.{HasBroken, IsSweeping, SweepView, HasStepped}
 use Rattle.ub_tetris.specs.inner.Turns.{view_of}
-use Rattle.ub_tetris.proofs.TurnFacts.{FailsOnce-failed, never_swept, ok_seen, once_seen, sweeps_seen}
+use Rattle.ub_tetris.proofs.TurnFacts.{FailsOnce-failed, never_swept, never_works, ok_seen, once_seen, sweeps_seen}
 use Rattle.ub_tetris.proofs.sweep.Sweep.next.Goals as goal
 
 pub returns-clause-broken : goal.returns-clause-broken
@@ -14,33 +16,30 @@ returns-clause-broken g c given rest fetched unread is =
     (c.step-found.ensures.broken given rest fetched unread (subst (λ (view : SweepView). IsSweeping c.args.plan.now c.args.tree.now view given rest fetched unread) same is))
 
 pub returns-clause-rests : goal.returns-clause-rests
-returns-clause-rests g c given fetched is =
+returns-clause-rests g c working none empty =
     let same = same_view c.self.inside.state c.self.inside.is_failed c.args.self.now c.self.view_is c.if-self.false in
     rests_seen c.step-found.result c.self.inside.state c.step-found.new.self c.args.self.now c.is_err-self-inside.result c.args.tree.now c.step-found.new.tree same c.is_err-self-inside.ensures.value
-    (c.step-found.ensures.rests given fetched (subst (λ (view : SweepView). IsSweeping c.args.plan.now c.args.tree.now view given [] fetched []) same is))
+    (c.step-found.ensures.rests (ap (λ (v : SweepView). v.awaited) (sym same) ∙ none) (ap (λ (v : SweepView). v.held) (sym same) ∙ empty))
 
 pub returns-then-self-clause-effect : goal.returns-then-self-clause-effect
 returns-then-self-clause-effect g c = Sweeps-failed c.args.self.now c.args.tree.now (ap (λ (v : SweepView). v.is_failed) (sym c.self.view_is) ∙ c.if-self.true)
 
-pub returns-clause-fewer : goal.returns-clause-fewer
-returns-clause-fewer g c =
+pub returns-clause-answers : goal.returns-clause-answers
+returns-clause-answers g c =
     let same = same_view c.self.inside.state c.self.inside.is_failed c.args.self.now c.self.view_is c.if-self.false in
-    subst (λ (view : SweepView). IfOk c.step-found.result (λ found. IfSome found (λ row. rows_left (view_of c.step-found.new.self) < rows_left view))) (sym same) c.step-found.ensures.fewer
+    ok_seen c.step-found.result c.self.inside.state c.step-found.new.self c.args.self.now c.is_err-self-inside.result same c.is_err-self-inside.ensures.value
+    (λ v found. HasAnswered c.args.plan.now c.args.tree.now c.args.self.now v (option_map (λ row. row ∷ []) found))
+    (subst (λ (view : SweepView). IfOk c.step-found.result (λ found. HasAnswered c.args.plan.now c.args.tree.now view (view_of c.step-found.new.self) (option_map (λ row. row ∷ []) found))) (sym same)
+    c.step-found.ensures.answers)
 
 pub returns-then-self-clause-next : goal.returns-then-self-clause-next
 returns-then-self-clause-next g c given rest fetched unread is = tt
 
 pub returns-then-self-clause-rests : goal.returns-then-self-clause-rests
-returns-then-self-clause-rests g c given fetched is = never_swept c.args.plan.now c.args.tree.now c.args.self.now given [] fetched [] (ap (λ (v : SweepView). v.is_failed) (sym c.self.view_is) ∙ c.if-self.true) is
+returns-then-self-clause-rests g c working none empty = never_works c.args.self.now.is_failed (ap (λ (v : SweepView). v.is_failed) (sym c.self.view_is) ∙ c.if-self.true) working
 
-pub returns-then-self-clause-ended : goal.returns-then-self-clause-ended
-returns-then-self-clause-ended g c ok = absurd cc
-
-pub returns-then-self-clause-fewer : goal.returns-then-self-clause-fewer
-returns-then-self-clause-fewer g c = tt
-
-pub returns-clause-ended : goal.returns-clause-ended
-returns-clause-ended g c ok = c.step-found.ensures.ended ok
+pub returns-then-self-clause-answers : goal.returns-then-self-clause-answers
+returns-then-self-clause-answers g c = tt
 
 pub returns-clause-next : goal.returns-clause-next
 returns-clause-next g c given rest fetched unread is =
