@@ -1,30 +1,79 @@
--- A sweep over any tree, asked for more until it has none: it has come to all regions that it awaited.
-use Rattle.std.proofs.Common.{◌≡◌, ◌<◌, ◌∙◌, ◌++◌, ℕ, Bool, List, [], Option, Some, None, Ok, IfSome, map, refl, sym, ap, subst, append_assoc}
-use Rattle.std.proofs.lemmas.List.{append-nil, map-append}
+-- A sweep over any tree, asked for more until the limit is filled or it has none: it has come to the first of the regions that it
+-- awaited, or to all.
+use Rattle.std.proofs.Common.{◌≡◌, ◌<◌, ◌≤◌, ◌+◌, ◌∙◌, ◌++◌, ◌∷◌, inl, inr, ℕ, zero, suc, Bool, List, [], Option, Some, None, Result, Ok, IfSome, length, map, take, refl, sym, ap, subst, arith, append_assoc}
+use Rattle.std.proofs.lemmas.List.{append-nil, length-map, map-append}
+use Rattle.std.specs.Option.{option_map}
 use Rattle.std.specs.List.{AllByRecursion}
 use Rattle.ub_exec.proofs.NotedFacts.{all_joined}
 use Rattle.ub_exec.specs.Answers.{begun}
-use Rattle.ub_exec.specs.Reading.{HasSweptAll, IsIn}
-use Rattle.ub_bigmin.specs.Box.{Corners}
-use Rattle.ub_exec.specs.Sweeping.{ComesOn, ComesToAll}
+use Rattle.ub_exec.specs.Reading.{HasSweptFirst, HasSweptSome, IsFilled, IsIn}
+use Rattle.ub_exec.specs.Sweeping.{BreaksOff, ComesOn, ComesToAll}
 use Rattle.ub_planning.specs.Plan.{PlanView}
+use Rattle.ub_table.specs.declared.row.Row.{Row}
 use Rattle.ub_tetris.specs.Awaited.{AreMetAlong}
-use Rattle.ub_tetris.specs.Effects.{Sweeps}
+use Rattle.ub_tetris.specs.Effects.{HasAnswered, Sweeps}
 use Rattle.ub_tetris.specs.Sweep.{AwaitedRegion, IsSweepOf, SweepView, rows_left}
+use Rattle.ub_tetris.specs.declared.fault.SweepFault.{SweepFault}
 use Rattle.ub_tree.proofs.Laws.{IsTraced}
 use Rattle.ub_tree.specs.View.{TreeView}
 
 -- what one call says
-pub comes_on : {A : Type 0} (found : Option A) (s new_s : SweepView) (old new : TreeView) → Sweeps s new_s old new (Ok found) → (found ≡ None → new_s.awaited ≡ [])
-    → IfSome found (λ given. rows_left new_s < rows_left s) → ComesOn s new_s old new found
-comes_on found s new_s old new sweeps ended fewer = record {
+pub comes_on : {A : Type 0} (rows : A → List Row) (plan : PlanView) (found : Option A) (s new_s : SweepView) (old new : TreeView) → Sweeps s new_s old new (Ok found)
+    → HasAnswered plan old s new_s (option_map rows found) → ComesOn s new_s old new found
+comes_on rows plan found s new_s old new sweeps answered = record {
   come = sweeps.come;
   left = sweeps.left;
   taken = sweeps.taken.1;
   trace_is = sweeps.trace_is ∙ ap (λ (pages : List ℕ). old.trace.pages ++ pages) sweeps.taken.0;
-  ended = ended;
-  fewer = fewer;
+  ended = ended found answered;
+  fewer = fewer found answered;
 }
+  where
+    ended : (found : Option _) → HasAnswered plan old s new_s (option_map rows found) → found ≡ None → new_s.awaited ≡ []
+    ended None answered none = answered.0
+    ended (Some given) answered none = cc
+
+    fewer : (found : Option _) → HasAnswered plan old s new_s (option_map rows found) → IfSome found (λ given. rows_left new_s < rows_left s)
+    fewer None answered = tt
+    fewer (Some given) answered = answered.1
+
+-- ---- the first of a list
+
+take_few : {E : Type 0} (n : ℕ) (xs : List E) → length (take n xs) ≤ length xs
+take_few zero xs = omega arith
+take_few (suc n) [] = omega arith
+take_few (suc n) (x ∷ xs) = let few = take_few n xs in omega arith
+
+take_front : {E : Type 0} (n : ℕ) (xs ys : List E) → n ≤ length xs → take n (xs ++ ys) ≡ take n xs
+take_front zero xs ys few = refl
+take_front (suc n) [] ys few = absurd (omega arith)
+take_front (suc n) (x ∷ xs) ys few = ap (λ (rest : List _). x ∷ rest) (take_front n xs ys (omega arith))
+
+take_beyond : {E : Type 0} (xs : List E) (n : ℕ) (ys : List E) → take (length xs + n) (xs ++ ys) ≡ xs ++ take n ys
+take_beyond [] n ys = let e : 0 + n ≡ n = omega arith in ap (λ (m : ℕ). take m ys) e
+take_beyond (x ∷ xs) n ys =
+    let e : suc (length xs) + n ≡ suc (length xs + n) = omega arith in
+    ap (λ (m : ℕ). take m (x ∷ (xs ++ ys))) e ∙ ap (λ (rest : List _). x ∷ rest) (take_beyond xs n ys)
+
+take_whole : {E : Type 0} (xs ys : List E) → take (length xs) (xs ++ ys) ≡ xs
+take_whole [] ys = refl
+take_whole (x ∷ xs) ys = ap (λ (rest : List _). x ∷ rest) (take_whole xs ys)
+
+-- what one call says that was ended by a fault
+pub breaks_off : {A : Type 0} (r : Result A SweepFault) (s new_s : SweepView) (old new : TreeView) → Sweeps s new_s old new r → BreaksOff s old new
+breaks_off r s new_s old new sweeps =
+    let first = sweeps.once.first in
+    let long : length sweeps.noted ≡ length (take (length sweeps.noted) sweeps.come) = ap length first ∙ length-map (take (length sweeps.noted) sweeps.come) (λ (a : AwaitedRegion). a.region.page) in
+    let few = take_few (length sweeps.noted) sweeps.come in
+    let front : take (length sweeps.noted) s.awaited ≡ take (length sweeps.noted) sweeps.come =
+    ap (take (length sweeps.noted)) sweeps.left ∙ take_front (length sweeps.noted) sweeps.come new_s.awaited (omega arith) in
+    record {
+      count = length sweeps.noted;
+      trace_is = sweeps.trace_is ∙ ap (λ (pages : List ℕ). old.trace.pages ++ pages) first
+          ∙ ap (λ (those : List AwaitedRegion). old.trace.pages ++ map (λ (a : AwaitedRegion). a.region.page) those) (sym front);
+    }
+
+-- ---- call after call
 
 -- so far as it has come: of the regions that it awaited first these were taken in, and their pages noted
 pub record HasComeOn (p : PlanView) (start now : TreeView) (s : SweepView) : Type 0 where
@@ -60,10 +109,59 @@ noted start now new some more first second =
     ∙ append_assoc start.trace.pages (map (λ (a : AwaitedRegion). a.region.page) some) (map (λ (a : AwaitedRegion). a.region.page) more)
     ∙ ap (λ (pages : List ℕ). start.trace.pages ++ pages) (sym (map-append (λ (a : AwaitedRegion). a.region.page) some more))
 
-module _ (p : PlanView) (start now : TreeView) (s : SweepView) (traced : IsTraced start now) (so_far : HasComeOn p start now s) (new : TreeView) (new_s : SweepView) where
-  -- it gave a row, or those of a value
-  pub HasComeOn-more : {A : Type 0} (given : A) → ComesOn s new_s now new (Some given) → HasComeOn p start new new_s
-  HasComeOn-more given comes = record {
+module _ (p : PlanView) (start now : TreeView) (s : SweepView) (so_far : HasComeOn p start now s) (dim : ℕ) (is_descending : Bool) (of : IsSweepOf start.schema p dim is_descending) where
+  -- no more is asked of it
+  pub swept_full : (limit : Option ℕ) (rows : ℕ) → IsFilled limit rows → HasSweptSome p.covering.boxes dim is_descending limit start now rows
+  swept_full limit rows full = record {
+    awaited = so_far.first;
+    all = so_far.met dim is_descending of;
+    come = so_far.come;
+    left = s.awaited;
+    parts = so_far.parts;
+    taken = so_far.taken;
+    trace_is = so_far.trace_is;
+    ended = inr full;
+  }
+
+  -- it has none left
+  pub swept_whole : (limit : Option ℕ) (rows : ℕ) → s.awaited ≡ [] → HasSweptSome p.covering.boxes dim is_descending limit start now rows
+  swept_whole limit rows none = record {
+    awaited = so_far.first;
+    all = so_far.met dim is_descending of;
+    come = so_far.come;
+    left = s.awaited;
+    parts = so_far.parts;
+    taken = so_far.taken;
+    trace_is = so_far.trace_is;
+    ended = inl none;
+  }
+
+  -- memory was refused for what it gave
+  pub swept_first : HasSweptFirst p.covering.boxes dim is_descending start now
+  swept_first = record {
+    awaited = so_far.first;
+    all = so_far.met dim is_descending of;
+    count = length so_far.come;
+    trace_is = so_far.trace_is
+        ∙ ap (λ (those : List AwaitedRegion). start.trace.pages ++ map (λ (a : AwaitedRegion). a.region.page) those)
+        (sym (ap (take (length so_far.come)) so_far.parts ∙ take_whole so_far.come s.awaited));
+  }
+
+  -- or asking it for more was ended by a fault
+  pub swept_broken : (new : TreeView) → BreaksOff s now new → HasSweptFirst p.covering.boxes dim is_descending start new
+  swept_broken new broken = record {
+    awaited = so_far.first;
+    all = so_far.met dim is_descending of;
+    count = length so_far.come + broken.count;
+    trace_is = noted start now new so_far.come (take broken.count s.awaited) so_far.trace_is broken.trace_is
+        ∙ ap (λ (those : List AwaitedRegion). start.trace.pages ++ map (λ (a : AwaitedRegion). a.region.page) those)
+        (sym (ap (take (length so_far.come + broken.count)) so_far.parts ∙ take_beyond so_far.come broken.count s.awaited));
+  }
+
+module _ (p : PlanView) (start now : TreeView) (s : SweepView) (traced : IsTraced start now) (so_far : HasComeOn p start now s) (new : TreeView) where
+  -- it was asked for more
+  pub HasComeOn-more : {A : Type 0} (found : Option A) (new_s : SweepView) → ComesOn s new_s now new found → HasComeOn p start new new_s
+  HasComeOn-more found new_s comes = record {
     first = so_far.first;
     met = so_far.met;
     come = so_far.come ++ comes.come;
@@ -72,18 +170,16 @@ module _ (p : PlanView) (start now : TreeView) (s : SweepView) (traced : IsTrace
     trace_is = noted start now new so_far.come comes.come so_far.trace_is comes.trace_is;
   }
 
-  -- it has none left
-  pub swept_all : {A : Type 0} → ComesOn {A = A} s new_s now new None → (dim : ℕ) (is_descending : Bool) → IsSweepOf start.schema p dim is_descending → HasSweptAll p.covering.boxes dim is_descending start new
-  swept_all comes dim is_descending of =
-      let whole : so_far.first ≡ so_far.come ++ comes.come = so_far.parts
-      ∙ ap (λ (those : List AwaitedRegion). so_far.come ++ those) (comes.left ∙ ap (λ (those : List AwaitedRegion). comes.come ++ those) (comes.ended refl) ∙ append-nil comes.come) in
-      record {
-        awaited = so_far.first;
-        all = so_far.met dim is_descending of;
-        taken = subst (λ (those : List AwaitedRegion). AllByRecursion (λ a. IsIn start a.region) those) (sym whole) (joined start now traced so_far.come comes.come so_far.taken comes.taken);
-        trace_is = noted start now new so_far.come comes.come so_far.trace_is comes.trace_is
-            ∙ ap (λ (those : List AwaitedRegion). start.trace.pages ++ map (λ (a : AwaitedRegion). a.region.page) those) (sym whole);
-      }
+  -- or for all that was left
+  pub HasComeOn-all : ComesToAll s now new → HasComeOn p start new (record s { awaited = [] })
+  HasComeOn-all comes = record {
+    first = so_far.first;
+    met = so_far.met;
+    come = so_far.come ++ s.awaited;
+    parts = so_far.parts ∙ sym (append-nil (so_far.come ++ s.awaited));
+    taken = joined start now traced so_far.come s.awaited so_far.taken comes.taken;
+    trace_is = noted start now new so_far.come s.awaited so_far.trace_is comes.trace_is;
+  }
 
 -- ---- all at once
 
@@ -96,9 +192,3 @@ comes_to_all s new_s old new sweeps left =
       trace_is = sweeps.trace_is ∙ ap (λ (pages : List ℕ). old.trace.pages ++ pages) sweeps.taken.0
           ∙ ap (λ (those : List AwaitedRegion). old.trace.pages ++ map (λ (a : AwaitedRegion). a.region.page) those) whole;
     }
-
--- of a sweep that was begun these are all that the tree tells of
-pub swept_at_once : (boxes : List Corners) (dim : ℕ) (is_descending : Bool) (old mid new : TreeView) (s : SweepView) → mid ≡ begun old → AreMetAlong boxes dim is_descending mid s.awaited
-    → ComesToAll s mid new → HasSweptAll boxes dim is_descending (begun old) new
-swept_at_once boxes dim is_descending old mid new s same met comes =
-    subst (λ (t : TreeView). HasSweptAll boxes dim is_descending t new) same (record { awaited = s.awaited; all = met; taken = comes.taken; trace_is = comes.trace_is })

@@ -1,16 +1,17 @@
 -- The rows of a sweep that was begun, put in one after the other until the limit is filled or none is left.
-use Rattle.std.proofs.Common.{◌≡◌, ◌<◌, ◌≤◌, ◌++◌, ◌∷◌, ℕ, Bool, List, [], Option, Some, None, Result, Ok, Err, IfOk, IfSome, ◌∙◌, length, map, refl, sym, ap, subst}
+use Rattle.std.proofs.Common.{◌≡◌, ◌<◌, ◌≤◌, ◌++◌, ◌∷◌, inr, ℕ, Bool, List, [], Option, Some, None, Result, Ok, Err, IfOk, IfSome, ◌∙◌, length, map, refl, sym, ap, subst}
 use Rattle.std.proofs.lemmas.List.{append-nil, length-map}
 use Rattle.std.specs.List.{AllByRecursion}
 use Rattle.std.specs.Prelude.{OnErr, OnOk}
+use Rattle.std.specs.Result.{IsErrAnd}
 use Rattle.ub_answer.specs.Shaped.{IsShaped}
 use Rattle.ub_exec.proofs.BreakFacts.{swept_after, swept_before}
-use Rattle.ub_exec.proofs.ComeFacts.{HasComeOn, HasComeOn-more, swept_all}
-use Rattle.ub_exec.proofs.NotedFacts.{is_swept, notes_none, notes_ok, notes_then}
-use Rattle.ub_exec.proofs.SweptFacts.{HasSwept, HasSwept-none, HasSwept-more, begun_fetches, few_more, few_none, unfilled, noted_more, wide_more, ended_fetched, ended_answered, filled_fetched, filled_answered, swept_kind}
+use Rattle.ub_exec.proofs.ComeFacts.{HasComeOn, HasComeOn-more, swept_broken, swept_first, swept_full, swept_whole}
+use Rattle.ub_exec.proofs.NotedFacts.{is_swept, notes_none, notes_ok, notes_then, swept_err}
+use Rattle.ub_exec.proofs.SweptFacts.{HasSwept, HasSwept-none, HasSwept-more, begun_fetches, few_more, few_none, noted_more, wide_more, ended_fetched, ended_answered, filled_fetched, filled_answered, swept_kind}
 use Rattle.ub_exec.specs.Answers.{IsAnswer, IsReady, IsSwept, begun}
-use Rattle.ub_exec.specs.Reading.{HasSweptAll, NotesPages}
-use Rattle.ub_exec.specs.Sweeping.{ComesOn, Fills, IsAtWork, IsBegun, IsFilled}
+use Rattle.ub_exec.specs.Reading.{IsFilled, NotesPages, ReadsSwept}
+use Rattle.ub_exec.specs.Sweeping.{BreaksOff, ComesOn, Fills, IsAtWork, IsBegun}
 use Rattle.ub_exec.specs.Visits.{HasFetched, HasFetchedFirst, fetches_then}
 use Rattle.ub_planning.specs.Plan.{PlanView}
 use Rattle.ub_planning.specs.Visits.{Event}
@@ -62,8 +63,10 @@ module _ (p : PlanView) (start now : TreeView) (first s : SweepView) (cells : Li
     answers = λ begins plain. filled_answered p start now s cells plain so_far.kept so_far.fetches (swept begins) (kind_of begins) full so_far.few;
     fetches = λ begins plain. subst (λ (t : TreeView). HasFetched p t now) (sym fresh)
         (filled_fetched p start now s cells plain so_far.kept so_far.fetches (swept begins) (kind_of begins) full so_far.few);
-    sweeps = λ dim is_descending of none. unfilled p.asked.limit (length cells) none full;
   }
+
+  pub swept_filled : IsFilled p.asked.limit (length cells) → ReadsSwept p start now (λ (rows : List (List Cell)). length rows) (Ok cells)
+  swept_filled full dim is_descending of = swept_full p start now s so_far.come_on dim is_descending of p.asked.limit (length cells) full
 
   module _ (left : IfSome p.asked.limit (λ most. length cells < most)) (new : TreeView) (new_s : SweepView) where
     -- asking for the next row was ended by a fault
@@ -75,6 +78,9 @@ module _ (p : PlanView) (start now : TreeView) (first s : SweepView) (cells : Li
         subst (λ (t : TreeView). (count : ℕ) × HasFetchedFirst p t new count) (sym fresh)
         (swept_before p start now new s cells plain so_far.kept so (ap (λ (t : TreeView). t.placed) reads.same) (noted_more (Err fault) start now new so_far.fetches notes) left
         (breaks so.given so.rest so.fetched so.unread so.sweeping))
+
+    pub swept_asking : (fault : ReadFault) → BreaksOff s now new → ReadsSwept p start new (λ (rows : List (List Cell)). length rows) (Err fault)
+    swept_asking fault broken dim is_descending of = inr (swept_broken p start now s so_far.come_on dim is_descending of new broken)
 
     pub notes_broken : {A : Type 0} (fault : ReadFault) → NotesPages {A = Option Row} now new (Err fault) → NotesPages {A = A} start new (Err fault)
     notes_broken fault notes =
@@ -112,9 +118,17 @@ module _ (p : PlanView) (start now : TreeView) (first s : SweepView) (cells : Li
               subst (λ (t : TreeView). HasFetched p t new) (sym fresh)
               (ended_fetched p start now new s new_s cells plain kept fetches so after.regions.schema left
               (subst (HasStepped p new new_s so.given so.rest so.fetched so.unread) none (steps so.given so.rest so.fetched so.unread so.sweeping)));
-          sweeps = λ dim is_descending of unlimited.
-              swept_all p start now s so_far.kept.traced so_far.come_on new new_s (subst (ComesOn s new_s now new) none comes) dim is_descending of;
         }
+
+        comes_further : HasComeOn p start new new_s
+        comes_further = HasComeOn-more p start now s so_far.kept.traced so_far.come_on new found new_s comes
+
+        pub swept_ended : found ≡ None → ReadsSwept p start new (λ (rows : List (List Cell)). length rows) (Ok cells)
+        swept_ended none dim is_descending of = swept_whole p start new new_s comes_further dim is_descending of p.asked.limit (length cells) (comes.ended none)
+
+        -- memory was refused for what it gave
+        pub swept_putting : (r : Result (List (List Cell)) ReadFault) (P : ReadFault → Type 0) → IsErrAnd r P → ReadsSwept p start new (λ (rows : List (List Cell)). length rows) r
+        swept_putting r P is = swept_err (λ (rows : List (List Cell)). length rows) r P p start new is (λ dim is_descending of. inr (swept_first p start new new_s comes_further dim is_descending of))
 
         module _ (row : Row) (some : found ≡ Some row) where
           -- it gave a row, which wasn't put in
@@ -131,7 +145,7 @@ module _ (p : PlanView) (start now : TreeView) (first s : SweepView) (cells : Li
             kept = kept;
             few = few_more p.asked.limit cells _ more put left;
             works = works;
-            come_on = HasComeOn-more p start now s so_far.kept.traced so_far.come_on new new_s row (subst (ComesOn s new_s now new) some comes);
+            come_on = comes_further;
             notes = notes_after tt;
             fetches = fetches;
             wide = subst (λ (rows : List (List Cell)). AllByRecursion (λ cells. length cells ≡ length p.asked.items) rows) (sym put)
@@ -173,12 +187,9 @@ module _ (p : PlanView) (old mid : TreeView) (s : SweepView) (is : mid ≡ begun
     filled_pages (Ok cells) fills begins plain = subst (λ (t : TreeView). HasFetched p t new) is (fills.fetches begins plain)
     filled_pages (Err fault) fills begins plain = tt
 
-    pub filled_all : (r : Result (List (List Cell)) ReadFault) → IfOk r (Fills p mid new s) → (dim : ℕ) (is_descending : Bool) → IsSweepOf old.schema p dim is_descending → p.asked.limit ≡ None
-        → OnOk r (HasSweptAll p.covering.boxes dim is_descending (begun old) new)
-    filled_all (Ok cells) fills dim is_descending of none =
-        subst (λ (t : TreeView). HasSweptAll p.covering.boxes dim is_descending t new) is
-        (fills.sweeps dim is_descending (subst (λ (t : TreeView). IsSweepOf t.schema p dim is_descending) (sym is) of) none)
-    filled_all (Err fault) fills dim is_descending of none = tt
+    pub filled_swept : (r : Result (List (List Cell)) ReadFault) → ReadsSwept p mid new (λ (rows : List (List Cell)). length rows) r
+        → ReadsSwept p (begun old) new (λ (rows : List (List Cell)). length rows) r
+    filled_swept r reads = subst (λ (t : TreeView). ReadsSwept p t new (λ (rows : List (List Cell)). length rows) r) is reads
 
     pub filled_broken : {A : Type 0} (r : Result A ReadFault) → OnErr r ((count : ℕ) × HasFetchedFirst p mid new count) → OnErr r ((count : ℕ) × HasFetchedFirst p (begun old) new count)
     filled_broken r broken = subst (λ (t : TreeView). OnErr r ((count : ℕ) × HasFetchedFirst p t new count)) is broken

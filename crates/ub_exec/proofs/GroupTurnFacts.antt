@@ -13,7 +13,7 @@ use Rattle.ub_exec.proofs.MeantFacts.{empty_where}
 use Rattle.ub_exec.proofs.NotedFacts.{all_joined}
 use Rattle.ub_exec.proofs.SweptFacts.{swept_kind, visits_fetched}
 use Rattle.ub_exec.specs.Answers.{IsAnswer, IsReady, IsSwept, begun}
-use Rattle.ub_exec.specs.Sweeping.{IsFilled}
+use Rattle.ub_exec.specs.Reading.{IsFilled}
 use Rattle.ub_exec.specs.Visits.{HasFetched, HasFetchedFirst, fetches_then}
 use Rattle.ub_planning.proofs.Laws.{AreUpTo, regions_have_a_table, up_to_chain}
 use Rattle.ub_planning.specs.Plan.{PlanView, plan_of}

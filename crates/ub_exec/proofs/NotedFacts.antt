@@ -6,7 +6,7 @@ use Rattle.std.specs.Prelude.{OnOk}
 use Rattle.std.specs.Result.{IsErrAnd}
 use Rattle.ub_bigmin.specs.Box.{Corners}
 use Rattle.ub_exec.specs.Answers.{IsSwept, begun}
-use Rattle.ub_exec.specs.Reading.{CarriesOut, HasReadAll, HasReadNext, HasSweptAll, IsIn, IsRead, NotesPages}
+use Rattle.ub_exec.specs.Reading.{CarriesOut, HasReadAll, HasReadNext, HasSweptFirst, HasSweptSome, IsIn, IsRead, NotesPages, ReadsSwept}
 use Rattle.ub_planning.specs.Plan.{PlanView}
 use Rattle.ub_planning.specs.declared.planned.Kind.{Kind}
 use Rattle.ub_planning.specs.declared.planned.Kind.TheVariants.{Empty, Scan, Sweep}
@@ -187,41 +187,62 @@ module _ (boxes : List Corners) (start now new : TreeView) (traced : IsTraced st
 
 -- ---- carrying out
 
-pub carries_none : {A : Type 0} (x : A) (p : PlanView) (t new : TreeView) → KeepsTrace t new → p.asked.limit ≡ Some 0 → CarriesOut p t new (Ok x)
-carries_none x p t new kept none = record {
-  notes = notes_none (Ok x) t new kept;
-  scans = λ apart some. absurd (some none);
-  sweeps = λ dim is_descending of all. cc;
-}
-
--- nor is a page noted where a call is refused at once
-pub carries_failed : {A : Type 0} (e : ReadFault) (p : PlanView) (t new : TreeView) → KeepsTrace t new → CarriesOut {A = A} p t new (Err e)
-carries_failed e p t new kept = record { notes = notes_none (Err e) t new kept; scans = λ apart some. tt; sweeps = λ dim is_descending of all. tt }
-
 pub is_swept : (kind : Kind) (dim : ℕ) (is_descending : Bool) → kind ≡ Sweep dim is_descending → IsSwept kind
 is_swept Empty dim is_descending is = cc
 is_swept Scan dim is_descending is = cc
 is_swept (Sweep other goes) dim is_descending is = tt
 
-pub carries_all : {A B : Type 0} (x : A) (y : B) (p : PlanView) (t new : TreeView) → ¬ IsSwept p.kind → NotesPages t new (Ok x) → HasReadAll p.covering.boxes t new → CarriesOut p t new (Ok y)
-carries_all x y p t new apart notes all = record {
-  notes = notes_ok x y t new notes;
-  scans = λ scan some. all;
-  sweeps = λ dim is_descending of none. absurd (apart (is_swept p.kind dim is_descending of.1));
+-- of a plan that is no sweep nothing is said of one
+no_sweep : {A : Type 0} (rows : A → ℕ) (r : Result A ReadFault) (p : PlanView) (t new : TreeView) → ¬ IsSwept p.kind → ReadsSwept p t new rows r
+no_sweep rows r p t new apart = λ dim is_descending of. absurd (apart (is_swept p.kind dim is_descending of.1))
+
+pub carries_none : {A : Type 0} (rows : A → ℕ) (x : A) (p : PlanView) (t new : TreeView) → ¬ IsSwept p.kind → KeepsTrace t new → p.asked.limit ≡ Some 0 → CarriesOut p t new rows (Ok x)
+carries_none rows x p t new apart kept none = record {
+  notes = notes_none (Ok x) t new kept;
+  scans = λ scan some. absurd (some none);
+  sweeps = no_sweep rows (Ok x) p t new apart;
 }
 
-pub carries_err : {A B : Type 0} (r : Result A ReadFault) (P : ReadFault → Type 0) (q : Result B ReadFault) (p : PlanView) (t new : TreeView) → IsErrAnd r P → NotesPages t new q → CarriesOut p t new r
-carries_err (Ok x) P q p t new is notes = absurd is
-carries_err (Err e) P q p t new is notes = record { notes = notes_err (Err e) P q t new is notes; scans = λ apart some. tt; sweeps = λ dim is_descending of all. tt }
+-- nor is a page noted where a call is refused at once
+pub carries_failed : {A : Type 0} (rows : A → ℕ) (e : ReadFault) (p : PlanView) (t new : TreeView) → KeepsTrace t new → CarriesOut {A = A} p t new rows (Err e)
+carries_failed rows e p t new kept = record { notes = notes_none (Err e) t new kept; scans = λ apart some. tt; sweeps = λ dim is_descending of. inl kept }
+
+pub carries_all : {A B : Type 0} (rows : A → ℕ) (x : B) (y : A) (p : PlanView) (t new : TreeView) → ¬ IsSwept p.kind → NotesPages t new (Ok x) → HasReadAll p.covering.boxes t new → CarriesOut p t new rows (Ok y)
+carries_all rows x y p t new apart notes all = record {
+  notes = notes_ok x y t new notes;
+  scans = λ scan some. all;
+  sweeps = no_sweep rows (Ok y) p t new apart;
+}
+
+pub carries_err : {A B : Type 0} (rows : A → ℕ) (r : Result A ReadFault) (P : ReadFault → Type 0) (q : Result B ReadFault) (p : PlanView) (t new : TreeView) → ¬ IsSwept p.kind → IsErrAnd r P → NotesPages t new q
+    → CarriesOut p t new rows r
+carries_err rows (Ok x) P q p t new apart is notes = absurd is
+carries_err rows (Err e) P q p t new apart is notes =
+    record { notes = notes_err (Err e) P q t new is notes; scans = λ scan some. tt; sweeps = no_sweep rows (Err e) p t new apart }
 
 -- the answer, or the fault, handed on
-pub carries_ok : {A B : Type 0} (x : A) (y : B) (p : PlanView) (t new : TreeView) → CarriesOut p t new (Ok x) → CarriesOut p t new (Ok y)
-carries_ok x y p t new carries = record { notes = notes_ok x y t new carries.notes; scans = carries.scans; sweeps = carries.sweeps }
+pub carries_ok : {A B : Type 0} (rows : A → ℕ) (others : B → ℕ) (x : A) (y : B) (p : PlanView) (t new : TreeView) → rows x ≡ others y → CarriesOut p t new rows (Ok x) → CarriesOut p t new others (Ok y)
+carries_ok rows others x y p t new same carries = record {
+  notes = notes_ok x y t new carries.notes;
+  scans = carries.scans;
+  sweeps = λ dim is_descending of. subst (λ (count : ℕ). HasSweptSome p.covering.boxes dim is_descending p.asked.limit t new count) same (carries.sweeps dim is_descending of);
+}
+
+pub carries_on : {A B : Type 0} (rows : A → ℕ) (others : B → ℕ) (r : Result B ReadFault) (P : ReadFault → Type 0) (e : ReadFault) (p : PlanView) (t new : TreeView) → IsErrAnd r P
+    → CarriesOut {A = A} p t new rows (Err e) → CarriesOut p t new others r
+carries_on rows others (Ok x) P e p t new is carries = absurd is
+carries_on {A = A} rows others (Err f) P e p t new is carries =
+    record { notes = notes_err {B = A} (Err f) P (Err e) t new is carries.notes; scans = λ apart some. tt; sweeps = carries.sweeps }
 
 -- a sweep, whatever the tree
-pub carries_swept : {A : Type 0} (r : Result A ReadFault) (p : PlanView) (t new : TreeView) → IsSwept p.kind → NotesPages t new r
-    → ((dim : ℕ) (is_descending : Bool) → IsSweepOf t.schema p dim is_descending → p.asked.limit ≡ None → OnOk r (HasSweptAll p.covering.boxes dim is_descending t new)) → CarriesOut p t new r
-carries_swept r p t new swept notes all = record { notes = notes; scans = λ apart some. absurd (apart swept); sweeps = all }
+pub carries_swept : {A : Type 0} (rows : A → ℕ) (r : Result A ReadFault) (p : PlanView) (t new : TreeView) → IsSwept p.kind → NotesPages t new r → ReadsSwept p t new rows r → CarriesOut p t new rows r
+carries_swept rows r p t new swept notes reads = record { notes = notes; scans = λ apart some. absurd (apart swept); sweeps = reads }
+
+-- one that a fault has ended
+pub swept_err : {A : Type 0} (rows : A → ℕ) (r : Result A ReadFault) (P : ReadFault → Type 0) (p : PlanView) (t new : TreeView) → IsErrAnd r P
+    → ((dim : ℕ) (is_descending : Bool) → IsSweepOf t.schema p dim is_descending → KeepsTrace t new ⊎ HasSweptFirst p.covering.boxes dim is_descending t new) → ReadsSwept p t new rows r
+swept_err rows (Ok x) P p t new is first = absurd is
+swept_err rows (Err e) P p t new is first = first
 
 -- ---- what a sweep notes
 

@@ -9,7 +9,7 @@ use Rattle.ub_exec.proofs.MeantFacts.{empty_where}
 use Rattle.ub_exec.specs.Answers.{IsAnswer, IsSwept, begun}
 use Rattle.ub_exec.proofs.NotedFacts.{noted_sum}
 use Rattle.ub_exec.specs.Reading.{NotesPages}
-use Rattle.ub_exec.specs.Sweeping.{IsFilled}
+use Rattle.ub_exec.specs.Reading.{IsFilled}
 use Rattle.ub_exec.specs.Visits.{HasFetched, fetches_then}
 use Rattle.ub_planning.specs.Plan.{PlanView}
 use Rattle.ub_planning.specs.Visits.{Event, AreSweepVisits, AreSweptVisits, AreVisits, AreVisitsBy}
@@ -226,11 +226,6 @@ filled_is query asked n rows same long full = subst (λ (m : ℕ). IsFilled aske
 
 pub left_is : (query asked : Asked) (n : ℕ) (rows : List (List Cell)) → query ≡ asked → n ≡ length rows → IfSome query.limit (λ most. n < most) → IfSome asked.limit (λ most. length rows < most)
 left_is query asked n rows same long left = subst (λ (m : ℕ). IfSome asked.limit (λ most. m < most)) long (subst (λ (q : Asked). IfSome q.limit (λ most. n < most)) same left)
-
--- where there is none it isn't filled
-pub unfilled : {X : Type 0} (limit : Option ℕ) (n : ℕ) → limit ≡ None → IsFilled limit n → X
-unfilled None n none full = absurd full
-unfilled (Some most) n none full = cc
 
 -- within the limit there are no more rows
 pub few_none : (limit : Option ℕ) (rows : List (List Cell)) → rows ≡ [] → IfSome limit (λ most. length rows ≤ most)

@@ -1,5 +1,5 @@
 -- What carrying out a plan reads of any tree, also of one that isn't sound: which pages are noted, and that each was taken in.
-use Rattle.std.specs.Prelude.{◌≡◌, ◌≢◌, ◌++◌, ℕ, Bool, List, Option, Some, None, Result, OnOk, length, map}
+use Rattle.std.specs.Prelude.{◌≡◌, ◌≢◌, ◌≤◌, ◌++◌, ◌⊎◌, [], ℕ, Bool, List, Option, Some, None, Result, Ok, Err, OnOk, length, map, take}
 use Rattle.std.specs.List.{AllByRecursion}
 use Rattle.ub_bigmin.specs.Box.{Corners}
 use Rattle.ub_exec.specs.Answers.{IsSwept}
@@ -39,20 +39,47 @@ pub record HasReadAll (boxes : List Corners) (old new : TreeView) : Type 0 where
   pub taken : AllByRecursion (IsIn old) spans
   pub trace_is : new.trace.pages ≡ old.trace.pages ++ map (λ span. span.page) spans
 
--- the same in the order of a sweep
-pub record HasSweptAll (boxes : List Corners) (dim : ℕ) (is_descending : Bool) (old new : TreeView) : Type 0 where
+-- so many rows are as many as the limit says, or more; without a limit none are
+abbrev pub IsFilled : Option ℕ → ℕ → Type 0
+IsFilled None given = ⊥
+IsFilled (Some most) given = most ≤ given
+
+-- the same in the order of a sweep, from which so many rows came: the first regions were taken in, and no others; these are all, or
+-- the rows are as many as the limit says
+pub record HasSweptSome (boxes : List Corners) (dim : ℕ) (is_descending : Bool) (limit : Option ℕ) (old new : TreeView) (rows : ℕ) : Type 0 where
   pub awaited : List AwaitedRegion
   pub all : AreMetAlong boxes dim is_descending old awaited
-  pub taken : AllByRecursion (λ a. IsIn old a.region) awaited
-  pub trace_is : new.trace.pages ≡ old.trace.pages ++ map (λ a. a.region.page) awaited
+  pub come : List AwaitedRegion
+  pub left : List AwaitedRegion
+  pub parts : awaited ≡ come ++ left
+  pub taken : AllByRecursion (λ a. IsIn old a.region) come
+  pub trace_is : new.trace.pages ≡ old.trace.pages ++ map (λ a. a.region.page) come
+  pub ended : (left ≡ []) ⊎ IsFilled limit rows
 
--- a plan was carried out over any tree: pages were noted, and where it answers, a scan passed over no region, unless the query
--- asks for no row, and nor did a sweep of a query that has no limit
-pub record CarriesOut {A : Type 0} (p : PlanView) (old new : TreeView) (result : Result A ReadFault) : Type 0 where
+-- where a fault ended it: the pages of the first regions were noted, each once and in their order, and no others
+pub record HasSweptFirst (boxes : List Corners) (dim : ℕ) (is_descending : Bool) (old new : TreeView) : Type 0 where
+  pub awaited : List AwaitedRegion
+  pub all : AreMetAlong boxes dim is_descending old awaited
+  pub count : ℕ
+  pub trace_is : new.trace.pages ≡ old.trace.pages ++ map (λ a. a.region.page) (take count awaited)
+
+-- what a sweep reads where it answers, and where a fault ends it, which may come before it knows all regions: then no page is noted
+abbrev pub HasSweptBy : {A : Type 0} → List Corners → ℕ → Bool → Option ℕ → TreeView → TreeView → (A → ℕ) → Result A ReadFault → Type 0
+HasSweptBy boxes dim is_descending limit old new rows (Ok answer) = HasSweptSome boxes dim is_descending limit old new (rows answer)
+HasSweptBy boxes dim is_descending limit old new rows (Err fault) = KeepsTrace old new ⊎ HasSweptFirst boxes dim is_descending old new
+
+-- a plan that is a sweep reads so
+abbrev pub ReadsSwept : {A : Type 0} → PlanView → TreeView → TreeView → (A → ℕ) → Result A ReadFault → Type 0
+ReadsSwept p old new rows result = (dim : ℕ) (is_descending : Bool) → IsSweepOf old.schema p dim is_descending
+    → HasSweptBy p.covering.boxes dim is_descending p.asked.limit old new rows result
+
+-- a plan was carried out over any tree, and so many rows came of it: pages were noted, and where it answers, a scan passed over no
+-- region, unless the query asks for no row, and a sweep none before it had all rows that the limit asks for, without a limit none
+-- at all; where a fault ends a sweep, the pages are those of the first regions
+pub record CarriesOut {A : Type 0} (p : PlanView) (old new : TreeView) (rows : A → ℕ) (result : Result A ReadFault) : Type 0 where
   pub notes : NotesPages old new result
   pub scans : ¬ IsSwept p.kind → p.asked.limit ≢ Some 0 → OnOk result (HasReadAll p.covering.boxes old new)
-  pub sweeps : (dim : ℕ) (is_descending : Bool) → IsSweepOf old.schema p dim is_descending → p.asked.limit ≡ None
-      → OnOk result (HasSweptAll p.covering.boxes dim is_descending old new)
+  pub sweeps : ReadsSwept p old new rows result
 
 -- the region that the tree gives next was taken in, and its page noted; or it gives none
 abbrev pub HasReadNext : List Corners → Option Span → TreeView → TreeView → Option Span → Type 0

@@ -1,10 +1,9 @@
-ghost use Rattle.std.specs.Prelude.{◌≡◌, ◌≢◌, ◌↔◌, ℕ, true, false, [], Some, None, Err, length, IsTrue, IfOk, OnErr, OnOk};
+ghost use Rattle.std.specs.Prelude.{◌≡◌, ◌≢◌, ◌↔◌, ℕ, true, false, [], Some, Err, length, IsTrue, IfOk, OnErr, OnOk};
 ghost use Rattle.ub_answer.specs.Shaped.{IsShaped};
 ghost use Rattle.ub_exec.specs.Answers.{IsReady, IsAnswer, IsSwept, begun};
-ghost use Rattle.ub_exec.specs.Reading.{CarriesOut, HasSweptAll, NotesPages};
+ghost use Rattle.ub_exec.specs.Reading.{CarriesOut, NotesPages, ReadsSwept};
 ghost use Rattle.ub_exec.specs.Visits.{HasFetched, HasFetchedFirst};
 ghost use Rattle.ub_query.specs.Posed.{IsPosed};
-ghost use Rattle.ub_tetris.specs.Sweep.{IsSweepOf};
 ghost use Rattle.ub_tree.specs.Reading.{ReadsTree};
 
 use crate::grouping::swept_groups;
@@ -29,8 +28,9 @@ pub struct Answer {
 
 /// The answer of a query by its plan, on the rows of a tree's table. The trace begins anew, and then has the pages that were
 /// fetched: on a sound tree those of the regions that the plan visits, each once, in their order; on any tree, where it
-/// answers, those of regions whose pages were taken in, and of a scan, or a sweep without LIMIT, of all regions that the tree
-/// tells of for its boxes. On any tree each row has as many cells as the query has items, and there are no more than its LIMIT.
+/// answers, those of regions whose pages were taken in: of a scan all regions that the tree tells of for its boxes, and of a
+/// sweep all, or the first ones until there were as many rows as its LIMIT. Where a fault ends a sweep, they are those of the
+/// first ones, each once. On any tree each row has as many cells as the query has items, and there are no more than its LIMIT.
 ///
 /// `Memory` where memory was refused; `Tree` where the tree refused, as it does where it has failed, whatever the plan. On a
 /// sound tree it refuses only where its store failed in this call; then so many of the visits were fetched, the first ones.
@@ -49,7 +49,7 @@ pub fn execute<S: PageStore>(
         × HasFetchedFirst plan.now (begun tree.old) tree.new count) }
     ensures fetched { IfOk result (λ a. a.fetched ≡ length tree.new.trace.pages) }
     ensures failed { IsTrue tree.old.is_failed → result ≡ Err (ReadFault.Tree TreeFault.Failed) }
-    ensures reads { CarriesOut plan.now (begun tree.old) tree.new result }
+    ensures reads { CarriesOut plan.now (begun tree.old) tree.new (λ a. length a.rows) result }
     ensures effect { ReadsTree tree.old tree.new result }
 {
     let rows = result_rows(alloc, tree, plan)?;
@@ -74,7 +74,8 @@ fn result_rows<S: PageStore>(
     ensures broken { IsReady tree.old plan.now → OnErr result ((count : ℕ)
         × HasFetchedFirst plan.now (begun tree.old) tree.new count) }
     ensures failed { IsTrue tree.old.is_failed → result ≡ Err (ReadFault.Tree TreeFault.Failed) }
-    ensures reads { CarriesOut plan.now (begun tree.old) tree.new result }
+    ensures reads { CarriesOut plan.now (begun tree.old) tree.new (λ cells. length cells)
+        result }
     ensures effect { ReadsTree tree.old tree.new result }
 {
     tree.begin();
@@ -97,10 +98,7 @@ fn swept<S: PageStore>(alloc: Global, tree: &mut Tree<S>, plan: &Plan) -> Result
         → OnOk result (HasFetched plan.now (begun tree.old) tree.new) }
     ensures broken { IsReady tree.old plan.now → IsSwept plan.now.kind → OnErr result ((count : ℕ)
         × HasFetchedFirst plan.now (begun tree.old) tree.new count) }
-    ensures all { (dim : ℕ) (is_descending : _)
-        → IsSweepOf tree.old.schema plan.now dim is_descending
-        → plan.now.asked.limit ≡ None → OnOk result
-        (HasSweptAll plan.now.covering.boxes dim is_descending (begun tree.old) tree.new) }
+    ensures swept { ReadsSwept plan.now (begun tree.old) tree.new (λ cells. length cells) result }
     ensures notes { NotesPages (begun tree.old) tree.new result }
     ensures effect { ReadsTree tree.old tree.new result }
 {
@@ -133,7 +131,8 @@ fn scanned_rows<S: PageStore>(
         → OnOk result (HasFetched plan.now tree.old tree.new) }
     ensures broken { IsReady tree.old plan.now → ¬ IsSwept plan.now.kind
         → OnErr result ((count : ℕ) × HasFetchedFirst plan.now tree.old tree.new count) }
-    ensures reads { ¬ IsSwept plan.now.kind → CarriesOut plan.now tree.old tree.new result }
+    ensures reads { ¬ IsSwept plan.now.kind
+        → CarriesOut plan.now tree.old tree.new (λ cells. length cells) result }
     ensures effect { ReadsTree tree.old tree.new result }
 {
     let query = plan.query();

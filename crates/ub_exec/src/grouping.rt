@@ -3,8 +3,8 @@ ghost use Rattle.std.specs.List.{All};
 ghost use Rattle.std.specs.Option.{option_map};
 ghost use Rattle.ub_answer.specs.Shaped.{IsShaped};
 ghost use Rattle.ub_exec.specs.Answers.{IsReady, IsAnswer, IsSwept, begun};
-ghost use Rattle.ub_exec.specs.Reading.{HasSweptAll, NotesPages};
-ghost use Rattle.ub_exec.specs.Sweeping.{ComesOn, ComesToAll, IsAtWork};
+ghost use Rattle.ub_exec.specs.Reading.{NotesPages, ReadsSwept};
+ghost use Rattle.ub_exec.specs.Sweeping.{BreaksOff, ComesOn, ComesToAll, IsAtWork};
 ghost use Rattle.ub_exec.specs.Visits.{HasFetched, HasFetchedFirst};
 ghost use Rattle.ub_planning.specs.Visits.{Event};
 ghost use Rattle.ub_query.specs.Meaning.{IsMeaning};
@@ -12,8 +12,8 @@ ghost use Rattle.ub_query.specs.Posed.{IsPosed};
 ghost use Rattle.ub_query.specs.Shape.{asked};
 ghost use Rattle.ub_table.specs.Table.{IsInOrder};
 ghost use Rattle.ub_table.specs.declared.row.Row.{Row as RowView};
+ghost use Rattle.ub_tetris.specs.Effects.{HasFound};
 ghost use Rattle.ub_tetris.specs.Sweep.{HandsOver, HasBroken, HasBrokenOff, HasHandedOver, HasSteppedValue, IsSweeping};
-ghost use Rattle.ub_tetris.specs.Sweep as sweep;
 ghost use Rattle.ub_tree.specs.Reading.{ReadsTree};
 
 use crate::sweeping::{begin_sweep, is_filled};
@@ -43,10 +43,7 @@ pub(crate) fn swept_groups<S: PageStore>(
     ensures broken { IsReady tree.old plan.now → IsSwept plan.now.kind → plan.now.asked.group ≢ []
         → OnErr result
         ((count : ℕ) × HasFetchedFirst plan.now (begun tree.old) tree.new count) }
-    ensures all { (dim : ℕ) (is_descending : _)
-        → sweep.IsSweepOf tree.old.schema plan.now dim is_descending
-        → plan.now.asked.limit ≡ None → OnOk result
-        (HasSweptAll plan.now.covering.boxes dim is_descending (begun tree.old) tree.new) }
+    ensures swept { ReadsSwept plan.now (begun tree.old) tree.new (λ cells. length cells) result }
     ensures notes { NotesPages (begun tree.old) tree.new result }
     ensures effect { ReadsTree tree.old tree.new result }
 {
@@ -73,10 +70,7 @@ fn all_groups<S: PageStore>(
     ensures broken { IsReady tree.old plan.now → IsSwept plan.now.kind → plan.now.asked.group ≢ []
         → OnErr result
         ((count : ℕ) × HasFetchedFirst plan.now (begun tree.old) tree.new count) }
-    ensures all { (dim : ℕ) (is_descending : _)
-        → sweep.IsSweepOf tree.old.schema plan.now dim is_descending
-        → OnOk result
-        (HasSweptAll plan.now.covering.boxes dim is_descending (begun tree.old) tree.new) }
+    ensures swept { ReadsSwept plan.now (begun tree.old) tree.new (λ cells. length cells) result }
     ensures notes { NotesPages (begun tree.old) tree.new result }
     ensures effect { ReadsTree tree.old tree.new result }
 {
@@ -104,6 +98,7 @@ fn first_groups<S: PageStore>(
     ensures broken { IsReady tree.old plan.now → IsSwept plan.now.kind → plan.now.asked.group ≢ []
         → OnErr result
         ((count : ℕ) × HasFetchedFirst plan.now (begun tree.old) tree.new count) }
+    ensures swept { ReadsSwept plan.now (begun tree.old) tree.new (λ cells. length cells) result }
     ensures notes { NotesPages (begun tree.old) tree.new result }
     ensures effect { ReadsTree tree.old tree.new result }
 {
@@ -159,6 +154,7 @@ fn next_value<S: PageStore>(
         → OnErr result (HasBroken tree.new sweep.old rest fetched unread) }
     ensures works { OnOk result (IsAtWork tree.new sweep.new) }
     ensures comes { IfOk result (ComesOn sweep.old sweep.new tree.old tree.new) }
+    ensures breaks { OnErr result (BreaksOff sweep.old tree.old tree.new) }
     ensures notes { NotesPages tree.old tree.new result }
     ensures effect { ReadsTree tree.old tree.new result }
 {
@@ -176,13 +172,15 @@ fn hand_over<S: PageStore, K: RowSink>(
     requires works { IsAtWork tree.old sweep.old }
     ensures rows { OnOk result (HandsOver (K.HasTaken tree.old.schema plan.now.asked)
         sink.old sink.new
-        (λ rows. (given rest : List RowView) (fetched unread : List Event)
+        (λ rows. HasFound plan.now tree.old sweep.old sweep.new rows
+        × ((given rest : List RowView) (fetched unread : List Event)
         → IsSweeping plan.now tree.old sweep.old given rest fetched unread
-        → HasHandedOver plan.now tree.new fetched unread rows)) }
+        → HasHandedOver plan.now tree.new fetched unread rows))) }
     ensures broken { (given rest : List RowView) (fetched unread : List Event)
         → IsSweeping plan.now tree.old sweep.old given rest fetched unread
         → OnErr result (HasBrokenOff tree.new fetched unread) }
     ensures comes { OnOk result (ComesToAll sweep.old tree.old tree.new) }
+    ensures breaks { OnErr result (BreaksOff sweep.old tree.old tree.new) }
     ensures notes { NotesPages tree.old tree.new result }
     ensures effect { ReadsTree tree.old tree.new result }
 {

@@ -1,8 +1,8 @@
 ghost use Rattle.std.specs.Prelude.{◌≡◌, ◌<◌, ◌++◌, ℕ, true, false, List, [], None, length, IfOk, IfSome, OnErr, OnOk};
 ghost use Rattle.ub_answer.specs.Shaped.{IsShaped};
 ghost use Rattle.ub_exec.specs.Answers.{IsReady, IsAnswer, IsSwept, begun};
-ghost use Rattle.ub_exec.specs.Reading.{HasSweptAll, NotesPages};
-ghost use Rattle.ub_exec.specs.Sweeping.{ComesOn, Fills, IsAtWork, IsBegun, IsFilled};
+ghost use Rattle.ub_exec.specs.Reading.{IsFilled, NotesPages, ReadsSwept};
+ghost use Rattle.ub_exec.specs.Sweeping.{BreaksOff, ComesOn, Fills, IsAtWork, IsBegun};
 ghost use Rattle.ub_exec.specs.Visits.{HasFetched, HasFetchedFirst};
 ghost use Rattle.ub_planning.specs.Visits.{Event};
 ghost use Rattle.ub_query.specs.Posed.{IsPosed};
@@ -37,10 +37,7 @@ pub(crate) fn swept_rows<S: PageStore>(
     ensures broken { IsReady tree.old plan.now → IsSwept plan.now.kind → plan.now.asked.group ≡ []
         → OnErr result
         ((count : ℕ) × HasFetchedFirst plan.now (begun tree.old) tree.new count) }
-    ensures all { (dim : ℕ) (is_descending : _)
-        → sweep.IsSweepOf tree.old.schema plan.now dim is_descending
-        → plan.now.asked.limit ≡ None → OnOk result
-        (HasSweptAll plan.now.covering.boxes dim is_descending (begun tree.old) tree.new) }
+    ensures swept { ReadsSwept plan.now (begun tree.old) tree.new (λ cells. length cells) result }
     ensures notes { NotesPages (begun tree.old) tree.new result }
     ensures effect { ReadsTree tree.old tree.new result }
 {
@@ -61,6 +58,7 @@ fn filled_rows<S: PageStore>(
     requires posed { IsPosed (length tree.old.schema.columns) plan.now.asked }
     requires begun { IsBegun plan.now tree.old sweep.old }
     ensures fills { IfOk result (Fills plan.now tree.old tree.new sweep.old) }
+    ensures swept { ReadsSwept plan.now tree.old tree.new (λ cells. length cells) result }
     ensures broken { HasBegun plan.now tree.old sweep.old → plan.now.asked.group ≡ []
         → OnErr result ((count : ℕ) × HasFetchedFirst plan.now tree.old tree.new count) }
     ensures notes { NotesPages tree.old tree.new result }
@@ -126,6 +124,7 @@ fn next_row<S: PageStore>(
         → OnErr result (HasBroken tree.new sweep.old rest fetched unread) }
     ensures works { OnOk result (IsAtWork tree.new sweep.new) }
     ensures comes { IfOk result (ComesOn sweep.old sweep.new tree.old tree.new) }
+    ensures breaks { OnErr result (BreaksOff sweep.old tree.old tree.new) }
     ensures notes { NotesPages tree.old tree.new result }
     ensures effect { ReadsTree tree.old tree.new result }
 {

@@ -1,4 +1,4 @@
-use Rattle.std.proofs.Common.{◌≡◌, ◌⊎◌, inl, inr, ℕ, Bool, false, IsTrue, IfOk, OnOk, ap, length, refl, subst, sym}
+use Rattle.std.proofs.Common.{◌≡◌, ◌⊎◌, inl, inr, ℕ, Bool, false, IsTrue, IfOk, List, OnOk, ap, length, refl, subst, sym}
 use Rattle.std.specs.Prelude.{OnErr}
 use Rattle.ub_tree.proofs.Laws.{Keeps-by, begun_traced, reads_then, unchanged_trace}
 use Rattle.ub_exec.specs.Answers.{IsReady, IsAnswer, IsSwept, begun}
@@ -9,6 +9,7 @@ use Rattle.ub_planning.specs.Plan.{PlanView, plan_of}
 use Rattle.ub_planning.specs.declared.planned.Kind.{Kind}
 use Rattle.ub_planning.specs.declared.planned.Kind.TheVariants.{Empty, Scan, Sweep}
 use Rattle.ub_query.specs.Posed.{IsPosed}
+use Rattle.ub_query.specs.declared.cell.Cell.{Cell}
 use Rattle.ub_table.specs.declared.schema.Schema.{Schema}
 use Rattle.ub_tree.specs.View.{TreeView}
 use Rattle.ub_exec.proofs.executing.result_rows.Goals as goal
@@ -45,7 +46,7 @@ returns-in-Empty g c = record {
   broken = λ ready. subst (λ (t : TreeView). OnErr c.scanned_rows.result ((count : ℕ) × HasFetchedFirst c.args.plan.now t c.scanned_rows.new.tree count)) c.begin.ensures
       (c.scanned_rows.ensures.broken (then c.args.tree.now c.begin.new.self c.args.plan.now c.begin.ensures ready) (apart c.kind.result c.args.plan.now.kind c.kind.ensures c.in-Empty.is));
   failed = works c.has_failed.result c.args.tree.now c.begin.new.self c.begin.ensures c.has_failed.ensures c.if-has_failed.false;
-  reads = subst (λ (t : TreeView). CarriesOut c.args.plan.now t c.scanned_rows.new.tree c.scanned_rows.result) c.begin.ensures
+  reads = subst (λ (t : TreeView). CarriesOut c.args.plan.now t c.scanned_rows.new.tree (λ (cells : List (List Cell)). length cells) c.scanned_rows.result) c.begin.ensures
       (c.scanned_rows.ensures.reads (apart c.kind.result c.args.plan.now.kind c.kind.ensures c.in-Empty.is));
   effect = reads_then c.scanned_rows.result c.args.tree.now c.begin.new.self c.scanned_rows.new.tree (begun_traced c.args.tree.now c.begin.new.self c.begin.ensures) c.scanned_rows.ensures.effect;
 }
@@ -62,8 +63,8 @@ returns-in-Sweep g c =
       broken = λ ready. subst (λ (t : TreeView). OnErr c.swept.result ((count : ℕ) × HasFetchedFirst c.args.plan.now (begun t) c.swept.new.tree count)) c.begin.ensures
           (c.swept.ensures.broken (then c.args.tree.now c.begin.new.self c.args.plan.now c.begin.ensures ready) sweeps);
       failed = works c.has_failed.result c.args.tree.now c.begin.new.self c.begin.ensures c.has_failed.ensures c.if-has_failed.false;
-      reads = subst (λ (t : TreeView). CarriesOut c.args.plan.now (begun t) c.swept.new.tree c.swept.result) c.begin.ensures
-          (carries_swept c.swept.result c.args.plan.now (begun c.begin.new.self) c.swept.new.tree sweeps c.swept.ensures.notes c.swept.ensures.all);
+      reads = subst (λ (t : TreeView). CarriesOut c.args.plan.now (begun t) c.swept.new.tree (λ (cells : List (List Cell)). length cells) c.swept.result) c.begin.ensures
+          (carries_swept (λ (cells : List (List Cell)). length cells) c.swept.result c.args.plan.now (begun c.begin.new.self) c.swept.new.tree sweeps c.swept.ensures.notes c.swept.ensures.swept);
       effect = reads_then c.swept.result c.args.tree.now c.begin.new.self c.swept.new.tree (begun_traced c.args.tree.now c.begin.new.self c.begin.ensures) c.swept.ensures.effect;
     }
 
@@ -78,7 +79,7 @@ returns-then-has_failed-clause-pages g c ready = tt
 
 pub returns-then-has_failed-clause-reads : goal.returns-then-has_failed-clause-reads
 returns-then-has_failed-clause-reads g c =
-    carries_failed _ c.args.plan.now (begun c.args.tree.now) c.begin.new.self (unchanged_trace (begun c.args.tree.now) c.begin.new.self c.begin.ensures)
+    carries_failed (λ (cells : List (List Cell)). length cells) _ c.args.plan.now (begun c.args.tree.now) c.begin.new.self (unchanged_trace (begun c.args.tree.now) c.begin.new.self c.begin.ensures)
 
 pub scanned_rows-requires : goal.scanned_rows-requires
 scanned_rows-requires g c = subst (λ (t : TreeView). IsPosed (length t.schema.columns) c.args.plan.now.asked) (sym c.begin.ensures) c.requires

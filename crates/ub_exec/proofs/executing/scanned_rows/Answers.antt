@@ -1,4 +1,4 @@
-use Rattle.std.proofs.Common.{◌≡◌, ◌≢◌, ◌∙◌, Ok, Err, Bool, true, false, List, [], Some, ap, refl, subst, sym}
+use Rattle.std.proofs.Common.{◌≡◌, ◌≢◌, ◌∙◌, Ok, Err, Bool, true, false, List, [], Some, length, ap, refl, subst, sym}
 use Rattle.std.proofs.lemmas.List.{append-nil}
 use Rattle.std.specs.List.{filter}
 use Rattle.ub_answer.specs.Gathered.{IsGathered}
@@ -13,6 +13,7 @@ use Rattle.ub_exec.proofs.RefusedFacts.{memory_reads, no_answer, no_result}
 use Rattle.ub_filter.specs.Choice.{is_chosen}
 use Rattle.ub_planning.proofs.Laws.{limit_of_zero_means_nothing}
 use Rattle.ub_query.specs.Shape.{Asked, asked}
+use Rattle.ub_query.specs.declared.cell.Cell.{Cell}
 use Rattle.ub_table.specs.declared.row.Row.{Row}
 use Rattle.ub_table.specs.declared.schema.Schema.{Schema}
 use Rattle.ub_tree.proofs.Laws.{reads_by}
@@ -76,18 +77,18 @@ returns-in_err-finish-clause-broken g c ready apart =
 pub returns-then-asks_for_none-clause-reads : goal.returns-then-asks_for_none-clause-reads
 returns-then-asks_for_none-clause-reads g c apart =
     let limit = sym (ap (λ (q : Asked). q.limit) c.query-query.ensures) ∙ c.asks_for_none.ensures.0 c.if-asks_for_none.true in
-    carries_none _ c.args.plan.now c.args.tree.now c.args.tree.now refl limit
+    carries_none (λ (cells : List (List Cell)). length cells) _ c.args.plan.now c.args.tree.now c.args.tree.now apart refl limit
 
 pub returns-clause-reads : goal.returns-clause-reads
-returns-clause-reads g c apart = carries_all _ _ c.args.plan.now c.args.tree.now c.walk.new.tree apart c.in_ok-walk.ensures.notes c.in_ok-walk.ensures.all
+returns-clause-reads g c apart = carries_all (λ (cells : List (List Cell)). length cells) _ _ c.args.plan.now c.args.tree.now c.walk.new.tree apart c.in_ok-walk.ensures.notes c.in_ok-walk.ensures.all
 
 pub returns-in_err-walk-clause-reads : goal.returns-in_err-walk-clause-reads
 returns-in_err-walk-clause-reads g c apart =
-    carries_err c.from_residual.result _ (Err _) c.args.plan.now c.args.tree.now c.walk.new.tree c.from_residual.ensures.1 c.in_err-walk.ensures.notes
+    carries_err (λ (cells : List (List Cell)). length cells) c.from_residual.result _ (Err _) c.args.plan.now c.args.tree.now c.walk.new.tree apart c.from_residual.ensures.1 c.in_err-walk.ensures.notes
 
 pub returns-in_err-finish-clause-reads : goal.returns-in_err-finish-clause-reads
 returns-in_err-finish-clause-reads g c apart =
-    carries_err c.from_residual-in_err-finish.result _ (Ok _) c.args.plan.now c.args.tree.now c.walk.new.tree c.from_residual-in_err-finish.ensures.1 c.in_ok-walk.ensures.notes
+    carries_err (λ (cells : List (List Cell)). length cells) c.from_residual-in_err-finish.result _ (Ok _) c.args.plan.now c.args.tree.now c.walk.new.tree apart c.from_residual-in_err-finish.ensures.1 c.in_ok-walk.ensures.notes
 
 pub returns-in_err-walk-clause-rows : goal.returns-in_err-walk-clause-rows
 returns-in_err-walk-clause-rows g c ready = no_answer c.from_residual.result _ _ c.from_residual.ensures.1

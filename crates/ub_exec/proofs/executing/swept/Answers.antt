@@ -20,8 +20,8 @@ returns-then-is_grouped-clause-broken g c ready kind = c.swept_groups.ensures.br
 pub returns-then-is_grouped-clause-shaped : goal.returns-then-is_grouped-clause-shaped
 returns-then-is_grouped-clause-shaped g c = c.swept_groups.ensures.shaped
 
-pub returns-then-is_grouped-clause-all : goal.returns-then-is_grouped-clause-all
-returns-then-is_grouped-clause-all g c = c.swept_groups.ensures.all
+pub returns-then-is_grouped-clause-swept : goal.returns-then-is_grouped-clause-swept
+returns-then-is_grouped-clause-swept g c = c.swept_groups.ensures.swept
 
 pub returns-then-is_grouped-clause-notes : goal.returns-then-is_grouped-clause-notes
 returns-then-is_grouped-clause-notes g c = c.swept_groups.ensures.notes
@@ -41,8 +41,8 @@ returns-else-is_grouped-clause-broken g c ready kind = c.swept_rows.ensures.brok
 pub returns-else-is_grouped-clause-shaped : goal.returns-else-is_grouped-clause-shaped
 returns-else-is_grouped-clause-shaped g c = c.swept_rows.ensures.shaped
 
-pub returns-else-is_grouped-clause-all : goal.returns-else-is_grouped-clause-all
-returns-else-is_grouped-clause-all g c = c.swept_rows.ensures.all
+pub returns-else-is_grouped-clause-swept : goal.returns-else-is_grouped-clause-swept
+returns-else-is_grouped-clause-swept g c = c.swept_rows.ensures.swept
 
 pub returns-else-is_grouped-clause-notes : goal.returns-else-is_grouped-clause-notes
 returns-else-is_grouped-clause-notes g c = c.swept_rows.ensures.notes

@@ -1,19 +1,20 @@
-use Rattle.std.proofs.Common.{◌≡◌, ◌∙◌, List, [], Ok, Err, ap, length, refl, subst, sym}
+use Rattle.std.proofs.Common.{◌≡◌, ◌∙◌, inl, inr, List, [], Ok, Err, ap, length, refl, subst, sym}
 use Rattle.std.proofs.lemmas.List.{append-nil}
 use Rattle.ub_answer.specs.Gathered.{IsGathered}
 use Rattle.ub_answer.specs.Shaped.{IsShaped}
 use Rattle.ub_answer.specs.Sink.{HasGathered}
 use Rattle.ub_answer.specs.declared.gathering.Gathering.{Gathering}
 use Rattle.ub_exec.proofs.BreakFacts.{ready_begun}
-use Rattle.ub_exec.proofs.ComeFacts.{swept_at_once}
+use Rattle.ub_exec.proofs.ComeFacts.{HasComeOn-all, HasComeOn-none, swept_broken, swept_first, swept_whole}
 use Rattle.ub_exec.proofs.FirstFacts.{all_fetched, none_fetched, on_err}
-use Rattle.ub_exec.proofs.NotedFacts.{notes_as, notes_err, notes_none, notes_ok}
+use Rattle.ub_exec.proofs.NotedFacts.{notes_as, notes_err, notes_none, notes_ok, swept_err, traced_begun}
 use Rattle.ub_exec.proofs.RefusedFacts.{memory_reads, no_answer, no_result}
 use Rattle.ub_exec.proofs.SweptFacts.{begun_fetches, noted_more, swept_kind}
 use Rattle.ub_exec.proofs.WholeFacts.{whole_fetched, whole_first, whole_meant}
 use Rattle.ub_exec.specs.Answers.{begun}
 use Rattle.ub_query.specs.Posed.{IsPosed}
 use Rattle.ub_query.specs.Shape.{Asked, asked}
+use Rattle.ub_query.specs.declared.cell.Cell.{Cell}
 use Rattle.ub_table.specs.declared.row.Row.{Row}
 use Rattle.ub_table.specs.declared.schema.Schema.{Schema}
 use Rattle.ub_tree.proofs.Laws.{Keeps-by, Keeps-more, begun_traced, reads_by}
@@ -43,7 +44,7 @@ returns-clause-rows g c ready kind some =
     let kept = Keeps-by start mid (begun_traced start mid c.in_ok-sweep.ensures.trace) in
     let kept_on = Keeps-by mid new c.in_ok-hand_over.ensures.effect.same in
     let kept_then = Keeps-more _ _ _ kept kept_on in
-    let (handed, takes, over) = c.in_ok-hand_over.ensures.rows in
+    let (handed, takes, (found, over)) = c.in_ok-hand_over.ensures.rows in
     let gathered = subst (λ (q : Asked). IsGathered mid.schema q [] c.new-gathering.result) same (subst (λ (s : Schema). IsGathered s query [] c.new-gathering.result) c.schema.ensures c.new-gathering.ensures.gathered) in
     let held = takes c.new-gathering.result [] (none_taken mid.schema plan.asked c.new-gathering.result) [] gathered in
     let after : c.schema-2.result.now ≡ mid.schema = c.schema-2.ensures ∙ kept_on.regions.schema in
@@ -63,7 +64,7 @@ returns-clause-pages g c ready kind some =
     let begins = c.in_ok-sweep.ensures.begun dim is_descending (record { sound = ready.sound; planned = ready.planned; kind = way }) in
     let kept = Keeps-by start mid (begun_traced start mid c.in_ok-sweep.ensures.trace) in
     let kept_then = Keeps-more _ _ _ kept (Keeps-by mid new c.in_ok-hand_over.ensures.effect.same) in
-    let (handed, takes, over) = c.in_ok-hand_over.ensures.rows in
+    let (handed, takes, (found, over)) = c.in_ok-hand_over.ensures.rows in
     whole_fetched plan start mid dim is_descending c.in_ok-sweep.sweep ready way c.requires.whole begins kept new kept_then handed (over [] begins.rest [] begins.unread begins.sweeping)
     (noted_more (Ok _) start mid new (begun_fetches start mid c.in_ok-sweep.ensures.trace) c.in_ok-hand_over.ensures.notes) some
 
@@ -96,16 +97,18 @@ returns-in_err-finish-clause-broken g c ready kind some =
     let begins = c.in_ok-sweep.ensures.begun dim is_descending (record { sound = ready.sound; planned = ready.planned; kind = way }) in
     let kept = Keeps-by start mid (begun_traced start mid c.in_ok-sweep.ensures.trace) in
     let kept_then = Keeps-more _ _ _ kept (Keeps-by mid new c.in_ok-hand_over.ensures.effect.same) in
-    let (handed, takes, over) = c.in_ok-hand_over.ensures.rows in
+    let (handed, takes, (found, over)) = c.in_ok-hand_over.ensures.rows in
     on_err c.from_residual-in_err-finish.result _
     (all_fetched plan (begun start) new
     (whole_fetched plan start mid dim is_descending c.in_ok-sweep.sweep ready way c.requires.whole begins kept new kept_then handed (over [] begins.rest [] begins.unread begins.sweeping)
     (noted_more (Ok _) start mid new (begun_fetches start mid c.in_ok-sweep.ensures.trace) c.in_ok-hand_over.ensures.notes) some))
 
-pub returns-clause-all : goal.returns-clause-all
-returns-clause-all g c dim is_descending of =
-    swept_at_once c.args.plan.now.covering.boxes dim is_descending c.args.tree.now c.begin_sweep.new.tree c.hand_over.new.tree c.in_ok-sweep.sweep c.in_ok-sweep.ensures.trace
-    (c.in_ok-sweep.ensures.met dim is_descending of) c.in_ok-hand_over.ensures.comes
+pub returns-clause-swept : goal.returns-clause-swept
+returns-clause-swept g c dim is_descending of =
+    swept_whole c.args.plan.now (begun c.args.tree.now) c.hand_over.new.tree (record c.in_ok-sweep.sweep { awaited = [] })
+    (HasComeOn-all c.args.plan.now (begun c.args.tree.now) c.begin_sweep.new.tree c.in_ok-sweep.sweep (traced_begun c.args.tree.now c.begin_sweep.new.tree (begun_traced c.args.tree.now c.begin_sweep.new.tree c.in_ok-sweep.ensures.trace))
+    (HasComeOn-none c.args.plan.now c.args.tree.now c.begin_sweep.new.tree c.in_ok-sweep.sweep c.in_ok-sweep.ensures.trace c.in_ok-sweep.ensures.met) c.hand_over.new.tree c.in_ok-hand_over.ensures.comes)
+    dim is_descending of c.args.plan.now.asked.limit _ refl
 
 pub returns-in_err-sweep-clause-notes : goal.returns-in_err-sweep-clause-notes
 returns-in_err-sweep-clause-notes g c = notes_none c.from_residual.result (begun c.args.tree.now) c.begin_sweep.new.tree c.in_err-sweep.ensures.broken
@@ -138,8 +141,9 @@ returns-in_err-sweep-clause-shaped g c = no_answer c.from_residual.result _ _ c.
 pub returns-in_err-sweep-clause-pages : goal.returns-in_err-sweep-clause-pages
 returns-in_err-sweep-clause-pages g c ready kind some = no_result c.from_residual.result _ _ c.from_residual.ensures.1
 
-pub returns-in_err-sweep-clause-all : goal.returns-in_err-sweep-clause-all
-returns-in_err-sweep-clause-all g c dim is_descending of = no_result c.from_residual.result _ _ c.from_residual.ensures.1
+pub returns-in_err-sweep-clause-swept : goal.returns-in_err-sweep-clause-swept
+returns-in_err-sweep-clause-swept g c =
+    swept_err (λ (rows : List (List Cell)). length rows) c.from_residual.result _ c.args.plan.now (begun c.args.tree.now) c.begin_sweep.new.tree c.from_residual.ensures.1 (λ dim is_descending of. inl c.in_err-sweep.ensures.broken)
 
 pub returns-in_err-hand_over-clause-rows : goal.returns-in_err-hand_over-clause-rows
 returns-in_err-hand_over-clause-rows g c ready kind some = no_answer c.from_residual-in_err-hand_over.result _ _ c.from_residual-in_err-hand_over.ensures.1
@@ -150,8 +154,11 @@ returns-in_err-hand_over-clause-shaped g c = no_answer c.from_residual-in_err-ha
 pub returns-in_err-hand_over-clause-pages : goal.returns-in_err-hand_over-clause-pages
 returns-in_err-hand_over-clause-pages g c ready kind some = no_result c.from_residual-in_err-hand_over.result _ _ c.from_residual-in_err-hand_over.ensures.1
 
-pub returns-in_err-hand_over-clause-all : goal.returns-in_err-hand_over-clause-all
-returns-in_err-hand_over-clause-all g c dim is_descending of = no_result c.from_residual-in_err-hand_over.result _ _ c.from_residual-in_err-hand_over.ensures.1
+pub returns-in_err-hand_over-clause-swept : goal.returns-in_err-hand_over-clause-swept
+returns-in_err-hand_over-clause-swept g c =
+    swept_err (λ (rows : List (List Cell)). length rows) c.from_residual-in_err-hand_over.result _ c.args.plan.now (begun c.args.tree.now) c.hand_over.new.tree c.from_residual-in_err-hand_over.ensures.1
+    (λ dim is_descending of. inr (swept_broken c.args.plan.now (begun c.args.tree.now) c.begin_sweep.new.tree c.in_ok-sweep.sweep
+    (HasComeOn-none c.args.plan.now c.args.tree.now c.begin_sweep.new.tree c.in_ok-sweep.sweep c.in_ok-sweep.ensures.trace c.in_ok-sweep.ensures.met) dim is_descending of c.hand_over.new.tree c.in_err-hand_over.ensures.breaks))
 
 pub returns-in_err-finish-clause-rows : goal.returns-in_err-finish-clause-rows
 returns-in_err-finish-clause-rows g c ready kind some = no_answer c.from_residual-in_err-finish.result _ _ c.from_residual-in_err-finish.ensures.1
@@ -162,8 +169,12 @@ returns-in_err-finish-clause-shaped g c = no_answer c.from_residual-in_err-finis
 pub returns-in_err-finish-clause-pages : goal.returns-in_err-finish-clause-pages
 returns-in_err-finish-clause-pages g c ready kind some = no_result c.from_residual-in_err-finish.result _ _ c.from_residual-in_err-finish.ensures.1
 
-pub returns-in_err-finish-clause-all : goal.returns-in_err-finish-clause-all
-returns-in_err-finish-clause-all g c dim is_descending of = no_result c.from_residual-in_err-finish.result _ _ c.from_residual-in_err-finish.ensures.1
+pub returns-in_err-finish-clause-swept : goal.returns-in_err-finish-clause-swept
+returns-in_err-finish-clause-swept g c =
+    swept_err (λ (rows : List (List Cell)). length rows) c.from_residual-in_err-finish.result _ c.args.plan.now (begun c.args.tree.now) c.hand_over.new.tree c.from_residual-in_err-finish.ensures.1
+    (λ dim is_descending of. inr (swept_first c.args.plan.now (begun c.args.tree.now) c.hand_over.new.tree (record c.in_ok-sweep.sweep { awaited = [] })
+    (HasComeOn-all c.args.plan.now (begun c.args.tree.now) c.begin_sweep.new.tree c.in_ok-sweep.sweep (traced_begun c.args.tree.now c.begin_sweep.new.tree (begun_traced c.args.tree.now c.begin_sweep.new.tree c.in_ok-sweep.ensures.trace))
+    (HasComeOn-none c.args.plan.now c.args.tree.now c.begin_sweep.new.tree c.in_ok-sweep.sweep c.in_ok-sweep.ensures.trace c.in_ok-sweep.ensures.met) c.hand_over.new.tree c.in_ok-hand_over.ensures.comes) dim is_descending of))
 
 pub hand_over-requires-clause-posed : goal.hand_over-requires-clause-posed
 hand_over-requires-clause-posed g c = subst (λ (t : TreeView). IsPosed (length t.schema.columns) c.args.plan.now.asked) (sym c.in_ok-sweep.ensures.trace) c.requires.posed

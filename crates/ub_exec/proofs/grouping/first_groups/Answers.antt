@@ -1,8 +1,9 @@
-use Rattle.std.proofs.Common.{◌≡◌, ◌∙◌, List, Ok, Err, length, ap, refl, subst, sym}
+use Rattle.std.proofs.Common.{◌≡◌, ◌∙◌, inl, inr, List, Ok, Err, length, ap, refl, subst, sym}
 use Rattle.ub_exec.proofs.BreakFacts.{ready_begun}
+use Rattle.ub_exec.proofs.ComeFacts.{HasComeOn-more, HasComeOn-none, swept_broken, swept_first, swept_full, swept_whole}
 use Rattle.ub_exec.proofs.FirstFacts.{none_fetched, on_err}
 use Rattle.ub_exec.proofs.GroupTurnFacts.{HasSweptGroups, HasSweptGroups-none, HaveSwept-more, broken_after_rows, broken_before_rows, ended_groups, filled_groups, one_width, shaped_joined}
-use Rattle.ub_exec.proofs.NotedFacts.{notes_err, notes_none, notes_ok, notes_then, traced_begun}
+use Rattle.ub_exec.proofs.NotedFacts.{notes_err, notes_none, notes_ok, notes_then, swept_err, traced_begun}
 use Rattle.ub_exec.proofs.RefusedFacts.{memory_reads, no_answer, no_result}
 use Rattle.ub_exec.proofs.SweptFacts.{begun_fetches, filled_is, left_is, noted_more, shaped_none}
 use Rattle.ub_query.specs.Posed.{IsPosed}
@@ -21,6 +22,7 @@ loop-query-init g c = record {
   notes = notes_none (Ok tt) (begun c.args.tree.now) c.begin_sweep.new.tree (unchanged_trace (begun c.args.tree.now) c.begin_sweep.new.tree c.in_ok-sweep.ensures.trace);
   fetches = begun_fetches c.args.tree.now c.begin_sweep.new.tree c.in_ok-sweep.ensures.trace;
   shaped = shaped_none c.args.plan.now.asked c.none-groups.result c.none-groups.ensures;
+  come_on = HasComeOn-none c.args.plan.now c.args.tree.now c.begin_sweep.new.tree c.in_ok-sweep.sweep c.in_ok-sweep.ensures.trace c.in_ok-sweep.ensures.met;
   come = λ ready dim is_descending is some.
       subst (λ (cells : List (List Cell)). HasSweptGroups c.args.plan.now c.args.tree.now c.begin_sweep.new.tree dim is_descending c.in_ok-sweep.sweep cells) (sym c.none-groups.ensures)
       (HasSweptGroups-none c.args.plan.now c.args.tree.now c.begin_sweep.new.tree dim is_descending c.in_ok-sweep.sweep some
@@ -47,6 +49,7 @@ loop-query-preserved g c =
       notes = notes_then {A = Unit {0}} tt (Ok tt) (begun start) t new traced inv.notes (notes_ok _ tt t new c.in_ok-rows.ensures.notes);
       fetches = noted_more (Ok _) start t new inv.fetches c.in_ok-rows.ensures.notes;
       shaped = shaped_joined plan.asked query c.loop-query.groups c.in_ok-more.more c.extend.new.self same inv.shaped c.in_ok-more.ensures.shaped c.in_ok-extend.ensures;
+      come_on = HasComeOn-more plan (begun start) t c.loop-query.sweep traced inv.come_on new _ c.next_value.new.sweep c.in_ok-rows.ensures.comes;
       come = HaveSwept-more plan start t (length start.schema.columns) c.requires c.loop-query.sweep c.loop-query.groups inv.kept inv.come new c.next_value.new.sweep c.in-Some.rows.items kept
           (left_is query plan.asked c.len.result c.loop-query.groups same c.len.ensures (c.is_filled.ensures.left c.loop-query-test.true)) (rw c.in-Some.is at c.in_ok-rows.ensures.next)
           c.schema.result.now query c.as_slice.result.now c.schema.ensures same c.as_slice.ensures.value c.in_ok-more.more c.extend.new.self c.in_ok-more.ensures.meaning c.in_ok-extend.ensures;
@@ -251,3 +254,36 @@ returns-in_default-clause-effect g c =
 
 pub returns-clause-effect : goal.returns-clause-effect
 returns-clause-effect g c = record { same = c.loop-query.invariant.kept.traced; faults = tt }
+
+pub returns-clause-swept : goal.returns-clause-swept
+returns-clause-swept g c dim is_descending of =
+    swept_full c.args.plan.now (begun c.args.tree.now) c.loop-query.tree c.loop-query.sweep c.loop-query.invariant.come_on dim is_descending of c.args.plan.now.asked.limit (length c.loop-query.groups)
+    (filled_is (asked c.query-query.result.now) c.args.plan.now.asked c.len.result c.loop-query.groups c.query-query.ensures c.len.ensures (c.is_filled.ensures.filled c.loop-query-test.false))
+
+pub returns-in_default-clause-swept : goal.returns-in_default-clause-swept
+returns-in_default-clause-swept g c dim is_descending of =
+    let comes = c.in_ok-rows.ensures.comes in
+    swept_whole c.args.plan.now (begun c.args.tree.now) c.next_value.new.tree c.next_value.new.sweep (HasComeOn-more c.args.plan.now (begun c.args.tree.now) c.loop-query.tree c.loop-query.sweep (traced_begun c.args.tree.now c.loop-query.tree c.loop-query.invariant.kept.traced) c.loop-query.invariant.come_on c.next_value.new.tree _ c.next_value.new.sweep c.in_ok-rows.ensures.comes)
+    dim is_descending of c.args.plan.now.asked.limit (length c.loop-query.groups) (comes.ended c.in_default.is)
+
+pub returns-in_err-sweep-clause-swept : goal.returns-in_err-sweep-clause-swept
+returns-in_err-sweep-clause-swept g c =
+    swept_err (λ (rows : List (List Cell)). length rows) c.from_residual.result _ c.args.plan.now (begun c.args.tree.now) c.begin_sweep.new.tree c.from_residual.ensures.1 (λ dim is_descending of. inl c.in_err-sweep.ensures.broken)
+
+pub returns-in_err-rows-clause-swept : goal.returns-in_err-rows-clause-swept
+returns-in_err-rows-clause-swept g c =
+    swept_err (λ (rows : List (List Cell)). length rows) c.from_residual-in_err-rows.result _ c.args.plan.now (begun c.args.tree.now) c.next_value.new.tree c.from_residual-in_err-rows.ensures.1
+    (λ dim is_descending of.
+    inr (swept_broken c.args.plan.now (begun c.args.tree.now) c.loop-query.tree c.loop-query.sweep c.loop-query.invariant.come_on dim is_descending of c.next_value.new.tree c.in_err-rows.ensures.breaks))
+
+pub returns-in_err-more-clause-swept : goal.returns-in_err-more-clause-swept
+returns-in_err-more-clause-swept g c =
+    swept_err (λ (rows : List (List Cell)). length rows) c.from_residual-in_err-more.result _ c.args.plan.now (begun c.args.tree.now) c.next_value.new.tree c.from_residual-in_err-more.ensures.1
+    (λ dim is_descending of. inr (swept_first c.args.plan.now (begun c.args.tree.now) c.next_value.new.tree c.next_value.new.sweep
+    (HasComeOn-more c.args.plan.now (begun c.args.tree.now) c.loop-query.tree c.loop-query.sweep (traced_begun c.args.tree.now c.loop-query.tree c.loop-query.invariant.kept.traced) c.loop-query.invariant.come_on c.next_value.new.tree _ c.next_value.new.sweep c.in_ok-rows.ensures.comes) dim is_descending of))
+
+pub returns-in_err-extend-clause-swept : goal.returns-in_err-extend-clause-swept
+returns-in_err-extend-clause-swept g c =
+    swept_err (λ (rows : List (List Cell)). length rows) c.from_residual-in_err-extend.result _ c.args.plan.now (begun c.args.tree.now) c.next_value.new.tree c.from_residual-in_err-extend.ensures.1
+    (λ dim is_descending of. inr (swept_first c.args.plan.now (begun c.args.tree.now) c.next_value.new.tree c.next_value.new.sweep
+    (HasComeOn-more c.args.plan.now (begun c.args.tree.now) c.loop-query.tree c.loop-query.sweep (traced_begun c.args.tree.now c.loop-query.tree c.loop-query.invariant.kept.traced) c.loop-query.invariant.come_on c.next_value.new.tree _ c.next_value.new.sweep c.in_ok-rows.ensures.comes) dim is_descending of))

@@ -1,5 +1,6 @@
 use Rattle.std.proofs.Common.{◌≡◌, Ok, length}
 use Rattle.ub_answer.specs.Shaped.{IsShaped}
+use Rattle.ub_exec.proofs.ComeFacts.{HasComeOn}
 use Rattle.ub_exec.proofs.GroupTurnFacts.{HaveSwept}
 use Rattle.ub_exec.specs.Answers.{begun}
 use Rattle.ub_exec.specs.Reading.{NotesPages}
@@ -16,6 +17,7 @@ invariant-loop-query g l = record {
   notes : NotesPages {A = Unit {0}} (begun l.fn.tree) l.tree (Ok tt);
   fetches : l.tree.trace.fetches ≡ fetches_then l.fn.tree.trace.fetches (length l.tree.trace.pages);
   shaped : IsShaped l.plan.asked l.groups;
+  come_on : HasComeOn l.plan (begun l.fn.tree) l.tree l.sweep;
   come : HaveSwept l.plan l.fn.tree l.tree l.sweep l.groups;
 }
 

@@ -1,4 +1,5 @@
-use Rattle.ub_exec.proofs.ComeFacts.{comes_to_all}
+use Rattle.std.proofs.Common.{Err}
+use Rattle.ub_exec.proofs.ComeFacts.{breaks_off, comes_to_all}
 use Rattle.ub_exec.proofs.FirstFacts.{on_err}
 use Rattle.ub_exec.proofs.KeptFacts.{sweeps_reads}
 use Rattle.ub_exec.proofs.NotedFacts.{broken_notes, sweeps_notes}
@@ -20,6 +21,13 @@ returns-clause-notes g c =
 pub returns-clause-comes : goal.returns-clause-comes
 returns-clause-comes g c =
     comes_to_all c.args.sweep.now c.hand_over.new.self c.args.tree.now c.hand_over.new.tree c.in_ok-hand_over.ensures.effect c.in_ok-hand_over.ensures.left
+
+pub returns-in_err-hand_over-clause-breaks : goal.returns-in_err-hand_over-clause-breaks
+returns-in_err-hand_over-clause-breaks g c =
+    on_err c.from_residual.result _ (breaks_off (Err _) c.args.sweep.now c.hand_over.new.self c.args.tree.now c.hand_over.new.tree c.in_err-hand_over.ensures.effect)
+
+pub returns-clause-breaks : goal.returns-clause-breaks
+returns-clause-breaks g c = tt
 
 pub hand_over-requires : goal.hand_over-requires
 hand_over-requires g c = c.requires.posed

@@ -1,5 +1,5 @@
-use Rattle.std.proofs.Common.{Ok, Option, ap}
-use Rattle.ub_exec.proofs.ComeFacts.{comes_on}
+use Rattle.std.proofs.Common.{Err}
+use Rattle.ub_exec.proofs.ComeFacts.{breaks_off, comes_on}
 use Rattle.ub_exec.proofs.FirstFacts.{on_err}
 use Rattle.ub_exec.proofs.KeptFacts.{sweeps_reads}
 use Rattle.ub_exec.proofs.NotedFacts.{broken_notes, sweeps_notes}
@@ -23,8 +23,14 @@ returns-clause-works g c = (c.in_ok-next_value.ensures.once.works, c.in_ok-next_
 
 pub returns-clause-comes : goal.returns-clause-comes
 returns-clause-comes g c =
-    comes_on _ c.args.sweep.now c.next_value.new.self c.args.tree.now c.next_value.new.tree c.in_ok-next_value.ensures.effect (λ none. c.in_ok-next_value.ensures.ended (ap (λ (found : Option _). Ok found) none))
-    c.in_ok-next_value.ensures.fewer
+    comes_on (λ rows. rows.items) c.args.plan.now _ c.args.sweep.now c.next_value.new.self c.args.tree.now c.next_value.new.tree c.in_ok-next_value.ensures.effect c.in_ok-next_value.ensures.answers
+
+pub returns-in_err-next_value-clause-breaks : goal.returns-in_err-next_value-clause-breaks
+returns-in_err-next_value-clause-breaks g c =
+    on_err c.from_residual.result _ (breaks_off (Err _) c.args.sweep.now c.next_value.new.self c.args.tree.now c.next_value.new.tree c.in_err-next_value.ensures.effect)
+
+pub returns-clause-breaks : goal.returns-clause-breaks
+returns-clause-breaks g c = tt
 
 pub next_value-requires : goal.next_value-requires
 next_value-requires g c = c.requires.posed

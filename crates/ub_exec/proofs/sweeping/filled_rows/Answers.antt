@@ -1,7 +1,7 @@
 use Rattle.std.proofs.Common.{◌≡◌, ◌≤◌, ◌∙◌, ◌++◌, ◌∷◌, [], List, Ok, Err, length, map, refl, ap, subst, sym}
 use Rattle.std.specs.List.{AllByRecursion}
 use Rattle.std.specs.Prelude.{All}
-use Rattle.ub_exec.proofs.FillFacts.{HasFilled-none, HasFilled-more, broken_asking, broken_putting, comes_down, fills_ended, fills_full, notes_after, notes_broken, reads_after}
+use Rattle.ub_exec.proofs.FillFacts.{HasFilled-none, HasFilled-more, broken_asking, broken_putting, comes_down, fills_ended, fills_full, notes_after, notes_broken, reads_after, swept_asking, swept_ended, swept_filled, swept_putting}
 use Rattle.ub_exec.proofs.FirstFacts.{on_err}
 use Rattle.ub_exec.proofs.NotedFacts.{notes_err, notes_ok}
 use Rattle.ub_exec.proofs.RefusedFacts.{memory_reads, no_answer}
@@ -126,3 +126,26 @@ pub push_row-requires-clause-some : goal.push_row-requires-clause-some
 push_row-requires-clause-some g c =
     let items : c.as_slice.result.now ≡ c.args.plan.now.asked.items = c.as_slice.ensures ∙ ap (λ (q : Asked). q.items) c.query-query.ensures in
     subst (λ (items : List Item). 1 ≤ length items) (sym items) c.requires.posed.some_items
+
+pub returns-in_err-push_row-in-Ok-Some-clause-swept : goal.returns-in_err-push_row-in-Ok-Some-clause-swept
+returns-in_err-push_row-in-Ok-Some-clause-swept g c =
+    swept_putting c.args.plan.now c.args.tree.now c.loop-query.tree c.args.sweep.now c.loop-query.sweep c.loop-query.rows c.requires.begun.fresh c.loop-query.invariant.filled
+    (left_is (asked c.query-query.result.now) c.args.plan.now.asked c.len.result c.loop-query.rows c.query-query.ensures c.len.ensures (c.is_filled.ensures.left c.loop-query-test.true))
+    c.next_row.new.tree c.next_row.new.sweep c.in-Ok-Some.field-0 c.in-Ok-Some.ensures.notes c.in-Ok-Some.ensures.effect c.in-Ok-Some.ensures.next c.in-Ok-Some.ensures.comes c.from_residual.result _ c.from_residual.ensures.1
+
+pub returns-in-Ok-None-clause-swept : goal.returns-in-Ok-None-clause-swept
+returns-in-Ok-None-clause-swept g c =
+    swept_ended c.args.plan.now c.args.tree.now c.loop-query.tree c.args.sweep.now c.loop-query.sweep c.loop-query.rows c.requires.begun.fresh c.loop-query.invariant.filled
+    (left_is (asked c.query-query.result.now) c.args.plan.now.asked c.len.result c.loop-query.rows c.query-query.ensures c.len.ensures (c.is_filled.ensures.left c.loop-query-test.true))
+    c.next_row.new.tree c.next_row.new.sweep c.in-Ok-None.field-0 c.in-Ok-None.ensures.notes c.in-Ok-None.ensures.effect c.in-Ok-None.ensures.next c.in-Ok-None.ensures.comes c.in-Ok-None.field-0-is
+
+pub returns-in-Err-clause-swept : goal.returns-in-Err-clause-swept
+returns-in-Err-clause-swept g c =
+    swept_asking c.args.plan.now c.args.tree.now c.loop-query.tree c.args.sweep.now c.loop-query.sweep c.loop-query.rows c.requires.begun.fresh c.loop-query.invariant.filled
+    (left_is (asked c.query-query.result.now) c.args.plan.now.asked c.len.result c.loop-query.rows c.query-query.ensures c.len.ensures (c.is_filled.ensures.left c.loop-query-test.true))
+    c.next_row.new.tree c.next_row.new.sweep c.in-Err.fault c.in-Err.ensures.breaks
+
+pub returns-clause-swept : goal.returns-clause-swept
+returns-clause-swept g c =
+    swept_filled c.args.plan.now c.args.tree.now c.loop-query.tree c.args.sweep.now c.loop-query.sweep c.loop-query.rows c.requires.begun.fresh c.loop-query.invariant.filled
+    (filled_is (asked c.query-query.result.now) c.args.plan.now.asked c.len.result c.loop-query.rows c.query-query.ensures c.len.ensures (c.is_filled.ensures.filled c.loop-query-test.false))

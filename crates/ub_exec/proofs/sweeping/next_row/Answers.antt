@@ -1,5 +1,5 @@
-use Rattle.std.proofs.Common.{Ok, Option, ap}
-use Rattle.ub_exec.proofs.ComeFacts.{comes_on}
+use Rattle.std.proofs.Common.{◌∷◌, [], Err}
+use Rattle.ub_exec.proofs.ComeFacts.{breaks_off, comes_on}
 use Rattle.ub_exec.proofs.FirstFacts.{on_err}
 use Rattle.ub_exec.proofs.KeptFacts.{sweeps_reads}
 use Rattle.ub_exec.proofs.NotedFacts.{broken_notes, sweeps_notes}
@@ -24,8 +24,14 @@ returns-clause-works g c = (c.in_ok-next.ensures.once.works, c.in_ok-next.ensure
 
 pub returns-clause-comes : goal.returns-clause-comes
 returns-clause-comes g c =
-    comes_on _ c.args.sweep.now c.next.new.self c.args.tree.now c.next.new.tree c.in_ok-next.ensures.effect (λ none. c.in_ok-next.ensures.ended (ap (λ (found : Option Row). Ok found) none))
-    c.in_ok-next.ensures.fewer
+    comes_on (λ (row : Row). row ∷ []) c.args.plan.now _ c.args.sweep.now c.next.new.self c.args.tree.now c.next.new.tree c.in_ok-next.ensures.effect c.in_ok-next.ensures.answers
+
+pub returns-in_err-next-clause-breaks : goal.returns-in_err-next-clause-breaks
+returns-in_err-next-clause-breaks g c =
+    on_err c.from_residual.result _ (breaks_off (Err _) c.args.sweep.now c.next.new.self c.args.tree.now c.next.new.tree c.in_err-next.ensures.effect)
+
+pub returns-clause-breaks : goal.returns-clause-breaks
+returns-clause-breaks g c = tt
 
 pub next-requires : goal.next-requires
 next-requires g c = c.requires.posed

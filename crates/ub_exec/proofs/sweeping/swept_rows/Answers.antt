@@ -1,6 +1,6 @@
-use Rattle.std.proofs.Common.{length, subst, sym}
+use Rattle.std.proofs.Common.{inl, length, subst, sym}
 use Rattle.ub_exec.proofs.BreakFacts.{ready_begun}
-use Rattle.ub_exec.proofs.FillFacts.{filled_all, filled_broken, filled_means, filled_pages, filled_shaped, has_begun, is_begun}
+use Rattle.ub_exec.proofs.FillFacts.{filled_broken, filled_means, filled_pages, filled_shaped, filled_swept, has_begun, is_begun}
 use Rattle.ub_exec.proofs.FirstFacts.{none_fetched}
 use Rattle.ub_exec.proofs.NotedFacts.{notes_as, notes_none}
 use Rattle.ub_exec.specs.Answers.{begun}
@@ -33,8 +33,12 @@ returns-in-Ok-clause-broken g c ready kind plain =
     filled_broken c.args.plan.now c.args.tree.now c.begin_sweep.new.tree c.in-Ok.sweep c.in-Ok.ensures.trace c.filled_rows.new.tree c.filled_rows.result
     (c.filled_rows.ensures.broken (has_begun c.args.plan.now c.args.tree.now c.begin_sweep.new.tree c.in-Ok.sweep c.in-Ok.ensures.trace ready kind c.in-Ok.ensures.begun) plain)
 
-pub returns-in-Ok-clause-all : goal.returns-in-Ok-clause-all
-returns-in-Ok-clause-all g c dim is_descending of none = filled_all c.args.plan.now c.args.tree.now c.begin_sweep.new.tree c.in-Ok.sweep c.in-Ok.ensures.trace c.filled_rows.new.tree c.filled_rows.result c.filled_rows.ensures.fills dim is_descending of none
+pub returns-in-Ok-clause-swept : goal.returns-in-Ok-clause-swept
+returns-in-Ok-clause-swept g c =
+    filled_swept c.args.plan.now c.args.tree.now c.begin_sweep.new.tree c.in-Ok.sweep c.in-Ok.ensures.trace c.filled_rows.new.tree c.filled_rows.result c.filled_rows.ensures.swept
+
+pub returns-in-Err-clause-swept : goal.returns-in-Err-clause-swept
+returns-in-Err-clause-swept g c dim is_descending of = inl c.in-Err.ensures.broken
 
 pub returns-in-Ok-clause-notes : goal.returns-in-Ok-clause-notes
 returns-in-Ok-clause-notes g c = notes_as c.filled_rows.result (begun c.args.tree.now) c.begin_sweep.new.tree c.filled_rows.new.tree c.in-Ok.ensures.trace c.filled_rows.ensures.notes
