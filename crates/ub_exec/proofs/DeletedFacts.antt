@@ -1,21 +1,19 @@
 -- What a deletion leaves, put together of reading and of taking out.
-use Rattle.std.proofs.Common.{◌≡◌, ◌⊎◌, ◌∙◌, inl, inr, ℕ, Bool, true, false, IsTrue, List, Result, Ok, Err, length, take, refl, sym, ap, subst}
+use Rattle.std.proofs.Common.{◌≡◌, ◌⊎◌, ◌∙◌, inl, inr, ℕ, Bool, true, false, IsTrue, List, Result, Ok, Err, length, slice_get, take, refl, sym, ap, subst}
 use Rattle.std.proofs.lemmas.Bool.{true≢false}
 use Rattle.std.specs.List.{AllByRecursion}
-use Rattle.std.specs.List.Sorted.{IsNonDecreasingBy}
 use Rattle.std.specs.Result.{IsErrAnd}
-use Rattle.ub_bigmin.specs.Box.{Corners}
 use Rattle.ub_exec.proofs.NotedFacts.{on_ok}
 use Rattle.ub_exec.proofs.StandFacts.{first_out, none_taken, read_stand, rows_out, selected_rise, selected_there, stand_by}
 use Rattle.ub_exec.proofs.TakenFacts.{stopped_at, taken_lost, taken_none}
 use Rattle.ub_exec.specs.Answers.{begun}
-use Rattle.ub_exec.specs.Deleting.{Deletes, HasLostPage, HasMetDevice, IsDeletionFault, IsDeletionOf, ReadsFirst, StopsAt, TakesOut, TakesOutBy, answer_of}
-use Rattle.ub_exec.specs.Reading.{HasReadAll, IsRead, NotesPages}
+use Rattle.ub_exec.specs.Deleting.{Deletes, HasLostPage, HasReadKeys, HasMetDevice, IsDeletionFault, IsDeletionOf, ReadsFirst, StopsAt, TakesOut, TakesOutBy, answer_of}
+use Rattle.ub_exec.specs.Reading.{IsRead, NotesPages}
 use Rattle.ub_exec.specs.Stand.{Stand, IsStandOf, selected_of, without_rows, without_selected}
 use Rattle.ub_exec.specs.Visits.{HasFetched}
 use Rattle.ub_planning.specs.Plan.{PlanView, plan_of}
 use Rattle.ub_query.specs.Shape.{Asked}
-use Rattle.ub_store.specs.Facts.{IsHonest}
+use Rattle.ub_store.specs.Facts.{IsHonest, StoreFacts}
 use Rattle.ub_store.specs.View.{Trace}
 use Rattle.ub_store.specs.declared.fault.StoreFault.TheVariants as store
 use Rattle.ub_table.specs.Region.{keys_of}
@@ -30,7 +28,7 @@ use Rattle.ub_tree.specs.declared.fault.TreeFault.{TreeFault}
 use Rattle.ub_tree.specs.declared.fault.TreeFault.TheVariants.{Full, Page, Store, Failed, Memory as no_memory}
 use Rattle.ub_tree.specs.declared.read_fault.ReadFault.{ReadFault}
 use Rattle.ub_tree.specs.declared.read_fault.ReadFault.TheVariants.{Memory, Tree}
-use Rattle.ub_writing.specs.Marks.{HasMark}
+use Rattle.ub_writing.specs.Marks.{HasMark, KeepsUnless}
 
 -- ---- from a tree whose trace begins anew
 
@@ -70,14 +68,6 @@ fetched_then p old mid new kept fetched = record {
   fetches_are = ap (λ (t : Trace). t.fetches) kept ∙ fetched.fetches_are;
 }
 
-read_then : (boxes : List Corners) (old mid new : TreeView) → KeepsTrace mid new → HasReadAll boxes old mid → HasReadAll boxes old new
-read_then boxes old mid new kept read = record {
-  spans = read.spans;
-  all = read.all;
-  taken = read.taken;
-  trace_is = ap (λ (t : Trace). t.pages) kept ∙ read.trace_is;
-}
-
 notes_on : {A B : Type 0} (x : A) (r : Result B ReadFault) (old mid new : TreeView) → KeepsTrace mid new → NotesPages old mid (Ok x) → NotesPages old new r
 notes_on x r old mid new kept notes = record {
   noted = notes.noted;
@@ -88,39 +78,37 @@ notes_on x r old mid new kept notes = record {
 
 -- ---- reading, and then taking out
 
-module _ {A : Type 0} (x : A) (boxes : List Corners) (old mid new : TreeView) (reads : ReadsTree old mid (Ok x)) (notes : NotesPages old mid (Ok x)) (all : HasReadAll boxes old mid)
-    (keys : List Key) (up : IsNonDecreasingBy (λ key. key.number) keys) where
-  taken_after : (told : Result ℕ TreeFault) → TakesOutBy keys mid new told → KeepsTrace mid new → ReadsFirst boxes old new (answer_of told)
+module _ {A : Type 0} (x : A) (p : PlanView) (old mid new : TreeView) (reads : ReadsTree old mid (Ok x)) (notes : NotesPages old mid (Ok x)) (keys : List Key) (read : HasReadKeys p old mid keys) where
+  taken_after : (told : Result ℕ TreeFault) → TakesOutBy keys mid new told → KeepsTrace mid new → ReadsFirst p old new (answer_of told)
   taken_after told taken kept = record {
     notes = notes_on x (answer_of told) old mid new kept notes;
     first = inr (record {
       mid = mid;
       same = reads.same;
-      read = all;
       keys = keys;
-      ordered = up;
+      read = read;
       told = told;
       taken = taken;
       result_is = refl;
     });
   }
 
-  pub first_done : (count : ℕ) → TakesOut keys mid new count → ReadsFirst boxes old new (Ok count)
+  pub first_done : (count : ℕ) → TakesOut keys mid new count → ReadsFirst p old new (Ok count)
   first_done count taken = taken_after (Ok count) taken (ap (λ (t : TreeView). t.trace) (taken_lost keys mid new count taken).frame)
 
-  pub first_stopped : (fault : TreeFault) → mid.is_failed ≡ false → StopsAt keys mid new fault → ReadsFirst boxes old new (Err (fault_of_tree fault))
+  pub first_stopped : (fault : TreeFault) → mid.is_failed ≡ false → StopsAt keys mid new fault → ReadsFirst p old new (Err (fault_of_tree fault))
   first_stopped fault working stops = taken_after (Err fault) stops (ap (λ (t : TreeView). t.trace) (stopped_at keys mid new fault working stops).frame)
 
-pub first_read : {A : Type 0} (e : ReadFault) (boxes : List Corners) (old new : TreeView) → ReadsTree {A = A} old new (Err e) → NotesPages {A = A} old new (Err e) → ReadsFirst boxes old new (Err e)
-first_read e boxes old new reads notes = record {
+pub first_read : {A : Type 0} (e : ReadFault) (p : PlanView) (old new : TreeView) → ReadsTree {A = A} old new (Err e) → NotesPages {A = A} old new (Err e) → ReadsFirst p old new (Err e)
+first_read e p old new reads notes = record {
   notes = record { noted = notes.noted; trace_is = notes.trace_is; fetches_are = notes.fetches_are; read = tt };
   first = inl (tt, record { same = reads.same; faults = reads.faults });
 }
 
 -- the fault of a call handed on
-pub first_by : (r : Result ℕ ReadFault) (e : ReadFault) (boxes : List Corners) (old new : TreeView) → IsErrAnd r (λ x. x ≡ e) → ReadsFirst boxes old new (Err e) → ReadsFirst boxes old new r
-first_by (Ok n) e boxes old new is reads = absurd is
-first_by (Err f) e boxes old new is reads = subst (λ (x : ReadFault). ReadsFirst boxes old new (Err x)) (sym is) reads
+pub first_by : (r : Result ℕ ReadFault) (e : ReadFault) (p : PlanView) (old new : TreeView) → IsErrAnd r (λ x. x ≡ e) → ReadsFirst p old new (Err e) → ReadsFirst p old new r
+first_by (Ok n) e p old new is reads = absurd is
+first_by (Err f) e p old new is reads = subst (λ (x : ReadFault). ReadsFirst p old new (Err x)) (sym is) reads
 
 pub deletes_by : (r : Result ℕ ReadFault) (e : ReadFault) (old new : TreeView) → IsErrAnd r (λ x. x ≡ e) → Deletes old new (Err e) → Deletes old new r
 deletes_by (Ok n) e old new is deletes = absurd is
@@ -164,6 +152,8 @@ pub deletes_failed : (old new : TreeView) → new ≡ begun old → IsTrue old.i
 deletes_failed old new begins failed = subst (λ (t : TreeView). Deletes old t (Err (Tree Failed))) (sym begins) (record {
   frame = refl;
   counted = tt;
+  stays = λ changed. changed;
+  kept = λ honest unchanged m apart within. refl;
   marked = λ sound changed. sound.marked changed;
   done = tt;
   left = (failed, refl);
@@ -178,6 +168,8 @@ pub deletes_read : {A : Type 0} (old new : TreeView) (e : ReadFault) → old.is_
 deletes_read {A = A} old new e working reads = record {
   frame = reads.same ∙ ap (λ (t : TreeView). record old { placed = t.placed; rows = t.rows; is_changed = t.is_changed; is_failed = t.is_failed; store = t.store; trace = new.trace; inner = t.inner }) (sym reads.same);
   counted = tt;
+  stays = λ changed. ap (λ (t : TreeView). t.is_changed) reads.same ∙ changed;
+  kept = λ honest unchanged m apart within. ap (λ (t : TreeView). slice_get t.store.pages m) reads.same;
   marked = λ sound changed. subst (λ (t : TreeView). t.is_changed ≡ true → HasMark old.schema t.store.pages) (sym reads.same) sound.marked changed;
   done = tt;
   left = reading_fault {A = A} old new e working reads;
@@ -202,6 +194,8 @@ module _ (old mid new : TreeView) (working : old.is_failed ≡ false) (traced : 
       record {
         frame = frame_of stopped.frame;
         counted = tt;
+        stays = λ changed. stopped.stays (ap (λ (t : TreeView). t.is_changed) traced ∙ changed);
+        kept = subst (λ (facts : StoreFacts). KeepsUnless new.is_changed facts new.store) (ap (λ (t : TreeView). t.store) traced) stopped.kept;
         marked = λ sound changed. subst (λ (schema : Schema). HasMark schema new.store.pages) (ap (λ (t : TreeView). t.schema) traced)
             (stopped.marked ((Keeps-by old mid traced).sound sound) changed);
         done = tt;
@@ -216,6 +210,8 @@ module _ (old mid new : TreeView) (working : old.is_failed ≡ false) (traced : 
       record {
         frame = frame_of lost.frame;
         counted = lost.counted ∙ ap (λ (t : TreeView). t.rows) traced;
+        stays = λ changed. lost.stays (ap (λ (t : TreeView). t.is_changed) traced ∙ changed);
+        kept = subst (λ (facts : StoreFacts). KeepsUnless new.is_changed facts new.store) (ap (λ (t : TreeView). t.store) traced) lost.kept;
         marked = λ sound changed. subst (λ (schema : Schema). HasMark schema new.store.pages) (ap (λ (t : TreeView). t.schema) lost.frame ∙ ap (λ (t : TreeView). t.schema) traced)
             ((lost.sound ((Keeps-by old mid traced).sound sound)).marked changed);
         done = subst (λ (t : TreeView). Works t new) traced lost.works;

@@ -6,8 +6,10 @@ use Rattle.std.proofs.lemmas.Map.Keys.{IsDistinct-IsPermutation, apart_from_dist
 use Rattle.std.specs.List.{AllByRecursion, IsDistinct}
 use Rattle.std.specs.List.Sorted.{IsNonDecreasingBy}
 use Rattle.ub_exec.proofs.MeantFacts.{chosen_are, handed_are}
+use Rattle.ub_exec.proofs.RowsReadFacts.{chosen_read}
 use Rattle.ub_exec.specs.Answers.{IsSwept}
-use Rattle.ub_exec.specs.Deleting.{IsDeletion, IsDeletionOf}
+use Rattle.ub_exec.specs.Deleting.{HasReadKeys, IsDeletion, IsDeletionOf}
+use Rattle.ub_exec.specs.Reading.{HasReadRows}
 use Rattle.ub_exec.specs.Stand.{Stand, IsStandOf, selected_of}
 use Rattle.ub_exec.specs.Visits.{HasWalked}
 use Rattle.ub_filter.specs.Choice.{is_chosen}
@@ -113,3 +115,15 @@ walked_keys t new s p choice handed gathered sorted stand deletion walk gathered
     let all = sorted_keys t.schema.dims rows sorted (selected_are_in_order table p.asked.filter stand.rows_are.ascending)
     (IsPermutation-trans (keys_of t.schema.dims rows) gathered sorted keys same) up in
     all ∙ ap (λ (x : Table). keys_of x.schema.dims (selected x p.asked.filter)) (sym table_is)
+
+-- what a walk over any tree hands over, sorted, are the keys of the selected rows of the regions that it read
+pub read_keys : (old new : TreeView) (p : PlanView) (choice : Choice) (handed : List Row) (gathered sorted : List Key) → HasReadRows p.covering.boxes old new handed
+    → gathered ≡ keys_of old.schema.dims (filter (is_chosen choice old.schema p) handed) → IsPermutation gathered sorted → IsNonDecreasingBy (λ key. key.number) sorted → HasReadKeys p old new sorted
+read_keys old new p choice handed gathered sorted read gathered_are same up = record {
+  rows = handed;
+  read = read;
+  keys_are = λ planned some.
+      subst (λ (keys : List Key). IsPermutation sorted keys) (gathered_are ∙ ap (keys_of old.schema.dims) (chosen_read choice p old new handed read planned some))
+      (IsPermutation-sym gathered sorted same);
+  ordered = up;
+}

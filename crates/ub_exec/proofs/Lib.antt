@@ -21,3 +21,4 @@ pub mod GroupTurnFacts
 pub mod PermutedFacts
 pub mod WholeFacts
 pub mod RefusedFacts
+pub mod RowsReadFacts

@@ -124,15 +124,21 @@ pub record HasReadUpTo (boxes : List Corners) (start now : TreeView) (after : Op
   pub trace_is : now.trace.pages ≡ start.trace.pages ++ map (λ span. span.page) spans
   pub fetches_are : now.trace.fetches ≡ fetches_then start.trace.fetches (length spans)
 
+pub HasReadUpTo-begun : (boxes : List Corners) (t : TreeView) → (first : HasReadUpTo boxes t t None) × (first.spans ≡ [])
+HasReadUpTo-begun boxes t = (
+  record {
+    spans = [];
+    answers = HasAnswers-none boxes t;
+    there = tt;
+    taken = tt;
+    trace_is = sym (append-nil t.trace.pages);
+    fetches_are = refl;
+  },
+  refl,
+)
+
 pub HasReadUpTo-none : (boxes : List Corners) (t : TreeView) → HasReadUpTo boxes t t None
-HasReadUpTo-none boxes t = record {
-  spans = [];
-  answers = HasAnswers-none boxes t;
-  there = tt;
-  taken = tt;
-  trace_is = sym (append-nil t.trace.pages);
-  fetches_are = refl;
-}
+HasReadUpTo-none boxes t = (HasReadUpTo-begun boxes t).0
 
 read_each : (t : TreeView) (spans : List Span) → AllByRecursion (IsRegionOf t) spans → AllByRecursion (IsIn t) spans → AllByRecursion (IsRead t) (map (λ (span : Span). span.page) spans)
 read_each t [] there taken = tt
@@ -161,8 +167,11 @@ module _ (boxes : List Corners) (start now new : TreeView) (traced : IsTraced st
   given_at_start found copied same gives = traced_gives start now traced boxes after found (subst (λ (o : Option Span). GivesNext boxes now o found) same gives)
 
   -- as they are where the tree gives no more
+  pub all_told : (copied : Option Span) → copied ≡ after → HasReadNext boxes copied now new None → AreMetBy boxes start come.spans
+  all_told copied same next = answers_ended boxes start come.spans after come.answers (given_at_start None copied same next.0)
+
   pub whole_by : (found copied : Option Span) → copied ≡ after → ((span : Span) → found ≡ Some span → ⊥) → HasReadNext boxes copied now new found → HasReadAll boxes start new
-  whole_by None copied same none next = whole next.1 (answers_ended boxes start come.spans after come.answers (given_at_start None copied same next.0))
+  whole_by None copied same none next = whole next.1 (all_told copied same next)
   whole_by (Some span) copied same none next = absurd (none span refl)
 
   -- with each region that it gives fewer are left
@@ -170,20 +179,29 @@ module _ (boxes : List Corners) (start now new : TreeView) (traced : IsTraced st
   come_down span copied same next = left_less boxes start after span (given_at_start (Some span) copied same next.0)
 
   -- else it has come one region further
-  come_further : (span : Span) → GivesNext boxes start after (Some span) → HasNoted span.page now new → IsIn start span → HasReadUpTo boxes start new (Some span)
-  come_further span gives noted taken = record {
-    spans = come.spans ++ span ∷ [];
-    answers = HasAnswers-more boxes start come.spans after come.answers span gives;
-    there = all_joined (IsRegionOf start) come.spans (span ∷ []) come.there ((next_is_later start boxes after span gives).0, tt);
-    taken = all_joined (IsIn start) come.spans (span ∷ []) come.taken (taken, tt);
-    trace_is = noted.pages_are ∙ ap (λ (trace : List ℕ). trace ++ span.page ∷ []) come.trace_is ∙ append_assoc start.trace.pages (map (λ (s : Span). s.page) come.spans) (span.page ∷ [])
-        ∙ ap (λ (pages : List ℕ). start.trace.pages ++ pages) (sym (map-append (λ (s : Span). s.page) come.spans (span ∷ [])));
-    fetches_are = noted.fetches_are ∙ ap (λ (f : ℕ). fetches_then f 1) come.fetches_are ∙ noted_sum start.trace.fetches (length come.spans) 1
-        ∙ ap (fetches_then start.trace.fetches) (sym (length-append come.spans (span ∷ [])));
-  }
+  come_further : (span : Span) → GivesNext boxes start after (Some span) → HasNoted span.page now new → IsIn start span
+      → (next : HasReadUpTo boxes start new (Some span)) × (next.spans ≡ come.spans ++ span ∷ [])
+  come_further span gives noted taken = (
+    record {
+      spans = come.spans ++ span ∷ [];
+      answers = HasAnswers-more boxes start come.spans after come.answers span gives;
+      there = all_joined (IsRegionOf start) come.spans (span ∷ []) come.there ((next_is_later start boxes after span gives).0, tt);
+      taken = all_joined (IsIn start) come.spans (span ∷ []) come.taken (taken, tt);
+      trace_is = noted.pages_are ∙ ap (λ (trace : List ℕ). trace ++ span.page ∷ []) come.trace_is ∙ append_assoc start.trace.pages (map (λ (s : Span). s.page) come.spans) (span.page ∷ [])
+          ∙ ap (λ (pages : List ℕ). start.trace.pages ++ pages) (sym (map-append (λ (s : Span). s.page) come.spans (span ∷ [])));
+      fetches_are = noted.fetches_are ∙ ap (λ (f : ℕ). fetches_then f 1) come.fetches_are ∙ noted_sum start.trace.fetches (length come.spans) 1
+          ∙ ap (fetches_then start.trace.fetches) (sym (length-append come.spans (span ∷ [])));
+    },
+    refl,
+  )
+
+  -- the spans are those before, and that one
+  pub come_with : (span : Span) (copied : Option Span) → copied ≡ after → HasReadNext boxes copied now new (Some span)
+      → (next : HasReadUpTo boxes start new (Some span)) × (next.spans ≡ come.spans ++ span ∷ [])
+  come_with span copied same (gives, noted, taken) = come_further span (given_at_start (Some span) copied same gives) noted (subst (λ (t : TreeView). IsIn t span) traced taken)
 
   pub come_on : (span : Span) (copied : Option Span) → copied ≡ after → HasReadNext boxes copied now new (Some span) → HasReadUpTo boxes start new (Some span)
-  come_on span copied same (gives, noted, taken) = come_further span (given_at_start (Some span) copied same gives) noted (subst (λ (t : TreeView). IsIn t span) traced taken)
+  come_on span copied same next = (come_with span copied same next).0
 
 -- ---- carrying out
 

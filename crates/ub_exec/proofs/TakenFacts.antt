@@ -1,21 +1,23 @@
 -- Rows taken out of any tree, one after the other.
 use Rattle.std.proofs.Common.{◌≡◌, ◌+◌, ◌-◌, ◌<◌, ◌≤◌, ◌++◌, ◌∷◌, ◌∙◌, inl, inr, ℕ, suc, Bool, true, false, if◌then◌else◌, IsTrue, List, [], Result, Ok, Err, add-one, append_assoc, drop, get_or, length, take, refl, sym, ap, subst, arith}
 use Rattle.std.proofs.Math.Seq.{take-suc}
+use Rattle.std.proofs.lemmas.Bool.{true≢false}
 use Rattle.std.proofs.lemmas.List.{take-append-drop}
 use Rattle.std.specs.Result.{IsErrAnd}
 use Rattle.ub_exec.specs.Deleting.{HasLostPage, HasMetDevice, IsDeletionFault, Removes, StopsAt, TakesOut, TakesOutBy}
-use Rattle.ub_store.specs.Facts.{StoreFacts, raised}
+use Rattle.ub_store.specs.Facts.{StoreFacts, page_count, raised}
 use Rattle.ub_store.specs.declared.fault.StoreFault.TheVariants as store
 use Rattle.ub_table.specs.declared.row.Key.{Key}
 use Rattle.ub_table.specs.declared.schema.Schema.{Schema}
 use Rattle.ub_tree.proofs.Laws.{take_all}
 use Rattle.ub_tree.specs.Effects.{HasEnded, HasMissed, IsLeft, Leaves, Works}
+use Rattle.ub_tree.specs.Holding.{ShrinksAt}
 use Rattle.ub_tree.specs.Reading.{fault_of_tree}
 use Rattle.ub_tree.specs.Removal.{IsRemovalFault}
 use Rattle.ub_tree.specs.View.{TreeView, IsSound}
 use Rattle.ub_tree.specs.declared.fault.TreeFault.{TreeFault}
 use Rattle.ub_tree.specs.declared.fault.TreeFault.TheVariants.{Full, Page, Store, Failed, Memory}
-use Rattle.ub_writing.specs.Marks.{HasMark}
+use Rattle.ub_writing.specs.Marks.{HasMark, KeepsUnless}
 
 -- ---- one more
 
@@ -62,6 +64,9 @@ pub record HasLost (old new : TreeView) (count : ℕ) : Type 0 where
   pub frame : new ≡ record old { placed = new.placed; rows = new.rows; is_changed = new.is_changed; is_failed = new.is_failed; store = new.store; inner = new.inner }
   pub counted : new.rows + count ≡ old.rows
   pub works : Works old new
+  pub stays : old.is_changed ≡ true → new.is_changed ≡ true
+  pub kept : KeepsUnless new.is_changed old.store new.store
+  pub pages : page_count new.store ≡ page_count old.store
   pub sound : IsSound old → IsSound new
 
 lost_none : (a b : TreeView) → b ≡ a → HasLost a b 0
@@ -69,8 +74,18 @@ lost_none a b same = subst (λ (t : TreeView). HasLost a t 0) (sym same) (record
   frame = refl;
   counted = omega arith;
   works = (refl, refl);
+  stays = λ changed. changed;
+  kept = λ honest unchanged m apart within. refl;
+  pages = refl;
   sound = λ sound. sound;
 })
+
+-- the store has as many pages then
+as_many : (key : Key) (a b : TreeView) → ShrinksAt key a b → page_count b.store ≡ page_count a.store
+as_many key a b shrinks = elim shrinks.others [
+  | inl alone ↦ alone.1.1
+  | inr joined ↦ joined.3.1
+]
 
 lost_one : (key : Key) (a b : TreeView) (found : Bool) → Removes key a b (Ok found) → HasLost a b (if found then 1 else 0)
 lost_one key a b false removes = lost_none a b (removes.untouched refl)
@@ -80,8 +95,23 @@ lost_one key a b true removes =
       frame = removes.effect.frame ∙ ap (λ (n : ℕ). record a { placed = b.placed; rows = b.rows; next = n; is_changed = b.is_changed; is_failed = b.is_failed; store = b.store; inner = b.inner }) next;
       counted = rows;
       works = removes.effect.done;
+      stays = removes.stays;
+      kept = removes.effect.marked.kept;
+      pages = as_many key a b shrinks;
       sound = λ sound. (removes.removed sound).sound;
     }
+
+-- what isn't marked in the end wasn't before
+unmarked : (before after : Bool) → (before ≡ true → after ≡ true) → after ≡ false → before ≡ false
+unmarked true after stays none = absurd (true≢false (sym (stays refl) ∙ none))
+unmarked false after stays none = refl
+
+-- two calls, of which the second one leaves the mark
+kept_then : (a b c : TreeView) → Works a b → (b.is_changed ≡ true → c.is_changed ≡ true) → page_count b.store ≡ page_count a.store → KeepsUnless b.is_changed a.store b.store
+    → KeepsUnless c.is_changed b.store c.store → KeepsUnless c.is_changed a.store c.store
+kept_then a b c works stays pages first second honest unchanged m apart within =
+    second (ap (λ (facts : StoreFacts). facts.honest) works.1 ∙ honest) unchanged m apart (subst (λ (n : ℕ). m < n) (sym pages) within)
+    ∙ first honest (unmarked b.is_changed c.is_changed stays unchanged) m apart within
 
 lost_more : (a b c : TreeView) (m n : ℕ) → HasLost a b m → HasLost b c n → HasLost a c (m + n)
 lost_more a b c m n first second =
@@ -91,6 +121,9 @@ lost_more a b c m n first second =
       frame = second.frame ∙ ap (λ (t : TreeView). record t { placed = c.placed; rows = c.rows; is_changed = c.is_changed; is_failed = c.is_failed; store = c.store; inner = c.inner }) first.frame;
       counted = omega (arith, one, other);
       works = Works-then a b c first.works second.works;
+      stays = λ changed. second.stays (first.stays changed);
+      kept = kept_then a b c first.works second.stays first.pages first.kept second.kept;
+      pages = second.pages ∙ first.pages;
       sound = λ sound. second.sound (first.sound sound);
     }
 
@@ -173,6 +206,8 @@ deletion_fault a b c count (Store store.Memory) working lost left of = absurd le
 -- what it leaves then
 pub record HasStopped (old new : TreeView) (fault : TreeFault) : Type 0 where
   pub frame : new ≡ record old { placed = new.placed; rows = new.rows; is_changed = new.is_changed; is_failed = new.is_failed; store = new.store; inner = new.inner }
+  pub stays : old.is_changed ≡ true → new.is_changed ≡ true
+  pub kept : KeepsUnless new.is_changed old.store new.store
   pub marked : IsSound old → new.is_changed ≡ true → HasMark old.schema new.store.pages
   pub left : IsDeletionFault old new (fault_of_tree fault)
 
@@ -185,6 +220,8 @@ stopped_at keys a c fault working stops =
       frame = effect.frame
           ∙ ap (λ (n : ℕ). record b { placed = c.placed; rows = c.rows; next = n; is_changed = c.is_changed; is_failed = c.is_failed; store = c.store; inner = c.inner }) (left_next b c fault effect.left)
           ∙ ap (λ (t : TreeView). record t { placed = c.placed; rows = c.rows; is_changed = c.is_changed; is_failed = c.is_failed; store = c.store; inner = c.inner }) lost.frame;
+      stays = λ changed. stops.ended.stays (lost.stays changed);
+      kept = kept_then a b c lost.works stops.ended.stays lost.pages lost.kept effect.marked.kept;
       marked = λ sound changed. subst (λ (schema : Schema). HasMark schema c.store.pages) (lost_schema a b stops.count lost) (effect.marked.marked (lost.sound sound) changed);
       left = deletion_fault a b c stops.count fault working lost effect.left stops.ended.faults;
     }

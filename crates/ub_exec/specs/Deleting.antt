@@ -1,14 +1,17 @@
 -- What a deletion does to a tree, also to one that isn't sound.
-use Rattle.std.specs.Prelude.{◌≡◌, ◌+◌, ◌++◌, ◌∷◌, ◌⊎◌, [], ℕ, suc, Bool, true, false, if◌then◌else◌, IsTrue, List, None, Result, Ok, Err, IfErr, IfOk, OnOk}
-use Rattle.std.specs.List.Sorted.{IsNonDecreasingBy}
-use Rattle.ub_bigmin.specs.Box.{Corners}
+use Rattle.std.specs.Prelude.{◌≡◌, ◌≢◌, ◌+◌, ◌++◌, ◌∷◌, ◌⊎◌, [], ℕ, suc, Bool, true, false, if◌then◌else◌, IsTrue, List, Some, None, Result, Ok, Err, IfErr, IfOk, OnOk}
+use Rattle.std.specs.List.{filter}
+use Rattle.std.specs.List.Sorted.{IsNonDecreasingBy, IsPermutation}
 use Rattle.ub_exec.specs.Answers.{IsReady, begun}
-use Rattle.ub_exec.specs.Reading.{HasReadAll, NotesPages}
-use Rattle.ub_planning.specs.Plan.{PlanView}
+use Rattle.ub_exec.specs.Reading.{HasReadRows, NotesPages}
+use Rattle.ub_planning.specs.Plan.{PlanView, plan_of}
+use Rattle.ub_query.specs.Groups.{is_selected}
 use Rattle.ub_query.specs.Shape.{Asked}
 use Rattle.ub_store.specs.Facts.{IsHonest, raised}
 use Rattle.ub_store.specs.declared.fault.StoreFault.TheVariants as store
+use Rattle.ub_table.specs.Region.{keys_of}
 use Rattle.ub_table.specs.declared.row.Key.{Key}
+use Rattle.ub_table.specs.declared.row.Row.{Row}
 use Rattle.ub_tree.specs.Effects.{Changes, Works}
 use Rattle.ub_tree.specs.Holding.{AnswersRemoval, ShrinksAt}
 use Rattle.ub_tree.specs.Reading.{ReadsTree, fault_of_tree}
@@ -18,7 +21,7 @@ use Rattle.ub_tree.specs.declared.fault.TreeFault.{TreeFault}
 use Rattle.ub_tree.specs.declared.fault.TreeFault.TheVariants.{Full, Page, Store, Failed, Memory as no_memory}
 use Rattle.ub_tree.specs.declared.read_fault.ReadFault.{ReadFault}
 use Rattle.ub_tree.specs.declared.read_fault.ReadFault.TheVariants.{Memory, Tree}
-use Rattle.ub_writing.specs.Marks.{HasMark}
+use Rattle.ub_writing.specs.Marks.{HasMark, KeepsUnless}
 
 -- a deletion asks for no groups, no order and no limit: each selected row is taken out
 abbrev pub IsDeletion : Asked → Type 0
@@ -38,8 +41,10 @@ pub record Removes (key : Key) (old new : TreeView) (result : Result Bool TreeFa
   pub counted : IfOk result (λ found. found ≡ true
       → (new.next ≡ old.next) × (new.rows + 1 ≡ old.rows) × ShrinksAt key old new)
   pub refused : old.is_failed ≡ false → IsHonest old.store → AnswersRemoval old key result
+  pub failed : IsTrue old.is_failed → result ≡ Err Failed
   pub effect : Changes old new result
   pub faults : IfErr result (IsRemovalFault old)
+  pub stays : old.is_changed ≡ true → new.is_changed ≡ true
 
 -- the rows of these keys were taken out, one after the other, but for those that weren't there; so many were
 abbrev pub TakesOut : List Key → TreeView → TreeView → ℕ → Type 0
@@ -71,22 +76,31 @@ abbrev pub answer_of : Result ℕ TreeFault → Result ℕ ReadFault
 answer_of (Ok count) = Ok count
 answer_of (Err fault) = Err (fault_of_tree fault)
 
--- no region that the tree tells of for the boxes was passed over, and all of them were taken in; then, and not before, rows
--- were taken out, in ascending order of number
-pub record TakesOutAfter (boxes : List Corners) (old new : TreeView) (result : Result ℕ ReadFault) : Type 0 where
+-- no region that the tree tells of for the plan's boxes was passed over, and these are the keys of the rows in them that the
+-- query selects, in ascending order of number; a row that stands in two regions is there twice. That the plan is that of its
+-- query, and that some row is asked for, is a premise: by its boxes alone rows are told from others only then
+pub record HasReadKeys (p : PlanView) (old new : TreeView) (keys : List Key) : Type 0 where
+  pub rows : List Row
+  pub read : HasReadRows p.covering.boxes old new rows
+  pub keys_are : p ≡ plan_of old.schema p.asked → p.asked.limit ≢ Some 0
+      → IsPermutation keys (keys_of old.schema.dims (filter (is_selected old.schema p.asked.filter) rows))
+  pub ordered : IsNonDecreasingBy (λ key. key.number) keys
+
+-- the keys of the selected rows were read; then, and not before, the rows of all these keys were taken out, in this order, or a
+-- fault of that ended it, which is told
+pub record TakesOutAfter (p : PlanView) (old new : TreeView) (result : Result ℕ ReadFault) : Type 0 where
   pub mid : TreeView
   pub same : mid ≡ record old { trace = mid.trace }
-  pub read : HasReadAll boxes old mid
   pub keys : List Key
-  pub ordered : IsNonDecreasingBy (λ key. key.number) keys
+  pub read : HasReadKeys p old mid keys
   pub told : Result ℕ TreeFault
   pub taken : TakesOutBy keys mid new told
   pub result_is : result ≡ answer_of told
 
 -- pages were noted, and where a fault ended that, the tree was read and no more; else rows were taken out
-pub record ReadsFirst (boxes : List Corners) (old new : TreeView) (result : Result ℕ ReadFault) : Type 0 where
+pub record ReadsFirst (p : PlanView) (old new : TreeView) (result : Result ℕ ReadFault) : Type 0 where
   pub notes : NotesPages old new result
-  pub first : (OnOk result ⊥ × ReadsTree old new result) ⊎ TakesOutAfter boxes old new result
+  pub first : (OnOk result ⊥ × ReadsTree old new result) ⊎ TakesOutAfter p old new result
 
 -- a call of the store failed: a read, and the tree works as it did; or a write, an extension or a sync, and it has failed
 abbrev pub HasMetDevice : TreeView → TreeView → Type 0
@@ -122,8 +136,9 @@ IsDeletionFault old new (Tree (Store store.NoPage)) =
     (¬ (IsSound old)) × (Works old new ⊎ ((¬ (IsHonest old.store)) × HasLostPage old new))
 IsDeletionFault old new (Tree (Store _)) = ⊥
 
--- a deletion from a tree: what it never touches; that it counts the rows that are gone, and no others; that a sound tree is
--- marked once it has changed; and what it leaves
+-- a deletion from a tree: what it never touches; that it counts the rows that are gone, and no others; that a table once marked as
+-- changed stays so, that until then no page but the first is written, and that a sound tree has its mark from then on; and what
+-- it leaves
 pub record Deletes (old new : TreeView) (result : Result ℕ ReadFault) : Type 0 where
   pub frame : new ≡ record old {
     placed = new.placed;
@@ -135,6 +150,8 @@ pub record Deletes (old new : TreeView) (result : Result ℕ ReadFault) : Type 0
     inner = new.inner;
   }
   pub counted : IfOk result (λ count. new.rows + count ≡ old.rows)
+  pub stays : old.is_changed ≡ true → new.is_changed ≡ true
+  pub kept : KeepsUnless new.is_changed old.store new.store
   pub marked : IsSound old → new.is_changed ≡ true → HasMark old.schema new.store.pages
   pub done : OnOk result (Works old new)
   pub left : IfErr result (IsDeletionFault old new)

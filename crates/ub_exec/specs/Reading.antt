@@ -1,10 +1,11 @@
 -- What carrying out a plan reads of any tree, also of one that isn't sound: which pages are noted, and that each was taken in.
-use Rattle.std.specs.Prelude.{◌≡◌, ◌≢◌, ◌≤◌, ◌++◌, ◌⊎◌, [], ℕ, Bool, List, Option, Some, None, Result, Ok, Err, OnOk, length, map, take}
+use Rattle.std.specs.Prelude.{◌≡◌, ◌≢◌, ◌≤◌, ◌++◌, ◌∷◌, ◌⊎◌, [], ℕ, Bool, List, Option, Some, None, Result, Ok, Err, OnOk, length, map, take}
 use Rattle.std.specs.List.{AllByRecursion}
 use Rattle.ub_bigmin.specs.Box.{Corners}
 use Rattle.ub_exec.specs.Answers.{IsSwept}
 use Rattle.ub_planning.specs.Plan.{PlanView}
 use Rattle.ub_table.specs.Region.{Region}
+use Rattle.ub_table.specs.declared.row.Row.{Row}
 use Rattle.ub_tetris.specs.Awaited.{AreMetAlong}
 use Rattle.ub_tetris.specs.Effects.{fetches_then}
 use Rattle.ub_tetris.specs.Sweep.{AwaitedRegion, IsSweepOf}
@@ -37,6 +38,19 @@ pub record HasReadAll (boxes : List Corners) (old new : TreeView) : Type 0 where
   pub spans : List Span
   pub all : AreMetBy boxes old spans
   pub taken : AllByRecursion (IsIn old) spans
+  pub trace_is : new.trace.pages ≡ old.trace.pages ++ map (λ span. span.page) spans
+
+-- these are the rows of the regions of these spans, one region after the other: each region is the one that its page spells
+abbrev pub AreRowsIn : TreeView → List Span → List Row → Type 0
+AreRowsIn t [] rows = rows ≡ []
+AreRowsIn t (span ∷ spans) rows =
+    (region : Region) × (more : List Row) × IsTakenIn t span region × AreRowsIn t spans more × (rows ≡ region.rows ++ more)
+
+-- no region that meets the boxes was passed over, and these are the rows of those that were taken in, one region after the other
+pub record HasReadRows (boxes : List Corners) (old new : TreeView) (rows : List Row) : Type 0 where
+  pub spans : List Span
+  pub all : AreMetBy boxes old spans
+  pub rows_are : AreRowsIn old spans rows
   pub trace_is : new.trace.pages ≡ old.trace.pages ++ map (λ span. span.page) spans
 
 -- so many rows are as many as the limit says, or more; without a limit none are
@@ -85,3 +99,8 @@ pub record CarriesOut {A : Type 0} (p : PlanView) (old new : TreeView) (rows : A
 abbrev pub HasReadNext : List Corners → Option Span → TreeView → TreeView → Option Span → Type 0
 HasReadNext boxes after old new None = GivesNext boxes old after None × KeepsTrace old new
 HasReadNext boxes after old new (Some span) = GivesNext boxes old after (Some span) × HasNoted span.page old new × IsIn old span
+
+-- these are the rows of that region, or none
+abbrev pub AreRowsOfNext : TreeView → Option Span → List Row → Type 0
+AreRowsOfNext t None rows = rows ≡ []
+AreRowsOfNext t (Some span) rows = (region : Region) × IsTakenIn t span region × (rows ≡ region.rows)

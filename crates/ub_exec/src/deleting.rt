@@ -1,8 +1,7 @@
 ghost use Rattle.std.specs.Prelude.{◌≡◌, ◌++◌, ◌≤◌, ◌∷◌, [], ℕ, false, true, length, map, take, IfOk, OnErr, OnOk, Ok};
-ghost use Rattle.std.specs.List.Sorted.{IsNonDecreasingBy};
 ghost use Rattle.ub_exec.specs.Answers.{begun};
-ghost use Rattle.ub_exec.specs.Deleting.{Deletes, IsDeletionOf, ReadsFirst, TakesOutBy};
-ghost use Rattle.ub_exec.specs.Reading.{HasReadAll, NotesPages};
+ghost use Rattle.ub_exec.specs.Deleting.{Deletes, HasReadKeys, IsDeletionOf, ReadsFirst, TakesOutBy};
+ghost use Rattle.ub_exec.specs.Reading.{NotesPages};
 ghost use Rattle.ub_exec.specs.Stand.{Stand, IsStandOf, selected_of, without_rows, without_selected};
 ghost use Rattle.ub_exec.specs.Visits.{HasFetched, HasFetchedFirst};
 ghost use Rattle.ub_query.specs.Posed.{IsPosed};
@@ -22,6 +21,9 @@ use ub_tree::{ReadFault, Tree, TreeFault};
 /// BY, ORDER BY and LIMIT is meant; its items mean nothing. First all regions that meet the plan's boxes are read, and the keys
 /// of the selected rows are put by; then these rows are taken out, in ascending order of their numbers. The trace begins anew,
 /// and has the pages that were fetched: those of the regions that the plan visits. Where no row is selected nothing is written.
+///
+/// On any tree these are the selected rows of all regions that the tree tells of for the boxes, as their pages spell them, and
+/// each of them is asked for; a fault met at one of them is told.
 ///
 /// After a fault the first rows by number are gone, or none, and the others stand. `Memory` where memory was refused; `Tree`
 /// where the tree refused, as it does where it has failed. On a sound tree it refuses only where its store failed in this call,
@@ -43,7 +45,7 @@ pub fn delete<S: PageStore>(
     ensures broken { IsDeletionOf tree.old plan.now → OnErr result ((count : ℕ)
         × HasFetchedFirst plan.now (begun tree.old) tree.new count) }
     ensures untouched { result ≡ Ok 0 → tree.new ≡ record tree.old { trace = tree.new.trace } }
-    ensures reads { ReadsFirst plan.now.covering.boxes (begun tree.old) tree.new result }
+    ensures reads { ReadsFirst plan.now (begun tree.old) tree.new result }
     ensures effect { Deletes tree.old tree.new result }
 {
     tree.begin();
@@ -81,12 +83,11 @@ fn keys_of_selected<S: PageStore>(
     ensures keys { (s : Stand) → IsStandOf tree.old s → IsDeletionOf tree.old plan.now
         → IfOk result
         (λ keys. keys.items ≡ keys_of s.table.schema.dims (selected_of plan.now.asked s)) }
-    ensures ordered { IfOk result (λ keys. IsNonDecreasingBy (λ key. key.number) keys.items) }
+    ensures read { IfOk result (λ keys. HasReadKeys plan.now tree.old tree.new keys.items) }
     ensures pages { IsDeletionOf tree.old plan.now → OnOk result
         (HasFetched plan.now tree.old tree.new) }
     ensures broken { IsDeletionOf tree.old plan.now → OnErr result ((count : ℕ)
         × HasFetchedFirst plan.now tree.old tree.new count) }
-    ensures all { OnOk result (HasReadAll plan.now.covering.boxes tree.old tree.new) }
     ensures notes { NotesPages tree.old tree.new result }
     ensures effect { ReadsTree tree.old tree.new result }
 {

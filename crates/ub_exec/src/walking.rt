@@ -1,6 +1,6 @@
 ghost use Rattle.std.specs.Prelude.{◌≡◌, ◌++◌, List, length, option_copied, IfOk, OnErr, OnOk};
 ghost use Rattle.std.specs.List.{filter};
-ghost use Rattle.ub_exec.specs.Reading.{HasReadAll, HasReadNext, NotesPages};
+ghost use Rattle.ub_exec.specs.Reading.{AreRowsOfNext, HasReadAll, HasReadNext, HasReadRows, NotesPages};
 ghost use Rattle.ub_filter.specs.Choice.{IsFit, is_chosen};
 ghost use Rattle.ub_exec.specs.Visits.{Hands, HasTurned, HasTurnedSome, HasWalked, HasWalkedFirst};
 ghost use Rattle.ub_query.specs.Posed.{IsPosed};
@@ -27,7 +27,8 @@ pub(crate) fn walk<S: PageStore, K: RowSink>(
     requires fit { IsFit tree.old.schema plan.now choice }
     ensures rows { OnOk result (Hands (K.HasTaken tree.old.schema plan.now.asked)
         (is_chosen choice tree.old.schema plan.now) sink.old sink.new
-        (λ rows. IsSound tree.old → HasWalked plan.now.covering.boxes tree.old tree.new rows)) }
+        (λ rows. HasReadRows plan.now.covering.boxes tree.old tree.new rows
+        × (IsSound tree.old → HasWalked plan.now.covering.boxes tree.old tree.new rows))) }
     ensures broken { (before : K) (taken : List RowView)
         → K.HasTaken tree.old.schema plan.now.asked before taken sink.old
         → IsSound tree.old → OnErr result (HasWalkedFirst plan.now.covering.boxes tree.old
@@ -58,9 +59,9 @@ fn visit_next<S: PageStore, K: RowSink>(
     requires fit { IsFit tree.old.schema plan.now choice }
     ensures rows { IfOk result (λ found. Hands (K.HasTaken tree.old.schema plan.now.asked)
         (is_chosen choice tree.old.schema plan.now) sink.old sink.new
-        (λ rows. IsSound tree.old
+        (λ rows. AreRowsOfNext tree.old found rows × (IsSound tree.old
         → HasTurned plan.now.covering.boxes (option_copied after.entry) tree.old tree.new found
-        rows)) }
+        rows))) }
     ensures broken { IsSound tree.old → OnErr result
         (HasTurnedSome plan.now.covering.boxes (option_copied after.entry) tree.old tree.new) }
     ensures next { IfOk result (HasReadNext plan.now.covering.boxes (option_copied after.entry)

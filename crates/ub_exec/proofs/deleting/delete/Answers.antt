@@ -1,10 +1,10 @@
 use Rattle.std.proofs.Common.{◌∙◌, ℕ, List, Ok, Err, ap, length, subst, sym}
-use Rattle.std.specs.List.Sorted.{IsNonDecreasingBy}
 use Rattle.ub_exec.proofs.DeletedFacts.{begun_deletion, begun_stand, begun_then, deletes_by, deletes_done, deletes_failed, deletes_read, deletes_stopped, done_keeps, done_stand, fetched_then, first_by, first_done, first_stopped, none_gone, read_stopped, stopped_keeps, stopped_stand, works_still}
 use Rattle.ub_exec.proofs.FirstFacts.{all_fetched, on_err}
 use Rattle.ub_exec.proofs.RefusedFacts.{no_answer, no_result, not_answered}
 use Rattle.ub_exec.specs.Answers.{begun}
-use Rattle.ub_exec.specs.Reading.{HasReadAll, NotesPages}
+use Rattle.ub_exec.specs.Deleting.{HasReadKeys}
+use Rattle.ub_exec.specs.Reading.{NotesPages}
 use Rattle.ub_exec.specs.Visits.{HasFetched, HasFetchedFirst}
 use Rattle.ub_query.specs.Posed.{IsPosed}
 use Rattle.ub_table.specs.declared.row.Key.{Key}
@@ -59,12 +59,13 @@ returns-in_err-count-clause-reads g c =
     let working = works_still c.args.tree.now c.begin.new.self c.has_failed.result c.begin.ensures c.has_failed.ensures c.if-has_failed.false in
     let traced = begun_then c.args.tree.now c.begin.new.self c.keys_of_selected.new.tree c.begin.ensures c.in_ok-keys.ensures.effect.same in
     let still = ap (λ (t : TreeView). t.is_failed) traced ∙ working in
-    first_by c.from_residual-in_err-count.result _ c.args.plan.now.covering.boxes (begun c.args.tree.now) c.take_out.new.tree c.from_residual-in_err-count.ensures.1
-    (first_stopped c.in_ok-keys.keys c.args.plan.now.covering.boxes (begun c.args.tree.now) c.keys_of_selected.new.tree c.take_out.new.tree
+    first_by c.from_residual-in_err-count.result _ c.args.plan.now (begun c.args.tree.now) c.take_out.new.tree c.from_residual-in_err-count.ensures.1
+    (first_stopped c.in_ok-keys.keys c.args.plan.now (begun c.args.tree.now) c.keys_of_selected.new.tree c.take_out.new.tree
     (subst (λ (t : TreeView). ReadsTree t c.keys_of_selected.new.tree (Ok c.in_ok-keys.keys)) c.begin.ensures c.in_ok-keys.ensures.effect)
     (subst (λ (t : TreeView). NotesPages t c.keys_of_selected.new.tree (Ok c.in_ok-keys.keys)) c.begin.ensures c.in_ok-keys.ensures.notes)
-    (subst (λ (t : TreeView). HasReadAll c.args.plan.now.covering.boxes t c.keys_of_selected.new.tree) c.begin.ensures c.in_ok-keys.ensures.all)
-    c.as_slice.result.now (subst (λ (keys : List Key). IsNonDecreasingBy (λ key. key.number) keys) (sym c.as_slice.ensures.value) c.in_ok-keys.ensures.ordered)
+    c.as_slice.result.now
+    (subst (λ (keys : List Key). HasReadKeys c.args.plan.now (begun c.args.tree.now) c.keys_of_selected.new.tree keys) (sym c.as_slice.ensures.value)
+    (subst (λ (t : TreeView). HasReadKeys c.args.plan.now t c.keys_of_selected.new.tree c.in_ok-keys.keys.items) c.begin.ensures c.in_ok-keys.ensures.read))
     c.in_err-count.field-0.0 still c.in_err-count.ensures)
 
 pub returns-in_err-count-clause-effect : goal.returns-in_err-count-clause-effect
@@ -95,11 +96,12 @@ returns-clause-untouched g c none =
 
 pub returns-clause-reads : goal.returns-clause-reads
 returns-clause-reads g c =
-    first_done c.in_ok-keys.keys c.args.plan.now.covering.boxes (begun c.args.tree.now) c.keys_of_selected.new.tree c.take_out.new.tree
+    first_done c.in_ok-keys.keys c.args.plan.now (begun c.args.tree.now) c.keys_of_selected.new.tree c.take_out.new.tree
     (subst (λ (t : TreeView). ReadsTree t c.keys_of_selected.new.tree (Ok c.in_ok-keys.keys)) c.begin.ensures c.in_ok-keys.ensures.effect)
     (subst (λ (t : TreeView). NotesPages t c.keys_of_selected.new.tree (Ok c.in_ok-keys.keys)) c.begin.ensures c.in_ok-keys.ensures.notes)
-    (subst (λ (t : TreeView). HasReadAll c.args.plan.now.covering.boxes t c.keys_of_selected.new.tree) c.begin.ensures c.in_ok-keys.ensures.all)
-    c.as_slice.result.now (subst (λ (keys : List Key). IsNonDecreasingBy (λ key. key.number) keys) (sym c.as_slice.ensures.value) c.in_ok-keys.ensures.ordered)
+    c.as_slice.result.now
+    (subst (λ (keys : List Key). HasReadKeys c.args.plan.now (begun c.args.tree.now) c.keys_of_selected.new.tree keys) (sym c.as_slice.ensures.value)
+    (subst (λ (t : TreeView). HasReadKeys c.args.plan.now t c.keys_of_selected.new.tree c.in_ok-keys.keys.items) c.begin.ensures c.in_ok-keys.ensures.read))
     c.in_ok-count.count c.in_ok-count.ensures
 
 pub returns-clause-effect : goal.returns-clause-effect

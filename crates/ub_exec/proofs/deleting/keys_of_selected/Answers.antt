@@ -3,7 +3,7 @@ use Rattle.std.proofs.lemmas.List.{append-nil}
 use Rattle.std.proofs.lemmas.List.Sorted.{IsNonDecreasingBy-from_sort_by_key}
 use Rattle.std.specs.List.{filter}
 use Rattle.ub_exec.proofs.FirstFacts.{on_err, walked_first}
-use Rattle.ub_exec.proofs.KeyFacts.{deletion_scans, walked_keys}
+use Rattle.ub_exec.proofs.KeyFacts.{deletion_scans, read_keys, walked_keys}
 use Rattle.ub_exec.proofs.MeantFacts.{walk_fetched}
 use Rattle.ub_exec.proofs.NotedFacts.{notes_err, notes_ok}
 use Rattle.ub_exec.proofs.RefusedFacts.{no_answer, no_result}
@@ -13,8 +13,15 @@ use Rattle.ub_table.specs.declared.row.Key.{Key}
 use Rattle.ub_tree.proofs.Laws.{reads_by}
 use Rattle.ub_exec.proofs.deleting.keys_of_selected.Goals as goal
 
-pub returns-clause-ordered : goal.returns-clause-ordered
-returns-clause-ordered g c = IsNonDecreasingBy-from_sort_by_key (λ key. key.number) _ c.sort_unstable_by_key.ensures.sorted (λ a r q k. search rules)
+pub returns-clause-read : goal.returns-clause-read
+returns-clause-read g c =
+    let none : c.new.result.items ≡ [] = search rules in
+    let (handed, held, walk) = c.in_ok-walk.ensures.rows (record { keys = c.new.result }) [] (sym (append-nil c.new.result.items)) in
+    let chosen = keys_of c.args.tree.now.schema.dims (filter (is_chosen c.of-choice.result c.args.tree.now.schema c.args.plan.now) handed) in
+    let gathered : c.walk.new.sink.keys.items ≡ chosen = held ∙ ap (λ (keys : List Key). keys ++ chosen) none in
+    read_keys c.args.tree.now c.walk.new.tree c.args.plan.now c.of-choice.result handed c.walk.new.sink.keys.items _ walk.0 gathered
+    c.sort_unstable_by_key.ensures.permutation
+    (IsNonDecreasingBy-from_sort_by_key (λ key. key.number) _ c.sort_unstable_by_key.ensures.sorted (λ a r q k. search rules))
 
 pub returns-clause-keys : goal.returns-clause-keys
 returns-clause-keys g c s stand deletion =
@@ -22,7 +29,7 @@ returns-clause-keys g c s stand deletion =
     let (handed, held, walk) = c.in_ok-walk.ensures.rows (record { keys = c.new.result }) [] (sym (append-nil c.new.result.items)) in
     let chosen = keys_of c.args.tree.now.schema.dims (filter (is_chosen c.of-choice.result c.args.tree.now.schema c.args.plan.now) handed) in
     let gathered : c.walk.new.sink.keys.items ≡ chosen = held ∙ ap (λ (keys : List Key). keys ++ chosen) none in
-    walked_keys c.args.tree.now c.walk.new.tree s c.args.plan.now c.of-choice.result handed c.walk.new.sink.keys.items _ stand deletion (walk stand.sound) gathered
+    walked_keys c.args.tree.now c.walk.new.tree s c.args.plan.now c.of-choice.result handed c.walk.new.sink.keys.items _ stand deletion (walk.1 stand.sound) gathered
     c.sort_unstable_by_key.ensures.permutation
     (IsNonDecreasingBy-from_sort_by_key (λ key. key.number) _ c.sort_unstable_by_key.ensures.sorted (λ a r q k. search rules))
 
@@ -30,7 +37,7 @@ pub returns-clause-pages : goal.returns-clause-pages
 returns-clause-pages g c deletion =
     let (handed, held, walk) = c.in_ok-walk.ensures.rows (record { keys = c.new.result }) [] (sym (append-nil c.new.result.items)) in
     let ready = deletion.ready in
-    walk_fetched c.args.plan.now c.args.tree.now c.walk.new.tree handed ready.sound ready.planned (deletion_scans c.args.tree.now.schema c.args.plan.now ready.planned deletion.plain) (walk ready.sound)
+    walk_fetched c.args.plan.now c.args.tree.now c.walk.new.tree handed ready.sound ready.planned (deletion_scans c.args.tree.now.schema c.args.plan.now ready.planned deletion.plain) (walk.1 ready.sound)
 
 pub returns-in_err-walk-clause-broken : goal.returns-in_err-walk-clause-broken
 returns-in_err-walk-clause-broken g c deletion =
@@ -42,23 +49,17 @@ returns-in_err-walk-clause-broken g c deletion =
 pub returns-in_err-walk-clause-keys : goal.returns-in_err-walk-clause-keys
 returns-in_err-walk-clause-keys g c s stand deletion = no_answer c.from_residual.result _ _ c.from_residual.ensures.1
 
-pub returns-in_err-walk-clause-ordered : goal.returns-in_err-walk-clause-ordered
-returns-in_err-walk-clause-ordered g c = no_answer c.from_residual.result _ _ c.from_residual.ensures.1
+pub returns-in_err-walk-clause-read : goal.returns-in_err-walk-clause-read
+returns-in_err-walk-clause-read g c = no_answer c.from_residual.result _ _ c.from_residual.ensures.1
 
 pub returns-in_err-walk-clause-pages : goal.returns-in_err-walk-clause-pages
 returns-in_err-walk-clause-pages g c deletion = no_result c.from_residual.result _ _ c.from_residual.ensures.1
-
-pub returns-in_err-walk-clause-all : goal.returns-in_err-walk-clause-all
-returns-in_err-walk-clause-all g c = no_result c.from_residual.result _ _ c.from_residual.ensures.1
 
 pub returns-in_err-walk-clause-notes : goal.returns-in_err-walk-clause-notes
 returns-in_err-walk-clause-notes g c = notes_err c.from_residual.result _ (Err _) c.args.tree.now c.walk.new.tree c.from_residual.ensures.1 c.in_err-walk.ensures.notes
 
 pub returns-in_err-walk-clause-effect : goal.returns-in_err-walk-clause-effect
 returns-in_err-walk-clause-effect g c = reads_by c.from_residual.result _ c.args.tree.now c.args.tree.now c.walk.new.tree c.from_residual.ensures.1 refl c.in_err-walk.ensures.effect
-
-pub returns-clause-all : goal.returns-clause-all
-returns-clause-all g c = c.in_ok-walk.ensures.all
 
 pub returns-clause-notes : goal.returns-clause-notes
 returns-clause-notes g c = notes_ok _ _ c.args.tree.now c.walk.new.tree c.in_ok-walk.ensures.notes

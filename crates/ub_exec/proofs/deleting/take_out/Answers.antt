@@ -13,8 +13,10 @@ loop-key-preserved g c =
       untouched = said.untouched;
       counted = said.counted;
       refused = said.refused;
+      failed = said.failed;
       effect = said.effect;
       faults = said.faults;
+      stays = said.stays;
     })
 
 pub returns-in_err-remove : goal.returns-in_err-remove
@@ -25,8 +27,10 @@ returns-in_err-remove g c =
       untouched = said.untouched;
       counted = said.counted;
       refused = said.refused;
+      failed = said.failed;
       effect = said.effect;
       faults = said.faults;
+      stays = said.stays;
     })
 
 pub overflow_sub-result : goal.overflow_sub-result

@@ -52,7 +52,7 @@ returns-clause-rows g c ready rows are =
     let begun = subst (λ (q : Asked). IsGathered c.args.tree.now.schema q [] c.new-gathering.result) same (subst (λ (s : Schema). IsGathered s query [] c.new-gathering.result) c.schema.ensures c.new-gathering.ensures.gathered) in
     let (handed, held, walk) = c.in_ok-walk.ensures.rows c.new-gathering.result [] (none_taken c.args.tree.now.schema c.args.plan.now.asked c.new-gathering.result) in
     let after : c.schema-3.result.now ≡ c.args.tree.now.schema = c.schema-3.ensures ∙ ap (λ (t : TreeView). t.schema) c.in_ok-walk.ensures.effect.same in
-    answered c.args.tree.now ready.sound rows are c.args.plan.now ready.planned some c.of-choice.result query same c.walk.new.tree handed (walk ready.sound) _
+    answered c.args.tree.now ready.sound rows are c.args.plan.now ready.planned some c.of-choice.result query same c.walk.new.tree handed (walk.1 ready.sound) _
     (λ table condition schema order numbers chosen.
     c.in_ok-finish.ensures.answer table condition (filter f handed) (schema ∙ sym after) order numbers chosen
     (subst (λ (q : Asked). IsGathered c.schema-3.result.now q (filter f handed) c.walk.new.sink) (sym same)
@@ -61,7 +61,7 @@ returns-clause-rows g c ready rows are =
 pub returns-clause-pages : goal.returns-clause-pages
 returns-clause-pages g c ready apart =
     let (handed, held, walk) = c.in_ok-walk.ensures.rows c.new-gathering.result [] (none_taken c.args.tree.now.schema c.args.plan.now.asked c.new-gathering.result) in
-    walk_fetched c.args.plan.now c.args.tree.now c.walk.new.tree handed ready.sound ready.planned apart (walk ready.sound)
+    walk_fetched c.args.plan.now c.args.tree.now c.walk.new.tree handed ready.sound ready.planned apart (walk.1 ready.sound)
 
 pub returns-in_err-walk-clause-broken : goal.returns-in_err-walk-clause-broken
 returns-in_err-walk-clause-broken g c ready apart =
@@ -72,7 +72,7 @@ pub returns-in_err-finish-clause-broken : goal.returns-in_err-finish-clause-brok
 returns-in_err-finish-clause-broken g c ready apart =
     let (handed, held, walk) = c.in_ok-walk.ensures.rows c.new-gathering.result [] (none_taken c.args.tree.now.schema c.args.plan.now.asked c.new-gathering.result) in
     on_err c.from_residual-in_err-finish.result _
-    (all_fetched c.args.plan.now c.args.tree.now c.walk.new.tree (walk_fetched c.args.plan.now c.args.tree.now c.walk.new.tree handed ready.sound ready.planned apart (walk ready.sound)))
+    (all_fetched c.args.plan.now c.args.tree.now c.walk.new.tree (walk_fetched c.args.plan.now c.args.tree.now c.walk.new.tree handed ready.sound ready.planned apart (walk.1 ready.sound)))
 
 pub returns-then-asks_for_none-clause-reads : goal.returns-then-asks_for_none-clause-reads
 returns-then-asks_for_none-clause-reads g c apart =

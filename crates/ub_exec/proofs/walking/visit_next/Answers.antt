@@ -12,7 +12,7 @@ use Rattle.ub_query.specs.Posed.{IsPosed}
 use Rattle.ub_table.specs.declared.row.Row.{Row}
 use Rattle.ub_table.specs.declared.schema.Schema.{Schema}
 use Rattle.ub_tetris.proofs.Laws.{either_noted}
-use Rattle.ub_tree.specs.Effects.{ReadsRegion, Searches}
+use Rattle.ub_tree.specs.Effects.{IsTakenIn, ReadsRegion, Searches}
 use Rattle.ub_tree.specs.Spans.{First, IsLater, Meets, Region as Span}
 use Rattle.ub_tree.specs.Told.{GivesNext, IsRegionOf}
 use Rattle.ub_tree.specs.View.{TreeView, spans_of}
@@ -27,10 +27,13 @@ pub returns-in_default-clause-rows : goal.returns-in_default-clause-rows
 returns-in_default-clause-rows g c before taken has = (
   [],
   subst (λ (rows : List Row). g.K.RowSink.HasTaken c.args.tree.now.schema c.args.plan.now.asked before rows c.args.sink.now) (sym (append-nil taken)) has,
-  λ sound. (
-    subst (λ (boxes : List Corners). First (λ s. IsLater (option_copied c.args.after) s × Meets boxes s) (spans_of c.args.tree.now) None) c.boxes.ensures.boxes (rw c.in_default.is at (c.in_ok-region.ensures.found sound)),
-    unchanged_trace c.args.tree.now c.next_meeting.new.self c.in_ok-region.ensures.effect.same,
+  (
     refl,
+    λ sound. (
+      subst (λ (boxes : List Corners). First (λ s. IsLater (option_copied c.args.after) s × Meets boxes s) (spans_of c.args.tree.now) None) c.boxes.ensures.boxes (rw c.in_default.is at (c.in_ok-region.ensures.found sound)),
+      unchanged_trace c.args.tree.now c.next_meeting.new.self c.in_ok-region.ensures.effect.same,
+      refl,
+    ),
   ),
 )
 
@@ -41,10 +44,13 @@ returns-clause-rows g c before taken has =
     c.schema.ensures ∙ schema_read _ _ c.in-Some.region c.args.tree.now c.next_meeting.new.self c.read_region.new.self c.in_ok-region.ensures.effect c.in_ok-read_region.ensures.effect in (
       c.read_region.new.page.region.rows,
       (rw schema at (c.in_ok-push_chosen.ensures before taken)) has,
-      λ sound. visited_by c.args.tree.now c.next_meeting.new.self c.read_region.new.self c.args.plan.now.covering.boxes (option_copied c.args.after) c.in-Some.region c.read_region.new.page.region
-          c.read_region.new.page.region.rows sound
-          (subst (λ (boxes : List Corners). First (λ s. IsLater (option_copied c.args.after) s × Meets boxes s) (spans_of c.args.tree.now) (Some c.in-Some.region)) c.boxes.ensures.boxes (rw c.in-Some.is at (c.in_ok-region.ensures.found sound)))
-          (Keeps-by c.args.tree.now c.next_meeting.new.self (unchanged_traced c.args.tree.now c.next_meeting.new.self same)) (unchanged_trace c.args.tree.now c.next_meeting.new.self same) c.in_ok-read_region.ensures.stands c.in_ok-read_region.ensures.first c.in_ok-read_region.ensures.effect.listed refl,
+      (
+        (c.read_region.new.page.region, subst (λ (t : TreeView). IsTakenIn t c.in-Some.region c.read_region.new.page.region) same c.in_ok-read_region.ensures.taken, refl),
+        λ sound. visited_by c.args.tree.now c.next_meeting.new.self c.read_region.new.self c.args.plan.now.covering.boxes (option_copied c.args.after) c.in-Some.region c.read_region.new.page.region
+            c.read_region.new.page.region.rows sound
+            (subst (λ (boxes : List Corners). First (λ s. IsLater (option_copied c.args.after) s × Meets boxes s) (spans_of c.args.tree.now) (Some c.in-Some.region)) c.boxes.ensures.boxes (rw c.in-Some.is at (c.in_ok-region.ensures.found sound)))
+            (Keeps-by c.args.tree.now c.next_meeting.new.self (unchanged_traced c.args.tree.now c.next_meeting.new.self same)) (unchanged_trace c.args.tree.now c.next_meeting.new.self same) c.in_ok-read_region.ensures.stands c.in_ok-read_region.ensures.first c.in_ok-read_region.ensures.effect.listed refl,
+      ),
     )
 
 pub returns-in_err-read_region-clause-effect : goal.returns-in_err-read_region-clause-effect

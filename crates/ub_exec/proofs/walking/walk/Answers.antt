@@ -5,6 +5,7 @@ use Rattle.ub_exec.proofs.FirstFacts.{on_err, turned_first}
 use Rattle.ub_tree.proofs.Laws.{Keeps-by, Keeps-more, Keeps-none, reads_by, reads_then}
 use Rattle.ub_exec.proofs.NotedFacts.{HasReadUpTo-none, come_down, come_notes, come_on, notes_err, notes_ok, notes_then, whole_by}
 use Rattle.ub_exec.proofs.RefusedFacts.{no_result}
+use Rattle.ub_exec.proofs.RowsReadFacts.{HasRowsUpTo-none, rows_on, rows_whole}
 use Rattle.ub_exec.proofs.WalkFacts.{HasCome-none, ended_by, turned_to, handed_more}
 use Rattle.ub_filter.specs.Choice.{IsFit, is_chosen}
 use Rattle.ub_query.specs.Posed.{IsPosed}
@@ -19,7 +20,7 @@ loop-region-init g c = record {
   come = λ before taken has. (
     [],
     subst (λ (rows : List Row). g.K.RowSink.HasTaken c.args.tree.now.schema c.args.plan.now.asked before rows c.args.sink.now) (sym (append-nil taken)) has,
-    λ sound. HasCome-none c.args.plan.now.covering.boxes c.args.tree.now,
+    (HasRowsUpTo-none c.args.plan.now.covering.boxes c.args.tree.now, λ sound. HasCome-none c.args.plan.now.covering.boxes c.args.tree.now),
   );
 }
 
@@ -34,8 +35,12 @@ returns-clause-rows g c before taken has =
       rows ++ more,
       subst (λ (rs : List Row). g.K.RowSink.HasTaken c.args.tree.now.schema asked before rs c.visit_next.new.sink) (handed_more (is_chosen c.args.choice c.args.tree.now.schema c.args.plan.now) taken rows more)
           (subst (λ (s : Schema). g.K.RowSink.HasTaken s asked before ((taken ++ filter (is_chosen c.args.choice c.args.tree.now.schema c.args.plan.now) rows) ++ filter (is_chosen c.args.choice s c.args.plan.now) more) c.visit_next.new.sink) schema then),
-      λ sound. ended_by c.args.plan.now.covering.boxes c.args.tree.now c.loop-region.tree c.visit_next.new.tree sound inv.kept c.loop-region.after rows more (come sound)
-          c.in_ok-region.field-0 _ c.as_ref.ensures.value c.in_default.not-Some (turn (inv.kept.sound sound)),
+      (
+        rows_whole c.args.plan.now.covering.boxes c.args.tree.now c.loop-region.tree c.visit_next.new.tree inv.kept.traced c.loop-region.after rows more come.0
+            c.in_ok-region.field-0 _ c.as_ref.ensures.value c.in_default.not-Some c.in_ok-region.ensures.next turn.0,
+        λ sound. ended_by c.args.plan.now.covering.boxes c.args.tree.now c.loop-region.tree c.visit_next.new.tree sound inv.kept c.loop-region.after rows more (come.1 sound)
+            c.in_ok-region.field-0 _ c.as_ref.ensures.value c.in_default.not-Some (turn.1 (inv.kept.sound sound)),
+      ),
     )
 
 pub loop-region-preserved : goal.loop-region-preserved
@@ -54,8 +59,12 @@ loop-region-preserved g c =
             rows ++ more,
             subst (λ (rs : List Row). g.K.RowSink.HasTaken c.args.tree.now.schema asked before rs c.visit_next.new.sink) (handed_more (is_chosen c.args.choice c.args.tree.now.schema c.args.plan.now) taken rows more)
                 (subst (λ (s : Schema). g.K.RowSink.HasTaken s asked before ((taken ++ filter (is_chosen c.args.choice c.args.tree.now.schema c.args.plan.now) rows) ++ filter (is_chosen c.args.choice s c.args.plan.now) more) c.visit_next.new.sink) schema then),
-            λ sound. turned_to c.args.plan.now.covering.boxes c.args.tree.now c.loop-region.tree c.visit_next.new.tree sound inv.kept c.loop-region.after rows more (come sound)
-                c.in-Some.region _ c.as_ref.ensures.value (rw c.in-Some.is at (turn (inv.kept.sound sound))),
+            (
+              rows_on c.args.plan.now.covering.boxes c.args.tree.now c.loop-region.tree c.visit_next.new.tree inv.kept.traced c.loop-region.after rows more come.0
+                  c.in-Some.region _ c.as_ref.ensures.value (rw c.in-Some.is at c.in_ok-region.ensures.next) (rw c.in-Some.is at turn.0),
+              λ sound. turned_to c.args.plan.now.covering.boxes c.args.tree.now c.loop-region.tree c.visit_next.new.tree sound inv.kept c.loop-region.after rows more (come.1 sound)
+                  c.in-Some.region _ c.as_ref.ensures.value (rw c.in-Some.is at (turn.1 (inv.kept.sound sound))),
+            ),
           );
     }
 
@@ -70,7 +79,7 @@ returns-in_err-region-clause-broken g c before taken has sound =
     let inv = c.loop-region.invariant in
     let (rows, held, come) = inv.come before taken has in
     on_err c.from_residual.result _
-    (turned_first c.args.plan.now.covering.boxes c.args.tree.now c.loop-region.tree c.visit_next.new.tree sound inv.kept c.loop-region.after _ rows (come sound) c.as_ref.ensures.value
+    (turned_first c.args.plan.now.covering.boxes c.args.tree.now c.loop-region.tree c.visit_next.new.tree sound inv.kept c.loop-region.after _ rows (come.1 sound) c.as_ref.ensures.value
     (c.in_err-region.ensures.broken (inv.kept.sound sound)))
 
 pub returns-clause-all : goal.returns-clause-all

@@ -2,6 +2,7 @@ use Rattle.std.proofs.Common.{◌++◌, List}
 use Rattle.std.specs.List.{filter}
 use Rattle.ub_tree.proofs.Laws.{Keeps, left_after}
 use Rattle.ub_exec.proofs.NotedFacts.{HasReadUpTo}
+use Rattle.ub_exec.proofs.RowsReadFacts.{HasRowsUpTo}
 use Rattle.ub_exec.proofs.WalkFacts.{HasCome}
 use Rattle.ub_filter.specs.Choice.{is_chosen}
 use Rattle.ub_table.specs.declared.row.Row.{Row as RowView}
@@ -14,7 +15,8 @@ invariant-loop-region g l = record {
   read : HasReadUpTo l.plan.covering.boxes l.initial.tree l.tree l.after;
   come : (before : _) (taken : List RowView) → g.K.RowSink.HasTaken l.initial.tree.schema l.plan.asked before taken l.initial.sink
       → (rows : List RowView) × g.K.RowSink.HasTaken l.initial.tree.schema l.plan.asked before (taken ++ filter (is_chosen l.fn.choice l.initial.tree.schema l.plan) rows) l.sink
-      × (IsSound l.initial.tree → HasCome l.plan.covering.boxes l.initial.tree l.tree rows l.after);
+      × (HasRowsUpTo l.plan.covering.boxes l.initial.tree l.tree l.after rows
+      × (IsSound l.initial.tree → HasCome l.plan.covering.boxes l.initial.tree l.tree rows l.after));
 }
 
 abbrev pub decreases-loop-region : goal.decreases-loop-region
