@@ -225,6 +225,15 @@ def damages_of_regions(rng, old, put):
     if held:
         yield "row number 0", put(at + 24, bytes(4)), f"BadRow page {page}"
         yield "row number too high", put(at + 24, struct.pack(">I", NUMBERS)), f"BadRow page {page}"
+    if held:
+        (_, point, _), after = held[-1], old.regions[place + 1][0] if place + 1 < len(old.regions) else None
+        if old.next < NUMBERS and (after is None or (address(point), old.next) < after):
+            yield "row number not below the next", put(at + 24 + 4 * (len(held) - 1), struct.pack(">I", old.next)), f"BadRow page {page}"
+        met = [row[0] for _, rows in old.regions[:place] for row in rows] + [row[0] for row in held[:-1]]
+        least = max([first] + [(address(row[1]), row[0] + 1) for row in held[-2:-1]])
+        met = [number for number in met if least <= (address(point), number) and (after is None or (address(point), number) < after)]
+        if met:
+            yield "row number that was met", put(at + 24 + 4 * (len(held) - 1), struct.pack(">I", rng.choice(met))), f"BadRow page {page}"
     if len(held) > 1:
         rows = held[1::-1] + held[2:]
         yield "two rows exchanged", put(at, bytes(old.region_page(first, rows))), f"BadOrder page {page}"

@@ -1457,6 +1457,51 @@ static REGIONS_OF_2: &[Try] = &[
     ),
 ];
 
+// Numbers of rows that are refused: one that was met before, in its region or in one before it, and one that isn't below the next. The
+// regions come from pages 1, 3 and 2, with the rows 1 and 4, 3, 2 and 5.
+const NUMBERS_MET: [Hurt; 8] = [
+    Hurt(Patch(1, 28, 4, 1), Told::On(1, PageFault::BadRow)),
+    Hurt(Patch(3, 24, 4, 1), Told::On(3, PageFault::BadRow)),
+    Hurt(Patch(3, 24, 4, 4), Told::On(3, PageFault::BadRow)),
+    Hurt(Patch(2, 24, 4, 3), Told::On(2, PageFault::BadRow)),
+    Hurt(Patch(2, 28, 4, 4), Told::On(2, PageFault::BadRow)),
+    Hurt(Patch(1, 28, 4, 6), Told::On(1, PageFault::BadRow)),
+    Hurt(Patch(3, 24, 4, 7), Told::On(3, PageFault::BadRow)),
+    Hurt(Patch(2, 28, 4, 0xffffff), Told::On(2, PageFault::BadRow)),
+];
+
+static BAD_NUMBERS: &[Try] = &[
+    Try::Refuses(Pages::FiveOf1, UNCLEAN, &NUMBERS_MET),
+    Try::Refuses(Pages::FiveOf2, UNCLEAN, &NUMBERS_MET),
+    Try::Refuses(Pages::LevelsOf2, UNCLEAN, &NUMBERS_MET),
+    // On the page of the last of 171 regions, which leads to the rows 341 and 342.
+    Try::Refuses(
+        Pages::Line(171, 2),
+        UNCLEAN,
+        &[
+            Hurt(Patch(173, 24, 4, 1), Told::On(173, PageFault::BadRow)),
+            Hurt(Patch(173, 28, 4, 341), Told::On(173, PageFault::BadRow)),
+            Hurt(Patch(173, 28, 4, 343), Told::On(173, PageFault::BadRow)),
+        ],
+    ),
+    // What is found first: a number before the page of a later region, and before the counts; and a page before its numbers.
+    Try::Refuse(
+        Pages::FiveOf1,
+        &[Patch(3, 24, 4, 4), Patch(2, 0, 1, 83)],
+        Told::On(3, PageFault::BadRow),
+    ),
+    Try::Refuse(
+        Pages::FiveOf2,
+        &[Patch(2, 28, 4, 6), Patch(0, 16, 4, 4)],
+        Told::On(2, PageFault::BadRow),
+    ),
+    Try::Refuse(
+        Pages::FiveOf2,
+        &[Patch(1, 28, 4, 1), Patch(1, 64, 1, 1)],
+        Told::On(1, PageFault::BadPadding),
+    ),
+];
+
 // Directories that are refused.
 static DIRECTORIES: &[Try] = &[
     // A directory of one page.
@@ -1697,6 +1742,7 @@ fn refuses_old_tables(rt: HostRuntime) {
     all_go(&rt, alloc, "headers of format 2", HEADERS_OF_2);
     all_go(&rt, alloc, "regions of format 1", REGIONS_OF_1);
     all_go(&rt, alloc, "regions of format 2", REGIONS_OF_2);
+    all_go(&rt, alloc, "numbers of rows", BAD_NUMBERS);
     all_go(&rt, alloc, "directories", DIRECTORIES);
     all_go(&rt, alloc, "indexes", INDEXES);
 }
