@@ -1,5 +1,5 @@
 -- What an INSERT and a DELETE make of a tree, and what they leave of it.
-use Rattle.std.proofs.Common.{◌≡◌, ◌∙◌, ◌+◌, ◌-◌, ◌<◌, ◌≤◌, ◌++◌, ◌∷◌, [], inl, inr, ◌⊎◌, ℕ, suc, ℤ, pos, true, false, Result, Ok, Err, Option, Some, List, length, take, drop, map, slice_index_or, subst, sym, ap, refl, arith, add-zero}
+use Rattle.std.proofs.Common.{◌≡◌, ◌∙◌, ◌+◌, ◌-◌, ◌<◌, ◌≤◌, ◌++◌, ◌∷◌, [], inl, inr, ◌⊎◌, ℕ, suc, ℤ, pos, true, false, IsTrue, Result, Ok, Err, Option, Some, List, length, take, drop, map, slice_index_or, subst, sym, ap, refl, arith, add-zero}
 use Rattle.std.proofs.lemmas.Bool.{cases_Bool, true≢false}
 use Rattle.std.proofs.lemmas.List.{length-drop, length-map, length-take-le, take_all, take_more}
 use Rattle.std.proofs.lemmas.List.FromFn.{get_or-enumerate_from, length-enumerate_from}
@@ -162,14 +162,14 @@ row_is schema n values dims measures d m =
 
 -- what a tree says of the row that is made of some coordinates and of the values behind them
 pub put_by : (old new : TreeView) (values : List ℤ) (dims : List ℕ) (k : ℕ) (result : Result ℕ TreeFault) → dims ≡ coordinates_of old.schema values → k ≡ old.schema.dims
-    → IfOk result (λ n. n ≡ old.next)
+    → IfOk result (λ n. n ≡ old.next) → (IsTrue old.is_failed → result ≡ Err fault.Failed)
     → OnOk result ((new.next ≡ old.next + 1) × (new.rows ≡ old.rows + 1) × (new.is_failed ≡ false)
     × GrowsAt (key_of old.schema.dims (tree.row_of old.next dims (drop k values))) old new)
     → (old.is_failed ≡ false → AnswersRow old (key_of old.schema.dims (tree.row_of old.next dims (drop k values))) result) → Changes old new result
     → PutsIn (row_of old.schema old.next values) old new result
-put_by old new values dims k result are long number counted refused effect =
+put_by old new values dims k result are long number failed counted refused effect =
     subst (λ (row : Row). PutsIn row old new result) (row_is old.schema old.next values dims (drop k values) are (ap (λ (n : ℕ). drop n values) long))
-    (record { number = number; counted = counted; refused = refused; effect = effect })
+    (record { number = number; failed = failed; counted = counted; refused = refused; effect = effect })
 
 pub put_row : (old new : TreeView) (values : List ℤ) (dims : List ℕ) (k n : ℕ) → dims ≡ coordinates_of old.schema values → k ≡ old.schema.dims
     → (IsSound old → IsInserted (tree.row_of n dims (take (length values - k) (drop k values))) old new) → IsSound old → IsInserted (row_of old.schema n values) old new
@@ -307,12 +307,12 @@ module _ (old new : TreeView) (p : PlanView) (q : Asked) (planned : p ≡ plan_o
   asked_is = ap (λ (plan : PlanView). plan.asked) planned
 
   -- over any tree, whatever the trace
-  taken_over : (seen : TreeView) (result : Result ℕ ReadFault) → IsSameBut seen old → ReadsFirst p.covering.boxes (begun old) new result → Deletes old new result
+  taken_over : (seen : TreeView) (result : Result ℕ ReadFault) → IsSameBut seen old → ReadsFirst p (begun old) new result → Deletes old new result
       → (result ≡ Ok 0 → new ≡ record old { trace = new.trace }) → HasTakenOut seen q result new
   taken_over seen result same reads deletes untouched = record {
     old = old;
     same = same;
-    reads = subst (λ (plan : PlanView). ReadsFirst plan.covering.boxes (begun old) new result) (planned ∙ ap (λ (t : TreeView). plan_of t.schema q) same) reads;
+    reads = subst (λ (plan : PlanView). ReadsFirst plan (begun old) new result) (planned ∙ ap (λ (t : TreeView). plan_of t.schema q) same) reads;
     deletes = deletes;
     untouched = untouched;
   }
@@ -320,7 +320,7 @@ module _ (old new : TreeView) (p : PlanView) (q : Asked) (planned : p ≡ plan_o
   -- a fault ended it
   pub delete_stopped : (basis : Basis) (e : ReadFault) → IsBasisOf old basis
       → ((s : Stand) → IsStandOf old s → IsDeletionOf old p → new.is_failed ≡ false → (j : ℕ) × IsStandOf new (without_rows (take j (selected_of p.asked s)) s))
-      → (IsDeletionOf old p → (count : ℕ) × HasFetchedFirst p (begun old) new count) → ReadsFirst p.covering.boxes (begun old) new (Err e) → Deletes old new (Err e)
+      → (IsDeletionOf old p → (count : ℕ) × HasFetchedFirst p (begun old) new count) → ReadsFirst p (begun old) new (Err e) → Deletes old new (Err e)
       → Stops (IsCommandEnd basis (takes q) (fault_of_read e)) old new
   delete_stopped (on_stand s) e is stopped broken reads deletes =
       let (pages, some, fetched) = starts_of_plan {A = ℕ} (Err e) (on_stand s) old new p q is planned (λ ready. broken (deletion ready)) reads.notes in
@@ -343,7 +343,7 @@ module _ (old new : TreeView) (p : PlanView) (q : Asked) (planned : p ≡ plan_o
 
   module _ (count : ℕ)
       (deleted : (s : Stand) → IsStandOf old s → IsDeletionOf old p → (count ≡ length (selected_of p.asked s)) × IsStandOf new (without_selected p.asked s))
-      (all : IsDeletionOf old p → HasFetched p (begun old) new) (reads : ReadsFirst p.covering.boxes (begun old) new (Ok count)) (deletes : Deletes old new (Ok count))
+      (all : IsDeletionOf old p → HasFetched p (begun old) new) (reads : ReadsFirst p (begun old) new (Ok count)) (deletes : Deletes old new (Ok count))
       (untouched : answered count ≡ answered 0 → new ≡ record old { trace = new.trace }) where
     stand_taken : (s : Stand) → IsStandOf old s → (count ≡ length (selected_of q s)) × IsStandOf new (without_selected q s)
     stand_taken s is =

@@ -1,5 +1,5 @@
 -- What follows of a call that a fault ended: it answers nothing, and what it leaves is that of a run.
-use Rattle.std.proofs.Common.{◌≡◌, ◌≢◌, ◌∙◌, Result, Ok, Err, IfErr, IfOk, IsErrOf, List, ℕ, ap, sym, refl}
+use Rattle.std.proofs.Common.{◌≡◌, ◌≢◌, ◌∙◌, IsTrue, Result, Ok, Err, IfErr, IfOk, IsErrOf, List, ℕ, ap, sym, refl}
 use Rattle.std.specs.Result.{IsErrAnd}
 use Rattle.ub_exec.specs.Deleting.{Deletes}
 use Rattle.ub_script.proofs.KeptFacts.{runs_memory}
@@ -70,21 +70,33 @@ runs_untold (Err f) count a b is deletes = rw is (record {
   left = deletes.done;
 })
 
+-- what is answered where the tree has failed, and where a fault came
+abbrev fails : (A : Type 0) → Result A ReadFault
+fails A = Err (read.Tree tree.Failed)
+
+abbrev ends : (A : Type 0) → ReadFault → Result A ReadFault
+ends A e = Err e
+
 -- the tree was read, or searched, and then a fault came of it
-reads_left : (A T : Type 0) (e : ReadFault) (a b : TreeView) → ReadsTree {A = A} a b (Err e) → RunsReading {A = T} a b (Err (fault_of_read e))
-reads_left A T read.Memory a b h = record { same = h.same; faults = tt }
-reads_left A T (read.Tree fault) a b h = record { same = h.same; faults = h.faults }
+reads_left : (A T : Type 0) (e : ReadFault) (a b : TreeView) → ReadsTree {A = A} a b (Err e) → (IsTrue a.is_failed → ends A e ≡ fails A) → RunsReading {A = T} a b (Err (fault_of_read e))
+reads_left A T read.Memory a b h failed = record { same = h.same; faults = tt }
+reads_left A T (read.Tree fault) a b h failed = record { same = h.same; faults = (h.faults.0, h.faults.1, λ is. one fault (failed is)) }
+  where
+    one : (fault : TreeFault) → ends A (read.Tree fault) ≡ fails A → fault ≡ tree.Failed
+    one fault same = cc
 
-pub reads_refused : {A T : Type 0} (r : Result T RunFault) (e : ReadFault) (a b : TreeView) → IsErrAnd r (λ x. x ≡ fault_of_read e) → ReadsTree {A = A} a b (Err e) → RunsReading a b r
-reads_refused (Ok x) e a b is h = absurd is
-reads_refused {A = A} {T = T} (Err f) e a b is h = rw is (reads_left A T e a b h)
+pub reads_refused : {A T : Type 0} (r : Result T RunFault) (e : ReadFault) (a b : TreeView) → IsErrAnd r (λ x. x ≡ fault_of_read e) → ReadsTree {A = A} a b (Err e)
+    → (IsTrue a.is_failed → ends A e ≡ fails A) → RunsReading a b r
+reads_refused (Ok x) e a b is h failed = absurd is
+reads_refused {A = A} {T = T} (Err f) e a b is h failed = rw is (reads_left A T e a b h failed)
 
-pub searches_refused : {A T : Type 0} (r : Result T RunFault) (e : ReadFault) (a b : TreeView) → IsErrAnd r (λ x. x ≡ fault_of_read e) → SearchesTree {A = A} a b (Err e) → RunsReading a b r
-searches_refused {A = A} r e a b is h =
+pub searches_refused : {A T : Type 0} (r : Result T RunFault) (e : ReadFault) (a b : TreeView) → IsErrAnd r (λ x. x ≡ fault_of_read e) → SearchesTree {A = A} a b (Err e)
+    → (IsTrue a.is_failed → ends A e ≡ fails A) → RunsReading a b r
+searches_refused {A = A} r e a b is h failed =
     reads_refused {A = A} r e a b is (record {
       same = h.same ∙ ap (λ (t : TreeView). record a { store = read_store {A = A} (Err e) a.store; trace = t.trace }) (sym h.same);
       faults = h.faults;
-    })
+    }) failed
 
 -- it was read to the end
 pub reads_done : {A T : Type 0} (x : A) (y : T) (a b : TreeView) → ReadsTree a b (Ok x) → RunsReading a b (Ok y)

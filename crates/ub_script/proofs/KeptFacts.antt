@@ -50,14 +50,15 @@ rest_reading A a b (over_any seen) fault is h =
 rest_reading A a b (on_stand s) run.Memory is h = λ working. stand_by a b s (Keeps-by a b h.same) is
 rest_reading A a b (on_stand s) run.Write is h = λ working. stand_by a b s (Keeps-by a b h.same) is
 rest_reading A a b (on_stand s) (run.Load fault) is h = absurd h.faults
-rest_reading A a b (on_stand s) (run.Tree fault) is h = λ working. read_stand {A = A} a b s (read.Tree fault) (record { same = h.same; faults = h.faults }) is
+rest_reading A a b (on_stand s) (run.Tree fault) is h = λ working. read_stand {A = A} a b s (read.Tree fault) (record { same = h.same; faults = (h.faults.0, h.faults.1) }) is
 
 -- a run's fault, seen from before an earlier call that only read
 pub given_before : (a b : TreeView) (fault : RunFault) → IsTraced a b → IsGiven b fault → IsGiven a fault
 given_before a b run.Memory h is = tt
 given_before a b run.Write h is = tt
 given_before a b (run.Load fault) h is = is
-given_before a b (run.Tree fault) h is = (read_fault_before a b fault h is.0, is.1)
+given_before a b (run.Tree fault) h is =
+    (read_fault_before a b fault h is.0, is.1, λ failed. is.2 (subst IsTrue (sym (ap (λ (t : TreeView). t.is_failed) h)) failed))
 
 -- a run that reads after one that reads is one that reads
 pub reads_by : {T U : Type 0} (r : Result T RunFault) (e : RunFault) (a b c : TreeView) → IsErrAnd r (λ x. x ≡ e) → IsTraced a b → RunsReading {A = U} b c (Err e) → RunsReading a c r

@@ -1,15 +1,16 @@
 -- How the reply to a statement says what its outcome is.
-use Rattle.std.proofs.Common.{◌≡◌, ◌≢◌, ◌⊎◌, ◌∙◌, inl, inr, Result, Ok, Err, IfErr, IfOk, ℕ, Bool, true, List, refl, sym, ap, subst}
+use Rattle.std.proofs.Common.{◌≡◌, ◌≢◌, ◌⊎◌, ◌∙◌, inl, inr, Result, Ok, Err, IfErr, IfOk, IsErrOf, IsTrue, ℕ, Bool, true, List, refl, sym, ap, subst}
 use Rattle.std.specs.Prelude.{OnErr}
 use Rattle.ub_lexer.specs.declared.token.Token.{Token}
-use Rattle.ub_parser.specs.Outcome.{Told, Command, asks, IsAccepted}
+use Rattle.ub_parser.specs.Outcome.{Told, Command, asks, puts, takes, IsAccepted}
 use Rattle.ub_parser.specs.Refusals.{IsFirstFault}
 use Rattle.ub_parser.specs.declared.fault.SqlFault.{SqlFault}
 use Rattle.ub_parser.specs.declared.fault.SqlFault.TheVariants.{Memory}
 use Rattle.ub_query.specs.Shape.{Asked}
 use Rattle.ub_script.proofs.KeptFacts.{basis_kept, given_before, rest_of, rest_reading, runs_memory, runs_none, stands_of}
-use Rattle.ub_script.specs.Basis.{Basis, on_stand, over_any, schema_of, AreSomeOf, IsAskedFault, IsAskedReply, IsBasisOf, IsCommandEnd, IsReply, asked_left}
-use Rattle.ub_script.specs.Faults.{Runs, RunsReading}
+use Rattle.ub_script.specs.Basis.{Basis, on_stand, over_any, schema_of, AreSomeOf, IsAskedFault, IsAskedReply, IsBasisOf, IsCommandEnd, IsEndOf, IsFaultOver, IsReply, asked_left}
+use Rattle.ub_script.specs.Faults.{IsGiven, Runs, RunsReading, fault_of_read, fault_of_tree}
+use Rattle.ub_script.specs.Formed.{IsSameBut}
 use Rattle.ub_script.specs.Loop.{Fetches, Makes, Replies, Stops}
 use Rattle.ub_script.specs.Run.{IsAnswer, IsEnded}
 use Rattle.ub_script.specs.Script.{IsOutcome, IsTheOutcome, Outcome}
@@ -19,6 +20,10 @@ use Rattle.ub_script.specs.declared.fault.RunFault.TheVariants as run
 use Rattle.ub_table.specs.declared.schema.Schema.{Schema}
 use Rattle.ub_tree.proofs.Laws.{Keeps-by}
 use Rattle.ub_tree.specs.View.{TreeView}
+use Rattle.ub_tree.specs.declared.fault.TreeFault.{TreeFault}
+use Rattle.ub_tree.specs.declared.fault.TreeFault.TheVariants as tree
+use Rattle.ub_tree.specs.declared.read_fault.ReadFault.{ReadFault}
+use Rattle.ub_tree.specs.declared.read_fault.ReadFault.TheVariants as read
 
 module _ (schema : Schema) (source : List ℕ) (tokens : List Token) where
   -- what is accepted and says nothing else is told nothing else
@@ -100,6 +105,49 @@ pub said_ended : {A : Type 0} (r : Result A RunFault) (basis : Basis) (c d : Com
     → IfErr r (λ fault. Stops (IsCommandEnd basis d fault) old new) → IfErr r (λ fault. Stops (IsCommandEnd basis c fault) old new)
 said_ended r basis c d old new e h = rw e h
 
+-- where no write failed, what follows of each other fault
+pub if_err_apart : {A : Type 0} (r : Result A RunFault) (P Q : RunFault → Type 0) → ¬ (IsErrOf r run.Write) → ((fault : RunFault) → fault ≢ run.Write → P fault → Q fault) → IfErr r P → IfErr r Q
+if_err_apart (Ok x) P Q apart next h = tt
+if_err_apart (Err e) P Q apart next h = next e (λ same. apart (rw same refl)) h
+
+-- ---- over a tree that has failed
+
+-- a query's fault
+asked_failed : (seen : TreeView) (fault : RunFault) → fault ≢ run.Write → IsGiven seen fault → IsTrue seen.is_failed → (fault ≡ run.Memory) ⊎ (fault ≡ run.Tree tree.Failed)
+asked_failed seen run.Memory apart given failed = inl refl
+asked_failed seen run.Write apart given failed = absurd (apart refl)
+asked_failed seen (run.Load fault) apart given failed = absurd given
+asked_failed seen (run.Tree fault) apart given failed = inr (ap (λ (f : TreeFault). run.Tree f) (given.2 failed))
+
+failed_same : (seen old : TreeView) → IsSameBut seen old → IsTrue seen.is_failed → IsTrue old.is_failed
+failed_same seen old same failed = subst IsTrue (sym (ap (λ (t : TreeView). t.is_failed) same)) failed
+
+-- an INSERT's
+abbrev puts_fault : TreeFault → Result ℕ TreeFault
+puts_fault fault = Err fault
+
+only_failed : (fault : TreeFault) → puts_fault fault ≡ puts_fault tree.Failed → fault_of_tree fault ≡ run.Tree tree.Failed
+only_failed fault same = let one : fault ≡ tree.Failed = cc in ap fault_of_tree one
+
+-- a DELETE's
+abbrev takes_fault : ReadFault → Result ℕ ReadFault
+takes_fault fault = Err fault
+
+delete_failed : (told : Result ℕ ReadFault) (fault : RunFault) → told ≡ takes_fault (read.Tree tree.Failed) → IsEndOf told fault → fault ≡ run.Tree tree.Failed
+delete_failed (Ok count) fault same ended = cc
+delete_failed (Err e) fault same ended = let one : e ≡ read.Tree tree.Failed = cc in ended ∙ ap fault_of_read one
+
+-- what ended a statement is that fault, or want of memory
+failed_over : (basis : Basis) (c : Command) (fault : RunFault) (pages : ℕ) (now : Basis) → fault ≢ run.Write → IsCommandEnd basis c fault pages now → IsFaultOver basis fault
+failed_over (on_stand s) c fault pages now apart ended = tt
+failed_over (over_any seen) (asks t) fault pages now apart ended = asked_failed seen fault apart ended.1
+failed_over (over_any seen) (puts values) fault pages now apart (none, inl memory) = λ failed. inl memory.0
+failed_over (over_any seen) (puts values) fault pages now apart (none, inr (after, of_tree, put, is, left)) =
+    λ failed. inr (is ∙ only_failed of_tree (put.puts_in.failed (failed_same seen put.old put.same failed)))
+failed_over (over_any seen) (takes q) fault pages now apart (some, inl memory) = λ failed. inl memory.0
+failed_over (over_any seen) (takes q) fault pages now apart (some, inr (after, told, taken, is, left)) =
+    λ failed. inr (delete_failed told fault (taken.deletes.failed (failed_same seen taken.old taken.same failed)) is)
+
 -- ---- a statement
 
 module _ (t : TreeView) (basis : Basis) (source : List ℕ) (tokens : List Token) (schema : Schema) (of : IsBasisOf t basis) (told : schema ≡ t.schema) where
@@ -117,8 +165,9 @@ module _ (t : TreeView) (basis : Basis) (source : List ℕ) (tokens : List Token
         (pages, changed, now, record { outcome = Ok c; heard = heard_so; stands = stands_of t basis of; reply_is = is }, left, fetched)
 
     -- where no reply is made of it, it is unanswered
-    pub accepted_ended : (fault : RunFault) (new : TreeView) → Stops (IsCommandEnd basis c fault) t new → Stops (IsEnded basis source tokens fault) t new
-    accepted_ended fault new (pages, now, ended, rest, fetched) = (pages, now, inr (record { says = c; heard = heard_so; ended = ended }), rest, fetched)
+    pub accepted_ended : (fault : RunFault) (new : TreeView) → fault ≢ run.Write → Stops (IsCommandEnd basis c fault) t new → Stops (IsEnded basis source tokens fault) t new
+    accepted_ended fault new apart (pages, now, ended, rest, fetched) =
+        (pages, now, inr (record { says = c; heard = heard_so; ended = ended; failed = failed_over basis c fault pages now apart ended }), rest, fetched)
 
   -- a refusal answers a statement that is refused
   pub refused_answer : (fault : SqlFault) (text : List ℕ) (is_refused : Bool)

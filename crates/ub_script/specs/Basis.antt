@@ -1,5 +1,5 @@
 -- What the replies to the statements of a script rest on: the table of a sound tree, or what any tree shows, sound or not.
-use Rattle.std.specs.Prelude.{◌≡◌, ◌≤◌, ◌⊎◌, ℕ, ℤ, Bool, true, false, List, Result, Ok, Err, take}
+use Rattle.std.specs.Prelude.{◌≡◌, ◌≤◌, ◌⊎◌, ℕ, ℤ, Bool, true, false, IsTrue, List, Result, Ok, Err, take}
 use Rattle.ub_exec.specs.Stand.{Stand, IsStand, IsStandOf, selected_of, without_rows}
 use Rattle.ub_parser.specs.Outcome.{Command, asks, puts, takes}
 use Rattle.ub_query.specs.Shape.{Asked}
@@ -9,10 +9,11 @@ use Rattle.ub_script.specs.Formed.{IsFormedReply, IsSameBut}
 use Rattle.ub_script.specs.Script.{Outcome}
 use Rattle.ub_script.specs.Text.{Reply, reply, refused_text, IsTableReply}
 use Rattle.ub_script.specs.declared.fault.RunFault.{RunFault}
-use Rattle.ub_script.specs.declared.fault.RunFault.TheVariants.{Memory}
+use Rattle.ub_script.specs.declared.fault.RunFault.TheVariants.{Memory, Tree}
 use Rattle.ub_table.specs.declared.schema.Schema.{Schema}
 use Rattle.ub_tree.specs.View.{TreeView}
 use Rattle.ub_tree.specs.declared.fault.TreeFault.{TreeFault}
+use Rattle.ub_tree.specs.declared.fault.TreeFault.TheVariants.{Failed}
 use Rattle.ub_tree.specs.declared.read_fault.ReadFault.{ReadFault}
 
 -- where a table stands; or any tree
@@ -102,6 +103,11 @@ asked_left (over_any seen) fault = over_any (record seen { store = record seen.s
 abbrev pub IsAskedFault : Basis → RunFault → Type 0
 IsAskedFault (on_stand s) fault = Unit {0}
 IsAskedFault (over_any seen) fault = IsGiven seen fault
+
+-- over a tree that has failed a fault is that, or want of memory
+abbrev pub IsFaultOver : Basis → RunFault → Type 0
+IsFaultOver (on_stand s) fault = Unit {0}
+IsFaultOver (over_any seen) fault = IsTrue seen.is_failed → (fault ≡ Memory) ⊎ (fault ≡ Tree Failed)
 
 -- a statement that is accepted was ended by a fault, so many pages were fetched for it, and this is left
 abbrev pub IsCommandEnd : Basis → Command → RunFault → ℕ → Basis → Type 0

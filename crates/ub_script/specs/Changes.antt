@@ -1,5 +1,5 @@
 -- What an INSERT and a DELETE make of a table, and of any tree.
-use Rattle.std.specs.Prelude.{◌≡◌, ◌≤◌, ◌+◌, ℕ, ℤ, false, List, Option, Some, None, Result, Ok, IfOk, OnOk, drop, length, map, take}
+use Rattle.std.specs.Prelude.{◌≡◌, ◌≤◌, ◌+◌, ℕ, ℤ, false, IsTrue, List, Option, Some, None, Result, Ok, Err, IfOk, OnOk, drop, length, map, take}
 use Rattle.std.specs.List.{enumerate_from}
 use Rattle.ub_exec.specs.Answers.{begun}
 use Rattle.ub_exec.specs.Deleting.{Deletes, ReadsFirst}
@@ -19,6 +19,7 @@ use Rattle.ub_tree.specs.Effects.{Changes}
 use Rattle.ub_tree.specs.Holding.{AnswersRow, GrowsAt}
 use Rattle.ub_tree.specs.View.{TreeView}
 use Rattle.ub_tree.specs.declared.fault.TreeFault.{TreeFault}
+use Rattle.ub_tree.specs.declared.fault.TreeFault.TheVariants.{Failed}
 use Rattle.ub_tree.specs.declared.read_fault.ReadFault.{ReadFault}
 
 -- ---- the row of an INSERT
@@ -56,11 +57,12 @@ pub record IsTableDelete (s : Stand) (q : Asked) (r : Reply) (now : Stand) : Typ
 
 -- ---- what is made of any tree, also of one that isn't sound
 
--- a row was asked to be put into a tree, with this answer: what `Tree::insert` says of any tree that works
+-- a row was asked to be put into a tree, with this answer: what `Tree::insert` says of any tree
 pub record PutsIn (row : Row) (old new : TreeView) (result : Result ℕ TreeFault) : Type 0 where
   pub number : IfOk result (λ n. n ≡ old.next)
   pub counted : OnOk result ((new.next ≡ old.next + 1) × (new.rows ≡ old.rows + 1) × (new.is_failed ≡ false)
       × GrowsAt (key_of old.schema.dims row) old new)
+  pub failed : IsTrue old.is_failed → result ≡ Err Failed
   pub refused : old.is_failed ≡ false → AnswersRow old (key_of old.schema.dims row) result
   pub effect : Changes old new result
 
@@ -71,11 +73,12 @@ pub record HasPutIn (seen : TreeView) (values : List ℤ) (result : Result ℕ T
   pub same : IsSameBut seen old
   pub puts_in : PutsIn (row_of seen.schema seen.next values) old new result
 
--- the rows for which this asks were asked to be taken out of a tree, with this answer: what `delete` says of any tree
+-- the rows for which this asks were asked to be taken out of a tree, with this answer: what `delete` says of any tree. Each of those
+-- that the regions show was asked to be, unless a fault ended that
 pub record HasTakenOut (seen : TreeView) (q : Asked) (result : Result ℕ ReadFault) (new : TreeView) : Type 0 where
   pub old : TreeView
   pub same : IsSameBut seen old
-  pub reads : ReadsFirst (plan_of seen.schema q).covering.boxes (begun old) new result
+  pub reads : ReadsFirst (plan_of seen.schema q) (begun old) new result
   pub deletes : Deletes old new result
   pub untouched : result ≡ Ok 0 → new ≡ record old { trace = new.trace }
 

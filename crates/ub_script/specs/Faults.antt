@@ -29,12 +29,12 @@ abbrev pub fault_of_tree : TreeFault → RunFault
 fault_of_tree no_memory = Memory
 fault_of_tree fault = Tree fault
 
--- what a run over a tree can answer: a fault of the tree as its reading calls answer it
+-- what a run over a tree can answer: a fault of the tree as its reading calls answer it, and of one that has failed no other than that
 abbrev pub IsGiven : TreeView → RunFault → Type 0
 IsGiven old Memory = Unit {0}
 IsGiven old Write = Unit {0}
 IsGiven old (Load fault) = ⊥
-IsGiven old (Tree fault) = IsReadFault old fault × (fault ≢ no_memory)
+IsGiven old (Tree fault) = IsReadFault old fault × (fault ≢ no_memory) × (IsTrue old.is_failed → fault ≡ Failed)
 
 -- a count of failed writes after a run with this result: Write raises it by one, and nothing else does
 abbrev pub failures_after : {A : Type 0} → Result A RunFault → ℕ → ℕ

@@ -10,7 +10,7 @@ use Rattle.ub_load.specs.LoadedTable.{IsLoaded}
 use Rattle.ub_load.specs.LoadedTree.{loaded_regions}
 use Rattle.ub_parser.specs.Outcome.{Command}
 use Rattle.ub_tree.specs.View.{TreeView}
-use Rattle.ub_script.specs.Basis.{Basis, on_stand, schema_of, IsBasisOf, IsCommandEnd, IsReply, IsRestOf, Stands}
+use Rattle.ub_script.specs.Basis.{Basis, on_stand, schema_of, IsBasisOf, IsCommandEnd, IsFaultOver, IsReply, IsRestOf, Stands}
 use Rattle.ub_script.specs.Faults.{Runs, RunsReading, failures_after}
 use Rattle.ub_script.specs.Output.{OutFacts, HasTaken, IsFrontOf}
 use Rattle.ub_script.specs.Script.{Outcome, IsTheOutcome, OnlyAsks}
@@ -34,12 +34,14 @@ pub record IsAnswer (basis : Basis) (source : List ℕ) (tokens : List Token) (r
   pub stands : Stands basis
   pub reply_is : IsReply basis outcome r now
 
--- the statement of these tokens is accepted, and has no reply, since a fault ended it; so many pages were fetched for it
+-- the statement of these tokens is accepted, and has no reply, since a fault ended it; so many pages were fetched for it. Over a tree
+-- that has failed that is the fault, unless memory was refused
 pub record IsUnanswered (basis : Basis) (source : List ℕ) (tokens : List Token) (fault : RunFault) (pages : ℕ) (now : Basis)
     : Type 0 where
   pub says : Command
   pub heard : IsTheOutcome (schema_of basis) source tokens (Ok says)
   pub ended : IsCommandEnd basis says fault pages now
+  pub failed : IsFaultOver basis fault
 
 -- a fault ended the statement of these tokens: want of memory, before any page; or the statement is accepted
 abbrev pub IsEnded : Basis → List ℕ → List Token → RunFault → ℕ → Basis → Type 0

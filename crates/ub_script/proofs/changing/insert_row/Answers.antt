@@ -26,7 +26,7 @@ returns-in_err-insert-clause-stopped g c basis is =
     c.len.ensures ∙ sym c.as_slice.ensures.len ∙ ap (λ (ds : List ℕ). length ds) c.as_slice.ensures.value ∙ c.in_ok-dims.ensures.all ∙ ap (λ (s : Schema). s.dims) c.schema.ensures in
     if_err c.from_residual-in_err-insert.result _ _ c.from_residual-in_err-insert.ensures.1
     (insert_stopped basis old c.insert.new.self c.args.values.now c.in_err-insert.field-0.0 is given
-    (put_by old c.insert.new.self c.args.values.now _ _ _ are long c.in_err-insert.ensures.number c.in_err-insert.ensures.counted c.in_err-insert.ensures.refused
+    (put_by old c.insert.new.self c.args.values.now _ _ _ are long c.in_err-insert.ensures.number c.in_err-insert.ensures.failed c.in_err-insert.ensures.counted c.in_err-insert.ensures.refused
     c.in_err-insert.ensures.effect))
 
 pub returns-in_err-insert-clause-effect : goal.returns-in_err-insert-clause-effect
@@ -42,7 +42,7 @@ returns-clause-answer g c basis is =
     let long : c.len.result ≡ old.schema.dims =
     c.len.ensures ∙ sym c.as_slice.ensures.len ∙ ap (λ (ds : List ℕ). length ds) c.as_slice.ensures.value ∙ c.in_ok-dims.ensures.all ∙ ap (λ (s : Schema). s.dims) c.schema.ensures in
     insert_replies basis old c.insert.new.self c.args.values.now c.in_ok-insert.field-0 c.in_ok-text.text.items is given
-    (put_by old c.insert.new.self c.args.values.now _ _ _ are long c.in_ok-insert.ensures.number c.in_ok-insert.ensures.counted c.in_ok-insert.ensures.refused
+    (put_by old c.insert.new.self c.args.values.now _ _ _ are long c.in_ok-insert.ensures.number c.in_ok-insert.ensures.failed c.in_ok-insert.ensures.counted c.in_ok-insert.ensures.refused
     c.in_ok-insert.ensures.effect)
     (put_row old c.insert.new.self c.args.values.now _ _ _ are long c.in_ok-insert.ensures.inserted)
     (c.in_ok-text.ensures ∙ ap inserted_text c.next.ensures)

@@ -36,7 +36,7 @@ pub returns-in_err-answer_text-clause-no_write : goal.returns-in_err-answer_text
 returns-in_err-answer_text-clause-no_write g c = no_write_by c.from_residual-in_err-answer_text.result _ c.from_residual-in_err-answer_text.ensures.1 memory_no_write
 
 pub returns-in_err-answer-clause-effect : goal.returns-in_err-answer-clause-effect
-returns-in_err-answer-clause-effect g c = reads_refused c.from_residual.result _ _ _ c.from_residual.ensures.1 c.in_err-answer.ensures.effect
+returns-in_err-answer-clause-effect g c = reads_refused c.from_residual.result _ _ _ c.from_residual.ensures.1 c.in_err-answer.ensures.effect c.in_err-answer.ensures.failed
 
 pub returns-in_err-answer_text-clause-effect : goal.returns-in_err-answer_text-clause-effect
 returns-in_err-answer_text-clause-effect g c = reads_untold c.from_residual-in_err-answer_text.result _ _ _ c.from_residual-in_err-answer_text.ensures.1 c.in_ok-answer.ensures.effect

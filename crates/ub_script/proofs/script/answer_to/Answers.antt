@@ -1,7 +1,7 @@
 -- A statement is accepted, and done, or it is refused.
 use Rattle.ub_script.proofs.EndFacts.{refused_no_write}
-use Rattle.ub_script.proofs.QueryFacts.{accepted_answer, accepted_ended, memory_ended, refused_answer, refused_reads, refused_runs}
-use Rattle.ub_script.proofs.RunFacts.{if_err, if_ok}
+use Rattle.ub_script.proofs.QueryFacts.{accepted_answer, accepted_ended, if_err_apart, memory_ended, refused_answer, refused_reads, refused_runs}
+use Rattle.ub_script.proofs.RunFacts.{if_ok}
 use Rattle.ub_script.proofs.script.answer_to.Goals as goal
 
 pub returns-in-Ok-clause-answer : goal.returns-in-Ok-clause-answer
@@ -12,8 +12,8 @@ returns-in-Ok-clause-answer g c basis is =
 
 pub returns-in-Ok-clause-stopped : goal.returns-in-Ok-clause-stopped
 returns-in-Ok-clause-stopped g c basis is =
-    if_err c.answer_accepted.result _ _
-    (λ fault ended. accepted_ended c.args.tree.now basis _ _ _ is c.schema.ensures _ c.in-Ok.ensures.accepted c.in-Ok.ensures.only fault _ ended)
+    if_err_apart c.answer_accepted.result _ _ c.answer_accepted.ensures.no_write
+    (λ fault apart ended. accepted_ended c.args.tree.now basis _ _ _ is c.schema.ensures _ c.in-Ok.ensures.accepted c.in-Ok.ensures.only fault _ apart ended)
     (c.answer_accepted.ensures.stopped basis is)
 
 pub returns-in-Ok-clause-asked : goal.returns-in-Ok-clause-asked

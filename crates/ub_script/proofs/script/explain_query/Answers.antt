@@ -21,7 +21,7 @@ pub returns-in_err-explain-clause-no_write : goal.returns-in_err-explain-clause-
 returns-in_err-explain-clause-no_write g c = no_write_by c.from_residual.result _ c.from_residual.ensures.1 (read_no_write _)
 
 pub returns-in_err-explain-clause-effect : goal.returns-in_err-explain-clause-effect
-returns-in_err-explain-clause-effect g c = searches_refused c.from_residual.result _ _ _ c.from_residual.ensures.1 c.in_err-explain.ensures.effect
+returns-in_err-explain-clause-effect g c = searches_refused c.from_residual.result _ _ _ c.from_residual.ensures.1 c.in_err-explain.ensures.effect c.in_err-explain.ensures.failed
 
 pub returns-clause-stopped : goal.returns-clause-stopped
 returns-clause-stopped g c basis is = tt
