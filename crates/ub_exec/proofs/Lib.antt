@@ -22,3 +22,4 @@ pub mod PermutedFacts
 pub mod WholeFacts
 pub mod RefusedFacts
 pub mod RowsReadFacts
+pub mod ReadMeantFacts

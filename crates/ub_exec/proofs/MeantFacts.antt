@@ -95,7 +95,7 @@ fetched_are : (visits : List plan.Span) → fetched_rows visits ≡ rows_of (map
 fetched_are [] = refl
 fetched_are (span ∷ visits) = ap (λ (rows : List Row). span.region.rows ++ rows) (fetched_are visits)
 
-get_or_same : {X : Type 0} (xs : List X) (k : ℕ) (d e : X) → k < length xs → get_or xs k d ≡ get_or xs k e
+pub get_or_same : {X : Type 0} (xs : List X) (k : ℕ) (d e : X) → k < length xs → get_or xs k d ≡ get_or xs k e
 get_or_same [] k d e within = absurd (omega arith)
 get_or_same (x ∷ xs) zero d e within = refl
 get_or_same (x ∷ xs) (suc k) d e within = get_or_same xs k d e (omega arith)

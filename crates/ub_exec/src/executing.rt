@@ -2,6 +2,7 @@ ghost use Rattle.std.specs.Prelude.{◌≡◌, ◌≢◌, ◌↔◌, ℕ, true, 
 ghost use Rattle.ub_answer.specs.Shaped.{IsShaped};
 ghost use Rattle.ub_exec.specs.Answers.{IsReady, IsAnswer, IsSwept, begun};
 ghost use Rattle.ub_exec.specs.Reading.{CarriesOut, NotesPages, ReadsSwept};
+ghost use Rattle.ub_exec.specs.Scanned.{IsOfRead, IsScanOf};
 ghost use Rattle.ub_exec.specs.Visits.{HasFetched, HasFetchedFirst};
 ghost use Rattle.ub_query.specs.Posed.{IsPosed};
 ghost use Rattle.ub_tree.specs.Reading.{ReadsTree};
@@ -30,7 +31,8 @@ pub struct Answer {
 /// fetched: on a sound tree those of the regions that the plan visits, each once, in their order; on any tree, where it
 /// answers, those of regions whose pages were taken in: of a scan all regions that the tree tells of for its boxes, and of a
 /// sweep all, or the first ones until there were as many rows as its LIMIT. Where a fault ends a sweep, they are those of the
-/// first ones, each once. On any tree each row has as many cells as the query has items, and there are no more than its LIMIT.
+/// first ones, each once. On any tree each row has as many cells as the query has items, and there are no more than its LIMIT; and
+/// a scan answers what the query means on the rows of the regions that were read, unless a row number stands there twice.
 ///
 /// `Memory` where memory was refused; `Tree` where the tree refused, as it does where it has failed, whatever the plan. On a
 /// sound tree it refuses only where its store failed in this call; then so many of the visits were fetched, the first ones.
@@ -43,6 +45,8 @@ pub fn execute<S: PageStore>(
     ensures rows { IsReady tree.old plan.now → IfOk result
         (λ a. IsAnswer tree.old plan.now.asked a.rows) }
     ensures shaped { IfOk result (λ a. IsShaped plan.now.asked a.rows) }
+    ensures scanned { IsScanOf tree.old.schema plan.now → IfOk result
+        (λ a. IsOfRead plan.now (begun tree.old) tree.new a.rows) }
     ensures pages { IsReady tree.old plan.now → OnOk result
         (HasFetched plan.now (begun tree.old) tree.new) }
     ensures broken { IsReady tree.old plan.now → OnErr result ((count : ℕ)
@@ -69,6 +73,8 @@ fn result_rows<S: PageStore>(
     ensures rows { IsReady tree.old plan.now → IfOk result
         (λ cells. IsAnswer tree.old plan.now.asked cells) }
     ensures shaped { IfOk result (IsShaped plan.now.asked) }
+    ensures scanned { IsScanOf tree.old.schema plan.now → IfOk result
+        (IsOfRead plan.now (begun tree.old) tree.new) }
     ensures pages { IsReady tree.old plan.now → OnOk result
         (HasFetched plan.now (begun tree.old) tree.new) }
     ensures broken { IsReady tree.old plan.now → OnErr result ((count : ℕ)
@@ -127,6 +133,8 @@ fn scanned_rows<S: PageStore>(
     ensures rows { IsReady tree.old plan.now → IfOk result
         (λ cells. IsAnswer tree.old plan.now.asked cells) }
     ensures shaped { IfOk result (IsShaped plan.now.asked) }
+    ensures scanned { IsScanOf tree.old.schema plan.now → IfOk result
+        (IsOfRead plan.now tree.old tree.new) }
     ensures pages { IsReady tree.old plan.now → ¬ IsSwept plan.now.kind
         → OnOk result (HasFetched plan.now tree.old tree.new) }
     ensures broken { IsReady tree.old plan.now → ¬ IsSwept plan.now.kind

@@ -7,6 +7,9 @@ use Rattle.ub_exec.proofs.executing.execute.Goals as goal
 pub returns-clause-rows : goal.returns-clause-rows
 returns-clause-rows g c ready = c.in_ok-rows.ensures.rows ready
 
+pub returns-clause-scanned : goal.returns-clause-scanned
+returns-clause-scanned g c scan = c.in_ok-rows.ensures.scanned scan
+
 pub returns-clause-pages : goal.returns-clause-pages
 returns-clause-pages g c = search rules
 

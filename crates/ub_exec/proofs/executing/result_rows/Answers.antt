@@ -4,6 +4,7 @@ use Rattle.ub_tree.proofs.Laws.{Keeps-by, begun_traced, reads_then, unchanged_tr
 use Rattle.ub_exec.specs.Answers.{IsReady, IsAnswer, IsSwept, begun}
 use Rattle.ub_exec.proofs.NotedFacts.{carries_failed, carries_swept}
 use Rattle.ub_exec.specs.Reading.{CarriesOut}
+use Rattle.ub_exec.specs.Scanned.{IsOfRead, IsScanOf}
 use Rattle.ub_exec.specs.Visits.{HasFetched, HasFetchedFirst}
 use Rattle.ub_planning.specs.Plan.{PlanView, plan_of}
 use Rattle.ub_planning.specs.declared.planned.Kind.{Kind}
@@ -41,6 +42,8 @@ returns-in-Empty g c = record {
   rows = λ ready. subst (λ (t : TreeView). IfOk c.scanned_rows.result (λ cells. IsAnswer t c.args.plan.now.asked cells)) c.begin.ensures
       (c.scanned_rows.ensures.rows (then c.args.tree.now c.begin.new.self c.args.plan.now c.begin.ensures ready));
   shaped = c.scanned_rows.ensures.shaped;
+  scanned = λ scan. subst (λ (t : TreeView). IfOk c.scanned_rows.result (IsOfRead c.args.plan.now t c.scanned_rows.new.tree)) c.begin.ensures
+      (c.scanned_rows.ensures.scanned (subst (λ (t : TreeView). IsScanOf t.schema c.args.plan.now) (sym c.begin.ensures) scan));
   pages = λ ready. subst (λ (t : TreeView). OnOk c.scanned_rows.result (HasFetched c.args.plan.now t c.scanned_rows.new.tree)) c.begin.ensures
       (c.scanned_rows.ensures.pages (then c.args.tree.now c.begin.new.self c.args.plan.now c.begin.ensures ready) (apart c.kind.result c.args.plan.now.kind c.kind.ensures c.in-Empty.is));
   broken = λ ready. subst (λ (t : TreeView). OnErr c.scanned_rows.result ((count : ℕ) × HasFetchedFirst c.args.plan.now t c.scanned_rows.new.tree count)) c.begin.ensures
@@ -58,6 +61,7 @@ returns-in-Sweep g c =
       rows = λ ready. subst (λ (t : TreeView). IfOk c.swept.result (λ cells. IsAnswer t c.args.plan.now.asked cells)) c.begin.ensures
           (c.swept.ensures.rows (then c.args.tree.now c.begin.new.self c.args.plan.now c.begin.ensures ready) sweeps);
       shaped = c.swept.ensures.shaped;
+      scanned = λ scan. absurd (scan.2 sweeps);
       pages = λ ready. subst (λ (t : TreeView). OnOk c.swept.result (HasFetched c.args.plan.now (begun t) c.swept.new.tree)) c.begin.ensures
           (c.swept.ensures.pages (then c.args.tree.now c.begin.new.self c.args.plan.now c.begin.ensures ready) sweeps);
       broken = λ ready. subst (λ (t : TreeView). OnErr c.swept.result ((count : ℕ) × HasFetchedFirst c.args.plan.now (begun t) c.swept.new.tree count)) c.begin.ensures
@@ -73,6 +77,9 @@ returns-then-has_failed-clause-failed g c failed = refl
 
 pub returns-then-has_failed-clause-rows : goal.returns-then-has_failed-clause-rows
 returns-then-has_failed-clause-rows g c ready = tt
+
+pub returns-then-has_failed-clause-scanned : goal.returns-then-has_failed-clause-scanned
+returns-then-has_failed-clause-scanned g c scan = tt
 
 pub returns-then-has_failed-clause-pages : goal.returns-then-has_failed-clause-pages
 returns-then-has_failed-clause-pages g c ready = tt

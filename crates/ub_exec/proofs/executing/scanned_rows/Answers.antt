@@ -9,6 +9,7 @@ use Rattle.ub_exec.proofs.FirstFacts.{all_fetched, on_err, walked_first}
 use Rattle.ub_exec.proofs.MeantFacts.{nothing_fetched, walk_fetched, answered}
 use Rattle.ub_exec.proofs.SweptFacts.{shaped_none}
 use Rattle.ub_exec.proofs.NotedFacts.{carries_all, carries_err, carries_none}
+use Rattle.ub_exec.proofs.ReadMeantFacts.{answered_read}
 use Rattle.ub_exec.proofs.RefusedFacts.{memory_reads, no_answer, no_result}
 use Rattle.ub_filter.specs.Choice.{is_chosen}
 use Rattle.ub_planning.proofs.Laws.{limit_of_zero_means_nothing}
@@ -57,6 +58,31 @@ returns-clause-rows g c ready rows are =
     c.in_ok-finish.ensures.answer table condition (filter f handed) (schema ∙ sym after) order numbers chosen
     (subst (λ (q : Asked). IsGathered c.schema-3.result.now q (filter f handed) c.walk.new.sink) (sym same)
     (subst (λ (s : Schema). IsGathered s c.args.plan.now.asked (filter f handed) c.walk.new.sink) (sym after) (held [] begun))))
+
+pub returns-clause-scanned : goal.returns-clause-scanned
+returns-clause-scanned g c scan =
+    let query = asked c.query-query.result.now in
+    let same : query ≡ c.args.plan.now.asked = c.query-query.ensures in
+    let f = is_chosen c.of-choice.result c.args.tree.now.schema c.args.plan.now in
+    let begun = subst (λ (q : Asked). IsGathered c.args.tree.now.schema q [] c.new-gathering.result) same (subst (λ (s : Schema). IsGathered s query [] c.new-gathering.result) c.schema.ensures c.new-gathering.ensures.gathered) in
+    let (handed, held, walk) = c.in_ok-walk.ensures.rows c.new-gathering.result [] (none_taken c.args.tree.now.schema c.args.plan.now.asked c.new-gathering.result) in
+    let after : c.schema-3.result.now ≡ c.args.tree.now.schema = c.schema-3.ensures ∙ ap (λ (t : TreeView). t.schema) c.in_ok-walk.ensures.effect.same in
+    answered_read c.args.tree.now c.walk.new.tree c.args.plan.now scan.0 scan.1 c.of-choice.result query same handed walk.0 _
+    (λ table condition schema order numbers chosen.
+    c.in_ok-finish.ensures.answer table condition (filter f handed) (schema ∙ sym after) order numbers chosen
+    (subst (λ (q : Asked). IsGathered c.schema-3.result.now q (filter f handed) c.walk.new.sink) (sym same)
+    (subst (λ (s : Schema). IsGathered s c.args.plan.now.asked (filter f handed) c.walk.new.sink) (sym after) (held [] begun))))
+
+pub returns-then-asks_for_none-clause-scanned : goal.returns-then-asks_for_none-clause-scanned
+returns-then-asks_for_none-clause-scanned g c scan =
+    let limit = sym (ap (λ (q : Asked). q.limit) c.query-query.ensures) ∙ c.asks_for_none.ensures.0 c.if-asks_for_none.true in
+    absurd (scan.1 limit)
+
+pub returns-in_err-walk-clause-scanned : goal.returns-in_err-walk-clause-scanned
+returns-in_err-walk-clause-scanned g c scan = no_answer c.from_residual.result _ _ c.from_residual.ensures.1
+
+pub returns-in_err-finish-clause-scanned : goal.returns-in_err-finish-clause-scanned
+returns-in_err-finish-clause-scanned g c scan = no_answer c.from_residual-in_err-finish.result _ _ c.from_residual-in_err-finish.ensures.1
 
 pub returns-clause-pages : goal.returns-clause-pages
 returns-clause-pages g c ready apart =
