@@ -153,7 +153,7 @@ impl<S: PageStore> Tree<S> {
     /// Failed comes where the tree has failed; Page where a page is refused, or as BadCount on page 0 where there is such a row though
     /// none is counted, or a region would go and one alone is counted; Memory where memory was refused; Store where the store failed in
     /// this call or has no such page. After Store with Device the tree may have failed; after another fault it is as it was. Once a
-    /// table is marked as changed it stays so.
+    /// table is marked as changed it stays so, and it is where a row was taken out.
     pub fn remove(&mut self, key: Key) -> Result<bool, TreeFault>
         ensures removed { IsSound self.old
             → IfOk result (λ found. IsRemoved key found self.old self.new) }
@@ -167,6 +167,7 @@ impl<S: PageStore> Tree<S> {
         ensures effect { Changes self.old self.new result }
         ensures faults { IfErr result (IsRemovalFault self.old) }
         ensures stays { self.old.is_changed ≡ true → self.new.is_changed ≡ true }
+        ensures marks { IfOk result (λ found. found ≡ true → self.new.is_changed ≡ true) }
     {
         if self.is_failed {
             return Err(TreeFault::Failed);
@@ -190,6 +191,7 @@ impl<S: PageStore> Tree<S> {
         ensures effect { Changes self.old self.new result }
         ensures faults { IfErr result (IsRemovalFault self.old) }
         ensures stays { self.old.is_changed ≡ true → self.new.is_changed ≡ true }
+        ensures marks { IfOk result (λ found. found ≡ true → self.new.is_changed ≡ true) }
     {
         let seat = self.seat_of(key)?;
         self.rows_at(&seat, &mut room.region, &mut room.rows)?;

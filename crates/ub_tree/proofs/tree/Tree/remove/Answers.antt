@@ -134,3 +134,13 @@ returns-clause-faults g c = subst (λ (v : TreeView). IfErr c.remove_within-remo
 pub returns-clause-stays : goal.returns-clause-stays
 returns-clause-stays g c = λ was.
     ap (λ (v : TreeView). v.is_changed) c.self-2.view_is ∙ c.remove_within-removed.ensures.stays (ap (λ (v : TreeView). v.is_changed) c.in_ok-room.ensures.same ∙ was)
+
+pub returns-then-self-clause-marks : goal.returns-then-self-clause-marks
+returns-then-self-clause-marks g c = tt
+
+pub returns-in_err-room-clause-marks : goal.returns-in_err-room-clause-marks
+returns-in_err-room-clause-marks g c = no_answer c.from_residual.result c.in_err-room.field-0.0 _ c.from_residual.ensures.1
+
+pub returns-clause-marks : goal.returns-clause-marks
+returns-clause-marks g c =
+    subst (λ (v : TreeView). IfOk c.remove_within-removed.result (λ found. found ≡ true → v.is_changed ≡ true)) (sym c.self-2.view_is) c.remove_within-removed.ensures.marks

@@ -264,3 +264,23 @@ returns-clause-faults g c = tt
 
 pub returns-clause-stays : goal.returns-clause-stays
 returns-clause-stays g c = λ was. ap (λ (v : TreeView). v.is_changed) c.self-2.view_is ∙ c.settle.ensures.stays (ap (λ (v : TreeView). v.is_changed) (c.in_ok-rows_at.ensures.effect.same ∙ c.in_ok-seat.ensures.effect.same) ∙ was)
+
+pub returns-in_err-seat-clause-marks : goal.returns-in_err-seat-clause-marks
+returns-in_err-seat-clause-marks g c = no_answer c.from_residual.result c.in_err-seat.field-0.0 _ c.from_residual.ensures.1
+
+pub returns-in_err-rows_at-clause-marks : goal.returns-in_err-rows_at-clause-marks
+returns-in_err-rows_at-clause-marks g c = no_answer c.from_residual-in_err-rows_at.result c.in_err-rows_at.field-0.0 _ c.from_residual-in_err-rows_at.ensures.1
+
+pub returns-then-not-remove-clause-marks : goal.returns-then-not-remove-clause-marks
+returns-then-not-remove-clause-marks g c = λ is. absurd (let bad : false ≡ true = is in cc)
+
+pub returns-then-self-eq0-clause-marks : goal.returns-then-self-eq0-clause-marks
+returns-then-self-eq0-clause-marks g c = tt
+
+pub returns-in_err-settle-clause-marks : goal.returns-in_err-settle-clause-marks
+returns-in_err-settle-clause-marks g c = no_answer c.from_residual-in_err-settle.result c.in_err-settle.field-0.0 _ c.from_residual-in_err-settle.ensures.1
+
+pub returns-clause-marks : goal.returns-clause-marks
+returns-clause-marks g c = λ _.
+    let stored = c.in_ok-settle.ensures.same.same in
+    ap (λ (v : TreeView). v.is_changed) c.self-2.view_is ∙ ap (λ (v : TreeView). v.is_changed) stored
