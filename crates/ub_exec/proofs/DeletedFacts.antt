@@ -153,6 +153,7 @@ deletes_failed old new begins failed = subst (λ (t : TreeView). Deletes old t (
   frame = refl;
   counted = tt;
   stays = λ changed. changed;
+  marks = tt;
   kept = λ honest unchanged m apart within. refl;
   marked = λ sound changed. sound.marked changed;
   done = tt;
@@ -169,6 +170,7 @@ deletes_read {A = A} old new e working reads = record {
   frame = reads.same ∙ ap (λ (t : TreeView). record old { placed = t.placed; rows = t.rows; is_changed = t.is_changed; is_failed = t.is_failed; store = t.store; trace = new.trace; inner = t.inner }) (sym reads.same);
   counted = tt;
   stays = λ changed. ap (λ (t : TreeView). t.is_changed) reads.same ∙ changed;
+  marks = tt;
   kept = λ honest unchanged m apart within. ap (λ (t : TreeView). slice_get t.store.pages m) reads.same;
   marked = λ sound changed. subst (λ (t : TreeView). t.is_changed ≡ true → HasMark old.schema t.store.pages) (sym reads.same) sound.marked changed;
   done = tt;
@@ -195,6 +197,7 @@ module _ (old mid new : TreeView) (working : old.is_failed ≡ false) (traced : 
         frame = frame_of stopped.frame;
         counted = tt;
         stays = λ changed. stopped.stays (ap (λ (t : TreeView). t.is_changed) traced ∙ changed);
+        marks = tt;
         kept = subst (λ (facts : StoreFacts). KeepsUnless new.is_changed facts new.store) (ap (λ (t : TreeView). t.store) traced) stopped.kept;
         marked = λ sound changed. subst (λ (schema : Schema). HasMark schema new.store.pages) (ap (λ (t : TreeView). t.schema) traced)
             (stopped.marked ((Keeps-by old mid traced).sound sound) changed);
@@ -211,6 +214,7 @@ module _ (old mid new : TreeView) (working : old.is_failed ≡ false) (traced : 
         frame = frame_of lost.frame;
         counted = lost.counted ∙ ap (λ (t : TreeView). t.rows) traced;
         stays = λ changed. lost.stays (ap (λ (t : TreeView). t.is_changed) traced ∙ changed);
+        marks = lost.marks;
         kept = subst (λ (facts : StoreFacts). KeepsUnless new.is_changed facts new.store) (ap (λ (t : TreeView). t.store) traced) lost.kept;
         marked = λ sound changed. subst (λ (schema : Schema). HasMark schema new.store.pages) (ap (λ (t : TreeView). t.schema) lost.frame ∙ ap (λ (t : TreeView). t.schema) traced)
             ((lost.sound ((Keeps-by old mid traced).sound sound)).marked changed);

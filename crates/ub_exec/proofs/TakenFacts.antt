@@ -1,5 +1,5 @@
 -- Rows taken out of any tree, one after the other.
-use Rattle.std.proofs.Common.{◌≡◌, ◌+◌, ◌-◌, ◌<◌, ◌≤◌, ◌++◌, ◌∷◌, ◌∙◌, inl, inr, ℕ, suc, Bool, true, false, if◌then◌else◌, IsTrue, List, [], Result, Ok, Err, add-one, append_assoc, drop, get_or, length, take, refl, sym, ap, subst, arith}
+use Rattle.std.proofs.Common.{◌≡◌, ◌≢◌, ◌+◌, ◌-◌, ◌<◌, ◌≤◌, ◌++◌, ◌∷◌, ◌∙◌, inl, inr, ℕ, zero, suc, Bool, true, false, if◌then◌else◌, IsTrue, List, [], Result, Ok, Err, add-one, append_assoc, drop, get_or, length, take, refl, sym, ap, subst, arith}
 use Rattle.std.proofs.Math.Seq.{take-suc}
 use Rattle.std.proofs.lemmas.Bool.{true≢false}
 use Rattle.std.proofs.lemmas.List.{take-append-drop}
@@ -65,6 +65,7 @@ pub record HasLost (old new : TreeView) (count : ℕ) : Type 0 where
   pub counted : new.rows + count ≡ old.rows
   pub works : Works old new
   pub stays : old.is_changed ≡ true → new.is_changed ≡ true
+  pub marks : count ≢ 0 → new.is_changed ≡ true
   pub kept : KeepsUnless new.is_changed old.store new.store
   pub pages : page_count new.store ≡ page_count old.store
   pub sound : IsSound old → IsSound new
@@ -75,6 +76,7 @@ lost_none a b same = subst (λ (t : TreeView). HasLost a t 0) (sym same) (record
   counted = omega arith;
   works = (refl, refl);
   stays = λ changed. changed;
+  marks = λ some. absurd (some refl);
   kept = λ honest unchanged m apart within. refl;
   pages = refl;
   sound = λ sound. sound;
@@ -96,6 +98,7 @@ lost_one key a b true removes =
       counted = rows;
       works = removes.effect.done;
       stays = removes.stays;
+      marks = λ some. removes.marks refl;
       kept = removes.effect.marked.kept;
       pages = as_many key a b shrinks;
       sound = λ sound. (removes.removed sound).sound;
@@ -105,6 +108,12 @@ lost_one key a b true removes =
 unmarked : (before after : Bool) → (before ≡ true → after ≡ true) → after ≡ false → before ≡ false
 unmarked true after stays none = absurd (true≢false (sym (stays refl) ∙ none))
 unmarked false after stays none = refl
+
+-- where a row is gone in one of two calls
+marked_more : (m n : ℕ) (before after : Bool) → (m ≢ 0 → before ≡ true) → (n ≢ 0 → after ≡ true) → (before ≡ true → after ≡ true) → m + n ≢ 0 → after ≡ true
+marked_more zero zero before after first second stays some = absurd (some refl)
+marked_more zero (suc n) before after first second stays some = second (λ none. cc)
+marked_more (suc m) n before after first second stays some = stays (first (λ none. cc))
 
 -- two calls, of which the second one leaves the mark
 kept_then : (a b c : TreeView) → Works a b → (b.is_changed ≡ true → c.is_changed ≡ true) → page_count b.store ≡ page_count a.store → KeepsUnless b.is_changed a.store b.store
@@ -122,6 +131,7 @@ lost_more a b c m n first second =
       counted = omega (arith, one, other);
       works = Works-then a b c first.works second.works;
       stays = λ changed. second.stays (first.stays changed);
+      marks = marked_more m n b.is_changed c.is_changed first.marks second.marks second.stays;
       kept = kept_then a b c first.works second.stays first.pages first.kept second.kept;
       pages = second.pages ∙ first.pages;
       sound = λ sound. second.sound (first.sound sound);

@@ -45,6 +45,7 @@ pub record Removes (key : Key) (old new : TreeView) (result : Result Bool TreeFa
   pub effect : Changes old new result
   pub faults : IfErr result (IsRemovalFault old)
   pub stays : old.is_changed ≡ true → new.is_changed ≡ true
+  pub marks : IfOk result (λ found. found ≡ true → new.is_changed ≡ true)
 
 -- the rows of these keys were taken out, one after the other, but for those that weren't there; so many were
 abbrev pub TakesOut : List Key → TreeView → TreeView → ℕ → Type 0
@@ -137,8 +138,8 @@ IsDeletionFault old new (Tree (Store store.NoPage)) =
 IsDeletionFault old new (Tree (Store _)) = ⊥
 
 -- a deletion from a tree: what it never touches; that it counts the rows that are gone, and no others; that a table once marked as
--- changed stays so, that until then no page but the first is written, and that a sound tree has its mark from then on; and what
--- it leaves
+-- changed stays so, as it is where a row is gone, that until then no page but the first is written, and that a sound tree has its
+-- mark from then on; and what it leaves
 pub record Deletes (old new : TreeView) (result : Result ℕ ReadFault) : Type 0 where
   pub frame : new ≡ record old {
     placed = new.placed;
@@ -151,6 +152,7 @@ pub record Deletes (old new : TreeView) (result : Result ℕ ReadFault) : Type 0
   }
   pub counted : IfOk result (λ count. new.rows + count ≡ old.rows)
   pub stays : old.is_changed ≡ true → new.is_changed ≡ true
+  pub marks : IfOk result (λ count. count ≢ 0 → new.is_changed ≡ true)
   pub kept : KeepsUnless new.is_changed old.store new.store
   pub marked : IsSound old → new.is_changed ≡ true → HasMark old.schema new.store.pages
   pub done : OnOk result (Works old new)

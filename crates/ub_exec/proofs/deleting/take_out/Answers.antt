@@ -17,6 +17,7 @@ loop-key-preserved g c =
       effect = said.effect;
       faults = said.faults;
       stays = said.stays;
+      marks = said.marks;
     })
 
 pub returns-in_err-remove : goal.returns-in_err-remove
@@ -31,6 +32,7 @@ returns-in_err-remove g c =
       effect = said.effect;
       faults = said.faults;
       stays = said.stays;
+      marks = said.marks;
     })
 
 pub overflow_sub-result : goal.overflow_sub-result
