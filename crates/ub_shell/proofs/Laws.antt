@@ -17,7 +17,7 @@ use Rattle.ub_shell.specs.Checked.{IsChecked, IsIll}
 use Rattle.ub_shell.specs.Described.{IsDescribed, IsUndescribed}
 use Rattle.ub_shell.specs.Ending.{Tells}
 use Rattle.ub_shell.specs.Status.{store_fault_status, tree_fault_status}
-use Rattle.ub_shell.specs.Upgrading.{IsFileAnew, KeepsAnew}
+use Rattle.ub_shell.specs.Upgrading.{IsFileAnew, IsMadeAnew, IsRefusedAnew, KeepsAnew}
 use Rattle.ub_shell.specs.declared.status.Status.{Status}
 use Rattle.ub_shell.specs.declared.status.Status.TheVariants.{Done}
 use Rattle.ub_exec.proofs.Laws.{sound_trees_stand}
@@ -145,20 +145,31 @@ checking_leaves_the_table table old new out out_now status (inr unopened) = stil
 
 -- ---- a table file of an older version that was made anew
 
+-- the store that is left of it
+anew_left : {out out_now : OutFacts} {status : Status} (table : List ℕ) (from left : StoreFacts) (old new : FilesFacts)
+    → IsMadeAnew table from left old new out out_now status ⊎ IsRefusedAnew from left old new out out_now status
+    → (left.pages ≡ from.pages) × (left.failed_writes ≡ from.failed_writes)
+anew_left table from left old new (inl made) = (ap (λ (s : StoreFacts). s.pages) made.left_is, ap (λ (s : StoreFacts). s.failed_writes) made.left_is)
+anew_left table from left old new (inr none) = (ap (λ (s : StoreFacts). s.pages) none.left_is, ap (λ (s : StoreFacts). s.failed_writes) none.left_is)
+
 -- what was kept of it leaves each other file
-anew_others : (source table : List ℕ) (from : StoreFacts) (old new : FilesFacts) (out out_now : OutFacts) (status : Status) → source ≢ table
+kept_others : {out out_now : OutFacts} {status : Status} (source table : List ℕ) (from : StoreFacts) (old new : FilesFacts) → source ≢ table
     → KeepsAnew table from old new out out_now status → new.holds source ≡ old.holds source
-anew_others source table from old new out out_now status apart (inl (rows, regions, file, told)) = file.copied.back.others source apart
-anew_others source table from old new out out_now status apart (inr (fault, unkept, told)) = unkept.uses.others source apart
+kept_others source table from old new apart (inl (rows, regions, file, told)) = file.copied.back.others source apart
+kept_others source table from old new apart (inr (fault, unkept, told)) = unkept.uses.others source apart
+
+anew_others : {out out_now : OutFacts} {status : Status} (source table : List ℕ) (from left : StoreFacts) (old new : FilesFacts) → source ≢ table
+    → IsMadeAnew table from left old new out out_now status ⊎ IsRefusedAnew from left old new out out_now status → new.holds source ≡ old.holds source
+anew_others source table from left old new apart (inl made) = kept_others source table from old new apart made.ended
+anew_others source table from left old new apart (inr none) = ap (λ (f : FilesFacts). f.holds source) none.files
 
 pub upgrading_leaves_the_old_table : UpgradingLeavesTheOldTable
 upgrading_leaves_the_old_table source table old new out out_now status apart (inl same) = absurd (apart same.same)
 upgrading_leaves_the_old_table source table old new out out_now status apart (inr (ne, inl anew)) =
     let ends = anew.upgrades in
-    let held = ap (λ (s : StoreFacts). s.pages) ends.left_is in
-    let well = ap (λ (s : StoreFacts). s.failed_writes) ends.left_is ∙ anew.lent.lent.unfailed in
-    let mid = put_back_same (old.holds source) (ends.mid.holds source) anew.store ends.left anew.lent.stored ends.back.held held well in
-    subst (λ (now : Held). IsHeldStill (old.holds source) now) (sym (anew_others source table anew.store ends.mid new out out_now status apart ends.ended)) mid
+    let same = anew_left table anew.store ends.left ends.mid new ends.ended in
+    let mid = put_back_same (old.holds source) (ends.mid.holds source) anew.store ends.left anew.lent.stored ends.back.held same.0 (same.1 ∙ anew.lent.lent.unfailed) in
+    subst (λ (now : Held). IsHeldStill (old.holds source) now) (sym (anew_others source table anew.store ends.left ends.mid new apart ends.ended)) mid
 upgrading_leaves_the_old_table source table old new out out_now status apart (inr (ne, inr unopened)) =
     still_same (old.holds source) (new.holds source) unopened.files.kept
 
@@ -220,13 +231,18 @@ upgraded_tables_are_the_same source table old new out out_now version next schem
     let bad = told_done _ _ _ _ same.tells in cc
 upgraded_tables_are_the_same source table old new out out_now version next schema placed honest sound (inr (ne, inr unopened)) =
     absurd (store_not_done unopened.fault (told_done _ _ _ _ unopened.tells))
-upgraded_tables_are_the_same source table old new out out_now version next schema placed honest sound (inr (ne, inl anew)) = elim anew.upgrades.ended [
-  | inl kept ↦
-      let mid_honest : IsTrue anew.upgrades.mid.honest = rw (ap (λ (f : FilesFacts). f.honest) anew.upgrades.back.same) honest in
-      let here = old_pages version next schema placed (old.holds source) anew.store anew.lent.stored sound in
-      file_anew table anew.store kept.0 kept.1 version next schema placed anew.upgrades.mid new mid_honest (anew.lent.lent.honest honest) here kept.2
-  | inr unkept ↦ absurd (tree_not_done unkept.0 (told_done _ _ _ _ unkept.2))
-]
+upgraded_tables_are_the_same source table old new out out_now version next schema placed honest sound (inr (ne, inl anew)) =
+    let ends = anew.upgrades in
+    elim ends.ended [
+      | inl made ↦
+          let mid_honest : IsTrue ends.mid.honest = rw (ap (λ (f : FilesFacts). f.honest) ends.back.same) honest in
+          let here = old_pages version next schema placed (old.holds source) anew.store anew.lent.stored sound in
+          elim made.ended [
+            | inl kept ↦ file_anew table anew.store kept.0 kept.1 version next schema placed ends.mid new mid_honest (anew.lent.lent.honest honest) here kept.2
+            | inr unkept ↦ absurd (tree_not_done unkept.0 (told_done _ _ _ _ unkept.2))
+          ]
+      | inr none ↦ absurd (tree_not_done none.fault (told_done _ _ _ _ none.tells))
+    ]
 
 -- ---- a table file that was checked, with nothing wrong
 

@@ -5,18 +5,17 @@ use Rattle.std.proofs.lemmas.Bool.{false≢true}
 use Rattle.ub_files.specs.Files.{FilesFacts, IsLent, OpensFile, PutsBack, raised_by}
 use Rattle.ub_script.specs.Output.{OutFacts}
 use Rattle.ub_shell.specs.Commands.{WritesFile}
-use Rattle.ub_shell.specs.Ending.{Tells}
-use Rattle.ub_shell.specs.Status.{tree_fault_status, tree_fault_text}
-use Rattle.ub_shell.specs.Upgrading.{IsAfoot, IsAnewOf, IsFileAnew, IsRefusedOld, IsTableAnew, IsUnkeptAnew, IsUpgradeOf, KeepsAnew, UpgradesStore}
+use Rattle.ub_shell.specs.Upgrading.{IsAfoot, IsAnewOf, IsFileAnew, IsTableAnew, IsUnkeptAnew, IsUpgradeOf, UpgradesStore}
 use Rattle.ub_shell.specs.declared.status.Status.{Status}
 use Rattle.ub_shell.proofs.FileFacts.{never_both, one_fault, put_after}
 use Rattle.ub_store.specs.Facts.{StoreFacts, IsHonest, memory_facts}
 use Rattle.ub_store.specs.declared.fault.StoreFault.{StoreFault}
 use Rattle.ub_store.specs.declared.fault.StoreFault.TheVariants as store
 use Rattle.ub_tree.specs.Closing.{header_of, IsCloseFault}
+use Rattle.ub_tree.specs.Effects.{read_store}
 use Rattle.ub_tree.specs.Faults.{tree_fault}
 use Rattle.ub_tree.specs.Stored.{AreSoundPages}
-use Rattle.ub_tree.specs.Upgrade.{AreBothLeft, HasWorked, IsLeftBy, IsUpgraded}
+use Rattle.ub_tree.specs.Upgrade.{HasWorked, IsLeftBy, IsUpgraded}
 use Rattle.ub_tree.specs.View.{TreeView, IsSound, region_count}
 use Rattle.ub_tree.specs.declared.fault.TreeFault.{TreeFault}
 use Rattle.ub_tree.specs.declared.fault.TreeFault.TheVariants as tree
@@ -24,26 +23,19 @@ use Rattle.ub_writing.specs.Closing.{IsClosed, IsSaved}
 
 -- ---- the old store
 
--- it is as it was, but for a read that may have failed
-both_left : (reads read written : ℕ) (old old_now new new_now : StoreFacts) → AreBothLeft reads read written old old_now new new_now
-    → old_now ≡ record old { failed_reads = old_now.failed_reads }
-both_left reads read written old old_now new new_now is =
-    is.old_is ∙ ap (λ (n : ℕ). record old { failed_reads = n }) (sym (ap (λ (s : StoreFacts). s.failed_reads) is.old_is))
-
-pub old_left : (fault : TreeFault) (old old_now new new_now : StoreFacts) → IsLeftBy fault old old_now new new_now → old_now ≡ record old { failed_reads = old_now.failed_reads }
-old_left (tree.Store store.Device) old old_now new new_now (inl is) = both_left _ _ _ old old_now new new_now is
-old_left (tree.Store store.Device) old old_now new new_now (inr (inl is)) = both_left _ _ _ old old_now new new_now is
-old_left (tree.Store store.Device) old old_now new new_now (inr (inr is)) = both_left _ _ _ old old_now new new_now is
-old_left (tree.Store store.NoPage) old old_now new new_now is = both_left _ _ _ old old_now new new_now is
-old_left (tree.Store store.BadSize) old old_now new new_now is = both_left _ _ _ old old_now new new_now is
-old_left (tree.Store store.Memory) old old_now new new_now is = both_left _ _ _ old old_now new new_now is
-old_left tree.Full old old_now new new_now is = both_left _ _ _ old old_now new new_now is
-old_left tree.Failed old old_now new new_now is = both_left _ _ _ old old_now new new_now is
-old_left tree.Memory old old_now new new_now is = both_left _ _ _ old old_now new new_now is
-old_left (tree.Page page fault) old old_now new new_now is = both_left _ _ _ old old_now new new_now is
-
-pub worked_left : (old old_now new new_now : StoreFacts) → HasWorked old old_now new new_now → old_now ≡ record old { failed_reads = old_now.failed_reads }
-worked_left old old_now new new_now is = both_left _ _ _ old old_now new new_now is
+-- where the new one is in memory, no call of which fails, the device's fault is that of a read of it, and with no other fault it is as it was
+pub old_left : (fault : TreeFault) (old old_now : StoreFacts) (held held_now : List (List ℕ)) → IsLeftBy fault old old_now (memory_facts held) (memory_facts held_now)
+    → old_now ≡ read_store {A = StoreFacts} (Err fault) old
+old_left (tree.Store store.Device) old old_now held held_now (inl is) = is.old_is
+old_left (tree.Store store.Device) old old_now held held_now (inr (inl is)) = let none = ap (λ (s : StoreFacts). s.failed_reads) is.new_is in cc
+old_left (tree.Store store.Device) old old_now held held_now (inr (inr is)) = let none = ap (λ (s : StoreFacts). s.failed_writes) is.new_is in cc
+old_left (tree.Store store.NoPage) old old_now held held_now is = is.old_is
+old_left (tree.Store store.BadSize) old old_now held held_now is = is.old_is
+old_left (tree.Store store.Memory) old old_now held held_now is = is.old_is
+old_left tree.Full old old_now held held_now is = is.old_is
+old_left tree.Failed old old_now held held_now is = is.old_is
+old_left tree.Memory old old_now held held_now is = is.old_is
+old_left (tree.Page page fault) old old_now held held_now is = is.old_is
 
 -- it was lent and put back
 pub anew_of : {A : Type 0} (source table : List ℕ) (old lent new : FilesFacts) (out out_now : OutFacts) (status : Status) (a : A) (from : StoreFacts)
@@ -55,7 +47,6 @@ anew_of {A} source table old lent new out out_now status a from is opens upgrade
   upgrades = record {
     left = upgrades.left;
     mid = upgrades.mid;
-    left_is = upgrades.left_is;
     back = put_after source old lent upgrades.mid a upgrades.left opens.lends upgrades.back;
     ended = upgrades.ended;
   };
@@ -97,18 +88,13 @@ unclosed_anew table from t files tree.Memory is under refused = absurd refused
 unclosed_anew table from t files tree.Failed is under refused = let works = under.working in cc
 unclosed_anew table from t files (tree.Store store.Device) is under refused = let never = under.unfailing in cc
 unclosed_anew table from t files (tree.Store store.NoPage) is under refused = record {
-  why = inl (inr (record { tree = t; upgrade = is; unsound = refused; fault_is = refl }), refl);
+  why = inl (record { tree = t; upgrade = is; unsound = refused; fault_is = refl }, refl);
   uses = record { same = refl; others = λ other ne. refl };
 }
 unclosed_anew table from t files (tree.Store store.BadSize) is under refused = absurd refused
 unclosed_anew table from t files (tree.Store store.Memory) is under refused = absurd refused
 unclosed_anew table from t files tree.Full is under refused = absurd refused
 unclosed_anew table from t files (tree.Page page fault) is under refused = absurd refused
-
-pub not_upgraded : (table : List ℕ) (from : StoreFacts) (files : FilesFacts) (fault : TreeFault) (out out_now : OutFacts) (status : Status) → IsRefusedOld from fault
-    → Tells out out_now (tree_fault_text fault) (tree_fault_status fault) status → KeepsAnew table from files files out out_now status
-not_upgraded table from files fault out out_now status is told =
-    inr (fault, record { why = inl (inl is, refl); uses = record { same = refl; others = λ other ne. refl } }, told)
 
 -- ---- the new table file
 

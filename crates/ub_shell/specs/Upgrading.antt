@@ -12,6 +12,7 @@ use Rattle.ub_store.specs.declared.fault.StoreFault.{StoreFault}
 use Rattle.ub_store.specs.declared.fault.StoreFault.TheVariants as store
 use Rattle.ub_table.specs.declared.schema.Schema.{Schema}
 use Rattle.ub_tree.specs.Closing.{header_of}
+use Rattle.ub_tree.specs.Effects.{read_store}
 use Rattle.ub_tree.specs.Faults.{tree_fault}
 use Rattle.ub_tree.specs.Old.{AreOldPages}
 use Rattle.ub_tree.specs.Placed.{Placed}
@@ -85,28 +86,40 @@ pub record IsUnwrittenAnew (table : List ℕ) (from : StoreFacts) (old new : Fil
   pub copied : IsCopied table pages old new (Err of_store)
   pub fault_is : fault ≡ tree_fault of_store
 
--- no table file was made anew of the store, for this reason; where no table stood in memory the files hold what they did
+-- the table that was made in memory isn't kept in a table file, for this reason; where it can't be closed the files hold what they did
 pub record IsUnkeptAnew (table : List ℕ) (from : StoreFacts) (old new : FilesFacts) (fault : TreeFault) : Type 0 where
-  pub why : ((IsRefusedOld from fault ⊎ IsUnclosedAnew from fault) × (new ≡ old))
+  pub why : (IsUnclosedAnew from fault × (new ≡ old))
       ⊎ ((IsUnmadeAnew from fault × (new.failed_tables ≡ raised old.failed_tables 1))
       ⊎ (IsUnwrittenAnew table from old new fault × (new.failed_tables ≡ old.failed_tables)))
   pub uses : Uses table old new
 
--- a table file was made anew of the store, and it was told how many rows and regions it has; or why not
+-- that table is kept in a table file, and it was told how many rows and regions it has; or why not
 abbrev pub KeepsAnew : List ℕ → StoreFacts → FilesFacts → FilesFacts → OutFacts → OutFacts → Status → Type 0
 KeepsAnew table from old new out out_now status =
     ((rows regions : ℕ) × IsFileAnew table from rows regions old new × Tells out out_now (loaded_line rows regions) Done status)
     ⊎ ((fault : TreeFault) × IsUnkeptAnew table from old new fault × Tells out out_now (tree_fault_text fault) (tree_fault_status fault) status)
 
--- a store was read, and put back as it was, but for a read that may have failed; then a table file was made anew of it, or not
+-- a table was made in memory of a store, which is left as it was; then it was kept in a table file, or not
+pub record IsMadeAnew (table : List ℕ) (store left : StoreFacts) (old new : FilesFacts) (out out_now : OutFacts) (status : Status) : Type 0 where
+  pub left_is : left ≡ store
+  pub ended : KeepsAnew table store old new out out_now status
+
+-- none was made, and why not was told; the store is left as it was, but for a read that may have failed, and no other file is touched
+pub record IsRefusedAnew (store left : StoreFacts) (old new : FilesFacts) (out out_now : OutFacts) (status : Status) : Type 0 where
+  pub fault : TreeFault
+  pub is : IsRefusedOld store fault
+  pub left_is : left ≡ read_store {A = StoreFacts} (Err fault) store
+  pub files : new ≡ old
+  pub tells : Tells out out_now (tree_fault_text fault) (tree_fault_status fault) status
+
+-- that was done, and what is left of the store was put back; a table file is made over the files as they are then
 pub record UpgradesStore (Back : FilesFacts → StoreFacts → Type 0) (table : List ℕ) (store : StoreFacts) (new : FilesFacts) (out out_now : OutFacts) (status : Status) : Type 0 where
   pub left : StoreFacts
   pub mid : FilesFacts
-  pub left_is : left ≡ record store { failed_reads = left.failed_reads }
   pub back : Back mid left
-  pub ended : KeepsAnew table store mid new out out_now status
+  pub ended : IsMadeAnew table store left mid new out out_now status ⊎ IsRefusedAnew store left mid new out out_now status
 
--- the store in the old table file was read and put back, before the new one was touched
+-- the store in the old table file was read and put back, and the new one made, or not touched where no table was made of the old one
 pub record IsAnewOf (source table : List ℕ) (old new : FilesFacts) (out out_now : OutFacts) (status : Status) : Type 0 where
   pub store : StoreFacts
   pub lent : IsLent old source store
