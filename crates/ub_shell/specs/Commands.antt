@@ -18,7 +18,7 @@ use Rattle.ub_store.specs.declared.fault.StoreFault.TheVariants as store
 use Rattle.ub_table.specs.Schema.{IsMask}
 use Rattle.ub_table.specs.declared.axes.Axes.{Axes}
 use Rattle.ub_table.specs.declared.schema.Schema.{Schema}
-use Rattle.ub_tree.specs.Closing.{IsCloseFault}
+use Rattle.ub_tree.specs.Closing.{IsCloseFault, header_of}
 use Rattle.ub_tree.specs.Effects.{read_store, written_store}
 use Rattle.ub_tree.specs.Faults.{tree_fault}
 use Rattle.ub_tree.specs.Opened.{IsOpened, IsOpenFault, IsPassing}
@@ -27,7 +27,7 @@ use Rattle.ub_tree.specs.Stored.{AreSoundPages}
 use Rattle.ub_tree.specs.View.{TreeView, IsSound, region_count}
 use Rattle.ub_tree.specs.declared.fault.TreeFault.{TreeFault}
 use Rattle.ub_tree.specs.declared.fault.TreeFault.TheVariants.{Failed, Store}
-use Rattle.ub_writing.specs.Closing.{IsUnclosed}
+use Rattle.ub_writing.specs.Closing.{IsClosed, IsSaved, IsUnclosed}
 use Rattle.ub_files.specs.Copying.{Copies}
 use Rattle.ub_words.specs.declared.given.DataWords.{DataWords}
 use Rattle.ub_shell.specs.Ending.{HasTried, Tells, trial}
@@ -90,13 +90,14 @@ TriesFiles source script name axes page_rows old new out out_now status =
 
 -- ---- closing a table file
 
--- a tree was closed, and its store is left so: that of a sound tree is a closed table, all of which lasts where it was changed; one
--- that was not changed is as it was, and so is that of a tree that has failed; and where the closing is refused over an honest store,
--- the first page is as it was, unless all others last
+-- a tree was closed, and its store is left so: that of a sound tree is a closed table; that of one that was changed, sound or not, has
+-- as many pages as before, which all last, and, where it is honest, a clean header with the tree's counts on the first, and each other as
+-- it was; one that was not changed is as it was, and so is that of a tree that has failed; and where the closing is refused over an
+-- honest store, the first page is as it was, unless all others last
 pub record Closes {A : Type 0} (t : TreeView) (left : StoreFacts) (result : Result A TreeFault) : Type 0 where
   pub store_is : left ≡ written_store result t.store left
   pub closed : IsSound t → OnOk result (IsHonest left × AreSoundPages left.pages t.schema t.placed t.next)
-  pub synced : IsTrue t.is_changed → OnOk result (left.synced ≡ left.pages)
+  pub saved : IsTrue t.is_changed → OnOk result (IsSaved t.store left × (IsHonest t.store → IsClosed (header_of t) t.store left))
   pub unchanged : t.is_changed ≡ false → t.is_failed ≡ false → IsOk result × (left ≡ t.store)
   pub failed : IsTrue t.is_failed → (result ≡ Err Failed) × (left ≡ t.store)
   pub unclosed : IsHonest t.store → OnErr result (IsUnclosed t.store left)

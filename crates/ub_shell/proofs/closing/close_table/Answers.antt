@@ -10,7 +10,7 @@ returns-in-Err g c = record {
   closes = record {
     store_is = c.in-Err.ensures.left;
     closed = λ sound. tt;
-    synced = λ changed. tt;
+    saved = λ changed. tt;
     unchanged = λ changed failed. absurd (c.in-Err.ensures.unchanged changed failed);
     failed = λ failed. (ap (λ (fault : TreeFault). Err fault) (c.in-Err.ensures.failed failed).0, (c.in-Err.ensures.failed failed).1);
     unclosed = c.in-Err.ensures.first;
@@ -25,7 +25,7 @@ returns-in-Ok g c = record {
   closes = record {
     store_is = store_closed {A = Unit {0}} tt c.args.tree (g.F.Store.PageStore.facts c.in-Ok.store) (λ changed. (c.in-Ok.ensures.table changed).0.same) c.in-Ok.ensures.unchanged c.in-Ok.ensures.failed;
     closed = c.in-Ok.ensures.closed;
-    synced = λ changed. (c.in-Ok.ensures.table changed).0.synced;
+    saved = c.in-Ok.ensures.table;
     unchanged = λ changed failed. (refl, c.in-Ok.ensures.unchanged changed failed);
     failed = λ failed. absurd (c.in-Ok.ensures.failed failed);
     unclosed = λ honest. tt;
