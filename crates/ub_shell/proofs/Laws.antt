@@ -1,5 +1,5 @@
 -- The laws of how a command ends, as specs/Laws.antt states them.
-use Rattle.std.proofs.Common.{◌≡◌, ◌≢◌, ◌⊎◌, ◌∙◌, ℕ, Bool, true, false, List, Err, inl, inr, ap, arith, refl, subst, sym}
+use Rattle.std.proofs.Common.{◌≡◌, ◌≢◌, ◌⊎◌, ◌∙◌, ℕ, Bool, true, false, List, Err, inl, inr, ap, arith, length, refl, subst, sym}
 use Rattle.std.proofs.lemmas.Bool.{cases_Bool}
 use Rattle.std.proofs.lemmas.Slice.Eq.{bytes_eq-Decides}
 use Rattle.std.specs.Str.{bytes_eq}
@@ -7,16 +7,16 @@ use Rattle.std.specs.Prelude.{IsOk, IsTrue, Result}
 use Rattle.ub_store.specs.Facts.{StoreFacts, IsHonest}
 use Rattle.ub_store.specs.declared.fault.StoreFault.{StoreFault}
 use Rattle.ub_store.specs.declared.fault.StoreFault.TheVariants as store
-use Rattle.ub_files.specs.Files.{FilesFacts, Held, IsPutBack, IsStored, ReadsFile, absent, bytes, lent_out, pages, standard_input, torn, untold}
+use Rattle.ub_files.specs.Files.{FilesFacts, Held, IsPutBack, IsStored, IsTorn, ReadsFile, absent, bytes, lent_out, pages, torn, untold}
 use Rattle.ub_words.proofs.Laws.{no_help_taken}
 use Rattle.ub_words.specs.CommandLine.{AsksHelpAlone, AsksNext}
-use Rattle.ub_shell.specs.Commands.{IsRunOn, IsUntold}
-use Rattle.ub_shell.proofs.LeftFacts.{run_leaves, run_stays, where_ok}
-use Rattle.ub_shell.specs.Laws.{AskingLeavesTheTable, CheckedTablesAreSound, CheckingLeavesTheTable, DescribingLeavesTheTable, IsClosedTable, IsHeldStill, IsOldTable, IsSoundTable, OnlyHelpIsWritten, UnchangedTablesAreLeft, UpgradedTablesAreTheSame, UpgradingLeavesTheOldTable, WhatWasDoneStands, WrongWordsAreTold}
-use Rattle.ub_shell.specs.Checked.{IsChecked, IsIll}
+use Rattle.ub_shell.specs.Commands.{IsRunOn, IsUnopened, IsUntold, RunsFile, loaded_line}
+use Rattle.ub_shell.proofs.LeftFacts.{full_stays, run_leaves, run_stays, where_ok}
+use Rattle.ub_shell.specs.Laws.{AreBothInput, AskingLeavesTheTable, CheckedTablesAreRunAsSound, CheckedTablesAreSound, CheckingLeavesTheTable, DescribingLeavesTheTable, FullTablesAreLeft, IsClosedTable, IsHeldStill, IsHeldTable, IsOldTable, IsRunOfTable, IsSoundTable, OnlyHelpIsWritten, SoundTablesPass, TellsPassing, UnchangedTablesAreLeft, UpgradedTablesAreTheSame, UpgradingLeavesTheOldTable, WhatWasDoneStands, WrongWordsAreTold, row_count}
+use Rattle.ub_shell.specs.Checked.{ChecksFile, IsChecked, IsIll}
 use Rattle.ub_shell.specs.Described.{IsDescribed, IsUndescribed}
 use Rattle.ub_shell.specs.Ending.{Tells}
-use Rattle.ub_shell.specs.Status.{store_fault_status, tree_fault_status}
+use Rattle.ub_shell.specs.Status.{store_fault_status, store_fault_text, tree_fault_status, tree_fault_text}
 use Rattle.ub_shell.specs.Upgrading.{IsFileAnew, IsMadeAnew, IsRefusedAnew, KeepsAnew}
 use Rattle.ub_shell.specs.declared.status.Status.{Status}
 use Rattle.ub_shell.specs.declared.status.Status.TheVariants.{Done}
@@ -29,6 +29,7 @@ use Rattle.ub_tree.specs.declared.fault.TreeFault.{TreeFault}
 use Rattle.ub_tree.specs.declared.fault.TreeFault.TheVariants as tree
 use Rattle.ub_tree.specs.declared.fault.TreeFault.TheVariants.{Failed}
 use Rattle.ub_tree.specs.Old.{AreOldPages}
+use Rattle.ub_tree.specs.Opened.{IsPassing}
 use Rattle.ub_tree.specs.Placed.{Placed, regions_in}
 use Rattle.ub_tree.specs.Stored.{AreSoundPages}
 use Rattle.ub_table.specs.Region.{Region}
@@ -74,12 +75,13 @@ still lent_out = refl
 still_same : (a b : Held) → b ≡ a → IsHeldStill a b
 still_same a b same = subst (λ (held : Held). IsHeldStill a held) (sym same) (still a)
 
--- reading a text leaves another file
-left_by_reading : {A : Type 0} (path table : List ℕ) (old new : FilesFacts) (r : Result A StoreFault) → table ≢ standard_input → ReadsFile path old new r → new.holds table ≡ old.holds table
+-- reading a text leaves each file but standard input
+left_by_reading : {A : Type 0} (path table : List ℕ) (old new : FilesFacts) (r : Result A StoreFault) → ¬ (AreBothInput table path) → ReadsFile path old new r
+    → new.holds table ≡ old.holds table
 left_by_reading path table old new r other h = elim (cases_Bool (bytes_eq table path)) [
   | inl same ↦
       let is : table ≡ path = (bytes_eq-Decides table path).0 same in
-      ap (λ holds. holds table) (h.kept (λ input. other (is ∙ input)))
+      ap (λ holds. holds table) (h.kept (λ input. other (is ∙ input, input)))
   | inr apart ↦ h.others table (λ is. let same = (bytes_eq-Decides table path).1 is in cc)
 ]
 
@@ -256,19 +258,156 @@ sound_table (bytes text) from schema placed next stored sound = absurd stored
 sound_table torn from schema placed next stored sound = absurd stored
 sound_table lent_out from schema placed next stored sound = absurd stored
 
+-- a store that was checked, with nothing wrong
+well_store : {out out_now : OutFacts} {status : Status} (from left : StoreFacts) → IsHonest from → (well : IsChecked from left out out_now status)
+    → AreSoundPages from.pages well.is.tree.schema well.is.tree.placed well.is.tree.next
+well_store from left honest well =
+    let opened = well.is.tree_is.opened in
+    let there : IsHonest well.is.tree.store = subst (λ (s : StoreFacts). IsHonest s) (sym opened.store_is) honest in
+    (well_pages_are_sound from well.is.tree honest opened (well.is.well there)).0
+
 pub checked_tables_are_sound : CheckedTablesAreSound
 checked_tables_are_sound table old new out out_now honest (inr unopened) =
     absurd (store_not_done unopened.fault (told_done _ _ _ _ unopened.tells))
 checked_tables_are_sound table old new out out_now honest (inl told) = elim told.checks.ended [
   | inl well ↦
       let t = well.is.tree in
-      let opened = well.is.tree_is.opened in
-      let here = told.lent.lent.honest honest in
-      let there : IsHonest t.store = subst (λ (s : StoreFacts). IsHonest s) (sym opened.store_is) here in
-      let sound = (well_pages_are_sound told.store t here opened (well.is.well there)).0 in
+      let sound = well_store told.store told.checks.left (told.lent.lent.honest honest) well in
       sound_table (old.holds table) told.store t.schema t.placed t.next told.lent.stored sound
   | inr ill ↦ absurd (tree_not_done ill.fault (told_done _ _ _ _ ill.tells))
 ]
+
+-- ---- a closed table that is checked
+
+module _ (schema : Schema) (placed : List Placed) (next : ℕ) where
+  -- its pages are those of the store that was lent
+  held_pages : (held : Held) (from : StoreFacts) → IsStored held from → IsHeldTable held schema placed next → AreSoundPages from.pages schema placed next
+  held_pages (pages all) from stored is = subst (λ (ps : List (List ℕ)). AreSoundPages ps schema placed next) (sym stored) is
+  held_pages untold from stored is = absurd is
+  held_pages absent from stored is = absurd is
+  held_pages (bytes text) from stored is = absurd is
+  held_pages torn from stored is = absurd is
+  held_pages lent_out from stored is = absurd is
+
+  -- and those of the store that is put back, no write of which has failed
+  back_pages : (held : Held) (left : StoreFacts) → IsPutBack held left → left.failed_writes ≡ 0 → AreSoundPages left.pages schema placed next → held ≢ untold
+      → IsHeldTable held schema placed next
+  back_pages (pages all) left back well sound told = subst (λ (ps : List (List ℕ)). AreSoundPages ps schema placed next) back sound
+  back_pages untold left back well sound told = absurd (told refl)
+  back_pages torn left back well sound told = absurd (let failed = back.1 in omega arith)
+  back_pages absent left back well sound told = absurd back
+  back_pages (bytes text) left back well sound told = absurd back
+  back_pages lent_out left back well sound told = absurd back
+
+  -- it is a whole number of pages
+  never_torn : (held : Held) → IsHeldTable held schema placed next → IsTorn held → ⊥
+  never_torn (pages all) is bad = bad
+  never_torn untold is bad = is
+  never_torn torn is bad = is
+  never_torn absent is bad = is
+  never_torn (bytes text) is bad = is
+  never_torn lent_out is bad = is
+
+  -- so it isn't opened only where the device failed
+  device_alone : {out out_now : OutFacts} {status : Status} (table : List ℕ) (old new : FilesFacts) → IsHeldTable (old.holds table) schema placed next
+      → (unopened : IsUnopened table old new out out_now status) → unopened.fault ≡ store.Device
+  device_alone table old new held unopened = elim unopened.is [
+    | inl device ↦ device
+    | inr size ↦ absurd (never_torn (old.holds table) held size.1)
+  ]
+
+passing_told : (out out_now : OutFacts) (status : Status) (fault : TreeFault) → IsPassing fault → Tells out out_now (tree_fault_text fault) (tree_fault_status fault) status
+    → TellsPassing out out_now status
+passing_told out out_now status fault (inl memory) told = inr (subst (λ (f : TreeFault). Tells out out_now (tree_fault_text f) (tree_fault_status f) status) memory told)
+passing_told out out_now status fault (inr device) told = inl (subst (λ (f : TreeFault). Tells out out_now (tree_fault_text f) (tree_fault_status f) status) device told)
+
+store_passing_told : (out out_now : OutFacts) (status : Status) (fault : StoreFault) → (fault ≡ store.Device) ⊎ (fault ≡ store.Memory)
+    → Tells out out_now (store_fault_text fault) (store_fault_status fault) status → TellsPassing out out_now status
+store_passing_told out out_now status fault (inl device) told = inl (subst (λ (f : StoreFault). Tells out out_now (store_fault_text f) (store_fault_status f) status) device told)
+store_passing_told out out_now status fault (inr memory) told = inr (subst (λ (f : StoreFault). Tells out out_now (store_fault_text f) (store_fault_status f) status) memory told)
+
+-- what is told of it
+same_line : (out out_now : OutFacts) (status : Status) (rows regions some others : ℕ) → rows ≡ some → regions ≡ others → Tells out out_now (loaded_line rows regions) Done status
+    → Tells out out_now (loaded_line some others) Done status
+same_line out out_now status rows regions some others is are told =
+    subst (λ (n : ℕ). Tells out out_now (loaded_line some n) Done status) are (subst (λ (n : ℕ). Tells out out_now (loaded_line n regions) Done status) is told)
+
+pub sound_tables_pass : SoundTablesPass
+sound_tables_pass table old new out out_now status schema placed next honest held (inr unopened) =
+    let device = device_alone schema placed next table old new held unopened in
+    inr (store_passing_told out out_now status unopened.fault (inl device) unopened.tells)
+sound_tables_pass table old new out out_now status schema placed next honest held (inl told) =
+    let from_honest = told.lent.lent.honest honest in
+    let here = held_pages schema placed next (old.holds table) told.store told.lent.stored held in
+    elim told.checks.ended [
+      | inl well ↦
+          let (sound, of_schema, of_placed, of_next) = well.is.tree_is.sound schema placed next from_honest here in
+          let rows = well.is.rows_are ∙ sound.rows_are ∙ ap (λ (p : List Placed). row_count p) of_placed in
+          let regions = well.is.regions_are ∙ sound.count_is ∙ ap (λ (p : List Placed). length p) of_placed in
+          inl (same_line out out_now status well.rows well.regions _ _ rows regions well.tells)
+      | inr ill ↦ inr (passing_told out out_now status ill.fault (ill.passing schema placed next from_honest here) ill.tells)
+    ]
+
+-- ---- a script that is run on a table that was checked
+
+-- what the path holds then is a closed table
+checked_held : (table : List ℕ) (old new : FilesFacts) (out out_now : OutFacts) → IsTrue old.honest → ChecksFile table old new out out_now Done → new.holds table ≢ untold
+    → (schema : Schema) × (placed : List Placed) × (next : ℕ) × IsHeldTable (new.holds table) schema placed next
+checked_held table old new out out_now honest (inr unopened) told = absurd (store_not_done unopened.fault (told_done _ _ _ _ unopened.tells))
+checked_held table old new out out_now honest (inl check) told = elim check.checks.ended [
+  | inl well ↦
+      let t = well.is.tree in
+      let sound = well_store check.store check.checks.left (check.lent.lent.honest honest) well in
+      let there = subst (λ (s : StoreFacts). AreSoundPages s.pages t.schema t.placed t.next) (sym well.left_is) sound in
+      let unfailed = ap (λ (s : StoreFacts). s.failed_writes) well.left_is ∙ check.lent.lent.unfailed in
+      (t.schema, t.placed, t.next, back_pages t.schema t.placed t.next (new.holds table) check.checks.left check.checks.back.held unfailed there told)
+  | inr ill ↦ absurd (tree_not_done ill.fault (told_done _ _ _ _ ill.tells))
+]
+
+run_of_table : (table script : List ℕ) (schema : Schema) (placed : List Placed) (next : ℕ) (old new : FilesFacts) (out out_now : OutFacts) (status : Status)
+    → IsTrue old.honest → IsHeldTable (old.holds table) schema placed next → ¬ (AreBothInput table script) → RunsFile table script old new out out_now status
+    → IsRunOfTable table script schema placed next old new out out_now status ⊎ TellsPassing out out_now status
+run_of_table table script schema placed next old new out out_now status honest held apart (inr unread) =
+    inr (store_passing_told out out_now status unread.fault unread.is unread.tells)
+run_of_table table script schema placed next old new out out_now status honest held apart (inl run) =
+    let mid = left_by_reading script table old run.mid _ apart run.read.reads in
+    let there = subst (λ (h : Held). IsHeldTable h schema placed next) (sym mid) held in
+    let mid_honest : IsTrue run.mid.honest = rw (ap (λ (f : FilesFacts). f.honest) run.read.reads.same) honest in
+    elim run.ran [
+      | inl asked ↦
+          let from_honest = asked.lent.lent.honest mid_honest in
+          let here = held_pages schema placed next (run.mid.holds table) asked.store asked.lent.stored there in
+          elim asked.asks.asked [
+            | inl ran ↦
+                let (sound, of_schema, of_placed, of_next) = ran.tree_is.sound schema placed next from_honest here in
+                inl (record {
+                  asked = run.asked;
+                  mid = run.mid;
+                  store = asked.store;
+                  left = asked.asks.left;
+                  read = run.read;
+                  lent = asked.lent;
+                  honest = from_honest;
+                  pages_are = here;
+                  back = asked.asks.back;
+                  run = ran;
+                  sound = sound;
+                  schema_is = of_schema;
+                  placed_is = of_placed;
+                  next_is = of_next;
+                })
+            | inr none ↦ inr (passing_told out out_now status none.fault (none.passing schema placed next from_honest here) none.tells)
+          ]
+      | inr unopened ↦
+          let device = device_alone schema placed next table run.mid new there unopened in
+          inr (store_passing_told out out_now status unopened.fault (inl device) unopened.tells)
+    ]
+
+pub checked_tables_are_run_as_sound : CheckedTablesAreRunAsSound
+checked_tables_are_run_as_sound table script old mid later new out out_mid out_later out_now status honest check later_honest same told apart run =
+    let (schema, placed, next, held) = checked_held table old mid out out_mid honest check (λ none. told (same ∙ none)) in
+    let there = subst (λ (h : Held). IsHeldTable h schema placed next) (sym same) held in
+    (schema, placed, next, there, run_of_table table script schema placed next later new out_later out_now status later_honest there apart run)
 
 -- ---- a table on which a script was run
 
@@ -290,3 +429,8 @@ pub unchanged_tables_are_left : UnchangedTablesAreLeft
 unchanged_tables_are_left store left script out out_now status run done =
     let ran = run.ran in
     run_stays store left run.tree ran.now script ran.result ran.closing out ran.mid run.tree_is.opened ran.closes ran.ran done
+
+pub full_tables_are_left : FullTablesAreLeft
+full_tables_are_left store left script out out_now status run full =
+    let ran = run.ran in
+    full_stays store left run.tree ran.now script ran.result ran.closing out ran.mid run.tree_is.opened ran.closes ran.ran full

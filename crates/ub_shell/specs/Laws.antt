@@ -1,14 +1,15 @@
 -- The laws of how a command ends. Each is what the function of its name in `law` ensures, and is proved in proofs/Laws.antt.
-use Rattle.std.specs.Prelude.{◌≡◌, ◌≢◌, ◌⊎◌, ℕ, false, List, Result, Ok, Err, IsOk, IsTrue}
+use Rattle.std.specs.Prelude.{◌≡◌, ◌≢◌, ◌⊎◌, ◌++◌, ℕ, true, false, List, [], ◌∷◌, Result, Ok, Err, IsOk, IsTrue, codes, length}
+use Rattle.std.specs.List.{flat_map}
 use Rattle.ub_exec.specs.Stand.{Stand, IsStandOf}
 use Rattle.ub_words.specs.CommandLine.{AsksHelp, AsksHelpAlone, AsksNothing}
 use Rattle.ub_script.specs.Basis.{Basis, on_stand, over_any}
-use Rattle.ub_script.specs.Output.{OutFacts, HasTaken}
+use Rattle.ub_script.specs.Output.{OutFacts, HasTaken, IsFrontOf}
 use Rattle.ub_script.specs.Run.{EndedOver, FirstOver, summary_of}
 use Rattle.ub_script.specs.Script.{OnlyAsks}
 use Rattle.ub_script.specs.Text.{Reply, changed_by, texts_of}
 use Rattle.ub_script.specs.declared.fault.RunFault.{RunFault}
-use Rattle.ub_script.specs.declared.fault.RunFault.TheVariants.{Memory, Write}
+use Rattle.ub_script.specs.declared.fault.RunFault.TheVariants.{Memory, Tree, Write}
 use Rattle.ub_script.specs.declared.script.Summary.{Summary}
 use Rattle.ub_store.specs.Facts.{StoreFacts, IsHonest}
 use Rattle.ub_table.specs.declared.schema.Schema.{Schema}
@@ -16,13 +17,17 @@ use Rattle.ub_table.specs.Region.{Region}
 use Rattle.ub_tree.specs.Old.{AreOldPages}
 use Rattle.ub_tree.specs.Placed.{Placed, regions_in}
 use Rattle.ub_tree.specs.Stored.{AreSoundPages}
-use Rattle.ub_files.specs.Files.{FilesFacts, Held, IsText, pages, standard_input, untold}
-use Rattle.ub_shell.specs.Commands.{IsRunOn, RunsFile}
+use Rattle.ub_tree.specs.View.{IsSound}
+use Rattle.ub_tree.specs.declared.fault.TreeFault.TheVariants.{Full}
+use Rattle.ub_files.specs.Files.{FilesFacts, Held, IsLent, IsText, Returns, pages, standard_input, untold}
+use Rattle.ub_shell.specs.Commands.{HasRead, IsRunOn, RunsFile, loaded_line}
 use Rattle.ub_shell.specs.Checked.{ChecksFile}
 use Rattle.ub_shell.specs.Described.{DescribesFile}
+use Rattle.ub_shell.specs.Ending.{Tells}
 use Rattle.ub_shell.specs.Ran.{HasEnded, HasHelped, HasNoMemory, HasRefused}
 use Rattle.ub_shell.specs.Upgrading.{UpgradesFile}
 use Rattle.ub_shell.specs.declared.status.Status.{Status}
+use Rattle.ub_shell.specs.declared.status.Status.TheVariants as ended
 use Rattle.ub_shell.specs.declared.status.Status.TheVariants.{Done}
 
 -- where the words ask for the help alone, only the help is written; or memory was refused
@@ -45,9 +50,13 @@ IsHeldStill held now = now ≡ held
 abbrev pub IsOnlyAsking : Held → Type 0
 IsOnlyAsking held = (script : List ℕ) (schema : Schema) → IsText held script → OnlyAsks schema script
 
+-- both paths are that of standard input, which its reading as a script uses up
+abbrev pub AreBothInput : List ℕ → List ℕ → Type 0
+AreBothInput table script = (table ≡ standard_input) × (script ≡ standard_input)
+
 -- a table file on which a script was run that only asks is as it was, page for page, whatever it is and however the run has ended
 abbrev pub AskingLeavesTheTable : Type 0
-AskingLeavesTheTable = (table script : List ℕ) (old new : FilesFacts) (out out_now : OutFacts) (status : Status) → table ≢ standard_input
+AskingLeavesTheTable = (table script : List ℕ) (old new : FilesFacts) (out out_now : OutFacts) (status : Status) → ¬ (AreBothInput table script)
     → IsOnlyAsking (old.holds script) → RunsFile table script old new out out_now status → IsHeldStill (old.holds table) (new.holds table)
 
 -- a table file that was described is as it was, page for page, whatever it is and however that has ended
@@ -82,6 +91,55 @@ abbrev pub CheckedTablesAreSound : Type 0
 CheckedTablesAreSound = (table : List ℕ) (old new : FilesFacts) (out out_now : OutFacts) → IsTrue old.honest
     → ChecksFile table old new out out_now Done → IsSoundTable (old.holds table)
 
+-- what a path holds is the pages of a closed table of this schema, with these regions and this next number
+abbrev pub IsHeldTable : Held → Schema → List Placed → ℕ → Type 0
+IsHeldTable (pages all) schema placed next = AreSoundPages all schema placed next
+IsHeldTable _ schema placed next = ⊥
+
+-- how many rows these regions have
+abbrev pub row_count : List Placed → ℕ
+row_count placed = length (flat_map (λ region. region.rows) (regions_in placed))
+
+-- a file failed, or memory was refused, and that was told
+abbrev pub TellsPassing : OutFacts → OutFacts → Status → Type 0
+TellsPassing out out_now status = Tells out out_now (codes "! Device\n") ended.Device status ⊎ Tells out out_now (codes "! Memory\n") ended.Memory status
+
+-- a closed table that is checked is found well, and it is told how many rows and regions it has; unless its file failed or memory was refused
+abbrev pub SoundTablesPass : Type 0
+SoundTablesPass =
+    (table : List ℕ) (old new : FilesFacts) (out out_now : OutFacts) (status : Status) (schema : Schema) (placed : List Placed) (next : ℕ)
+    → IsTrue old.honest → IsHeldTable (old.holds table) schema placed next → ChecksFile table old new out out_now status
+    → Tells out out_now (loaded_line (row_count placed) (length placed)) Done status ⊎ TellsPassing out out_now status
+
+-- the script of a file was read, and run on the store in the table file, which is honest and holds the pages of this closed table; its
+-- tree is sound, and that of this table
+pub record IsRunOfTable (table script : List ℕ) (schema : Schema) (placed : List Placed) (next : ℕ) (old new : FilesFacts) (out out_now : OutFacts) (status : Status) : Type 0 where
+  pub asked : List ℕ
+  pub mid : FilesFacts
+  pub store : StoreFacts
+  pub left : StoreFacts
+  pub read : HasRead script asked old mid
+  pub lent : IsLent mid table store
+  pub honest : IsHonest store
+  pub pages_are : AreSoundPages store.pages schema placed next
+  pub back : Returns table mid new left
+  pub run : IsRunOn store asked left out out_now status
+  pub sound : IsSound run.tree
+  pub schema_is : run.tree.schema ≡ schema
+  pub placed_is : run.tree.placed ≡ placed
+  pub next_is : run.tree.next ≡ next
+
+-- where a table file was checked, with nothing wrong, and holds still what it did then, it is a closed table, and each script that is run
+-- on it is run on this table, by a sound tree; unless a file failed or memory was refused, which is told
+abbrev pub CheckedTablesAreRunAsSound : Type 0
+CheckedTablesAreRunAsSound =
+    (table script : List ℕ) (old mid later new : FilesFacts) (out out_mid out_later out_now : OutFacts) (status : Status)
+    → IsTrue old.honest → ChecksFile table old mid out out_mid Done
+    → IsTrue later.honest → later.holds table ≡ mid.holds table → later.holds table ≢ untold → ¬ (AreBothInput table script)
+    → RunsFile table script later new out_later out_now status
+    → (schema : Schema) × (placed : List Placed) × (next : ℕ) × IsHeldTable (later.holds table) schema placed next
+    × (IsRunOfTable table script schema placed next later new out_later out_now status ⊎ TellsPassing out_later out_now status)
+
 -- what a path holds is the pages of a closed table of this older version
 abbrev pub IsOldTable : Held → ℕ → Schema → List Placed → ℕ → Type 0
 IsOldTable (pages all) version schema placed next = AreOldPages version all schema placed next
@@ -95,21 +153,26 @@ UpgradedTablesAreTheSame =
     → IsTrue old.honest → IsOldTable (old.holds source) version schema placed next → UpgradesFile source table old new out out_now Done
     → IsClosedTable (new.holds table) schema (regions_in placed) next
 
--- a fault ended a statement of a script after the first ones, and the table that stood there is left so; or memory was refused before
--- them all
-abbrev pub HasStopped : List ℕ → RunFault → Stand → Stand → Type 0
-HasStopped script fault s now =
-    ((fault ≡ Memory) × (now ≡ s))
-    ⊎ ((replies : List Reply) × (left : ℕ) × (pages : ℕ) × EndedOver (on_stand s) script fault replies left pages (on_stand now))
+-- a fault ended a statement of a script after the first ones, whose texts were written, and the table that stood there is left so; or
+-- memory was refused before them all
+abbrev pub HasStopped : List ℕ → RunFault → Stand → Stand → OutFacts → OutFacts → Type 0
+HasStopped script fault s now out out_now =
+    ((fault ≡ Memory) × (now ≡ s) × (out_now ≡ out))
+    ⊎ ((replies : List Reply) × (left : ℕ) × (pages : ℕ) × EndedOver (on_stand s) script fault replies left pages (on_stand now)
+    × HasTaken (texts_of replies) false out out_now)
 
 -- a script that was run with this result leaves a table so that stood there: all statements were done where it was run to its end;
--- where a write failed the first ones, the last of which is the one whose text wasn't all written; else those before the one that a
--- fault ended, and what that one did
-abbrev pub HasLeft : List ℕ → Result Summary RunFault → Stand → Stand → Type 0
-HasLeft script (Ok summary) s now =
+-- where a write failed those whose texts were written, and the next one, of whose text a front was, not all of it; else those before
+-- the one that a fault ended, and what that one did
+abbrev pub HasLeft : List ℕ → Result Summary RunFault → Stand → Stand → OutFacts → OutFacts → Type 0
+HasLeft script (Ok summary) s now out out_now =
     (replies : List Reply) × FirstOver (on_stand s) script replies 0 (on_stand now) × (summary ≡ summary_of replies)
-HasLeft script (Err Write) s now = (replies : List Reply) × (left : ℕ) × FirstOver (on_stand s) script replies left (on_stand now)
-HasLeft script (Err fault) s now = HasStopped script fault s now
+    × HasTaken (texts_of replies) false out out_now
+HasLeft script (Err Write) s now out out_now =
+    (replies : List Reply) × (next : Reply) × (left : ℕ) × (front : List ℕ)
+    × FirstOver (on_stand s) script (replies ++ next ∷ []) left (on_stand now) × IsFrontOf front next.text
+    × HasTaken (texts_of replies ++ front) true out out_now
+HasLeft script (Err fault) s now out out_now = HasStopped script fault s now out out_now
 
 -- where a script was run on a closed table, and the closing after it wasn't refused, a closed table is left, which stands where the
 -- script's statements left it, also after a fault of the run
@@ -118,7 +181,7 @@ WhatWasDoneStands =
     (store left : StoreFacts) (schema : Schema) (placed : List Placed) (next : ℕ) (script : List ℕ) (out out_now : OutFacts) (status : Status)
     → IsHonest store → AreSoundPages store.pages schema placed next → (run : IsRunOn store script left out out_now status)
     → IsOk run.ran.closing
-    → (s : Stand) × (now : Stand) × IsStandOf run.tree s × HasLeft script run.ran.result s now × IsStandOf run.ran.now now
+    → (s : Stand) × (now : Stand) × IsStandOf run.tree s × HasLeft script run.ran.result s now out run.ran.mid × IsStandOf run.ran.now now
     × IsHonest left × AreSoundPages left.pages run.ran.now.schema run.ran.now.placed run.ran.now.next
 
 -- a script that was run to its end on the tree of any store has replies, whose texts were written; where these put in no row and take
@@ -128,4 +191,13 @@ UnchangedTablesAreLeft =
     (store left : StoreFacts) (script : List ℕ) (out out_now : OutFacts) (status : Status) (run : IsRunOn store script left out out_now status)
     → IsOk run.ran.result
     → (replies : List Reply) × (now : Basis) × FirstOver (over_any run.tree) script replies 0 now
+    × HasTaken (texts_of replies) false out run.ran.mid × (changed_by replies ≡ 0 → left ≡ store)
+
+-- so is it where the run has ended at an INSERT that found no number left, or no room in the index, after such replies
+abbrev pub FullTablesAreLeft : Type 0
+FullTablesAreLeft =
+    (store left : StoreFacts) (script : List ℕ) (out out_now : OutFacts) (status : Status) (run : IsRunOn store script left out out_now status)
+    → run.ran.result ≡ Err (Tree Full)
+    → (replies : List Reply) × (rest : ℕ) × (pages : ℕ) × (now : Basis)
+    × EndedOver (over_any run.tree) script (Tree Full) replies rest pages now
     × HasTaken (texts_of replies) false out run.ran.mid × (changed_by replies ≡ 0 → left ≡ store)

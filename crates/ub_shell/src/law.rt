@@ -1,4 +1,4 @@
-ghost use Rattle.ub_shell.specs.Laws.{AskingLeavesTheTable, CheckedTablesAreSound, CheckingLeavesTheTable, DescribingLeavesTheTable, OnlyHelpIsWritten, UnchangedTablesAreLeft, UpgradedTablesAreTheSame, UpgradingLeavesTheOldTable, WhatWasDoneStands, WrongWordsAreTold};
+ghost use Rattle.ub_shell.specs.Laws.{AskingLeavesTheTable, CheckedTablesAreRunAsSound, CheckedTablesAreSound, CheckingLeavesTheTable, DescribingLeavesTheTable, FullTablesAreLeft, OnlyHelpIsWritten, SoundTablesPass, UnchangedTablesAreLeft, UpgradedTablesAreTheSame, UpgradingLeavesTheOldTable, WhatWasDoneStands, WrongWordsAreTold};
 
 // Each function here does nothing, and its clause is a law of the definitions in specs/.
 
@@ -33,6 +33,18 @@ pub fn checked_tables_are_sound()
     ensures { CheckedTablesAreSound }
 {}
 
+/// A closed table that is checked is found well, and it is told how many rows and regions it has; unless its file failed or memory
+/// was refused.
+pub fn sound_tables_pass()
+    ensures { SoundTablesPass }
+{}
+
+/// Where a table file was checked, with nothing wrong, and holds still what it did then, it is a closed table, and each script that
+/// is run on it is run on this table, by a sound tree; unless a file failed or memory was refused, which is told.
+pub fn checked_tables_are_run_as_sound()
+    ensures { CheckedTablesAreRunAsSound }
+{}
+
 /// A table file of an older version is as it was, page for page, whatever it is and however making it anew at another path has
 /// ended.
 pub fn upgrading_leaves_the_old_table()
@@ -55,4 +67,9 @@ pub fn what_was_done_stands()
 /// were.
 pub fn unchanged_tables_are_left()
     ensures { UnchangedTablesAreLeft }
+{}
+
+/// So does one that ended at an INSERT which found no number left, or no room in the index, after such replies.
+pub fn full_tables_are_left()
+    ensures { FullTablesAreLeft }
 {}
