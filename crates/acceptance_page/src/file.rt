@@ -1,15 +1,15 @@
 // The store on a medium in memory and on a file of the system, by hand values.
 
 ghost use Rattle.std.specs.Prelude.{◌≡◌, ◌<◌, IfOk};
-ghost use Rattle.ub_store.specs.Facts.{IsHonest, raised};
+ghost use Rattle.ub_store.specs.Facts.{IsHonest};
 
 use crate::calls::{Answer, Call, Made, answers, byte_of, made_answers};
 use std::alloc::{Alloc, Global};
 use std::os::unix::fs::FileExt;
 use std::rt::Files;
-use std::{fs, process};
+use std::{fs, io, process};
 use ub_file::host::{create_store, open_store};
-use ub_file::{FileStore, Medium, MemMedium};
+use ub_file::{FileStore, HostFile, Medium, MemMedium, Opened, RawFile};
 use ub_store::{Page, PageStore, StoreFault};
 
 // A medium of so many pages that are full of one byte and bytes after them, that fails at its k-th
@@ -23,58 +23,41 @@ fn medium(alloc: Global, pages: u16, byte: u8, rest: u16, k: u64) -> Result<MemM
     }
 }
 
-// A medium of so many bytes that can't be had: all its other calls fail.
+// A file whose bytes can't be had: it refuses each call.
 #[derive(Drop)]
-struct Measured {
-    bytes: u64,
-    reads: u64,
-    writes: u64,
+struct Refusing;
+
+// What it answers.
+fn refused() -> io::Result<()> {
+    Err(io::Error::from(io::ErrorKind::Unsupported))
 }
 
-impl Measured {
-    fn failed_write(&mut self) -> StoreFault
-        ensures counted { self.new ≡ record self.old { writes = raised self.old.writes 1 } }
-        ensures fault { result ≡ StoreFault.Device }
-    {
-        self.writes = self.writes.saturating_add(1);
-        StoreFault::Device
-    }
-}
+impl RawFile for Refusing {
+    ghost use Rattle.std.specs.Prelude.{[], false};
 
-#[tactic(auto, using(ub_file::proofs::HostFacts::length_unknown))]
-impl Medium for Measured {
-    ghost use Rattle.std.specs.Prelude.{◌%◌, false};
-    ghost use Rattle.ub_file.specs.Host.{host_facts};
+    ghost facts = { λ _. record {
+      honest = false;
+      bytes = [];
+      synced = [];
+      changes = 0;
+      failed_reads = 0;
+      failed_writes = 0;
+    } };
 
-    ghost facts = { λ m. host_facts m.bytes m.bytes m.reads m.writes };
-
-    ghost rest = { λ m. m.bytes % 4096 };
-
-    ghost needs_memory = { false };
-
-    fn length(&self) -> u64 {
-        self.bytes
+    fn read_exact_at(&mut self, _: &mut [u8], _: u64) -> io::Result<()> {
+        refused()
     }
 
-    fn read_into(&mut self, _: u32, _: &mut Page) -> Result<(), StoreFault> {
-        self.reads = self.reads.saturating_add(1);
-        Err(StoreFault::Device)
+    fn write_all_at(&mut self, _: &[u8], _: u64) -> io::Result<()> {
+        refused()
     }
 
-    fn write_page(&mut self, _: u32, _: &Page) -> Result<(), StoreFault> {
-        Err(self.failed_write())
+    fn set_len(&mut self, _: u64) -> io::Result<()> {
+        refused()
     }
 
-    fn grow(&mut self) -> Result<(), StoreFault> {
-        Err(self.failed_write())
-    }
-
-    fn empty(&mut self) -> Result<(), StoreFault> {
-        Err(self.failed_write())
-    }
-
-    fn sync(&mut self) -> Result<(), StoreFault> {
-        Err(self.failed_write())
+    fn sync_all(&mut self) -> io::Result<()> {
+        refused()
     }
 }
 
@@ -95,12 +78,7 @@ const LENGTHS: &[(u64, bool)] = &[
 
 // Whether a medium of so many bytes is a store.
 fn is_store(bytes: u64) -> bool {
-    let medium = Measured {
-        bytes,
-        reads: 0,
-        writes: 0,
-    };
-    FileStore::open(medium).is_ok()
+    FileStore::open(HostFile::new(Refusing, bytes, Opened::Found)).is_ok()
 }
 
 #[test]

@@ -10,6 +10,8 @@ mod calls;
 #[cfg(test)]
 mod file;
 #[cfg(test)]
+mod file_fake;
+#[cfg(test)]
 mod old_headers;
 #[cfg(test)]
 mod page;

@@ -60,7 +60,7 @@ with_with (suc n) zero (b ∷ bytes) less = absurd (omega arith)
 with_with (suc n) (suc m) [] less = ap (λ bs. 0 ∷ bs) (with_with n m [] (omega arith))
 with_with (suc n) (suc m) (b ∷ bytes) less = ap (λ bs. b ∷ bs) (with_with n m bytes (omega arith))
 
-drop_with : (c n : ℕ) (bytes : List ℕ) → drop c (with_length n bytes) ≡ with_length (n - c) (drop c bytes)
+pub drop_with : (c n : ℕ) (bytes : List ℕ) → drop c (with_length n bytes) ≡ with_length (n - c) (drop c bytes)
 unfolding with_length
 drop_with zero n bytes = let same : n ≡ n - zero = omega arith in ap (λ k. with_length k bytes) same
 drop_with (suc c) zero bytes = let none : zero ≡ zero - suc c = omega arith in ap (λ k. with_length k (drop (suc c) bytes)) none
