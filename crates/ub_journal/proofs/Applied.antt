@@ -6,7 +6,8 @@ use Rattle.std.proofs.lemmas.Option.{slice_get_past, slice_get_within, slice_get
 use Rattle.ub_journal.specs.Image.{Journal, Fits, HasBack, IsComplete, IsUntouched, applied, put_all, resized}
 use Rattle.ub_store.specs.Facts.{zero_page}
 use Rattle.ub_journal.specs.declared.journal.Change.{Change}
-use Rattle.ub_journal.proofs.Lists.{get_set_both, get_set_other, get_resized, length_resized, set_first}
+use Rattle.ub_journal.specs.inner.TornClock.{get_set_other, get_resized}
+use Rattle.ub_journal.proofs.Lists.{get_set_both, length_resized, set_first}
 
 pub length_put_all : (cs : List Change) (t : List (List ℕ)) → length (put_all cs t) ≡ length t
 length_put_all [] t = refl

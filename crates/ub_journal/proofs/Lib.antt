@@ -5,3 +5,4 @@ pub mod Way
 pub mod Settling
 pub mod Marking
 pub mod Runs
+pub mod TornFacts

@@ -1,5 +1,5 @@
 -- Elements of lists that were put, cut and made longer.
-use Rattle.std.proofs.Common.{◌≡◌, ◌≢◌, ◌<◌, ◌++◌, ◌∷◌, [], ◌∙◌, ℕ, zero, suc, List, Some, length, take, replicate, slice_get, slice_set, ap, arith, refl, length-append, length-take}
+use Rattle.std.proofs.Common.{◌≡◌, ◌≢◌, ◌<◌, ◌++◌, ◌∷◌, [], ℕ, zero, suc, List, Some, length, take, replicate, slice_get, slice_set, ap, arith, refl, length-append, length-take}
 use Rattle.std.proofs.lemmas.List.{length-replicate}
 
 pub same_all : {X : Type 0} (xs ys : List X) → ((m : ℕ) → slice_get xs m ≡ slice_get ys m) → xs ≡ ys
@@ -17,13 +17,6 @@ get_set_same [] n x h = absurd (omega arith)
 get_set_same (y ∷ xs) zero x h = refl
 get_set_same (y ∷ xs) (suc n) x h = get_set_same xs n x (omega arith)
 
-pub get_set_other : {X : Type 0} (xs : List X) (n m : ℕ) (x : X) → m ≢ n → slice_get (slice_set xs n x) m ≡ slice_get xs m
-get_set_other [] n m x h = refl
-get_set_other (y ∷ xs) zero zero x h = absurd (h refl)
-get_set_other (y ∷ xs) zero (suc m) x h = refl
-get_set_other (y ∷ xs) (suc n) zero x h = refl
-get_set_other (y ∷ xs) (suc n) (suc m) x h = get_set_other xs n m x (λ e. h (ap suc e))
-
 -- where a page is put, lists of one length are equal
 pub get_set_both : {X : Type 0} (xs ys : List X) (n : ℕ) (x : X) → length xs ≡ length ys → slice_get (slice_set xs n x) n ≡ slice_get (slice_set ys n x) n
 get_set_both [] [] n x l = refl
@@ -38,20 +31,6 @@ set_first [] [] x l h = refl
 set_first [] (y ∷ ys) x l h = absurd (omega arith)
 set_first (y ∷ xs) [] x l h = absurd (omega arith)
 set_first (y ∷ xs) (z ∷ ys) x l h = ap (λ zs. x ∷ zs) (same_all xs ys (λ m. h (suc m) (λ e. cc)))
-
-get_take : {X : Type 0} (k m : ℕ) (xs : List X) → m < k → slice_get (take k xs) m ≡ slice_get xs m
-get_take zero m xs h = absurd (omega arith)
-get_take (suc k) m [] h = refl
-get_take (suc k) zero (x ∷ xs) h = refl
-get_take (suc k) (suc m) (x ∷ xs) h = get_take k m xs (omega arith)
-
-get_append : {X : Type 0} (xs ys : List X) (m : ℕ) → m < length xs → slice_get (xs ++ ys) m ≡ slice_get xs m
-get_append [] ys m h = absurd (omega arith)
-get_append (x ∷ xs) ys zero h = refl
-get_append (x ∷ xs) ys (suc m) h = get_append xs ys m (omega arith)
-
-pub get_resized : {X : Type 0} (k m : ℕ) (xs : List X) (z : X) → m < k → m < length xs → slice_get (take k (xs ++ replicate k z)) m ≡ slice_get xs m
-get_resized k m xs z in_k in_xs = get_take k m (xs ++ replicate k z) in_k ∙ get_append xs (replicate k z) m in_xs
 
 pub length_resized : {X : Type 0} (k : ℕ) (xs : List X) (z : X) → length (take k (xs ++ replicate k z)) ≡ k
 length_resized k xs z = omega (arith, length-take k (xs ++ replicate k z), length-append xs (replicate k z), length-replicate k z)

@@ -4,7 +4,7 @@ use Rattle.ub_store.specs.Facts.{zero_page}
 use Rattle.ub_journal.specs.Image.{Image, Journal, Fits, HasFront, IsAlone, Recovers, applied, first_page, marked}
 use Rattle.ub_journal.specs.Crash.{TearsMark}
 use Rattle.ub_journal.specs.Place.{SameTable}
-use Rattle.ub_journal.proofs.Lists.{get_set_other}
+use Rattle.ub_journal.specs.inner.TornClock.{get_set_other}
 use Rattle.ub_journal.proofs.Settling.{but_first_back}
 use Rattle.ub_journal.proofs.Way.{stands_by, way_begins, way_marks, way_stands}
 

@@ -5,7 +5,8 @@ use Rattle.std.proofs.lemmas.Option.{slice_get_past}
 use Rattle.ub_journal.specs.Image.{Image, Journal, Fits, HasBack, Recovers, applied, put_all, resized}
 use Rattle.ub_journal.specs.Crash.{Removes, TearsPage}
 use Rattle.ub_journal.proofs.Applied.{applied_agree, complete_too, length_put_all, length_sized}
-use Rattle.ub_journal.proofs.Lists.{get_set_other, get_set_same, same_all}
+use Rattle.ub_journal.specs.inner.TornClock.{get_set_other}
+use Rattle.ub_journal.proofs.Lists.{get_set_same, same_all}
 use Rattle.ub_journal.proofs.Way.{stands_by}
 
 -- a journal stands beside these pages, with no bytes after them

@@ -7,7 +7,7 @@ use Rattle.ub_journal.specs.Image.{Image, Journal, Fits, HasFront, IsUntouched, 
 use Rattle.ub_journal.specs.Crash.{Resizes, TearsMark, TearsPage}
 use Rattle.ub_journal.specs.inner.Way.{IsOnTheWay, KeepsFirst, Puts}
 use Rattle.ub_journal.proofs.Applied.{applied_agree, complete_too}
-use Rattle.ub_journal.proofs.Lists.{get_set_other}
+use Rattle.ub_journal.specs.inner.TornClock.{get_set_other}
 
 -- a journal that fits stands for what it makes of the table
 pub stands_by : (j : Journal) (c : Image) (pages : List (List ℕ)) → c.journal ≡ Some j → Fits j c.table c.rest → applied j c.table ≡ pages → Stands c pages 0

@@ -1,4 +1,5 @@
 pub mod Crash
 pub mod Image
 pub mod Place
+pub mod Torn
 pub mod inner

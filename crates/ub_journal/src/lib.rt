@@ -46,7 +46,9 @@
 mod committing;
 mod journal;
 mod place;
+mod torn;
 
 pub use committing::{commit, finish, heal};
 pub use journal::{Change, Journal};
 pub use place::{Failed, Place};
+pub use torn::{Deed, TornPlace};
