@@ -1,0 +1,342 @@
+// Each table of 1 to 3 pages, changed into each of 1 to 4 pages, with bytes after its last page and without: all that a crash may leave
+// after each call is looked at, and healed, with a crash after each call of that, which is healed in turn. The numbers were worked out
+// by another program, which has the calls in their order written out.
+
+ghost use Rattle.std.specs.Prelude.{◌≡◌, IfOk};
+ghost use Rattle.ub_journal.specs.Place.{IsHonest};
+
+use crate::disk::{Case, Disk, NONE, TORN, WHOLE};
+use crate::pages::{BACK_NEW, FRONT_NEW, GARBAGE, MARKED, MISMARKED, NEW, OLD, ZEROS, page_of};
+use std::alloc::{AllocError, Global};
+use std::test::Fail;
+use ub_journal::{Change, Deed, Journal, Place, TornPlace, commit, heal};
+use ub_store::Page;
+
+// What was seen so far: how many images, and how many of them were healed.
+#[derive(Clone, Copy, PartialEq, Eq, Debug)]
+struct Tally {
+    images: u64,
+    healed: u64,
+}
+
+// The journal of a case.
+fn journal_of(alloc: Global, case: &Case) -> Result<Journal, AllocError> {
+    let mut changes = Vec::new(alloc);
+    for n in 1..4 {
+        if case.changes(n) {
+            changes.push(Change {
+                number: n,
+                page: page_of(n, NEW),
+            })?;
+        }
+    }
+    Ok(Journal {
+        before: page_of(0, OLD),
+        head: page_of(0, NEW),
+        count: case.count,
+        changes,
+    })
+}
+
+// A place where a disk's table and journal stand, which promises nothing.
+fn place_of(alloc: Global, case: &Case, disk: &Disk) -> Result<TornPlace, AllocError>
+    ensures { IfOk result (λ place. ¬ (IsHonest (⟦<TornPlace as Place>⟧.facts place))) }
+{
+    let mut pages = Vec::new(alloc);
+    for n in 0..disk.count() {
+        pages.push(page_of(n, disk.at(n)))?;
+    }
+    let journal = match disk.journal() {
+        NONE => None,
+        _ => Some(journal_of(alloc, case)?),
+    };
+    Ok(TornPlace::new(alloc, pages, u16::from(disk.rest()), journal, false))
+}
+
+// Adds a disk, which may be there already.
+fn add(all: &mut Vec<u32>, disk: Disk) -> Result<(), AllocError> {
+    all.push(disk.bits)?;
+    Ok(())
+}
+
+// The kind of the page that a call writes.
+fn kind_of(deed: &Deed) -> u32 {
+    match deed {
+        Deed::Write(n, page) => {
+            if *page == page_of(*n, NEW) {
+                NEW
+            } else {
+                GARBAGE
+            }
+        }
+        _ => ZEROS,
+    }
+}
+
+// What the draft is with this part of it.
+fn drafted(case: &Case, deed: &Deed) -> u32 {
+    let is_right = match deed {
+        Deed::Draft(before, head, count) => {
+            *before == page_of(0, OLD) && *head == page_of(0, NEW) && *count == case.count
+        }
+        Deed::Append(n, page) => *n < 4 && case.changes(*n) && *page == page_of(*n, NEW),
+        _ => false,
+    };
+    if is_right { WHOLE } else { TORN }
+}
+
+// What is seen after a call.
+fn shown(case: &Case, deed: &Deed, seen: Disk) -> Disk {
+    match deed {
+        Deed::Write(n, _) => seen.with(*n, kind_of(deed)),
+        Deed::Mark => seen.with(0, MARKED),
+        Deed::Resize(count) => seen.sized(*count, ZEROS),
+        Deed::Draft(_, _, _) => seen.with_draft(drafted(case, deed)),
+        Deed::Append(_, _) => seen.with_draft(seen.draft().max(drafted(case, deed))),
+        Deed::Publish => seen.with_draft(NONE).with_journal(seen.draft()),
+        Deed::Remove => seen.with_journal(NONE),
+        Deed::Sync | Deed::SyncDraft | Deed::SyncFolder => seen,
+    }
+}
+
+// What a crash may leave of a page that is written.
+fn add_torn_page(n: u32, kind: u32, disk: Disk, all: &mut Vec<u32>) -> Result<(), AllocError> {
+    add(all, disk)?;
+    let mut longer = disk;
+    if n >= disk.count() {
+        add(all, disk.with_rest(true))?;
+        longer = disk
+            .sized(n.saturating_add(1), GARBAGE)
+            .with_rest(disk.rest());
+    }
+    add(all, longer.with(n, kind))?;
+    add(all, longer.with(n, GARBAGE))?;
+    add(all, longer.with(n, FRONT_NEW))?;
+    add(all, longer.with(n, BACK_NEW))
+}
+
+// What a crash may leave of another length.
+fn add_sizes(count: u32, disk: Disk, all: &mut Vec<u32>) -> Result<(), AllocError> {
+    add(all, disk)?;
+    let most = disk.count().max(count);
+    for size in disk.count().min(count)..most.saturating_add(1) {
+        for kind in [ZEROS, GARBAGE] {
+            let sized = disk.sized(size, kind);
+            add(all, sized)?;
+            if size < most {
+                add(all, sized.with_rest(true))?;
+            }
+        }
+    }
+    Ok(())
+}
+
+// What a crash may leave of a mark.
+fn add_marks(disk: Disk, all: &mut Vec<u32>) -> Result<(), AllocError> {
+    add(all, disk)?;
+    if disk.has_front() {
+        add(all, disk.with(0, OLD))?;
+        add(all, disk.with(0, MARKED))?;
+        add(all, disk.with(0, MISMARKED))?;
+    }
+    Ok(())
+}
+
+// What a crash may leave after a call of a disk that it might leave before.
+fn add_left(
+    deed: &Deed,
+    kind: u32,
+    seen: &Disk,
+    disk: Disk,
+    all: &mut Vec<u32>,
+) -> Result<(), AllocError> {
+    match deed {
+        Deed::Write(n, _) => add_torn_page(*n, kind, disk, all),
+        Deed::Mark => add_marks(disk, all),
+        Deed::Resize(count) => add_sizes(*count, disk, all),
+        Deed::Draft(_, _, _) | Deed::Append(_, _) => {
+            add(all, disk)?;
+            add(all, disk.with_draft(TORN))?;
+            add(all, disk.with_draft(WHOLE))
+        }
+        Deed::Publish => {
+            add(all, disk)?;
+            add(all, disk.with_draft(NONE).with_journal(disk.draft()))
+        }
+        Deed::Remove => {
+            add(all, disk)?;
+            add(all, disk.with_journal(NONE))
+        }
+        Deed::Sync | Deed::SyncDraft | Deed::SyncFolder => {
+            if lasts(deed, seen, &disk) {
+                add(all, disk)
+            } else {
+                Ok(())
+            }
+        }
+    }
+}
+
+// Whether a disk may be left after a sync.
+fn lasts(deed: &Deed, seen: &Disk, disk: &Disk) -> bool {
+    match deed {
+        Deed::Sync => disk.alone() == seen.alone(),
+        Deed::SyncDraft => disk.draft() == seen.draft(),
+        _ => disk.journal() == seen.journal(),
+    }
+}
+
+// Whether what a crash may leave is right; those with a journal are found.
+fn look(
+    case: &Case,
+    old: &Disk,
+    may_be_old: bool,
+    all: &[u32],
+    found: &mut Vec<u32>,
+) -> Result<bool, AllocError> {
+    let mut right = true;
+    for bits in all {
+        let disk = Disk { bits: *bits };
+        let stands = disk.stands(case);
+        right &= stands == Some(old.applied(case)) || (may_be_old && stands == Some(*old));
+        right &= disk.is_well_alone(case, old);
+        if disk.journal() != NONE {
+            found.push(disk.with_draft(NONE).bits)?;
+        }
+    }
+    Ok(right)
+}
+
+// Whether all that a crash may leave after each of these calls is right, and at last only the new table.
+fn follow(
+    alloc: Global,
+    case: &Case,
+    old: &Disk,
+    start: &Disk,
+    deeds: &[Deed],
+    found: &mut Vec<u32>,
+    images: &mut u64,
+) -> Result<bool, AllocError> {
+    let mut seen = *start;
+    let mut all = Vec::new(alloc);
+    all.push(seen.bits)?;
+    let mut right = look(case, old, start.journal() == NONE, all.as_slice(), found)?;
+    *images = images.saturating_add(1);
+    for deed in deeds {
+        let kind = kind_of(deed);
+        let mut left = Vec::new(alloc);
+        for bits in all.as_slice() {
+            add_left(deed, kind, &seen, Disk { bits: *bits }, &mut left)?;
+        }
+        left.sort_unstable();
+        left.dedup();
+        seen = shown(case, deed, seen);
+        right &= look(case, old, start.journal() == NONE, left.as_slice(), found)?;
+        *images = images.saturating_add(left.len() as u64);
+        all = left;
+    }
+    right &= seen == old.applied(case);
+    for bits in all.as_slice() {
+        let disk = Disk { bits: *bits };
+        right &= disk.with_draft(NONE) == old.applied(case);
+    }
+    Ok(right)
+}
+
+// Whether the changes are put right from here on, or healed.
+fn play(
+    alloc: Global,
+    case: &Case,
+    old: &Disk,
+    start: &Disk,
+    found: &mut Vec<u32>,
+    images: &mut u64,
+) -> Result<bool, AllocError> {
+    let journal = journal_of(alloc, case)?;
+    let mut place = place_of(alloc, case, start)?;
+    let done = if start.journal() == NONE {
+        commit(&mut place, &journal)
+    } else {
+        heal(&mut place, &journal)
+    };
+    let right = follow(alloc, case, old, start, place.deeds(), found, images)?;
+    Ok(right && done.is_ok())
+}
+
+// Whether a case is right: its changes are put, all that a crash may leave of that is healed, and all that it may leave of that.
+fn try_case(alloc: Global, case: &Case, rest: bool, tally: &mut Tally) -> Result<bool, AllocError> {
+    let old = Disk::before(case, rest);
+    let mut first = Vec::new(alloc);
+    let mut second = Vec::new(alloc);
+    let mut third = Vec::new(alloc);
+    let mut right = play(alloc, case, &old, &old, &mut first, &mut tally.images)?;
+    first.sort_unstable();
+    first.dedup();
+    for bits in first.as_slice() {
+        right &= play(
+            alloc,
+            case,
+            &old,
+            &Disk { bits: *bits },
+            &mut second,
+            &mut tally.images,
+        )?;
+    }
+    second.sort_unstable();
+    second.dedup();
+    for bits in second.as_slice() {
+        right &= play(
+            alloc,
+            case,
+            &old,
+            &Disk { bits: *bits },
+            &mut third,
+            &mut tally.images,
+        )?;
+    }
+    tally.healed = tally
+        .healed
+        .saturating_add(first.len() as u64)
+        .saturating_add(second.len() as u64);
+    Ok(right)
+}
+
+// Whether all cases with this many pages before are right.
+fn try_cases(alloc: Global, old: u32, tally: &mut Tally) -> Result<bool, AllocError> {
+    let mut right = true;
+    for count in 1..5u32 {
+        for mask in 0..8u8 {
+            let changed = [false, mask & 1 != 0, mask & 2 != 0, mask & 4 != 0];
+            let case = Case {
+                old,
+                count,
+                changed,
+            };
+            if case.can_be() {
+                right &= try_case(alloc, &case, false, tally)?;
+                right &= try_case(alloc, &case, true, tally)?;
+            }
+        }
+    }
+    Ok(right)
+}
+
+#[test]
+fn every_crash_leaves_the_old_table_or_the_new_one(rt: HostRuntime) -> Result<(), Fail> {
+    let mut tally = Tally {
+        images: 0,
+        healed: 0,
+    };
+    let one = try_cases(rt.alloc(), 1, &mut tally)?;
+    let two = try_cases(rt.alloc(), 2, &mut tally)?;
+    let three = try_cases(rt.alloc(), 3, &mut tally)?;
+    assert!(&rt; one && two && three);
+    assert!(&rt;
+        tally
+            == Tally {
+                images: 716605,
+                healed: 5542
+            }
+    );
+    Ok(())
+}
