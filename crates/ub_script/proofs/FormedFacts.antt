@@ -4,6 +4,7 @@ use Rattle.std.proofs.lemmas.Bool.{cases_Bool}
 use Rattle.ub_answer.specs.Shaped.{IsShaped}
 use Rattle.ub_exec.specs.Answers.{IsReady, begun, IsAnswer as IsPlanAnswer}
 use Rattle.ub_exec.specs.Reading.{CarriesOut, HasSweptSome}
+use Rattle.ub_exec.specs.Scanned.{IsOfRead, IsScanOf}
 use Rattle.ub_exec.specs.Visits.{HasFetched, fetches_then}
 use Rattle.ub_plan.specs.Counted.{AreCounted}
 use Rattle.ub_plan.specs.Explained.{IsExplained, explain_text}
@@ -38,9 +39,9 @@ answers_seen seen t p after (found ∷ more) same are =
     (traced_gives seen t same p.covering.boxes after (Some found) are.0, answers_seen seen t p (Some found) more same are.1)
 
 -- a plan that was carried out
-carried_out : {A : Type 0} (seen old new : TreeView) (rows : A → ℕ) (x : A) (count : ℕ) (p : PlanView) (q : Asked) → IsSameBut seen old → p ≡ plan_of old.schema q
-    → CarriesOut p (begun old) new rows (Ok x) → rows x ≡ count → IsCarriedOut seen q count (length new.trace.pages)
-carried_out {A = A} seen old new rows x count p q same planned carried is =
+carried_out : {A : Type 0} (seen old new : TreeView) (rows : A → ℕ) (x : A) (cells : List (List Cell)) (p : PlanView) (q : Asked) → IsSameBut seen old → p ≡ plan_of old.schema q
+    → CarriesOut p (begun old) new rows (Ok x) → rows x ≡ length cells → (IsScanOf old.schema p → IsOfRead p (begun old) new cells) → IsCarriedOut seen q cells (length new.trace.pages)
+carried_out {A = A} seen old new rows x cells p q same planned carried is scanned =
     let alike : p ≡ plan_of seen.schema q = planned ∙ ap (λ (t : TreeView). plan_of t.schema q) same in
     let by : CarriesOut (plan_of seen.schema q) (begun old) new rows (Ok x) = subst (λ (plan : PlanView). CarriesOut {A = A} plan (begun old) new rows (Ok x)) alike carried in
     record {
@@ -53,21 +54,24 @@ carried_out {A = A} seen old new rows x count p q same planned carried is =
         sweeps = λ dim is_descending of.
             subst (λ (n : ℕ). HasSweptSome (plan_of seen.schema q).covering.boxes dim is_descending (plan_of seen.schema q).asked.limit (begun old) new n) is (by.sweeps dim is_descending of);
       };
+      scanned = λ scan.
+          subst (λ (plan : PlanView). IsOfRead plan (begun old) new cells) alike
+          (scanned (subst (λ (plan : PlanView). IsScanOf old.schema plan) (sym alike) (subst (λ (t : TreeView). IsScanOf t.schema (plan_of seen.schema q)) (sym same) scan)));
       pages_are = refl;
     }
 
 formed_of_plan : {A : Type 0} (seen old new : TreeView) (schema : Schema) (fetched : ℕ) (rows : A → ℕ) (x : A) (fault : ReadFault) (p : PlanView) (q : Asked) (cells : List (List Cell)) (text : List ℕ)
     → IsSameBut seen old → schema ≡ old.schema → fetched ≡ length new.trace.pages → p ≡ plan_of old.schema q → CarriesOut p (begun old) new rows (Ok x) → rows x ≡ length cells
-    → (IsTrue old.is_failed → Ok x ≡ Err fault) → IsShaped p.asked cells → text ≡ answer_text schema q cells fetched
+    → (IsScanOf old.schema p → IsOfRead p (begun old) new cells) → (IsTrue old.is_failed → Ok x ≡ Err fault) → IsShaped p.asked cells → text ≡ answer_text schema q cells fetched
     → Makes (IsFormedReply false seen q) text false old.trace.fetches new.trace.fetches
-formed_of_plan seen old new schema fetched rows x fault p q cells text same schema_is counted planned carried many refuses shaped e =
+formed_of_plan seen old new schema fetched rows x fault p q cells text same schema_is counted planned carried many scanned refuses shaped e =
     let noted : fetched ≡ length carried.notes.noted = counted ∙ ap (λ (pages : List ℕ). length pages) carried.notes.trace_is in (
       fetched,
       record {
         working = works seen old x fault same refuses;
         rows = cells;
         shaped = subst (λ (plan : PlanView). IsShaped plan.asked cells) planned shaped;
-        carried = subst (λ (n : ℕ). IsCarriedOut seen q (length cells) n) (sym counted) (carried_out seen old new rows x (length cells) p q same planned carried many);
+        carried = subst (λ (n : ℕ). IsCarriedOut seen q cells n) (sym counted) (carried_out seen old new rows x cells p q same planned carried many scanned);
         text_is = e ∙ ap (λ (s : Schema). answer_text s q cells fetched) (schema_is ∙ ap (λ (t : TreeView). t.schema) same);
         accepted = refl;
       },
@@ -78,13 +82,13 @@ formed_of_plan seen old new schema fetched rows x fault p q cells text same sche
 pub reply_on : {A : Type 0} (basis : Basis) (old new : TreeView) (schema : Schema) (fetched : ℕ) (rows : A → ℕ) (x : A) (fault : ReadFault) (p : PlanView) (q : Asked) (cells : List (List Cell)) (text : List ℕ)
     → IsBasisOf old basis → schema ≡ old.schema → fetched ≡ length new.trace.pages → p ≡ plan_of old.schema q
     → (IsReady old p → IsPlanAnswer old p.asked cells) → (IsReady old p → HasFetched p (begun old) new) → CarriesOut p (begun old) new rows (Ok x) → rows x ≡ length cells
-    → (IsTrue old.is_failed → Ok x ≡ Err fault) → IsShaped p.asked cells → text ≡ answer_text schema q cells fetched
+    → (IsScanOf old.schema p → IsOfRead p (begun old) new cells) → (IsTrue old.is_failed → Ok x ≡ Err fault) → IsShaped p.asked cells → text ≡ answer_text schema q cells fetched
     → Makes (IsAskedReply false basis q) text false old.trace.fetches new.trace.fetches
-reply_on (on_stand s) old new schema fetched rows x fault p q cells text is schema_is counted planned answers visits carried many refuses shaped e =
+reply_on (on_stand s) old new schema fetched rows x fault p q cells text is schema_is counted planned answers visits carried many scanned refuses shaped e =
     let ready = ready_of old p q is.sound planned in
     reply_of_plan old new s schema fetched p q cells text is schema_is counted planned (answers ready) (visits ready) e
-reply_on (over_any seen) old new schema fetched rows x fault p q cells text is schema_is counted planned answers visits carried many refuses shaped e =
-    formed_of_plan seen old new schema fetched rows x fault p q cells text is schema_is counted planned carried many refuses shaped e
+reply_on (over_any seen) old new schema fetched rows x fault p q cells text is schema_is counted planned answers visits carried many scanned refuses shaped e =
+    formed_of_plan seen old new schema fetched rows x fault p q cells text is schema_is counted planned carried many scanned refuses shaped e
 
 formed_of_explain : {A : Type 0} (seen t : TreeView) (x : A) (fault : ReadFault) (p : PlanView) (q : Asked) (text : List ℕ) (after : ℕ) → IsSameBut seen t → p ≡ plan_of t.schema q
     → after ≡ t.trace.fetches → (met : ℕ) × AreCounted p.covering.boxes t met × (text ≡ explain_text t.schema p met (region_count t))

@@ -4,6 +4,7 @@ use Rattle.std.specs.Prelude.{◌≡◌, ℕ, Bool, true, false, List, Ok, lengt
 use Rattle.ub_answer.specs.Shaped.{IsShaped}
 use Rattle.ub_exec.specs.Answers.{begun}
 use Rattle.ub_exec.specs.Reading.{CarriesOut}
+use Rattle.ub_exec.specs.Scanned.{IsOfRead, IsScanOf}
 use Rattle.ub_plan.specs.Counted.{AreCounted}
 use Rattle.ub_plan.specs.Explained.{explain_text}
 use Rattle.ub_planning.specs.Plan.{plan_of}
@@ -16,13 +17,15 @@ use Rattle.ub_tree.specs.View.{TreeView, region_count}
 abbrev pub IsSameBut : TreeView → TreeView → Type 0
 IsSameBut seen t = t ≡ record seen { trace = t.trace }
 
--- the plan of a query was carried out over a tree, whatever its trace, with so many rows, and so many pages were noted for it: each
--- was taken in, and no region was passed over, by a scan, nor by a sweep before it had all rows that the limit asks for
-pub record IsCarriedOut (seen : TreeView) (q : Asked) (rows pages : ℕ) : Type 0 where
+-- the plan of a query was carried out over a tree, whatever its trace, with these rows of cells, and so many pages were noted for it: each
+-- was taken in, and no region was passed over, by a scan, nor by a sweep before it had all rows that the limit asks for; what a scan
+-- answers is of the rows that were read
+pub record IsCarriedOut (seen : TreeView) (q : Asked) (cells : List (List Cell)) (pages : ℕ) : Type 0 where
   pub old : TreeView
   pub new : TreeView
   pub same : IsSameBut seen old
-  pub carried : CarriesOut (plan_of seen.schema q) (begun old) new (λ _. rows) (Ok (tt {0}))
+  pub carried : CarriesOut (plan_of seen.schema q) (begun old) new (λ _. length cells) (Ok (tt {0}))
+  pub scanned : IsScanOf seen.schema (plan_of seen.schema q) → IsOfRead (plan_of seen.schema q) (begun old) new cells
   pub pages_are : pages ≡ length new.trace.pages
 
 -- the reply to a query over a tree that hasn't failed: the whole text of some rows of cells, each with as many cells as the query
@@ -31,7 +34,7 @@ pub record IsFormedAnswer (seen : TreeView) (q : Asked) (r : Reply) : Type 0 whe
   pub working : seen.is_failed ≡ false
   pub rows : List (List Cell)
   pub shaped : IsShaped q rows
-  pub carried : IsCarriedOut seen q (length rows) r.pages
+  pub carried : IsCarriedOut seen q rows r.pages
   pub text_is : r.text ≡ answer_text seen.schema q rows r.pages
   pub accepted : r.is_refused ≡ false
 

@@ -11,7 +11,7 @@ pub returns-clause-answer : goal.returns-clause-answer
 returns-clause-answer g c basis is =
     reply_on basis c.args.tree.now c.execute.new.tree _ c.in_ok-answer.answer.fetched _ _ _ c.args.plan.now (asked c.args.query.now) c.in_ok-answer.answer.rows _ is
     (c.schema.ensures ∙ ap (λ (t : TreeView). t.schema) c.in_ok-answer.ensures.effect.same) c.in_ok-answer.ensures.fetched c.requires.planned
-    c.in_ok-answer.ensures.rows c.in_ok-answer.ensures.pages c.in_ok-answer.ensures.reads refl c.in_ok-answer.ensures.failed c.in_ok-answer.ensures.shaped c.in_ok-answer_text.ensures
+    c.in_ok-answer.ensures.rows c.in_ok-answer.ensures.pages c.in_ok-answer.ensures.reads refl c.in_ok-answer.ensures.scanned c.in_ok-answer.ensures.failed c.in_ok-answer.ensures.shaped c.in_ok-answer_text.ensures
 
 pub returns-in_err-answer-clause-stopped : goal.returns-in_err-answer-clause-stopped
 returns-in_err-answer-clause-stopped g c basis is =
