@@ -12,7 +12,7 @@ use Rattle.ub_words.proofs.Laws.{no_help_taken}
 use Rattle.ub_words.specs.CommandLine.{AsksHelpAlone, AsksNext}
 use Rattle.ub_shell.specs.Commands.{IsRunOn, IsUnopened, IsUntold, RunsFile, loaded_line}
 use Rattle.ub_shell.proofs.LeftFacts.{full_stays, run_leaves, run_stays, where_ok}
-use Rattle.ub_shell.specs.Laws.{AreBothInput, AskingLeavesTheTable, CheckedTablesAreRunAsSound, CheckedTablesAreSound, CheckingLeavesTheTable, DescribingLeavesTheTable, FullTablesAreLeft, IsClosedTable, IsHeldStill, IsHeldTable, IsOldTable, IsRunOfTable, IsSoundTable, OnlyHelpIsWritten, SoundTablesPass, TellsPassing, UnchangedTablesAreLeft, UpgradedTablesAreTheSame, UpgradingLeavesTheOldTable, WhatWasDoneStands, WrongWordsAreTold, row_count}
+use Rattle.ub_shell.specs.Laws.{AreBothInput, AskingLeavesTheTable, CheckedTablesAreRunAsSound, CheckedTablesAreSound, CheckingLeavesTheTable, DescribingLeavesTheTable, FullTablesAreLeft, IsClosedTable, IsHeldStill, IsHeldTable, IsOldIfTold, IsOldTable, IsRunOfTable, IsSoundTable, OnlyHelpIsWritten, OnlySoundTablesAreUpgraded, SoundTablesPass, TellsPassing, UnchangedTablesAreLeft, UpgradedTablesAreTheSame, UpgradingLeavesTheOldTable, WhatWasDoneStands, WrongWordsAreTold, row_count}
 use Rattle.ub_shell.specs.Checked.{ChecksFile, IsChecked, IsIll}
 use Rattle.ub_shell.specs.Described.{IsDescribed, IsUndescribed}
 use Rattle.ub_shell.specs.Ending.{Tells}
@@ -222,11 +222,59 @@ file_anew table from rows regions version next schema placed old new honest from
     let t = file.table_is.tree in
     let w = file.copied in
     let here = w.copies.copied (w.made_is.lent.honest honest) in
-    let as_made = subst (λ (ps : List (List ℕ)). AreSoundPages ps t.schema t.placed t.next) (sym here) (file.table_is.closed has.sound) in
+    let as_made = subst (λ (ps : List (List ℕ)). AreSoundPages ps t.schema t.placed t.next) (sym here) file.table_is.closed in
     let of_schema = subst (λ (s : Schema). AreSoundPages w.left.pages s t.placed t.next) has.schema_is as_made in
     let of_next = subst (λ (n : ℕ). AreSoundPages w.left.pages schema t.placed n) has.next_is of_schema in
     let well = ap (λ (s : StoreFacts). s.failed_writes) w.copies.frame ∙ w.made_is.lent.unfailed in
     closed_table (new.holds table) w.left schema t.placed (regions_in placed) next w.back.held well of_next has.regions_are
+
+-- the new table file is a closed table, of the regions of the tree that was made
+file_sound : (table : List ℕ) (from : StoreFacts) (rows regions : ℕ) (old new : FilesFacts) → IsTrue old.honest → (file : IsFileAnew table from rows regions old new)
+    → IsClosedTable (new.holds table) file.table_is.tree.schema (regions_in file.table_is.tree.placed) file.table_is.tree.next
+file_sound table from rows regions old new honest file =
+    let t = file.table_is.tree in
+    let w = file.copied in
+    let here = w.copies.copied (w.made_is.lent.honest honest) in
+    let as_made = subst (λ (ps : List (List ℕ)). AreSoundPages ps t.schema t.placed t.next) (sym here) file.table_is.closed in
+    let well = ap (λ (s : StoreFacts). s.failed_writes) w.copies.frame ∙ w.made_is.lent.unfailed in
+    closed_table (new.holds table) w.left t.schema t.placed (regions_in t.placed) t.next w.back.held well as_made refl
+
+-- and the old one was a closed table of them
+was_old : (version next : ℕ) (schema : Schema) (placed : List Placed) (held : Held) (from : StoreFacts) → IsStored held from → AreOldPages version from.pages schema placed next
+    → IsOldIfTold held version schema placed next
+was_old version next schema placed untold from stored sound = tt
+was_old version next schema placed (pages all) from stored sound = subst (λ (ps : List (List ℕ)). AreOldPages version ps schema placed next) stored sound
+was_old version next schema placed absent from stored sound = absurd stored
+was_old version next schema placed (bytes text) from stored sound = absurd stored
+was_old version next schema placed torn from stored sound = absurd stored
+was_old version next schema placed lent_out from stored sound = absurd stored
+
+pub only_sound_tables_are_upgraded : OnlySoundTablesAreUpgraded
+only_sound_tables_are_upgraded source table old new out out_now honest (inl same) =
+    let bad = told_done _ _ _ _ same.tells in cc
+only_sound_tables_are_upgraded source table old new out out_now honest (inr (ne, inr unopened)) =
+    absurd (store_not_done unopened.fault (told_done _ _ _ _ unopened.tells))
+only_sound_tables_are_upgraded source table old new out out_now honest (inr (ne, inl anew)) =
+    let ends = anew.upgrades in
+    elim ends.ended [
+      | inl made ↦
+          let mid_honest : IsTrue ends.mid.honest = rw (ap (λ (f : FilesFacts). f.honest) ends.back.same) honest in
+          elim made.ended [
+            | inl kept ↦
+                let t = kept.2.table_is.tree in
+                let upgraded = kept.2.table_is.upgrade.upgraded in
+                let was = upgraded.old_pages (anew.lent.lent.honest honest) refl in (
+                  upgraded.head.version,
+                  t.schema,
+                  t.placed,
+                  t.next,
+                  was_old upgraded.head.version t.next t.schema t.placed (old.holds source) anew.store anew.lent.stored was,
+                  file_sound table anew.store kept.0 kept.1 ends.mid new mid_honest kept.2,
+                )
+            | inr unkept ↦ absurd (tree_not_done unkept.0 (told_done _ _ _ _ unkept.2))
+          ]
+      | inr none ↦ absurd (tree_not_done none.fault (told_done _ _ _ _ none.tells))
+    ]
 
 pub upgraded_tables_are_the_same : UpgradedTablesAreTheSame
 upgraded_tables_are_the_same source table old new out out_now version next schema placed honest sound (inl same) =

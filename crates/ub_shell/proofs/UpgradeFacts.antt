@@ -63,7 +63,7 @@ afoot from from_now held t is worked = record {
   unfailing = ap (λ (s : StoreFacts). s.can_fail) worked.new_is;
 }
 
--- so closing it writes its header, or it isn't sound
+-- and it is sound, so closing it writes its header
 pub closed_anew : (from : StoreFacts) (t : TreeView) (held : List (List ℕ)) (rows regions : ℕ) → IsUpgradeOf from t → IsAfoot t
     → (IsTrue t.is_changed → IsSaved t.store (memory_facts held) × (IsHonest t.store → IsClosed (header_of t) t.store (memory_facts held)))
     → (IsSound t → IsHonest (memory_facts held) × AreSoundPages held t.schema t.placed t.next) → rows ≡ t.rows → regions ≡ region_count t
@@ -72,7 +72,8 @@ closed_anew from t held rows regions is under table closed rows_are regions_are 
   tree = t;
   upgrade = is;
   headed = (table under.changed).1 under.honest;
-  closed = λ sound. (closed sound).1;
+  sound = is.upgraded.sound refl;
+  closed = (closed (is.upgraded.sound refl)).1;
   rows_are = rows_are;
   regions_are = regions_are;
 }
@@ -81,20 +82,16 @@ pub some_page : (held : List (List ℕ)) (page : List ℕ) → slice_get held 0 
 some_page [] page is = absurd (false≢true (ap is_some is))
 some_page (first ∷ held) page is = omega arith
 
--- a tree that is refused is kept in no file
-pub unclosed_anew : (table : List ℕ) (from : StoreFacts) (t : TreeView) (files : FilesFacts) (fault : TreeFault) → IsUpgradeOf from t → IsAfoot t → IsCloseFault t fault
-    → IsUnkeptAnew table from files files fault
-unclosed_anew table from t files tree.Memory is under refused = absurd refused
-unclosed_anew table from t files tree.Failed is under refused = let works = under.working in cc
-unclosed_anew table from t files (tree.Store store.Device) is under refused = let never = under.unfailing in cc
-unclosed_anew table from t files (tree.Store store.NoPage) is under refused = record {
-  why = inl (record { tree = t; upgrade = is; unsound = refused; fault_is = refl }, refl);
-  uses = record { same = refl; others = λ other ne. refl };
-}
-unclosed_anew table from t files (tree.Store store.BadSize) is under refused = absurd refused
-unclosed_anew table from t files (tree.Store store.Memory) is under refused = absurd refused
-unclosed_anew table from t files tree.Full is under refused = absurd refused
-unclosed_anew table from t files (tree.Page page fault) is under refused = absurd refused
+-- closing isn't refused
+pub always_closed : (from : StoreFacts) (t : TreeView) (fault : TreeFault) → IsUpgradeOf from t → IsAfoot t → ¬ (IsCloseFault t fault)
+always_closed from t tree.Memory is under refused = absurd refused
+always_closed from t tree.Failed is under refused = let works = under.working in cc
+always_closed from t (tree.Store store.Device) is under refused = let never = under.unfailing in cc
+always_closed from t (tree.Store store.NoPage) is under refused = refused (is.upgraded.sound refl)
+always_closed from t (tree.Store store.BadSize) is under refused = absurd refused
+always_closed from t (tree.Store store.Memory) is under refused = absurd refused
+always_closed from t tree.Full is under refused = absurd refused
+always_closed from t (tree.Page page fault) is under refused = absurd refused
 
 -- ---- the new table file
 
@@ -111,7 +108,7 @@ pub anew_not_kept : (table : List ℕ) (from : StoreFacts) (rows regions : ℕ) 
 anew_not_kept table from rows regions held old new of_store fault is faults (inl copied) why =
     let failed : new.failed_tables ≡ old.failed_tables = ap (λ (f : FilesFacts). f.failed_tables) copied.back.same in
     record {
-      why = inr (inr (
+      why = inr (
         record {
           rows = rows;
           regions = regions;
@@ -123,7 +120,7 @@ anew_not_kept table from rows regions held old new of_store fault is faults (inl
           fault_is = why;
         },
         failed,
-      ));
+      );
       uses = record {
         same = copied.back.same ∙ ap (λ (n : ℕ). record old { holds = new.holds; failed_tables = n }) (sym failed);
         others = copied.back.others;
@@ -133,7 +130,7 @@ anew_not_kept table from rows regions held old new of_store fault is faults (inr
     let device = one_fault of_store store.Device unmade.0 in
     let raised_so = ap (λ (f : FilesFacts). f.failed_tables) unmade.1.same in
     record {
-      why = inr (inl (
+      why = inl (
         record {
           rows = rows;
           regions = regions;
@@ -142,7 +139,7 @@ anew_not_kept table from rows regions held old new of_store fault is faults (inr
           fault_is = why ∙ ap tree_fault device;
         },
         raised_so ∙ ap (λ (e : StoreFault). raised_by e old.failed_tables) device,
-      ));
+      );
       uses = record {
         same = unmade.1.same ∙ ap (λ (n : ℕ). record old { holds = new.holds; failed_tables = n }) (sym raised_so);
         others = unmade.1.others;

@@ -153,6 +153,19 @@ UpgradedTablesAreTheSame =
     → IsTrue old.honest → IsOldTable (old.holds source) version schema placed next → UpgradesFile source table old new out out_now Done
     → IsClosedTable (new.holds table) schema (regions_in placed) next
 
+-- where it is told what a path holds, it is the pages of a closed table of this older version
+abbrev pub IsOldIfTold : Held → ℕ → Schema → List Placed → ℕ → Type 0
+IsOldIfTold untold version schema placed next = Unit {0}
+IsOldIfTold held version schema placed next = IsOldTable held version schema placed next
+
+-- where a table file was made anew, and all was done, the old one was a closed table of an older version, and the new one is a closed table with
+-- the same schema, regions, rows and next number
+abbrev pub OnlySoundTablesAreUpgraded : Type 0
+OnlySoundTablesAreUpgraded =
+    (source table : List ℕ) (old new : FilesFacts) (out out_now : OutFacts) → IsTrue old.honest → UpgradesFile source table old new out out_now Done
+    → (version : ℕ) × (schema : Schema) × (placed : List Placed) × (next : ℕ)
+    × IsOldIfTold (old.holds source) version schema placed next × IsClosedTable (new.holds table) schema (regions_in placed) next
+
 -- a fault ended a statement of a script after the first ones, whose texts were written, and the table that stood there is left so; or
 -- memory was refused before them all
 abbrev pub HasStopped : List ℕ → RunFault → Stand → Stand → OutFacts → OutFacts → Type 0

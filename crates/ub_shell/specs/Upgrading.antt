@@ -23,8 +23,8 @@ use Rattle.ub_tree.specs.declared.fault.TreeFault.{TreeFault}
 use Rattle.ub_tree.specs.declared.fault.TreeFault.TheVariants.{Store}
 use Rattle.ub_writing.specs.Closing.{IsClosed}
 
--- the tree that is made in memory of a store of an older version: it counts what that one's header tells, and where the pages are those of a
--- closed table it has that table's regions
+-- the tree that is made in memory of a store of an older version: it is sound, and the pages of that store, if it is honest, are a closed table
+-- of its regions; where they are that of some regions it has those
 pub record IsUpgradeOf (from : StoreFacts) (t : TreeView) : Type 0 where
   pub upgraded : IsUpgraded from (memory_facts []) t
   pub made : (version next : ℕ) (schema : Schema) (placed : List Placed) → IsHonest from → AreOldPages version from.pages schema placed next
@@ -37,13 +37,14 @@ pub record IsAfoot (t : TreeView) : Type 0 where
   pub honest : IsHonest t.store
   pub unfailing : t.store.can_fail ≡ false
 
--- these pages are such a tree closed, of so many rows and regions: its store's, but for the first, which is its header now, a clean one; and
--- where it was sound they are a closed table
+-- these pages are such a tree closed, which is sound, of so many rows and regions: its store's, but for the first, which is its header now, a
+-- clean one; they are a closed table
 pub record IsTableAnew (from : StoreFacts) (rows regions : ℕ) (pages : List (List ℕ)) : Type 0 where
   pub tree : TreeView
   pub upgrade : IsUpgradeOf from tree
   pub headed : IsClosed (header_of tree) tree.store (memory_facts pages)
-  pub closed : IsSound tree → AreSoundPages pages tree.schema tree.placed tree.next
+  pub sound : IsSound tree
+  pub closed : AreSoundPages pages tree.schema tree.placed tree.next
   pub rows_are : rows ≡ tree.rows
   pub regions_are : regions ≡ region_count tree
 
@@ -59,13 +60,6 @@ pub record IsRefusedOld (from : StoreFacts) (fault : TreeFault) : Type 0 where
   pub is : IsUpgradeFault from (memory_facts []) fault
   pub passing : (version next : ℕ) (schema : Schema) (placed : List Placed) → IsHonest from → AreOldPages version from.pages schema placed next
       → IsUpgradePassing fault
-
--- a tree was made of the store that isn't sound, and can't be closed
-pub record IsUnclosedAnew (from : StoreFacts) (fault : TreeFault) : Type 0 where
-  pub tree : TreeView
-  pub upgrade : IsUpgradeOf from tree
-  pub unsound : ¬ (IsSound tree)
-  pub fault_is : fault ≡ Store store.NoPage
 
 -- the new table stands in memory, and its table file can't be made
 pub record IsUnmadeAnew (from : StoreFacts) (fault : TreeFault) : Type 0 where
@@ -86,11 +80,10 @@ pub record IsUnwrittenAnew (table : List ℕ) (from : StoreFacts) (old new : Fil
   pub copied : IsCopied table pages old new (Err of_store)
   pub fault_is : fault ≡ tree_fault of_store
 
--- the table that was made in memory isn't kept in a table file, for this reason; where it can't be closed the files hold what they did
+-- the table that was made in memory isn't kept in a table file, for this reason
 pub record IsUnkeptAnew (table : List ℕ) (from : StoreFacts) (old new : FilesFacts) (fault : TreeFault) : Type 0 where
-  pub why : (IsUnclosedAnew from fault × (new ≡ old))
-      ⊎ ((IsUnmadeAnew from fault × (new.failed_tables ≡ raised old.failed_tables 1))
-      ⊎ (IsUnwrittenAnew table from old new fault × (new.failed_tables ≡ old.failed_tables)))
+  pub why : (IsUnmadeAnew from fault × (new.failed_tables ≡ raised old.failed_tables 1))
+      ⊎ (IsUnwrittenAnew table from old new fault × (new.failed_tables ≡ old.failed_tables))
   pub uses : Uses table old new
 
 -- that table is kept in a table file, and it was told how many rows and regions it has; or why not

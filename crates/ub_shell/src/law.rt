@@ -1,4 +1,4 @@
-ghost use Rattle.ub_shell.specs.Laws.{AskingLeavesTheTable, CheckedTablesAreRunAsSound, CheckedTablesAreSound, CheckingLeavesTheTable, DescribingLeavesTheTable, FullTablesAreLeft, OnlyHelpIsWritten, SoundTablesPass, UnchangedTablesAreLeft, UpgradedTablesAreTheSame, UpgradingLeavesTheOldTable, WhatWasDoneStands, WrongWordsAreTold};
+ghost use Rattle.ub_shell.specs.Laws.{AskingLeavesTheTable, CheckedTablesAreRunAsSound, CheckedTablesAreSound, CheckingLeavesTheTable, DescribingLeavesTheTable, FullTablesAreLeft, OnlyHelpIsWritten, OnlySoundTablesAreUpgraded, SoundTablesPass, UnchangedTablesAreLeft, UpgradedTablesAreTheSame, UpgradingLeavesTheOldTable, WhatWasDoneStands, WrongWordsAreTold};
 
 // Each function here does nothing, and its clause is a law of the definitions in specs/.
 
@@ -49,6 +49,12 @@ pub fn checked_tables_are_run_as_sound()
 /// ended.
 pub fn upgrading_leaves_the_old_table()
     ensures { UpgradingLeavesTheOldTable }
+{}
+
+/// Where a table file was made anew, and all was done, the old one was a closed table of an older version, and the new one is a closed
+/// table with the same schema, regions, rows and next number.
+pub fn only_sound_tables_are_upgraded()
+    ensures { OnlySoundTablesAreUpgraded }
 {}
 
 /// Where a closed table of an older version was made anew, and all was done, the new table file is a closed table with the same

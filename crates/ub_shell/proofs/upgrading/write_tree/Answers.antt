@@ -1,4 +1,4 @@
-use Rattle.ub_shell.proofs.UpgradeFacts.{anew_kept, anew_not_kept, closed_anew, some_page, unclosed_anew}
+use Rattle.ub_shell.proofs.UpgradeFacts.{always_closed, anew_kept, anew_not_kept, closed_anew, some_page}
 use Rattle.ub_shell.proofs.upgrading.write_tree.Goals as goal
 
 pub write_pages-requires : goal.write_pages-requires
@@ -11,7 +11,7 @@ returns-in-Ok-write_pages-clause-kept g c = λ from is.
     anew_kept _ from _ _ c.in-Ok.store _ _ c.in-Ok-write_pages.field-0 table c.in-Ok-write_pages.ensures.effect
 
 pub returns-in-Err-clause-refused : goal.returns-in-Err-clause-refused
-returns-in-Err-clause-refused g c = λ from is. unclosed_anew _ from c.args.tree _ c.in-Err.refused.fault is c.requires.afoot c.in-Err.ensures.refused
+returns-in-Err-clause-refused g c = λ from is. absurd (always_closed from c.args.tree c.in-Err.refused.fault is c.requires.afoot c.in-Err.ensures.refused)
 
 pub returns-clause-refused : goal.returns-clause-refused
 returns-clause-refused g c = λ from is.
