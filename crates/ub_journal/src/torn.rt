@@ -179,7 +179,7 @@ impl Place for TornPlace {
 
     ghost facts = { torn_facts };
 
-    ghost clock = { λ place honest. torn_clock place.honest (first_image place) place.deeds.items place.failures };
+    ghost clock = { λ p h. torn_clock p.honest (first_image p) p.deeds.items p.failures };
 
     fn read_page(&mut self, n: u32, page: &mut Page) -> Result<(), Failed> {
         if self.is_due() {
