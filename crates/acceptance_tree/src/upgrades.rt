@@ -1712,6 +1712,11 @@ fn keeps_the_numbers_of_rows(rt: HostRuntime) {
 }
 
 #[test]
+fn refuses_numbers_of_rows(rt: HostRuntime) {
+    all_go(&rt, rt.alloc(), "numbers that are refused", BAD_NUMBERS);
+}
+
+#[test]
 fn upgrades_regions_without_rows(rt: HostRuntime) {
     all_go(&rt, rt.alloc(), "regions without rows", WITHOUT_ROWS);
 }
@@ -1742,7 +1747,6 @@ fn refuses_old_tables(rt: HostRuntime) {
     all_go(&rt, alloc, "headers of format 2", HEADERS_OF_2);
     all_go(&rt, alloc, "regions of format 1", REGIONS_OF_1);
     all_go(&rt, alloc, "regions of format 2", REGIONS_OF_2);
-    all_go(&rt, alloc, "numbers of rows", BAD_NUMBERS);
     all_go(&rt, alloc, "directories", DIRECTORIES);
     all_go(&rt, alloc, "indexes", INDEXES);
 }
