@@ -27,6 +27,15 @@ judge() { # what holds, and whether it does
     fi
 }
 
+# Whether standard error is as it should be after this status: of a failed file one line says which it is and why, and else it is
+# empty.
+errs() {
+    case $1 in
+    4) [ "$(wc -l <err)" -le 1 ] && ! grep -qv "^ubq: can't " err ;;
+    *) [ ! -s err ] ;;
+    esac
+}
+
 # What is tried, the status that is wanted, whether `all` that is written is wanted or a `line` of it, which, and then the words.
 try() {
     local what=$1 status=$2 part=$3 wanted=$4 code is=no
@@ -37,8 +46,18 @@ try() {
     all) printf -- "$wanted" | cmp -s - out && is=yes ;;
     line) grep -qxF -- "$wanted" out && is=yes ;;
     esac
-    if [ "$code" -ne "$status" ] || [ -s err ]; then is=no; fi
+    if [ "$code" -ne "$status" ] || ! errs "$code"; then is=no; fi
     judge "$what (status $code)" "$is"
+}
+
+# The same where a file fails: the line that is wanted on standard error, and then the words.
+misses() {
+    local wanted=$1 is=no
+    shift
+    "${as[@]}" "$ubq" "$@" >out 2>err
+    if [ $? -eq 4 ] && printf '! Device\n' | cmp -s - out && printf '%s\n' "ubq: can't $wanted" | cmp -s - err; then is=yes; fi
+    cat err >>out
+    judge "it tells that it can't $wanted" "$is"
 }
 
 skip() { # what can't be tried, and why
@@ -211,6 +230,15 @@ for old in s format_2/s; do
     try 'one in a folder that is not there' 4 all '! Device\n' upgrade "$root/tests/old/$old.ub" missing/new.ub
 done
 rm -f new.ub
+none='No such file or directory (os error 2)'
+misses "read missing.csv: $none" load missing.csv new.ub --dims 2
+misses "read missing.sql: $none" run s.ub missing.sql
+misses "open missing.ub: $none" run missing.ub row1.sql
+misses "open missing.ub: $none" describe missing.ub
+misses "make missing/new.ub: $none" load s.csv missing/new.ub --dims 2
+misses 'read .: Is a directory (os error 21)' load . new.ub --dims 2
+misses 'open .: Is a directory (os error 21)' check .
+misses 'make .: Is a directory (os error 21)' load s.csv . --dims 2
 try 'no table file' 4 all '! Device\n' run missing.ub row1.sql
 try 'no script' 4 all '! Device\n' run s.ub missing.sql
 mkdir folder

@@ -20,13 +20,21 @@ tell() { # whether it is right, and what was tried
     fi
 }
 
+# Whether standard error is as it should be after this status: one line that begins so where a file failed, and else nothing.
+errs() {
+    case $1 in
+    4) [ "$(wc -l <"$room/err")" -le 1 ] && ! grep -qv "^ubq: can't " "$room/err" ;;
+    *) [ ! -s "$room/err" ] ;;
+    esac
+}
+
 # ends STATUS TEXT WORDS..: with these words the program ends so, and has written this text, which may hold \n
 ends() {
     local wanted=$1 text=$2 status is=no
     shift 2
     "$ubq" "$@" >"$room/out" 2>"$room/err"
     status=$?
-    if [ "$status" -eq "$wanted" ] && printf "$text" | cmp -s - "$room/out" && [ ! -s "$room/err" ]; then is=yes; fi
+    if [ "$status" -eq "$wanted" ] && printf "$text" | cmp -s - "$room/out" && errs "$status"; then is=yes; fi
     tell "$is" "status $wanted: ubq $*"
 }
 
@@ -36,7 +44,7 @@ begins() {
     shift 2
     "$ubq" "$@" >"$room/out" 2>"$room/err"
     status=$?
-    if [ "$status" -eq "$wanted" ] && [ "$(head -n 1 "$room/out")" = "$line" ] && [ ! -s "$room/err" ]; then is=yes; fi
+    if [ "$status" -eq "$wanted" ] && [ "$(head -n 1 "$room/out")" = "$line" ] && errs "$status"; then is=yes; fi
     tell "$is" "status $wanted: ubq $*"
 }
 
@@ -78,7 +86,7 @@ for words in "next 2,2 6,3 19" "next 2,2 6 19" "--help" "try a b --dims 5" "try 
     # shellcheck disable=SC2086
     "$ubq" $words >/dev/full 2>"$room/err"
     status=$? is=no
-    if [ "$status" -eq 4 ] && [ ! -s "$room/err" ]; then is=yes; fi
+    if [ "$status" -eq 4 ] && errs 4; then is=yes; fi
     tell "$is" "status 4: ubq $words, to a full device"
 done
 

@@ -472,7 +472,7 @@ where
         Opening::Cut(count) => is_filled(rt, path, count),
         _ => true,
     };
-    is_cut & made_answers(store, wanted)
+    is_cut & made_answers(store.map_err(|refusal| refusal.fault), wanted)
 }
 
 // Whether a file holds a page of zeros and one of the byte 65.

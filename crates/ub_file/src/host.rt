@@ -1,6 +1,6 @@
-ghost use Rattle.std.specs.Prelude.{◌≡◌, ◌<◌, ◌⊎◌, ◌*◌, ◌/◌, ◌%◌, Ok, Err, OnOk, OnErr, MatchResult, IfOk, IfErr, IsTrue, true, false};
+ghost use Rattle.std.specs.Prelude.{◌≡◌, ◌<◌, ◌⊎◌, ◌↔◌, ◌*◌, ◌/◌, ◌%◌, Ok, Err, OnOk, OnErr, MatchResult, IfOk, IfErr, IsOk, IsTrue, true, false};
 ghost use Rattle.ub_file.specs.Host.{facts_of_view, host_view, opened_by, AsksInPlace, IsUnfailed};
-ghost use Rattle.ub_file.specs.Medium.{Empties};
+ghost use Rattle.ub_file.specs.Medium.{bytes, Empties, IsStoreSize};
 ghost use Rattle.ub_file.specs.Raw.{with_refusal, IsUntouched, SetsLength};
 ghost use Rattle.ub_store.specs.Facts.{counted, page_count, raised, Extends, IsPage, Reads, Syncs, WritesAt};
 
@@ -27,6 +27,15 @@ pub struct HostFile<R: RawFile> {
     writes: u64,
     opened: Opened,
     changes: u64,
+    why: Option<io::Error>,
+    unwritable: Option<io::Error>,
+}
+
+/// Why there is no store in a file: a fault, and the system's reason where it gave one.
+#[derive(Clone, Copy)]
+pub struct Refusal {
+    pub fault: StoreFault,
+    pub why: Option<io::Error>,
 }
 
 impl<R: RawFile> Model for HostFile<R> {
@@ -44,35 +53,34 @@ impl<R: RawFile> Model for HostFile<R> {
 }
 
 /// Opens a file for reading and writing, or for reading alone where that is refused: each write is then a failure. It neither
-/// makes the file nor changes it. Device comes where there is no such file or the system refuses it.
-pub fn open<R: Files>(rt: &R, path: &str) -> Result<HostFile<SystemFile<R::File>>, StoreFault>
+/// makes the file nor changes it. The system's reason comes where there is no such file or it refuses it.
+pub fn open<R: Files>(rt: &R, path: &str) -> io::Result<HostFile<SystemFile<R::File>>>
 where
     R::File: FileExt,
-    ensures faults { IfErr result (λ fault. fault ≡ StoreFault.Device) }
     ensures unfailed { IfOk result (λ file.
         IsUnfailed (⟦<HostFile<SystemFile<R::File>> as Medium>⟧.facts file)) }
     ensures found { IfOk result (λ file. (file.opened ≡ Opened.Found) × (file.changes ≡ 0)) }
 {
-    if let Ok(file) = open_as(rt, &way(Opened::Found, Access::ReadAndWrite), path) {
-        return Ok(file);
+    let why = match open_as(rt, &way(Opened::Found, Access::ReadAndWrite), path) {
+        Ok(file) => return Ok(file),
+        Err(why) => why,
+    };
+    match open_as(rt, &way(Opened::Found, Access::Read), path) {
+        Ok(file) => Ok(file.unwritable(why)),
+        Err(_) => Err(why),
     }
-    open_as(rt, &way(Opened::Found, Access::Read), path).map_err(|_| StoreFault::Device)
 }
 
-/// Opens a file for reading and writing, or makes one with no bytes where there is none; one that there is stays as it was. Device
-/// comes where the system refuses it.
-pub fn open_or_make<R: Files>(
-    rt: &R,
-    path: &str,
-) -> Result<HostFile<SystemFile<R::File>>, StoreFault>
+/// Opens a file for reading and writing, or makes one with no bytes where there is none; one that there is stays as it was. The
+/// system's reason comes where it refuses it.
+pub fn open_or_make<R: Files>(rt: &R, path: &str) -> io::Result<HostFile<SystemFile<R::File>>>
 where
     R::File: FileExt,
-    ensures faults { IfErr result (λ fault. fault ≡ StoreFault.Device) }
     ensures unfailed { IfOk result (λ file.
         IsUnfailed (⟦<HostFile<SystemFile<R::File>> as Medium>⟧.facts file)) }
     ensures made { IfOk result (λ file. (file.opened ≡ Opened.Made) × (file.changes ≡ 0)) }
 {
-    open_as(rt, &way(Opened::Made, Access::ReadAndWrite), path).map_err(|_| StoreFault::Device)
+    open_as(rt, &way(Opened::Made, Access::ReadAndWrite), path)
 }
 
 /// The store in a file, which is opened, and of which no call has failed yet. Device comes where there is no such file or the
@@ -81,16 +89,19 @@ where
 pub fn open_store<R: Files>(
     rt: &R,
     path: &str,
-) -> Result<FileStore<HostFile<SystemFile<R::File>>>, StoreFault>
+) -> Result<FileStore<HostFile<SystemFile<R::File>>>, Refusal>
 where
     R::File: FileExt,
-    ensures faults { IfErr result (λ fault.
-        (fault ≡ StoreFault.Device) ⊎ (fault ≡ StoreFault.BadSize)) }
+    ensures faults { IfErr result (λ refusal.
+        (refusal.fault ≡ StoreFault.Device) ⊎ (refusal.fault ≡ StoreFault.BadSize)) }
     ensures unfailed { IfOk result (λ store.
         IsUnfailed (⟦<FileStore<HostFile<SystemFile<R::File>>> as PageStore>⟧.facts store)) }
     ensures found { IfOk result (λ store. (store.opened ≡ Opened.Found) × (store.changes ≡ 0)) }
 {
-    FileStore::open(open(rt, path)?).map_err(|refused| refused.fault)
+    match open(rt, path) {
+        Ok(file) => store_in(file),
+        Err(why) => Err(failed(Some(why))),
+    }
 }
 
 /// A store with no pages in a file, which is emptied, or made where there is none; no call of it has failed yet. Device comes where
@@ -98,19 +109,50 @@ where
 pub fn create_store<R: Files>(
     rt: &R,
     path: &str,
-) -> Result<FileStore<HostFile<SystemFile<R::File>>>, StoreFault>
+) -> Result<FileStore<HostFile<SystemFile<R::File>>>, Refusal>
 where
     R::File: FileExt,
-    ensures faults { IfErr result (λ fault. fault ≡ StoreFault.Device) }
+    ensures faults { IfErr result (λ refusal. refusal.fault ≡ StoreFault.Device) }
     ensures none { IfOk result (λ store.
         page_count (⟦<FileStore<HostFile<SystemFile<R::File>>> as PageStore>⟧.facts store) ≡ 0) }
     ensures unfailed { IfOk result (λ store.
         IsUnfailed (⟦<FileStore<HostFile<SystemFile<R::File>>> as PageStore>⟧.facts store)) }
     ensures made { IfOk result (λ store. (store.opened ≡ Opened.Made) × (store.changes ≡ 1)) }
 {
-    let mut file = open_or_make(rt, path)?;
-    file.empty()?;
-    FileStore::open(file).map_err(|refused| refused.fault)
+    let mut file = match open_or_make(rt, path) {
+        Ok(file) => file,
+        Err(why) => return Err(failed(Some(why))),
+    };
+    match file.empty() {
+        Ok(()) => store_in(file),
+        Err(_) => Err(failed(file.why())),
+    }
+}
+
+// That the system failed, and its reason.
+fn failed(why: Option<io::Error>) -> Refusal
+    ensures { result.fault ≡ StoreFault.Device }
+{
+    Refusal {
+        fault: StoreFault::Device,
+        why,
+    }
+}
+
+// The store in a file that was opened. BadSize comes exactly where it is none.
+fn store_in<R: RawFile>(file: HostFile<R>) -> Result<FileStore<HostFile<R>>, Refusal>
+    ensures size { IsOk result ↔ IsStoreSize
+        (bytes (facts_of_view R.facts file) (file.length % 4096)) }
+    ensures opened { IfOk result (λ store. store ≡ file) }
+    ensures faults { IfErr result (λ refusal. refusal.fault ≡ StoreFault.BadSize) }
+{
+    match FileStore::open(file) {
+        Ok(store) => Ok(store),
+        Err(refused) => Err(Refusal {
+            fault: refused.fault,
+            why: None,
+        }),
+    }
 }
 
 // Opens a file in this way, and asks for its length. A folder, which can be opened for reading, is no file.
@@ -143,16 +185,21 @@ fn place(n: u32) -> u64
     PAGE_BYTES * u64::from(n)
 }
 
-// What a call came to: a refusal is Device, and is counted.
-fn tell(done: io::Result<()>, refusals: &mut u64) -> Result<(), StoreFault>
+// What a call came to: a refusal is Device, is counted, and its reason is kept.
+fn tell(
+    done: io::Result<()>,
+    refusals: &mut u64,
+    why: &mut Option<io::Error>,
+) -> Result<(), StoreFault>
     ensures { MatchResult done
         (λ _. (result ≡ Ok tt) × (refusals.new ≡ refusals.old))
         (λ _. (result ≡ Err StoreFault.Device) × (refusals.new ≡ raised refusals.old 1)) }
 {
     match done {
         Ok(()) => Ok(()),
-        Err(_) => {
+        Err(error) => {
             *refusals = refusals.saturating_add(1);
+            *why = Some(error);
             Err(StoreFault::Device)
         }
     }
@@ -172,6 +219,26 @@ impl<R: RawFile> HostFile<R> {
             writes: 0,
             opened,
             changes: 0,
+            why: None,
+            unwritable: None,
+        }
+    }
+
+    // The same, where the file was opened for reading alone for this reason.
+    fn unwritable(mut self, why: io::Error) -> HostFile<R>
+        ensures { result ≡ self }
+    {
+        self.unwritable = Some(why);
+        self
+    }
+
+    /// The system's reason for the last call that it refused; of one that isn't a read, of a file that could be opened for
+    /// reading alone, why it could.
+    pub fn why(&self) -> Option<io::Error> {
+        if self.writes == 0 || self.unwritable.is_none() {
+            self.why
+        } else {
+            self.unwritable
         }
     }
 
@@ -200,7 +267,7 @@ impl<R: RawFile> HostFile<R> {
             ((self.new.length ≡ self.old.length) × (self.new.sure ≡ false)) }
     {
         self.changes = self.changes.saturating_add(1);
-        let done = tell(self.file.set_len(size), &mut self.writes);
+        let done = tell(self.file.set_len(size), &mut self.writes, &mut self.why);
         self.sure = done.is_ok();
         if self.sure {
             self.length = size;
@@ -284,7 +351,11 @@ impl<R: RawFile> Medium for HostFile<R> {
           reads = with_refusal result self.old.reads;
         } }
     {
-        tell(self.file.read_exact_at(page, place(n)), &mut self.reads)
+        tell(
+            self.file.read_exact_at(page, place(n)),
+            &mut self.reads,
+            &mut self.why,
+        )
     }
 
     /// Puts a page in the place of that of this number, which there is, by one call of the file.
@@ -301,7 +372,11 @@ impl<R: RawFile> Medium for HostFile<R> {
         } }
     {
         self.changes = self.changes.saturating_add(1);
-        tell(self.file.write_all_at(page, place(n)), &mut self.writes)
+        tell(
+            self.file.write_all_at(page, place(n)),
+            &mut self.writes,
+            &mut self.why,
+        )
     }
 
     /// Puts a page of zeros after the last whole page, in the place of the rest, by one call of the file where there is no
@@ -342,6 +417,6 @@ impl<R: RawFile> Medium for HostFile<R> {
         ensures unchanged { IsTrue self.old.sure → self.new.changes ≡ self.old.changes }
     {
         self.set_surely()?;
-        tell(self.file.sync_all(), &mut self.writes)
+        tell(self.file.sync_all(), &mut self.writes, &mut self.why)
     }
 }

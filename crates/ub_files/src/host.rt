@@ -3,6 +3,7 @@ ghost use Rattle.ub_files.specs.Files.{IsLent, IsMade, IsTorn, LendsFile, OpensF
 ghost use Rattle.ub_files.specs.Host.{facts_of_host};
 
 use crate::files::Files;
+use crate::missed::{Deed, Missed};
 use std::os::unix::fs::FileExt;
 use std::{fs, io, rt};
 use ub_file::host::{create_store, open_store};
@@ -17,6 +18,7 @@ pub struct HostFiles<'r, R> {
     rt: &'r R,
     reads: u64,
     tables: u64,
+    missed: Option<Missed>,
 }
 
 impl<'r, R: rt::Files + AllocGlobal> HostFiles<'r, R>
@@ -31,20 +33,23 @@ where
             rt,
             reads: 0,
             tables: 0,
+            missed: None,
         }
+    }
+
+    /// What couldn't be done with a file last, for people: with which one, and the system's reason.
+    pub fn missed(&self) -> Option<Missed> {
+        self.missed
     }
 }
 
-// The bytes of a file.
-fn read_file<R: rt::Files + AllocGlobal>(rt: &R, path: &str) -> Result<Vec<u8>, StoreFault>
-    ensures { IfErr result (λ fault. (fault ≡ StoreFault.Device) ⊎ (fault ≡ StoreFault.Memory)) }
+// What a refusal of the system to read a file is.
+fn read_fault(why: &io::Error) -> StoreFault
+    ensures { (result ≡ StoreFault.Device) ⊎ (result ≡ StoreFault.Memory) }
 {
-    match fs::read(rt, path) {
-        Ok(bytes) => Ok(bytes),
-        Err(error) => match error.kind() {
-            io::ErrorKind::OutOfMemory => Err(StoreFault::Memory),
-            _ => Err(StoreFault::Device),
-        },
+    match why.kind() {
+        io::ErrorKind::OutOfMemory => StoreFault::Memory,
+        _ => StoreFault::Device,
     }
 }
 
@@ -58,16 +63,22 @@ where
     ghost facts = { λ files. facts_of_host files.reads files.tables };
 
     fn read(&mut self, path: &str) -> Result<Vec<u8>, StoreFault> {
-        let path = if path == STANDARD_INPUT {
-            "/dev/stdin"
+        let (device, name) = if path == STANDARD_INPUT {
+            ("/dev/stdin", "standard input")
         } else {
-            path
+            (path, path)
         };
-        let read = read_file(self.rt, path);
-        if let Err(StoreFault::Device) = &read {
-            self.reads = self.reads.saturating_add(1);
+        match fs::read(self.rt, device) {
+            Ok(bytes) => Ok(bytes),
+            Err(why) => {
+                let fault = read_fault(&why);
+                if fault == StoreFault::Device {
+                    self.reads = self.reads.saturating_add(1);
+                    self.missed = Some(Missed::new(Deed::Read, name, why));
+                }
+                Err(fault)
+            }
         }
-        read
     }
 
     /// The store in a table file that was found, which no call has changed.
@@ -83,11 +94,16 @@ where
         ensures found { IfOk result (λ store.
             (store.opened ≡ Opened.Found) × (store.changes ≡ 0)) }
     {
-        let opened = open_store(self.rt, path);
-        if let Err(StoreFault::Device) = &opened {
-            self.tables = self.tables.saturating_add(1);
+        match open_store(self.rt, path) {
+            Ok(store) => Ok(store),
+            Err(refusal) => {
+                if refusal.fault == StoreFault::Device {
+                    self.tables = self.tables.saturating_add(1);
+                    self.missed = refusal.why.map(|why| Missed::new(Deed::Open, path, why));
+                }
+                Err(refusal.fault)
+            }
         }
-        opened
     }
 
     /// A store with no pages in a table file that was made where there was none, and else emptied.
@@ -99,14 +115,19 @@ where
             (facts_of_host self.new.reads self.new.tables) result }
         ensures new { IfOk result (λ store. store.opened ≡ Opened.Made) }
     {
-        let created = create_store(self.rt, path);
-        if let Err(StoreFault::Device) = &created {
-            self.tables = self.tables.saturating_add(1);
+        match create_store(self.rt, path) {
+            Ok(store) => Ok(store),
+            Err(refusal) => {
+                self.tables = self.tables.saturating_add(1);
+                self.missed = refusal.why.map(|why| Missed::new(Deed::Make, path, why));
+                Err(refusal.fault)
+            }
         }
-        created
     }
 
-    fn put_back(&mut self, _path: &str, store: FileStore<HostFile<SystemFile<R::File>>>) {
-        drop(store);
+    fn put_back(&mut self, path: &str, store: FileStore<HostFile<SystemFile<R::File>>>) {
+        if let Some(why) = store.into_medium().why() {
+            self.missed = Some(Missed::new(Deed::Use, path, why));
+        }
     }
 }

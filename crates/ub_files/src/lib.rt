@@ -9,8 +9,10 @@ pub mod copying;
 pub mod files;
 pub mod host;
 pub mod memory;
+pub mod missed;
 
 pub use copying::copy_pages;
 pub use files::Files;
 pub use host::HostFiles;
 pub use memory::MemFiles;
+pub use missed::Missed;

@@ -1,12 +1,22 @@
-// The program `ubq`: what touches the process, its words, its standard output and the status that it ends with. All else is
-// `run_program` of the crate `ub_shell`.
+// The program `ubq`: what touches the process, its words, its standard output, the status that it ends with,
+// and a line on standard error where a file couldn't be had. All else is `run_program` of the crate `ub_shell`.
 #![tactic(auto)]
 
 use std::io;
 use std::process::ExitCode;
 use ub_shell::{HostFiles, program_words, run_program};
 
+// The status where a file or the output failed.
+const FAILED: u8 = 4;
+
 fn main(rt: HostRuntime) -> ExitCode {
     let mut files = HostFiles::new(&rt);
-    ExitCode::from(run_program(rt.alloc(), &mut files, program_words(&rt), io::writer(&rt)).0)
+    let words = program_words(&rt);
+    let status = run_program(rt.alloc(), &mut files, words, io::writer(&rt)).0;
+    if status == FAILED {
+        if let Some(missed) = files.missed() {
+            let _ = eprintln!(rt; "ubq: {missed}");
+        }
+    }
+    ExitCode::from(status)
 }
