@@ -239,6 +239,7 @@ misses "make missing/new.ub: $none" load s.csv missing/new.ub --dims 2
 misses 'read .: Is a directory (os error 21)' load . new.ub --dims 2
 misses 'open .: Is a directory (os error 21)' check .
 misses 'make .: Is a directory (os error 21)' load s.csv . --dims 2
+misses 'read standard input: Is a directory (os error 21)' run s.ub - <.
 try 'no table file' 4 all '! Device\n' run missing.ub row1.sql
 try 'no script' 4 all '! Device\n' run s.ub missing.sql
 mkdir folder
@@ -260,12 +261,16 @@ if "${as[@]}" "$ubq" --version >out 2>err; then
     try 'and is described' 0 all "${facts_of_s}levels 1\nformat 3\n" describe s.ub
     try 'and is not loaded into' 4 all '! Device\n' load s.csv s.ub --dims 2
     try 'no row is put into it' 4 all '! Device\n' run s.ub insert.sql
+    denied='Permission denied (os error 13)'
+    misses "make s.ub: $denied" load s.csv s.ub --dims 2
+    misses "use s.ub: $denied" run s.ub insert.sql
     try 'none is put where there is room' 4 all '! Device\n' run s.ub <(printf 'INSERT INTO t VALUES (3, 0, 6);')
     try 'none is taken out' 4 all '! Device\n' run s.ub delete.sql
     try 'but a DELETE of no row is done' 0 all '-- deleted 0\n' run s.ub none.sql
     holds 'it is as it was' cmp -s before.ub s.ub
     chmod a= s.ub
     try 'a table file that can not be read either' 4 all '! Device\n' run s.ub row1.sql
+    misses "open s.ub: $denied" run s.ub row1.sql
     chmod u=rw s.ub
     cp "$root/tests/old/s.ub" only.ub
     cp before.ub new.ub
@@ -330,6 +335,24 @@ if [ -e /dev/full ]; then
     holds 'a full device after the table was made anew' test $? -eq 4
     try 'which is there all the same' 0 all "$row1" run late.ub row1.sql
     try 'a full device for the new table' 4 all '! Device\n' upgrade "$root/tests/old/s.ub" /dev/full
+fi
+
+# ---- where the system fails in the middle: a call of the C library that fails each time, before the program's
+if command -v cc >/dev/null; then
+    printf '#include <errno.h>\nint fsync(int file) { (void)file; errno = EIO; return -1; }\n' >sync.c
+    cc -shared -fPIC -o sync.so sync.c
+    as=(env LD_PRELOAD="$room/sync.so")
+    cp before.ub failing.ub
+    io='Input/output error (os error 5)'
+    misses "use unsynced.ub: $io" load s.csv unsynced.ub --dims 2
+    "${as[@]}" "$ubq" run failing.ub insert.sql >out 2>err
+    holds 'an INSERT whose table is not made to last is status 4' test $? -eq 4
+    holds 'its line is told, and then the failure' test "$(tail -n 1 out)" = '! Device'
+    holds 'with the file and the reason' grep -qxF "ubq: can't use failing.ub: $io" err
+    try 'what only asks makes nothing last' 0 all "$row1" run before.ub row1.sql
+    as=()
+else
+    skip 'a sync that fails' 'there is no cc'
 fi
 
 echo "$right right, $wrong wrong"
