@@ -1,0 +1,2 @@
+pub mod ChangeFacts
+pub mod OverlayFacts

@@ -1,0 +1,46 @@
+-- What contracts see of a store whose changed pages are in memory.
+use Rattle.std.specs.Prelude.{◌<◌, ◌≤◌, ℕ, List, true}
+use Rattle.ub_store.specs.Facts.{StoreFacts, page_count}
+use Rattle.ub_journal.specs.Image.{IsUntouched, put_all, resized}
+use Rattle.ub_journal.specs.declared.journal.Change.{Change}
+use Rattle.ub_overlay.specs.Changes.{AreBelow, Ascend, put_change}
+
+-- the facts of the store below, the pages that were written or added since, each with its number, how many pages there are, and how
+-- often memory was refused for a page that was to be written (a count that stays at the greatest u64)
+pub record OverlayView : Type 0 where
+  pub below : StoreFacts
+  pub changes : List Change
+  pub count : ℕ
+  pub failed : ℕ
+
+abbrev pub overlay_view : StoreFacts → List Change → ℕ → ℕ → OverlayView
+overlay_view below changes count failed = record { below = below; changes = changes; count = count; failed = failed }
+
+-- its pages: those below, made so many, with the changes in their places
+abbrev pub pages_of : OverlayView → List (List ℕ)
+pages_of v = put_all v.changes (resized v.count v.below.pages)
+
+-- its facts: those of the store below, but for the pages, which last as long as memory does, and the failures of its own. Each page that
+-- is written may be refused
+abbrev pub overlay_facts : OverlayView → StoreFacts
+overlay_facts v = record v.below {
+  can_fail = true;
+  pages = pages_of v;
+  synced = pages_of v;
+  failed_writes = v.failed;
+}
+
+-- of the page of this number memory is held: it was written or added
+abbrev pub IsHeld : OverlayView → ℕ → Type 0
+IsHeld v n = ¬ (IsUntouched v.changes n)
+
+-- a change more, or another page in the place of one
+abbrev pub with_change : Change → OverlayView → OverlayView
+with_change c v = record v { changes = put_change c v.changes }
+
+-- the changes ascend, each is of a page that there is, and each page that was added is one of them
+pub record IsOverlay (v : OverlayView) : Type 0 where
+  pub ascend : Ascend v.changes
+  pub within : AreBelow v.count v.changes
+  pub no_fewer : page_count v.below ≤ v.count
+  pub added : (n : ℕ) → page_count v.below ≤ n → n < v.count → IsHeld v n

@@ -1,0 +1,106 @@
+ghost use Rattle.std.specs.Prelude.{◌≡◌, ◌↔◌, [], None, false, IfOk, OnOk, OnErr, IsTrue};
+ghost use Rattle.std.specs.Option.{is_some, option_copied};
+ghost use Rattle.ub_overlay.specs.Changes.{change, changed_page, put_change};
+
+use std::alloc::{AllocError, Global};
+use std::collections::BTreeMap;
+use std::marker::Model;
+use ub_journal::Change;
+use ub_store::Page;
+
+/// The pages that were changed, under their numbers. Each stands in a box of its own.
+#[derive(Drop)]
+pub struct Changes {
+    alloc: Global,
+    pages: BTreeMap<u32, Box<Page>>,
+}
+
+impl Model for Changes {
+    ghost use Rattle.std.specs.Prelude.{List};
+    ghost use Rattle.ub_journal.specs.declared.journal.Change.{Change as Declared};
+    ghost use Rattle.ub_overlay.specs.Changes.{changes_of};
+
+    ghost Value = { List Declared };
+
+    ghost view = { λ c. changes_of c.pages.entries };
+}
+
+impl Changes {
+    /// No changes. They take no memory.
+    pub fn new(alloc: Global) -> Changes
+        ensures { result ≡ [] }
+    {
+        Changes {
+            alloc,
+            pages: BTreeMap::new(alloc),
+        }
+    }
+
+    /// Whether there are none.
+    pub fn is_empty(&self) -> bool
+        ensures { IsTrue result ↔ (self.now ≡ []) }
+    {
+        self.pages.is_empty()
+    }
+
+    /// The page of this number, if it was changed.
+    pub fn get(&self, n: u32) -> Option<&Page>
+        ensures { option_copied result ≡ changed_page self.now n }
+    {
+        match self.pages.get(&n) {
+            Some(page) => Some(page),
+            None => None,
+        }
+    }
+
+    /// Puts a page at this number. Memory may be refused for one that isn't held yet; nothing changes then.
+    pub fn put(&mut self, n: u32, page: &Page) -> Result<(), AllocError>
+        ensures put { OnOk result (self.new ≡ put_change (change n page.now) self.old) }
+        ensures refused { OnErr result (self.new ≡ self.old) }
+        ensures needed { OnErr result (changed_page self.old n ≡ None) }
+    {
+        if self.write(n, page) {
+            return Ok(());
+        }
+        self.add(n, page)
+    }
+
+    // Writes over the page of this number, where it is held, and tells whether it is.
+    fn write(&mut self, n: u32, page: &Page) -> bool
+        ensures held { result ≡ is_some (changed_page self.old n) }
+        ensures written { IsTrue result → self.new ≡ put_change (change n page.now) self.old }
+        ensures kept { result ≡ false → self.new ≡ self.old }
+    {
+        match self.pages.get_mut(&n) {
+            Some(held) => {
+                **held = *page;
+                true
+            }
+            None => false,
+        }
+    }
+
+    // Holds a page of this number that isn't held yet.
+    fn add(&mut self, n: u32, page: &Page) -> Result<(), AllocError>
+        ensures put { OnOk result (self.new ≡ put_change (change n page.now) self.old) }
+        ensures refused { OnErr result (self.new ≡ self.old) }
+    {
+        let page = Box::new(self.alloc, *page)?;
+        self.pages.insert(n, page)?;
+        Ok(())
+    }
+
+    /// The changes as a list, in ascending order of their numbers.
+    pub fn into_list(self) -> Result<Vec<Change>, AllocError>
+        ensures { IfOk result (λ list. list.items ≡ self) }
+    {
+        let mut list = Vec::new(self.alloc);
+        for (number, page) in self.pages {
+            list.push(Change {
+                number,
+                page: *page,
+            })?;
+        }
+        Ok(list)
+    }
+}
