@@ -1,5 +1,5 @@
 -- A map of boxed pages as a list of changes.
-use Rattle.std.proofs.Common.{Less, Equal, Greater, ◌≡◌, ◌<◌, ◌≤◌, ℕ, List, [], ◌∷◌, Option, Some, None, true, nat_eq, refl, sym, ap, ◌∙◌, inl, inr, arith}
+use Rattle.std.proofs.Common.{false, Less, Equal, Greater, ◌≡◌, ◌<◌, ◌≤◌, ℕ, List, [], ◌∷◌, Option, Some, None, true, nat_eq, refl, sym, ap, ◌∙◌, inl, inr, arith}
 use Rattle.std.specs.Prelude.{Box}
 use Rattle.std.specs.Borrow.{Bor}
 use Rattle.std.proofs.lemmas.Bool.{cases_Bool, cases_eq, cases_lt, eqb-true, eq-eqb}
@@ -103,3 +103,10 @@ is_some-map (Some b) = refl
 
 pub is_held : (n : ℕ) (es : Entries) → is_some (changed_page (changes_of es) n) ≡ is_some (lookup (is_at (nat_cmp n)) es)
 is_held n es = ap is_some (page_found n es) ∙ is_some-map (lookup (is_at (nat_cmp n)) es)
+
+pub none_held : (n : ℕ) (es : Entries) → false ≡ is_some (lookup (is_at (nat_cmp n)) es) → changed_page (changes_of es) n ≡ None
+none_held n es h = page_found n es ∙ by_box (lookup (is_at (nat_cmp n)) es) h
+  where
+    by_box : (o : Option (Box (List ℕ) Global)) → false ≡ is_some o → option_map (λ b. b.value) o ≡ None
+    by_box None e = refl
+    by_box (Some b) e = cc

@@ -1,2 +1,3 @@
 pub mod ChangeFacts
 pub mod OverlayFacts
+pub mod JournalFacts

@@ -62,12 +62,12 @@ resized_more : (k : ℕ) (t : List (List ℕ)) → length t ≤ k → resized (k
 resized_more k t within = let same : k + 1 ≡ suc k = omega arith in ap (λ j. resized j t) same ∙ filled_more k (suc k) k t zero_page within (omega arith) (omega arith)
 
 -- numbers above one are apart from it
-above_apart : (n m : ℕ) (cs : List Change) → n ≤ m → AreAbove m cs → IsUntouched cs n
+pub above_apart : (n m : ℕ) (cs : List Change) → n ≤ m → AreAbove m cs → IsUntouched cs n
 above_apart n m [] le h = tt
 above_apart n m (c ∷ cs) le h = (λ e. let over = h.0 in omega (arith, e, le, over), above_apart n m cs le h.1)
 
 -- a page that none of the changes is of may be put before them or after
-put_apart : (cs : List Change) (t : List (List ℕ)) (n : ℕ) (page : List ℕ) → IsUntouched cs n → put_all cs (slice_set t n page) ≡ slice_set (put_all cs t) n page
+pub put_apart : (cs : List Change) (t : List (List ℕ)) (n : ℕ) (page : List ℕ) → IsUntouched cs n → put_all cs (slice_set t n page) ≡ slice_set (put_all cs t) n page
 put_apart [] t n page h = refl
 put_apart (c ∷ cs) t n page h =
     ap (put_all cs) (set_apart t n c.number page c.page (λ e. h.0 (sym e))) ∙ put_apart cs (slice_set t c.number c.page) n page h.1

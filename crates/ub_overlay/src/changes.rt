@@ -1,5 +1,6 @@
-ghost use Rattle.std.specs.Prelude.{◌≡◌, ◌↔◌, [], None, false, IfOk, OnOk, OnErr, IsTrue};
+ghost use Rattle.std.specs.Prelude.{◌≡◌, ◌↔◌, ◌∷◌, [], None, false, IfSome, IfNone, IfOk, OnOk, OnErr, IsTrue};
 ghost use Rattle.std.specs.Option.{is_some, option_copied};
+ghost use Rattle.ub_journal.specs.Image.{IsUntouched};
 ghost use Rattle.ub_overlay.specs.Changes.{change, changed_page, put_change};
 
 use std::alloc::{AllocError, Global};
@@ -88,6 +89,18 @@ impl Changes {
         let page = Box::new(self.alloc, *page)?;
         self.pages.insert(n, page)?;
         Ok(())
+    }
+
+    /// Takes out the page of number 0, if it was changed.
+    pub fn take_first(&mut self) -> Option<Page>
+        ensures taken { IfSome result (λ page. self.old ≡ change 0 page ∷ self.new) }
+        ensures none { IfNone result ((self.new ≡ self.old) × IsUntouched self.old 0) }
+    {
+        if !self.pages.contains_key(&0) {
+            return None;
+        }
+        let (_, page) = self.pages.pop_first()?;
+        Some(*page)
     }
 
     /// The changes as a list, in ascending order of their numbers.

@@ -15,4 +15,4 @@ mod below;
 mod changes;
 mod overlay;
 
-pub use overlay::{Overlay, Parts};
+pub use overlay::{Journaled, Overlay, Parts};

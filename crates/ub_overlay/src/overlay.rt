@@ -1,14 +1,15 @@
-ghost use Rattle.std.specs.Prelude.{◌≡◌, ◌≢◌, ◌<◌, ◌≤◌, ◌+◌, ◌↔◌, ◌⊎◌, [], ℕ, IfOk, IfErr, OnOk, OnErr, IsErrOf, IsOk, IsTrue};
-ghost use Rattle.ub_store.specs.Facts.{counted, page_count, zero_page, IsPage, Reads, WritesAt, Extends, Syncs};
-ghost use Rattle.ub_journal.specs.Image.{put_all, resized};
+ghost use Rattle.std.specs.Prelude.{◌≡◌, ◌≢◌, ◌<◌, ◌≤◌, ◌+◌, ◌↔◌, ◌⊎◌, [], ℕ, Err, IfOk, IfErr, OnOk, OnErr, IsErrOf, IsOk, IsTrue};
+ghost use Rattle.ub_store.specs.Facts.{counted, page_count, zero_page, IsHonest, IsPage, Reads, WritesAt, Extends, Syncs};
+ghost use Rattle.ub_journal.specs.Image.{put_all, resized, told};
 ghost use Rattle.ub_overlay.specs.Changes.{AreBelow, Ascend, change};
+ghost use Rattle.ub_overlay.specs.Journal.{IsJournalOf, IsToldOf};
 ghost use Rattle.ub_overlay.specs.Overlay.{overlay_facts, overlay_view, pages_of, with_change, IsHeld};
 
 use crate::below::Below;
 use crate::changes::Changes;
 use std::alloc::{AllocError, Global};
 use std::marker::Model;
-use ub_journal::Change;
+use ub_journal::{Change, Journal};
 use ub_store::{MAX_PAGES, Page, PageStore, Rejected, StoreFault};
 
 /// A store whose pages are those of another one, but for the pages that were written or added since. These are kept in memory, and
@@ -40,6 +41,15 @@ pub struct Parts<S> {
     pub count: u32,
     /// The pages that were written or added, in ascending order of their numbers.
     pub changes: Vec<Change>,
+}
+
+/// What an overlay was made of, and the journal that puts its changes.
+#[derive(Drop)]
+pub struct Journaled<S> {
+    /// The store below. Its pages are as they were.
+    pub below: S,
+    /// The journal of its pages.
+    pub journal: Journal,
 }
 
 impl<S: PageStore> Overlay<S> {
@@ -99,6 +109,73 @@ impl<S: PageStore> Overlay<S> {
             }),
         }
     }
+
+    /// The store below, whose pages are as they were, and the journal that makes the overlay's pages of them, which a commit can put.
+    /// The first page below is read for it, in one call. NoPage comes exactly where there is none, Device where that read failed,
+    /// Memory where memory was refused. After a fault the store below alone is handed back.
+    pub fn into_journal(self) -> Result<Journaled<S>, Rejected<S, StoreFault>>
+        ensures below { IfOk result (λ made. S.facts made.below ≡ self.below) }
+        ensures journal { IfOk result (λ made. IsHonest self.below
+            → IsJournalOf self (told made.journal)) }
+        ensures some { OnOk result (0 < page_count self.below) }
+        ensures refused { IfErr result (λ refused. Reads {A = Unit {0}}
+            self.below (S.facts refused.store) (Err refused.fault)) }
+        ensures missing { IfErr result (λ refused.
+            (refused.fault ≡ StoreFault.NoPage) ↔ (page_count self.below ≡ 0)) }
+        ensures no_size { IfErr result (λ refused. refused.fault ≢ StoreFault.BadSize) }
+    {
+        let Overlay {
+            mut below,
+            changes,
+            count,
+            failed: _,
+        } = self;
+        let mut before = [0; 4096];
+        if let Err(fault) = read_first(&mut below, &mut before) {
+            return Err(Rejected {
+                store: below.into_store(),
+                fault,
+            });
+        }
+        match tell(changes, before, count) {
+            Ok(journal) => Ok(Journaled {
+                below: below.into_store(),
+                journal,
+            }),
+            Err(_) => Err(Rejected {
+                store: below.into_store(),
+                fault: StoreFault::Memory,
+            }),
+        }
+    }
+}
+
+// Reads the first page. NoPage comes exactly where there is none.
+fn read_first<S: PageStore>(below: &mut Below<S>, page: &mut Page) -> Result<(), StoreFault>
+    ensures page { OnOk result (IsPage (S.facts below.old) 0 page.new) }
+    ensures some { OnOk result (0 < page_count (S.facts below.old)) }
+    ensures missing { IsErrOf result StoreFault.NoPage ↔ (page_count (S.facts below.old) ≡ 0) }
+    ensures no_size { ¬ (IsErrOf result StoreFault.BadSize) }
+    ensures effect { Reads (S.facts below.old) (S.facts below.new) result }
+{
+    if below.pages() == 0 {
+        return Err(StoreFault::NoPage);
+    }
+    below.read_into(0, page)
+}
+
+// The journal of these changes of a table whose first page is this one.
+fn tell(mut changes: Changes, before: Page, count: u32) -> Result<Journal, AllocError>
+    ensures { IfOk result (λ journal. IsToldOf changes before count (told journal)) }
+{
+    let head = changes.take_first().unwrap_or(before);
+    let changes = changes.into_list()?;
+    Ok(Journal {
+        before,
+        head,
+        count,
+        changes,
+    })
 }
 
 impl<S: PageStore> PageStore for Overlay<S> {
