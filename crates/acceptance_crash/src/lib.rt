@@ -1,9 +1,12 @@
-// Tests of a table's changes, crashed after each call of the place, and healed with a crash after each call of that.
+// Tests of a table's changes, crashed after each call of the place, and healed with a crash after each call of that; and of changes
+// that are held in memory until then.
 #![tactic(auto)]
 
 #[cfg(test)]
 mod crashes;
 #[cfg(test)]
 mod disk;
+#[cfg(test)]
+mod overlays;
 #[cfg(test)]
 mod pages;
