@@ -127,6 +127,28 @@ fn are_put(alloc: Global) -> Result<bool, StoreFault> {
     Ok(puts(&mut place, &made.journal, 6, 7, 8))
 }
 
+// The pages that a journal stands for which cuts a table down to its first page, and changes that one.
+fn cut<S: PageStore>(alloc: Global, below: S) -> Result<Overlay<S>, StoreFault> {
+    let journal = Journal {
+        before: [1; 4096],
+        head: [5; 4096],
+        count: 1,
+        changes: Vec::new(alloc),
+    };
+    match Overlay::through(alloc, below, &journal) {
+        Ok(overlay) => Ok(overlay),
+        Err(_) => Err(StoreFault::Memory),
+    }
+}
+
+// Whether they are read through that journal, and a page that is added then is none that was cut.
+fn are_read_through(alloc: Global) -> Result<bool, StoreFault> {
+    let mut overlay = cut(alloc, two_pages(alloc)?)?;
+    let is_cut = has_pages(&mut overlay, &[5]);
+    let added = overlay.extend()?;
+    Ok(is_cut && added == 1 && has_pages(&mut overlay, &[5, 0]))
+}
+
 #[test]
 fn changes_stay_in_memory(rt: HostRuntime) {
     assert!(rt; stay_in_memory(rt.alloc()) == Ok(true));
@@ -140,4 +162,9 @@ fn a_failure_below_is_told_once(rt: HostRuntime) {
 #[test]
 fn changes_are_put_into_the_file(rt: HostRuntime) {
     assert!(rt; are_put(rt.alloc()) == Ok(true));
+}
+
+#[test]
+fn a_journal_is_read_through(rt: HostRuntime) {
+    assert!(rt; are_read_through(rt.alloc()) == Ok(true));
 }

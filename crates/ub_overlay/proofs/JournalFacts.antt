@@ -32,10 +32,10 @@ made v j before is some first (inl taken) =
     sym (put_apart j.changes (resized v.count v.below.pages) 0 j.head (above_apart 0 0 j.changes (omega arith) asc.0))
     ∙ ap (λ cs. put_all cs (resized v.count v.below.pages)) (sym taken)
 made v j before is some first (inr kept) =
-    let fewer = is.no_fewer in
+    let fewer : 0 < v.count = is.some some in
     let there : slice_get (put_all v.changes (resized v.count v.below.pages)) 0 ≡ Some before =
     put_untouched v.changes (resized v.count v.below.pages) 0 kept.2
-    ∙ get_resized v.count 0 v.below.pages zero_page (omega (arith, fewer, some)) some ∙ first in
+    ∙ get_resized v.count 0 v.below.pages zero_page (omega (arith, fewer)) some ∙ first in
     ap (λ cs. slice_set (put_all cs (resized v.count v.below.pages)) 0 j.head) (sym kept.0)
     ∙ ap (λ page. slice_set (put_all v.changes (resized v.count v.below.pages)) 0 page) kept.1
     ∙ set_same (put_all v.changes (resized v.count v.below.pages)) 0 before there
@@ -56,12 +56,12 @@ pub journal_is : (v : OverlayView) (j : Journal) (before : List ℕ) → IsOverl
 journal_is v j before is honest some page told =
     let first : slice_get v.below.pages 0 ≡ Some before = page honest in
     let (apart, (ascend, (within, rest))) = apart_from v j before is told.split in
-    let fewer = is.no_fewer in
+    let fewer : 0 < v.count = is.some some in
     let front : HasFront j v.below.pages = rw (get_or_from_slice_get v.below.pages 0 before zero_page first, told.before_is) refl in
     record {
       front = front;
       fits = λ after. record {
-        some = (rw told.count_is (omega (arith, fewer, some)), some);
+        some = (rw told.count_is (omega (arith, fewer)), some);
         complete = λ n less ne left. elim (cases_lt n (page_count v.below)) [
           | inl there ↦ there
           | inr past ↦ absurd (is.added n past (rw told.count_is at less) (rest n ne left))

@@ -1,3 +1,4 @@
 pub mod ChangeFacts
 pub mod OverlayFacts
 pub mod JournalFacts
+pub mod ThroughFacts

@@ -1,9 +1,10 @@
 -- What puts and additions make of the pages of an overlay.
-use Rattle.std.proofs.Common.{◌≡◌, ◌≢◌, ◌<◌, ◌≤◌, ◌+◌, ◌++◌, ℕ, zero, suc, List, [], ◌∷◌, Some, None, true, false, length, take, replicate, nat_eq, refl, sym, ap, ◌∙◌, inl, inr, arith, rules, slice_get, slice_set, length-set}
+use Rattle.std.proofs.Common.{get_or, length-append, ◌≡◌, ◌≢◌, ◌<◌, ◌≤◌, ◌+◌, ◌++◌, ℕ, zero, suc, List, [], ◌∷◌, Some, None, true, false, length, take, replicate, nat_eq, refl, sym, ap, ◌∙◌, inl, inr, arith, rules, slice_get, slice_set, length-set}
 use Rattle.std.proofs.lemmas.Bool.{cases_Bool, cases_lt, eqb-true, eq-eqb}
 use Rattle.std.specs.Prelude.{Result, Ok, Err, OnOk, OnErr}
 use Rattle.std.specs.Result.{is_err}
 use Rattle.ub_store.specs.declared.fault.StoreFault.{StoreFault}
+use Rattle.std.proofs.lemmas.List.{length-replicate, take_more}
 use Rattle.ub_store.specs.Facts.{page_count, zero_page, IsPage, WritesAt, Extends}
 use Rattle.ub_journal.specs.Image.{IsUntouched, put_all, resized}
 use Rattle.ub_journal.specs.declared.journal.Change.{Change}
@@ -47,19 +48,17 @@ module _ {X : Type 0} where
   take_some (suc k) zero z h = absurd (omega arith)
   take_some (suc k) (suc m) z h = ap (λ zs. z ∷ zs) (take_some k m z (omega arith))
 
-  one_more : (k : ℕ) (z : X) → replicate (suc k) z ≡ replicate k z ++ z ∷ []
-  one_more zero z = refl
-  one_more (suc k) z = ap (λ zs. z ∷ zs) (one_more k z)
+  take_filled : (k m n : ℕ) (xs : List X) (z : X) → k ≤ length xs + m → k ≤ length xs + n → take k (xs ++ replicate m z) ≡ take k (xs ++ replicate n z)
+  take_filled k m n [] z a b = take_some k m z (omega (arith, a)) ∙ sym (take_some k n z (omega (arith, b)))
+  take_filled zero m n (x ∷ xs) z a b = refl
+  take_filled (suc k) m n (x ∷ xs) z a b = ap (λ zs. x ∷ zs) (take_filled k m n xs z (omega (arith, a)) (omega (arith, b)))
 
-  filled_more : (k m n : ℕ) (xs : List X) (z : X) → length xs ≤ k → k < length xs + m → k ≤ length xs + n
-      → take (suc k) (xs ++ replicate m z) ≡ take k (xs ++ replicate n z) ++ z ∷ []
-  filled_more k m n [] z within a b = take_some (suc k) m z (omega arith) ∙ one_more k z ∙ ap (λ zs. zs ++ z ∷ []) (sym (take_some k n z (omega arith)))
-  filled_more zero m n (x ∷ xs) z within a b = absurd (omega arith)
-  filled_more (suc k) m n (x ∷ xs) z within a b = ap (λ zs. x ∷ zs) (filled_more k m n xs z (omega arith) (omega arith) (omega arith))
-
--- with a page more, where there are no more pages than that
-resized_more : (k : ℕ) (t : List (List ℕ)) → length t ≤ k → resized (k + 1) t ≡ resized k t ++ zero_page ∷ []
-resized_more k t within = let same : k + 1 ≡ suc k = omega arith in ap (λ j. resized j t) same ∙ filled_more k (suc k) k t zero_page within (omega arith) (omega arith)
+-- with a page more
+resized_more : (k : ℕ) (t : List (List ℕ))
+    → resized (k + 1) t ≡ resized k t ++ get_or (t ++ replicate (k + 1) zero_page) k zero_page ∷ []
+resized_more k t =
+    take_more (t ++ replicate (k + 1) zero_page) k zero_page (omega (arith, length-append t (replicate (k + 1) zero_page), length-replicate (k + 1) zero_page))
+    ∙ ap (λ l. l ++ get_or (t ++ replicate (k + 1) zero_page) k zero_page ∷ []) (take_filled k (k + 1) k t zero_page (omega arith) (omega arith))
 
 -- numbers above one are apart from it
 pub above_apart : (n m : ℕ) (cs : List Change) → n ≤ m → AreAbove m cs → IsUntouched cs n
@@ -105,7 +104,7 @@ above_put k n page (d ∷ ds) less h = elim (compared n d.number) [
   | above is _ ↦ rw is (h.0, above_put k n page ds less h.1)
 ]
 
-ascend_put : (n : ℕ) (page : List ℕ) (cs : List Change) → Ascend cs → Ascend (put_change (change n page) cs)
+pub ascend_put : (n : ℕ) (page : List ℕ) (cs : List Change) → Ascend cs → Ascend (put_change (change n page) cs)
 ascend_put n page [] asc = (tt, tt)
 ascend_put n page (d ∷ ds) asc = elim (compared n d.number) [
   | below is less ↦ rw is ((less, above_more n d.number ds (omega (arith, less)) asc.0), asc)
@@ -113,7 +112,7 @@ ascend_put n page (d ∷ ds) asc = elim (compared n d.number) [
   | above is more ↦ rw is (above_put d.number n page ds more asc.0, ascend_put n page ds asc.1)
 ]
 
-below_put : (k n : ℕ) (page : List ℕ) (cs : List Change) → n < k → AreBelow k cs → AreBelow k (put_change (change n page) cs)
+pub below_put : (k n : ℕ) (page : List ℕ) (cs : List Change) → n < k → AreBelow k cs → AreBelow k (put_change (change n page) cs)
 below_put k n page [] less h = (less, tt)
 below_put k n page (d ∷ ds) less h = elim (compared n d.number) [
   | below is _ ↦ rw is (less, h)
@@ -142,13 +141,14 @@ put_within (c ∷ cs) t more k e h =
     ∙ put_within cs (slice_set t c.number c.page) more k (e ∙ sym (length-set t c.number c.page)) h.1
 
 -- a page that was added stands after those that there were
-added_last : (k : ℕ) (cs : List Change) (t : List (List ℕ)) → AreBelow k cs → length t ≤ k
+added_last : (k : ℕ) (cs : List Change) (t : List (List ℕ)) → AreBelow k cs
     → put_all (put_change (change k zero_page) cs) (resized (k + 1) t) ≡ put_all cs (resized k t) ++ zero_page ∷ []
-added_last k cs t within fewer =
+added_last k cs t within =
+    let last = get_or (t ++ replicate (k + 1) zero_page) k zero_page in
     ap (λ ds. put_all ds (resized (k + 1) t)) (put_last k zero_page cs within) ∙ put_push cs (resized (k + 1) t) (change k zero_page)
-    ∙ ap (λ u. slice_set (put_all cs u) k zero_page) (resized_more k t fewer)
-    ∙ ap (λ u. slice_set u k zero_page) (put_within cs (resized k t) (zero_page ∷ []) k (sym (length_sized k t)) within)
-    ∙ set_last (put_all cs (resized k t)) k zero_page zero_page (sym (length_put_all cs (resized k t) ∙ length_sized k t))
+    ∙ ap (λ u. slice_set (put_all cs u) k zero_page) (resized_more k t)
+    ∙ ap (λ u. slice_set u k zero_page) (put_within cs (resized k t) (last ∷ []) k (sym (length_sized k t)) within)
+    ∙ set_last (put_all cs (resized k t)) k last zero_page (sym (length_put_all cs (resized k t) ∙ length_sized k t))
 
 -- the page that is held under a number is the one there
 held_page : (n : ℕ) (page : List ℕ) (cs : List Change) (t : List (List ℕ)) → Ascend cs → n < length t → changed_page cs n ≡ Some page
@@ -186,7 +186,7 @@ pub still_overlay : (v : OverlayView) (n : ℕ) (page : List ℕ) → IsOverlay 
 still_overlay v n page is within = record {
   ascend = ascend_put n page v.changes is.ascend;
   within = below_put v.count n page v.changes within is.within;
-  no_fewer = is.no_fewer;
+  some = is.some;
   added = λ m past less h. is.added m past less (untouched_before n m page v.changes h).1;
 }
 
@@ -198,7 +198,7 @@ pub grown_overlay : (v : OverlayView) → IsOverlay v → IsOverlay (with_page v
 grown_overlay v is = record {
   ascend = ascend_put v.count zero_page v.changes is.ascend;
   within = below_put (v.count + 1) v.count zero_page v.changes (omega arith) (below_more v.count (v.count + 1) v.changes (omega arith) is.within);
-  no_fewer = let fewer = is.no_fewer in omega (arith, fewer);
+  some = λ there. omega arith;
   added = λ m past less h.
       let before = untouched_before v.count m zero_page v.changes h in
       let apart = before.0 in
@@ -222,7 +222,7 @@ pub grown : (v : OverlayView) (n : ℕ) → IsOverlay v → Extends (overlay_fac
 grown v n is = record {
   frame = refl;
   flushed = inr refl;
-  added = (count_is (with_page v) ∙ ap (λ k. k + 1) (sym (count_is v)), λ honest. added_last v.count v.changes v.below.pages is.within is.no_fewer);
+  added = (count_is (with_page v) ∙ ap (λ k. k + 1) (sym (count_is v)), λ honest. added_last v.count v.changes v.below.pages is.within);
   failed = tt;
   device = λ e. search rules;
 }

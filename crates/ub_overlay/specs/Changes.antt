@@ -22,6 +22,11 @@ abbrev pub put_change : Change → List Change → List Change
 put_change c [] = c ∷ []
 put_change c (d ∷ ds) = match_ordering (nat_cmp c.number d.number) (c ∷ d ∷ ds) (c ∷ ds) (d ∷ put_change c ds)
 
+-- the changes with these, one after the other
+abbrev pub put_each : List Change → List Change → List Change
+put_each [] cs = cs
+put_each (d ∷ ds) cs = put_each ds (put_change (change d.number d.page) cs)
+
 -- each change is of a page with a number above this one
 abbrev pub AreAbove : ℕ → List Change → Type 0
 AreAbove n [] = Unit {0}

@@ -5,8 +5,8 @@ use Rattle.ub_journal.specs.Image.{IsUntouched, put_all, resized}
 use Rattle.ub_journal.specs.declared.journal.Change.{Change}
 use Rattle.ub_overlay.specs.Changes.{AreBelow, Ascend, put_change}
 
--- the facts of the store below, the pages that were written or added since, each with its number, how many pages there are, and how
--- often memory was refused for a page that was to be written (a count that stays at the greatest u64)
+-- the facts of the store below, the pages that were written or added since, or that a journal holds, each with its number, how many
+-- pages there are, and how often memory was refused for a page that was to be written (a count that stays at the greatest u64)
 pub record OverlayView : Type 0 where
   pub below : StoreFacts
   pub changes : List Change
@@ -38,9 +38,10 @@ IsHeld v n = ¬ (IsUntouched v.changes n)
 abbrev pub with_change : Change → OverlayView → OverlayView
 with_change c v = record v { changes = put_change c v.changes }
 
--- the changes ascend, each is of a page that there is, and each page that was added is one of them
+-- the changes ascend; each is of a page that there is; each page that there is, and not below, is one of them; and where there are
+-- pages below there are some
 pub record IsOverlay (v : OverlayView) : Type 0 where
   pub ascend : Ascend v.changes
   pub within : AreBelow v.count v.changes
-  pub no_fewer : page_count v.below ≤ v.count
+  pub some : 0 < page_count v.below → 0 < v.count
   pub added : (n : ℕ) → page_count v.below ≤ n → n < v.count → IsHeld v n

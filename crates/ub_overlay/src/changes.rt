@@ -1,12 +1,12 @@
 ghost use Rattle.std.specs.Prelude.{◌≡◌, ◌↔◌, ◌∷◌, [], None, false, IfSome, IfNone, IfOk, OnOk, OnErr, IsTrue};
 ghost use Rattle.std.specs.Option.{is_some, option_copied};
 ghost use Rattle.ub_journal.specs.Image.{IsUntouched};
-ghost use Rattle.ub_overlay.specs.Changes.{change, changed_page, put_change};
+ghost use Rattle.ub_overlay.specs.Changes.{change, changed_page, put_change, put_each};
 
 use std::alloc::{AllocError, Global};
 use std::collections::BTreeMap;
 use std::marker::Model;
-use ub_journal::Change;
+use ub_journal::{Change, Journal};
 use ub_store::Page;
 
 /// The pages that were changed, under their numbers. Each stands in a box of its own.
@@ -91,6 +91,18 @@ impl Changes {
         Ok(())
     }
 
+    /// Puts the pages of a journal, the first one last. Where memory is refused some of them were put.
+    pub fn put_journal(&mut self, journal: &Journal) -> Result<(), AllocError>
+        ensures { OnOk result (self.new
+            ≡ put_change (change 0 journal.now.head)
+            (put_each journal.now.changes.items self.old)) }
+    {
+        for change in journal.changes.as_slice() {
+            self.put(change.number, &change.page)?;
+        }
+        self.put(0, &journal.head)
+    }
+
     /// Takes out the page of number 0, if it was changed.
     pub fn take_first(&mut self) -> Option<Page>
         ensures taken { IfSome result (λ page. self.old ≡ change 0 page ∷ self.new) }
@@ -107,7 +119,7 @@ impl Changes {
     pub fn into_list(self) -> Result<Vec<Change>, AllocError>
         ensures { IfOk result (λ list. list.items ≡ self) }
     {
-        let mut list = Vec::new(self.alloc);
+        let mut list = Vec::with_capacity(self.alloc, self.pages.len())?;
         for (number, page) in self.pages {
             list.push(Change {
                 number,

@@ -4,10 +4,12 @@
 // in memory, each in a box of its own under its number. A read gives the page that is held, or else reads the one below. No other
 // call reaches the store below: it stands in a type of its own (`Below`) that passes reads on and nothing else.
 //
-// What was written lasts as long as memory does, so a sync has nothing to do. At the end an overlay is taken apart: the store
-// below, and the changes in ascending order of their numbers, from which a journal is made that a commit then puts.
+// What was written lasts as long as memory does, so a sync has nothing to do. At the end an overlay is taken apart: into the store
+// below and the changes in ascending order of their numbers (`into_parts`), or into the store below and the journal that makes the
+// overlay's pages of its pages, as a commit wants it (`into_journal`). Where a crash has left a journal beside a table, the pages
+// that it stands for are read `through` it, and the table isn't touched.
 //
-// The definitions: `Changes` (pages by number), `Overlay` (what contracts see of an overlay).
+// The definitions: `Changes` (pages by number), `Overlay` (what contracts see of an overlay), `Journal` (which journal it makes).
 
 #![tactic(auto)]
 

@@ -1,7 +1,7 @@
 ghost use Rattle.std.specs.Prelude.{◌≡◌, ◌≢◌, ◌<◌, ◌≤◌, ◌+◌, ◌↔◌, ◌⊎◌, [], ℕ, Err, IfOk, IfErr, OnOk, OnErr, IsErrOf, IsOk, IsTrue};
 ghost use Rattle.ub_store.specs.Facts.{counted, page_count, zero_page, IsHonest, IsPage, Reads, WritesAt, Extends, Syncs};
-ghost use Rattle.ub_journal.specs.Image.{put_all, resized, told};
-ghost use Rattle.ub_overlay.specs.Changes.{AreBelow, Ascend, change};
+ghost use Rattle.ub_journal.specs.Image.{applied, put_all, resized, told, ChangesOthers, IsComplete};
+ghost use Rattle.ub_overlay.specs.Changes.{AreBelow, Ascend, change, put_change, put_each};
 ghost use Rattle.ub_overlay.specs.Journal.{IsJournalOf, IsToldOf};
 ghost use Rattle.ub_overlay.specs.Overlay.{overlay_facts, overlay_view, pages_of, with_change, IsHeld};
 
@@ -68,7 +68,42 @@ impl<S: PageStore> Overlay<S> {
         }
     }
 
-    /// Whether a page was written or added.
+    /// The pages that a journal stands for, where it is one of this store's pages: it is read as if its changes were put there already.
+    /// They are held as changes of the overlay. Memory may be refused for them; the store is then handed back. No call reaches it.
+    pub fn through(
+        alloc: Global,
+        below: S,
+        journal: &Journal,
+    ) -> Result<Overlay<S>, Rejected<S, AllocError>>
+        requires some { 0 < journal.now.count }
+        requires others { ChangesOthers (told journal.now) }
+        requires complete { IsComplete (told journal.now) (S.facts below).pages }
+        ensures pages { IfOk result (λ overlay.
+            pages_of overlay ≡ applied (told journal.now) (S.facts below).pages) }
+        ensures count { IfOk result (λ overlay. overlay.count ≡ journal.now.count) }
+        ensures below { IfOk result (λ overlay. overlay.below ≡ S.facts below) }
+        ensures held { IfOk result (λ overlay. overlay.changes
+            ≡ put_change (change 0 journal.now.head)
+            (put_each journal.now.changes.items [])) }
+        ensures fresh { IfOk result (λ overlay. overlay.failed ≡ 0) }
+        ensures refused { IfErr result (λ refused. refused.store ≡ below) }
+    {
+        let mut changes = Changes::new(alloc);
+        match changes.put_journal(journal) {
+            Ok(()) => Ok(Overlay {
+                below: Below::new(below),
+                changes,
+                count: journal.count,
+                failed: 0,
+            }),
+            Err(fault) => Err(Rejected {
+                store: below,
+                fault,
+            }),
+        }
+    }
+
+    /// Whether a page was written or added, or a journal's pages are held.
     pub fn is_changed(&self) -> bool
         ensures { IsTrue result ↔ (self.now.changes ≢ []) }
     {
