@@ -53,7 +53,7 @@ pub struct Journaled<S> {
 }
 
 impl<S: PageStore> Overlay<S> {
-    /// The pages of this store, with none changed. It takes no memory, and no call reaches the store but that for its count.
+    /// The pages of this store, with none changed. It takes no memory, and the store is as it was.
     pub fn new(alloc: Global, below: S) -> Overlay<S>
         ensures view { result ≡ overlay_view (S.facts below) [] (page_count (S.facts below)) 0 }
         ensures pages { pages_of result ≡ (S.facts below).pages }
@@ -69,7 +69,7 @@ impl<S: PageStore> Overlay<S> {
     }
 
     /// The pages that a journal stands for, where it is one of this store's pages: it is read as if its changes were put there already.
-    /// They are held as changes of the overlay. Memory may be refused for them; the store is then handed back. No call reaches it.
+    /// They are held as changes of the overlay, and the store is as it was. Memory may be refused for them; it is then handed back.
     pub fn through(
         alloc: Global,
         below: S,
