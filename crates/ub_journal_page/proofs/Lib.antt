@@ -1,0 +1,5 @@
+pub mod LawFacts
+pub mod Lists
+pub mod NumberFacts
+pub mod PageFacts
+pub mod ReadFacts

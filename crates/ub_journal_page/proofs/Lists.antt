@@ -1,0 +1,46 @@
+-- Parts of lists, and what stands at a number.
+use Rattle.std.proofs.Common.{◌≡◌, ◌≤◌, ◌+◌, ◌-◌, ℕ, zero, suc, List, [], ◌∷◌, ◌++◌, Some, length, take, drop, replicate, slice_get, refl, sym, ap, arith, ◌∙◌, append_assoc}
+use Rattle.std.proofs.lemmas.List.{append-nil, drop-drop, drop_all, length-drop}
+use Rattle.std.proofs.Math.Seq.{drop-append_seam, take-append_seam}
+use borrow.Rule.Slice.PartMut.{put_mid, post_of, mid_of}
+
+same_count : (m n : ℕ) (a : ℕ) → m ≡ n → replicate m a ≡ replicate n a
+same_count m n a e = ap (λ (k : ℕ). replicate k a) e
+
+pub drop-replicate : (m n : ℕ) (a : ℕ) → drop m (replicate n a) ≡ replicate (n - m) a
+drop-replicate zero n a = same_count n (n - 0) a (omega arith)
+drop-replicate (suc m) zero a = same_count 0 (0 - suc m) a (omega arith)
+drop-replicate (suc m) (suc n) a = drop-replicate m n a ∙ same_count (n - m) (suc n - suc m) a (omega arith)
+
+-- a list that is some bytes and then others
+pub of_front : (front rest page : List ℕ) (n : ℕ) → n ≡ length front → page ≡ front ++ rest → (drop n page ≡ rest) × (take n page ≡ front)
+of_front front rest page n is e = rw (is, e) (drop-append_seam front rest, take-append_seam front rest)
+
+take_whole : (n : ℕ) (xs : List ℕ) → length xs ≤ n → take n xs ≡ xs
+take_whole zero [] h = refl
+take_whole zero (x ∷ xs) h = absurd (omega arith)
+take_whole (suc n) [] h = refl
+take_whole (suc n) (x ∷ xs) h = ap (λ (ys : List ℕ). x ∷ ys) (take_whole n xs (omega arith))
+
+-- bytes written from an offset on
+pub put_over : (offset n : ℕ) (target bytes buf : List ℕ) → offset ≤ length target → buf ≡ bytes ++ drop n (mid_of offset (length target - offset) target)
+    → put_mid offset (length target - offset) target buf ≡ (take offset target ++ bytes) ++ drop (offset + n) target
+put_over offset n target bytes buf le e =
+    let left : length (drop offset target) ≤ length target - offset = rw length-drop (omega arith) in
+    let none : post_of offset (length target - offset) target ≡ [] = drop_all (length target - offset) (drop offset target) left in
+    let whole : mid_of offset (length target - offset) target ≡ drop offset target = take_whole (length target - offset) (drop offset target) left in
+    rw (none, e, whole)
+    (ap (λ (xs : List ℕ). take offset target ++ xs) (append-nil _) ∙ ap (λ (xs : List ℕ). take offset target ++ (bytes ++ xs)) (drop-drop n offset target)
+    ∙ sym (append_assoc (take offset target) bytes (drop (offset + n) target)))
+
+-- what stands behind some elements
+pub get_behind : {X : Type 0} (xs ys : List X) (n k : ℕ) → n ≡ length xs + k → slice_get (xs ++ ys) n ≡ slice_get ys k
+get_behind [] ys n k e = let same : n ≡ k = omega arith in ap (slice_get ys) same
+get_behind (x ∷ xs) ys zero k e = absurd (omega arith)
+get_behind (x ∷ xs) ys (suc n) k e = get_behind xs ys n k (omega arith)
+
+-- what stands among some elements
+pub get_front : {X : Type 0} (xs ys : List X) (n : ℕ) (x : X) → slice_get xs n ≡ Some x → slice_get (xs ++ ys) n ≡ Some x
+get_front [] ys n x e = cc
+get_front (y ∷ xs) ys zero x e = e
+get_front (y ∷ xs) ys (suc n) x e = get_front xs ys n x e

@@ -1,0 +1,43 @@
+-- What a reader of a journal's pages tells, and what it leaves of the store.
+use Rattle.std.specs.Prelude.{◌≡◌, ◌≤◌, ◌<◌, ◌*◌, ◌^◌, ℕ, List, Some, length, map, slice_get, IsTrue, Result, Err, IsErrOf}
+use Rattle.std.specs.List.{range_with_len}
+use Rattle.ub_journal.specs.Image.{Journal}
+use Rattle.ub_store.specs.Facts.{StoreFacts, raised}
+use Rattle.ub_journal_page.specs.Pages.{IsJournal, head_of, number_page, number_at, pages_of, total_of}
+use Rattle.ub_journal_page.specs.declared.fault.JournalFault.{JournalFault}
+use Rattle.ub_journal_page.specs.declared.fault.JournalFault.TheVariants.{Device}
+
+-- the first so many numbers that stand on a page
+abbrev pub numbers_on : ℕ → List ℕ → List ℕ
+numbers_on n page = map (λ i. number_at (4 * i) page) (range_with_len 0 n)
+
+-- the pages spell this journal
+abbrev pub Spells : List (List ℕ) → Journal → Type 0
+Spells pages j = IsJournal j × (pages ≡ pages_of j)
+
+-- they spell none
+abbrev pub SpellsNone : List (List ℕ) → Type 0
+SpellsNone pages = (j : Journal) → ¬ (Spells pages j)
+
+-- the first page spells a head, of a table that is to have so many pages, of which so many change besides the first
+pub record IsHead (count changes : ℕ) (pages : List (List ℕ)) : Type 0 where
+  pub some : 1 ≤ count
+  pub few : count < 2 ^ 32
+  pub first : slice_get pages 0 ≡ Some (number_page (head_of count changes))
+
+-- it spells a head, and there are as many pages as that tells
+pub record IsBorneOut (pages : List (List ℕ)) : Type 0 where
+  pub count : ℕ
+  pub changes : ℕ
+  pub head : IsHead count changes pages
+  pub total : length pages ≡ total_of changes
+
+-- a count of failures after a call with this result: Device raises it by one, and nothing else does
+abbrev pub counted : {A : Type 0} → Result A JournalFault → ℕ → ℕ
+counted (Err Device) n = raised n 1
+counted _ n = n
+
+-- a call with this result that only reads: nothing changes but the count of failed reads, and Device comes where a read failed
+pub record Looks {A : Type 0} (old new : StoreFacts) (result : Result A JournalFault) : Type 0 where
+  pub same : new ≡ record old { failed_reads = counted result old.failed_reads }
+  pub device : IsErrOf result Device → IsTrue old.can_fail
