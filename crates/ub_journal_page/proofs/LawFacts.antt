@@ -1,9 +1,10 @@
 -- The same pages spell no two journals.
-use Rattle.std.proofs.Common.{◌≡◌, ◌≤◌, ◌*◌, ℕ, zero, suc, List, [], ◌∷◌, ◌++◌, length, take, drop, refl, sym, ap, arith, ◌∙◌}
+use Rattle.std.proofs.Common.{◌<◌, All, ◌≢◌, ◌≡◌, ◌≤◌, ◌*◌, ℕ, zero, suc, List, [], ◌∷◌, ◌++◌, length, take, drop, refl, sym, ap, arith, ◌∙◌}
 use Rattle.std.proofs.lemmas.List.{drop_at, length-drop, length-map, length-take, take-append-drop, take_at}
+use Rattle.std.proofs.lemmas.List.Elements.{All-cons, All-nil}
 use Rattle.ub_journal.specs.declared.journal.Change.{Change}
-use Rattle.ub_journal_page.specs.Laws.{JournalsAreReadBack}
-use Rattle.ub_journal_page.specs.Pages.{head_of, number_page, number_pages, numbers_of, pages_in, parts_of}
+use Rattle.ub_journal_page.specs.Laws.{JournalsAreReadBack, JournalsChangeOthers}
+use Rattle.ub_journal_page.specs.Pages.{AreAscending, head_of, number_page, number_pages, numbers_of, pages_in, parts_of}
 use Rattle.ub_journal_page.proofs.NumberFacts.{numbers_back}
 use Rattle.ub_journal_page.proofs.PageFacts.{few_changes, length_number_pages}
 use Rattle.ub_journal_page.proofs.ReadFacts.{AreSmall, heads_agree, small_drop, small_numbers, small_take}
@@ -58,3 +59,10 @@ read_back a b is_a is_b same =
     let changes = changes_back a.changes b.changes numbers backs in
     let count = told.0 in
     rw (before, head, count, changes) refl
+
+all_others : (above count : ℕ) (cs : List Change) → AreAscending above count (numbers_of cs) → All (λ change. (change.number ≢ 0) × (change.number < count)) cs
+all_others above count [] are = All-nil (λ (change : Change). (change.number ≢ 0) × (change.number < count))
+all_others above count (c ∷ cs) are = let up = are.0 in All-cons (λ (change : Change). (change.number ≢ 0) × (change.number < count)) c cs ((λ e. omega (arith, e)), are.1) (all_others c.number count cs are.2)
+
+pub change_others : JournalsChangeOthers
+change_others j is = all_others 0 j.count j.changes is.ascending

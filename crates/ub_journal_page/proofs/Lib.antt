@@ -1,3 +1,4 @@
+pub mod FitFacts
 pub mod LawFacts
 pub mod Lists
 pub mod NumberFacts

@@ -1,3 +1,4 @@
+pub mod Fitting
 pub mod Laws
 pub mod Pages
 pub mod Reading

@@ -54,7 +54,7 @@ pub fn read_journal<S: PageStore>(alloc: Global, store: &mut S) -> Result<Journa
 }
 
 // Reads the page of this number, which there is.
-fn read_page<S: PageStore>(store: &mut S, n: u32, page: &mut Page) -> Result<(), JournalFault>
+pub fn read_page<S: PageStore>(store: &mut S, n: u32, page: &mut Page) -> Result<(), JournalFault>
     requires there { n < page_count (S.facts store.old) }
     ensures page { OnOk result (IsPage (S.facts store.old) n page.new) }
     ensures damaged { ¬ (IsErrOf result JournalFault.Damaged) }
@@ -141,7 +141,8 @@ fn read_numbers<S: PageStore>(
 // Takes the first so many numbers of a page that is spelled of so many.
 fn take_numbers(page: &Page, count: usize, numbers: &mut Vec<u32>) -> Result<(), JournalFault>
     requires { count ≤ MAX_NUMBERS }
-    ensures taken { OnOk result (numbers.new.items ≡ numbers.old.items ++ numbers_on count page.now) }
+    ensures taken { OnOk result
+        (numbers.new.items ≡ numbers.old.items ++ numbers_on count page.now) }
     ensures read { OnOk result (page.now ≡ number_page (numbers_on count page.now)) }
     ensures damaged { IsErrOf result JournalFault.Damaged → (xs : List ℕ) → length xs ≡ count
         → AllByRecursion (λ x. x < 2 ^ 32) xs → page.now ≢ number_page xs }
