@@ -7,6 +7,8 @@ mod crashes;
 #[cfg(test)]
 mod disk;
 #[cfg(test)]
+mod journal_pages;
+#[cfg(test)]
 mod overlays;
 #[cfg(test)]
 mod pages;

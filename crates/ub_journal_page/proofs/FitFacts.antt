@@ -1,9 +1,9 @@
 -- Whether a journal is one of a table, by what stands there.
-use Rattle.std.proofs.Common.{◌≡◌, ◌≢◌, ◌<◌, ◌≤◌, ◌+◌, ◌-◌, ◌↔◌, Bool, IsTrue, IfOk, Result, Ok, Err, ℕ, zero, suc, List, [], ◌∷◌, Some, length, map, drop, get_or, slice_get, slice_set, slice_index_or, refl, subst, sym, ap, arith, ◌∙◌, inl, inr}
+use Rattle.std.proofs.Common.{◌≡◌, ◌≢◌, ◌<◌, ◌≤◌, ◌+◌, ◌-◌, ◌↔◌, Bool, IsTrue, IfOk, Result, Ok, Err, ℕ, zero, suc, List, [], ◌∷◌, Some, length, drop, get_or, slice_get, slice_set, refl, subst, sym, ap, arith, ◌∙◌, inl, inr}
 use Rattle.std.proofs.lemmas.Bool.{cases_eq, cases_lt}
 use Rattle.std.proofs.lemmas.List.{drop_more, length-drop, length-set}
 use Rattle.std.proofs.lemmas.Option.{get_or_from_slice_get}
-use Rattle.ub_journal.specs.Image.{Journal, Fits, HasBack, HasFront, IsComplete, IsMarkedFrom, IsUntouched, applied, first_page, put_all, resized}
+use Rattle.ub_journal.specs.Image.{Journal, Fits, HasBack, IsMarkedFrom, IsUntouched, put_all, resized}
 use Rattle.ub_journal.specs.declared.journal.Change.{Change}
 use Rattle.ub_journal.specs.inner.TornClock.{get_set_other}
 use Rattle.ub_journal.proofs.Applied.{length_sized, put_untouched, sized_already}

@@ -1,0 +1,183 @@
+// A journal's pages, each told by its first bytes and by what stands behind them.
+
+ghost use Rattle.ub_journal.specs.Image.{told};
+ghost use Rattle.ub_journal_page.specs.Pages.{IsJournal};
+
+use std::alloc::Global;
+use std::test::Fail;
+use ub_journal::Journal;
+use ub_journal_page::{JournalFault, fits, page_total, read_journal, spell_page};
+use ub_store::{MemStore, Page, PageStore};
+
+// The pages of a journal by hand: the table is to have 10 pages, of which 3 and 9 change besides the first.
+const PAGES: [([u8; 16], u8); 6] = [
+    (*b"UBTJ\0\0\0\x01\0\0\0\x0a\0\0\0\x02", 0),
+    ([1; 16], 1),
+    ([2; 16], 2),
+    (*b"\0\0\0\x03\0\0\0\x09\0\0\0\0\0\0\0\0", 0),
+    ([3; 16], 3),
+    ([9; 16], 9),
+];
+
+// Bytes with which these pages spell no journal: the page, the offset, and the byte.
+const DAMAGES: &[(u32, usize, u8)] = &[
+    (0, 0, b'V'),
+    (0, 3, b'R'),
+    (0, 7, 2),
+    (0, 11, 9),
+    (0, 11, 0),
+    (0, 15, 1),
+    (0, 15, 3),
+    (0, 16, 1),
+    (0, 4095, 1),
+    (3, 3, 0),
+    (3, 3, 9),
+    (3, 0, 1),
+    (3, 7, 10),
+    (3, 7, 2),
+    (3, 8, 1),
+    (3, 4095, 1),
+];
+
+// A page of these bytes, and of this one behind them.
+fn page_of(front: &[u8; 16], rest: u8) -> Page {
+    let mut page = [rest; 4096];
+    page[..16].copy_from_slice(front);
+    page
+}
+
+// Puts a page behind those of a store.
+fn add(store: &mut MemStore, page: &Page) -> bool {
+    match store.extend() {
+        Ok(n) => store.write_page(n, page).is_ok(),
+        Err(_) => false,
+    }
+}
+
+// A store of the journal's first so many pages, or none where memory is refused.
+fn store_of(alloc: Global, count: usize) -> Option<MemStore> {
+    let mut store = MemStore::new(alloc);
+    for i in 0..count.min(6) {
+        let (front, rest) = PAGES[i];
+        if !add(&mut store, &page_of(&front, rest)) {
+            return None;
+        }
+    }
+    Some(store)
+}
+
+// Whether the pages of a store are told to be damaged.
+fn is_damaged(alloc: Global, store: &mut MemStore) -> bool {
+    matches!(read_journal(alloc, store), Err(JournalFault::Damaged))
+}
+
+// Whether with this byte on a page of a store its pages are told to be damaged.
+fn is_damaged_with(alloc: Global, store: &mut MemStore, damage: (u32, usize, u8)) -> bool {
+    let (n, offset, byte) = damage;
+    let Ok(page) = store.read_page(n) else {
+        return false;
+    };
+    let mut damaged = page;
+    if offset < 4096 {
+        damaged[offset] = byte;
+    }
+    if store.write_page(n, &damaged).is_err() {
+        return false;
+    }
+    let told = is_damaged(alloc, store);
+    store.write_page(n, &page).is_ok() && told
+}
+
+// Whether pages spell the journal: its count, its changes' numbers, and each page of it.
+fn is_whole(journal: &Journal, store: &mut MemStore) -> bool {
+    let changes = journal.changes.as_slice();
+    if journal.count != 10 || changes.len() != 2 {
+        return false;
+    }
+    (changes[0].number == 3)
+        & (changes[1].number == 9)
+        & (changes[0].page == [3; 4096])
+        & (changes[1].page == [9; 4096])
+        & (journal.before == [1; 4096])
+        & (journal.head == [2; 4096])
+        & (store.pages() == 6)
+}
+
+#[test]
+fn a_journal_is_read_and_written_as_it_stands(rt: HostRuntime) -> Result<(), Fail> {
+    let mut store = store_of(rt.alloc(), 6).expect(&rt, "a store");
+    let journal = read_journal(rt.alloc(), &mut store).expect(&rt, "a journal");
+    assert!(&rt; is_whole(&journal, &mut store));
+    assert!(&rt; page_total(&journal) == 6);
+    let mut page = [7; 4096];
+    for (i, (front, rest)) in PAGES.iter().enumerate() {
+        spell_page(&journal, i as u64, &mut page);
+        assert!(&rt; page == page_of(front, *rest));
+    }
+    Ok(())
+}
+
+// Whether a journal is one of a table of these pages, each of one byte, with so many bytes after them: 2 where that can't be told.
+fn told_fit(alloc: Global, pages: &[u8], mark: u8, rest: u32, journal: &Journal) -> u8
+    requires { IsJournal (told journal.now) }
+{
+    let mut table = MemStore::new(alloc);
+    for (n, byte) in pages.iter().enumerate() {
+        let mut page = [*byte; 4096];
+        if n == 0 {
+            page[5] = mark;
+        }
+        if !add(&mut table, &page) {
+            return 2;
+        }
+    }
+    match fits(&mut table, rest, journal) {
+        Ok(yes) => u8::from(yes),
+        Err(_) => 2,
+    }
+}
+
+// Tables whose pages have one byte each, the mark of the first, how many bytes stand after them, and whether the journal is theirs.
+const TABLES: &[(&[u8], u8, u32, u8)] = &[
+    // The table of before, marked and not, with bytes after it.
+    (&[1, 7, 7, 7, 7, 7, 7, 7, 7, 7], 1, 0, 1),
+    (&[1, 7, 7, 7, 7, 7, 7, 7, 7, 7], 0, 9, 1),
+    (&[1, 7, 7, 7, 7, 7, 7, 7, 7], 1, 0, 1),
+    (&[1, 7, 7, 7, 7, 7, 7, 7, 7, 7, 7, 7], 1, 0, 1),
+    // One that hasn't all the pages that the journal leaves.
+    (&[1, 7, 7, 7, 7, 7, 7, 7], 1, 0, 0),
+    (&[], 1, 0, 0),
+    // The new one, with any first page; with bytes after it, a page more, or a page that wasn't put.
+    (&[2, 7, 7, 3, 7, 7, 7, 7, 7, 9], 2, 0, 1),
+    (&[8, 7, 7, 3, 7, 7, 7, 7, 7, 9], 8, 0, 1),
+    (&[8, 7, 7, 3, 7, 7, 7, 7, 7, 9], 8, 1, 0),
+    (&[8, 7, 7, 3, 7, 7, 7, 7, 7, 9, 7], 8, 0, 0),
+    (&[8, 7, 7, 3, 7, 7, 7, 7, 7, 7], 8, 0, 0),
+    (&[8, 7, 7, 7, 7, 7, 7, 7, 7, 9], 8, 0, 0),
+];
+
+#[test]
+fn a_journal_fits_its_table(rt: HostRuntime) -> Result<(), Fail> {
+    let mut store = store_of(rt.alloc(), 6).expect(&rt, "a store");
+    let journal = read_journal(rt.alloc(), &mut store).expect(&rt, "a journal");
+    for (pages, mark, rest, told) in TABLES {
+        assert!(&rt; told_fit(rt.alloc(), pages, *mark, *rest, &journal) == *told);
+    }
+    Ok(())
+}
+
+#[test]
+fn damaged_pages_are_refused(rt: HostRuntime) -> Result<(), Fail> {
+    let mut store = store_of(rt.alloc(), 6).expect(&rt, "a store");
+    for damage in DAMAGES {
+        assert!(&rt; is_damaged_with(rt.alloc(), &mut store, *damage));
+    }
+    assert!(&rt; read_journal(rt.alloc(), &mut store).is_ok());
+    assert!(&rt; add(&mut store, &[0; 4096]));
+    assert!(&rt; is_damaged(rt.alloc(), &mut store));
+    for count in 0..6 {
+        let mut store = store_of(rt.alloc(), count).expect(&rt, "a store");
+        assert!(&rt; is_damaged(rt.alloc(), &mut store));
+    }
+    Ok(())
+}
