@@ -9,7 +9,7 @@ use Rattle.ub_journal.specs.inner.TornClock.{get_set_other}
 use Rattle.ub_journal.proofs.Applied.{length_sized, put_untouched, sized_already}
 use Rattle.ub_journal.proofs.Lists.{get_set_same}
 use Rattle.ub_store.specs.Facts.{StoreFacts, IsHonest, zero_page}
-use Rattle.ub_journal_page.specs.Fitting.{AreThere, LeaveFirst}
+use Rattle.ub_journal_page.specs.inner.Fitting.{AreThere, LeaveFirst}
 use Rattle.ub_journal_page.specs.Pages.{AreAscending, IsJournal, numbers_of}
 
 -- changes, each of a page above this one, none of a page of this number

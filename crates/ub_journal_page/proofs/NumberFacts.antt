@@ -5,8 +5,8 @@ use Rattle.std.proofs.lemmas.List.{append-nil, drop-drop, length-append}
 use Rattle.std.specs.List.{flat_map, range_with_len, AllByRecursion}
 use Rattle.byteorder.specs.Endian.{big_number}
 use Rattle.byteorder.specs.Numbers.{big_number-reads_back, length-bytes_high_first}
-use Rattle.ub_journal_page.specs.Pages.{number_at, number_bytes, number_page}
-use Rattle.ub_journal_page.specs.Reading.{numbers_on}
+use Rattle.ub_journal_page.specs.Pages.{number_bytes, number_page}
+use Rattle.ub_journal_page.specs.inner.Numbers.{number_at, numbers_on}
 use Rattle.ub_journal_page.proofs.Lists.{drop-replicate, of_front}
 
 pub length-number_bytes : (x : ℕ) → length (number_bytes x) ≡ 4

@@ -6,10 +6,11 @@ use Rattle.std.specs.List.{AllByRecursion}
 use Rattle.ub_journal.specs.Image.{Journal}
 use Rattle.ub_journal.specs.declared.journal.Change.{Change}
 use Rattle.ub_store.specs.Facts.{StoreFacts, IsHonest, IsPage}
-use Rattle.ub_journal_page.specs.Pages.{AreAscending, IsJournal, head_of, number_at, number_page, number_pages, numbers_of, pages_in, pages_of, parts_of, total_of}
-use Rattle.ub_journal_page.specs.Reading.{IsHead, Spells, numbers_on}
+use Rattle.ub_journal_page.specs.Pages.{AreAscending, IsJournal, head_of, number_page, number_pages, numbers_of, pages_in, pages_of, parts_of, total_of}
+use Rattle.ub_journal_page.specs.Reading.{IsHead, Spells}
 use Rattle.ub_journal_page.proofs.NumberFacts.{numbers_back}
 use Rattle.ub_journal_page.proofs.PageFacts.{few_changes, get_part}
+use Rattle.ub_journal_page.specs.inner.Numbers.{number_at, numbers_on}
 
 abbrev pub AreSmall : List ℕ → Type 0
 AreSmall numbers = AllByRecursion (λ n. n < 2 ^ 32) numbers

@@ -1,4 +1,4 @@
-pub mod Fitting
 pub mod Laws
 pub mod Pages
 pub mod Reading
+pub mod inner

@@ -1,17 +1,13 @@
 -- A journal as pages.
 use Rattle.std.specs.Prelude.{◌≤◌, ◌<◌, ◌+◌, ◌-◌, ◌*◌, ◌/◌, ◌^◌, ◌++◌, ℕ, zero, suc, List, [], ◌∷◌, length, map, take, drop, replicate}
 use Rattle.std.specs.List.{flat_map}
-use Rattle.byteorder.specs.Endian.{big_bytes, big_number}
+use Rattle.byteorder.specs.Endian.{big_bytes}
 use Rattle.ub_journal.specs.Image.{Journal}
 use Rattle.ub_journal.specs.declared.journal.Change.{Change}
 
 -- the four bytes of a number, the highest of them first
 unfoldable pub number_bytes : ℕ → List ℕ
 number_bytes x = big_bytes 4 x
-
--- the number in the four bytes from an offset on, the highest byte first
-unfoldable pub number_at : ℕ → List ℕ → ℕ
-number_at offset bytes = big_number 4 (drop offset bytes)
 
 -- numbers on a page, one after the other, and zeros behind them
 unfoldable pub number_page : List ℕ → List ℕ

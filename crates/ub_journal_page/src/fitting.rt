@@ -1,7 +1,7 @@
 // Whether a journal is one of a table.
 ghost use Rattle.std.specs.Prelude.{◌≡◌, ◌↔◌, ◌<◌, ◌≤◌, IsTrue, IfOk, IsErrOf, length};
 ghost use Rattle.ub_journal.specs.Image.{Fits, IsMarkedFrom, told};
-ghost use Rattle.ub_journal_page.specs.Fitting.{AreThere, LeaveFirst};
+ghost use Rattle.ub_journal_page.specs.inner.Fitting.{AreThere, LeaveFirst};
 ghost use Rattle.ub_journal_page.specs.Pages.{AreAscending, IsJournal, numbers_of};
 ghost use Rattle.ub_journal_page.specs.Reading.{Looks};
 ghost use Rattle.ub_store.specs.Facts.{IsHonest, page_count};

@@ -1,6 +1,7 @@
 // Numbers on a page: four bytes each, the highest of them first.
 ghost use Rattle.std.specs.Prelude.{◌≡◌, ◌↔◌, ◌<◌, ◌≤◌, ◌+◌, ◌*◌, ◌++◌, ◌∷◌, [], ℕ, List, IsTrue, length, take, drop};
-ghost use Rattle.ub_journal_page.specs.Pages.{head_of, number_at, number_bytes, number_page, numbers_of};
+ghost use Rattle.ub_journal_page.specs.Pages.{head_of, number_bytes, number_page, numbers_of};
+ghost use Rattle.ub_journal_page.specs.inner.Numbers.{number_at};
 
 use byteorder::{BigEndian, ByteOrder};
 use ub_journal::Change;

@@ -3,8 +3,9 @@ ghost use Rattle.std.specs.Prelude.{◌≡◌, ◌≢◌, ◌↔◌, ◌⊎◌, 
 ghost use Rattle.std.specs.List.{AllByRecursion};
 ghost use Rattle.ub_journal.specs.Image.{Journal as spec, told};
 ghost use Rattle.ub_journal_page.specs.Pages.{AreAscending, IsJournal, head_of, number_page, number_pages, numbers_of, pages_in, pages_of, parts_of, total_of};
-ghost use Rattle.ub_journal_page.specs.Reading.{IsBorneOut, IsHead, Looks, Spells, SpellsNone, numbers_on};
+ghost use Rattle.ub_journal_page.specs.Reading.{IsBorneOut, IsHead, Looks, Spells, SpellsNone};
 ghost use Rattle.ub_store.specs.Facts.{IsHonest, IsPage, page_count};
+ghost use Rattle.ub_journal_page.specs.inner.Numbers.{numbers_on};
 
 use crate::fault::JournalFault;
 use crate::numbers::{MAX_NUMBERS, is_same, number_in, put, spell_head};

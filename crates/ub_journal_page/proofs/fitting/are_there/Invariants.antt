@@ -1,6 +1,6 @@
 use Rattle.std.proofs.Common.{◌≡◌, ◌↔◌, drop}
 use Rattle.ub_store.specs.Facts.{IsHonest}
-use Rattle.ub_journal_page.specs.Fitting.{AreThere}
+use Rattle.ub_journal_page.specs.inner.Fitting.{AreThere}
 use Rattle.ub_journal_page.proofs.fitting.are_there.Given as goal
 
 -- all stand where those that are left do, and no call failed

@@ -2,7 +2,7 @@ use Rattle.std.proofs.Common.{◌≡◌, ◌↔◌, ◌∙◌, IsTrue, ℕ, List
 use Rattle.ub_journal.specs.Image.{Fits, told}
 use Rattle.ub_journal.specs.declared.journal.Change.{Change}
 use Rattle.ub_store.specs.Facts.{IsHonest}
-use Rattle.ub_journal_page.specs.Fitting.{AreThere, LeaveFirst}
+use Rattle.ub_journal_page.specs.inner.Fitting.{AreThere, LeaveFirst}
 use Rattle.ub_journal_page.proofs.FitFacts.{fits_there, if_ok, same_there}
 use Rattle.ub_journal_page.proofs.fitting.fits.Goals as goal
 

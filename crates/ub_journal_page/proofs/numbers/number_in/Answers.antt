@@ -1,6 +1,6 @@
 use Rattle.std.proofs.Common.{◌+◌, ◌*◌, ◌≤◌, ◌-◌, drop, arith, ◌∙◌}
 use Rattle.byteorder.specs.Numbers.{big_from-take}
-use Rattle.ub_journal_page.specs.Pages.{number_at}
+use Rattle.ub_journal_page.specs.inner.Numbers.{number_at}
 use Rattle.ub_journal_page.proofs.numbers.number_in.Goals as goal
 
 pub returns : goal.returns

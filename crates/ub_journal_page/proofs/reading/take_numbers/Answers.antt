@@ -1,7 +1,7 @@
 use Rattle.std.proofs.Common.{◌≡◌, ◌+◌, ◌++◌, ◌∷◌, [], ℕ, List, sym, ap, refl, arith, ◌∙◌, append_assoc}
 use Rattle.std.proofs.lemmas.List.{append-nil}
 use Rattle.ub_journal_page.specs.Pages.{number_page}
-use Rattle.ub_journal_page.specs.Reading.{numbers_on}
+use Rattle.ub_journal_page.specs.inner.Numbers.{numbers_on}
 use Rattle.ub_journal_page.proofs.NumberFacts.{none_on}
 use Rattle.ub_journal_page.proofs.ReadFacts.{length_on, not_spelled, on_more}
 use Rattle.ub_journal_page.proofs.reading.take_numbers.Goals as goal

@@ -1,6 +1,6 @@
 use Rattle.std.proofs.Common.{◌≡◌, ◌++◌}
 use Rattle.ub_journal_page.specs.Pages.{number_page}
-use Rattle.ub_journal_page.specs.Reading.{numbers_on}
+use Rattle.ub_journal_page.specs.inner.Numbers.{numbers_on}
 use Rattle.ub_journal_page.proofs.reading.take_numbers.Given as goal
 
 -- the first so many numbers are taken, and spelled again
