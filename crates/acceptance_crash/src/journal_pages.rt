@@ -156,6 +156,58 @@ const TABLES: &[(&[u8], u8, u32, u8)] = &[
     (&[8, 7, 7, 7, 7, 7, 7, 7, 7, 9], 8, 0, 0),
 ];
 
+// A page of so many numbers from one on.
+fn numbers_page(from: u16, count: usize) -> Page {
+    let mut page = [0; 4096];
+    for i in 0..count.min(1024) {
+        let [high, low] = from.wrapping_add(i as u16).to_be_bytes();
+        page[4 * i + 2] = high;
+        page[4 * i + 3] = low;
+    }
+    page
+}
+
+// A store of a journal of 1025 changes, of the pages 1 to 1025 of 2048.
+fn long_store(alloc: Global) -> Option<MemStore> {
+    let mut store = MemStore::new(alloc);
+    let head = page_of(b"UBTJ\0\0\0\x01\0\0\x08\0\0\0\x04\x01", 0);
+    let mut right = add(&mut store, &head)
+        & add(&mut store, &[1; 4096])
+        & add(&mut store, &[2; 4096])
+        & add(&mut store, &numbers_page(1, 1024))
+        & add(&mut store, &numbers_page(1025, 1));
+    for i in 0..1025u32 {
+        right &= add(&mut store, &[(i & 255) as u8; 4096]);
+    }
+    right.then_some(store)
+}
+
+// Whether a journal has changes of the pages 1 to 1025, each page of its own byte.
+fn is_long(journal: &Journal) -> bool {
+    let changes = journal.changes.as_slice();
+    let mut right = changes.len() == 1025;
+    for i in 0..changes.len() {
+        let byte = (i & 255) as u8;
+        right &= (changes[i].number as usize == i + 1) & (changes[i].page == [byte; 4096]);
+    }
+    right
+}
+
+#[test]
+fn numbers_go_on_on_a_second_page(rt: HostRuntime) -> Result<(), Fail> {
+    let mut store = long_store(rt.alloc()).expect(&rt, "a store");
+    let journal = read_journal(rt.alloc(), &mut store).expect(&rt, "a journal");
+    assert!(&rt; is_long(&journal));
+    assert!(&rt; page_total(&journal) == 1030);
+    let mut page = [7; 4096];
+    spell_page(&journal, 4, &mut page);
+    assert!(&rt; page == numbers_page(1025, 1));
+    assert!(&rt; is_damaged_with(rt.alloc(), &mut store, (3, 4095, 1)));
+    assert!(&rt; is_damaged_with(rt.alloc(), &mut store, (4, 3, 0)));
+    assert!(&rt; is_damaged_with(rt.alloc(), &mut store, (4, 7, 1)));
+    Ok(())
+}
+
 #[test]
 fn a_journal_fits_its_table(rt: HostRuntime) -> Result<(), Fail> {
     let mut store = store_of(rt.alloc(), 6).expect(&rt, "a store");
