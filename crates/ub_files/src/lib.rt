@@ -2,7 +2,8 @@
 //
 // `files` is the contract of a source of files: texts are read whole, and table files are lent as stores of pages and put back.
 // Two sources stand here, the system (`host`) and memory (`memory`), which programs without files and tests take. `copying`
-// copies a store in memory into a table file so that a copy which is broken off is no table. Nothing here knows what a table is.
+// copies a store in memory into a table file so that a copy which is broken off is no table. `missed` says for people which file
+// couldn't be had, and why. Nothing here knows what a table is.
 #![tactic(auto)]
 
 pub mod copying;
