@@ -27,12 +27,12 @@ pub struct Disk {
 
 impl Case {
     /// Whether the page of this number changes.
-    pub fn changes(&self, n: u32) -> bool {
+    pub(crate) fn changes(&self, n: u32) -> bool {
         n < 4 && self.changed[n as usize]
     }
 
     /// Whether each page of the new table is one of the old one, or changes, and no other changes.
-    pub fn can_be(&self) -> bool {
+    pub(crate) fn can_be(&self) -> bool {
         let mut can = true;
         for n in 1..4 {
             can &= if n < self.count {
@@ -47,12 +47,12 @@ impl Case {
 
 impl Disk {
     /// The table of before, with nothing beside it.
-    pub fn before(case: &Case, rest: bool) -> Disk {
+    pub(crate) fn before(case: &Case, rest: bool) -> Disk {
         Disk { bits: 0 }.sized(case.old, OLD).with_rest(rest)
     }
 
     /// The kind of the page of this number.
-    pub fn at(&self, n: u32) -> u32 {
+    pub(crate) fn at(&self, n: u32) -> u32 {
         match n {
             0 => self.bits & 7,
             1 => (self.bits >> 3) & 7,
@@ -63,27 +63,27 @@ impl Disk {
     }
 
     /// How many pages there are.
-    pub fn count(&self) -> u32 {
+    pub(crate) fn count(&self) -> u32 {
         (self.bits >> 12) & 7
     }
 
     /// Whether bytes stand after them.
-    pub fn rest(&self) -> bool {
+    pub(crate) fn rest(&self) -> bool {
         (self.bits >> 15) & 1 == 1
     }
 
     /// What the draft is.
-    pub fn draft(&self) -> u32 {
+    pub(crate) fn draft(&self) -> u32 {
         (self.bits >> 16) & 3
     }
 
     /// What the journal is.
-    pub fn journal(&self) -> u32 {
+    pub(crate) fn journal(&self) -> u32 {
         (self.bits >> 18) & 3
     }
 
     /// With a page of this kind there.
-    pub fn with(self, n: u32, kind: u32) -> Disk {
+    pub(crate) fn with(self, n: u32, kind: u32) -> Disk {
         let kind = kind & 7;
         let bits = match n {
             0 => (self.bits & 0xffff_fff8) | kind,
@@ -96,28 +96,28 @@ impl Disk {
     }
 
     /// With bytes after the pages, or none.
-    pub fn with_rest(self, rest: bool) -> Disk {
+    pub(crate) fn with_rest(self, rest: bool) -> Disk {
         Disk {
             bits: (self.bits & 0xffff_7fff) | (u32::from(rest) << 15),
         }
     }
 
     /// With this draft.
-    pub fn with_draft(self, draft: u32) -> Disk {
+    pub(crate) fn with_draft(self, draft: u32) -> Disk {
         Disk {
             bits: (self.bits & 0xfffc_ffff) | ((draft & 3) << 16),
         }
     }
 
     /// With this journal.
-    pub fn with_journal(self, journal: u32) -> Disk {
+    pub(crate) fn with_journal(self, journal: u32) -> Disk {
         Disk {
             bits: (self.bits & 0xfff3_ffff) | ((journal & 3) << 18),
         }
     }
 
     /// With so many pages, and no byte after them: new ones are of this kind.
-    pub fn sized(self, count: u32, kind: u32) -> Disk {
+    pub(crate) fn sized(self, count: u32, kind: u32) -> Disk {
         let mut disk = self;
         for n in 0..4 {
             if n >= count {
@@ -132,12 +132,12 @@ impl Disk {
     }
 
     /// The table with nothing beside it.
-    pub fn alone(self) -> Disk {
+    pub(crate) fn alone(self) -> Disk {
         self.with_draft(NONE).with_journal(NONE)
     }
 
     /// Whether there is a first page, and it is that of before but for its mark.
-    pub fn has_front(&self) -> bool {
+    pub(crate) fn has_front(&self) -> bool {
         let first = self.at(0);
         self.count() > 0 && (first == OLD || first == MARKED || first == MISMARKED)
     }
@@ -152,7 +152,7 @@ impl Disk {
     }
 
     /// The table that the journal makes of this one, with nothing beside it.
-    pub fn applied(&self, case: &Case) -> Disk {
+    pub(crate) fn applied(&self, case: &Case) -> Disk {
         let mut disk = self.sized(case.count, ZEROS);
         for n in 1..case.count {
             if case.changes(n) {
@@ -172,7 +172,7 @@ impl Disk {
     }
 
     /// The table that this stands for, unless it stands for none.
-    pub fn stands(&self, case: &Case) -> Option<Disk> {
+    pub(crate) fn stands(&self, case: &Case) -> Option<Disk> {
         if self.journal() == NONE {
             return Some(self.alone());
         }
@@ -184,7 +184,7 @@ impl Disk {
     }
 
     /// Whether the file alone is that of before but for its mark, or refused, or all its pages but the first are new.
-    pub fn is_well_alone(&self, case: &Case, old: &Disk) -> bool {
+    pub(crate) fn is_well_alone(&self, case: &Case, old: &Disk) -> bool {
         let mut same = self.has_front() && self.count() == old.count() && self.rest() == old.rest();
         for n in 1..4 {
             same &= self.at(n) == old.at(n);

@@ -36,7 +36,7 @@ fn bytes_of(n: u32, kind: u32) -> (u8, u8, u8) {
 }
 
 /// The page of this kind at this number.
-pub fn page_of(n: u32, kind: u32) -> Page {
+pub(crate) fn page_of(n: u32, kind: u32) -> Page {
     let (front, back, mark) = bytes_of(n, kind);
     let mut page = [back; 4096];
     page[..2048].fill(front);
