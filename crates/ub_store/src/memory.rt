@@ -34,6 +34,29 @@ impl MemStore {
             pages: Vec::new(alloc),
         }
     }
+
+    /// The store of these pages, of which there are at most as many as a store has.
+    pub fn of(pages: Vec<Page>) -> MemStore
+        requires few { length pages.items ≤ MAX_PAGES }
+        ensures { result ≡ pages.items }
+    {
+        MemStore { pages }
+    }
+
+    /// The page of this number, which there is.
+    pub fn page(&self, n: u32) -> &Page
+        requires there { n < length self.now }
+        ensures { slice_get self.now n ≡ Some result.now }
+    {
+        &self.pages[n as usize]
+    }
+
+    /// The pages, as they are.
+    pub fn into_pages(self) -> Vec<Page>
+        ensures { result.items ≡ self }
+    {
+        self.pages
+    }
 }
 
 impl PageStore for MemStore {
