@@ -1,13 +1,14 @@
 -- What a journal makes of a table depends on the pages alone that it leaves.
-use Rattle.std.proofs.Common.{◌≡◌, ◌≢◌, ◌<◌, ◌++◌, ◌+◌, ◌∷◌, [], ◌∙◌, ℕ, zero, suc, List, length, replicate, take, get_or, slice_get, slice_set, inl, inr, ap, arith, refl, sym, subst, length-set}
+use Rattle.std.proofs.Common.{◌≡◌, ◌≢◌, ◌<◌, ◌++◌, ◌+◌, ◌∷◌, [], ◌∙◌, ℕ, zero, suc, List, Some, length, replicate, take, slice_get, slice_set, inl, inr, ap, arith, refl, sym, subst, length-set}
 use Rattle.std.proofs.lemmas.Bool.{cases_eq, cases_lt}
-use Rattle.std.proofs.lemmas.List.{take_at, take_more}
-use Rattle.std.proofs.lemmas.Option.{slice_get_past, slice_get_within, slice_get-get_or}
-use Rattle.ub_journal.specs.Image.{Journal, Fits, HasBack, IsComplete, IsUntouched, applied, put_all, resized}
+use Rattle.std.proofs.lemmas.List.{take_at}
+use Rattle.std.proofs.lemmas.List.Elements.{All-get_or}
+use Rattle.std.proofs.lemmas.Option.{slice_get_past, get_or_from_slice_get, slice_get_within, slice_get-get_or}
+use Rattle.ub_journal.specs.Image.{ChangesOthers, Journal, Fits, HasBack, IsComplete, IsUntouched, applied, put_all, resized}
 use Rattle.ub_store.specs.Facts.{zero_page}
 use Rattle.ub_journal.specs.declared.journal.Change.{Change}
 use Rattle.ub_journal.specs.inner.TornClock.{get_set_other, get_resized}
-use Rattle.ub_journal.proofs.Lists.{get_set_both, length_resized, set_first}
+use Rattle.ub_journal.proofs.Lists.{get_set_both, length_resized, set_first, take_next}
 
 pub length_put_all : (cs : List Change) (t : List (List ℕ)) → length (put_all cs t) ≡ length t
 length_put_all [] t = refl
@@ -87,14 +88,20 @@ pub put_push : (cs : List Change) (t : List (List ℕ)) (c : Change) → put_all
 put_push [] t c = refl
 put_push (d ∷ cs) t c = put_push cs (slice_set t d.number d.page) c
 
-pub put_more : (cs : List Change) (t : List (List ℕ)) (i : ℕ) (d : Change) → i < length cs
-    → slice_set (put_all (take i cs) t) (get_or cs i d).number (get_or cs i d).page ≡ put_all (take (i + 1) cs) t
-put_more cs t i d within = sym (ap (λ (l : List Change). put_all l t) (take_more cs i d within) ∙ put_push (take i cs) t (get_or cs i d))
+pub put_more : (cs : List Change) (t : List (List ℕ)) (i : ℕ) (c : Change) → slice_get cs i ≡ Some c
+    → slice_set (put_all (take i cs) t) c.number c.page ≡ put_all (take (i + 1) cs) t
+put_more cs t i c is = sym (ap (λ (l : List Change). put_all l t) (take_next cs i c is) ∙ put_push (take i cs) t c)
 
-pub touched : (cs : List Change) (i : ℕ) (d : Change) → i < length cs → ¬ (IsUntouched cs (get_or cs i d).number)
-touched [] i d within h = absurd (omega arith)
-touched (c ∷ cs) zero d within h = h.0 refl
-touched (c ∷ cs) (suc i) d within h = touched cs i d (omega arith) h.1
+-- what is so of all changes is so of one of them
+pub among : (j : Journal) → ChangesOthers j → (i : ℕ) (c : Change) → slice_get j.changes i ≡ Some c → (c.number ≢ 0) × (c.number < j.count)
+among j others i c is =
+    subst (λ (d : Change). (d.number ≢ 0) × (d.number < j.count)) (get_or_from_slice_get j.changes i c c is)
+    (All-get_or (λ (d : Change). (d.number ≢ 0) × (d.number < j.count)) j.changes i c (slice_get_within j.changes i c is) others)
+
+pub touched : (cs : List Change) (i : ℕ) (d : Change) → slice_get cs i ≡ Some d → ¬ (IsUntouched cs d.number)
+touched [] i d is h = cc
+touched (c ∷ cs) zero d is h = let same : c ≡ d = cc in h.0 (ap (λ (e : Change). e.number) same)
+touched (c ∷ cs) (suc i) d is h = touched cs i d is h.1
 
 pub put_same : (j : Journal) (t : List (List ℕ)) → IsComplete j t → applied j (put_all j.changes (resized j.count t)) ≡ applied j t
 put_same j t whole =

@@ -1,13 +1,12 @@
 -- The runs of calls of the steps, one after the other.
-use Rattle.std.proofs.Common.{◌≡◌, ◌≢◌, ◌<◌, ◌∙◌, [], ℕ, List, Some, None, All, Result, length, get_or, inl, inr, ap, sym, subst, refl}
+use Rattle.std.proofs.Common.{◌≡◌, ◌≢◌, ◌∙◌, ℕ, Some, None, Result, slice_get, inl, inr, ap, sym, subst, refl}
 use Rattle.ub_journal.specs.Crash.{Drafts, Removes, Resizes, Stays, TearsMark, TearsPage, with_draft, with_journal, with_mark, with_page}
-use Rattle.ub_journal.specs.Image.{Image, Journal, Fits, HasBack, HasFront, IsUntouched, Recovers, Stands, applied, first_page, marked, put_all, resized}
+use Rattle.ub_journal.specs.Image.{Image, Journal, Fits, HasBack, HasFront, Recovers, Stands, applied, first_page, marked, put_all, resized}
 use Rattle.ub_journal.specs.Place.{IsClock, IsCommitted, IsDurable, IsFound, IsHonest, IsSame, Lasts, LeavesNow, LeavesOnly, PlaceFacts, SameDraft, SameJournal, SameTable, Steps}
 use Rattle.ub_journal.specs.declared.place.Failed.{Failed}
 use Rattle.ub_journal.specs.inner.Way.{HasBegun, HasCompleted, IsCompleted, IsDrafted, IsMarked, IsOnTheWay, Puts, with_others}
 use Rattle.ub_journal.specs.declared.journal.Change.{Change}
-use Rattle.std.proofs.lemmas.List.Elements.{All-get_or}
-use Rattle.ub_journal.proofs.Applied.{put_back, put_fits, put_same, touched}
+use Rattle.ub_journal.proofs.Applied.{among, put_back, put_fits, put_same, touched}
 use Rattle.ub_journal.proofs.Marking.{first_marked, found_recovers, mark_torn}
 use Rattle.ub_journal.proofs.Moments.{At, begins, joined, lasts, stays, steps}
 use Rattle.ub_journal.proofs.Settling.{IsBeside, head_put, head_torn, journal_goes, settling_begins}
@@ -17,14 +16,12 @@ use Rattle.ub_journal.proofs.Way.{way_begins, way_fits, way_front, way_marks, wa
 abbrev pub Drafted : PlaceFacts → PlaceFacts → Type 0
 Drafted start now = At (IsSame start.seen) (IsSame start.seen) start now
 
-pub draft_more : {start a b : PlaceFacts} {A : Type 0} {r : Result A Failed} → Drafted start a → Steps Drafts a b r → Drafted start b
-draft_more {start = start} at call = steps (IsSame start.seen) at call (λ d c same drafts. (
-  (ap (λ (i : Image). i.table) drafts ∙ same.0.0, ap (λ (i : Image). i.rest) drafts ∙ same.0.1),
-  ap (λ (i : Image). i.journal) drafts ∙ same.1,
-)) (λ c same. same)
-
 pub draft_begun : {start a : PlaceFacts} {A : Type 0} {r : Result A Failed} → IsDurable start → IsHonest start → IsClock start → Steps Drafts start a r → Drafted start a
-draft_begun {start = start} durable honest clock call = draft_more (begins (IsSame start.seen) (IsSame start.seen) honest clock durable (λ c same. same)) call
+draft_begun {start = start} durable honest clock call =
+    steps (IsSame start.seen) (begins (IsSame start.seen) (IsSame start.seen) honest clock durable (λ c same. same)) call (λ d c same drafts. (
+      (ap (λ (i : Image). i.table) drafts ∙ same.0.0, ap (λ (i : Image). i.rest) drafts ∙ same.0.1),
+      ap (λ (i : Image). i.journal) drafts ∙ same.1,
+    )) (λ c same. same)
 
 pub draft_lasts : (j : Journal) {start a b : PlaceFacts} → Drafted start b → a.seen ≡ with_draft j start.seen → Lasts SameDraft a b → IsDrafted j start b
 draft_lasts j {start = start} {b = b} at written done =
@@ -81,26 +78,21 @@ module _ (j : Journal) {start : PlaceFacts} (begun : HasBegun j start) (honest :
 
 -- the pages are put
 module _ (j : Journal) {start : PlaceFacts} (begun : HasBegun j start) (honest : IsHonest start) (clock : IsClock start) where
-  pub pages_resized : {a : PlaceFacts} {A : Type 0} {r : Result A Failed} → Steps (Resizes j.count) start a r → At (Puts j start.seen) (Puts j start.seen) start a
-  pages_resized call =
+  pub pages_resized : {a : PlaceFacts} {A : Type 0} {r : Result A Failed} (count : ℕ) → count ≡ j.count → Steps (Resizes count) start a r → At (Puts j start.seen) (Puts j start.seen) start a
+  pages_resized {a = a} {r = r} count is call =
       let left = begun.found.left in
       let at = begins (Puts j start.seen) (Puts j start.seen) honest clock (λ c now. let same = begun.found.durable c now in (
         way_begins j start.seen.table start.seen.rest left.fits c same.0.0 (same.1 ∙ left.journal),
         (rw same.0.0 left.fits.some.1, ap first_page same.0.0),
       )) (λ c so. so) in
-      steps (Puts j start.seen) at call (λ d c so step. way_resizes j start.seen.table start.seen.rest left.fits d c so step) (λ c so. so)
+      steps (Puts j start.seen) at (subst (λ n. Steps (Resizes n) start a r) is call) (λ d c so step. way_resizes j start.seen.table start.seen.rest left.fits d c so step) (λ c so. so)
 
-  abbrev pub none : Change
-  none = record { number = 0; page = [] }
-
-  pub another_put : {a b : PlaceFacts} {A : Type 0} {r : Result A Failed} (xs : List Change) (i : ℕ) → xs ≡ j.changes → i < length xs → At (Puts j start.seen) (Puts j start.seen) start a
-      → Steps (TearsPage (get_or xs i none).number) a b r → At (Puts j start.seen) (Puts j start.seen) start b
-  another_put xs i is within at call =
-      let number = (get_or xs i none).number in
-      let others = subst (All (λ (x : Change). (x.number ≢ 0) × (x.number < j.count))) (sym is) begun.found.left.others in
-      let which = All-get_or (λ (x : Change). (x.number ≢ 0) × (x.number < j.count)) xs i none within others in
-      let put = subst (λ (l : List Change). ¬ (IsUntouched l number)) is (touched xs i none within) in
-      steps (Puts j start.seen) at call (λ d c so torn. way_puts j start.seen.table start.seen.rest begun.found.left.fits d c number which.0 put so torn) (λ c so. so)
+  pub another_put : {a b : PlaceFacts} {A : Type 0} {r : Result A Failed} (i : ℕ) (x : Change) → slice_get j.changes i ≡ Some x → At (Puts j start.seen) (Puts j start.seen) start a
+      → Steps (TearsPage x.number) a b r → At (Puts j start.seen) (Puts j start.seen) start b
+  another_put i x is at call =
+      let which = among j begun.found.left.others i x is in
+      steps (Puts j start.seen) at call
+      (λ d c so torn. way_puts j start.seen.table start.seen.rest begun.found.left.fits d c x.number which.0 (touched j.changes i x is) so torn) (λ c so. so)
 
 -- all pages but the first are put, after the first was marked
 module _ (j : Journal) {start mid : PlaceFacts} (is_marked : IsMarked j start mid) (fits : Fits j start.seen.table start.seen.rest) (front : HasFront j start.seen.table) where

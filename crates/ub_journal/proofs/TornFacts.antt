@@ -1,13 +1,13 @@
 -- What a place in memory that keeps its calls tells of what a crash may leave.
-use Rattle.std.proofs.Common.{Bool, ◌≡◌, ◌≤◌, ◌<◌, ◌+◌, ◌++◌, ◌∷◌, [], ◌∙◌, ℕ, List, Some, Result, Ok, Err, OnOk, length, take, get_or, slice_set, inl, inr, ap, arith, refl, sym, subst, length-append}
+use Rattle.std.proofs.Common.{Bool, ◌≡◌, ◌≤◌, ◌<◌, ◌+◌, ◌++◌, ◌∷◌, [], ◌∙◌, ℕ, List, Option, Some, Result, Ok, Err, OnOk, length, take, get_or, slice_set, inl, inr, ap, arith, refl, sym, subst, length-append}
 use Rattle.std.proofs.lemmas.Bool.{cases_lt}
 use Rattle.std.proofs.lemmas.List.{set-get_or, take_all, take_more, take-append-le}
 use Rattle.std.proofs.lemmas.Result.{on_ok_weaker}
 use Rattle.ub_store.specs.Facts.{zero_page}
 use Rattle.ub_journal.specs.Crash.{IsPublished, Resizes, TearsMark, TearsPage}
 use Rattle.ub_journal.specs.Image.{Image, Journal, first_page}
-use Rattle.ub_journal.specs.Place.{IsHonest, Lasts, Shows, Steps, counted}
-use Rattle.ub_journal.specs.Torn.{Notes, done, facts_after, first_image, left_after, noted, seen_after, torn, torn_facts}
+use Rattle.ub_journal.specs.Place.{IsHonest, Lasts, PlaceFacts, Shows, Steps, counted}
+use Rattle.ub_journal.specs.Torn.{Notes, StandsAtFirst, done, facts_after, first_image, left_after, noted, seen_after, torn, torn_facts}
 use Rattle.ub_journal.specs.declared.place.Failed.{Failed}
 use Rattle.ub_journal.specs.declared.torn.Deed.{Deed}
 use Rattle.ub_journal.specs.declared.torn.Deed.TheVariants as deed
@@ -106,5 +106,17 @@ torn_publishes {old = old} {result = result} notes =
     (torn_shows notes (λ i. record i { journal = Some i.draft }) (λ i. refl))
 
 -- after one call more of those that were done
-pub seen_at : (first : Image) (ds : List Deed) (i : ℕ) (d : Deed) → i < length ds → seen_after first (take (i + 1) ds) ≡ done (get_or ds i d) (seen_after first (take i ds))
-seen_at first ds i d within = ap (seen_after first) (take_more ds i d within) ∙ seen_more first (take i ds) (get_or ds i d)
+pub seen_at : (first : Image) (ds : List Deed) (i : ℕ) (d : Deed) → i < length ds → d ≡ get_or ds i d → seen_after first (take (i + 1) ds) ≡ done d (seen_after first (take i ds))
+seen_at first ds i d within is =
+    ap (seen_after first) (take_more ds i d within) ∙ seen_more first (take i ds) (get_or ds i d) ∙ ap (λ (e : Deed). done e (seen_after first (take i ds))) (sym is)
+
+-- what stands at first, told in other words
+pub stands_so : {p q : List (List ℕ)} {a b : ℕ} {j k : Option Journal} {h : Bool} {facts : PlaceFacts} → p ≡ q → a ≡ b → j ≡ k → StandsAtFirst p a j h facts → StandsAtFirst q b k h facts
+stands_so pages rest beside at = record {
+  honest = at.honest;
+  table = at.table ∙ pages;
+  rest = at.rest ∙ rest;
+  journal = at.journal ∙ beside;
+  lasts = at.lasts;
+  unfailed = at.unfailed;
+}

@@ -1,7 +1,6 @@
 -- What a call does to what is seen, and what a crash may leave of that.
 use Rattle.std.specs.Prelude.{◌≡◌, ◌≢◌, ◌<◌, ◌≤◌, ◌⊎◌, ◌+◌, max, ℕ, List, Option, Some, None, length, slice_get, slice_set}
-use Rattle.ub_journal.specs.Image.{Image, Journal, appended, first_page, marked, resized}
-use Rattle.ub_journal.specs.declared.journal.Change.{Change}
+use Rattle.ub_journal.specs.Image.{Image, Journal, first_page, marked, resized}
 
 -- with a page in the place of that of this number
 abbrev pub with_page : ℕ → List ℕ → Image → Image
@@ -18,10 +17,6 @@ with_count count i = record i { table = resized count i.table; rest = 0 }
 -- with this draft
 abbrev pub with_draft : Journal → Image → Image
 with_draft j i = record i { draft = j }
-
--- with a page more in the draft
-abbrev pub with_change : Change → Image → Image
-with_change change i = record i { draft = appended change i.draft }
 
 -- with this journal, or none
 abbrev pub with_journal : Option Journal → Image → Image

@@ -1,5 +1,5 @@
 -- What stands on a disk for a table, and which pages it stands for.
-use Rattle.std.specs.Prelude.{◌≡◌, ◌≢◌, ◌<◌, ◌≤◌, ◌⊎◌, ◌++◌, ℕ, List, [], ◌∷◌, Option, Some, None, All, length, take, drop, replicate, slice_get, slice_index_or, slice_set}
+use Rattle.std.specs.Prelude.{◌≡◌, ◌≢◌, ◌<◌, ◌≤◌, ◌⊎◌, ◌++◌, ◌^◌, ℕ, map, List, [], ◌∷◌, Option, Some, None, All, length, take, drop, replicate, slice_get, slice_index_or, slice_set}
 use Rattle.ub_store.specs.Facts.{zero_page}
 use Rattle.ub_journal.specs.declared.journal.Change.{Change}
 use Rattle.ub_journal.specs.declared.journal.Journal as declared
@@ -20,12 +20,9 @@ told j = record { before = j.before; head = j.head; count = j.count; changes = j
 abbrev pub begun : List ℕ → List ℕ → ℕ → Journal
 begun before head count = record { before = before; head = head; count = count; changes = [] }
 
--- with a page more
-abbrev pub appended : Change → Journal → Journal
-appended change j = record j { changes = j.changes ++ change ∷ [] }
-
 -- what stands on a disk: the whole pages of the table's file, how many bytes stand after the last of them, a draft of a journal,
--- and the journal beside the file
+-- and the journal beside the file. A file of the journal's name that spells none is told as a journal of a table that is to have no
+-- pages: that is one of no table
 pub record Image : Type 0 where
   pub table : List (List ℕ)
   pub rest : ℕ
@@ -86,6 +83,22 @@ pub record Fits (j : Journal) (t : List (List ℕ)) (rest : ℕ) : Type 0 where
 abbrev pub ChangesOthers : Journal → Type 0
 ChangesOthers j = All (λ change. (change.number ≢ 0) × (change.number < j.count)) j.changes
 
+-- the numbers of the pages that change
+abbrev pub numbers_of : List Change → List ℕ
+numbers_of changes = map (λ change. change.number) changes
+
+-- each number is above the one before it, the first one above this, and all are below the count
+abbrev pub AreAscending : ℕ → ℕ → List ℕ → Type 0
+AreAscending above count [] = Unit {0}
+AreAscending above count (n ∷ ns) = (above < n) × (n < count) × AreAscending n count ns
+
+-- a journal that pages can hold: the table is to have a page at least, and the changes are of other pages than the first, of pages
+-- that it is to have, and in the order of their numbers
+pub record IsJournal (j : Journal) : Type 0 where
+  pub some : 1 ≤ j.count
+  pub few : j.count < 2 ^ 32
+  pub ascending : AreAscending 0 j.count (numbers_of j.changes)
+
 -- what these pages, bytes after them and this journal stand for: those pages, with so many bytes after them. A journal that
 -- isn't one of the table stands for nothing: that is never left
 abbrev pub StandsFor : List (List ℕ) → ℕ → Option Journal → List (List ℕ) → ℕ → Type 0
@@ -121,3 +134,10 @@ IsBetween j old image = (StandsForOld old image ⊎ StandsForNew j old image) ×
 abbrev pub Recovers : Journal → Image → Image → Type 0
 Recovers j seen image = StandsForNew j seen image
     × ((old : Image) → IsAlone j old seen → IsAlone j old image)
+
+-- which pages are found there, with so many bytes after them: where the journal is one of the table those that it makes of it, and else
+-- the table's own, whatever stands beside them
+abbrev pub Finds : Image → List (List ℕ) → ℕ → Type 0
+Finds image pages after =
+    ((j : Journal) × (image.journal ≡ Some j) × Fits j image.table image.rest × (pages ≡ applied j image.table) × (after ≡ 0))
+    ⊎ (((j : Journal) → image.journal ≡ Some j → ¬ (Fits j image.table image.rest)) × (pages ≡ image.table) × (after ≡ image.rest))

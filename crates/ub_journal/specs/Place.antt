@@ -1,7 +1,10 @@
 -- What contracts see of a place, and what its calls may do to that.
 use Rattle.std.specs.Prelude.{◌≡◌, ◌≤◌, ◌⊎◌, ℕ, Bool, Some, None, IsTrue, Result, Ok, Err}
 use Rattle.ub_store.specs.Facts.{raised}
+use Rattle.ub_journal.specs.Crash.{Stays}
 use Rattle.ub_journal.specs.Image.{ChangesOthers, Fits, HasFront, Image, Journal, Recovers, applied}
+use Rattle.ub_journal.specs.declared.fault.JournalFault.{JournalFault}
+use Rattle.ub_journal.specs.declared.fault.JournalFault.TheVariants as journal
 use Rattle.ub_journal.specs.declared.place.Failed.{Failed}
 
 -- the facts of a place: whether what is said here of images is so; what is seen; what a crash at this moment may leave; the
@@ -23,6 +26,11 @@ IsHonest facts = IsTrue facts.honest
 abbrev pub counted : {A : Type 0} → Result A Failed → ℕ → ℕ
 counted (Err fault) n = raised n 1
 counted (Ok value) n = n
+
+-- and after a look at a journal: Device raises it by one, and nothing else does
+abbrev pub looked : {A : Type 0} → Result A JournalFault → ℕ → ℕ
+looked (Err journal.Device) n = raised n 1
+looked result n = n
 
 -- this moment is one of those since an earlier one, and since this moment there is no other; what is seen may be left, by a
 -- process that is ended now
@@ -50,6 +58,14 @@ pub record Counts {A : Type 0} (old new : PlaceFacts) (result : Result A Failed)
 pub record Steps {A : Type 0} (step : Image → Image → Type 0) (old new : PlaceFacts) (result : Result A Failed) : Type 0 where
   pub counts : Counts old new result
   pub leaves : IsHonest old → Follows step old new
+  pub time : IsHonest old → Elapses old new
+
+-- a look at the journal with this result: nothing changes but, at Device, the count of failures
+pub record Looks {A : Type 0} (old new : PlaceFacts) (result : Result A JournalFault) : Type 0 where
+  pub honest : new.honest ≡ old.honest
+  pub failures : new.failures ≡ looked result old.failures
+  pub seen : IsHonest old → new.seen ≡ old.seen
+  pub leaves : IsHonest old → Follows Stays old new
   pub time : IsHonest old → Elapses old new
 
 -- what is seen is what was seen, with this change

@@ -2,7 +2,7 @@
 use Rattle.std.specs.Prelude.{◌≡◌, ◌≤◌, ◌++◌, ◌∷◌, [], ℕ, List, Some, None, Bool, Option, option_map, length, take, slice_index_or, Result, Ok, Err}
 use Rattle.ub_store.specs.Facts.{zero_page}
 use Rattle.ub_journal.specs.Image.{Image, Journal, begun, told}
-use Rattle.ub_journal.specs.Crash.{Drafts, Publishes, Removes, Resizes, TearsMark, TearsPage, with_change, with_count, with_draft, with_journal, with_mark, with_page}
+use Rattle.ub_journal.specs.Crash.{Drafts, Publishes, Removes, Resizes, TearsMark, TearsPage, with_count, with_draft, with_journal, with_mark, with_page}
 use Rattle.ub_journal.specs.Place.{PlaceFacts, SameDraft, SameJournal, SameTable, counted}
 use Rattle.ub_journal.specs.declared.place.Failed.{Failed}
 use Rattle.ub_journal.specs.declared.torn.Deed.{Deed}
@@ -15,8 +15,7 @@ done (deed.Write n page) i = with_page n page i
 done deed.Mark i = with_mark i
 done (deed.Resize count) i = with_count count i
 done deed.Sync i = i
-done (deed.Draft before head count) i = with_draft (begun before head count) i
-done (deed.Append n page) i = with_change (record { number = n; page = page }) i
+done (deed.Draft j) i = with_draft (told j) i
 done deed.SyncDraft i = i
 done deed.Publish i = with_journal (Some i.draft) i
 done deed.Remove i = with_journal None i
@@ -28,8 +27,7 @@ torn (deed.Write n page) seen old new = TearsPage n old new
 torn deed.Mark seen old new = TearsMark old new
 torn (deed.Resize count) seen old new = Resizes count old new
 torn deed.Sync seen old new = (old ≡ new) × SameTable seen new
-torn (deed.Draft before head count) seen old new = Drafts old new
-torn (deed.Append n page) seen old new = Drafts old new
+torn (deed.Draft j) seen old new = Drafts old new
 torn deed.SyncDraft seen old new = (old ≡ new) × SameDraft seen new
 torn deed.Publish seen old new = Publishes old new
 torn deed.Remove seen old new = Removes old new
@@ -45,9 +43,9 @@ abbrev pub left_after : (Image → Type 0) → Image → List Deed → Image →
 left_after P seen [] c = P c
 left_after P seen (d ∷ ds) c = left_after (λ new. (old : Image) × P old × torn d seen old new) (done d seen) ds c
 
--- what stood there at first
+-- what stood there at first: where no draft was written it is told as a journal of no table
 abbrev pub first_image : TornPlace → Image
-first_image p = record { table = p.first.items; rest = p.rest; draft = begun [] [] 0; journal = option_map told p.journal }
+first_image p = record { table = p.first.items; rest = p.rest; draft = begun zero_page zero_page 0; journal = option_map told p.journal }
 
 -- the facts of a place that is honest or not, where this stood at first, after these calls, and where so many failed. A moment is
 -- how many calls were done

@@ -1,9 +1,9 @@
 ghost use Rattle.std.specs.Prelude.{◌↔◌, IsTrue, OnOk};
-ghost use Rattle.ub_journal.specs.Image.{IsBetween, IsMarkedFrom, Recovers, told};
+ghost use Rattle.ub_journal.specs.Image.{IsBetween, IsJournal, IsMarkedFrom, Recovers};
 ghost use Rattle.ub_journal.specs.Place.{AtAnyMoment, Counts, IsCommitted, IsDurable, IsFound, IsHonest, IsLeft, IsReady, IsSame, Heals, LeavesNow, PlaceFacts, Shows};
 ghost use Rattle.ub_journal.specs.inner.Way.{HasBegun, HasCompleted, IsCompleted, IsDrafted, IsMarked, IsNamed, Puts, with_others};
 
-use crate::journal::Journal;
+use crate::journal::Tells;
 use crate::place::{Failed, Place};
 use ub_store::Page;
 
@@ -11,12 +11,13 @@ use ub_store::Page;
 /// was made of that table. At Ok the table is the new one, it lasts, and no journal is there. A crash at any moment leaves what
 /// stands for the table as it was or for the new one, also after a failure, which comes where a call of the place failed in this
 /// call, once, and ends it.
-pub fn commit<P: Place>(place: &mut P, journal: &Journal) -> Result<(), Failed>
+pub fn commit<P: Place, J: Tells>(place: &mut P, journal: &J) -> Result<(), Failed>
+    requires journal { IsJournal (J.told journal.now) }
     requires ready { IsHonest (P.facts place.old)
-        → IsReady (told journal.now) (P.facts place.old) }
+        → IsReady (J.told journal.now) (P.facts place.old) }
     ensures done { OnOk result (IsHonest (P.facts place.old)
-        → IsCommitted (told journal.now) (P.facts place.old) (P.facts place.new)) }
-    ensures any_moment { AtAnyMoment (IsBetween (told journal.now) (P.facts place.old).seen)
+        → IsCommitted (J.told journal.now) (P.facts place.old) (P.facts place.new)) }
+    ensures any_moment { AtAnyMoment (IsBetween (J.told journal.now) (P.facts place.old).seen)
         (P.facts place.old) (P.facts place.new) }
     ensures cause { Counts (P.facts place.old) (P.facts place.new) result }
 {
@@ -28,18 +29,18 @@ pub fn commit<P: Place>(place: &mut P, journal: &Journal) -> Result<(), Failed>
 /// Finishes what a crash has left, where what is seen lasts, and the journal that is seen is this one, and one of the table. At Ok
 /// the table is the new one, it lasts, and no journal is there. A crash at any moment leaves what stands for the new table, and can
 /// be finished in turn. A failure comes where a call of the place failed in this call, once, and ends it.
-pub fn finish<P: Place>(place: &mut P, journal: &Journal) -> Result<(), Failed>
+pub fn finish<P: Place, J: Tells>(place: &mut P, journal: &J) -> Result<(), Failed>
     requires found { IsHonest (P.facts place.old)
-        → IsFound (told journal.now) (P.facts place.old) }
+        → IsFound (J.told journal.now) (P.facts place.old) }
     ensures done { OnOk result (IsHonest (P.facts place.old)
-        → IsCommitted (told journal.now) (P.facts place.old) (P.facts place.new)) }
-    ensures any_moment { AtAnyMoment (Recovers (told journal.now) (P.facts place.old).seen)
+        → IsCommitted (J.told journal.now) (P.facts place.old) (P.facts place.new)) }
+    ensures any_moment { AtAnyMoment (Recovers (J.told journal.now) (P.facts place.old).seen)
         (P.facts place.old) (P.facts place.new) }
     ensures cause { Counts (P.facts place.old) (P.facts place.new) result }
 {
     let mut first = [0; 4096];
     place.read_page(0, &mut first)?;
-    if is_marked_from(&journal.before, &first) {
+    if is_marked_from(&journal.before(), &first) {
         complete(place, journal)?;
     }
     settle(place, journal)
@@ -49,21 +50,21 @@ pub fn finish<P: Place>(place: &mut P, journal: &Journal) -> Result<(), Failed>
 /// seen need not last: it is made to last first. At Ok the table is the new one, it lasts, and no journal is there. A crash at any
 /// moment leaves what it might have left before the call, or what stands for the new table. A failure comes where a call of the
 /// place failed in this call, once, and ends it.
-pub fn heal<P: Place>(place: &mut P, journal: &Journal) -> Result<(), Failed>
+pub fn heal<P: Place, J: Tells>(place: &mut P, journal: &J) -> Result<(), Failed>
     requires left { IsHonest (P.facts place.old)
-        → IsLeft (told journal.now) (P.facts place.old) }
+        → IsLeft (J.told journal.now) (P.facts place.old) }
     ensures done { OnOk result (IsHonest (P.facts place.old)
-        → IsCommitted (told journal.now) (P.facts place.old) (P.facts place.new)) }
+        → IsCommitted (J.told journal.now) (P.facts place.old) (P.facts place.new)) }
     ensures any_moment { AtAnyMoment
-        (Heals (told journal.now) (P.facts place.old)) (P.facts place.old) (P.facts place.new) }
+        (Heals (J.told journal.now) (P.facts place.old)) (P.facts place.old) (P.facts place.new) }
     ensures cause { Counts (P.facts place.old) (P.facts place.new) result }
 {
     make_last(place)?;
     finish(place, journal)
 }
 
-// Makes last what is seen.
-fn make_last<P: Place>(place: &mut P) -> Result<(), Failed>
+/// Makes last what is seen. A failure comes where a call of the place failed in this call, once, and ends it.
+pub fn make_last<P: Place>(place: &mut P) -> Result<(), Failed>
     ensures durable { OnOk result (IsHonest (P.facts place.old) → IsDurable (P.facts place.new)) }
     ensures seen { OnOk result (Shows (λ i. i) (P.facts place.old) (P.facts place.new)) }
     ensures any_moment { AtAnyMoment (P.facts place.old).may_leave
@@ -75,12 +76,13 @@ fn make_last<P: Place>(place: &mut P) -> Result<(), Failed>
 }
 
 // Writes the journal, and gives it its name.
-fn publish<P: Place>(place: &mut P, journal: &Journal) -> Result<(), Failed>
+fn publish<P: Place, J: Tells>(place: &mut P, journal: &J) -> Result<(), Failed>
+    requires journal { IsJournal (J.told journal.now) }
     requires ready { IsHonest (P.facts place.old)
-        → IsReady (told journal.now) (P.facts place.old) }
+        → IsReady (J.told journal.now) (P.facts place.old) }
     ensures done { OnOk result (IsHonest (P.facts place.old)
-        → IsNamed (told journal.now) (P.facts place.old) (P.facts place.new)) }
-    ensures any_moment { AtAnyMoment (IsBetween (told journal.now) (P.facts place.old).seen)
+        → IsNamed (J.told journal.now) (P.facts place.old) (P.facts place.new)) }
+    ensures any_moment { AtAnyMoment (IsBetween (J.told journal.now) (P.facts place.old).seen)
         (P.facts place.old) (P.facts place.new) }
     ensures cause { Counts (P.facts place.old) (P.facts place.new) result }
 {
@@ -90,28 +92,26 @@ fn publish<P: Place>(place: &mut P, journal: &Journal) -> Result<(), Failed>
 }
 
 // Writes a draft of the journal, and makes it last.
-fn write_draft<P: Place>(place: &mut P, journal: &Journal) -> Result<(), Failed>
+fn write_draft<P: Place, J: Tells>(place: &mut P, journal: &J) -> Result<(), Failed>
+    requires journal { IsJournal (J.told journal.now) }
     requires durable { IsHonest (P.facts place.old) → IsDurable (P.facts place.old) }
     ensures done { OnOk result (IsHonest (P.facts place.old)
-        → IsDrafted (told journal.now) (P.facts place.old) (P.facts place.new)) }
+        → IsDrafted (J.told journal.now) (P.facts place.old) (P.facts place.new)) }
     ensures any_moment { AtAnyMoment (IsSame (P.facts place.old).seen)
         (P.facts place.old) (P.facts place.new) }
     ensures cause { Counts (P.facts place.old) (P.facts place.new) result }
 {
-    place.draft(&journal.before, &journal.head, journal.count)?;
-    for change in journal.changes.as_slice() {
-        place.append(change)?;
-    }
+    place.draft(journal)?;
     place.sync_draft()
 }
 
 // Puts all pages but the first, and marks that before.
-fn complete<P: Place>(place: &mut P, journal: &Journal) -> Result<(), Failed>
+fn complete<P: Place, J: Tells>(place: &mut P, journal: &J) -> Result<(), Failed>
     requires begun { IsHonest (P.facts place.old)
-        → HasBegun (told journal.now) (P.facts place.old) }
+        → HasBegun (J.told journal.now) (P.facts place.old) }
     ensures done { OnOk result (IsHonest (P.facts place.old)
-        → IsCompleted (told journal.now) (P.facts place.old) (P.facts place.new)) }
-    ensures any_moment { AtAnyMoment (Recovers (told journal.now) (P.facts place.old).seen)
+        → IsCompleted (J.told journal.now) (P.facts place.old) (P.facts place.new)) }
+    ensures any_moment { AtAnyMoment (Recovers (J.told journal.now) (P.facts place.old).seen)
         (P.facts place.old) (P.facts place.new) }
     ensures cause { Counts (P.facts place.old) (P.facts place.new) result }
 {
@@ -121,12 +121,12 @@ fn complete<P: Place>(place: &mut P, journal: &Journal) -> Result<(), Failed>
 }
 
 // Marks the first page, unless it is marked already: a mark that is put again may be torn, and the pages may be mixed by then.
-fn mark_first<P: Place>(place: &mut P, journal: &Journal) -> Result<(), Failed>
+fn mark_first<P: Place, J: Tells>(place: &mut P, journal: &J) -> Result<(), Failed>
     requires begun { IsHonest (P.facts place.old)
-        → HasBegun (told journal.now) (P.facts place.old) }
+        → HasBegun (J.told journal.now) (P.facts place.old) }
     ensures done { OnOk result (IsHonest (P.facts place.old)
-        → IsMarked (told journal.now) (P.facts place.old) (P.facts place.new)) }
-    ensures any_moment { AtAnyMoment (Recovers (told journal.now) (P.facts place.old).seen)
+        → IsMarked (J.told journal.now) (P.facts place.old) (P.facts place.new)) }
+    ensures any_moment { AtAnyMoment (Recovers (J.told journal.now) (P.facts place.old).seen)
         (P.facts place.old) (P.facts place.new) }
     ensures cause { Counts (P.facts place.old) (P.facts place.new) result }
 {
@@ -140,35 +140,36 @@ fn mark_first<P: Place>(place: &mut P, journal: &Journal) -> Result<(), Failed>
 }
 
 // Gives the table its pages, and puts those that change.
-fn put_changes<P: Place>(place: &mut P, journal: &Journal) -> Result<(), Failed>
+fn put_changes<P: Place, J: Tells>(place: &mut P, journal: &J) -> Result<(), Failed>
     requires begun { IsHonest (P.facts place.old)
-        → HasBegun (told journal.now) (P.facts place.old) }
+        → HasBegun (J.told journal.now) (P.facts place.old) }
     ensures seen { OnOk result
-        (Shows (with_others (told journal.now)) (P.facts place.old) (P.facts place.new)) }
+        (Shows (with_others (J.told journal.now)) (P.facts place.old) (P.facts place.new)) }
     ensures crash { IsHonest (P.facts place.old) → LeavesNow
-        (Puts (told journal.now) (P.facts place.old).seen) (P.facts place.new) }
-    ensures any_moment { AtAnyMoment (Puts (told journal.now) (P.facts place.old).seen)
+        (Puts (J.told journal.now) (P.facts place.old).seen) (P.facts place.new) }
+    ensures any_moment { AtAnyMoment (Puts (J.told journal.now) (P.facts place.old).seen)
         (P.facts place.old) (P.facts place.new) }
     ensures cause { Counts (P.facts place.old) (P.facts place.new) result }
 {
-    place.resize(journal.count)?;
-    for change in journal.changes.as_slice() {
+    place.resize(journal.count())?;
+    for at in 0..journal.changes() {
+        let change = journal.change(at);
         place.write_page(change.number, &change.page)?;
     }
     Ok(())
 }
 
 // Puts the first page where all others stand, and takes the journal away.
-fn settle<P: Place>(place: &mut P, journal: &Journal) -> Result<(), Failed>
+fn settle<P: Place, J: Tells>(place: &mut P, journal: &J) -> Result<(), Failed>
     requires completed { IsHonest (P.facts place.old)
-        → HasCompleted (told journal.now) (P.facts place.old) }
+        → HasCompleted (J.told journal.now) (P.facts place.old) }
     ensures done { OnOk result (IsHonest (P.facts place.old)
-        → IsCommitted (told journal.now) (P.facts place.old) (P.facts place.new)) }
-    ensures any_moment { AtAnyMoment (Recovers (told journal.now) (P.facts place.old).seen)
+        → IsCommitted (J.told journal.now) (P.facts place.old) (P.facts place.new)) }
+    ensures any_moment { AtAnyMoment (Recovers (J.told journal.now) (P.facts place.old).seen)
         (P.facts place.old) (P.facts place.new) }
     ensures cause { Counts (P.facts place.old) (P.facts place.new) result }
 {
-    place.write_page(0, &journal.head)?;
+    place.write_page(0, &journal.head())?;
     place.sync()?;
     place.remove()?;
     place.sync_folder()

@@ -1,3 +1,6 @@
+ghost use Rattle.std.specs.Prelude.{◌≡◌, ◌↔◌, ◌<◌, Some, IsTrue, length, slice_get};
+ghost use Rattle.ub_journal.specs.Image.{Journal as spec, AreAscending, IsJournal, numbers_of, told};
+
 use ub_store::Page;
 
 /// A page that is to stand at a number.
@@ -20,4 +23,83 @@ pub struct Journal {
     pub count: u32,
     /// Its other pages that differ.
     pub changes: Vec<Change>,
+}
+
+/// What a journal says, told page by page, so that it need not stand in memory as one.
+pub trait Tells {
+    ghost told: { Self → spec };
+
+    /// The first page of the one table.
+    fn before(&self) -> Page
+        ensures { result ≡ (told self.now).before };
+
+    /// The first page of the other.
+    fn head(&self) -> Page
+        ensures { result ≡ (told self.now).head };
+
+    /// How many pages the other has.
+    fn count(&self) -> u32
+        ensures { result ≡ (told self.now).count };
+
+    /// How many of its other pages differ.
+    fn changes(&self) -> usize
+        ensures { result ≡ length (told self.now).changes };
+
+    /// One of these, by its place among them.
+    fn change(&self, at: usize) -> Change
+        requires within { at < length (told self.now).changes }
+        ensures { slice_get (told self.now).changes at ≡ Some result };
+}
+
+impl Tells for Journal {
+    ghost use Rattle.ub_journal.specs.Image.{told};
+
+    ghost told = { told };
+
+    fn before(&self) -> Page {
+        self.before
+    }
+
+    fn head(&self) -> Page {
+        self.head
+    }
+
+    fn count(&self) -> u32 {
+        self.count
+    }
+
+    fn changes(&self) -> usize {
+        self.changes.len()
+    }
+
+    fn change(&self, at: usize) -> Change {
+        let change = &self.changes[at];
+        Change {
+            number: change.number,
+            page: change.page,
+        }
+    }
+}
+
+/// Whether pages can hold a journal: the table is to have a page at least, and the changes are of other pages than the first, of pages
+/// that it is to have, and in the order of their numbers.
+pub fn is_journal(journal: &Journal) -> bool
+    ensures { IsTrue result ↔ IsJournal (told journal.now) }
+{
+    journal.count >= 1 && are_ascending(journal.changes.as_slice(), journal.count)
+}
+
+// Whether each number is above the one before it, the first one above 0, and all are below the count.
+fn are_ascending(changes: &[Change], count: u32) -> bool
+    ensures { IsTrue result ↔ AreAscending 0 count (numbers_of changes.now) }
+{
+    let mut above = 0;
+    for i in 0..changes.len() {
+        let number = changes[i].number;
+        if number <= above || number >= count {
+            return false;
+        }
+        above = number;
+    }
+    true
 }

@@ -3,7 +3,9 @@
 //
 // Three files stand in one folder. TABLE holds the table's pages, and may hold bytes after the last whole one, which belong to
 // nothing. The journal beside it is there only while changes are put, or after a crash in the middle of that. The draft is a journal
-// that is being written, under a name of its own that nobody reads. A `Place` is these three, with one clock.
+// that is being written, under a name of its own that nobody reads. A `Place` is these three, with one clock; it tells how many pages
+// there are, how many bytes after them, and the journal. A file of the journal's name that spells none is told as a journal of a table
+// that is to have no pages: it is one of no table.
 //
 // A journal tells how one table becomes another one: the first page as it was and as it is to be, how many pages the table is to
 // have, and the other pages that change. It is of the table that stands there (`Fits`) as long as the pages that it leaves stand
@@ -11,9 +13,11 @@
 //   (A) the first page is the one from before, but for its mark (byte 5); or
 //   (B) all other pages are those of the new table, with no byte after them.
 //
+// It need not stand in memory as one: each step takes whatever tells a journal page by page (`Tells`), as a `Journal` does.
+//
 // `commit` puts the changes, in six steps, each of which ends with a sync:
 //
-//   1. The changes are written as a draft.           A crash leaves the old table.
+//   1. The journal is written as a draft.            A crash leaves the old table.
 //   2. The draft gets the journal's name (`publish`); the folder is synced.
 //                                                    A crash leaves the old table, or the new one by the journal.
 //   3. The first page of TABLE is marked.            From here on the new table, by the journal, as of (A).
@@ -39,16 +43,19 @@
 // crash at that moment would leave at worst: it stands for the old table or the new one.
 //
 // The definitions: `Image` (what stands on a disk, and what it stands for), `Crash` (what each call may leave), `Place` (what
-// contracts see of a place); for the steps alone, `inner/Way`.
+// contracts see of a place), `Torn` (of one in memory, `TornPlace`, which keeps its calls); for the steps alone, `inner/Way`, and for
+// what a `TornPlace` looks up, `inner/TornBeside` and `inner/TornClock`.
 
 #![tactic(auto)]
 
 mod committing;
+mod fault;
 mod journal;
 mod place;
 mod torn;
 
-pub use committing::{commit, finish, heal};
-pub use journal::{Change, Journal};
+pub use committing::{commit, finish, heal, make_last};
+pub use fault::JournalFault;
+pub use journal::{Change, Journal, Tells, is_journal};
 pub use place::{Failed, Place};
 pub use torn::{Deed, TornPlace};

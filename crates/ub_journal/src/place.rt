@@ -1,9 +1,12 @@
-ghost use Rattle.std.specs.Prelude.{◌≡◌, ◌<◌, ◌≤◌, Some, None, length, slice_get, OnOk};
-ghost use Rattle.ub_journal.specs.Crash.{Drafts, IsPublished, Publishes, Removes, Resizes, Stays, TearsMark, TearsPage, with_change, with_count, with_draft, with_journal, with_mark, with_page};
-ghost use Rattle.ub_journal.specs.Image.{begun};
-ghost use Rattle.ub_journal.specs.Place.{DraftLasts, IsClock, IsHonest, Lasts, PlaceFacts, SameDraft, SameJournal, SameTable, Shows, Steps};
+ghost use Rattle.std.specs.Prelude.{◌≡◌, ◌<◌, ◌≤◌, Some, None, length, slice_get, IfOk, IfSome, IsErrOf, OnOk};
+ghost use Rattle.std.specs.Option.{option_map};
+ghost use Rattle.ub_journal.specs.Crash.{Drafts, IsPublished, Publishes, Removes, Resizes, Stays, TearsMark, TearsPage, with_count, with_draft, with_journal, with_mark, with_page};
+ghost use Rattle.ub_journal.specs.Image.{Journal as spec, IsJournal, told};
+ghost use Rattle.ub_journal.specs.Place.{DraftLasts, IsClock, IsHonest, Lasts, PlaceFacts, SameDraft, SameJournal, SameTable, Shows, Steps, Looks};
 
-use crate::journal::Change;
+use crate::fault::JournalFault;
+use crate::journal::{Journal, Tells};
+use std::alloc::Global;
 use ub_store::Page;
 
 /// A call of a place failed, whatever the cause. No call of a place fails for another reason than that the device did in this
@@ -19,8 +22,26 @@ pub struct Failed;
 ///
 /// One clock runs for all three files: `left_since` tells of each earlier moment what a crash from then on might have left, during
 /// a call or between two.
-pub trait Place {
+pub trait Place: Drop {
     ghost facts: { Self → PlaceFacts };
+
+    /// How many whole pages the table's file has.
+    fn pages(&self) -> u64
+        ensures { result ≡ length (facts self.now).seen.table };
+
+    /// How many bytes stand after the last of them.
+    fn rest(&self) -> u32
+        ensures { result ≡ (facts self.now).seen.rest };
+
+    /// The journal beside the table, if one is there. Damaged comes where a file of its name spells none, Memory where memory was
+    /// refused, Device where the place failed in this call. Nothing changes but, at Device, the count of failures.
+    fn journal(&mut self, alloc: Global) -> Result<Option<Journal>, JournalFault>
+        ensures seen { IfOk result (λ found. IsHonest (facts self.old)
+            → (facts self.old).seen.journal ≡ option_map told found) }
+        ensures journal { IfOk result (λ found. IfSome found (λ j. IsJournal (told j))) }
+        ensures damaged { IsErrOf result JournalFault.Damaged → IsHonest (facts self.old)
+            → (other : spec) × ((facts self.old).seen.journal ≡ Some other) × (other.count ≡ 0) }
+        ensures effect { Looks (facts self.old) (facts self.new) result };
 
     /// Reads the page of this number, which there is, into the one that is lent. Nothing changes. After a failure the page that is
     /// lent may hold any bytes.
@@ -57,17 +78,11 @@ pub trait Place {
             → Lasts SameTable (facts self.old) (facts self.new)) }
         ensures effect { Steps Stays (facts self.old) (facts self.new) result };
 
-    /// Begins a draft of a journal with these two first pages and this count, in the place of one that was left. A crash may leave
-    /// anything of the draft.
-    fn draft(&mut self, before: &Page, head: &Page, count: u32) -> Result<(), Failed>
-        ensures written { OnOk result (Shows (with_draft (begun before.now head.now count))
-            (facts self.old) (facts self.new)) }
-        ensures effect { Steps Drafts (facts self.old) (facts self.new) result };
-
-    /// Adds a page to the draft. A crash may leave anything of the draft.
-    fn append(&mut self, change: &Change) -> Result<(), Failed>
+    /// Writes a draft of this journal, in the place of one that was left. A crash may leave anything of the draft.
+    fn draft<J: Tells>(&mut self, journal: &J) -> Result<(), Failed>
+        requires journal { IsJournal (J.told journal.now) }
         ensures written { OnOk result
-            (Shows (with_change change.now) (facts self.old) (facts self.new)) }
+            (Shows (with_draft (J.told journal.now)) (facts self.old) (facts self.new)) }
         ensures effect { Steps Drafts (facts self.old) (facts self.new) result };
 
     /// Makes last what was written to the draft.

@@ -41,8 +41,7 @@ torn_done (deed.Write n page) i = record {
 torn_done deed.Mark i = record { same = refl; byte = 1; table = refl; rest = λ some. refl }
 torn_done (deed.Resize count) i = record { same = refl; kept = λ m in_count in_table. get_resized count m i.table zero_page in_count in_table }
 torn_done deed.Sync i = (refl, (refl, refl))
-torn_done (deed.Draft before head count) i = refl
-torn_done (deed.Append n page) i = refl
+torn_done (deed.Draft j) i = refl
 torn_done deed.SyncDraft i = (refl, refl)
 torn_done deed.Publish i = inr refl
 torn_done deed.Remove i = inr refl

@@ -1,5 +1,5 @@
 use Rattle.std.proofs.Common.{◌≡◌, ◌∙◌, ap, subst}
-use Rattle.ub_journal.specs.Image.{Image, Recovers, applied, told}
+use Rattle.ub_journal.specs.Image.{Image, Recovers, applied}
 use Rattle.ub_journal.specs.Place.{AtAnyMoment, LeavesOnly, PlaceFacts}
 use Rattle.ub_journal.proofs.Moments.{joined, still}
 use Rattle.ub_journal.proofs.Runs.{found_begins, recovers_on}
@@ -8,7 +8,7 @@ use Rattle.ub_journal.proofs.committing.finish.Goals.{then-is_marked_from+in_ok-
 
 pub returns-clause-any_moment : goal.returns-clause-any_moment
 returns-clause-any_moment g c honest =
-    let j = told c.args.journal.now in
+    let j = g.J.Tells.told c.args.journal.now in
     let old : PlaceFacts = g.P.Place.facts c.args.place.now in
     let read : PlaceFacts = g.P.Place.facts c.read_page.new.self in
     let last : PlaceFacts = g.P.Place.facts c.settle.new.place in

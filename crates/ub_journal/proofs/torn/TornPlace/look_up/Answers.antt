@@ -11,7 +11,7 @@ loop-deed-preserved c =
     let xs = c.as_slice-deed-items.result.now in
     record {
       items = inv.items;
-      holds = subst (λ i. HoldsAt i c.args.n c.redo.new.count c.redo.new.page) (sym (seen_at first xs c.loop-deed.deed-index _ (omega arith)))
+      holds = subst (λ i. HoldsAt i c.args.n c.redo.new.count c.redo.new.page) (sym (seen_at first xs c.loop-deed.deed-index c.deed-item.result (omega arith) c.deed-item.is))
           (c.redo.ensures (seen_after first (take c.loop-deed.deed-index xs)) inv.holds);
     }
 
@@ -20,9 +20,6 @@ returns c =
     let inv = c.loop-deed.invariant in
     let xs = c.as_slice-deed-items.result.now in
     record {
-      seen = (
-        c.loop-deed.count,
-        subst (λ l. HoldsAt (seen_after (first_image c.args.self.now) l) c.args.n c.loop-deed.count c.loop-deed.page)
-            (take_all c.loop-deed.deed-index xs (omega arith) ∙ inv.items) inv.holds,
-      );
+      seen = subst (λ l. HoldsAt (seen_after (first_image c.args.self.now) l) c.args.n c.loop-deed.count c.loop-deed.page)
+          (take_all c.loop-deed.deed-index xs (omega arith) ∙ inv.items) inv.holds;
     }
