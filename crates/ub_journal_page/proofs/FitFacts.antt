@@ -3,14 +3,13 @@ use Rattle.std.proofs.Common.{◌≡◌, ◌≢◌, ◌<◌, ◌≤◌, ◌+◌,
 use Rattle.std.proofs.lemmas.Bool.{cases_eq, cases_lt}
 use Rattle.std.proofs.lemmas.List.{drop_more, length-drop, length-set}
 use Rattle.std.proofs.lemmas.Option.{get_or_from_slice_get}
-use Rattle.ub_journal.specs.Image.{Journal, Fits, HasBack, IsMarkedFrom, IsUntouched, put_all, resized}
+use Rattle.ub_journal.specs.Image.{Journal, AreAscending, Fits, HasBack, IsJournal, IsMarkedFrom, IsUntouched, numbers_of, put_all, resized}
 use Rattle.ub_journal.specs.declared.journal.Change.{Change}
 use Rattle.ub_journal.specs.inner.TornClock.{get_set_other}
 use Rattle.ub_journal.proofs.Applied.{length_sized, put_untouched, sized_already}
 use Rattle.ub_journal.proofs.Lists.{get_set_same}
 use Rattle.ub_store.specs.Facts.{StoreFacts, IsHonest, zero_page}
 use Rattle.ub_journal_page.specs.inner.Fitting.{AreThere, LeaveFirst}
-use Rattle.ub_journal_page.specs.Pages.{AreAscending, IsJournal, numbers_of}
 
 -- changes, each of a page above this one, none of a page of this number
 untouched_below : (above count n : ℕ) (cs : List Change) → AreAscending above count (numbers_of cs) → n ≤ above → IsUntouched cs n

@@ -4,7 +4,8 @@ use Rattle.std.proofs.lemmas.List.{drop_at, length-drop, length-map, length-take
 use Rattle.std.proofs.lemmas.List.Elements.{All-cons, All-nil}
 use Rattle.ub_journal.specs.declared.journal.Change.{Change}
 use Rattle.ub_journal_page.specs.Laws.{JournalsAreReadBack, JournalsChangeOthers}
-use Rattle.ub_journal_page.specs.Pages.{AreAscending, head_of, number_page, number_pages, numbers_of, pages_in, parts_of}
+use Rattle.ub_journal.specs.Image.{AreAscending, numbers_of}
+use Rattle.ub_journal_page.specs.Pages.{head_of, number_page, number_pages, pages_in, parts_of}
 use Rattle.ub_journal_page.proofs.NumberFacts.{numbers_back}
 use Rattle.ub_journal_page.proofs.PageFacts.{few_changes, length_number_pages}
 use Rattle.ub_journal_page.proofs.ReadFacts.{AreSmall, heads_agree, small_drop, small_numbers, small_take}

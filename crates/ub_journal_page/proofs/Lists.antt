@@ -44,3 +44,16 @@ pub get_front : {X : Type 0} (xs ys : List X) (n : ℕ) (x : X) → slice_get xs
 get_front [] ys n x e = cc
 get_front (y ∷ xs) ys zero x e = e
 get_front (y ∷ xs) ys (suc n) x e = get_front xs ys n x e
+
+-- one element more
+pub take_next : {X : Type 0} (xs : List X) (n : ℕ) (x : X) → slice_get xs n ≡ Some x → take (suc n) xs ≡ take n xs ++ x ∷ []
+take_next [] n x e = absurd (let wrong = e in cc)
+take_next (y ∷ xs) zero x e = let one : y ≡ x = cc in ap (λ (z : _). z ∷ []) one
+take_next (y ∷ xs) (suc n) x e = ap (λ (zs : List _). y ∷ zs) (take_next xs n x e)
+
+-- what stands behind the first so many
+pub get_drop : {X : Type 0} (xs : List X) (m n k : ℕ) → k ≡ m + n → slice_get (drop m xs) n ≡ slice_get xs k
+get_drop xs zero n k e = let same : n ≡ k = omega arith in ap (slice_get xs) same
+get_drop [] (suc m) n k e = refl
+get_drop (x ∷ xs) (suc m) n zero e = absurd (omega arith)
+get_drop (x ∷ xs) (suc m) n (suc k) e = get_drop xs m n k (omega arith)

@@ -1,10 +1,11 @@
 -- Which page of a journal stands at a number.
-use Rattle.std.proofs.Common.{◌≡◌, ◌<◌, ◌≤◌, ◌+◌, ◌-◌, ◌*◌, ◌^◌, min, ℕ, zero, suc, List, [], ◌∷◌, Some, length, take, drop, slice_get, get_or, refl, sym, ap, arith, ◌∙◌}
-use Rattle.std.proofs.lemmas.List.{drop-drop, drop-map, length-append, length-drop, length-map, take-map, take_min}
-use Rattle.ub_journal.specs.Image.{Journal}
+use Rattle.std.proofs.Common.{◌≡◌, ◌<◌, ◌≤◌, ◌+◌, ◌-◌, ◌*◌, ◌^◌, min, ℕ, zero, suc, List, [], ◌∷◌, ◌++◌, Some, length, take, drop, replicate, slice_get, refl, sym, ap, arith, ◌∙◌}
+use Rattle.std.proofs.lemmas.List.{drop-drop, drop-map, length-append, length-drop, length-map, length-take, map-append, take-map, take_min}
+use Rattle.ub_journal.specs.Image.{Journal, AreAscending, IsJournal, numbers_of}
 use Rattle.ub_journal.specs.declared.journal.Change.{Change}
-use Rattle.ub_journal_page.specs.Pages.{AreAscending, IsJournal, number_page, number_pages, numbers_of, pages_in, pages_of, parts_of, total_of}
-use Rattle.ub_journal_page.proofs.Lists.{get_behind, get_front}
+use Rattle.ub_journal_page.specs.Pages.{number_page, number_pages, pages_in, pages_of, parts_of, total_of}
+use Rattle.ub_journal_page.proofs.Lists.{get_behind, get_drop, get_front, take_next}
+use Rattle.ub_journal_page.proofs.NumberFacts.{none_on}
 
 ascending_few : (above count : ℕ) (numbers : List ℕ) → above < count → AreAscending above count numbers → above + length numbers < count
 ascending_few above count [] less are = omega arith
@@ -44,21 +45,21 @@ get_part j n i is less =
     ap (slice_get (pages_of j)) at
     ∙ get_front (number_pages (parts_of (length j.changes)) (numbers_of j.changes)) (pages_in j.changes) i _ (get_numbers (parts_of (length j.changes)) (numbers_of j.changes) i less)
 
-get_page : (changes : List Change) (i : ℕ) (none : Change) → i < length changes → slice_get (pages_in changes) i ≡ Some (get_or changes i none).page
-get_page [] i none less = absurd (omega arith)
-get_page (c ∷ changes) zero none less = refl
-get_page (c ∷ changes) (suc i) none less = get_page changes i none (omega arith)
+get_page : (changes : List Change) (i : ℕ) (change : Change) → slice_get changes i ≡ Some change → slice_get (pages_in changes) i ≡ Some change.page
+get_page [] i change is = absurd (let wrong = is in cc)
+get_page (c ∷ changes) zero change is = let same : c ≡ change = cc in ap (λ (x : Change). Some x.page) same
+get_page (c ∷ changes) (suc i) change is = get_page changes i change is
 
 -- and behind those the pages that the table is to have
-pub get_changed : (j : Journal) (n i : ℕ) (none : Change) → n ≡ 3 + (parts_of (length j.changes) + i) → i < length j.changes
-    → slice_get (pages_of j) n ≡ Some (get_or j.changes i none).page
-get_changed j n i none is less =
+pub get_changed : (j : Journal) (n i : ℕ) (change : Change) → n ≡ 3 + (parts_of (length j.changes) + i) → slice_get j.changes i ≡ Some change
+    → slice_get (pages_of j) n ≡ Some change.page
+get_changed j n i change is at =
     let parts : List (List ℕ) = number_pages (parts_of (length j.changes)) (numbers_of j.changes) in
     let counted = length_number_pages (parts_of (length j.changes)) (numbers_of j.changes) in
-    let at : n ≡ suc (suc (suc (parts_of (length j.changes) + i))) = omega arith in
-    ap (slice_get (pages_of j)) at
+    let here : n ≡ suc (suc (suc (parts_of (length j.changes) + i))) = omega arith in
+    ap (slice_get (pages_of j)) here
     ∙ get_behind parts (pages_in j.changes) (parts_of (length j.changes) + i) i (omega (arith, counted))
-    ∙ get_page j.changes i none less
+    ∙ get_page j.changes i change at
 
 -- the numbers from one on, up to 1024 of them
 pub cut_numbers : (changes : List Change) (from to : ℕ) → to ≡ min (from + 1024) (length changes) → from ≤ length changes
@@ -80,11 +81,29 @@ pub behind_parts : (j : Journal) (n parts : ℕ) → n + 3 < length (pages_of j)
 behind_parts j n parts there is past = let total = length_pages j in omega arith
 
 -- what is spelled of the numbers from one on is their page
-pub part_spelled : (changes xs : List Change) (page : List ℕ) (n to : ℕ) → xs ≡ changes → n < parts_of (length changes) → to ≡ min (n * 1024 + 1024) (length xs)
-    → page ≡ number_page (numbers_of (take (to - n * 1024) (drop (n * 1024) xs))) → number_page (take 1024 (drop (1024 * n) (numbers_of changes))) ≡ page
-part_spelled changes xs page n to same less end is =
-    let long : length xs ≡ length changes = ap length same in
+pub part_spelled : (changes : List Change) (page : List ℕ) (n to : ℕ) → n < parts_of (length changes) → to ≡ min (n * 1024 + 1024) (length changes)
+    → page ≡ number_page (numbers_of (take (to - n * 1024) (drop (n * 1024) changes))) → number_page (take 1024 (drop (1024 * n) (numbers_of changes))) ≡ page
+part_spelled changes page n to less end is =
     let turned : 1024 * n ≡ n * 1024 = omega arith in
-    let from : take 1024 (drop (1024 * n) (numbers_of changes)) ≡ take 1024 (drop (n * 1024) (numbers_of xs)) =
-    ap (λ (k : ℕ). take 1024 (drop k (numbers_of changes))) turned ∙ ap (λ (cs : List Change). take 1024 (drop (n * 1024) (numbers_of cs))) (sym same) in
-    ap number_page (from ∙ sym (cut_numbers xs (n * 1024) to end (omega arith))) ∙ sym is
+    let from : take 1024 (drop (1024 * n) (numbers_of changes)) ≡ take 1024 (drop (n * 1024) (numbers_of changes)) = ap (λ (k : ℕ). take 1024 (drop k (numbers_of changes))) turned in
+    ap number_page (from ∙ sym (cut_numbers changes (n * 1024) to end (omega arith))) ∙ sym is
+
+-- how many numbers stand from one on up to another one
+pub length_up_to : (changes : List Change) (from at : ℕ) → at ≤ length changes → length (numbers_of (take (at - from) (drop from changes))) ≡ at - from
+length_up_to changes from at within =
+    omega (arith, length-map (take (at - from) (drop from changes)) (λ (c : Change). c.number), length-take (at - from) (drop from changes), length-drop from changes)
+
+-- a page of zeros has none of them
+pub none_up_to : (changes : List Change) (from : ℕ) (page : List ℕ) → page ≡ replicate 4096 0 → page ≡ number_page (numbers_of (take (from - from) (drop from changes)))
+none_up_to changes from page is =
+    let none : 0 ≡ from - from = omega arith in
+    none_on page is ∙ ap (λ (k : ℕ). number_page (numbers_of (take k (drop from changes)))) none
+
+-- and one more
+pub more_up_to : (changes : List Change) (from at : ℕ) (change : Change) → from ≤ at → slice_get changes at ≡ Some change
+    → numbers_of (take (at - from) (drop from changes)) ++ change.number ∷ [] ≡ numbers_of (take (at + 1 - from) (drop from changes))
+more_up_to changes from at change past is =
+    let next : suc (at - from) ≡ at + 1 - from = omega arith in
+    sym (map-append (λ (c : Change). c.number) (take (at - from) (drop from changes)) (change ∷ []))
+    ∙ ap numbers_of (sym (take_next (drop from changes) (at - from) change (get_drop changes from (at - from) at (omega arith) ∙ is)))
+    ∙ ap (λ (k : ℕ). numbers_of (take k (drop from changes))) next

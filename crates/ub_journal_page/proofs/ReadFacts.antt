@@ -3,11 +3,12 @@ use Rattle.std.proofs.Common.{◌≡◌, ◌<◌, ◌≤◌, ◌+◌, ◌-◌, �
 use Rattle.std.proofs.lemmas.List.{length-append, length-drop, length-map, length-take, map-append, take-append-drop, take_all, take_at, drop_at, take_more}
 use Rattle.std.proofs.lemmas.List.FromFn.{length-map-range_with_len, map-range_with_len_more}
 use Rattle.std.specs.List.{AllByRecursion}
-use Rattle.ub_journal.specs.Image.{Journal}
+use Rattle.ub_journal.specs.Image.{Journal, AreAscending, IsJournal, numbers_of}
 use Rattle.ub_journal.specs.declared.journal.Change.{Change}
 use Rattle.ub_store.specs.Facts.{StoreFacts, IsHonest, IsPage}
-use Rattle.ub_journal_page.specs.Pages.{AreAscending, IsJournal, head_of, number_page, number_pages, numbers_of, pages_in, pages_of, parts_of, total_of}
+use Rattle.ub_journal_page.specs.Pages.{head_of, number_page, number_pages, pages_in, pages_of, parts_of, total_of}
 use Rattle.ub_journal_page.specs.Reading.{IsHead, Spells}
+use Rattle.ub_journal_page.proofs.Lists.{get_drop, take_next}
 use Rattle.ub_journal_page.proofs.NumberFacts.{numbers_back}
 use Rattle.ub_journal_page.proofs.PageFacts.{few_changes, get_part}
 use Rattle.ub_journal_page.specs.inner.Numbers.{number_at, numbers_on}
@@ -33,17 +34,6 @@ small_drop (suc n) (x ∷ numbers) are = small_drop n numbers are.1
 -- a journal's numbers fit their bytes
 pub small_numbers : (j : Journal) → IsJournal j → AreSmall (numbers_of j.changes)
 small_numbers j is = small_of 0 j.count (numbers_of j.changes) is.few is.ascending
-
-pub take_next : {X : Type 0} (xs : List X) (n : ℕ) (x : X) → slice_get xs n ≡ Some x → take (suc n) xs ≡ take n xs ++ x ∷ []
-take_next [] n x e = absurd (let wrong = e in cc)
-take_next (y ∷ xs) zero x e = let one : y ≡ x = cc in ap (λ (z : _). z ∷ []) one
-take_next (y ∷ xs) (suc n) x e = ap (λ (zs : List _). y ∷ zs) (take_next xs n x e)
-
-pub get_drop : {X : Type 0} (xs : List X) (m n k : ℕ) → k ≡ m + n → slice_get (drop m xs) n ≡ slice_get xs k
-get_drop xs zero n k e = let same : n ≡ k = omega arith in ap (slice_get xs) same
-get_drop [] (suc m) n k e = refl
-get_drop (x ∷ xs) (suc m) n zero e = absurd (omega arith)
-get_drop (x ∷ xs) (suc m) n (suc k) e = get_drop xs m n k (omega arith)
 
 -- one page more of those from a page on
 pub page_more : (pages before : List (List ℕ)) (from i n : ℕ) (page : List ℕ) → n ≡ from + i → slice_get pages n ≡ Some page

@@ -1,7 +1,7 @@
 -- What holds of journals' pages.
 use Rattle.std.specs.Prelude.{◌≡◌}
-use Rattle.ub_journal.specs.Image.{Journal, ChangesOthers}
-use Rattle.ub_journal_page.specs.Pages.{IsJournal, pages_of}
+use Rattle.ub_journal.specs.Image.{Journal, ChangesOthers, IsJournal}
+use Rattle.ub_journal_page.specs.Pages.{pages_of}
 
 -- a journal is read back: the same pages spell no two
 abbrev pub JournalsAreReadBack : Type 0

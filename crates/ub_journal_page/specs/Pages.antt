@@ -1,8 +1,8 @@
 -- A journal as pages.
-use Rattle.std.specs.Prelude.{◌≤◌, ◌<◌, ◌+◌, ◌-◌, ◌*◌, ◌/◌, ◌^◌, ◌++◌, ℕ, zero, suc, List, [], ◌∷◌, length, map, take, drop, replicate}
+use Rattle.std.specs.Prelude.{◌+◌, ◌-◌, ◌*◌, ◌/◌, ◌++◌, ℕ, zero, suc, List, [], ◌∷◌, length, map, take, drop, replicate}
 use Rattle.std.specs.List.{flat_map}
 use Rattle.byteorder.specs.Endian.{big_bytes}
-use Rattle.ub_journal.specs.Image.{Journal}
+use Rattle.ub_journal.specs.Image.{Journal, numbers_of}
 use Rattle.ub_journal.specs.declared.journal.Change.{Change}
 
 -- the four bytes of a number, the highest of them first
@@ -30,10 +30,7 @@ total_of changes = 3 + (parts_of changes + changes)
 abbrev pub head_of : ℕ → ℕ → List ℕ
 head_of count changes = 0x5542544A ∷ 1 ∷ count ∷ changes ∷ []
 
--- the numbers of the pages that change, and these pages
-abbrev pub numbers_of : List Change → List ℕ
-numbers_of changes = map (λ change. change.number) changes
-
+-- the pages that change
 abbrev pub pages_in : List Change → List (List ℕ)
 pages_in changes = map (λ change. change.page) changes
 
@@ -43,15 +40,3 @@ abbrev pub pages_of : Journal → List (List ℕ)
 pages_of j =
     number_page (head_of j.count (length j.changes)) ∷ j.before ∷ j.head
     ∷ (number_pages (parts_of (length j.changes)) (numbers_of j.changes) ++ pages_in j.changes)
-
--- each number is above the one before it, the first one above this, and all are below the count
-abbrev pub AreAscending : ℕ → ℕ → List ℕ → Type 0
-AreAscending above count [] = Unit {0}
-AreAscending above count (n ∷ ns) = (above < n) × (n < count) × AreAscending n count ns
-
--- a journal that pages can hold: the table is to have a page at least, and the changes are of other pages than the first, of pages
--- that it is to have, and in the order of their numbers
-pub record IsJournal (j : Journal) : Type 0 where
-  pub some : 1 ≤ j.count
-  pub few : j.count < 2 ^ 32
-  pub ascending : AreAscending 0 j.count (numbers_of j.changes)

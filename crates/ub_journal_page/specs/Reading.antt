@@ -1,10 +1,10 @@
 -- What a reader of a journal's pages tells, and what it leaves of the store.
 use Rattle.std.specs.Prelude.{◌≡◌, ◌≤◌, ◌<◌, ◌^◌, ℕ, List, Some, length, slice_get, IsTrue, Result, Err, IsErrOf}
-use Rattle.ub_journal.specs.Image.{Journal}
+use Rattle.ub_journal.specs.Image.{Journal, IsJournal}
 use Rattle.ub_store.specs.Facts.{StoreFacts, raised}
-use Rattle.ub_journal_page.specs.Pages.{IsJournal, head_of, number_page, pages_of, total_of}
-use Rattle.ub_journal_page.specs.declared.fault.JournalFault.{JournalFault}
-use Rattle.ub_journal_page.specs.declared.fault.JournalFault.TheVariants.{Device}
+use Rattle.ub_journal_page.specs.Pages.{head_of, number_page, pages_of, total_of}
+use Rattle.ub_journal.specs.declared.fault.JournalFault.{JournalFault}
+use Rattle.ub_journal.specs.declared.fault.JournalFault.TheVariants.{Device}
 
 -- the pages spell this journal
 abbrev pub Spells : List (List ℕ) → Journal → Type 0

@@ -1,15 +1,13 @@
 // Whether a journal is one of a table.
 ghost use Rattle.std.specs.Prelude.{◌≡◌, ◌↔◌, ◌<◌, ◌≤◌, IsTrue, IfOk, IsErrOf, length};
-ghost use Rattle.ub_journal.specs.Image.{Fits, IsMarkedFrom, told};
+ghost use Rattle.ub_journal.specs.Image.{AreAscending, Fits, IsJournal, IsMarkedFrom, numbers_of, told};
 ghost use Rattle.ub_journal_page.specs.inner.Fitting.{AreThere, LeaveFirst};
-ghost use Rattle.ub_journal_page.specs.Pages.{AreAscending, IsJournal, numbers_of};
 ghost use Rattle.ub_journal_page.specs.Reading.{Looks};
 ghost use Rattle.ub_store.specs.Facts.{IsHonest, page_count};
 
-use crate::fault::JournalFault;
 use crate::numbers::is_same;
 use crate::reading::read_page;
-use ub_journal::{Change, Journal};
+use ub_journal::{Change, Journal, JournalFault};
 use ub_store::{Page, PageStore};
 
 /// Whether a journal is one of the table whose pages a store has, with so many bytes after the last of them in its file. The first

@@ -1,10 +1,11 @@
 // Numbers on a page: four bytes each, the highest of them first.
-ghost use Rattle.std.specs.Prelude.{◌≡◌, ◌↔◌, ◌<◌, ◌≤◌, ◌+◌, ◌*◌, ◌++◌, ◌∷◌, [], ℕ, List, IsTrue, length, take, drop};
-ghost use Rattle.ub_journal_page.specs.Pages.{head_of, number_bytes, number_page, numbers_of};
+ghost use Rattle.std.specs.Prelude.{◌≡◌, ◌↔◌, ◌<◌, ◌≤◌, ◌+◌, ◌-◌, ◌*◌, ◌++◌, ◌∷◌, [], ℕ, List, IsTrue, length, take, drop};
+ghost use Rattle.ub_journal.specs.Image.{numbers_of};
+ghost use Rattle.ub_journal_page.specs.Pages.{head_of, number_bytes, number_page};
 ghost use Rattle.ub_journal_page.specs.inner.Numbers.{number_at};
 
 use byteorder::{BigEndian, ByteOrder};
-use ub_journal::Change;
+use ub_journal::Tells;
 use ub_store::Page;
 
 /// How many numbers stand on a page.
@@ -27,14 +28,17 @@ pub fn spell_head(count: u32, changes: u32, page: &mut Page)
     put(page, 3, changes);
 }
 
-/// Spells the numbers of some changes, as many as a page holds.
-pub fn spell_numbers(changes: &[Change], page: &mut Page)
-    requires { length changes.now ≤ MAX_NUMBERS }
-    ensures { page.new ≡ number_page (numbers_of changes.now) }
+/// Spells the numbers of a journal's changes from one on up to another one, as many as a page holds.
+pub fn spell_numbers<J: Tells>(journal: &J, from: usize, to: usize, page: &mut Page)
+    requires few { (from ≤ to) × (to - from ≤ MAX_NUMBERS) }
+    requires within { to ≤ length (J.told journal.now).changes }
+    ensures { page.new
+        ≡ number_page (numbers_of (take (to - from) (drop from (J.told journal.now).changes))) }
 {
     *page = [0; 4096];
-    for i in 0..changes.len() {
-        put(page, i, changes[i].number);
+    for at in from..to {
+        let change = journal.change(at);
+        put(page, at - from, change.number);
     }
 }
 

@@ -1,17 +1,16 @@
 // The reader of a journal's pages. Nothing is kept before the head is known to be one of as many pages as there are.
 ghost use Rattle.std.specs.Prelude.{◌≡◌, ◌≢◌, ◌↔◌, ◌⊎◌, ◌<◌, ◌≤◌, ◌+◌, ◌^◌, ◌++◌, ℕ, List, IsTrue, IfErr, IfOk, IsErrOf, OnOk, length, take, drop};
 ghost use Rattle.std.specs.List.{AllByRecursion};
-ghost use Rattle.ub_journal.specs.Image.{Journal as spec, told};
-ghost use Rattle.ub_journal_page.specs.Pages.{AreAscending, IsJournal, head_of, number_page, number_pages, numbers_of, pages_in, pages_of, parts_of, total_of};
+ghost use Rattle.ub_journal.specs.Image.{Journal as spec, AreAscending, IsJournal, numbers_of, told};
+ghost use Rattle.ub_journal_page.specs.Pages.{head_of, number_page, number_pages, pages_in, pages_of, parts_of, total_of};
 ghost use Rattle.ub_journal_page.specs.Reading.{IsBorneOut, IsHead, Looks, Spells, SpellsNone};
 ghost use Rattle.ub_store.specs.Facts.{IsHonest, IsPage, page_count};
 ghost use Rattle.ub_journal_page.specs.inner.Numbers.{numbers_on};
 
-use crate::fault::JournalFault;
 use crate::numbers::{MAX_NUMBERS, is_same, number_in, put, spell_head};
 use crate::spelling::{parts, total};
 use std::alloc::Global;
-use ub_journal::{Change, Journal};
+use ub_journal::{Change, Journal, JournalFault};
 use ub_store::{Page, PageStore, StoreFault};
 
 // What the head of a journal tells.
@@ -25,10 +24,11 @@ struct Head {
 
 /// The journal that the pages of a store spell. `Damaged` comes exactly where they spell none, `Device` where a read failed in this
 /// call, `Memory` where memory was refused, for what the head tells only where there are as many pages as it tells. Nothing
-/// of the store changes but, at `Device`, the count of failed reads.
+/// of the store changes but, at `Device`, the count of failed reads. What is read is one that pages can hold, whatever the store.
 pub fn read_journal<S: PageStore>(alloc: Global, store: &mut S) -> Result<Journal, JournalFault>
     ensures read { IfOk result (λ j. IsHonest (S.facts store.old)
         → Spells (S.facts store.old).pages (told j)) }
+    ensures journal { IfOk result (λ j. IsJournal (told j)) }
     ensures damaged { IsErrOf result JournalFault.Damaged → IsHonest (S.facts store.old)
         → SpellsNone (S.facts store.old).pages }
     ensures memory { IsErrOf result JournalFault.Memory → IsTrue S.reads_need_memory
@@ -73,6 +73,7 @@ pub fn read_page<S: PageStore>(store: &mut S, n: u32, page: &mut Page) -> Result
 fn read_head<S: PageStore>(store: &mut S) -> Result<Head, JournalFault>
     ensures head { IfOk result (λ h. IsHonest (S.facts store.old)
         → IsHead h.count h.changes (S.facts store.old).pages) }
+    ensures count { IfOk result (λ h. (1 ≤ h.count) × (h.count < 2 ^ 32)) }
     ensures there { IfOk result (λ h. page_count (S.facts store.old) ≡ total_of h.changes) }
     ensures few { page_count (S.facts store.old) < 2 ^ 32 }
     ensures damaged { IsErrOf result JournalFault.Damaged → IsHonest (S.facts store.old)
@@ -129,7 +130,9 @@ fn read_numbers<S: PageStore>(
         → (j : spec) → Spells (S.facts store.old).pages j → length j.changes ≢ changes }
     ensures effect { Looks (S.facts store.old) (S.facts store.new) result }
 {
-    let mut numbers = Vec::new(alloc);
+    let Ok(mut numbers) = Vec::with_capacity(alloc, changes as usize) else {
+        return Err(JournalFault::Memory);
+    };
     let mut page = [0; 4096];
     for k in 0..parts(changes) as u32 {
         read_page(store, 3 + k, &mut page)?;
@@ -194,7 +197,9 @@ fn read_changes<S: PageStore>(
     ensures damaged { ¬ (IsErrOf result JournalFault.Damaged) }
     ensures effect { Looks (S.facts store.old) (S.facts store.new) result }
 {
-    let mut changes = Vec::new(alloc);
+    let Ok(mut changes) = Vec::with_capacity(alloc, numbers.len()) else {
+        return Err(JournalFault::Memory);
+    };
     for i in 0..numbers.len() {
         let mut page = [0; 4096];
         read_page(store, from + i as u32, &mut page)?;

@@ -1,6 +1,21 @@
-use Rattle.std.proofs.Common.{refl}
-use Rattle.ub_journal_page.proofs.NumberFacts.{none_on}
+use Rattle.std.proofs.Common.{refl, arith, ap, ◌∙◌}
+use Rattle.ub_journal_page.specs.Pages.{number_page}
+use Rattle.ub_journal_page.proofs.PageFacts.{length_up_to, more_up_to, none_up_to}
 use Rattle.ub_journal_page.proofs.numbers.spell_numbers.Goals as goal
 
-pub loop-i-init : goal.loop-i-init
-loop-i-init c = none_on _ refl
+pub loop-at-init : goal.loop-at-init
+loop-at-init g c = record { same = refl; past = omega arith; page = none_up_to (g.J.Tells.told c.args.journal.now).changes c.args.from _ refl }
+
+pub loop-at-preserved : goal.loop-at-preserved
+loop-at-preserved g c =
+    let inv = c.loop-at.invariant in
+    let past = inv.past in
+    let less = c.loop-at-test.true in
+    let within = c.requires.within in
+    let changes = (g.J.Tells.told c.args.journal.now).changes in
+    record {
+      same = inv.same;
+      past = omega arith;
+      page = c.put.ensures _ (length_up_to changes c.args.from c.loop-at.at (omega arith)) inv.page
+          ∙ ap number_page (more_up_to changes c.args.from c.loop-at.at c.change-change.result inv.past c.change-change.ensures);
+    }

@@ -1,5 +1,5 @@
 use Rattle.std.proofs.Common.{◌↔◌, drop}
-use Rattle.ub_journal_page.specs.Pages.{AreAscending}
+use Rattle.ub_journal.specs.Image.{AreAscending}
 use Rattle.ub_journal_page.proofs.reading.are_ascending.Given as goal
 
 -- all are where those that are left are

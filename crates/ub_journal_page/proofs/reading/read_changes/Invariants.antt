@@ -1,6 +1,7 @@
 use Rattle.std.proofs.Common.{◌≡◌, take, drop}
 use Rattle.ub_store.specs.Facts.{IsHonest}
-use Rattle.ub_journal_page.specs.Pages.{numbers_of, pages_in}
+use Rattle.ub_journal.specs.Image.{numbers_of}
+use Rattle.ub_journal_page.specs.Pages.{pages_in}
 use Rattle.ub_journal_page.proofs.reading.read_changes.Given as goal
 
 -- the first so many pages are those of the first so many numbers, and no call failed

@@ -1,9 +1,10 @@
 use Rattle.std.proofs.Common.{rules, ◌≡◌, ◌+◌, ◌∙◌, ℕ, List, take, drop, subst, sym, ap}
 use Rattle.std.specs.Result.{IsErrOf}
 use Rattle.ub_store.specs.Facts.{StoreFacts, IsHonest}
-use Rattle.ub_journal_page.specs.Pages.{AreAscending, number_pages, pages_in, parts_of}
+use Rattle.ub_journal.specs.Image.{AreAscending}
+use Rattle.ub_journal_page.specs.Pages.{number_pages, pages_in, parts_of}
 use Rattle.ub_journal_page.specs.Reading.{Spells}
-use Rattle.ub_journal_page.specs.declared.fault.JournalFault.TheVariants.{Damaged}
+use Rattle.ub_journal.specs.declared.fault.JournalFault.TheVariants.{Damaged}
 use Rattle.ub_journal_page.proofs.ReadFacts.{assembled, head_same, same_ascending, there_on}
 use Rattle.ub_journal_page.proofs.reading.read_journal.Goals as goal
 
@@ -46,3 +47,10 @@ returns-clause-read g c honest =
     (ap (λ (k : ℕ). 3 + k) counted)
     (subst (λ (f : StoreFacts). pages_in c.in_ok-changes.changes.items ≡ drop from f.pages) four (c.in_ok-changes.ensures.read (subst IsHonest (sym four) honest)))
     (subst (λ (ns : List ℕ). AreAscending 0 c.in_ok-head.head.count ns) c.as_slice.ensures.value (c.are_ascending.ensures.0 c.if-not-are_ascending.false))
+
+pub returns-clause-journal : goal.returns-clause-journal
+returns-clause-journal g c =
+    let count = c.in_ok-head.ensures.count in
+    let are = c.are_ascending.ensures.0 c.if-not-are_ascending.false in
+    let same = c.as_slice.ensures.value ∙ sym (c.in_ok-changes.ensures.numbers ∙ c.as_slice-2.ensures.value) in
+    record { some = count.0; few = count.1; ascending = subst (λ (ns : List ℕ). AreAscending 0 c.in_ok-head.head.count ns) same are }

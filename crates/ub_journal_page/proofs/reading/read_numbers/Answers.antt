@@ -1,7 +1,7 @@
 use Rattle.std.proofs.Common.{◌+◌, ◌<◌, refl, rules, arith, ◌∙◌}
 use Rattle.std.specs.Result.{IsErrOf}
 use Rattle.ub_journal_page.specs.Pages.{parts_of}
-use Rattle.ub_journal_page.specs.declared.fault.JournalFault.TheVariants.{Damaged}
+use Rattle.ub_journal.specs.declared.fault.JournalFault.TheVariants.{Damaged}
 use Rattle.ub_journal_page.proofs.ReadFacts.{part_on, part_more, parts_more, count_more, there_on}
 use Rattle.ub_journal_page.proofs.reading.read_numbers.Goals as goal
 

@@ -1,7 +1,7 @@
 use Rattle.std.proofs.Common.{◌≡◌, ◌*◌, min, length, take, drop}
 use Rattle.ub_store.specs.Facts.{IsHonest}
-use Rattle.ub_journal_page.specs.Pages.{number_pages, numbers_of}
-use Rattle.ub_journal.specs.Image.{Journal}
+use Rattle.ub_journal_page.specs.Pages.{number_pages}
+use Rattle.ub_journal.specs.Image.{Journal, numbers_of}
 use Rattle.ub_journal_page.specs.Reading.{Spells}
 use Rattle.ub_journal_page.proofs.reading.read_numbers.Given as goal
 
