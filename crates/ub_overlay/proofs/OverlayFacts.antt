@@ -16,7 +16,7 @@ use Rattle.ub_overlay.specs.Overlay.{OverlayView, overlay_facts, pages_of, with_
 use Rattle.ub_overlay.proofs.ChangeFacts.{compared, below, equal, above}
 
 -- an overlay has as many pages as it says
-pub count_is : (v : OverlayView) → length (pages_of v) ≡ v.count
+pub count_is : {S : Type 0} (v : OverlayView S) → length (pages_of v) ≡ v.count
 count_is v = length_put_all v.changes (resized v.count v.below.pages) ∙ length_sized v.count v.below.pages
 
 module _ {X : Type 0} where
@@ -182,7 +182,7 @@ past_untouched n k [] le h = tt
 past_untouched n k (c ∷ cs) le h = (λ e. let under = h.0 in omega (arith, e, le, under), past_untouched n k cs le h.1)
 
 -- of an overlay, after a page was put
-pub still_overlay : (v : OverlayView) (n : ℕ) (page : List ℕ) → IsOverlay v → n < v.count → IsOverlay (with_change (change n page) v)
+pub still_overlay : {S : Type 0} (v : OverlayView S) (n : ℕ) (page : List ℕ) → IsOverlay v → n < v.count → IsOverlay (with_change (change n page) v)
 still_overlay v n page is within = record {
   ascend = ascend_put n page v.changes is.ascend;
   within = below_put v.count n page v.changes within is.within;
@@ -191,10 +191,10 @@ still_overlay v n page is within = record {
 }
 
 -- with a page more
-abbrev pub with_page : OverlayView → OverlayView
+abbrev pub with_page : {S : Type 0} → OverlayView S → OverlayView S
 with_page v = record (with_change (change v.count zero_page) v) { count = v.count + 1 }
 
-pub grown_overlay : (v : OverlayView) → IsOverlay v → IsOverlay (with_page v)
+pub grown_overlay : {S : Type 0} (v : OverlayView S) → IsOverlay v → IsOverlay (with_page v)
 grown_overlay v is = record {
   ascend = ascend_put v.count zero_page v.changes is.ascend;
   within = below_put (v.count + 1) v.count zero_page v.changes (omega arith) (below_more v.count (v.count + 1) v.changes (omega arith) is.within);
@@ -205,7 +205,7 @@ grown_overlay v is = record {
       is.added m past (omega (arith, less, apart)) before.1;
 }
 
-pub written : (v : OverlayView) (n : ℕ) (page : List ℕ) → IsOverlay v
+pub written : {S : Type 0} (v : OverlayView S) (n : ℕ) (page : List ℕ) → IsOverlay v
     → WritesAt {A = Unit {0}} n page (overlay_facts v) (overlay_facts (with_change (change n page) v)) (Ok tt)
 written v n page is =
     let put : pages_of (with_change (change n page) v) ≡ slice_set (pages_of v) n page = put_changed n page v.changes (resized v.count v.below.pages) is.ascend in
@@ -218,7 +218,7 @@ written v n page is =
       device = λ e. search rules;
     }
 
-pub grown : (v : OverlayView) (n : ℕ) → IsOverlay v → Extends (overlay_facts v) (overlay_facts (with_page v)) (Ok n)
+pub grown : {S : Type 0} (v : OverlayView S) (n : ℕ) → IsOverlay v → Extends (overlay_facts v) (overlay_facts (with_page v)) (Ok n)
 grown v n is = record {
   frame = refl;
   flushed = inr refl;
@@ -228,30 +228,30 @@ grown v n is = record {
 }
 
 -- the page of a number, of one that is held, and of one that the store below gave
-pub held_is : (v : OverlayView) (n : ℕ) (page : List ℕ) → IsOverlay v → n < v.count → changed_page v.changes n ≡ Some page → IsPage (overlay_facts v) n page
+pub held_is : {S : Type 0} (v : OverlayView S) (n : ℕ) (page : List ℕ) → IsOverlay v → n < v.count → changed_page v.changes n ≡ Some page → IsPage (overlay_facts v) n page
 held_is v n page is within found honest =
     held_page n page v.changes (resized v.count v.below.pages) is.ascend (rw (length_sized v.count v.below.pages) within) found
 
-pub below_is : (v : OverlayView) (n : ℕ) (page : List ℕ) → n < v.count → n < page_count v.below → changed_page v.changes n ≡ None → IsPage v.below n page
+pub below_is : {S : Type 0} (v : OverlayView S) (n : ℕ) (page : List ℕ) → n < v.count → n < page_count v.below → changed_page v.changes n ≡ None → IsPage v.below n page
     → IsPage (overlay_facts v) n page
 below_is v n page within there none of honest =
     put_untouched v.changes (resized v.count v.below.pages) n (not_held n v.changes none)
     ∙ get_resized v.count n v.below.pages zero_page within there ∙ of honest
 
 -- a page that isn't held is one of the store below
-pub is_below : (v : OverlayView) (n : ℕ) → IsOverlay v → n < v.count → changed_page v.changes n ≡ None → n < page_count v.below
+pub is_below : {S : Type 0} (v : OverlayView S) (n : ℕ) → IsOverlay v → n < v.count → changed_page v.changes n ≡ None → n < page_count v.below
 is_below v n is within none = elim (cases_lt n (page_count v.below)) [
   | inl there ↦ there
   | inr past ↦ absurd (is.added n past within (not_held n v.changes none))
 ]
 
-pub past_is : {v : OverlayView} (n : ℕ) → IsOverlay v → v.count ≤ n → page_count (overlay_facts v) ≤ n
+pub past_is : {S : Type 0} {v : OverlayView S} (n : ℕ) → IsOverlay v → v.count ≤ n → page_count (overlay_facts v) ≤ n
 past_is {v} n is past = rw (count_is v) past
 
-pub there_is : {v : OverlayView} (n : ℕ) → IsOverlay v → n < v.count → n < page_count (overlay_facts v)
+pub there_is : {S : Type 0} {v : OverlayView S} (n : ℕ) → IsOverlay v → n < v.count → n < page_count (overlay_facts v)
 there_is {v} n is there = rw (count_is v) there
 
-pub not_past : {v : OverlayView} (n : ℕ) → IsOverlay v → n < v.count → page_count (overlay_facts v) ≤ n → ⊥
+pub not_past : {S : Type 0} {v : OverlayView S} (n : ℕ) → IsOverlay v → n < v.count → page_count (overlay_facts v) ≤ n → ⊥
 not_past {v} n is there past = let far : v.count ≤ n = rw (count_is v) at past in omega (arith, there, far)
 
 pub is_in : {A : Type 0} (result : Result A StoreFault) (P : Type 0) → P → OnOk result P
@@ -259,12 +259,12 @@ is_in (Ok x) P h = h
 is_in (Err e) P h = tt
 
 -- what a read below answered, for a page that isn't held
-pub page_read : {v : OverlayView} (n : ℕ) (page : List ℕ) (result : Result (Unit {0}) StoreFault) → IsOverlay v → n < v.count → changed_page v.changes n ≡ None
+pub page_read : {S : Type 0} {v : OverlayView S} (n : ℕ) (page : List ℕ) (result : Result (Unit {0}) StoreFault) → IsOverlay v → n < v.count → changed_page v.changes n ≡ None
     → OnOk result (IsPage v.below n page) → OnOk result (IsPage (overlay_facts v) n page)
 page_read {v} n page (Ok x) is within none of = below_is v n page within (is_below v n is within none) none of
 page_read {v} n page (Err e) is within none of = tt
 
-pub not_missing : {v : OverlayView} (n : ℕ) → IsOverlay v → n < v.count → changed_page v.changes n ≡ None → page_count v.below ≤ n → ⊥
+pub not_missing : {S : Type 0} {v : OverlayView S} (n : ℕ) → IsOverlay v → n < v.count → changed_page v.changes n ≡ None → page_count v.below ≤ n → ⊥
 not_missing {v} n is within none past = let there = is_below v n is within none in omega (arith, there, past)
 
 -- what a call ensured where it answered Ok, and where it answered a fault
@@ -276,11 +276,11 @@ pub was_err : {A E : Type 0} (r : Result A E) (P : Type 0) → true ≡ is_err r
 was_err (Ok x) P e h = cc
 was_err (Err x) P e h = h
 
-pub full_is : {v : OverlayView} (m : ℕ) → IsOverlay v → v.count ≡ m → page_count (overlay_facts v) ≡ m
+pub full_is : {S : Type 0} {v : OverlayView S} (m : ℕ) → IsOverlay v → v.count ≡ m → page_count (overlay_facts v) ≡ m
 full_is {v} m is full = count_is v ∙ full
 
-pub count_too : {v : OverlayView} (m : ℕ) → IsOverlay v → page_count (overlay_facts v) ≡ m → v.count ≡ m
+pub count_too : {S : Type 0} {v : OverlayView S} (m : ℕ) → IsOverlay v → page_count (overlay_facts v) ≡ m → v.count ≡ m
 count_too {v} m is full = sym (count_is v) ∙ full
 
-pub room_is : {v : OverlayView} (m : ℕ) → IsOverlay v → v.count < m → page_count (overlay_facts v) < m
+pub room_is : {S : Type 0} {v : OverlayView S} (m : ℕ) → IsOverlay v → v.count < m → page_count (overlay_facts v) < m
 room_is {v} m is less = rw (count_is v) less

@@ -40,8 +40,8 @@ below_of : (count : ℕ) (cs : List Change) → AllByRecursion (λ c. (c.number 
 below_of count [] all = tt
 below_of count (c ∷ cs) all = (all.0.1, below_of count cs all.1)
 
-module _ (facts : StoreFacts) (j : Journal) where
-  pub through_is : 0 < j.count → ChangesOthers j → IsComplete j facts.pages → IsOverlay (overlay_view facts (put_change (change 0 j.head) (put_each j.changes [])) j.count 0)
+module _ {S : Type 0} (store : S) (facts : StoreFacts) (j : Journal) where
+  pub through_is : 0 < j.count → ChangesOthers j → IsComplete j facts.pages → IsOverlay (overlay_view store facts (put_change (change 0 j.head) (put_each j.changes [])) j.count 0)
   through_is some others complete =
       let within = below_of j.count j.changes (recursion_from_All (λ c. (c.number ≢ 0) × (c.number < j.count)) j.changes others) in
       record {
@@ -54,7 +54,7 @@ module _ (facts : StoreFacts) (j : Journal) where
             omega (arith, there, past);
       }
 
-  pub through_pages : pages_of (overlay_view facts (put_change (change 0 j.head) (put_each j.changes [])) j.count 0) ≡ applied j facts.pages
+  pub through_pages : pages_of (overlay_view store facts (put_change (change 0 j.head) (put_each j.changes [])) j.count 0) ≡ applied j facts.pages
   through_pages =
       let each = each_put j.changes [] (resized j.count facts.pages) tt in
       put_changed 0 j.head (put_each j.changes []) (resized j.count facts.pages) each.1 ∙ ap (λ t. slice_set t 0 j.head) each.0

@@ -1,3 +1,4 @@
 pub mod Changes
 pub mod Journal
 pub mod Overlay
+pub mod inner

@@ -1,12 +1,12 @@
 ghost use Rattle.std.specs.Prelude.{◌≡◌, ◌↔◌, ◌∷◌, [], None, false, IfSome, IfNone, IfOk, OnOk, OnErr, IsTrue};
 ghost use Rattle.std.specs.Option.{is_some, option_copied};
 ghost use Rattle.ub_journal.specs.Image.{IsUntouched};
-ghost use Rattle.ub_overlay.specs.Changes.{change, changed_page, put_change, put_each};
+ghost use Rattle.ub_overlay.specs.Changes.{change, changed_page, changes_of, put_change, put_each};
 
 use std::alloc::{AllocError, Global};
 use std::collections::BTreeMap;
 use std::marker::Model;
-use ub_journal::{Change, Journal};
+use ub_journal::Journal;
 use ub_store::Page;
 
 /// The pages that were changed, under their numbers. Each stands in a box of its own.
@@ -104,27 +104,24 @@ impl Changes {
     }
 
     /// Takes out the page of number 0, if it was changed.
-    pub fn take_first(&mut self) -> Option<Page>
-        ensures taken { IfSome result (λ page. self.old ≡ change 0 page ∷ self.new) }
+    pub fn take_first(&mut self) -> Option<Box<Page>>
+        ensures taken { IfSome result (λ page. self.old ≡ change 0 page.value ∷ self.new) }
         ensures none { IfNone result ((self.new ≡ self.old) × IsUntouched self.old 0) }
     {
         if !self.pages.contains_key(&0) {
             return None;
         }
         let (_, page) = self.pages.pop_first()?;
-        Some(*page)
+        Some(page)
     }
 
-    /// The changes as a list, in ascending order of their numbers.
-    pub fn into_list(self) -> Result<Vec<Change>, AllocError>
-        ensures { IfOk result (λ list. list.items ≡ self) }
+    /// The changes as a list, in ascending order of their numbers. Each page stays in its box.
+    pub fn into_list(self) -> Result<Vec<(u32, Box<Page>)>, AllocError>
+        ensures { IfOk result (λ list. changes_of list.items ≡ self) }
     {
         let mut list = Vec::with_capacity(self.alloc, self.pages.len())?;
         for (number, page) in self.pages {
-            list.push(Change {
-                number,
-                page: *page,
-            })?;
+            list.push((number, page))?;
         }
         Ok(list)
     }

@@ -1,15 +1,16 @@
-ghost use Rattle.std.specs.Prelude.{◌≡◌, ◌≢◌, ◌<◌, ◌≤◌, ◌+◌, ◌↔◌, ◌⊎◌, [], ℕ, Err, IfOk, IfErr, OnOk, OnErr, IsErrOf, IsOk, IsTrue};
-ghost use Rattle.ub_store.specs.Facts.{counted, page_count, zero_page, IsHonest, IsPage, Reads, WritesAt, Extends, Syncs};
-ghost use Rattle.ub_journal.specs.Image.{applied, put_all, resized, told, ChangesOthers, IsComplete};
-ghost use Rattle.ub_overlay.specs.Changes.{AreBelow, Ascend, change, put_change, put_each};
-ghost use Rattle.ub_overlay.specs.Journal.{IsJournalOf, IsToldOf};
+ghost use Rattle.std.specs.Prelude.{◌≡◌, ◌≢◌, ◌<◌, ◌≤◌, ◌+◌, ◌↔◌, ◌⊎◌, [], ℕ, List, Some, IfOk, IfErr, OnOk, OnErr, IsErrOf, IsOk, IsTrue, slice_get};
+ghost use Rattle.ub_store.specs.Facts.{counted, page_count, zero_page, IsPage, Reads, WritesAt, Extends, Syncs};
+ghost use Rattle.ub_journal.specs.Image.{applied, told, ChangesOthers, IsComplete, IsJournal};
+ghost use Rattle.ub_overlay.specs.Changes.{change, put_change, put_each};
+ghost use Rattle.ub_overlay.specs.Journal.{journal_from, IsJournalOf};
 ghost use Rattle.ub_overlay.specs.Overlay.{overlay_facts, overlay_view, pages_of, with_change, IsHeld};
 
 use crate::below::Below;
 use crate::changes::Changes;
+use crate::redo::Changed;
 use std::alloc::{AllocError, Global};
 use std::marker::Model;
-use ub_journal::{Change, Journal};
+use ub_journal::Journal;
 use ub_store::{MAX_PAGES, Page, PageStore, Rejected, StoreFault};
 
 /// A store whose pages are those of another one, but for the pages that were written or added since. These are kept in memory, and
@@ -25,37 +26,27 @@ pub struct Overlay<S: PageStore> {
 impl<S: PageStore> Model for Overlay<S> {
     ghost use Rattle.ub_overlay.specs.Overlay.{overlay_view, OverlayView, IsOverlay};
 
-    ghost Value = { OverlayView };
+    ghost Value = { OverlayView S };
 
-    ghost view = { λ o. overlay_view (S.facts o.below) o.changes o.count o.failed };
+    ghost view = { λ o. overlay_view o.below (S.facts o.below) o.changes o.count o.failed };
 
-    ghost invariant = { λ o. IsOverlay (overlay_view (S.facts o.below) o.changes o.count o.failed) };
+    ghost invariant = { λ o. IsOverlay (overlay_view o.below (S.facts o.below) o.changes o.count o.failed) };
 }
 
 /// What an overlay was made of, and what became of it.
 #[derive(Drop)]
 pub struct Parts<S> {
-    /// The store below. Its pages are as they were.
+    /// The store below, as it was.
     pub below: S,
-    /// How many pages there are to be.
-    pub count: u32,
-    /// The pages that were written or added, in ascending order of their numbers.
-    pub changes: Vec<Change>,
-}
-
-/// What an overlay was made of, and the journal that puts its changes.
-#[derive(Drop)]
-pub struct Journaled<S> {
-    /// The store below. Its pages are as they were.
-    pub below: S,
-    /// The journal of its pages.
-    pub journal: Journal,
+    /// The pages that were written or added, or that a journal held.
+    pub changed: Changed,
 }
 
 impl<S: PageStore> Overlay<S> {
     /// The pages of this store, with none changed. It takes no memory, and the store is as it was.
     pub fn new(alloc: Global, below: S) -> Overlay<S>
-        ensures view { result ≡ overlay_view (S.facts below) [] (page_count (S.facts below)) 0 }
+        ensures view { result
+            ≡ overlay_view below (S.facts below) [] (page_count (S.facts below)) 0 }
         ensures pages { pages_of result ≡ (S.facts below).pages }
     {
         let below = Below::new(below);
@@ -81,6 +72,7 @@ impl<S: PageStore> Overlay<S> {
         ensures pages { IfOk result (λ overlay.
             pages_of overlay ≡ applied (told journal.now) (S.facts below).pages) }
         ensures count { IfOk result (λ overlay. overlay.count ≡ journal.now.count) }
+        ensures store { IfOk result (λ overlay. overlay.store ≡ below) }
         ensures below { IfOk result (λ overlay. overlay.below ≡ S.facts below) }
         ensures held { IfOk result (λ overlay. overlay.changes
             ≡ put_change (change 0 journal.now.head)
@@ -105,25 +97,32 @@ impl<S: PageStore> Overlay<S> {
 
     /// Whether a page was written or added, or a journal's pages are held.
     pub fn is_changed(&self) -> bool
-        ensures { IsTrue result ↔ (self.now.changes ≢ []) }
+        ensures changed { IsTrue result ↔ (self.now.changes ≢ []) }
+        ensures facts { self.now.below ≡ S.facts self.now.store }
     {
         !self.changes.is_empty()
     }
 
-    /// The store below, whose pages are as they were, and the changes. With these in their places, its pages are those of the overlay.
-    /// Where memory for the list is refused, the store below alone is handed back.
+    /// The store below, as it was. What was changed is gone.
+    pub fn into_store(self) -> S
+        ensures store { result ≡ self.store }
+        ensures facts { S.facts result ≡ self.below }
+    {
+        self.below.into_store()
+    }
+
+    /// The store below, as it was, and the changed pages. With the first page below these tell the journal that makes the overlay's
+    /// pages of those below, which a commit can put. No page is copied. Where memory for the list of them is refused, the store below
+    /// alone is handed back.
     pub fn into_parts(self) -> Result<Parts<S>, Rejected<S, AllocError>>
-        ensures below { IfOk result (λ parts. S.facts parts.below ≡ self.below) }
-        ensures parts { IfOk result (λ parts.
-            (parts.changes.items ≡ self.changes) × (parts.count ≡ self.count)) }
-        ensures pages { IfOk result (λ parts. pages_of self
-            ≡ put_all parts.changes.items
-            (resized parts.count (S.facts parts.below).pages)) }
-        ensures ascend { OnOk result (Ascend self.changes) }
-        ensures within { OnOk result (AreBelow self.count self.changes) }
-        ensures added { OnOk result ((n : ℕ) → page_count self.below ≤ n → n < self.count
-            → IsHeld self n) }
-        ensures refused { IfErr result (λ refused. S.facts refused.store ≡ self.below) }
+        ensures below { IfOk result (λ parts. parts.below ≡ self.store) }
+        ensures facts { self.below ≡ S.facts self.store }
+        ensures journal { IfOk result (λ parts. (before : List ℕ)
+            → slice_get self.below.pages 0 ≡ Some before
+            → IsJournalOf self (journal_from before parts.changed)) }
+        ensures is_journal { IfOk result (λ parts. (before : List ℕ) → 0 < self.count
+            → IsJournal (journal_from before parts.changed)) }
+        ensures refused { IfErr result (λ refused. refused.store ≡ self.store) }
     {
         let Overlay {
             below,
@@ -132,85 +131,14 @@ impl<S: PageStore> Overlay<S> {
             failed: _,
         } = self;
         let below = below.into_store();
-        match changes.into_list() {
-            Ok(changes) => Ok(Parts {
-                below,
-                count,
-                changes,
-            }),
+        match Changed::of(changes, count) {
+            Ok(changed) => Ok(Parts { below, changed }),
             Err(fault) => Err(Rejected {
                 store: below,
                 fault,
             }),
         }
     }
-
-    /// The store below, whose pages are as they were, and the journal that makes the overlay's pages of them, which a commit can put.
-    /// The first page below is read for it, in one call. NoPage comes exactly where there is none, Device where that read failed,
-    /// Memory where memory was refused. After a fault the store below alone is handed back.
-    pub fn into_journal(self) -> Result<Journaled<S>, Rejected<S, StoreFault>>
-        ensures below { IfOk result (λ made. S.facts made.below ≡ self.below) }
-        ensures journal { IfOk result (λ made. IsHonest self.below
-            → IsJournalOf self (told made.journal)) }
-        ensures some { OnOk result (0 < page_count self.below) }
-        ensures refused { IfErr result (λ refused. Reads {A = Unit {0}}
-            self.below (S.facts refused.store) (Err refused.fault)) }
-        ensures missing { IfErr result (λ refused.
-            (refused.fault ≡ StoreFault.NoPage) ↔ (page_count self.below ≡ 0)) }
-        ensures no_size { IfErr result (λ refused. refused.fault ≢ StoreFault.BadSize) }
-    {
-        let Overlay {
-            mut below,
-            changes,
-            count,
-            failed: _,
-        } = self;
-        let mut before = [0; 4096];
-        if let Err(fault) = read_first(&mut below, &mut before) {
-            return Err(Rejected {
-                store: below.into_store(),
-                fault,
-            });
-        }
-        match tell(changes, before, count) {
-            Ok(journal) => Ok(Journaled {
-                below: below.into_store(),
-                journal,
-            }),
-            Err(_) => Err(Rejected {
-                store: below.into_store(),
-                fault: StoreFault::Memory,
-            }),
-        }
-    }
-}
-
-// Reads the first page. NoPage comes exactly where there is none.
-fn read_first<S: PageStore>(below: &mut Below<S>, page: &mut Page) -> Result<(), StoreFault>
-    ensures page { OnOk result (IsPage (S.facts below.old) 0 page.new) }
-    ensures some { OnOk result (0 < page_count (S.facts below.old)) }
-    ensures missing { IsErrOf result StoreFault.NoPage ↔ (page_count (S.facts below.old) ≡ 0) }
-    ensures no_size { ¬ (IsErrOf result StoreFault.BadSize) }
-    ensures effect { Reads (S.facts below.old) (S.facts below.new) result }
-{
-    if below.pages() == 0 {
-        return Err(StoreFault::NoPage);
-    }
-    below.read_into(0, page)
-}
-
-// The journal of these changes of a table whose first page is this one.
-fn tell(mut changes: Changes, before: Page, count: u32) -> Result<Journal, AllocError>
-    ensures { IfOk result (λ journal. IsToldOf changes before count (told journal)) }
-{
-    let head = changes.take_first().unwrap_or(before);
-    let changes = changes.into_list()?;
-    Ok(Journal {
-        before,
-        head,
-        count,
-        changes,
-    })
 }
 
 impl<S: PageStore> PageStore for Overlay<S> {
@@ -231,7 +159,8 @@ impl<S: PageStore> PageStore for Overlay<S> {
     /// there. NoPage comes exactly where there is none.
     fn read_into(&mut self, n: u32, page: &mut Page) -> Result<(), StoreFault>
         ensures held { IsHeld self.old n → IsOk result × (self.new ≡ self.old) }
-        ensures below { self.new ≡ record self.old { below = self.new.below } }
+        ensures below { self.new
+            ≡ record self.old { store = self.new.store; below = self.new.below } }
         ensures read { Reads self.old.below self.new.below result }
         ensures page { OnOk result (IsPage (overlay_facts self.old) n page.new) }
         ensures there { OnOk result (n < page_count (overlay_facts self.old)) }
@@ -254,7 +183,8 @@ impl<S: PageStore> PageStore for Overlay<S> {
     /// The page of this number, as `read_into` reads it.
     fn read_page(&mut self, n: u32) -> Result<Page, StoreFault>
         ensures held { IsHeld self.old n → IsOk result × (self.new ≡ self.old) }
-        ensures below { self.new ≡ record self.old { below = self.new.below } }
+        ensures below { self.new
+            ≡ record self.old { store = self.new.store; below = self.new.below } }
         ensures read { Reads self.old.below self.new.below result }
         ensures page { IfOk result (λ page. IsPage (overlay_facts self.old) n page) }
         ensures there { OnOk result (n < page_count (overlay_facts self.old)) }
