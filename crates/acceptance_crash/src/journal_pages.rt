@@ -1,12 +1,11 @@
 // A journal's pages, each told by its first bytes and by what stands behind them.
 
-ghost use Rattle.ub_journal.specs.Image.{told};
-ghost use Rattle.ub_journal_page.specs.Pages.{IsJournal};
+ghost use Rattle.ub_journal.specs.Image.{IsJournal, told};
 
 use std::alloc::Global;
 use std::test::Fail;
-use ub_journal::Journal;
-use ub_journal_page::{JournalFault, fits, page_total, read_journal, spell_page};
+use ub_journal::{Journal, JournalFault};
+use ub_journal_page::{fits, page_total, read_journal, spell_page};
 use ub_store::{MemStore, Page, PageStore};
 
 // The pages of a journal by hand: the table is to have 10 pages, of which 3 and 9 change besides the first.

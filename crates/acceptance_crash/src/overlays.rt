@@ -2,11 +2,12 @@
 // byte, over and over.
 
 ghost use Rattle.std.specs.Prelude.{IfOk};
+ghost use Rattle.ub_journal.specs.Image.{IsJournal};
 ghost use Rattle.ub_journal.specs.Place.{IsHonest};
 
 use std::alloc::{AllocError, Global};
-use ub_journal::{Change, Journal, Place, TornPlace, commit};
-use ub_overlay::Overlay;
+use ub_journal::{Journal, Place, Tells, TornPlace, commit};
+use ub_overlay::{Overlay, Redo};
 use ub_store::{FaultyStore, MemStore, Page, PageStore, StoreFault};
 
 // Two pages in memory, of 1s and of 2s.
@@ -57,13 +58,15 @@ fn has_pages<S: PageStore>(store: &mut S, bytes: &[u8]) -> bool {
     store.pages() == n
 }
 
-// Whether these are the changes.
-fn are_changes(changes: &[Change], wanted: &[(u32, u8)]) -> bool {
-    if changes.len() != wanted.len() {
+// Whether a journal tells these changes.
+fn tells<J: Tells>(journal: &J, wanted: &[(u32, u8)]) -> bool {
+    if journal.changes() != wanted.len() {
         return false;
     }
-    for (change, (number, byte)) in changes.iter().zip(wanted) {
-        if change.number != *number || change.page != [*byte; 4096] {
+    for at in 0..wanted.len() {
+        let change = journal.change(at);
+        let (number, byte) = wanted[at];
+        if change.number != number || change.page != [byte; 4096] {
             return false;
         }
     }
@@ -77,11 +80,16 @@ fn stay_in_memory(alloc: Global) -> Result<bool, StoreFault> {
     change(&mut overlay)?;
     let is_changed = overlay.is_changed() && has_pages(&mut overlay, &[1, 7, 8]);
     let is_refused = overlay.write_page(3, &[9; 4096]) == Err(StoreFault::NoPage);
-    let Ok(mut parts) = overlay.into_parts() else {
+    let Ok(parts) = overlay.into_parts() else {
         return Err(StoreFault::Memory);
     };
-    let is_apart = parts.count == 3 && are_changes(parts.changes.as_slice(), &[(1, 7), (2, 8)]);
-    let is_same = has_pages(&mut parts.below, &[1, 2]);
+    let mut below = parts.below;
+    let is_same = has_pages(&mut below, &[1, 2]);
+    let redo = Redo {
+        before: [1; 4096],
+        changed: parts.changed,
+    };
+    let is_apart = redo.count() == 3 && redo.head() == [1; 4096] && tells(&redo, &[(1, 7), (2, 8)]);
     Ok(was_same && is_changed && is_refused && is_apart && is_same)
 }
 
@@ -107,7 +115,8 @@ fn shows<P: Place>(place: &mut P, n: u32, byte: u8) -> bool
 }
 
 // Whether a journal is put into a table's file, which then has these three pages.
-fn puts<P: Place>(place: &mut P, journal: &Journal, first: u8, second: u8, third: u8) -> bool
+fn puts<P: Place, J: Tells>(place: &mut P, journal: &J, first: u8, second: u8, third: u8) -> bool
+    requires journal { IsJournal (J.told journal.now) }
     requires asks_nothing { ¬ (IsHonest (P.facts place.old)) }
 {
     if commit(place, journal).is_err() {
@@ -121,10 +130,17 @@ fn are_put(alloc: Global) -> Result<bool, StoreFault> {
     let mut overlay = Overlay::new(alloc, two_pages(alloc)?);
     change(&mut overlay)?;
     overlay.write_page(0, &[6; 4096])?;
-    let (Ok(made), Ok(mut place)) = (overlay.into_journal(), two_pages_on_disk(alloc)) else {
+    if overlay.pages() == 0 {
+        return Ok(false);
+    }
+    let (Ok(parts), Ok(mut place)) = (overlay.into_parts(), two_pages_on_disk(alloc)) else {
         return Err(StoreFault::Memory);
     };
-    Ok(puts(&mut place, &made.journal, 6, 7, 8))
+    let redo = Redo {
+        before: [1; 4096],
+        changed: parts.changed,
+    };
+    Ok(puts(&mut place, &redo, 6, 7, 8))
 }
 
 // The pages that a journal stands for which cuts a table down to its first page, and changes that one.
@@ -141,12 +157,14 @@ fn cut<S: PageStore>(alloc: Global, below: S) -> Result<Overlay<S>, StoreFault> 
     }
 }
 
-// Whether they are read through that journal, and a page that is added then is none that was cut.
+// Whether they are read through that journal, a page that is added then is none that was cut, and the table stays as it is.
 fn are_read_through(alloc: Global) -> Result<bool, StoreFault> {
     let mut overlay = cut(alloc, two_pages(alloc)?)?;
     let is_cut = has_pages(&mut overlay, &[5]);
     let added = overlay.extend()?;
-    Ok(is_cut && added == 1 && has_pages(&mut overlay, &[5, 0]))
+    let is_added = added == 1 && has_pages(&mut overlay, &[5, 0]);
+    let mut below = overlay.into_store();
+    Ok(is_cut && is_added && has_pages(&mut below, &[1, 2]))
 }
 
 #[test]
