@@ -1,3 +1,1 @@
-pub mod CopyFacts
 pub mod FilesFacts
-pub mod MemoryFacts

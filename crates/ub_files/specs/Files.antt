@@ -1,24 +1,28 @@
 -- What contracts see of files, and what calls may do to that.
-use Rattle.std.specs.Prelude.{◌≡◌, ◌≢◌, ◌≤◌, ℕ, Bool, IsTrue, List, [], ◌∷◌, ◌++◌, Option, Some, None, Result, Ok, Err, OnOk, OnErr, codes}
-use Rattle.ub_store.specs.Facts.{StoreFacts, IsHonest, page_count, raised}
+use Rattle.std.specs.Prelude.{◌≡◌, ◌≢◌, ◌≤◌, ◌⊎◌, ℕ, Bool, IsTrue, List, [], ◌∷◌, ◌++◌, Option, Some, None, Result, Ok, Err, OnOk, OnErr, codes, drop, length, slice_get}
+use Rattle.ub_store.specs.Facts.{StoreFacts, IsHonest, raised, zero_page}
 use Rattle.ub_store.specs.declared.fault.StoreFault.{StoreFault}
 use Rattle.ub_store.specs.declared.fault.StoreFault.TheVariants.{Device}
+use Rattle.ub_files.specs.declared.fault.OpenFault.{OpenFault}
+use Rattle.ub_files.specs.declared.fault.OpenFault.TheVariants as opening
 
--- what a path holds: nothing is told of it, there is no file, a file with these bytes, a file with
--- these pages and no more, one that is no whole number of pages, or a table file whose store is lent
+-- what a path holds: nothing is told of it, there is no file, a file with these bytes, a table file with these pages, or one that is no
+-- whole number of pages. Where changes of a table file were put only half, and a journal beside it has the others, it holds the pages
+-- that both make together: so it is found by whoever opens it
 pub data Held : Type 0 where
   untold : Held
   absent : Held
   bytes : List ℕ → Held
   pages : List (List ℕ) → Held
   torn : Held
-  lent_out : Held
 
--- the facts of files: what each path holds; whether a file gives back what was written to it; whether a table file may answer Device;
--- how often the reading of a file, and the opening or making of a table file, answered Device (counts that stay at the greatest u64);
--- and the paths that were read so far, in their order, where that is told
+-- the facts of files: what each path holds; what a crash at this moment leaves it to hold, where that is one thing, and else it isn't
+-- told; whether a file gives back what was written to it; whether a table file may answer Device; how often the reading of a file, and the
+-- opening, changing, keeping or making of a table file, answered Device (counts that stay at the greatest u64); and the paths that were
+-- read so far, in their order, where that is told
 pub record FilesFacts : Type 0 where
   pub holds : List ℕ → Held
+  pub lasts : List ℕ → Held
   pub honest : Bool
   pub can_fail : Bool
   pub failed_reads : ℕ
@@ -35,18 +39,15 @@ IsText untold text = Unit {0}
 IsText (bytes held) text = text ≡ held
 IsText _ text = ⊥
 
+-- where it is told, it is these pages
+abbrev pub HasPages : Held → List (List ℕ) → Type 0
+HasPages untold all = Unit {0}
+HasPages (pages held) all = all ≡ held
+HasPages _ all = ⊥
+
 -- where it is told, it is the pages of the store with these facts
 abbrev pub IsStored : Held → StoreFacts → Type 0
-IsStored untold store = Unit {0}
-IsStored (pages held) store = store.pages ≡ held
-IsStored _ store = ⊥
-
--- the same after a store was put back, which may leave a part of a page where a call that isn't a read has failed
-abbrev pub IsPutBack : Held → StoreFacts → Type 0
-IsPutBack untold store = Unit {0}
-IsPutBack (pages held) store = store.pages ≡ held
-IsPutBack torn store = IsTrue store.can_fail × (1 ≤ store.failed_writes)
-IsPutBack _ store = ⊥
+IsStored held store = HasPages held store.pages
 
 -- where it is told, it is no whole number of pages
 abbrev pub IsTorn : Held → Type 0
@@ -54,11 +55,22 @@ IsTorn untold = Unit {0}
 IsTorn torn = Unit {0}
 IsTorn _ = ⊥
 
--- where it is told, it is a table file whose store is lent
-abbrev pub IsAway : Held → Type 0
-IsAway untold = Unit {0}
-IsAway lent_out = Unit {0}
-IsAway _ = ⊥
+-- where it is told, there is no page of a table
+abbrev pub IsEmpty : Held → Type 0
+IsEmpty (pages held) = held ≡ []
+IsEmpty (bytes text) = ⊥
+IsEmpty held = Unit {0}
+
+-- what these pages may be of a table that was being made where none was: there is one at most, or page 0 is a page of zeros, or all but
+-- page 0 are there
+abbrev pub IsPartWay : List (List ℕ) → List (List ℕ) → Type 0
+IsPartWay all now = (length now ≤ 1) ⊎ ((slice_get now 0 ≡ Some zero_page) ⊎ (drop 1 now ≡ drop 1 all))
+
+-- where it is told, it is such a part, or no whole number of pages
+abbrev pub IsPart : Held → List (List ℕ) → Type 0
+IsPart (pages held) all = IsPartWay all held
+IsPart (bytes text) all = ⊥
+IsPart held all = Unit {0}
 
 -- a store that files lend is as honest as they are, can fail where they say so, and has not failed yet
 pub record IsOf (files : FilesFacts) (store : StoreFacts) : Type 0 where
@@ -66,19 +78,14 @@ pub record IsOf (files : FilesFacts) (store : StoreFacts) : Type 0 where
   pub can_fail : store.can_fail ≡ files.can_fail
   pub unfailed : store.failed_writes ≡ 0
 
--- the store in the table file of this path, which holds what the file does
+-- a store of the pages that the table file of this path holds
 pub record IsLent (files : FilesFacts) (path : List ℕ) (store : StoreFacts) : Type 0 where
   pub lent : IsOf files store
   pub stored : IsStored (files.holds path) store
 
--- a store in a table file that was made, which has no pages
-pub record IsMade (files : FilesFacts) (store : StoreFacts) : Type 0 where
-  pub lent : IsOf files store
-  pub none : page_count store ≡ 0
-
--- but for this path, all hold what they did
+-- but for this path, all hold what they did, and a crash leaves them what it did
 abbrev pub HoldsBut : List ℕ → FilesFacts → FilesFacts → Type 0
-HoldsBut path old new = (other : List ℕ) → other ≢ path → new.holds other ≡ old.holds other
+HoldsBut path old new = (other : List ℕ) → other ≢ path → (new.holds other ≡ old.holds other) × (new.lasts other ≡ old.lasts other)
 
 -- a count of failures after a call with this fault, and after one with this result: Device raises it by one
 abbrev pub raised_by : StoreFault → ℕ → ℕ
@@ -88,6 +95,11 @@ raised_by _ n = n
 abbrev pub counted : {A : Type 0} → Result A StoreFault → ℕ → ℕ
 counted (Ok _) n = n
 counted (Err fault) n = raised_by fault n
+
+-- the same after a call that changes or makes a table file
+abbrev pub counted_open : {A : Type 0} → Result A OpenFault → ℕ → ℕ
+counted_open (Err (opening.Store fault)) n = raised_by fault n
+counted_open _ n = n
 
 -- where it is told which paths were read, these were, after those of before; what was once not told is never told again
 abbrev pub AreRead : List (List ℕ) → Option (List (List ℕ)) → Option (List (List ℕ)) → Type 0
@@ -104,31 +116,35 @@ IsUsedUp _ = ⊥
 -- a call with this result that reads the file at this path. What paths hold stays as it was, but for standard input, which is used up by
 -- its reading; what is left of it after a refusal is not said
 pub record ReadsFile {A : Type 0} (path : List ℕ) (old new : FilesFacts) (result : Result A StoreFault) : Type 0 where
-  pub same : new ≡ record old { holds = new.holds; failed_reads = counted result old.failed_reads; readings = new.readings }
+  pub same : new ≡ record old { holds = new.holds; lasts = new.lasts; failed_reads = counted result old.failed_reads; readings = new.readings }
   pub readings : AreRead (path ∷ []) old.readings new.readings
-  pub kept : path ≢ standard_input → new.holds ≡ old.holds
+  pub kept : path ≢ standard_input → (new.holds ≡ old.holds) × (new.lasts ≡ old.lasts)
   pub others : HoldsBut path old new
   pub used_up : OnOk result (path ≡ standard_input → IsUsedUp (new.holds path))
 
--- a call with this result that lends the table file of this path, or makes it anew: it is away from then on
-pub record LendsFile {A : Type 0} (path : List ℕ) (old new : FilesFacts) (result : Result A StoreFault) : Type 0 where
-  pub same : new ≡ record old { holds = new.holds; failed_tables = counted result old.failed_tables }
-  pub others : HoldsBut path old new
-  pub away : OnOk result (IsAway (new.holds path))
+-- a call with this result that opens the table file of this path, to ask it: nothing changes but, at Device, the count of failures
+abbrev pub OpensFile : {A : Type 0} → FilesFacts → FilesFacts → Result A StoreFault → Type 0
+OpensFile old new result = new ≡ record old { failed_tables = counted result old.failed_tables }
 
--- the same where a refused call leaves the file as it was
-pub record OpensFile {A : Type 0} (path : List ℕ) (old new : FilesFacts) (result : Result A StoreFault) : Type 0 where
-  pub lends : LendsFile path old new result
-  pub kept : OnErr result (new.holds path ≡ old.holds path)
-
--- a store was put back at this path: where the table file was away, it is there again
-pub record PutsBack (path : List ℕ) (old new : FilesFacts) (store : StoreFacts) : Type 0 where
-  pub same : new ≡ record old { holds = new.holds }
+-- the same of one that opens it to change it: a journal that a stopped run has left is finished first, so that the file holds what it
+-- held. What a crash leaves of it may then be told, or not
+pub record ChangesFile {A : Type 0} (path : List ℕ) (old new : FilesFacts) (result : Result A OpenFault) : Type 0 where
+  pub same : new ≡ record old { lasts = new.lasts; failed_tables = counted_open result old.failed_tables }
   pub others : HoldsBut path old new
-  pub held : IsAway (old.holds path) → IsPutBack (new.holds path) store
 
--- the table file of this path was lent and put back, and holds the pages of the store with these facts
-pub record Returns (path : List ℕ) (old new : FilesFacts) (store : StoreFacts) : Type 0 where
-  pub same : new ≡ record old { holds = new.holds }
+-- a call with this result that keeps pages in the table file of this path: at Ok it holds them, and so it does after a crash. At a fault it
+-- holds what it held, or them
+pub record KeepsFile {A : Type 0} (path : List ℕ) (all : List (List ℕ)) (old new : FilesFacts) (result : Result A StoreFault) : Type 0 where
+  pub same : new ≡ record old { holds = new.holds; lasts = new.lasts; failed_tables = counted result old.failed_tables }
   pub others : HoldsBut path old new
-  pub held : IsPutBack (new.holds path) store
+  pub kept : OnOk result (HasPages (new.holds path) all × HasPages (new.lasts path) all)
+  pub either : OnErr result ((new.holds path ≡ old.holds path) ⊎ HasPages (new.holds path) all)
+
+-- a call with this result that makes the table file of this path anew, of these pages. At a fault it holds what it held, or them; where it had
+-- no page, it may hold a part of them, which is no table
+pub record MakesFile {A : Type 0} (path : List ℕ) (all : List (List ℕ)) (old new : FilesFacts) (result : Result A OpenFault) : Type 0 where
+  pub same : new ≡ record old { holds = new.holds; lasts = new.lasts; failed_tables = counted_open result old.failed_tables }
+  pub others : HoldsBut path old new
+  pub made : OnOk result (HasPages (new.holds path) all × HasPages (new.lasts path) all)
+  pub either : OnErr result ((new.holds path ≡ old.holds path) ⊎ (HasPages (new.holds path) all
+      ⊎ (IsEmpty (old.holds path) × IsPart (new.holds path) all)))

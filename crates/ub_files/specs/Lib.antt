@@ -1,4 +1,2 @@
+pub mod Clock
 pub mod Files
-pub mod Host
-pub mod Copying
-pub mod Memory

@@ -1,5 +1,0 @@
-use Rattle.ub_files.proofs.MemoryFacts.{held_push}
-use Rattle.ub_files.proofs.memory.add.Goals as goal
-
-pub returns-clause-put : goal.returns-clause-put
-returns-clause-put c = rw c.in_ok-push.ensures.items (held_push c.args.entries.now.items c.args.path.now _ c.requires.free c.in_ok-name.ensures.ok)

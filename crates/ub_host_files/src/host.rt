@@ -1,0 +1,247 @@
+ghost use Rattle.std.specs.Prelude.{◌≡◌, ◌⊎◌, Err, IfErr};
+ghost use Rattle.ub_files.specs.Files.{counted, counted_open, raised_by};
+ghost use Rattle.ub_host_files.specs.Host.{facts_of_host};
+
+use crate::lock::Lock;
+use crate::missed::{Deed, Missed};
+use crate::opening::{Purpose, open_locked};
+use crate::place::{HostPlace, JOURNAL, Kept};
+use std::io::Eprint;
+use std::os::fd::{AsFd, AsRawFd};
+use std::os::unix::fs::FileExt;
+use std::{fs, io, rt};
+use ub_files::{Files, OpenFault};
+use ub_keeping::PlaceStore;
+use ub_overlay::Overlay;
+use ub_store::{MemStore, StoreFault};
+use ub_words::STANDARD_INPUT;
+
+// The system's number for memory that is refused.
+const NO_MEMORY: i32 = 12;
+
+/// The files of the system. What they hold is not told, and that they are honest is a premise. Standard input is read as the
+/// system's device for it.
+///
+/// A table file is locked from its opening until its store is handed back: beside other programs that ask it, or, to be changed,
+/// alone. Whoever has to wait for that says so on standard error.
+#[derive(Drop)]
+pub struct HostFiles<'r, R> {
+    rt: &'r R,
+    reads: u64,
+    tables: u64,
+    missed: Option<Missed>,
+}
+
+impl<'r, R: rt::Files + AllocGlobal + Eprint> HostFiles<'r, R>
+where
+    R::File: FileExt + AsFd + AsRawFd + Lock,
+{
+    /// The files that this runtime reaches; none has failed yet.
+    pub fn new(rt: &'r R) -> HostFiles<'r, R>
+        ensures { ⟦<HostFiles<'r, R> as Files>⟧.facts result ≡ facts_of_host 0 0 }
+    {
+        HostFiles {
+            rt,
+            reads: 0,
+            tables: 0,
+            missed: None,
+        }
+    }
+
+    /// What couldn't be done with a file last, for people: with which one, and the system's reason.
+    pub fn missed(&self) -> Option<Missed> {
+        self.missed
+    }
+
+    // The place of a table file, opened for this purpose. Device comes where the system refuses that, Memory where memory was refused.
+    fn find(
+        &mut self,
+        deed: Deed,
+        path: &str,
+        purpose: Purpose,
+    ) -> Result<HostPlace<'r, R>, StoreFault>
+        ensures faults { IfErr result (λ fault.
+            (fault ≡ StoreFault.Device) ⊎ (fault ≡ StoreFault.Memory)) }
+        ensures reads { self.new.reads ≡ self.old.reads }
+        ensures tables { self.new.tables ≡ counted result self.old.tables }
+    {
+        let opened = match open_locked(self.rt, path, purpose) {
+            Ok(table) => HostPlace::new(self.rt, table),
+            Err(why) => Err(why),
+        };
+        match opened {
+            Ok(place) => Ok(place),
+            Err(why) => {
+                let fault = fault_of(&why);
+                self.note(fault, Missed::new(deed, path, why));
+                Err(fault)
+            }
+        }
+    }
+
+    // Counts a fault of a table file, if it is Device, and notes what was missed then.
+    fn note(&mut self, fault: StoreFault, missed: Missed)
+        ensures reads { self.new.reads ≡ self.old.reads }
+        ensures tables { self.new.tables ≡ raised_by fault self.old.tables }
+    {
+        if fault == StoreFault::Device {
+            self.tables = self.tables.saturating_add(1);
+            self.missed = Some(missed);
+        }
+    }
+
+    // The same of an opening to change or to make.
+    fn note_open(&mut self, fault: OpenFault, missed: Missed)
+        ensures reads { self.new.reads ≡ self.old.reads }
+        ensures tables { self.new.tables ≡ counted_open {A = Unit {0}} (Err fault) self.old.tables }
+    {
+        match fault {
+            OpenFault::Store(fault) => self.note(fault, missed),
+            OpenFault::BadJournal => {}
+        }
+    }
+}
+
+// Whether a journal stands where no table file does: then none is made there.
+fn is_journal_alone<R: rt::Files + AllocGlobal>(rt: &R, path: &str) -> bool {
+    match rt.metadata(path) {
+        Err(why) if why.kind() == io::ErrorKind::NotFound => {}
+        _ => return false,
+    }
+    match format!(in rt.alloc(); "{path}{JOURNAL}") {
+        Ok(name) => rt.metadata(name.as_str()).is_ok(),
+        Err(_) => false,
+    }
+}
+
+// What a refusal of the system is.
+fn fault_of(why: &io::Error) -> StoreFault
+    ensures { (result ≡ StoreFault.Device) ⊎ (result ≡ StoreFault.Memory) }
+{
+    match why.kind() {
+        io::ErrorKind::OutOfMemory => StoreFault::Memory,
+        _ => StoreFault::Device,
+    }
+}
+
+// What couldn't be done at a place, with the system's reason: where it gave none, memory was refused.
+fn missed_at<R: rt::Files + AllocGlobal>(deed: Deed, path: &str, place: &HostPlace<'_, R>) -> Missed
+where
+    R::File: FileExt + AsFd,
+{
+    let why = place.why();
+    Missed::new(
+        deed,
+        path,
+        why.unwrap_or(io::Error::from_raw_os_error(NO_MEMORY)),
+    )
+}
+
+// What became of changes that weren't put to the end, where this is what couldn't be done if none was put.
+fn unkept_at<R: rt::Files + AllocGlobal>(deed: Deed, path: &str, place: &HostPlace<'_, R>) -> Missed
+where
+    R::File: FileExt + AsFd,
+{
+    match place.kept() {
+        Kept::Nothing => missed_at(deed, path, place),
+        Kept::Beside => missed_at(Deed::Finish, place.journal_name(), place),
+        Kept::Whole => missed_at(Deed::Settle, path, place),
+    }
+}
+
+#[tactic(auto, unfolding(crate::specs::Host::is_honest_host))]
+impl<'r, R: rt::Files + AllocGlobal + Eprint> Files for HostFiles<'r, R>
+where
+    R::File: FileExt + AsFd + AsRawFd + Lock,
+{
+    type Store = Overlay<PlaceStore<HostPlace<'r, R>>>;
+
+    ghost use Rattle.ub_host_files.specs.Host.{clock_of_host, no_host_clock};
+
+    ghost facts = { λ files. facts_of_host files.reads files.tables };
+
+    ghost clock = { λ files. clock_of_host };
+
+    ghost law = { λ files honest. no_host_clock honest };
+
+    fn read(&mut self, path: &str) -> Result<Vec<u8>, StoreFault> {
+        let (device, name) = if path == STANDARD_INPUT {
+            ("/dev/stdin", "standard input")
+        } else {
+            (path, path)
+        };
+        match fs::read(self.rt, device) {
+            Ok(bytes) => Ok(bytes),
+            Err(why) => {
+                let fault = fault_of(&why);
+                if fault == StoreFault::Device {
+                    self.reads = self.reads.saturating_add(1);
+                    self.missed = Some(Missed::new(Deed::Read, name, why));
+                }
+                Err(fault)
+            }
+        }
+    }
+
+    fn open(&mut self, path: &str) -> Result<Overlay<PlaceStore<HostPlace<'r, R>>>, StoreFault> {
+        let place = self.find(Deed::Open, path, Purpose::Ask)?;
+        match ub_keeping::ask(self.rt.alloc(), place) {
+            Ok(store) => Ok(store),
+            Err(refused) => {
+                self.note(refused.fault, missed_at(Deed::Open, path, &refused.store));
+                Err(refused.fault)
+            }
+        }
+    }
+
+    fn change(&mut self, path: &str) -> Result<Overlay<PlaceStore<HostPlace<'r, R>>>, OpenFault> {
+        let place = match self.find(Deed::Change, path, Purpose::Change) {
+            Ok(place) => place,
+            Err(fault) => return Err(OpenFault::Store(fault)),
+        };
+        match ub_keeping::change(self.rt.alloc(), place) {
+            Ok(store) => Ok(store),
+            Err(refused) => {
+                self.note_open(refused.fault, missed_at(Deed::Change, path, &refused.store));
+                Err(refused.fault)
+            }
+        }
+    }
+
+    fn keep(
+        &mut self,
+        path: &str,
+        store: Overlay<PlaceStore<HostPlace<'r, R>>>,
+    ) -> Result<(), StoreFault> {
+        let (place, kept) = ub_keeping::keep(self.rt.alloc(), store);
+        if let Err(fault) = kept {
+            self.note(fault, unkept_at(Deed::Keep, path, &place));
+        }
+        kept
+    }
+
+    fn make(&mut self, path: &str, pages: &MemStore) -> Result<(), OpenFault> {
+        if is_journal_alone(self.rt, path) {
+            return Err(OpenFault::BadJournal);
+        }
+        let place = match self.find(Deed::Make, path, Purpose::Make) {
+            Ok(place) => place,
+            Err(fault) => return Err(OpenFault::Store(fault)),
+        };
+        let (place, made) = ub_keeping::make(self.rt.alloc(), place, pages);
+        if let Err(fault) = made {
+            self.note_open(fault, unkept_at(Deed::Make, path, &place));
+        }
+        made
+    }
+
+    fn put_back(&mut self, path: &str, store: Overlay<PlaceStore<HostPlace<'r, R>>>) {
+        let is_changed = store.is_changed();
+        let place = store.into_store().into_place();
+        if is_changed && place.is_alone() {
+            self.missed = Some(missed_at(Deed::Keep, path, &place));
+        } else if place.why().is_some() {
+            self.missed = Some(missed_at(Deed::Use, path, &place));
+        }
+    }
+}

@@ -1,0 +1,384 @@
+ghost use Rattle.std.specs.Prelude.{◌≡◌, ◌↔◌, Option, Some, None, IfOk, IfSome, IsOk};
+ghost use Rattle.ub_host_files.specs.Host.{facts_of_place};
+ghost use Rattle.ub_journal.specs.Image.{IsJournal, told};
+ghost use Rattle.ub_journal.specs.Place.{counted, looked};
+ghost use Rattle.ub_store.specs.Facts.{raised};
+
+use crate::opening::TableFile;
+use std::alloc::Global;
+use std::fs::{Metadata, OpenFile, OpenOptions, Permissions};
+use std::io::{self, Write};
+use std::os::fd::AsFd;
+use std::os::unix::fs::{FileExt, MetadataExt, OpenOptionsExt, PermissionsExt, fchown};
+use std::path::Path;
+use std::{fs, rt};
+use ub_file::host::open_store;
+use ub_file::{FileStore, HostFile, PAGE_BYTES, SystemFile};
+use ub_journal::{Failed, Journal, JournalFault, Place, Tells};
+use ub_journal_page::{page_total, read_journal, spell_page};
+use ub_store::Page;
+
+/// What became of the changes that were put last.
+#[derive(Clone, Copy, PartialEq, Eq)]
+pub enum Kept {
+    /// None was put.
+    Nothing,
+    /// They stand in the journal, and perhaps in the table file.
+    Beside,
+    /// They stand in the table file.
+    Whole,
+}
+
+/// The names of what may stand beside a table file.
+#[derive(Drop)]
+struct Names {
+    folder: String,
+    journal: String,
+    draft: String,
+}
+
+/// What stands after a table file's name in that of its journal.
+pub const JOURNAL: &str = "-journal";
+
+/// A table file of the system that is open and locked, with what may stand beside it: the journal, which has the file's name and
+/// `-journal` after it, and its draft, which has `.tmp` after that.
+///
+/// That these files give back what was written to them, that what was synced lasts, that a file gets another's name whole or not at
+/// all, and that no other program writes to them while the lock is held is a premise: nothing is proved of it but that the calls
+/// are those of the standard library.
+#[derive(Drop)]
+pub struct HostPlace<'r, R: rt::Files> {
+    rt: &'r R,
+    file: R::File,
+    told: Metadata,
+    is_alone: bool,
+    // None of a device or a pipe.
+    names: Option<Names>,
+    draft: Option<R::File>,
+    pages: u64,
+    rest: u32,
+    failures: u64,
+    why: Option<io::Error>,
+    kept: Kept,
+}
+
+impl Names {
+    // The names beside a file that has this one.
+    fn of(alloc: Global, real: &str) -> io::Result<Names> {
+        let folder = match Path::new(real).parent() {
+            Some(parent) if !parent.as_str().is_empty() => parent.as_str(),
+            _ => ".",
+        };
+        Ok(Names {
+            folder: String::from_str(alloc, folder)?,
+            journal: format!(in alloc; "{real}{JOURNAL}")?,
+            draft: format!(in alloc; "{real}{JOURNAL}.tmp")?,
+        })
+    }
+}
+
+impl<'r, R: rt::Files + AllocGlobal> HostPlace<'r, R>
+where
+    R::File: FileExt + AsFd,
+{
+    /// The place of a table file. Only memory may be refused.
+    pub fn new(rt: &'r R, table: TableFile<R::File>) -> io::Result<HostPlace<'r, R>> {
+        let TableFile {
+            file,
+            told,
+            real,
+            is_alone,
+        } = table;
+        let names = match real {
+            Some(real) => Some(Names::of(rt.alloc(), real.as_str())?),
+            None => None,
+        };
+        let length = told.len();
+        Ok(HostPlace {
+            rt,
+            file,
+            told,
+            is_alone,
+            names,
+            draft: None,
+            pages: length / PAGE_BYTES,
+            rest: (length % PAGE_BYTES) as u32,
+            failures: 0,
+            why: None,
+            kept: Kept::Nothing,
+        })
+    }
+
+    /// The system's reason for the last call that it refused.
+    pub fn why(&self) -> Option<io::Error> {
+        self.why
+    }
+
+    /// Whether the table file is locked so that no other program has it open.
+    pub fn is_alone(&self) -> bool {
+        self.is_alone
+    }
+
+    /// What became of the changes that were put last.
+    pub fn kept(&self) -> Kept {
+        self.kept
+    }
+
+    /// The name of the journal.
+    pub fn journal_name(&self) -> &str {
+        match &self.names {
+            Some(names) => names.journal.as_str(),
+            None => "",
+        }
+    }
+
+    // Notes a call that the system refused, and its reason.
+    fn refuse(&mut self, why: Option<io::Error>)
+        ensures { self.new ≡ record self.old {
+          failures = raised self.old.failures 1;
+          why = why;
+        } }
+    {
+        self.failures = self.failures.saturating_add(1);
+        self.why = why;
+    }
+
+    // What a call of the system came to.
+    fn tell(&mut self, done: io::Result<()>) -> Result<(), Failed>
+        ensures told { IsOk result ↔ IsOk done }
+        ensures same { self.new ≡ record self.old {
+          failures = counted result self.old.failures;
+          why = self.new.why;
+        } }
+    {
+        match done {
+            Ok(()) => Ok(()),
+            Err(why) => {
+                self.refuse(Some(why));
+                Err(Failed)
+            }
+        }
+    }
+
+    // Reads the journal that a store spells.
+    fn read(
+        &mut self,
+        alloc: Global,
+        mut store: FileStore<HostFile<SystemFile<R::File>>>,
+    ) -> Result<Option<Journal>, JournalFault>
+        ensures journal { IfOk result (λ found. IfSome found (λ j. IsJournal (told j))) }
+        ensures failures { self.new.failures ≡ looked result self.old.failures }
+        ensures same { (self.new.pages ≡ self.old.pages) × (self.new.rest ≡ self.old.rest) }
+    {
+        match read_journal(alloc, &mut store) {
+            Ok(journal) => Ok(Some(journal)),
+            Err(JournalFault::Device) => {
+                self.refuse(store.into_medium().why());
+                Err(JournalFault::Device)
+            }
+            Err(fault) => Err(fault),
+        }
+    }
+
+    // What a journal is that isn't opened as pages, for this reason of the system's: one that isn't there; or, with no reason, one
+    // of another size.
+    fn unopened(&mut self, why: Option<io::Error>) -> Result<Option<Journal>, JournalFault>
+        ensures none { IfOk result (λ found. found ≡ None) }
+        ensures failures { self.new.failures ≡ looked result self.old.failures }
+        ensures same { (self.new.pages ≡ self.old.pages) × (self.new.rest ≡ self.old.rest) }
+    {
+        match why {
+            None => Err(JournalFault::Damaged),
+            Some(why) if is_missing(why.kind()) => Ok(None),
+            _ => {
+                self.refuse(why);
+                Err(JournalFault::Device)
+            }
+        }
+    }
+
+    // Writes the draft of a journal.
+    fn write_draft<J: Tells>(&mut self, journal: &J) -> io::Result<()>
+        requires { IsJournal (J.told journal.now) }
+        ensures { (draft : Option R.File) × (self.new ≡ record self.old { draft = draft }) }
+    {
+        let Some(names) = &self.names else {
+            return Err(no_names());
+        };
+        let mut file = open_draft(self.rt, names.draft.as_str(), &self.told)?;
+        write_pages(&mut file, journal)?;
+        self.draft = Some(file);
+        Ok(())
+    }
+
+    // Takes the draft away, if that can be done: nobody reads it.
+    fn drop_draft(&mut self)
+        ensures { self.new ≡ record self.old { draft = None } }
+    {
+        self.draft = None;
+        if let Some(names) = &self.names {
+            let _ = self.rt.remove_file(names.draft.as_str());
+        }
+    }
+}
+
+// Whether a file isn't there, for this reason: no file has its name, or can have one so long.
+fn is_missing(kind: io::ErrorKind) -> bool {
+    matches!(
+        kind,
+        io::ErrorKind::NotFound | io::ErrorKind::InvalidFilename
+    )
+}
+
+// What a device is said to have no journal for.
+fn no_names() -> io::Error {
+    io::Error::from(io::ErrorKind::Unsupported)
+}
+
+// Opens the draft of a journal anew, for this user alone, and then gives it the group, the mode and the owner of a file of which
+// the system told this. Where the group is refused, no other group gets its rights; where the owner is, this user stays the owner.
+fn open_draft<R: rt::Files>(rt: &R, path: &str, told: &Metadata) -> io::Result<R::File>
+where
+    R::File: AsFd,
+{
+    let _ = rt.remove_file(path);
+    let mut how = OpenOptions::new();
+    how.write(true);
+    how.create_new(true);
+    how.mode(0o600);
+    let file = how.open(rt, path)?;
+    let mode = match fchown(&file, None, Some(told.gid())) {
+        Ok(()) => told.mode() & 0o777,
+        Err(_) => told.mode() & 0o707,
+    };
+    file.set_permissions(Permissions::from_mode(mode))?;
+    let _ = fchown(&file, Some(told.uid()), None);
+    Ok(file)
+}
+
+// Makes last which names stand in a folder.
+fn sync_folder<R: rt::Files>(rt: &R, folder: &str) -> io::Result<()> {
+    fs::open(rt, folder)?.sync_all()
+}
+
+// Writes the pages of a journal, one after the other.
+fn write_pages<F: Write, J: Tells>(file: &mut F, journal: &J) -> io::Result<()>
+    requires { IsJournal (J.told journal.now) }
+{
+    let mut page = [0; 4096];
+    for n in 0..page_total(journal) {
+        spell_page(journal, n, &mut page);
+        file.write_all(&page)?;
+    }
+    Ok(())
+}
+
+#[tactic(auto, unfolding(crate::specs::Host::is_honest_host, crate::specs::Host::seen_at))]
+impl<'r, R: rt::Files + AllocGlobal> Place for HostPlace<'r, R>
+where
+    R::File: FileExt + AsFd,
+{
+    ghost facts = { λ place. facts_of_place place.pages place.rest place.failures };
+
+    ghost use Rattle.ub_host_files.specs.Host.{no_clock};
+
+    ghost clock = { λ place honest. no_clock place.pages place.rest place.failures honest };
+
+    fn pages(&self) -> u64 {
+        self.pages
+    }
+
+    fn rest(&self) -> u32 {
+        self.rest
+    }
+
+    fn journal(&mut self, alloc: Global) -> Result<Option<Journal>, JournalFault> {
+        let Some(names) = &self.names else {
+            return Ok(None);
+        };
+        match open_store(self.rt, names.journal.as_str()) {
+            Ok(store) => self.read(alloc, store),
+            Err(refusal) => self.unopened(refusal.why),
+        }
+    }
+
+    fn read_page(&mut self, n: u32, page: &mut Page) -> Result<(), Failed> {
+        let done = self.file.read_exact_at(page, PAGE_BYTES * u64::from(n));
+        self.tell(done)
+    }
+
+    fn write_page(&mut self, n: u32, page: &Page) -> Result<(), Failed> {
+        let done = self.file.write_all_at(page, PAGE_BYTES * u64::from(n));
+        self.tell(done)
+    }
+
+    fn mark(&mut self) -> Result<(), Failed> {
+        let done = self.file.write_all_at(&[1], 5);
+        self.tell(done)
+    }
+
+    fn resize(&mut self, count: u32) -> Result<(), Failed> {
+        let done = self.file.set_len(PAGE_BYTES * u64::from(count));
+        self.tell(done)?;
+        self.pages = u64::from(count);
+        self.rest = 0;
+        Ok(())
+    }
+
+    fn sync(&mut self) -> Result<(), Failed> {
+        let done = self.file.sync_all();
+        self.tell(done)
+    }
+
+    fn draft<J: Tells>(&mut self, journal: &J) -> Result<(), Failed> {
+        let done = self.write_draft(journal);
+        if done.is_err() {
+            self.drop_draft();
+        }
+        self.tell(done)
+    }
+
+    fn sync_draft(&mut self) -> Result<(), Failed> {
+        let done = match &self.draft {
+            Some(file) => file.sync_all(),
+            None => Err(no_names()),
+        };
+        if done.is_err() {
+            self.drop_draft();
+        }
+        self.tell(done)
+    }
+
+    fn publish(&mut self) -> Result<(), Failed> {
+        let done = match &self.names {
+            Some(names) => self.rt.rename(names.draft.as_str(), names.journal.as_str()),
+            None => Err(no_names()),
+        };
+        if done.is_err() {
+            self.drop_draft();
+        } else {
+            self.kept = Kept::Beside;
+        }
+        self.tell(done)
+    }
+
+    fn remove(&mut self) -> Result<(), Failed> {
+        let done = match &self.names {
+            Some(names) => self.rt.remove_file(names.journal.as_str()),
+            None => Err(no_names()),
+        };
+        self.tell(done)?;
+        if self.kept == Kept::Beside {
+            self.kept = Kept::Whole;
+        }
+        Ok(())
+    }
+
+    fn sync_folder(&mut self) -> Result<(), Failed> {
+        let done = match &self.names {
+            Some(names) => sync_folder(self.rt, names.folder.as_str()),
+            None => Err(no_names()),
+        };
+        self.tell(done)
+    }
+}

@@ -1,0 +1,6 @@
+pub mod CalmFacts
+pub mod FitFacts
+pub mod StoreFacts
+pub mod FoundFacts
+pub mod KeptFacts
+pub mod MadeFacts

@@ -1,0 +1,5 @@
+pub mod Calm
+pub mod Found
+pub mod Kept
+pub mod Store
+pub mod inner

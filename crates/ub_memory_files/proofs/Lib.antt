@@ -1,0 +1,3 @@
+pub mod ClockFacts
+pub mod EntryFacts
+pub mod TableFacts
