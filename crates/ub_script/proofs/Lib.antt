@@ -9,4 +9,5 @@ pub mod FormedFacts
 pub mod RunFacts
 pub mod StartFacts
 pub mod ChangeFacts
+pub mod AskingFacts
 pub mod Laws

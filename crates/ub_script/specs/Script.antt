@@ -1,12 +1,14 @@
 -- What a script says: its statements, each accepted, or refused.
-use Rattle.std.specs.Prelude.{◌≡◌, ◌⊎◌, ℕ, List, Result, Ok, Err, slice_range}
-use Rattle.std.specs.List.{All}
+use Rattle.std.specs.Prelude.{◌≡◌, ◌⊎◌, ℕ, List, Result, Ok, Err, IsTrue, codes, slice_range}
+use Rattle.std.specs.List.{All, Any}
 use Rattle.ub_lexer.specs.Statements.{AreStatements}
-use Rattle.ub_lexer.specs.Tokens.{AreTokens}
+use Rattle.ub_lexer.specs.Tokens.{AreTokens, text_of}
 use Rattle.ub_lexer.specs.declared.token.Token.{Token}
+use Rattle.ub_lexer.specs.declared.token.TokenKind.TheVariants.{Word}
 use Rattle.ub_parser.specs.Outcome.{Command, asks, puts, takes, IsAccepted}
 use Rattle.ub_parser.specs.Refusals.{IsFirstFault}
 use Rattle.ub_parser.specs.declared.fault.SqlFault.{SqlFault}
+use Rattle.ub_table.specs.Name.{is_word}
 use Rattle.ub_table.specs.declared.schema.Schema.{Schema}
 
 -- what a statement is told: what it says, or why it is refused
@@ -43,3 +45,12 @@ abbrev pub OnlyAsks : Schema → List ℕ → Type 0
 OnlyAsks schema script =
     (tokens : List Token) (ranges : List (ℕ × ℕ)) → AreTokens script tokens → AreStatements tokens ranges
     → AreAsking schema script tokens ranges
+
+-- the token is a word with which a statement begins that changes the table: INSERT or DELETE, in any mix of cases
+abbrev pub IsChangeWord : List ℕ → Token → Type 0
+IsChangeWord source t =
+    (t.kind ≡ Word) × (IsTrue (is_word (codes "INSERT") (text_of source t)) ⊎ IsTrue (is_word (codes "DELETE") (text_of source t)))
+
+-- such a word stands among the tokens of the script, wherever that is; what stands in a comment is no token
+abbrev pub HasChangeWord : List ℕ → Type 0
+HasChangeWord script = (tokens : List Token) × AreTokens script tokens × Any (λ t. IsChangeWord script t) tokens

@@ -2,10 +2,11 @@
 //
 // `output` is what bytes are written to, `text` makes the text of an answer, and `script` runs the statements of a script one
 // after the other, each query by its plan, and each INSERT and DELETE by `changing`, on the table that the statements before it
-// left. The grammar and the meaning of a statement, and how plans are carried out, belong to the crates below; no command line is
-// known here.
+// left. `asking` tells by a script's words whether it may change the table at all. The grammar and the meaning of a statement, and
+// how plans are carried out, belong to the crates below; no command line is known here.
 #![tactic(auto)]
 
+mod asking;
 mod changing;
 pub mod fault;
 pub mod law;
@@ -13,6 +14,7 @@ pub mod output;
 pub mod script;
 pub mod text;
 
+pub use asking::may_change;
 pub use fault::RunFault;
 pub use output::{Out, OutFault, Over, put_all};
 pub use script::{Summary, run, try_text};
