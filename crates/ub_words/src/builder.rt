@@ -30,7 +30,8 @@ writes
   -- rows 1000, regions 24
 
 DATA has a header, and whole numbers alone: first the dimensions, 0 to 4294967295, then up to 4 measures of 64 bits with
-sign. It is read before TABLE is touched; where DATA is refused TABLE stays as it was.
+sign. It is read before TABLE is touched; where DATA is refused TABLE stays as it was. Where TABLE is a table already, it
+holds that or the new one at each moment, also where the load is stopped; it waits for whoever uses TABLE.
 
 A dimension that --signed names has the values -2147483648 to 2147483647. MASK is a sum: 1 for the first dimension, 2 for
 the second, 4 for the third, 8 for the fourth. So of day, zone and temp
@@ -41,7 +42,7 @@ a dimension that isn't signed: name that one by --signed.
 Status:
   0  TABLE holds the rows of DATA
   2  wrong arguments, DATA and TABLE are one path, or MASK names a dimension that isn't there, as ! BadMask
-  3  DATA was refused, as ! BadNumber row 2 column 1
+  3  DATA was refused, as ! BadNumber row 2 column 1; or beside TABLE stands a journal that isn't its own, as ! BadJournal
   4  a file or the output failed
   5  memory was refused";
 
@@ -60,13 +61,15 @@ writes its number, as -- inserted 401. DELETE takes out the rows that its condit
 many, as -- deleted 3. A statement that is refused changes nothing and writes why, as ! Syntax at 7: a name, and where
 in the script, in bytes from 0. Each statement runs on the table that those before it left.
 
-What was put in or taken out stands in TABLE once the run has ended, also after a fault, unless TABLE can't be written.
-A run that is interrupted while it changes TABLE leaves a file that is refused, as ! Unclean page 0: copy it first. A
-script that only asks leaves TABLE as it was, byte for byte.
+What was put in or taken out is put into TABLE when the run ends, all of it or nothing: a run that is stopped at any
+moment leaves TABLE as it was, or as it is to be. Status 0, 1, 3 and 5 say that what was done is kept. After 4 TABLE holds
+what it held, or all that was done before the fault, and standard error says which: look before running the script again.
+A script that only asks leaves TABLE as it was, byte for byte. A run with INSERT or DELETE waits for whoever uses TABLE.
 
-Two refusals of TABLE say what to do:
+Three refusals of TABLE say what to do:
   ! OldFormat page 0   an older ubq made TABLE: ubq upgrade TABLE NEW makes it anew, with all its rows
-  ! Unclean page 0     a run was interrupted while it changed TABLE: take the copy, or load the table again
+  ! Unclean page 0     TABLE was copied while it was changed, without the file TABLE-journal beside it: put that there
+  ! BadJournal         the file TABLE-journal is damaged, or another table's: move it away
 
 Statements, each ended by a semicolon:
   statement   = select | insert | delete
@@ -102,8 +105,8 @@ Status:
   0  all statements were answered
   1  a statement was refused, and the others were run
   2  wrong arguments
-  3  TABLE isn't a table file, is damaged, or is refused as OldFormat or Unclean; or it has no room for another row, as
-     ! Full
+  3  TABLE isn't a table file, is damaged, or is refused as OldFormat, Unclean or BadJournal; or it has no room for another
+     row, as ! Full
   4  a file or the output failed
   5  memory was refused";
 
@@ -131,12 +134,14 @@ writes
 
 OLD is a table file that an older ubq made, which ubq run refuses as ! OldFormat page 0. NEW gets its rows under their
 numbers, and goes on with the next one; none of its dimensions is signed. OLD is only read. It is read before NEW is
-touched; where OLD is refused NEW stays as it was. A table file of this version is refused, as ! WrongKind page 0.
+touched; where OLD is refused NEW stays as it was. Where NEW is a table already, it holds that or the new one at each
+moment, also where the upgrade is stopped. A table file of this version is refused, as ! WrongKind page 0.
 
 Status:
   0  NEW holds the table of OLD
   2  wrong arguments, or OLD and NEW are one path, as ! SameFile
-  3  OLD isn't a table file of an older version, or is damaged, as ! BadCount page 0
+  3  OLD isn't a table file of an older version, or is damaged, as ! BadCount page 0; or beside NEW stands a journal that
+     isn't its own, as ! BadJournal
   4  a file or the output failed
   5  memory was refused";
 
